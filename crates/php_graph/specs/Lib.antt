@@ -2,3 +2,4 @@ pub mod Text
 pub mod Graph
 pub mod Size
 pub mod Building
+pub mod Hash

@@ -1,0 +1,60 @@
+-- The rows of a cache and its counts.
+use Rattle.std.specs.Prelude.{ℕ, ◌+◌, ◌-◌, ◌^◌, min, Bool, List, [], ◌++◌, map, find, Option}
+use Rattle.std.specs.Str.{bytes_eq}
+use Rattle.php_graph.specs.declared.kind.Kind.{Kind}
+use Rattle.seg_words.specs.declared.extents.Extent.{Extent}
+use Rattle.seg_words.specs.Gaps.{first_fit}
+use Rattle.apcu_model.specs.declared.conf.Conf.{Conf}
+
+-- A key with its value. Moments are seconds, places and sizes are words.
+pub record Row : Type 0 where
+  pub key : List ℕ
+  pub graph : List Kind
+  -- how long it lives from its creation on; 0 is for ever
+  pub ttl : ℕ
+  -- created, changed, used, and for a removed row dropped
+  pub ctime : ℕ
+  pub mtime : ℕ
+  pub atime : ℕ
+  pub dtime : ℕ
+  -- how often it was fetched
+  pub hits : ℕ
+  -- its block in the segment
+  pub place : ℕ
+  pub size : ℕ
+  -- rows are numbered in the order in which they come
+  pub number : ℕ
+
+-- A cache: its rows in order, no two with one key; the rows that were dropped while somebody copied
+-- them, whose blocks are still taken; the next row's number; and what it counts.
+pub record Cache : Type 0 where
+  pub conf : Conf
+  pub rows : List Row
+  pub removed : List Row
+  pub next_number : ℕ
+  pub hits : ℕ
+  pub misses : ℕ
+  pub inserts : ℕ
+  pub expunges : ℕ
+
+abbrev pub empty_cache : Conf → Cache
+empty_cache conf = record { conf = conf; rows = []; removed = []; next_number = 1; hits = 0; misses = 0; inserts = 0; expunges = 0 }
+
+-- one more, but a count stays at the last number of 64 bits
+abbrev pub risen : ℕ → ℕ
+risen n = min (n + 1) (2 ^ 64 - 1)
+
+-- the row has this key
+abbrev pub has_key : List ℕ → Row → Bool
+has_key key row = bytes_eq row.key key
+
+-- the row of a key
+abbrev pub row_of : List ℕ → Cache → Option Row
+row_of key c = find (has_key key) c.rows
+
+abbrev pub extent_of : Row → Extent
+extent_of row = record { place = row.place; size = row.size }
+
+-- the least place where a block of n words fits beside the blocks of all rows, also of removed ones
+abbrev pub gap_of : Cache → ℕ → Option ℕ
+gap_of c n = first_fit c.conf.slots c.conf.words n (map extent_of (c.rows ++ c.removed))

@@ -1,0 +1,88 @@
+-- How rows leave a cache, how room is made, and how a row comes in. `held` is the list of the places
+-- of blocks that somebody copies: a row that is held keeps its block when it is dropped.
+use Rattle.std.specs.Prelude.{ℕ, ◌-◌, ◌==◌, ◌&&◌, not, nat_lt, Bool, true, if◌then◌else◌, List, [], ◌∷◌, ◌++◌, length, map, filter, Option, Some, None, is_some}
+use Rattle.std.specs.List.{list_any}
+use Rattle.php_graph.specs.declared.kind.Kind.{Kind}
+use Rattle.php_graph.specs.Size.{block_size}
+use Rattle.apcu_model.specs.declared.conf.Conf.{Conf}
+use Rattle.apcu_model.specs.declared.request.StoreAnswer.{StoreAnswer}
+use Rattle.apcu_model.specs.declared.request.StoreAnswer.TheVariants.{TooLarge, Exists, NoRoom, Stored}
+use Rattle.apcu_model.specs.Cache.{Row, Cache, risen, has_key, gap_of}
+use Rattle.apcu_model.specs.Expiry.{is_expired, live_row}
+use Rattle.apcu_model.specs.Walk.{is_in_slot, in_slot_order, slot_of}
+
+abbrev pub is_held : List ℕ → Row → Bool
+is_held held row = list_any (λ place. place == row.place) held
+
+-- The rows that pass leave the rows. Those of them that are held go to the end of the removed rows, by
+-- slot and place, with the moment; the others are gone, and so are their blocks.
+abbrev pub dropped : List ℕ → ℕ → (Row → Bool) → Cache → Cache
+dropped held t pass c = record c {
+  rows = filter (λ row. not (pass row)) c.rows;
+  removed = c.removed ++ map (λ row. record row { dtime = t }) (filter (is_held held) (in_slot_order c.conf (filter pass c.rows)))
+}
+
+-- the removed rows that nobody copies any more are gone
+abbrev pub swept : List ℕ → Cache → Cache
+swept held c = record c { removed = filter (is_held held) c.removed }
+
+-- all expired rows are dropped, where the cache has a time limit. No count changes
+abbrev pub expired_dropped : List ℕ → ℕ → Cache → Cache
+expired_dropped held t c = if nat_lt 0 c.conf.ttl then dropped held t (is_expired c.conf t) c else c
+
+-- all rows are dropped, and what was counted since the last time is forgotten
+abbrev pub expunged : List ℕ → ℕ → Cache → Cache
+expunged held t c = record (dropped held t (λ row. true) c) { hits = 0; misses = 0; inserts = 0; expunges = risen c.expunges }
+
+abbrev pub has_gap : ℕ → Cache → Bool
+has_gap n c = is_some (gap_of c n)
+
+-- Room for a block of n words: the removed rows are swept; where no gap is large enough yet, expired rows
+-- go; and where none is even then, all rows.
+abbrev pub with_room : List ℕ → ℕ → ℕ → Cache → Cache
+with_room held n t c =
+    let first = swept held c in
+    let second = expired_dropped held t first in
+    if has_gap n first then first else if has_gap n second then second else expunged held t second
+
+-- the row in the place of the row of its key, or last where there is none
+abbrev pub with_row : Row → List Row → List Row
+with_row new rows =
+    if list_any (has_key new.key) rows
+    then map (λ row. if has_key new.key row then new else row) rows
+    else rows ++ new ∷ []
+
+-- what comes of storing: the answer, and the cache after it
+pub record Insertion : Type 0 where
+  pub answer : StoreAnswer
+  pub cache : Cache
+
+-- A new row at a place where it fits: the expired rows of its slot are dropped, and so is the old row of
+-- its key, in whose place it stands.
+abbrev pub placed : List ℕ → List ℕ → List Kind → ℕ → ℕ → ℕ → Cache → ℕ → Cache
+placed held key graph ttl t n c place =
+    let fresh = dropped held t (λ row. is_in_slot c.conf (slot_of c.conf key) row && is_expired c.conf t row) c in
+    let new : Row = record {
+      key = key; graph = graph; ttl = ttl; ctime = t; mtime = t; atime = t; dtime = 0; hits = 0;
+      place = place; size = n; number = c.next_number
+    } in
+    record (dropped held t (has_key key) fresh) {
+      rows = with_row new fresh.rows;
+      next_number = risen c.next_number;
+      inserts = risen c.inserts
+    }
+
+-- after room was made
+abbrev pub put_in : List ℕ → List ℕ → List Kind → ℕ → ℕ → ℕ → Cache → Option ℕ → Insertion
+put_in held key graph ttl t n c None = record { answer = NoRoom; cache = c }
+put_in held key graph ttl t n c (Some place) = record { answer = Stored; cache = placed held key graph ttl t n c place }
+
+-- A value is stored under a key: never one that an empty segment could not take; with `exclusive` never
+-- over a live row; else after room was made, with the old row's block still taken.
+abbrev pub inserted : List ℕ → List ℕ → List Kind → ℕ → Bool → ℕ → Cache → Insertion
+inserted held key graph ttl exclusive t c =
+    let n = block_size (length key) graph in
+    let room = with_room held n t c in
+    if nat_lt (c.conf.words - c.conf.slots) n then record { answer = TooLarge; cache = c }
+    else if exclusive && is_some (live_row key t c) then record { answer = Exists; cache = c }
+    else put_in held key graph ttl t n room (gap_of room n)

@@ -1,0 +1,84 @@
+-- Events, and who still copies a value after them.
+use Rattle.std.specs.Prelude.{ℕ, ◌/◌, ◌%◌, ◌^◌, ◌==◌, ◌&&◌, ◌||◌, not, nat_lt, if◌then◌else◌, Bool, true, false, List, [], ◌∷◌, ◌++◌, map, filter, Option, Some, None, is_some}
+use Rattle.std.specs.Int.{bit_at}
+use Rattle.std.specs.List.{list_any, list_all, range_with_len}
+use Rattle.std.specs.Map.{lookup}
+use Rattle.php_graph.specs.declared.kind.Kind.{Kind}
+use Rattle.php_graph.specs.declared.kind.Kind.TheVariants as kinds
+use Rattle.apcu_model.specs.declared.conf.Conf.{Conf}
+use Rattle.apcu_model.specs.declared.request.Request.{Request}
+use Rattle.apcu_model.specs.declared.request.Request.TheVariants.{Store, Fetch, Retire}
+use Rattle.apcu_model.specs.declared.request.Reply.{Reply}
+use Rattle.apcu_model.specs.Cache.{Row, Cache, empty_cache}
+use Rattle.apcu_model.specs.Expiry.{live_row}
+use Rattle.apcu_model.specs.Sequential.{reply_to, cache_after}
+
+-- A worker's request at a moment. The mask names the workers (one bit each) that the cache found still
+-- copying a value.
+pub record Event : Type 0 where
+  pub worker : ℕ
+  pub t : ℕ
+  pub request : Request
+  pub mask : ℕ
+
+-- After some events: the cache, and for each worker whose last event fetched a value that is copied
+-- outside the lock, the number of that row.
+pub record Moment : Type 0 where
+  pub cache : Cache
+  pub windows : List (ℕ × ℕ)
+
+abbrev pub start_of : Conf → Moment
+start_of conf = record { cache = empty_cache conf; windows = [] }
+
+-- the number of the row that the worker's last event fetched
+abbrev pub window_of : Moment → ℕ → Option ℕ
+window_of m worker = lookup (λ v. v == worker) m.windows
+
+abbrev pub is_in_mask : ℕ → ℕ → Bool
+is_in_mask mask worker = bit_at mask worker == 1
+
+-- a worker of the mask copies the row of this number
+abbrev pub is_copied : ℕ → Moment → ℕ → Bool
+is_copied mask m number = list_any (λ w. is_in_mask mask w.0 && w.1 == number) m.windows
+
+-- the places of the rows and removed rows that workers of the mask copy
+abbrev pub held_places : Moment → ℕ → List ℕ
+held_places m mask = map (λ row. row.place) (filter (λ row. is_copied mask m row.number) (m.cache.rows ++ m.cache.removed))
+
+-- Of `workers` workers, a mask is legal for an event of one where each of its workers is another one that
+-- has a window.
+abbrev pub is_legal_mask : ℕ → ℕ → Moment → ℕ → Bool
+is_legal_mask workers worker m mask =
+    nat_lt mask (2 ^ 64)
+    && list_all (λ v. not (is_in_mask mask v) || (not (v == worker) && nat_lt v workers && is_some (window_of m v))) (range_with_len 0 64)
+
+-- values that are answered under the lock are never copied outside it
+abbrev pub is_scalar : List Kind → Bool
+is_scalar [] = false
+is_scalar (kinds.Int n ∷ places) = true
+is_scalar (kinds.Str bytes ∷ places) = false
+
+-- the window that a look-up opens
+abbrev pub opened_at : ℕ → Option Row → List (ℕ × ℕ)
+opened_at worker None = []
+opened_at worker (Some row) = if is_scalar row.graph then [] else (worker, row.number) ∷ []
+
+-- the window that a request opens
+abbrev pub opened : ℕ → ℕ → Request → Cache → List (ℕ × ℕ)
+opened worker t (Fetch key) c = opened_at worker (live_row key t c)
+opened worker t (Store key value ttl exclusive) c = []
+opened worker t Retire c = []
+
+abbrev pub reply_in : Moment → Event → Reply
+reply_in m e = reply_to (held_places m e.mask) e.t e.request m.cache
+
+-- the next event of a worker closes its window and may open another
+abbrev pub after_event : Moment → Event → Moment
+after_event m e = record {
+  cache = cache_after (held_places m e.mask) e.t e.request m.cache;
+  windows = opened e.worker e.t e.request m.cache ++ filter (λ w. not (w.0 == e.worker)) m.windows
+}
+
+abbrev pub after_events : Moment → List Event → Moment
+after_events m [] = m
+after_events m (e ∷ events) = after_events (after_event m e) events

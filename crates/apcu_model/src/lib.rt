@@ -1,0 +1,12 @@
+//! The cache of one thread: what each request answers and leaves, and a plain program that does so.
+#![tactic(auto)]
+
+mod conf;
+mod journal;
+mod plain;
+mod request;
+
+pub use conf::Conf;
+pub use journal::{Journal, Mark};
+pub use plain::Plain;
+pub use request::{Reply, Request, StoreAnswer};

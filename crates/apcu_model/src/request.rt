@@ -1,0 +1,44 @@
+use php_graph::{Bytes, Graph};
+
+/// What a worker asks of the cache. Each request is one event.
+#[derive(Debug, Drop)]
+pub enum Request {
+    /// `apcu_store` of one key, or with `exclusive` `apcu_add`, which leaves a live row as it is.
+    Store {
+        key: Bytes,
+        value: Graph,
+        /// In seconds; 0 is no limit.
+        ttl: u32,
+        exclusive: bool,
+    },
+    /// `apcu_fetch` of one key.
+    Fetch(Bytes),
+    /// The worker's last event: it asks nothing more.
+    Retire,
+}
+
+/// What the cache answers to a request.
+#[derive(Debug, Drop)]
+pub enum Reply {
+    /// Whether it was done.
+    Flag(bool),
+    /// The value of a live row.
+    Found(Graph),
+    /// No live row has the key.
+    Absent,
+    /// The worker's end.
+    Ended,
+}
+
+/// How the storing of a value came out.
+#[derive(Clone, Copy, Debug, PartialEq, Eq)]
+pub enum StoreAnswer {
+    /// The value cannot fit into an empty segment. Nothing changed.
+    TooLarge,
+    /// An exclusive store met a live row of its key. Nothing changed.
+    Exists,
+    /// No gap is large enough, not even after room was made.
+    NoRoom,
+    /// The row stands in the cache.
+    Stored,
+}
