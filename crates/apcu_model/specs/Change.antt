@@ -19,7 +19,7 @@ is_held held row = list_any (λ place. place == row.place) held
 abbrev pub dropped : List ℕ → ℕ → (Row → Bool) → Cache → Cache
 dropped held t pass c = record c {
   rows = filter (λ row. not (pass row)) c.rows;
-  removed = c.removed ++ map (λ row. record row { dtime = t }) (filter (is_held held) (in_slot_order c.conf (filter pass c.rows)))
+  removed = c.removed ++ map {A = Row} (λ row. record row { dtime = t }) (filter (is_held held) (in_slot_order c.conf (filter pass c.rows)));
 }
 
 -- the removed rows that nobody copies any more are gone
@@ -49,7 +49,7 @@ with_room held n t c =
 abbrev pub with_row : Row → List Row → List Row
 with_row new rows =
     if list_any (has_key new.key) rows
-    then map (λ row. if has_key new.key row then new else row) rows
+    then map {A = Row} (λ row. if has_key new.key row then new else row) rows
     else rows ++ new ∷ []
 
 -- what comes of storing: the answer, and the cache after it
@@ -63,13 +63,22 @@ abbrev pub placed : List ℕ → List ℕ → List Kind → ℕ → ℕ → ℕ 
 placed held key graph ttl t n c place =
     let fresh = dropped held t (λ row. is_in_slot c.conf (slot_of c.conf key) row && is_expired c.conf t row) c in
     let new : Row = record {
-      key = key; graph = graph; ttl = ttl; ctime = t; mtime = t; atime = t; dtime = 0; hits = 0;
-      place = place; size = n; number = c.next_number
+      key = key;
+      graph = graph;
+      ttl = ttl;
+      ctime = t;
+      mtime = t;
+      atime = t;
+      dtime = 0;
+      hits = 0;
+      place = place;
+      size = n;
+      number = c.next_number;
     } in
     record (dropped held t (has_key key) fresh) {
       rows = with_row new fresh.rows;
       next_number = risen c.next_number;
-      inserts = risen c.inserts
+      inserts = risen c.inserts;
     }
 
 -- after room was made

@@ -43,7 +43,7 @@ is_copied mask m number = list_any (λ w. is_in_mask mask w.0 && w.1 == number) 
 
 -- the places of the rows and removed rows that workers of the mask copy
 abbrev pub held_places : Moment → ℕ → List ℕ
-held_places m mask = map (λ row. row.place) (filter (λ row. is_copied mask m row.number) (m.cache.rows ++ m.cache.removed))
+held_places m mask = map {A = Row} (λ row. row.place) (filter (λ row. is_copied mask m row.number) (m.cache.rows ++ m.cache.removed))
 
 -- Of `workers` workers, a mask is legal for an event of one where each of its workers is another one that
 -- has a window.
@@ -76,7 +76,7 @@ reply_in m e = reply_to (held_places m e.mask) e.t e.request m.cache
 abbrev pub after_event : Moment → Event → Moment
 after_event m e = record {
   cache = cache_after (held_places m e.mask) e.t e.request m.cache;
-  windows = opened e.worker e.t e.request m.cache ++ filter (λ w. not (w.0 == e.worker)) m.windows
+  windows = opened e.worker e.t e.request m.cache ++ filter (λ w. not (w.0 == e.worker)) m.windows;
 }
 
 abbrev pub after_events : Moment → List Event → Moment

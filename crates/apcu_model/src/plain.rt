@@ -1,0 +1,4 @@
+/// The plain cache.
+pub struct Plain {
+    rows: u32,
+}
