@@ -1,0 +1,6 @@
+//! Plays scripts of apcu calls.
+#![tactic(auto)]
+
+mod script;
+
+fn main() {}
