@@ -1,6 +1,6 @@
 -- What a read of a source answers, and what it does.
-use Rattle.std.specs.Prelude.{◌≡◌, ℕ, ◌≤◌, List, [], take}
-use Rattle.std.specs.Io.KnownBytes.{IsAtEnd}
+use Rattle.std.specs.Prelude.{◌≡◌, ℕ, ◌≤◌, List, [], length, take}
+use Rattle.std.specs.Io.KnownBytes.{IsAtEnd, prepend_known}
 use Rattle.std.specs.Prelude.{Option}
 use Rattle.io_edges.specs.declared.source.Got.{Got}
 use Rattle.io_edges.specs.declared.source.Got.TheVariants.{Took, End, Failed}
@@ -29,3 +29,7 @@ abbrev pub CountsReadFault : Got → ℕ → ℕ → Type 0
 CountsReadFault (Took n) old new = new ≡ old
 CountsReadFault End old new = new ≡ old
 CountsReadFault Failed old new = (old ≤ new) × Rose old new
+
+-- reads took this many bytes from the front of what was left
+abbrev pub HasTaken : Option (List ℕ) → Option (List ℕ) → ℕ → Type 0
+HasTaken old new count = (bytes : List ℕ) × (length bytes ≡ count) × (old ≡ prepend_known bytes new)
