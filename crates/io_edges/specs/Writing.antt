@@ -1,0 +1,20 @@
+-- What a write to a sink answers, and what it does.
+use Rattle.std.specs.Prelude.{◌≡◌, ℕ, ◌≤◌, List, [], take}
+use Rattle.io_edges.specs.declared.sink.Put.{Put}
+use Rattle.io_edges.specs.declared.sink.Put.TheVariants.{Took, Failed}
+use Rattle.io_edges.specs.Faults.{Rose}
+
+-- the bytes that a write took: as many of the first as it says
+abbrev pub bytes_taken : Put → List ℕ → List ℕ
+bytes_taken (Took n) bytes = take n bytes
+bytes_taken Failed bytes = []
+
+-- a write that takes bytes takes at least one, and no more than there are
+abbrev pub TakesWithin : Put → ℕ → Type 0
+TakesWithin (Took n) count = (1 ≤ n) × (n ≤ count)
+TakesWithin Failed count = Unit {0}
+
+-- a write answers `Failed` only where the count of faults rose, and else the count stays
+abbrev pub CountsWriteFault : Put → ℕ → ℕ → Type 0
+CountsWriteFault (Took n) old new = new ≡ old
+CountsWriteFault Failed old new = (old ≤ new) × Rose old new

@@ -1,0 +1,75 @@
+// A sink over a writer of the runtime.
+ghost use Rattle.std.specs.Prelude.{◌≡◌, ◌≤◌, length, None, IfSome};
+
+use crate::{Put, Sink};
+use std::io::{ErrorKind, Stderr, Stdout, Write};
+
+/// A sink over a writer, as standard output. It tells nothing of what it holds, since no contract can say what a
+/// stream received. Each error counts as a fault, and so does a write that takes 0 bytes. It keeps no bytes back, and
+/// does not flush a writer that does.
+#[derive(Drop)]
+pub struct StdSink<W> {
+    writer: W,
+    failures: u64,
+}
+
+impl StdSink<Stdout> {
+    /// Standard output.
+    pub fn standard_output(rt: &HostRuntime) -> StdSink<Stdout>
+        ensures { result.failures ≡ 0 }
+    {
+        StdSink::new(rt.stdout())
+    }
+}
+
+impl StdSink<Stderr> {
+    /// Standard error.
+    pub fn standard_error(rt: &HostRuntime) -> StdSink<Stderr>
+        ensures { result.failures ≡ 0 }
+    {
+        StdSink::new(rt.stderr())
+    }
+}
+
+impl<W: Write> StdSink<W> {
+    /// A sink over this writer, of which no write has failed yet.
+    pub fn new(writer: W) -> StdSink<W>
+        ensures writer { result.writer ≡ writer }
+        ensures failures { result.failures ≡ 0 }
+    {
+        StdSink {
+            writer,
+            failures: 0,
+        }
+    }
+}
+
+impl<W: Write> Sink for StdSink<W> {
+    ghost held = { λ _. None };
+
+    ghost faults = { λ s. s.failures };
+
+    fn write(&mut self, from: &[u8]) -> Put {
+        match write_retrying(&mut self.writer, from) {
+            Some(count) if count > 0 => Put::Took(count),
+            _ => {
+                self.failures = self.failures.saturating_add(1);
+                Put::Failed
+            }
+        }
+    }
+}
+
+// One write, made again where a signal cut it off. `None` is an error.
+fn write_retrying<W: Write>(writer: &mut W, from: &[u8]) -> Option<usize>
+    ensures { IfSome result (λ count. count ≤ length from.now) }
+{
+    for _ in 0..u64::MAX {
+        match writer.write(from) {
+            Ok(count) => return Some(count),
+            Err(e) if e.kind() == ErrorKind::Interrupted => {}
+            Err(_) => return None,
+        }
+    }
+    None
+}

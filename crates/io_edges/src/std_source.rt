@@ -1,0 +1,66 @@
+// A source over a reader of the runtime.
+ghost use Rattle.std.specs.Prelude.{◌≡◌, ◌≤◌, length, None, IfSome};
+
+use crate::{Got, Source};
+use std::io::{ErrorKind, Read, Stdin};
+
+/// A source over a reader, as standard input. It tells nothing of what is left, since no contract can say what a
+/// stream holds. A read of 0 bytes is the end. Each error counts as a fault.
+#[derive(Drop)]
+pub struct StdSource<R> {
+    reader: R,
+    failures: u64,
+}
+
+impl StdSource<Stdin> {
+    /// Standard input.
+    pub fn standard_input(rt: &HostRuntime) -> StdSource<Stdin>
+        ensures { result.failures ≡ 0 }
+    {
+        StdSource::new(rt.stdin())
+    }
+}
+
+impl<R: Read> StdSource<R> {
+    /// A source over this reader, of which no read has failed yet.
+    pub fn new(reader: R) -> StdSource<R>
+        ensures reader { result.reader ≡ reader }
+        ensures failures { result.failures ≡ 0 }
+    {
+        StdSource {
+            reader,
+            failures: 0,
+        }
+    }
+}
+
+impl<R: Read> Source for StdSource<R> {
+    ghost left = { λ _. None };
+
+    ghost faults = { λ s. s.failures };
+
+    fn read(&mut self, into: &mut [u8]) -> Got {
+        match read_retrying(&mut self.reader, into) {
+            Some(0) => Got::End,
+            Some(count) => Got::Took(count),
+            None => {
+                self.failures = self.failures.saturating_add(1);
+                Got::Failed
+            }
+        }
+    }
+}
+
+// One read, made again where a signal cut it off. `None` is an error.
+fn read_retrying<R: Read>(reader: &mut R, into: &mut [u8]) -> Option<usize>
+    ensures { IfSome result (λ count. count ≤ length into.new) }
+{
+    for _ in 0..u64::MAX {
+        match reader.read(into) {
+            Ok(count) => return Some(count),
+            Err(e) if e.kind() == ErrorKind::Interrupted => {}
+            Err(_) => return None,
+        }
+    }
+    None
+}
