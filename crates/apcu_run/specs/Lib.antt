@@ -1,1 +1,4 @@
 pub mod Play
+pub mod Output
+pub mod Grammar
+pub mod Reads

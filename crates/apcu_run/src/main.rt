@@ -1,6 +1,8 @@
 //! Plays scripts of apcu calls.
 #![tactic(auto)]
 
+mod fault;
+mod reading;
 mod script;
 
 fn main() {}

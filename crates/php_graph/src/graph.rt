@@ -1,4 +1,6 @@
-ghost use Rattle.std.specs.Prelude.{◌≡◌, ℕ, ◌+◌, ◌<◌, ◌≤◌, ◌^◌, List, length, IfOk, slice_get, Some};
+ghost use Rattle.std.specs.Prelude.{◌≡◌, ℕ, ◌+◌, ◌<◌, ◌≤◌, ◌^◌, List, [], ◌∷◌, length, IfOk, IfErr, slice_get, Some};
+ghost use Rattle.php_graph.specs.Text.{IsString};
+ghost use Rattle.php_graph.specs.declared.kind.Kind.TheVariants.{Str};
 ghost use Rattle.php_graph.specs.declared.kind.Kind.{Kind};
 ghost use Rattle.php_graph.specs.Graph.{IsGraph, kind_at};
 ghost use Rattle.php_graph.specs.Size.{words_in, cells_of, image_length, block_size};
@@ -63,6 +65,22 @@ impl Graph {
             words += cells(kind);
         }
         words
+    }
+
+    /// The bytes of a value that is one string; any other value comes back as it is. It takes no memory.
+    pub fn into_string(self) -> Result<Bytes, Graph>
+        ensures string { IfOk result (λ bytes. (self ≡ Str bytes ∷ []) × IsString bytes) }
+        ensures other { IfErr result (λ g. (g ≡ self) × ((bytes : List ℕ) → self ≡ Str bytes ∷ [] → ⊥)) }
+    {
+        let Graph { mut kinds } = self;
+        match kinds.pop() {
+            Some(Kind::Str(bytes)) => Ok(bytes.sealed()),
+            Some(kind) => {
+                kinds.push_reserved(kind);
+                Err(Graph { kinds })
+            }
+            None => Err(Graph { kinds }),
+        }
     }
 
     /// An equal graph.
