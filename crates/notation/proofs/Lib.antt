@@ -1,0 +1,4 @@
+pub mod Decimals
+pub mod Integers
+pub mod Fields
+pub mod Values

@@ -1,0 +1,53 @@
+ghost use Rattle.std.specs.Prelude.{◌≡◌, ℕ, ◌≤◌, List, [], ◌++◌, length, take, OnOk, OnErr};
+
+use std::alloc::{AllocError, Global};
+use std::marker::Model;
+
+/// Bytes that are being written. Contracts see them as a list.
+#[derive(Debug, Drop)]
+pub struct ByteOut {
+    bytes: Vec<u8>,
+}
+
+impl Model for ByteOut {
+    ghost use Rattle.std.specs.Prelude.{ℕ, List};
+
+    ghost Value = { List ℕ };
+
+    ghost view = { λ o. o.bytes.items };
+}
+
+impl ByteOut {
+    /// No bytes. Nothing is allocated yet.
+    pub fn new(alloc: Global) -> ByteOut
+        ensures { result ≡ [] }
+    {
+        ByteOut {
+            bytes: Vec::new(alloc),
+        }
+    }
+
+    /// Appends these bytes, or has no memory for them and stays as it was.
+    pub fn push(&mut self, from: &[u8]) -> Result<(), AllocError>
+        ensures ok { OnOk result (self.new ≡ self.old ++ from.now) }
+        ensures err { OnErr result (self.new ≡ self.old) }
+    {
+        self.bytes.extend_from_slice(from)
+    }
+
+    /// The bytes.
+    pub fn as_slice(&self) -> &[u8]
+        ensures { result.now ≡ self.now }
+    {
+        let bytes: &[u8] = &self.bytes;
+        bytes
+    }
+
+    /// Keeps the first `len` bytes.
+    pub fn cut(&mut self, len: usize)
+        requires { len ≤ length self.old }
+        ensures { self.new ≡ take len self.old }
+    {
+        self.bytes.truncate(len);
+    }
+}

@@ -1,0 +1,4 @@
+pub mod Text
+pub mod Graph
+pub mod Size
+pub mod Building
