@@ -1,5 +1,6 @@
 pub mod Conf
 pub mod Cache
+pub mod Rows
 pub mod Expiry
 pub mod Change
 pub mod Walk

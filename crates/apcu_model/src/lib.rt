@@ -2,9 +2,13 @@
 #![tactic(auto)]
 
 mod conf;
+mod entry;
+mod hash;
 mod journal;
 mod plain;
 mod request;
+mod rows;
+mod state;
 
 pub use conf::Conf;
 pub use journal::{Journal, Mark};

@@ -1,0 +1,164 @@
+-- No two rows with one key, and nothing that is held.
+use Rattle.std.proofs.Common.{◌≡◌, ◌≢◌, ℕ, zero, suc, ◌+◌, ◌<◌, Bool, true, false, cond, not, ◌&&◌, ◌||◌, List, [], ◌∷◌, ◌++◌, length, get_or, set, map, filter, refl, sym, ap, ◌∙◌, subst, arith, rules}
+use Rattle.std.specs.List.{list_any}
+use Rattle.std.specs.Str.{bytes_eq}
+use Rattle.std.proofs.lemmas.Bool.{and_parts, and_from, not-true, not_from_false, false≢true, false_from_ne_true, or_parts, or_from, cond-true, cond-false, cases_Bool}
+use Rattle.std.proofs.lemmas.List.Folds.{list_any-append, list_any_at}
+use Rattle.std.proofs.lemmas.Slice.Eq.{bytes_eq-Decides}
+use Rattle.apcu_model.specs.declared.state.State.{State}
+use Rattle.php_graph.specs.declared.kind.Kind.{Kind}
+use Rattle.apcu_model.specs.Cache.{Row, Cache, risen, has_key}
+use Rattle.apcu_model.specs.Change.{is_held, dropped, with_row, placed}
+use Rattle.apcu_model.specs.Expiry.{is_expired}
+use Rattle.apcu_model.specs.Sequential.{touched}
+use Rattle.apcu_model.specs.Walk.{is_in_slot, slot_of, in_slot_order}
+use Rattle.apcu_model.specs.Rows.{are_apart, touched_at, cache_of}
+
+-- nobody holds anything
+pub none_held : (rows : List Row) → filter (is_held []) rows ≡ []
+none_held [] = refl
+none_held (row ∷ rows) = none_held rows
+
+-- no row is left
+pub none_left : (rows : List Row) → filter (λ row. false) rows ≡ []
+none_left [] = refl
+none_left (row ∷ rows) = none_left rows
+
+pub dropped_in : (t : ℕ) (pass : Row → Bool) (c : Cache) → dropped [] t pass (record c { removed = [] }) ≡ record c { rows = filter (λ row. not (pass row)) c.rows; removed = [] }
+dropped_in t pass c =
+    ap
+    (λ (removed : List Row). let d : Cache = record c { rows = filter (λ row. not (pass row)) c.rows; removed = removed } in d)
+    (ap (map {A = Row} {B = Row} (λ row. record row { dtime = t })) (none_held (in_slot_order c.conf (filter pass c.rows))))
+
+pub dropped_of : (t : ℕ) (pass : Row → Bool) (s : State) → dropped [] t pass (cache_of s) ≡ record (cache_of s) { rows = filter (λ row. not (pass row)) s.rows.items }
+dropped_of t pass s = dropped_in t pass (cache_of s)
+
+-- the rows that are left where expired rows of a slot are dropped
+abbrev pub fresh_rows : State → ℕ → ℕ → List Row
+fresh_rows s slot t = filter (λ row. not (is_in_slot s.conf slot row && is_expired s.conf t row)) s.rows.items
+
+abbrev pub new_row : State → List ℕ → List Kind → ℕ → ℕ → ℕ → ℕ → Row
+new_row s key graph ttl t n place = record {
+  key = key;
+  graph = graph;
+  ttl = ttl;
+  ctime = t;
+  mtime = t;
+  atime = t;
+  dtime = 0;
+  hits = 0;
+  place = place;
+  size = n;
+  number = s.next_number;
+}
+
+pub placed_of : (key : List ℕ) (graph : List Kind) (ttl t n place : ℕ) (s : State) → placed [] key graph ttl t n (cache_of s) place ≡ record (cache_of s) { rows = with_row (new_row s key graph ttl t n place) (fresh_rows s (slot_of s.conf key) t); next_number = risen s.next_number; inserts = risen s.inserts }
+placed_of key graph ttl t n place s =
+    let new = new_row s key graph ttl t n place in
+    let fresh = fresh_rows s (slot_of s.conf key) t in
+    ap
+    (λ (f : Cache). let c : Cache = record (dropped [] t (has_key key) f) { rows = with_row new f.rows; next_number = risen s.next_number; inserts = risen s.inserts } in c)
+    (dropped_of t (λ row. is_in_slot s.conf (slot_of s.conf key) row && is_expired s.conf t row) s)
+    ∙ ap
+    (λ (d : Cache). let c : Cache = record d { rows = with_row new fresh; next_number = risen s.next_number; inserts = risen s.inserts } in c)
+    (dropped_in t (has_key key) (record (cache_of s) { rows = fresh }))
+
+pub key_is : (key : List ℕ) (row : Row) → has_key key row ≡ true → row.key ≡ key
+key_is key row h = (bytes_eq-Decides row.key key).0 h
+
+pub key_other : (row other : Row) → has_key row.key other ≡ false → has_key other.key row ≡ false
+key_other row other h =
+    false_from_ne_true (has_key other.key row) (λ e. let same = key_is other.key row e in
+    false≢true (sym h ∙ (bytes_eq-Decides other.key row.key).1 (sym same)))
+
+-- a filter keeps rows apart
+pub none-filter : (p q : Row → Bool) (rows : List Row) → list_any q rows ≡ false → list_any q (filter p rows) ≡ false
+none-filter p q [] h = refl
+none-filter p q (row ∷ rows) h =
+    let parts = or_parts (q row) (list_any q rows) h in
+    elim (p row) as (λ v. list_any q (cond v (row ∷ filter p rows) (filter p rows)) ≡ false) [
+      | true ↦ or_from (q row) (list_any q (filter p rows)) parts.0 (none-filter p q rows parts.1)
+      | false ↦ none-filter p q rows parts.1
+    ]
+
+pub are_apart-filter : (p : Row → Bool) (rows : List Row) → are_apart rows ≡ true → are_apart (filter p rows) ≡ true
+are_apart-filter p [] h = refl
+are_apart-filter p (row ∷ rows) h =
+    let parts = and_parts (not (list_any (has_key row.key) rows)) (are_apart rows) h in
+    let rest = are_apart-filter p rows parts.1 in
+    let none = none-filter p (has_key row.key) rows (not-true (list_any (has_key row.key) rows) parts.0) in
+    elim (p row) as (λ v. are_apart (cond v (row ∷ filter p rows) (filter p rows)) ≡ true) [
+      | true ↦ and_from (not (list_any (has_key row.key) (filter p rows))) (are_apart (filter p rows)) (not_from_false (list_any (has_key row.key) (filter p rows)) none) rest
+      | false ↦ rest
+    ]
+
+-- a change that keeps keys keeps rows apart
+pub any-map : (f : Row → Row) (keeps : (row : Row) → (f row).key ≡ row.key) (key : List ℕ) (rows : List Row) → list_any (has_key key) (map f rows) ≡ list_any (has_key key) rows
+any-map f keeps key [] = refl
+any-map f keeps key (row ∷ rows) =
+    rw (any-map f keeps key rows, keeps row) refl
+
+pub are_apart-map : (f : Row → Row) (keeps : (row : Row) → (f row).key ≡ row.key) (rows : List Row) → are_apart (map f rows) ≡ are_apart rows
+are_apart-map f keeps [] = refl
+are_apart-map f keeps (row ∷ rows) =
+    rw (are_apart-map f keeps rows, keeps row, any-map f keeps row.key rows) refl
+
+pub touched_key : (key : List ℕ) (t : ℕ) (row : Row) → (touched_at key t row).key ≡ row.key
+touched_key key t row = elim (has_key key row) as (λ v. (cond v (touched t row) row).key ≡ row.key) [ true ↦ refl | false ↦ refl ]
+
+-- one more row whose key is new
+pub are_apart-push : (rows : List Row) (new : Row) → are_apart rows ≡ true → list_any (has_key new.key) rows ≡ false → are_apart (rows ++ new ∷ []) ≡ true
+are_apart-push [] new h none = refl
+are_apart-push (row ∷ rows) new h none =
+    let parts = and_parts (not (list_any (has_key row.key) rows)) (are_apart rows) h in
+    let fresh = or_parts (has_key new.key row) (list_any (has_key new.key) rows) none in
+    let rest = are_apart-push rows new parts.1 fresh.1 in
+    let apart : list_any (has_key row.key) (rows ++ new ∷ []) ≡ false =
+    list_any-append (has_key row.key) rows (new ∷ []) ∙ or_from (list_any (has_key row.key) rows) (list_any (has_key row.key) (new ∷ [])) (not-true (list_any (has_key row.key) rows) parts.0) (or_from (has_key row.key new) false (key_other new row fresh.0) refl) in
+    and_from (not (list_any (has_key row.key) (rows ++ new ∷ []))) (are_apart (rows ++ new ∷ [])) (not_from_false (list_any (has_key row.key) (rows ++ new ∷ [])) apart) rest
+
+abbrev pub replaced : Row → Row → Row
+replaced new row = cond (has_key new.key row) new row
+
+pub replaced_key : (new row : Row) → (replaced new row).key ≡ row.key
+replaced_key new row =
+    elim (has_key new.key row) as (λ v. has_key new.key row ≡ v → (cond v new row).key ≡ row.key) [
+      | true ↦ λ e. sym (key_is new.key row e)
+      | false ↦ λ _. refl
+    ] refl
+
+-- where no row has the key, nothing is replaced
+pub replaced_none : (new : Row) (rows : List Row) → list_any (has_key new.key) rows ≡ false → map (replaced new) rows ≡ rows
+replaced_none new [] h = refl
+replaced_none new (row ∷ rows) h =
+    let parts = or_parts (has_key new.key row) (list_any (has_key new.key) rows) h in
+    rw (parts.0, replaced_none new rows parts.1) refl
+
+-- the one row of the key is replaced
+pub set-replaced : (new : Row) (rows : List Row) (i : ℕ) → are_apart rows ≡ true → i < length rows → ((d : Row) → has_key new.key (get_or rows i d) ≡ true) → set rows i new ≡ map (replaced new) rows
+set-replaced new [] i h l at = absurd (omega arith)
+set-replaced new (row ∷ rows) zero h l at =
+    let parts = and_parts (not (list_any (has_key row.key) rows)) (are_apart rows) h in
+    let here : has_key new.key row ≡ true = at row in
+    let same : row.key ≡ new.key = key_is new.key row here in
+    let none : list_any (has_key new.key) rows ≡ false = subst (λ k. list_any (has_key k) rows ≡ false) same (not-true (list_any (has_key row.key) rows) parts.0) in
+    rw (here, replaced_none new rows none) refl
+set-replaced new (row ∷ rows) (suc i) h l at =
+    let parts = and_parts (not (list_any (has_key row.key) rows)) (are_apart rows) h in
+    let later : (d : Row) → has_key new.key (get_or rows i d) ≡ true = λ d. at d in
+    let here : has_key new.key row ≡ false = false_from_ne_true (has_key new.key row) (λ e. let same : row.key ≡ new.key = key_is new.key row e in
+    let found : list_any (has_key new.key) rows ≡ true = list_any_at (has_key new.key) rows i row (omega arith) (later row) in
+    false≢true (sym (subst (λ k. list_any (has_key k) rows ≡ false) same (not-true (list_any (has_key row.key) rows) parts.0)) ∙ found)) in
+    rw (here, set-replaced new rows i parts.1 (omega arith) later) refl
+
+pub with_row-set : (new : Row) (rows : List Row) (i : ℕ) → are_apart rows ≡ true → i < length rows → ((d : Row) → has_key new.key (get_or rows i d) ≡ true) → set rows i new ≡ with_row new rows
+with_row-set new rows i h l at =
+    let found : list_any (has_key new.key) rows ≡ true = list_any_at (has_key new.key) rows i new l (at new) in
+    rw found (set-replaced new rows i h l at)
+
+pub are_apart-with_row : (new : Row) (rows : List Row) → are_apart rows ≡ true → are_apart (with_row new rows) ≡ true
+are_apart-with_row new rows h =
+    elim (list_any (has_key new.key) rows) as (λ v. list_any (has_key new.key) rows ≡ v → are_apart (cond v (map (replaced new) rows) (rows ++ new ∷ [])) ≡ true) [
+      | true ↦ λ _. are_apart-map (replaced new) (replaced_key new) rows ∙ h
+      | false ↦ λ e. are_apart-push rows new h e
+    ] refl

@@ -1,0 +1,206 @@
+ghost use Rattle.std.specs.Prelude.{◌≡◌, ℕ, ◌+◌, ◌<◌, ◌≤◌, ◌^◌, [], true, length, is_some, vec_len, vec_capacity, IfOk, OnOk, OnErr};
+ghost use Rattle.apcu_model.specs.Cache.{gap_of};
+ghost use Rattle.apcu_model.specs.Change.{expired_dropped, expunged, inserted, placed, put_in, with_room};
+ghost use Rattle.apcu_model.specs.Expiry.{live_row};
+ghost use Rattle.apcu_model.specs.Rows.{IsSound, cache_of};
+ghost use Rattle.apcu_model.specs.Sequential.{found_in, is_stored, looked_up};
+
+use crate::conf::Conf;
+use crate::entry::Entry;
+use crate::hash::hash_of;
+use crate::request::Reply;
+use crate::rows::{drop_expired, drop_expired_in, list_extents, live_in, put_row, touch_in};
+use php_graph::{Bytes, Graph, block_words};
+use seg_words::{Extent, first_fit};
+use std::alloc::{AllocError, Global};
+
+// What the plain cache keeps.
+#[derive(Debug, Drop)]
+pub(crate) struct State {
+    pub(crate) alloc: Global,
+    pub(crate) conf: Conf,
+    pub(crate) rows: Vec<Entry>,
+    pub(crate) next_number: u64,
+    pub(crate) hits: u64,
+    pub(crate) misses: u64,
+    pub(crate) inserts: u64,
+    pub(crate) expunges: u64,
+}
+
+// What is to be stored: owned already, so that no memory is missing later.
+#[derive(Debug, Drop)]
+struct Draft {
+    key: Bytes,
+    graph: Graph,
+    ttl: u32,
+    size: u32,
+}
+
+impl State {
+    // The least place where a block of so many words fits. The list has room for all blocks.
+    fn gap(&self, n: u32, extents: &mut Vec<Extent>) -> Option<u32>
+        requires { vec_len self.now.rows ≤ vec_capacity extents.old }
+        ensures place { result ≡ gap_of (cache_of self.now) n }
+        ensures capacity { vec_capacity extents.new ≡ vec_capacity extents.old }
+    {
+        list_extents(&self.rows, extents);
+        first_fit(self.conf.slots, self.conf.words, n, extents)
+    }
+
+    // Expired rows go, where the cache has a time limit.
+    fn expire(&mut self, t: u64)
+        requires { IsSound self.old }
+        ensures cache { cache_of self.new ≡ expired_dropped [] t (cache_of self.old) }
+        ensures sound { IsSound self.new }
+        ensures less { vec_len self.new.rows ≤ vec_len self.old.rows }
+        ensures capacity { vec_capacity self.new.rows ≡ vec_capacity self.old.rows }
+    {
+        if self.conf.ttl > 0 {
+            drop_expired(&mut self.rows, self.conf, t);
+        }
+    }
+
+    // All rows go, and what was counted since the last time.
+    fn expunge(&mut self)
+        requires { IsSound self.old }
+        ensures cache { (t : ℕ) → cache_of self.new ≡ expunged [] t (cache_of self.old) }
+        ensures sound { IsSound self.new }
+        ensures less { vec_len self.new.rows ≤ vec_len self.old.rows }
+        ensures capacity { vec_capacity self.new.rows ≡ vec_capacity self.old.rows }
+    {
+        self.rows.clear();
+        self.hits = 0;
+        self.misses = 0;
+        self.inserts = 0;
+        self.expunges = self.expunges.saturating_add(1);
+    }
+
+    // Makes room for a block, and answers the least place where it then fits.
+    fn make_room(&mut self, n: u32, t: u64, extents: &mut Vec<Extent>) -> Option<u32>
+        requires sound { IsSound self.old }
+        requires listed { vec_len self.old.rows ≤ vec_capacity extents.old }
+        ensures cache { cache_of self.new ≡ with_room [] n t (cache_of self.old) }
+        ensures place { result ≡ gap_of (cache_of self.new) n }
+        ensures sound { IsSound self.new }
+        ensures less { vec_len self.new.rows ≤ vec_len self.old.rows }
+        ensures capacity { vec_capacity self.new.rows ≡ vec_capacity self.old.rows }
+    {
+        let place = self.gap(n, extents);
+        if place.is_some() {
+            return place;
+        }
+        self.expire(t);
+        let place = self.gap(n, extents);
+        if place.is_some() {
+            return place;
+        }
+        self.expunge();
+        self.gap(n, extents)
+    }
+
+    // The row comes in at a place where it fits.
+    fn put(&mut self, draft: Draft, place: u32, t: u64)
+        requires sound { IsSound self.old }
+        requires room { vec_len self.old.rows < vec_capacity self.old.rows }
+        ensures cache { cache_of self.new ≡ placed [] draft.key draft.graph draft.ttl t draft.size (cache_of self.old) place }
+        ensures sound { IsSound self.new }
+    {
+        let slot = hash_of(draft.key.as_slice()) % u64::from(self.conf.slots);
+        drop_expired_in(&mut self.rows, self.conf, slot, t);
+        let new = Entry {
+            key: draft.key,
+            graph: draft.graph,
+            ttl: draft.ttl,
+            ctime: t,
+            mtime: t,
+            atime: t,
+            hits: 0,
+            place,
+            size: draft.size,
+            number: self.next_number,
+        };
+        put_row(&mut self.rows, new);
+        self.next_number = self.next_number.saturating_add(1);
+        self.inserts = self.inserts.saturating_add(1);
+    }
+
+    // Makes room and puts the row there. Memory is taken before anything changes.
+    fn insert(&mut self, draft: Draft, t: u64) -> Result<bool, AllocError>
+        requires { IsSound self.old }
+        ensures reply { IfOk result (λ done. let room = with_room [] draft.size t (cache_of self.old) in done ≡ is_stored (put_in [] draft.key draft.graph draft.ttl t draft.size room (gap_of room draft.size)).answer) }
+        ensures after { OnOk result (let room = with_room [] draft.size t (cache_of self.old) in cache_of self.new ≡ (put_in [] draft.key draft.graph draft.ttl t draft.size room (gap_of room draft.size)).cache) }
+        ensures err { OnErr result (cache_of self.new ≡ cache_of self.old) }
+        ensures sound { IsSound self.new }
+    {
+        let mut extents = Vec::with_capacity(self.alloc, self.rows.len())?;
+        self.rows.reserve(1)?;
+        match self.make_room(draft.size, t, &mut extents) {
+            Some(place) => {
+                self.put(draft, place, t);
+                Ok(true)
+            }
+            None => Ok(false),
+        }
+    }
+
+    // Whether a look-up finds the key.
+    fn is_live(&self, key: &[u8], t: u64) -> bool
+        ensures { result ≡ is_some (live_row key.now t (cache_of self.now)) }
+    {
+        live_in(&self.rows, key, t).is_some()
+    }
+
+    // Stores a value, and answers whether it stands in the cache.
+    pub(crate) fn store(
+        &mut self,
+        key: &[u8],
+        value: &Graph,
+        ttl: u32,
+        exclusive: bool,
+        t: u64,
+    ) -> Result<bool, AllocError>
+        requires sound { IsSound self.old }
+        requires short { length key.now < 2 ^ 32 }
+        ensures reply { IfOk result (λ done. done ≡ is_stored (inserted [] key.now value.now ttl exclusive t (cache_of self.old)).answer) }
+        ensures after { OnOk result (cache_of self.new ≡ (inserted [] key.now value.now ttl exclusive t (cache_of self.old)).cache) }
+        ensures err { OnErr result (cache_of self.new ≡ cache_of self.old) }
+        ensures sound { IsSound self.new }
+    {
+        let size = block_words(key.len() as u64, value);
+        if u64::from(self.conf.words - self.conf.slots) < size {
+            return Ok(false);
+        }
+        if exclusive && self.is_live(key, t) {
+            return Ok(false);
+        }
+        let draft = Draft {
+            key: Bytes::of(self.alloc, key)?,
+            graph: value.try_copy(self.alloc)?,
+            ttl,
+            size: size as u32,
+        };
+        self.insert(draft, t)
+    }
+
+    // Looks a key up and answers a copy of its value.
+    pub(crate) fn fetch(&mut self, key: &[u8], t: u64) -> Result<Reply, AllocError>
+        requires { IsSound self.old }
+        ensures reply { IfOk result (λ r. r ≡ found_in (live_row key.now t (cache_of self.old))) }
+        ensures after { OnOk result (cache_of self.new ≡ looked_up key.now t (live_row key.now t (cache_of self.old)) (cache_of self.old)) }
+        ensures err { OnErr result (cache_of self.new ≡ cache_of self.old) }
+        ensures sound { IsSound self.new }
+    {
+        match live_in(&self.rows, key, t) {
+            Some(row) => {
+                let graph = row.graph.try_copy(self.alloc)?;
+                touch_in(&mut self.rows, key, t);
+                self.hits = self.hits.saturating_add(1);
+                Ok(Reply::Found(graph))
+            }
+            None => {
+                self.misses = self.misses.saturating_add(1);
+                Ok(Reply::Absent)
+            }
+        }
+    }
+}
