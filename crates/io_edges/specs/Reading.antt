@@ -1,7 +1,6 @@
 -- What a read of a source answers, and what it does.
-use Rattle.std.specs.Prelude.{◌≡◌, ℕ, ◌≤◌, List, [], length, take}
+use Rattle.std.specs.Prelude.{◌≡◌, ℕ, ◌≤◌, List, [], length, take, Option}
 use Rattle.std.specs.Io.KnownBytes.{IsAtEnd, prepend_known}
-use Rattle.std.specs.Prelude.{Option}
 use Rattle.io_edges.specs.declared.source.Got.{Got}
 use Rattle.io_edges.specs.declared.source.Got.TheVariants.{Took, End, Failed}
 use Rattle.io_edges.specs.Faults.{Rose, raised}

@@ -57,7 +57,8 @@ impl<W: Write> Sink for StdSink<W> {
         ensures faults { CountsWriteFault result self.old.failures self.new.failures }
 
         // Of a writer that tells its bytes, what is taken stands behind them.
-        ensures taken { Appends (W.contents self.old.writer) (W.contents self.new.writer) (bytes_taken result from.now) }
+        ensures taken { Appends (W.contents self.old.writer) (W.contents self.new.writer)
+            (bytes_taken result from.now) }
         ensures failures { self.new.failures ≡ faults_after_write result self.old.failures }
     {
         match write_retrying(&mut self.writer, from) {

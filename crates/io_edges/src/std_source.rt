@@ -47,7 +47,8 @@ impl<R: Read> Source for StdSource<R> {
         ensures faults { CountsReadFault result self.old.failures self.new.failures }
 
         // Of a reader that tells its bytes, what is given is what comes next, and the end is its end.
-        ensures given { Consumes (R.remaining self.old.reader) (R.remaining self.new.reader) (bytes_given result into.new) }
+        ensures given { Consumes (R.remaining self.old.reader) (R.remaining self.new.reader)
+            (bytes_given result into.new) }
         ensures end { EndsOnlyAtEnd result (R.remaining self.new.reader) }
         ensures failures { self.new.failures ≡ faults_after_read result self.old.failures }
     {

@@ -202,6 +202,22 @@ fn errors_say_what_they_are(rt: HostRuntime) -> Result<(), Fail> {
         format!(in alloc; "{}", WriteFault)?.as_str(),
         "write fault"
     );
-    NoGate.reached(0, Point::Before(0));
     Ok(())
+}
+
+// A gate as threads share it.
+fn pass<G: Gate + Sync>(gate: &G) {
+    for point in [
+        Point::Before(0),
+        Point::Pinned(0),
+        Point::Chunk(0),
+        Point::After(0),
+    ] {
+        gate.reached(1, point);
+    }
+}
+
+#[test]
+fn no_gate_holds_nobody() {
+    pass(&NoGate);
 }
