@@ -1,10 +1,10 @@
 -- Counts of faults, which stand still at the last value of a `u64`.
-use Rattle.std.specs.Prelude.{ℕ, ◌+◌, ◌-◌, ◌^◌, ◌≤◌, min}
+use Rattle.std.specs.Prelude.{ℕ, ◌+◌, ◌-◌, ◌^◌, ◌<◌, ◌≤◌, ◌⊎◌, min}
 
 -- the count after one more fault: it is one more, but the last value of a `u64` stays
 abbrev pub raised : ℕ → ℕ
 raised count = min (count + 1) (2 ^ 64 - 1)
 
--- a count rose: it is greater than before, or stands at the last value of a `u64`
+-- a count rose: it is greater than before, or has come to the last value of a `u64`, where it stays
 abbrev pub Rose : ℕ → ℕ → Type 0
-Rose old new = raised old ≤ new
+Rose old new = (old < new) ⊎ (2 ^ 64 - 1 ≤ new)

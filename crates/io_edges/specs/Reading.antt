@@ -1,10 +1,9 @@
 -- What a read of a source answers, and what it does.
-use Rattle.std.specs.Prelude.{◌≡◌, ℕ, ◌≤◌, List, [], length, take}
+use Rattle.std.specs.Prelude.{◌≡◌, ℕ, ◌≤◌, List, [], length, take, Option}
 use Rattle.std.specs.Io.KnownBytes.{IsAtEnd, prepend_known}
-use Rattle.std.specs.Prelude.{Option}
 use Rattle.io_edges.specs.declared.source.Got.{Got}
 use Rattle.io_edges.specs.declared.source.Got.TheVariants.{Took, End, Failed}
-use Rattle.io_edges.specs.Faults.{Rose}
+use Rattle.io_edges.specs.Faults.{Rose, raised}
 
 -- the bytes that a read gave: as many of the buffer's first as it says
 abbrev pub bytes_given : Got → List ℕ → List ℕ
@@ -29,6 +28,12 @@ abbrev pub CountsReadFault : Got → ℕ → ℕ → Type 0
 CountsReadFault (Took n) old new = new ≡ old
 CountsReadFault End old new = new ≡ old
 CountsReadFault Failed old new = (old ≤ new) × Rose old new
+
+-- the count of faults after a read that counts just its own
+abbrev pub faults_after_read : Got → ℕ → ℕ
+faults_after_read (Took n) count = count
+faults_after_read End count = count
+faults_after_read Failed count = raised count
 
 -- reads took this many bytes from the front of what was left
 abbrev pub HasTaken : Option (List ℕ) → Option (List ℕ) → ℕ → Type 0

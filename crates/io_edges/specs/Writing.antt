@@ -2,7 +2,7 @@
 use Rattle.std.specs.Prelude.{◌≡◌, ℕ, ◌≤◌, List, [], take}
 use Rattle.io_edges.specs.declared.sink.Put.{Put}
 use Rattle.io_edges.specs.declared.sink.Put.TheVariants.{Took, Failed}
-use Rattle.io_edges.specs.Faults.{Rose}
+use Rattle.io_edges.specs.Faults.{Rose, raised}
 
 -- the bytes that a write took: as many of the first as it says
 abbrev pub bytes_taken : Put → List ℕ → List ℕ
@@ -18,3 +18,8 @@ TakesWithin Failed count = Unit {0}
 abbrev pub CountsWriteFault : Put → ℕ → ℕ → Type 0
 CountsWriteFault (Took n) old new = new ≡ old
 CountsWriteFault Failed old new = (old ≤ new) × Rose old new
+
+-- the count of faults after a write that counts just its own
+abbrev pub faults_after_write : Put → ℕ → ℕ
+faults_after_write (Took n) count = count
+faults_after_write Failed count = raised count

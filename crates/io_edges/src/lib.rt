@@ -20,3 +20,6 @@ pub use source::{Got, Source};
 pub use std_sink::StdSink;
 pub use std_source::StdSource;
 pub use writing::{WriteFault, write_all};
+
+#[cfg(test)]
+mod tests;

@@ -25,7 +25,14 @@ impl<'a> Model for MemSink<'a> {
 
     ghost Value = { Output };
 
-    ghost view = { λ s. record { held = s.bytes.items; room = s.room; piece = s.piece; fails = s.fails.now; call = s.call; faults = s.faults } };
+    ghost view = { λ s. record {
+      held = s.bytes.items;
+      room = s.room;
+      piece = s.piece;
+      fails = s.fails.now;
+      call = s.call;
+      faults = s.faults;
+    } };
 
     ghost invariant = { λ s. (1 ≤ s.piece) × (vec_len s.bytes ≤ s.room) × (s.room ≤ vec_capacity s.bytes) };
 }
@@ -40,7 +47,14 @@ impl<'a> MemSink<'a> {
         fails: &'a [u64],
     ) -> Result<MemSink<'a>, AllocError>
         requires { 1 ≤ piece }
-        ensures { IfOk result (λ sink. sink ≡ record { held = []; room = room; piece = piece; fails = fails.now; call = 0; faults = 0 }) }
+        ensures { IfOk result (λ sink. sink ≡ record {
+          held = [];
+          room = room;
+          piece = piece;
+          fails = fails.now;
+          call = 0;
+          faults = 0;
+        }) }
     {
         Ok(MemSink {
             bytes: Vec::with_capacity(alloc, room)?,

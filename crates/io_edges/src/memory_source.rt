@@ -7,7 +7,8 @@ ghost use Rattle.io_edges.specs.Memory.{read_answer, after_read};
 use crate::{Got, Source};
 use std::marker::Model;
 
-/// A source over bytes in memory, which tells what is left. Reads give at most `piece` bytes, and fail where they are told to.
+/// A source over bytes in memory, which tells what is left. It reads in pieces of a given size, and fails at given
+/// calls, so that a test can choose both.
 #[derive(Drop)]
 pub struct MemSource<'a> {
     rest: &'a [u8],
@@ -23,13 +24,20 @@ impl<'a> Model for MemSource<'a> {
 
     ghost Value = { Input };
 
-    ghost view = { λ s. record { left = s.rest.now; piece = s.piece; fails = s.fails.now; call = s.call; faults = s.faults } };
+    ghost view = { λ s. record {
+      left = s.rest.now;
+      piece = s.piece;
+      fails = s.fails.now;
+      call = s.call;
+      faults = s.faults;
+    } };
 
     ghost invariant = { λ s. 1 ≤ s.piece };
 }
 
 impl<'a> MemSource<'a> {
-    /// A source of these bytes. A read gives at most `piece` of them. The reads whose numbers, from 0, stand in `fails` fail.
+    /// A source of these bytes. A read gives as many as there are and as fit, but at most `piece`. The reads whose
+    /// numbers, from 0, stand in `fails` fail.
     pub fn new(bytes: &'a [u8], piece: usize, fails: &'a [u64]) -> MemSource<'a>
         requires { 1 ≤ piece }
         ensures { result ≡ record { left = bytes.now; piece = piece; fails = fails.now; call = 0; faults = 0 } }

@@ -44,7 +44,8 @@ pub fn read_all<S: Source>(alloc: Global, input: &mut S, limit: usize) -> Result
     ensures never_falls { S.faults input.old ≤ S.faults input.new }
 
     // After any error a part of what was left is gone.
-    ensures part { OnErr result ((count : ℕ) × (count ≤ limit + 1) × HasTaken (S.left input.old) (S.left input.new) count) }
+    ensures part { OnErr result ((count : ℕ) × (count ≤ limit + 1)
+        × HasTaken (S.left input.old) (S.left input.new) count) }
 {
     let mut buffer = buffer_of(alloc, PIECE).map_err(|_| ReadError::Memory)?;
     let mut bytes = Vec::new(alloc);

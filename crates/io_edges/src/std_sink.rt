@@ -1,5 +1,7 @@
 // A sink over a writer of the runtime.
-ghost use Rattle.std.specs.Prelude.{◌≡◌, ◌≤◌, length, None, IfSome};
+ghost use Rattle.std.specs.Prelude.{◌≡◌, ◌≤◌, ◌<◌, length, take, None, IfSome, MatchOption};
+ghost use Rattle.std.specs.Io.KnownBytes.{Appends, Keeps};
+ghost use Rattle.io_edges.specs.Writing.{bytes_taken, TakesWithin, CountsWriteFault, faults_after_write};
 
 use crate::{Put, Sink};
 use std::io::{ErrorKind, Stderr, Stdout, Write};
@@ -49,7 +51,16 @@ impl<W: Write> Sink for StdSink<W> {
 
     ghost faults = { λ s. s.failures };
 
-    fn write(&mut self, from: &[u8]) -> Put {
+    fn write(&mut self, from: &[u8]) -> Put
+        requires { 0 < length from.now }
+        ensures took { TakesWithin result (length from.now) }
+        ensures faults { CountsWriteFault result self.old.failures self.new.failures }
+
+        // Of a writer that tells its bytes, what is taken stands behind them.
+        ensures taken { Appends (W.contents self.old.writer) (W.contents self.new.writer)
+            (bytes_taken result from.now) }
+        ensures failures { self.new.failures ≡ faults_after_write result self.old.failures }
+    {
         match write_retrying(&mut self.writer, from) {
             Some(count) if count > 0 => Put::Took(count),
             _ => {
@@ -62,9 +73,11 @@ impl<W: Write> Sink for StdSink<W> {
 
 // One write, made again where a signal cut it off. `None` is an error.
 fn write_retrying<W: Write>(writer: &mut W, from: &[u8]) -> Option<usize>
-    ensures { IfSome result (λ count. count ≤ length from.now) }
+    ensures bound { IfSome result (λ count. count ≤ length from.now) }
+    ensures taken { MatchOption result (Keeps (W.contents writer.old) (W.contents writer.new))
+        (λ count. Appends (W.contents writer.old) (W.contents writer.new) (take count from.now)) }
 {
-    for _ in 0..u64::MAX {
+    'tries: for _ in 0..u64::MAX {
         match writer.write(from) {
             Ok(count) => return Some(count),
             Err(e) if e.kind() == ErrorKind::Interrupted => {}

@@ -1,5 +1,7 @@
 // A source over a reader of the runtime.
-ghost use Rattle.std.specs.Prelude.{◌≡◌, ◌≤◌, length, None, IfSome};
+ghost use Rattle.std.specs.Prelude.{◌≡◌, ◌≤◌, ◌<◌, length, take, None, Some, IfSome, MatchOption};
+ghost use Rattle.std.specs.Io.KnownBytes.{Consumes, Keeps, IsAtEnd};
+ghost use Rattle.io_edges.specs.Reading.{bytes_given, GivesWithin, EndsOnlyAtEnd, CountsReadFault, faults_after_read};
 
 use crate::{Got, Source};
 use std::io::{ErrorKind, Read, Stdin};
@@ -39,7 +41,17 @@ impl<R: Read> Source for StdSource<R> {
 
     ghost faults = { λ s. s.failures };
 
-    fn read(&mut self, into: &mut [u8]) -> Got {
+    fn read(&mut self, into: &mut [u8]) -> Got
+        requires { 0 < length into.old }
+        ensures took { GivesWithin result (length into.new) }
+        ensures faults { CountsReadFault result self.old.failures self.new.failures }
+
+        // Of a reader that tells its bytes, what is given is what comes next, and the end is its end.
+        ensures given { Consumes (R.remaining self.old.reader) (R.remaining self.new.reader)
+            (bytes_given result into.new) }
+        ensures end { EndsOnlyAtEnd result (R.remaining self.new.reader) }
+        ensures failures { self.new.failures ≡ faults_after_read result self.old.failures }
+    {
         match read_retrying(&mut self.reader, into) {
             Some(0) => Got::End,
             Some(count) => Got::Took(count),
@@ -53,9 +65,12 @@ impl<R: Read> Source for StdSource<R> {
 
 // One read, made again where a signal cut it off. `None` is an error.
 fn read_retrying<R: Read>(reader: &mut R, into: &mut [u8]) -> Option<usize>
-    ensures { IfSome result (λ count. count ≤ length into.new) }
+    ensures bound { IfSome result (λ count. count ≤ length into.new) }
+    ensures given { MatchOption result (Keeps (R.remaining reader.old) (R.remaining reader.new))
+        (λ count. Consumes (R.remaining reader.old) (R.remaining reader.new) (take count into.new)) }
+    ensures end { result ≡ Some 0 → 0 < length into.new → IsAtEnd (R.remaining reader.new) }
 {
-    for _ in 0..u64::MAX {
+    'tries: for _ in 0..u64::MAX {
         match reader.read(into) {
             Ok(count) => return Some(count),
             Err(e) if e.kind() == ErrorKind::Interrupted => {}

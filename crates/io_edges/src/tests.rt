@@ -1,0 +1,223 @@
+// Each call once, and what no clause says: the real streams, fakes that fail in mid-stream, and the messages.
+use super::*;
+use std::io::{self, Error, ErrorKind, Read, Write};
+use std::test::Fail;
+
+// Answers each call from a table, and then says that it is at its end.
+#[derive(Drop)]
+struct ScriptedReader {
+    answers: [Step; 5],
+    call: usize,
+}
+
+#[derive(Drop)]
+struct ScriptedWriter {
+    answers: [Step; 5],
+    call: usize,
+    taken: usize,
+}
+
+#[derive(Clone, Copy)]
+enum Step {
+    Bytes(usize),
+    Interrupted,
+    Broken,
+}
+
+impl Read for ScriptedReader {
+    fn read(&mut self, buf: &mut [u8]) -> io::Result<usize> {
+        if self.call >= self.answers.len() {
+            return Ok(0);
+        }
+        let answer = self.answers[self.call];
+        self.call += 1;
+        match answer {
+            Step::Bytes(count) => {
+                let count = count.min(buf.len());
+                for byte in buf[..count].iter_mut() {
+                    *byte = b'x';
+                }
+                Ok(count)
+            }
+            Step::Interrupted => Err(Error::from(ErrorKind::Interrupted)),
+            Step::Broken => Err(Error::from(ErrorKind::BrokenPipe)),
+        }
+    }
+}
+
+impl Write for ScriptedWriter {
+    fn write(&mut self, buf: &[u8]) -> io::Result<usize> {
+        if self.call >= self.answers.len() {
+            return Ok(0);
+        }
+        let answer = self.answers[self.call];
+        self.call += 1;
+        match answer {
+            Step::Bytes(count) => {
+                let count = count.min(buf.len());
+                self.taken = self.taken.saturating_add(count);
+                Ok(count)
+            }
+            Step::Interrupted => Err(Error::from(ErrorKind::Interrupted)),
+            Step::Broken => Err(Error::from(ErrorKind::BrokenPipe)),
+        }
+    }
+
+    fn flush(&mut self) -> io::Result<()> {
+        Ok(())
+    }
+}
+
+#[test]
+fn a_stream_is_read_through_an_interruption_and_fails_where_it_breaks(rt: HostRuntime) {
+    let mut source = StdSource::new(ScriptedReader {
+        answers: [
+            Step::Bytes(2),
+            Step::Interrupted,
+            Step::Bytes(3),
+            Step::Broken,
+            Step::Bytes(1),
+        ],
+        call: 0,
+    });
+    let mut into = [0; 4];
+    assert_eq!(rt; source.read(&mut into), Got::Took(2));
+    assert_eq!(rt; source.read(&mut into), Got::Took(3));
+    assert_eq!(rt; source.read(&mut into), Got::Failed);
+    assert_eq!(rt; source.read(&mut into), Got::Took(1));
+    assert_eq!(rt; source.read(&mut into), Got::End);
+    assert_eq!(rt; into, *b"xxx\0");
+}
+
+#[test]
+fn a_stream_is_written_through_an_interruption_and_fails_where_it_takes_nothing(rt: HostRuntime) {
+    let mut sink = StdSink::new(ScriptedWriter {
+        answers: [
+            Step::Bytes(2),
+            Step::Interrupted,
+            Step::Broken,
+            Step::Bytes(0),
+            Step::Bytes(9),
+        ],
+        call: 0,
+        taken: 0,
+    });
+    assert_eq!(rt; sink.write(b"abcd"), Put::Took(2));
+    assert_eq!(rt; sink.write(b"cd"), Put::Failed);
+    assert_eq!(rt; sink.write(b"cd"), Put::Failed);
+    assert_eq!(rt; sink.write(b"cd"), Put::Took(2));
+    assert!(rt; write_all(&mut sink, b"e").is_err());
+}
+
+#[test]
+fn the_real_streams_end_and_take(rt: HostRuntime) -> Result<(), Fail> {
+    let mut input = StdSource::standard_input(&rt);
+    assert_eq!(rt; input.read(&mut [0; 4]), Got::End);
+    assert!(rt; read_all(rt.alloc(), &mut input, 4)?.is_empty());
+    write_all(&mut StdSink::standard_output(&rt), b"to standard output\n")?;
+    write_all(&mut StdSink::standard_error(&rt), b"to standard error\n")?;
+    Ok(())
+}
+
+#[test]
+fn all_is_read_in_any_pieces(rt: HostRuntime) -> Result<(), Fail> {
+    let alloc = rt.alloc();
+    for piece in [1, 2, 7] {
+        let mut source = MemSource::new(b"seven b", piece, &[]);
+        let bytes = read_all(alloc, &mut source, 7)?;
+        assert_eq!(rt; bytes.as_slice(), b"seven b".as_slice());
+    }
+    Ok(())
+}
+
+#[test]
+fn a_read_fails_in_turn(rt: HostRuntime) {
+    let alloc = rt.alloc();
+    // Three reads give the bytes, the fourth says that nothing is left, and a fifth is not made.
+    for (number, wanted) in [
+        (0, Some("read fault")),
+        (2, Some("read fault")),
+        (3, Some("read fault")),
+        (4, None),
+    ] {
+        let fails = [number];
+        let mut source = MemSource::new(b"abc", 1, &fails);
+        match read_all(alloc, &mut source, 3) {
+            Ok(_) => assert!(rt; wanted.is_none(), "at {number}"),
+            Err(ReadError::Fault) => assert!(rt; wanted.is_some(), "at {number}"),
+            Err(_) => assert!(rt; false, "at {number}"),
+        }
+    }
+}
+
+#[test]
+fn one_byte_over_the_limit_is_too_long(rt: HostRuntime) {
+    let alloc = rt.alloc();
+    let mut source = MemSource::new(b"abcd", 2, &[]);
+    assert!(rt; matches!(read_all(alloc, &mut source, 3), Err(ReadError::TooLong)));
+    let mut source = MemSource::new(b"abcd", 2, &[]);
+    assert!(rt; read_all(alloc, &mut source, 4).is_ok());
+    let mut source = MemSource::new(b"", 2, &[]);
+    assert!(rt; read_all(alloc, &mut source, 0).is_ok());
+}
+
+#[test]
+fn all_is_written_in_any_pieces(rt: HostRuntime) -> Result<(), Fail> {
+    for piece in [1, 2, 7] {
+        let mut sink = MemSink::new(rt.alloc(), 7, piece, &[])?;
+        write_all(&mut sink, b"seven b")?;
+        assert_eq!(rt; sink.as_slice(), b"seven b".as_slice());
+    }
+    Ok(())
+}
+
+#[test]
+fn a_write_fails_in_turn(rt: HostRuntime) -> Result<(), Fail> {
+    for (room, fail, wanted) in [(3, 0, ""), (3, 2, "ab"), (2, 9, "ab"), (3, 3, "abc")] {
+        let fails = [fail];
+        let mut sink = MemSink::new(rt.alloc(), room, 1, &fails)?;
+        let written = write_all(&mut sink, b"abc");
+        assert_eq!(rt; written.is_ok(), wanted == "abc");
+        assert_eq!(rt; sink.as_slice(), wanted.as_bytes());
+    }
+    Ok(())
+}
+
+#[test]
+fn errors_say_what_they_are(rt: HostRuntime) -> Result<(), Fail> {
+    let alloc = rt.alloc();
+    assert_eq!(rt;
+        format!(in alloc; "{}", ReadError::Memory)?.as_str(),
+        "out of memory"
+    );
+    assert_eq!(rt;
+        format!(in alloc; "{}", ReadError::Fault)?.as_str(),
+        "read fault"
+    );
+    assert_eq!(rt;
+        format!(in alloc; "{}", ReadError::TooLong)?.as_str(),
+        "input too long"
+    );
+    assert_eq!(rt;
+        format!(in alloc; "{}", WriteFault)?.as_str(),
+        "write fault"
+    );
+    Ok(())
+}
+
+// A gate as threads share it.
+fn pass<G: Gate + Sync>(gate: &G) {
+    for point in [
+        Point::Before(0),
+        Point::Pinned(0),
+        Point::Chunk(0),
+        Point::After(0),
+    ] {
+        gate.reached(1, point);
+    }
+}
+
+#[test]
+fn no_gate_holds_nobody() {
+    pass(&NoGate);
+}
