@@ -22,38 +22,8 @@ use Rattle.apcu_run.specs.declared.script.Call.{Call}
 use Rattle.apcu_run.specs.declared.script.Call.TheVariants.{StoreOne, FetchOne}
 use Rattle.apcu_run.specs.declared.script.Step.{Step}
 use Rattle.apcu_run.specs.Play.{next_of, wanted, Wish, Play, nothing_played, marked, played_from, played, after_wish, event_of, are_done, is_complete_play, IsLegal, IsComplete}
-use Rattle.apcu_run.specs.Output.{ends_line, flag_text, call_text, left_by, script_lines, worker_lines, journal_lines, play_text, output_of, IsOutput}
-
--- what a call asks
-abbrev pub request_of : Call → Request
-request_of (StoreOne key value ttl exclusive) = Store key value ttl exclusive
-request_of (FetchOne key) = Fetch key
-
--- what is printed for a reply
-abbrev pub reply_text : Reply → List ℕ
-reply_text (Flag done) = flag_text done
-reply_text (Found g) = text_of g ++ codes "b:1;"
-reply_text Absent = codes "b:0;b:0;"
-reply_text Ended = []
-
-abbrev pub step_reply : Cache → Step → Reply
-step_reply c step = reply_to [] step.t (request_of step.call) c
-
-abbrev pub after_step : Cache → Step → Cache
-after_step c step = cache_after [] step.t (request_of step.call) c
-
-abbrev pub replies_to : Cache → List Step → List Reply
-replies_to c [] = []
-replies_to c (step ∷ steps) = step_reply c step ∷ replies_to (after_step c step) steps
-
--- the lines of the replies
-abbrev pub lines_of : Cache → List Step → List ℕ
-lines_of c [] = []
-lines_of c (step ∷ steps) = reply_text (step_reply c step) ++ ends_line ++ lines_of (after_step c step) steps
-
--- the mark of each event of one worker
-abbrev pub own_mark : Mark
-own_mark = record { worker = 0; mask = 0 }
+use Rattle.apcu_run.specs.Alone.{request_of, step_reply, after_step, replies_to, lines_of, own_mark, marks_for, alone_text}
+use Rattle.apcu_run.specs.Output.{ends_line, flag_text, reply_text, call_text, left_by, script_lines, worker_lines, journal_lines, play_text, output_of, IsOutput}
 
 pub found_text : (found : Option Row) (key : List ℕ) (more : List Reply) → call_text (FetchOne key) (found_in found ∷ more) ≡ reply_text (found_in found)
 found_text (Some row) key more = refl
@@ -98,11 +68,6 @@ legal_none workers worker m = legal_below workers worker m (range_with_len 0 64)
 pub left_by-next : (conf : Conf) (call : Call) (reply : Reply) (more : List Reply) → left_by (next_of conf call (reply ∷ more)) ≡ more
 left_by-next conf (StoreOne key value ttl exclusive) reply more = refl
 left_by-next conf (FetchOne key) reply more = refl
-
--- a mark for each step, and one for the end
-abbrev pub marks_for : List Step → List Mark
-marks_for [] = own_mark ∷ []
-marks_for (step ∷ steps) = own_mark ∷ marks_for steps
 
 -- one worker's play
 abbrev pub alone : Moment → List Reply → Play
@@ -160,10 +125,6 @@ script_lines-replies conf c (step ∷ steps) more =
     let left : left_by (next_of conf step.call (step_reply c step ∷ rest)) ≡ rest = left_by-next conf step.call (step_reply c step) rest in
     ap₂ (λ (line others : List ℕ). line ++ ends_line ++ others) (call_text-reply c step.t step.call rest)
     (ap (script_lines conf steps) left ∙ script_lines-replies conf (after_step c step) steps more)
-
--- what is printed for one worker
-abbrev pub alone_text : Conf → List Step → List ℕ
-alone_text conf steps = codes "worker " ++ decimal 0 ++ ends_line ++ lines_of (empty_cache conf) steps ++ journal_lines (marks_for steps)
 
 done_alone : (conf : Conf) (steps : List Step) (replies : List Reply) → wanted conf steps replies ≡ None → are_done conf (steps ∷ []) (replies ∷ []) ≡ true
 done_alone conf steps replies e = rw e refl

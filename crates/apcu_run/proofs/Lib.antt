@@ -1,2 +1,5 @@
 pub mod Alone
 pub mod Parts
+pub mod Lines
+pub mod Masks
+pub mod Finish

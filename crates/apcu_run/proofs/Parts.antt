@@ -61,9 +61,9 @@ module _ {X Y : Type 0} (IsX : X → Type 0) (spellX : X → List ℕ) (IsY : Y 
     fits = (first.fits, second.fits);
     text = first.text ∙ (ap (λ (b : List ℕ). spellX x ++ b) (between ∙ ap (λ (b : List ℕ). sep ++ b) second.text) ∙ sym (regroup (spellX x) (spellY y) sep rest));
     only = λ p others fits e.
-      let a = first.only p.0 (sep ++ (spellY p.1 ++ others)) fits.0 (e ∙ regroup (spellX p.0) (spellY p.1) sep others) in
-      let b = second.only p.1 others fits.1 (sym (behind sep (spellY p.1 ++ others) after (a.1 ∙ between))) in
-      (ap₂ (λ (u : X) (v : Y). (u, v)) a.0 b.0, b.1);
+        let a = first.only p.0 (sep ++ (spellY p.1 ++ others)) fits.0 (e ∙ regroup (spellX p.0) (spellY p.1) sep others) in
+        let b = second.only p.1 others fits.1 (sym (behind sep (spellY p.1 ++ others) after (a.1 ∙ between))) in
+        (ap₂ (λ (u : X) (v : Y). (u, v)) a.0 b.0, b.1);
   }
 
   pub both_none_first : (bytes : List ℕ) → ReadsNone IsX spellX bytes → ReadsNone IsBoth spell_both bytes
@@ -92,9 +92,9 @@ key_to bytes rest g k read is fits = record {
   fits = fits;
   text = read.text ∙ ap (λ (h : List Kind). text_of h ++ rest) is;
   only = λ y others fits' e.
-    let a = read.only (Str y ∷ []) others (string_graph y fits') e in
-    let same : Str y ∷ [] ≡ Str k ∷ [] = a.0 ∙ is in
-    (cc, a.1);
+      let a = read.only (Str y ∷ []) others (string_graph y fits') e in
+      let same : Str y ∷ [] ≡ Str k ∷ [] = a.0 ∙ is in
+      (cc, a.1);
 }
 
 pub key_other : (bytes rest : List ℕ) (g : List Kind) → ReadsTo IsGraph text_of bytes g rest → ((k : List ℕ) → g ≡ Str k ∷ [] → ⊥) → ReadsNone IsString string_text bytes
@@ -178,10 +178,10 @@ line_to bytes mid rest call read ends = record {
   fits = (refl, read.fits);
   text = read.text ∙ (ap (λ (b : List ℕ). call_spelling call ++ b) ends ∙ sym (append_assoc (call_spelling call) ends_line rest));
   only = λ y others fits e.
-    let a = read.only y.call (ends_line ++ others) fits.1 (e ∙ line_regroup y others) in
-    let same : y.call ≡ call = a.0 in
-    let zero_t : y.t ≡ 0 = fits.0 in
-    (ap₂ (λ (t : ℕ) (c : Call). record { t = t; call = c }) zero_t same, behind ends_line others rest (a.1 ∙ ends));
+      let a = read.only y.call (ends_line ++ others) fits.1 (e ∙ line_regroup y others) in
+      let same : y.call ≡ call = a.0 in
+      let zero_t : y.t ≡ 0 = fits.0 in
+      (ap₂ (λ (t : ℕ) (c : Call). record { t = t; call = c }) zero_t same, behind ends_line others rest (a.1 ∙ ends));
 }
 
 pub line_none_call : (bytes : List ℕ) → ReadsNone IsSpelled call_spelling bytes → ReadsNone IsLine step_line bytes

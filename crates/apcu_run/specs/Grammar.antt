@@ -42,12 +42,18 @@ step_line step = call_spelling step.call ++ ends_line
 abbrev pub IsLine : Step → Type 0
 IsLine step = (step.t ≡ 0) × IsSpelled step.call
 
+abbrev pub AreLines : List Step → Type 0
+AreLines steps = AllByRecursion IsLine steps
+
+abbrev pub lines_spelling : List Step → List ℕ
+lines_spelling steps = flat_map step_line steps
+
 -- a script begins with a line of its own
 abbrev pub script_spelling : List Step → List ℕ
-script_spelling steps = codes "worker" ++ ends_line ++ flat_map step_line steps
+script_spelling steps = codes "worker" ++ ends_line ++ lines_spelling steps
 
 -- The bytes are these scripts, one after the other: of one worker at most yet.
 pub record AreScripts (bytes : List ℕ) (scripts : List (List Step)) : Type 0 where
   pub text : bytes ≡ flat_map script_spelling scripts
-  pub lines : AllByRecursion (AllByRecursion IsLine) scripts
+  pub lines : AllByRecursion AreLines scripts
   pub workers : length scripts ≤ 1

@@ -2,3 +2,4 @@ pub mod Play
 pub mod Output
 pub mod Grammar
 pub mod Reads
+pub mod Alone

@@ -21,6 +21,13 @@ abbrev pub flag_text : Bool → List ℕ
 flag_text true = codes "b:1;"
 flag_text false = codes "b:0;"
 
+-- what a call on one key prints for its reply
+abbrev pub reply_text : Reply → List ℕ
+reply_text (Flag done) = flag_text done
+reply_text (Found g) = text_of g ++ codes "b:1;"
+reply_text Absent = codes "b:0;b:0;"
+reply_text Ended = []
+
 -- what `apcu_store` prints for its reply
 abbrev pub stored_text : List Reply → List ℕ
 stored_text (Flag stored ∷ replies) = flag_text stored
@@ -60,9 +67,13 @@ worker_lines conf w (script ∷ scripts) [] = []
 worker_lines conf w (script ∷ scripts) (replies ∷ others) =
     codes "worker " ++ decimal w ++ ends_line ++ script_lines conf script replies ++ worker_lines conf (w + 1) scripts others
 
--- a journal's line: the worker, and the workers of the mask in rising order
+-- the workers of a mask that come before worker n, in rising order, each after a space
+unfoldable pub mask_text : ℕ → ℕ → List ℕ
+mask_text mask n = flat_map (λ w. codes " " ++ decimal w) (filter (is_in_mask mask) (range_with_len 0 n))
+
+-- a journal's line: the worker, and the workers of the mask
 abbrev pub mark_line : Mark → List ℕ
-mark_line mark = decimal mark.worker ++ flat_map (λ w. codes " " ++ decimal w) (filter (is_in_mask mark.mask) (range_with_len 0 64)) ++ ends_line
+mark_line mark = decimal mark.worker ++ mask_text mark.mask 64 ++ ends_line
 
 abbrev pub journal_lines : List Mark → List ℕ
 journal_lines journal = codes "journal" ++ ends_line ++ flat_map mark_line journal

@@ -2,6 +2,8 @@
 #![tactic(auto)]
 
 mod fault;
+mod output;
+mod play;
 mod reading;
 mod script;
 

@@ -1,4 +1,5 @@
-ghost use Rattle.std.specs.Prelude.{◌≡◌, ℕ, ◌<◌, ◌==◌, ◌++◌, List, [], ◌∷◌, length, is_ok, if◌then◌else◌, slice_get, Some};
+ghost use Rattle.std.specs.Prelude.{◌≡◌, ℕ, ◌<◌, ◌==◌, ◌++◌, List, [], ◌∷◌, length, is_ok, if◌then◌else◌, slice_get, Some, IfNone};
+ghost use Rattle.std.specs.Option.{option_to_list};
 ghost use Rattle.apcu_run.specs.declared.script.Step.{Step};
 
 use php_graph::{Bytes, Graph};
@@ -83,5 +84,56 @@ impl Script {
         ensures { slice_get self.now i ≡ Some result.now }
     {
         &self.steps[i as usize]
+    }
+}
+
+impl Script {
+    /// The steps. It takes no memory.
+    pub fn into_steps(self) -> Vec<Step>
+        ensures { result.items ≡ self }
+    {
+        self.steps
+    }
+}
+
+/// The scripts of all workers, that of worker 0 first. Contracts see the list of their lists of steps.
+#[derive(Debug, Drop)]
+pub struct Scripts {
+    scripts: Vec<Script>,
+}
+
+impl Model for Scripts {
+    ghost use Rattle.std.specs.Prelude.{List};
+    ghost use Rattle.apcu_run.specs.declared.script.Step.{Step};
+
+    ghost Value = { List (List Step) };
+
+    ghost view = { λ s. s.scripts.items };
+}
+
+impl Scripts {
+    /// No scripts.
+    pub fn new(alloc: Global) -> Scripts
+        ensures { result ≡ [] }
+    {
+        Scripts {
+            scripts: Vec::new(alloc),
+        }
+    }
+
+    /// Adds the script of the next worker; without memory the scripts stay as they were.
+    pub fn push(&mut self, script: Script) -> Result<(), AllocError>
+        ensures { self.new ≡ (if is_ok result then self.old ++ script ∷ [] else self.old) }
+    {
+        self.scripts.push(script)?;
+        Ok(())
+    }
+
+    /// Takes the last script away.
+    pub fn pop(&mut self) -> Option<Script>
+        ensures last { self.old ≡ self.new ++ option_to_list result }
+        ensures none { IfNone result (self.old ≡ []) }
+    {
+        self.scripts.pop()
     }
 }

@@ -1,0 +1,64 @@
+ghost use Rattle.std.specs.Prelude.{◌≡◌, ◌++◌, ◌≤◌, OnOk, codes};
+ghost use Rattle.std.specs.Fmt.{decimal};
+ghost use Rattle.apcu_run.specs.Output.{reply_text, mark_line, mask_text, ends_line};
+
+use apcu_model::{Mark, Reply};
+use itoa::Buffer;
+use notation::{ByteOut, write_value};
+use std::alloc::AllocError;
+
+// The line of a call, for its reply.
+pub fn write_reply(out: &mut ByteOut, reply: &Reply) -> Result<(), AllocError>
+    ensures { OnOk result (out.new ≡ out.old ++ reply_text reply.now ++ ends_line) }
+{
+    match reply {
+        Reply::Flag(true) => out.push(b"b:1;")?,
+        Reply::Flag(false) => out.push(b"b:0;")?,
+        Reply::Found(graph) => {
+            write_value(graph, 0, out)?;
+            out.push(b"b:1;")?;
+        }
+        Reply::Absent => out.push(b"b:0;b:0;")?,
+        Reply::Ended => {}
+    }
+    out.push(b"\n")
+}
+
+// The line of a worker's number.
+pub fn write_worker(out: &mut ByteOut, worker: u32) -> Result<(), AllocError>
+    ensures { OnOk result (out.new ≡ out.old ++ codes "worker " ++ decimal worker ++ ends_line) }
+{
+    out.push(b"worker ")?;
+    write_number(out, worker)?;
+    out.push(b"\n")
+}
+
+// A journal's line.
+pub fn write_mark(out: &mut ByteOut, mark: Mark) -> Result<(), AllocError>
+    ensures { OnOk result (out.new ≡ out.old ++ mark_line mark) }
+{
+    write_number(out, mark.worker)?;
+    write_mask(out, mark.mask, 64)?;
+    out.push(b"\n")
+}
+
+// The workers of a mask that come before this one.
+fn write_mask(out: &mut ByteOut, mask: u64, workers: u32) -> Result<(), AllocError>
+    requires { workers ≤ 64 }
+    ensures { OnOk result (out.new ≡ out.old ++ mask_text mask workers) }
+{
+    for worker in 0..workers {
+        if (mask >> worker) % 2 == 1 {
+            out.push(b" ")?;
+            write_number(out, worker)?;
+        }
+    }
+    Ok(())
+}
+
+fn write_number(out: &mut ByteOut, number: u32) -> Result<(), AllocError>
+    ensures { OnOk result (out.new ≡ out.old ++ decimal number) }
+{
+    let mut buffer = Buffer::new();
+    out.push(buffer.format(number).as_bytes())
+}
