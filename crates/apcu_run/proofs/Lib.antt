@@ -3,3 +3,4 @@ pub mod Parts
 pub mod Lines
 pub mod Masks
 pub mod Finish
+pub mod Whole

@@ -1,5 +1,5 @@
 -- A script's lines, read one after the other to the end.
-use Rattle.std.proofs.Common.{◌≡◌, ℕ, zero, suc, ◌+◌, ◌≤◌, ◌<◌, List, [], ◌∷◌, ◌++◌, length, take, drop, refl, sym, ap, ap₂, subst, ◌∙◌, append_assoc, length-append, arith}
+use Rattle.std.proofs.Common.{◌≡◌, ℕ, zero, suc, ◌+◌, ◌≤◌, ◌<◌, ◌-◌, ◌^◌, List, [], ◌∷◌, ◌++◌, length, take, drop, refl, sym, ap, ap₂, subst, ◌∙◌, append_assoc, length-append, arith}
 use Rattle.std.specs.Prelude.{codes}
 use Rattle.std.specs.List.{flat_map, AllByRecursion}
 use Rattle.std.proofs.lemmas.List.{append-nil}
@@ -137,3 +137,16 @@ none_spelled bytes n [] are = refl
 none_spelled bytes n (first ∷ others) are =
     let e = ap length (are.text ∙ flat_map-cons script_spelling first others) in
     absurd (omega (arith, e, length-append (script_spelling first) (flat_map script_spelling others), length-append (codes "worker" ++ ends_line) (lines_spelling first)))
+
+few_steps : (scripts : List (List Step)) → length (flat_map script_spelling scripts) ≤ 67108864 → AllByRecursion (λ script. length script < 2 ^ 32 - 1) scripts
+few_steps [] le = tt
+few_steps (script ∷ scripts) le =
+    let e = ap length (flat_map-cons script_spelling script scripts) in
+    let whole = length-append (script_spelling script) (flat_map script_spelling scripts) in
+    let own = length-append (codes "worker" ++ ends_line) (lines_spelling script) in
+    let few = few_lines script in
+    (omega (arith, e, whole, own, few), few_steps scripts (omega (arith, e, whole)))
+
+-- scripts of not too many bytes have not too many steps
+pub few_scripts : (bytes : List ℕ) (scripts : List (List Step)) → AreScripts bytes scripts → length bytes ≤ 67108864 → AllByRecursion (λ script. length script < 2 ^ 32 - 1) scripts
+few_scripts bytes scripts are le = let n = ap length are.text in few_steps scripts (omega (arith, n))

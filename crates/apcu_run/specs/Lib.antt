@@ -3,3 +3,5 @@ pub mod Output
 pub mod Grammar
 pub mod Reads
 pub mod Alone
+pub mod Message
+pub mod Run

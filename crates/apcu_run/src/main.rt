@@ -5,6 +5,8 @@ mod fault;
 mod output;
 mod play;
 mod reading;
+mod run;
 mod script;
+mod status;
 
 fn main() {}
