@@ -224,5 +224,6 @@ fn keeps_a_journal(rt: HostRuntime) -> Result<(), Fail> {
     assert_eq!(rt; journal.len(), 1);
     assert_eq!(rt; journal.at(0), mark);
     assert!(rt; small(0).good());
+    works_alone();
     Ok(())
 }
