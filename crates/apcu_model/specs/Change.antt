@@ -4,7 +4,6 @@ use Rattle.std.specs.Prelude.{ℕ, ◌-◌, ◌==◌, ◌&&◌, not, nat_lt, Boo
 use Rattle.std.specs.List.{list_any}
 use Rattle.php_graph.specs.declared.kind.Kind.{Kind}
 use Rattle.php_graph.specs.Size.{block_size}
-use Rattle.apcu_model.specs.declared.conf.Conf.{Conf}
 use Rattle.apcu_model.specs.declared.request.StoreAnswer.{StoreAnswer}
 use Rattle.apcu_model.specs.declared.request.StoreAnswer.TheVariants.{TooLarge, Exists, NoRoom, Stored}
 use Rattle.apcu_model.specs.Cache.{Row, Cache, risen, has_key, gap_of}

@@ -5,6 +5,7 @@ mod conf;
 mod entry;
 mod hash;
 mod journal;
+mod laws;
 mod plain;
 mod request;
 mod rows;
@@ -12,5 +13,9 @@ mod state;
 
 pub use conf::Conf;
 pub use journal::{Journal, Mark};
+pub use laws::works_alone;
 pub use plain::Plain;
 pub use request::{Reply, Request, StoreAnswer};
+
+#[cfg(test)]
+mod tests;

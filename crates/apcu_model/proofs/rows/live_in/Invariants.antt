@@ -1,4 +1,4 @@
-use Rattle.std.proofs.Common.{◌≡◌, ◌&&◌, not, drop, None}
+use Rattle.std.proofs.Common.{◌≡◌, ◌&&◌, not, drop}
 use Rattle.std.specs.List.{find}
 use Rattle.apcu_model.specs.Cache.{has_key}
 use Rattle.apcu_model.specs.Expiry.{is_hard_expired}

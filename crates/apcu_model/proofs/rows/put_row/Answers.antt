@@ -1,4 +1,4 @@
-use Rattle.std.proofs.Common.{◌≡◌, ℕ, ◌<◌, true, List, length, get_or, ap, ◌∙◌, subst}
+use Rattle.std.proofs.Common.{◌≡◌, ◌<◌, true, length, get_or, ap, ◌∙◌, subst}
 use Rattle.apcu_model.specs.Cache.{Row, has_key}
 use Rattle.apcu_model.proofs.Apart.{with_row-set}
 use Rattle.apcu_model.proofs.rows.put_row.Goals as goal

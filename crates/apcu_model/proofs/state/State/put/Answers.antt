@@ -1,5 +1,5 @@
-use Rattle.std.proofs.Common.{◌≡◌, ℕ, ◌%◌, ◌&&◌, not, List, filter, refl, sym, ap, ap₂, ◌∙◌}
-use Rattle.apcu_model.specs.Cache.{Row, Cache, risen}
+use Rattle.std.proofs.Common.{◌≡◌, ℕ, ◌%◌, ◌&&◌, not, List, refl, sym, ap, ap₂, ◌∙◌}
+use Rattle.apcu_model.specs.Cache.{Row, Cache}
 use Rattle.apcu_model.specs.Change.{with_row}
 use Rattle.apcu_model.specs.Expiry.{is_expired}
 use Rattle.apcu_model.specs.Rows.{are_apart, cache_of}
