@@ -9,4 +9,47 @@ mod run;
 mod script;
 mod status;
 
-fn main() {}
+use io_edges::{NoGate, StdSink, StdSource};
+use run::{run, tell};
+use status::Status;
+use std::alloc::AllocError;
+use std::env;
+use std::io::ErrorKind;
+use std::process::ExitCode;
+use std::rt::Env;
+
+// The program's words, its name first. A word that is not UTF-8 makes the command line as faulty as none.
+fn words_of<R: Env + AllocGlobal>(rt: &R) -> Result<Vec<String>, AllocError> {
+    match env::args(rt) {
+        Ok(words) => words.collect(rt.alloc()),
+        Err(error) if error.kind() == ErrorKind::OutOfMemory => Err(AllocError),
+        Err(_) => Ok(Vec::new(rt.alloc())),
+    }
+}
+
+fn main(rt: HostRuntime) -> ExitCode {
+    let mut err = StdSink::standard_error(&rt);
+    let status = match words_of(&rt) {
+        Ok(words) => {
+            let mut input = StdSource::standard_input(&rt);
+            let mut out = StdSink::standard_output(&rt);
+            run(
+                &rt,
+                rt.alloc(),
+                &words,
+                &mut input,
+                &mut out,
+                &mut err,
+                &NoGate,
+            )
+        }
+        Err(_) => {
+            tell(&mut err, Status::NoMemory);
+            Status::NoMemory
+        }
+    };
+    ExitCode::from(status.code())
+}
+
+#[cfg(test)]
+mod tests;

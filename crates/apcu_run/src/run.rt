@@ -91,7 +91,7 @@ fn outcome<S: Source, K: Sink>(
 }
 
 // Tells a status on `err`.
-fn tell<E: Sink>(err: &mut E, status: Status)
+pub fn tell<E: Sink>(err: &mut E, status: Status)
     ensures { IsTold (message_of status) (E.held err.old) (E.held err.new) (E.faults err.old) (E.faults err.new) }
 {
     let _told = write_all(err, status.message());
