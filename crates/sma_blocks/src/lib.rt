@@ -1,0 +1,6 @@
+//! Blocks and gaps in a row of words: the shared memory allocator.
+#![tactic(auto)]
+
+mod sma;
+
+pub use sma::Sma;
