@@ -8,3 +8,4 @@ pub mod Merging
 pub mod Places
 pub mod Changes
 pub mod Taking
+pub mod Giving

@@ -5,7 +5,7 @@ ghost use Rattle.seg_words.specs.Gaps.{first_fit, free_runs};
 ghost use Rattle.sma_blocks.specs.Live.{IsLive, SameBlocks, live_blocks, with_block, without_block, largest_of};
 ghost use Rattle.sma_blocks.specs.Pieces.{pieces};
 ghost use Rattle.sma_blocks.specs.Ready.{IsReady};
-ghost use Rattle.sma_blocks.specs.Walk.{IsEdge, cut_words};
+ghost use Rattle.sma_blocks.specs.Walk.{IsEdge, IsFreeBefore, IsFreeAfter, cut_words};
 
 use seg_words::Segment;
 
@@ -85,6 +85,10 @@ impl Sma {
         ensures aside { S.aside seg.new ≡ S.aside seg.old }
         ensures rest { S.rest seg.new ≡ S.rest seg.old }
     {
+        let first = self.free_before(seg, at);
+        let given = self.part_at(seg, at);
+        let last = self.free_after(seg, at + given.size);
+        seg.store(first, u64::from(last - first) + 1);
     }
 
     /// How many words are free: the words of all gaps.
@@ -144,6 +148,47 @@ impl Sma {
             place += part.size;
         }
         None
+    }
+
+    // The place from which on the words right before the live block at `at` are free.
+    fn free_before<S: Segment>(&self, seg: &mut S, at: u32) -> u32
+        requires ready { IsReady self.now (S.words seg.old) (S.aside seg.old) }
+        requires live { IsLive (live_blocks (S.words seg.old) self.now.from) at }
+        ensures free { IsFreeBefore (S.words seg.old) self.now.from result at }
+        ensures words { S.words seg.new ≡ S.words seg.old }
+        ensures aside { S.aside seg.new ≡ S.aside seg.old }
+        ensures rest { S.rest seg.new ≡ S.rest seg.old }
+    {
+        let mut first = self.from;
+        let mut place = self.from;
+        while place < at {
+            let part = self.part_at(seg, place);
+            place += part.size;
+            if !part.is_gap {
+                first = place;
+            }
+        }
+        first
+    }
+
+    // The place up to which the words from the edge `end` on are free.
+    fn free_after<S: Segment>(&self, seg: &mut S, end: u32) -> u32
+        requires ready { IsReady self.now (S.words seg.old) (S.aside seg.old) }
+        requires edge { IsEdge (S.words seg.old) self.now.from end }
+        requires inside { end ≤ self.now.to }
+        ensures free { IsFreeAfter (S.words seg.old) end result }
+        ensures within { result ≤ self.now.to }
+        ensures words { S.words seg.new ≡ S.words seg.old }
+        ensures aside { S.aside seg.new ≡ S.aside seg.old }
+        ensures rest { S.rest seg.new ≡ S.rest seg.old }
+    {
+        if end < self.to {
+            let next = self.part_at(seg, end);
+            if next.is_gap {
+                return end + next.size;
+            }
+        }
+        end
     }
 
     // The piece that begins at `at`.
