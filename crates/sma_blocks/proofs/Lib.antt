@@ -9,3 +9,4 @@ pub mod Places
 pub mod Changes
 pub mod Taking
 pub mod Giving
+pub mod Listing

@@ -4,3 +4,6 @@
 mod sma;
 
 pub use sma::Sma;
+
+#[cfg(test)]
+mod tests;
