@@ -10,3 +10,4 @@ pub mod Changes
 pub mod Taking
 pub mod Giving
 pub mod Listing
+pub mod Stored

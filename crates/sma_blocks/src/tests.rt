@@ -51,14 +51,14 @@ fn take_listed<S: Segment>(
 }
 
 // The blocks without the one at a place.
-fn without_place(
-    alloc: Global,
-    blocks: &[Extent],
-    at: u32,
-) -> Result<Vec<Extent>, AllocError>
+fn without_place(alloc: Global, blocks: &[Extent], at: u32) -> Result<Vec<Extent>, AllocError>
     ensures { IfOk result (λ kept. kept.items ≡ without_block at blocks.now) }
 {
-    blocks.iter().copied().filter(|block| block.place != at).collect(alloc)
+    blocks
+        .iter()
+        .copied()
+        .filter(|block| block.place != at)
+        .collect(alloc)
 }
 
 // Gives the block at an index of the list of live blocks, and says the list that is left.
@@ -177,14 +177,20 @@ fn takes_the_least_place(rt: HostRuntime) -> Result<(), Fail> {
     let mut blocks = Vec::new(rt.alloc());
     assert_eq!(rt; take_times(&mut sma, &mut words, &mut blocks, 8, 2)?, 2);
     assert!(rt; take_listed(&mut sma, &mut words, &mut blocks, 16)?);
-    assert_eq!(rt; blocks.as_slice(), [block(32, 8), block(40, 8), block(48, 16)].as_slice());
+    assert_eq!(rt;
+        blocks.as_slice(),
+        [block(32, 8), block(40, 8), block(48, 16)].as_slice()
+    );
     assert_eq!(rt; sma.take(&mut words, 2), None);
     blocks = give_listed(rt.alloc(), &mut sma, &mut words, &blocks, 1)?;
     assert_eq!(rt; blocks.len(), 2);
     blocks = give_listed(rt.alloc(), &mut sma, &mut words, &blocks, 0)?;
     assert_eq!(rt; blocks.as_slice(), [block(48, 16)].as_slice());
     assert_eq!(rt; sma.take(&mut words, 18), None);
-    assert_eq!(rt; (sma.free_words(&mut words), sma.largest(&mut words)), (16, 16));
+    assert_eq!(rt;
+        (sma.free_words(&mut words), sma.largest(&mut words)),
+        (16, 16)
+    );
     assert_eq!(rt; sma.gap_from(&mut words, 0), Some((32, 16)));
     assert_eq!(rt; sma.gap_from(&mut words, 34), None);
     assert_eq!(rt; sma.take(&mut words, 16), Some(32));
