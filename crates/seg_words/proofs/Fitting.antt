@@ -1,7 +1,7 @@
 -- What the words on free places mean, fact by fact.
-use Rattle.std.proofs.Common.{◌≡◌, ◌≢◌, ℕ, zero, suc, ◌+◌, ◌-◌, ◌*◌, ◌/◌, ◌%◌, ◌<◌, ◌≤◌, Bool, true, false, cond, not, eqb, ltb, leb, ◌&&◌, List, [], ◌∷◌, length, get_or, take, max, min, Option, Some, None, refl, sym, ap, ◌∙◌, subst, arith, rules, add-one, Decides}
+use Rattle.std.proofs.Common.{◌≡◌, ◌≢◌, ℕ, zero, suc, ◌+◌, ◌%◌, ◌<◌, ◌≤◌, Bool, true, false, cond, not, eqb, ◌&&◌, List, length, get_or, take, max, min, Some, None, refl, sym, ap, ◌∙◌, subst, arith}
 use Rattle.std.proofs.lemmas.Bool.Decides.{nat_tests}
-use Rattle.std.specs.List.{list_all, range_with_len, find}
+use Rattle.std.specs.List.{range_with_len, find}
 use Rattle.std.proofs.lemmas.List.Folds.{list_all_more, list_all_kept}
 use Rattle.seg_words.specs.declared.extents.Extent.{Extent}
 use Rattle.seg_words.specs.Gaps.{meets, is_free, fits, first_fit}
