@@ -1,1 +1,7 @@
 pub mod ByteStrings
+pub mod Numbers
+pub mod Graph
+pub mod Size
+pub mod Building
+pub mod Kept
+pub mod Drafted
