@@ -1,19 +1,32 @@
 //! Writing a graph item by item.
 
-ghost use Rattle.std.specs.Prelude.{◌≡◌, ◌⊎◌, Some, None, IsTrue, OnOk, OnErr, IfErr, IsErrOf};
+ghost use Rattle.std.specs.Prelude.{◌≡◌, ◌⊎◌, Some, None, IsTrue, OnOk, OnErr, IfErr, IsErrOf, Result};
 ghost use Rattle.php_graph.specs.declared.item.BuildFault.{BuildFault};
 ghost use Rattle.php_graph.specs.declared.item.BuildFault.TheVariants.{Memory};
-ghost use Rattle.php_graph.specs.declared.item.Wants.TheVariants.{Done};
-ghost use Rattle.php_graph.specs.Building.{nothing_drafted, wants_of, item_fits, fault_of, pushed};
+ghost use Rattle.php_graph.specs.declared.item.Item.TheVariants as items;
+ghost use Rattle.php_graph.specs.declared.item.Wants.TheVariants.{Value, Done};
+ghost use Rattle.php_graph.specs.Building.{nothing_drafted, wants_of, item_fits, fault_of, pushed, IsAnswer, room_fault, value_fault, with_value};
 ghost use Rattle.php_graph.specs.Graph.{IsGraph};
+ghost use Rattle.php_graph.specs.Drafted.{IsNewValue};
 
+use crate::bytes::Bytes;
+use crate::child::Child;
 use crate::container::Container;
 use crate::graph::Graph;
 use crate::item::{BuildFault, Item, Wants};
 use crate::key::Key;
 use crate::kind::Kind;
+use crate::members::Members;
+use crate::numbers::int_of_text;
+use crate::props::Props;
+use crate::steps::{attach, open_container, push_place, put};
 use std::alloc::Global;
 use std::marker::Model;
+
+/// How many containers may lie in one another.
+const LEVELS: usize = 512;
+/// How many values a graph may have.
+const MOST_VALUES: u32 = 16_777_216;
 
 /// A graph that is being written, item by item, in the order of the notation.
 #[derive(Debug, Drop)]
@@ -72,17 +85,36 @@ impl Builder {
         }
     }
 
-    /// Writes the next item. It is refused where it begins a value inside 512 containers, or the value number
-    /// 16,777,217; where it shares a place that has not begun, or names no object that has; where its key is
-    /// an integer's decimal, or is there already; or where its class has no such name. Want of memory comes
-    /// only where none of these does. A refusal leaves everything as it was.
-    pub fn push(&mut self, item: Item) -> Result<(), BuildFault>
-        requires { IsTrue (item_fits (wants_of self.old) item) }
-        ensures ok { OnOk result ((self.new ≡ pushed self.old item) × (fault_of self.old item ≡ None)) }
-        ensures refused { (fault : BuildFault) → fault_of self.old item ≡ Some fault → IsErrOf result fault }
-        ensures cause { IfErr result (λ fault. (fault ≡ Memory) ⊎ (fault_of self.old item ≡ Some fault)) }
+    /// Why there is no room for one more value.
+    fn room(&self) -> Result<(), BuildFault>
+        ensures { IsAnswer (room_fault self.now) result }
+    {
+        if self.containers.len() >= LEVELS {
+            return Err(BuildFault::TooDeep);
+        }
+        if self.values >= MOST_VALUES {
+            return Err(BuildFault::TooManyPlaces);
+        }
+        Ok(())
+    }
+
+    /// A value with a place of its own.
+    fn push_value(&mut self, kind: Kind) -> Result<(), BuildFault>
+        requires wanted { wants_of self.old ≡ Value }
+        requires new_value { IsNewValue self.old.places kind }
+        ensures answer { IsAnswer (room_fault self.old) result }
+        ensures ok { OnOk result (self.new ≡ with_value self.old kind) }
         ensures err { OnErr result (self.new ≡ self.old) }
     {
-        Err(BuildFault::Memory)
+        self.room()?;
+        self.offsets.reserve(1)?;
+        self.containers.reserve(1)?;
+        let place = self.places.len() as u32 + 1;
+        let opens = kind.is_container();
+        push_place(&mut self.places, &self.containers, &mut self.key, kind)?;
+        put(&mut self.offsets, 0);
+        open_container(&mut self.containers, place, opens);
+        self.values += 1;
+        Ok(())
     }
 }
