@@ -53,7 +53,7 @@ children_set g p old new c there kids =
 
 -- ---- keys that wait
 
-no_fault : (b : Bool) (f : BuildFault) (rest : Option BuildFault) → cond b (Some f) rest ≡ None → (b ≡ false) × (rest ≡ None)
+pub no_fault : (b : Bool) (f : BuildFault) (rest : Option BuildFault) → cond b (Some f) rest ≡ None → (b ≡ false) × (rest ≡ None)
 no_fault true f rest e = absurd cc
 no_fault false f rest e = (refl, e)
 
@@ -159,10 +159,10 @@ value_on_top kind d new =
       members = omega (arith, children_push [] kind new.childless);
     }
 
-attached_is : (g : List Kind) (p : ℕ) (outer : List ℕ) (key : Key) (c : Child) (old : Kind) → kind_at g p ≡ Some old → attached g (p ∷ outer) (Some key) c ≡ set g (p - 1) (with_member old key c)
+pub attached_is : (g : List Kind) (p : ℕ) (outer : List ℕ) (key : Key) (c : Child) (old : Kind) → kind_at g p ≡ Some old → attached g (p ∷ outer) (Some key) c ≡ set g (p - 1) (with_member old key c)
 attached_is g p outer key c old there = rw there refl
 
-nothing_on_top : (g : List Kind) → wants_by g [] None ≡ Value → g ≡ []
+pub nothing_on_top : (g : List Kind) → wants_by g [] None ≡ Value → g ≡ []
 nothing_on_top [] e = refl
 nothing_on_top (kind ∷ ks) e = absurd cc
 
@@ -170,7 +170,7 @@ value_top : (g : List Kind) (kind : Kind) → IsDraft g [] None → wants_by g [
 value_top [] kind d wants new = value_on_top kind d new
 value_top (k ∷ ks) kind d wants new = absurd cc
 
-no_value : (b : Bool) → cond b ArrayKey Name ≡ Value → ⊥
+pub no_value : (b : Bool) → cond b ArrayKey Name ≡ Value → ⊥
 no_value true e = absurd cc
 no_value false e = absurd cc
 

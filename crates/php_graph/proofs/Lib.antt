@@ -5,3 +5,5 @@ pub mod EndLemmas
 pub mod DraftLemmas
 pub mod DraftSteps
 pub mod DraftMade
+pub mod DraftKept
+pub mod DraftKnown

@@ -1,7 +1,7 @@
 //! What stands at a place of a graph.
 
 ghost use Rattle.std.specs.Prelude.{◌≡◌, ◌<◌, ◌+◌, ◌^◌, ◌++◌, ◌∷◌, [], length, true, IfOk, OnOk, IfErr, OnErr};
-ghost use Rattle.php_graph.specs.Graph.{keys_of, children_of, has_key, is_object, lowered_kind};
+ghost use Rattle.php_graph.specs.Graph.{keys_of, children_of, has_key, is_array, is_object, lowered_kind};
 ghost use Rattle.php_graph.specs.Building.{with_member, is_name, is_container};
 ghost use Rattle.php_graph.specs.Keys.{HasKeys};
 ghost use Rattle.php_graph.specs.Size.{cells_of};
@@ -78,6 +78,26 @@ impl Kind {
     {
         match self {
             Kind::Array(_) | Kind::Object(_, _) => true,
+            _ => false,
+        }
+    }
+
+    /// Whether it is an array.
+    pub(crate) fn is_array(&self) -> bool
+        ensures { result ≡ is_array self.now }
+    {
+        match self {
+            Kind::Array(_) => true,
+            _ => false,
+        }
+    }
+
+    /// Whether it is an object.
+    pub(crate) fn is_object(&self) -> bool
+        ensures { result ≡ is_object self.now }
+    {
+        match self {
+            Kind::Object(_, _) => true,
             _ => false,
         }
     }

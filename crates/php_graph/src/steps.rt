@@ -1,16 +1,19 @@
 //! The steps of a builder, over the lists that it keeps.
 
-ghost use Rattle.std.specs.Prelude.{◌≡◌, ◌<◌, ◌≤◌, ◌+◌, ◌^◌, ◌++◌, ◌∷◌, [], length, true, OnOk, OnErr, None, vec_len, vec_capacity, IsTrue, Some, IfSome};
+ghost use Rattle.std.specs.Prelude.{◌≡◌, ◌<◌, ◌+◌, ◌^◌, ◌++◌, ◌∷◌, [], length, reverse, true, OnOk, OnErr, Some, None, vec_len, vec_capacity};
+ghost use Rattle.std.specs.List.{AllByRecursion};
 ghost use Rattle.php_graph.specs.declared.child.Child.TheVariants.{Own};
-ghost use Rattle.php_graph.specs.Graph.{kind_at};
-ghost use Rattle.php_graph.specs.Building.{attached};
-ghost use Rattle.php_graph.specs.Drafted.{Opens, places_of, CanAttach};
+ghost use Rattle.php_graph.specs.Graph.{is_array_key};
+ghost use Rattle.php_graph.specs.Building.{attached, innermost_fault, IsAnswer};
+ghost use Rattle.php_graph.specs.Drafted.{Opens, places_of, CanAttach, KnowsAll, is_open_at};
 
 use crate::child::Child;
 use crate::container::Container;
 use crate::key::Key;
 use crate::kind::Kind;
-use std::alloc::AllocError;
+use crate::item::BuildFault;
+use crate::numbers::int_of_text;
+use std::alloc::{AllocError, Global};
 
 /// Puts a value at the end, where there is room for it.
 pub(crate) fn put<T: Drop>(items: &mut Vec<T>, value: T)
@@ -83,5 +86,45 @@ pub(crate) fn push_place(
             let _ = places.pop();
             Err(error)
         }
+    }
+}
+
+/// Notes a key of the innermost open container, unless it may not stand there.
+pub(crate) fn note_key(
+    alloc: Global,
+    places: &[Kind],
+    containers: &mut Vec<Container>,
+    key: &Key,
+) -> Result<(), BuildFault>
+    requires known { KnowsAll places.now (reverse containers.old.items) None }
+    requires opened { AllByRecursion (λ p. is_open_at places.now p ≡ true) (places_of containers.old.items) }
+    ensures answer { IsAnswer (innermost_fault places.now (places_of containers.old.items) key.now) result }
+    ensures places { places_of containers.new.items ≡ places_of containers.old.items }
+    ensures ok { OnOk result (KnowsAll places.now (reverse containers.new.items) (Some key.now)) }
+    ensures err { OnErr result (KnowsAll places.now (reverse containers.new.items) None) }
+{
+    let last = containers.len();
+    if last == 0 {
+        return Ok(());
+    }
+    let container = &mut containers[last - 1];
+    let kind = &places[(container.place - 1) as usize];
+    if kind.is_array() && !is_array_key(key) {
+        return Err(BuildFault::IntegerText);
+    }
+    if container.has(kind, key) {
+        return Err(BuildFault::RepeatedKey);
+    }
+    container.note(alloc, kind, key)?;
+    Ok(())
+}
+
+/// Whether an array may have this key.
+fn is_array_key(key: &Key) -> bool
+    ensures { result ≡ is_array_key key.now }
+{
+    match key {
+        Key::Int(_) => true,
+        Key::Str(bytes) => int_of_text(bytes.as_slice()).is_none(),
     }
 }
