@@ -14,8 +14,8 @@ use Rattle.php_graph.specs.declared.item.Wants.TheVariants.{Value, ArrayKey, Nam
 use Rattle.php_graph.specs.declared.item.BuildFault.{BuildFault}
 use Rattle.php_graph.specs.declared.item.BuildFault.TheVariants.{RepeatedKey, IntegerText}
 use Rattle.php_graph.specs.Graph.{kind_at, children_of, keys_of, passes, is_array, is_object, is_object_at, is_array_at, has_key, is_array_key, FitsKey, is_back, child_end, ends_after, end_of, levels, most_values, values_in, IsGraph}
-use Rattle.php_graph.specs.Building.{with_member, is_container, is_name, keys_among, key_fault, attached, wants_by}
-use Rattle.php_graph.specs.Drafted.{IsSpine, IsShaped, IsDraft, IsWaiting, children_at, children_in, is_open_at, IsNewValue}
+use Rattle.php_graph.specs.Building.{with_member, is_container, is_name, key_fault, fault_in, attached, wants_by}
+use Rattle.php_graph.specs.Drafted.{keys_among, IsSpine, IsShaped, IsDraft, IsWaiting, children_at, children_in, is_open_at, IsNewValue}
 use Rattle.php_graph.proofs.EndLemmas.{EndsAt, own_makes, back_makes, ends_after-append}
 use Rattle.php_graph.proofs.DraftLemmas.{kind_at-set_other, kind_at-set_same, kind_at-append_old, kind_at-append_new, IsPlace, place_is, get_or-place, with_member-children, with_member-is_object, and_true}
 use Rattle.php_graph.proofs.DraftSteps.{Grown, shaped_member, shaped_container, IsSound, Takes, sound_member, sound_push, passes-set}
@@ -68,15 +68,16 @@ open_kind g p (Some old) is e = (old, is, sym (ap (passes is_container) is) ∙ 
 
 pub takes_key : (g : List Kind) (p : ℕ) (outer : List ℕ) (key : Key) (old : Kind) → kind_at g p ≡ Some old → is_container old ≡ true → IsWaiting g (p ∷ outer) (Some key) → Takes g p old key
 takes_key g p outer key old there holds waiting =
-    let first = no_fault (is_array_at g p && not (is_array_key key)) IntegerText (cond (has_key (keys_among (kind_at g p)) key) (Some RepeatedKey) None) waiting.1 in
-    let second = no_fault (has_key (keys_among (kind_at g p)) key) RepeatedKey None first.1 in
+    let sound : fault_in old key ≡ None = rw there at waiting.1 in
+    let first = no_fault (is_array old && not (is_array_key key)) IntegerText (cond (has_key (keys_of old) key) (Some RepeatedKey) None) sound in
+    let second = no_fault (has_key (keys_of old) key) RepeatedKey None first.1 in
     record {
       there = there;
       holds = holds;
       named = λ e. waiting.2 (ap (passes is_object) there ∙ e);
       fits = waiting.0;
-      new_key = sym (ap (λ (o : Option Kind). has_key (keys_among o) key) there) ∙ second.0;
-      array_key = λ e. and_false (is_array_at g p) (is_array_key key) first.0 (ap (passes is_array) there ∙ e);
+      new_key = second.0;
+      array_key = λ e. and_false (is_array old) (is_array_key key) first.0 e;
     }
 
 pub sound_of : (g : List Kind) (cs : List ℕ) (key : Option Key) → IsDraft g cs key → IsSound g cs

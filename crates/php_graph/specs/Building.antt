@@ -80,13 +80,17 @@ FitsItem _ = Unit {0}
 
 -- ---- what is refused
 
-abbrev pub keys_among : Option Kind → List Key
-keys_among None = []
-keys_among (Some kind) = keys_of kind
+-- A key of this container: an array takes no integer's decimal, and neither takes a key again.
+abbrev pub fault_in : Kind → Key → Option BuildFault
+fault_in kind key = if is_array kind && not (is_array_key key) then Some IntegerText else if has_key (keys_of kind) key then Some RepeatedKey else None
 
--- A key of the container at place p: an array takes no integer's decimal, and neither takes a key again.
+abbrev pub fault_among : Option Kind → Key → Option BuildFault
+fault_among None key = None
+fault_among (Some kind) key = fault_in kind key
+
+-- a key of the container at place p
 abbrev pub key_fault : List Kind → ℕ → Key → Option BuildFault
-key_fault g p key = if is_array_at g p && not (is_array_key key) then Some IntegerText else if has_key (keys_among (kind_at g p)) key then Some RepeatedKey else None
+key_fault g p key = fault_among (kind_at g p) key
 
 -- a key of the innermost container
 abbrev pub innermost_fault : List Kind → List ℕ → Key → Option BuildFault

@@ -9,8 +9,8 @@ use Rattle.php_graph.specs.declared.child.Child.TheVariants.{Own, Back}
 use Rattle.php_graph.specs.declared.kind.Kind.{Kind}
 use Rattle.php_graph.specs.declared.kind.Kind.TheVariants as kinds
 use Rattle.php_graph.specs.declared.container.Container.{Container}
-use Rattle.php_graph.specs.Graph.{kind_at, children_of, passes, is_object, is_object_at, child_end, ends_after, end_of, levels, most_values, values_in, is_well_formed, FitsKind, FitsKey}
-use Rattle.php_graph.specs.Building.{Draft, is_container, is_name, key_fault, keys_among}
+use Rattle.php_graph.specs.Graph.{kind_at, children_of, keys_of, passes, is_object, is_object_at, child_end, ends_after, end_of, levels, most_values, values_in, is_well_formed, FitsKind, FitsKey}
+use Rattle.php_graph.specs.Building.{Draft, is_container, is_name, key_fault}
 
 -- the places of open containers, the innermost first
 abbrev pub places_of : List Container → List ℕ
@@ -62,6 +62,11 @@ pub record IsDraft (places : List Kind) (containers : List ℕ) (key : Option Ke
   pub count : values_in places ≤ most_values
   pub members : children_in places ≤ values_in places
 
+-- the keys of an array, the names of an object
+abbrev pub keys_among : Option Kind → List Key
+keys_among None = []
+keys_among (Some kind) = keys_of kind
+
 -- What is known of the keys of open containers, the innermost first. The key that waits counts as one of the
 -- innermost one's.
 abbrev pub KnowsAll : List Kind → List Container → Option Key → Type 0
@@ -74,6 +79,12 @@ pub record IsBuilding (places : List Kind) (offsets : List ℕ) (containers : Li
   pub known : KnowsAll places (reverse containers) key
   pub offsets_are : length offsets ≡ length places
   pub values_are : values ≡ values_in places
+
+-- a value that may take the next place, apart from the ranges that its type gives
+pub record IsFresh (g : List Kind) (kind : Kind) : Type 0 where
+  pub childless : children_of kind ≡ []
+  pub well_formed : IsTrue (is_well_formed kind)
+  pub target : (x : ℕ) → kind ≡ kinds.Same x → IsTrue (is_object_at g x)
 
 -- a value that may take the next place
 pub record IsNewValue (g : List Kind) (kind : Kind) : Type 0 where

@@ -1,6 +1,6 @@
 //! Writing a graph item by item.
 
-ghost use Rattle.std.specs.Prelude.{◌≡◌, ◌⊎◌, [], true, Some, None, IsTrue, OnOk, OnErr, IfErr, IsErrOf};
+ghost use Rattle.std.specs.Prelude.{◌≡◌, ◌⊎◌, [], true, Some, None, IsTrue, OnOk, OnErr, IfErr, IsErrOf, MatchResult};
 ghost use Rattle.php_graph.specs.declared.item.BuildFault.{BuildFault};
 ghost use Rattle.php_graph.specs.declared.item.BuildFault.TheVariants.{Memory};
 ghost use Rattle.php_graph.specs.declared.item.Item.TheVariants as items;
@@ -8,7 +8,7 @@ ghost use Rattle.php_graph.specs.declared.item.Wants.TheVariants.{Value, ArrayKe
 ghost use Rattle.php_graph.specs.Building.{nothing_drafted, wants_of, item_fits, is_name, fault_of, pushed, IsAnswer, room_fault, value_fault, with_value, with_back};
 ghost use Rattle.php_graph.specs.declared.kind.Kind.TheVariants as kinds;
 ghost use Rattle.php_graph.specs.Graph.{IsGraph, is_object_at};
-ghost use Rattle.php_graph.specs.Drafted.{IsNewValue};
+ghost use Rattle.php_graph.specs.Drafted.{IsFresh};
 
 use crate::bytes::Bytes;
 use crate::child::Child;
@@ -20,7 +20,7 @@ use crate::kind::Kind;
 use crate::members::Members;
 use crate::numbers::is_class;
 use crate::props::Props;
-use crate::steps::{attach, note_key, open_container, push_place, put};
+use crate::steps::{attach, note_last, open_container, push_place, put};
 use std::alloc::Global;
 use std::marker::Model;
 
@@ -86,7 +86,7 @@ impl Builder {
 
     /// Why there is no room for one more value.
     fn room(&self) -> Result<(), BuildFault>
-        ensures { IsAnswer (room_fault self.now) result }
+        ensures { MatchResult result (λ _. room_fault self.now ≡ None) (λ fault. room_fault self.now ≡ Some fault) }
     {
         if self.containers.len() >= LEVELS {
             return Err(BuildFault::TooDeep);
@@ -100,7 +100,7 @@ impl Builder {
     /// A value with a place of its own.
     fn push_value(&mut self, kind: Kind) -> Result<(), BuildFault>
         requires wanted { wants_of self.old ≡ Value }
-        requires new_value { IsNewValue self.old.places kind }
+        requires new_value { IsFresh self.old.places kind }
         ensures answer { IsAnswer (room_fault self.old) result }
         ensures ok { OnOk result (self.new ≡ with_value self.old kind) }
         ensures err { OnErr result (self.new ≡ self.old) }
@@ -110,6 +110,7 @@ impl Builder {
         self.containers.reserve(1)?;
         let place = self.places.len() as u32 + 1;
         let opens = kind.is_container();
+        kind.check();
         push_place(&mut self.places, &self.containers, &mut self.key, kind)?;
         put(&mut self.offsets, 0);
         open_container(&mut self.containers, place, opens);
@@ -179,7 +180,7 @@ impl Builder {
         ensures ok { OnOk result (self.new ≡ pushed self.old (items.Key key)) }
         ensures err { OnErr result (self.new ≡ self.old) }
     {
-        note_key(self.alloc, &self.places, &mut self.containers, &key)?;
+        note_last(self.alloc, &self.places, &mut self.containers, &key)?;
         self.key = Some(key);
         Ok(())
     }

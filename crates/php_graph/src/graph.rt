@@ -86,10 +86,10 @@ impl Graph {
 }
 
 /// Writes where each place stands, and answers the words of all.
-fn fill_offsets(places: &[Kind], offsets: &mut [u64]) -> u64
-    requires room { length offsets.old ≡ length places.now }
+fn fill_offsets(places: &[Kind], offsets: &mut Vec<u64>) -> u64
+    requires room { length offsets.old.items ≡ length places.now }
     requires small { image_length places.now < 2 ^ 60 }
-    ensures offsets { offsets.new ≡ offsets_from 0 places.now }
+    ensures offsets { offsets.new.items ≡ offsets_from 0 places.now }
     ensures words { result ≡ image_length places.now }
 {
     let mut words = 0;

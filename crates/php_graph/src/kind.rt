@@ -1,7 +1,7 @@
 //! What stands at a place of a graph.
 
 ghost use Rattle.std.specs.Prelude.{◌≡◌, ◌<◌, ◌+◌, ◌^◌, ◌++◌, ◌∷◌, [], length, true, IfOk, OnOk, IfErr, OnErr};
-ghost use Rattle.php_graph.specs.Graph.{keys_of, children_of, has_key, is_array, is_object, lowered_kind};
+ghost use Rattle.php_graph.specs.Graph.{keys_of, children_of, has_key, is_array, is_object, lowered_kind, FitsKind};
 ghost use Rattle.php_graph.specs.Building.{with_member, is_name, is_container};
 ghost use Rattle.php_graph.specs.Keys.{HasKeys};
 ghost use Rattle.php_graph.specs.Size.{cells_of};
@@ -99,6 +99,24 @@ impl Kind {
         match self {
             Kind::Object(_, _) => true,
             _ => false,
+        }
+    }
+
+    /// Each number is of 64 bits, and each byte string has fewer than 2^32 bytes.
+    pub(crate) fn check(&self)
+        ensures { children_of self.now ≡ [] → FitsKind self.now }
+    {
+        match self {
+            Kind::Int(number) => {
+                let _number = *number;
+            }
+            Kind::Str(bytes) => {
+                let _bytes = bytes.as_slice();
+            }
+            Kind::Object(class, _) => {
+                let _bytes = class.as_slice();
+            }
+            _ => {}
         }
     }
 

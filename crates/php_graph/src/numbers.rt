@@ -91,7 +91,13 @@ pub fn integer_texts()
 pub(crate) fn is_class(name: &[u8]) -> bool
     ensures { result ≡ is_class name.now }
 {
-    !name.is_empty() && name.iter().all(|byte| is_class_byte(*byte))
+    !name.is_empty() && are_class_bytes(name)
+}
+
+fn are_class_bytes(name: &[u8]) -> bool
+    ensures { result ≡ list_all is_class_byte name.now }
+{
+    name.iter().all(|byte| is_class_byte(*byte))
 }
 
 fn is_class_byte(byte: u8) -> bool

@@ -3,8 +3,9 @@
 ghost use Rattle.std.specs.Prelude.{◌≡◌, ◌<◌, ◌+◌, ◌^◌, ◌++◌, ◌∷◌, [], length, reverse, true, OnOk, OnErr, Some, None, vec_len, vec_capacity};
 ghost use Rattle.std.specs.List.{AllByRecursion};
 ghost use Rattle.php_graph.specs.declared.child.Child.TheVariants.{Own};
-ghost use Rattle.php_graph.specs.Graph.{is_array_key};
-ghost use Rattle.php_graph.specs.Building.{attached, innermost_fault, IsAnswer};
+ghost use Rattle.php_graph.specs.Graph.{is_array_key, keys_of, FitsKey};
+ghost use Rattle.php_graph.specs.Keys.{KnowsKeys};
+ghost use Rattle.php_graph.specs.Building.{attached, innermost_fault, fault_in, IsAnswer};
 ghost use Rattle.php_graph.specs.Drafted.{Opens, places_of, CanAttach, KnowsAll, is_open_at};
 
 use crate::child::Child;
@@ -90,7 +91,7 @@ pub(crate) fn push_place(
 }
 
 /// Notes a key of the innermost open container, unless it may not stand there.
-pub(crate) fn note_key(
+pub(crate) fn note_last(
     alloc: Global,
     places: &[Kind],
     containers: &mut Vec<Container>,
@@ -98,25 +99,40 @@ pub(crate) fn note_key(
 ) -> Result<(), BuildFault>
     requires known { KnowsAll places.now (reverse containers.old.items) None }
     requires opened { AllByRecursion (λ p. is_open_at places.now p ≡ true) (places_of containers.old.items) }
+    ensures fits { FitsKey key.now }
     ensures answer { IsAnswer (innermost_fault places.now (places_of containers.old.items) key.now) result }
     ensures places { places_of containers.new.items ≡ places_of containers.old.items }
     ensures ok { OnOk result (KnowsAll places.now (reverse containers.new.items) (Some key.now)) }
     ensures err { OnErr result (KnowsAll places.now (reverse containers.new.items) None) }
 {
+    key.check();
     let last = containers.len();
     if last == 0 {
         return Ok(());
     }
     let container = &mut containers[last - 1];
     let kind = &places[(container.place - 1) as usize];
+    note_key(alloc, kind, container, key)
+}
+
+/// Notes a key of an open container, unless it may not stand there.
+fn note_key(alloc: Global, kind: &Kind, container: &mut Container, key: &Key) -> Result<(), BuildFault>
+    requires { KnowsKeys container.old.highest container.old.seen (keys_of kind.now) }
+    ensures answer { IsAnswer (fault_in kind.now key.now) result }
+    ensures place { container.new.place ≡ container.old.place }
+    ensures ok { OnOk result (KnowsKeys container.new.highest container.new.seen (keys_of kind.now ++ key.now ∷ [])) }
+    ensures err { OnErr result (KnowsKeys container.new.highest container.new.seen (keys_of kind.now)) }
+{
     if kind.is_array() && !is_array_key(key) {
         return Err(BuildFault::IntegerText);
     }
     if container.has(kind, key) {
         return Err(BuildFault::RepeatedKey);
     }
-    container.note(alloc, kind, key)?;
-    Ok(())
+    match container.note(alloc, kind, key) {
+        Ok(()) => Ok(()),
+        Err(_) => Err(BuildFault::Memory),
+    }
 }
 
 /// Whether an array may have this key.

@@ -6,7 +6,7 @@ use Rattle.php_graph.specs.declared.kind.Kind.{Kind}
 use Rattle.php_graph.specs.declared.child.Child.TheVariants.{Own}
 use Rattle.php_graph.specs.declared.item.Wants.TheVariants.{Value}
 use Rattle.php_graph.specs.Building.{Draft, wants_of, wants_by, room_fault, attached, is_container}
-use Rattle.php_graph.specs.Drafted.{CanAttach, IsBuilding, IsNewValue, Opens, places_of, draft_of}
+use Rattle.php_graph.specs.Drafted.{CanAttach, IsBuilding, IsFresh, IsNewValue, Opens, places_of, draft_of}
 use Rattle.php_graph.proofs.DraftKept.{can_attach}
 use Rattle.php_graph.proofs.DraftKnown.{HasRoom, has_room, building_value, opens_is}
 use Rattle.php_graph.proofs.builder.Builder.push_value.Goals as goal
@@ -21,7 +21,8 @@ invariant_of-self-2 c =
     let same = c.deref.ensures.value ∙ c.reserve-2.ensures.items in
     let wants = ap wants_of c.self.view_is ∙ c.requires.wanted in
     let room = has_room (draft_of c.self.inside.places.items c.self.inside.containers.items c.self.inside.key) (ap room_fault c.self.view_is ∙ c.in_ok-room.ensures) in
-    let new : IsNewValue c.self.inside.places.items c.args.kind = subst (λ (d : Draft). IsNewValue d.places c.args.kind) (sym c.self.view_is) c.requires.new_value in
+    let fresh : IsFresh c.self.inside.places.items c.args.kind = subst (λ (d : Draft). IsFresh d.places c.args.kind) (sym c.self.view_is) c.requires.new_value in
+    let new : IsNewValue c.self.inside.places.items c.args.kind = record { childless = fresh.childless; well_formed = fresh.well_formed; fits = c.check.ensures fresh.childless; target = fresh.target } in
     let g = c.self.inside.places.items in
     let cs = c.self.inside.containers.items in
     let number : c.len.result ≡ length g = omega (arith, c.len.ensures, c.self.inside.places.ok.0) in
