@@ -1,0 +1,12 @@
+pub mod Filling
+pub mod Lives
+pub mod FreeRuns
+pub mod Naming
+pub mod Telling
+pub mod Formatting
+pub mod Merging
+pub mod Places
+pub mod Changes
+pub mod Taking
+pub mod Giving
+pub mod Listing

@@ -1,0 +1,4 @@
+pub mod Pieces
+pub mod Live
+pub mod Ready
+pub mod Walk
