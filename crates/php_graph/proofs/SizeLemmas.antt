@@ -44,8 +44,8 @@ cells_few kinds.Null fits = omega arith
 cells_few (kinds.Bool b) fits = omega arith
 cells_few (kinds.Int n) fits = omega arith
 cells_few (kinds.Str bytes) fits = omega (arith, fits.0)
-cells_few (kinds.Array ms) fits = omega (arith, members_few ms fits, length-map (λ m. m.1) ms)
-cells_few (kinds.Object class ps) fits = omega (arith, fits.0.0, props_few ps fits.1, length-map (λ p. p.1) ps)
+cells_few (kinds.Array ms) fits = omega (arith, members_few ms fits, length-map ms (λ m. m.1))
+cells_few (kinds.Object class ps) fits = omega (arith, fits.0.0, props_few ps fits.1, length-map ps (λ p. p.1))
 cells_few (kinds.Same x) fits = omega arith
 
 pub image_few : (g : List Kind) → AllByRecursion FitsKind g → image_length g ≤ (length g + children_in g) * 2 ^ 31
