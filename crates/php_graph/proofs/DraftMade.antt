@@ -15,7 +15,8 @@ use Rattle.php_graph.specs.declared.item.BuildFault.{BuildFault}
 use Rattle.php_graph.specs.declared.item.BuildFault.TheVariants.{RepeatedKey, IntegerText}
 use Rattle.php_graph.specs.Graph.{kind_at, children_of, keys_of, passes, is_array, is_object, is_object_at, is_array_at, has_key, is_array_key, FitsKey, is_back, child_end, ends_after, end_of, levels, most_values, values_in, IsGraph}
 use Rattle.php_graph.specs.Building.{with_member, is_container, is_name, key_fault, fault_in, attached, wants_by}
-use Rattle.php_graph.specs.Drafted.{keys_among, IsSpine, IsShaped, IsDraft, IsWaiting, children_at, children_in, is_open_at, IsNewValue}
+use Rattle.php_graph.specs.Drafted.{keys_among, IsSpine, IsShaped, IsDraft, IsWaiting, children_at, is_open_at, IsNewValue}
+use Rattle.php_graph.specs.Counted.{children_in}
 use Rattle.php_graph.proofs.EndLemmas.{EndsAt, own_makes, back_makes, ends_after-append}
 use Rattle.php_graph.proofs.DraftLemmas.{kind_at-set_other, kind_at-set_same, kind_at-append_old, kind_at-append_new, IsPlace, place_is, get_or-place, with_member-children, with_member-is_object, and_true}
 use Rattle.php_graph.proofs.DraftSteps.{Grown, shaped_member, shaped_container, IsSound, Takes, sound_member, sound_push, passes-set}

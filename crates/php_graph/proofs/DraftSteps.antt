@@ -12,7 +12,8 @@ use Rattle.php_graph.specs.declared.kind.Kind.{Kind}
 use Rattle.php_graph.specs.declared.kind.Kind.TheVariants as kinds
 use Rattle.php_graph.specs.Graph.{kind_at, children_of, keys_of, passes, is_array, is_object, is_object_at, is_array_at, has_key, is_array_key, is_well_formed, FitsKey, FitsKind, is_back, child_end, ends_after, end_of, levels, values_in}
 use Rattle.php_graph.specs.Building.{with_member, is_container, is_name, key_fault}
-use Rattle.php_graph.specs.Drafted.{keys_among, IsSpine, IsShaped, children_at, children_in, is_open_at, IsNewValue}
+use Rattle.php_graph.specs.Drafted.{keys_among, IsSpine, IsShaped, children_at, is_open_at, IsNewValue}
+use Rattle.php_graph.specs.Counted.{children_in}
 use Rattle.php_graph.proofs.EndLemmas.{Agree, all_agree, ends_rise, ends_after-append, EndsAt, own_makes}
 use Rattle.php_graph.proofs.DraftLemmas.{kind_at-set_other, kind_at-set_same, kind_at-append_old, kind_at-append_new, IsPlace, place_is, get_or-place, with_member-children, with_member-is_object, with_member-is_container, with_member-well_formed, with_member-fits, no_same, All-push, All-set, All-place}
 

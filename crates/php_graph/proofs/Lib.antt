@@ -7,3 +7,6 @@ pub mod DraftSteps
 pub mod DraftMade
 pub mod DraftKept
 pub mod DraftKnown
+pub mod EqualLemmas
+pub mod PartEnds
+pub mod PartLemmas
