@@ -1,0 +1,6 @@
+//! Worked rows.
+
+use super::*;
+use std::alloc::Global;
+use std::process::Abort;
+use std::test::Fail;
