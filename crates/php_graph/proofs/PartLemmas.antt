@@ -80,7 +80,7 @@ keeps by (kinds.Array ms) low e =
     let u = map_some kinds.Array (lowered_members by ms) low e in
     let l = members_lower by ms u.0 u.1 in
     let formed : is_well_formed (kinds.Array u.0) ≡ is_well_formed (kinds.Array ms) =
-      ap (λ (b : Bool). are_distinct (map (λ m. m.0) u.0) && b) (list_all-firsts u.0) ∙ ap (λ (ks : List Key). are_distinct ks && list_all is_array_key ks) (sym l.1) ∙ ap (λ (b : Bool). are_distinct (map (λ m. m.0) ms) && b) (sym (list_all-firsts ms)) in
+    ap (λ (b : Bool). are_distinct (map (λ m. m.0) u.0) && b) (list_all-firsts u.0) ∙ ap (λ (ks : List Key). are_distinct ks && list_all is_array_key ks) (sym l.1) ∙ ap (λ (b : Bool). are_distinct (map (λ m. m.0) ms) && b) (sym (list_all-firsts ms)) in
     subst (Keeps by (kinds.Array ms)) u.2 (record { children = l.0; formed = formed; object = refl; same = λ x f. absurd cc })
 keeps by (kinds.Object class ps) low e =
     let u = map_some (kinds.Object class) (lowered_members by ps) low e in
@@ -213,7 +213,7 @@ lowers_end d g h by one (c ∷ cs) (c' ∷ ds) m e ends lt l low =
     let up = grows d g c m t.0 t.1 in
     let rest = ends_rise d g cs t.0 e t.2 in
     rw (one c c' m t.0 t.1 lt l.0 (narrowed g h by m e m t.0 low (omega arith) rest))
-      (lowers_end d g h by one cs ds t.0 e t.2 (omega arith) l.1 (narrowed g h by m e t.0 e low up (omega arith)))
+    (lowers_end d g h by one cs ds t.0 e t.2 (omega arith) l.1 (narrowed g h by m e t.0 e low up (omega arith)))
 
 pub shifted : (d : ℕ) (g h : List Kind) (by : ℕ) (c c' : Child) (m e : ℕ) → child_end d g c m ≡ Some e → by < m → lowered_child by c ≡ Some c' → IsLowered g h by m e → child_end d h c' (m - by) ≡ Some (e - by)
 unfolding child_end
@@ -246,16 +246,18 @@ abbrev pub written : List Kind → ℕ → ℕ → List Kind
 written g k e = take (e - k) (drop (k - 1) g)
 
 pub lowered_is : (g h : List Kind) (k e : ℕ) → 1 ≤ k → e ≤ length g + 1 → lowered_places (k - 1) (written g k e) ≡ Some h → IsLowered g h (k - 1) k e
-lowered_is g h k e low high made = record { at = λ p a b.
-    let l = places_low (k - 1) (written g k e) h made in
-    let i = p - k in
-    let j : (k - 1) + i ≡ p - 1 = omega arith in
-    let there : slice_get (written g k e) i ≡ slice_get g (p - 1) = slice_get-take (e - k) (drop (k - 1) g) i (omega arith) ∙ slice_get-drop (k - 1) g i ∙ ap (slice_get g) j in
-    let kind : slice_get g (p - 1) ≡ Some (get_or g (p - 1) kinds.Null) = slice_get-get_or g (p - 1) kinds.Null (omega arith) in
-    let one = l.each i (get_or g (p - 1) kinds.Null) (there ∙ kind) in
-    let q : p ≡ suc (p - 1) = omega arith in
-    let r : p - (k - 1) ≡ suc i = omega arith in
-    (get_or g (p - 1) kinds.Null, one.0, ap (kind_at g) q ∙ kind, ap (kind_at h) r ∙ one.1, one.2) }
+lowered_is g h k e low high made = record {
+  at = λ p a b.
+      let l = places_low (k - 1) (written g k e) h made in
+      let i = p - k in
+      let j : (k - 1) + i ≡ p - 1 = omega arith in
+      let there : slice_get (written g k e) i ≡ slice_get g (p - 1) = slice_get-take (e - k) (drop (k - 1) g) i (omega arith) ∙ slice_get-drop (k - 1) g i ∙ ap (slice_get g) j in
+      let kind : slice_get g (p - 1) ≡ Some (get_or g (p - 1) kinds.Null) = slice_get-get_or g (p - 1) kinds.Null (omega arith) in
+      let one = l.each i (get_or g (p - 1) kinds.Null) (there ∙ kind) in
+      let q : p ≡ suc (p - 1) = omega arith in
+      let r : p - (k - 1) ≡ suc i = omega arith in
+      (get_or g (p - 1) kinds.Null, one.0, ap (kind_at g) q ∙ kind, ap (kind_at h) r ∙ one.1, one.2);
+}
 
 pub record IsEnd (g : List Kind) (k e : ℕ) : Type 0 where
   pub after : k < e
@@ -302,14 +304,16 @@ part_graph g h k graph few low high part =
     let ends = shifted levels g h (k - 1) (Own k) (Own 1) k e t.1 (omega arith) first l in
     let one : k - (k - 1) ≡ 1 = omega arith in
     let last : e - (k - 1) ≡ length h + 1 = omega (arith, long) in
-    let sealed : child_end levels h (Own 1) 1 ≡ Some (length h + 1) = subst (λ (x : ℕ). child_end levels h (Own 1) x ≡ Some (length h + 1)) one (ends ∙ ap Some last) in
-    (record {
-      sealed = sealed;
-      targets = targets_low g h k e graph low l long;
-      well_formed = q.formed (All-take (λ kind. IsTrue (is_well_formed kind)) (e - k) (drop (k - 1) g) (All-drop (λ kind. IsTrue (is_well_formed kind)) (k - 1) g graph.well_formed));
-      fits = q.fits (All-take FitsKind (e - k) (drop (k - 1) g) (All-drop FitsKind (k - 1) g graph.fits));
-      count = omega (arith, graph.count, long, b.within, q.backs_same, sum_by-take-le backs (drop (k - 1) g) (e - k), sum_by-take-drop backs g (k - 1));
-    }, omega (arith, few, q.children_same, sum_by-take-le (λ x. length (children_of x)) (drop (k - 1) g) (e - k), sum_by-take-drop (λ x. length (children_of x)) g (k - 1)))
+    let sealed : child_end levels h (Own 1) 1 ≡ Some (length h + 1) = subst (λ (x : ℕ). child_end levels h (Own 1) x ≡ Some (length h + 1)) one (ends ∙ ap Some last) in (
+      record {
+        sealed = sealed;
+        targets = targets_low g h k e graph low l long;
+        well_formed = q.formed (All-take (λ kind. IsTrue (is_well_formed kind)) (e - k) (drop (k - 1) g) (All-drop (λ kind. IsTrue (is_well_formed kind)) (k - 1) g graph.well_formed));
+        fits = q.fits (All-take FitsKind (e - k) (drop (k - 1) g) (All-drop FitsKind (k - 1) g graph.fits));
+        count = omega (arith, graph.count, long, b.within, q.backs_same, sum_by-take-le backs (drop (k - 1) g) (e - k), sum_by-take-drop backs g (k - 1));
+      },
+      omega (arith, few, q.children_same, sum_by-take-le (λ x. length (children_of x)) (drop (k - 1) g) (e - k), sum_by-take-drop (λ x. length (children_of x)) g (k - 1)),
+    )
 
 pub part_from : (g : List Kind) (k e : ℕ) → end_of g k ≡ Some e → 1 ≤ k → k < e → part_of g k ≡ lowered_places (k - 1) (take ((e - 1) - (k - 1)) (drop (k - 1) g))
 unfolding part_of

@@ -44,7 +44,11 @@ impl Graph {
     {
         let mut offsets = offsets;
         let words = fill_offsets(&places, &mut offsets);
-        Graph { places, offsets, words }
+        Graph {
+            places,
+            offsets,
+            words,
+        }
     }
 
     /// How many places there are.
