@@ -1,12 +1,15 @@
 //! Value graphs.
 
-ghost use Rattle.std.specs.Prelude.{◌≡◌, ◌+◌, ◌<◌, ◌≤◌, ◌^◌, ◌↔◌, IsTrue, IfOk, IfSome, length, Some};
+ghost use Rattle.std.specs.Prelude.{◌≡◌, ℕ, ◌+◌, ◌<◌, ◌≤◌, ◌^◌, ◌↔◌, IsTrue, IfOk, IfErr, IfSome, List, [], ◌∷◌, length, Some};
+ghost use Rattle.php_graph.specs.ByteStrings.{AreBytes};
+ghost use Rattle.php_graph.specs.declared.kind.Kind.TheVariants.{Str};
 ghost use Rattle.std.specs.Option.{option_map};
 ghost use Rattle.php_graph.specs.Graph.{IsGraph, kind_at, most_values, end_of, part_of, lowered_places};
 ghost use Rattle.php_graph.specs.Counted.{children_in};
 ghost use Rattle.php_graph.specs.Kept.{offsets_from};
 ghost use Rattle.php_graph.specs.Size.{image_length, offset_of, block_size};
 
+use crate::bytes::Bytes;
 use crate::kind::Kind;
 use std::alloc::{AllocError, Global};
 use std::marker::Model;
@@ -225,4 +228,30 @@ fn fill_offsets(places: &[Kind], offsets: &mut Vec<u64>) -> u64
         words += places[i].cells();
     }
     words
+}
+
+impl Graph {
+    /// The bytes of a value that is one string; any other value comes back as it is. It takes no memory.
+    pub fn into_string(self) -> Result<Bytes, Graph>
+        ensures string { IfOk result (λ bytes. (self ≡ Str bytes ∷ []) × AreBytes bytes) }
+        ensures other { IfErr result (λ g. (g ≡ self) × ((bytes : List ℕ) → self ≡ Str bytes ∷ [] → ⊥)) }
+    {
+        let Graph {
+            mut places,
+            offsets,
+            words,
+        } = self;
+        if places.len() == 1 {
+            match places.pop() {
+                Some(Kind::Str(bytes)) => return Ok(bytes),
+                Some(kind) => places.push_reserved(kind),
+                None => {}
+            }
+        }
+        Err(Graph {
+            places,
+            offsets,
+            words,
+        })
+    }
 }
