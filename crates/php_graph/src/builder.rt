@@ -92,8 +92,9 @@ impl Builder {
         }
     }
 
-    /// Why there is no room for one more value.
-    fn room(&self) -> Result<(), BuildFault>
+    /// Whether there is room for one more value: `TooDeep` inside 512 open containers, `TooManyPlaces` after
+    /// 16,777,216 values. A reader asks it once it has seen that a value begins.
+    pub fn room(&self) -> Result<(), BuildFault>
         ensures { MatchResult result (λ _. room_fault self.now ≡ None) (λ fault. room_fault self.now ≡ Some fault) }
     {
         if self.containers.len() >= LEVELS {
