@@ -1,4 +1,3 @@
-pub mod Decimals
-pub mod Integers
-pub mod Fields
-pub mod Values
+pub mod Steps
+pub mod Outer
+pub mod Texts

@@ -4,15 +4,15 @@
 mod byte_out;
 mod cursor;
 mod fault;
-mod number;
+mod items;
+mod marks;
 mod reading;
+mod words;
 mod writing;
 
 pub use byte_out::ByteOut;
 pub use cursor::Cursor;
-pub use fault::ReadFault;
-pub use reading::{read_value, texts_tell_values_apart};
+pub use fault::{ReadFault, Reason};
+pub use reading::read_value;
+pub use words::write_key;
 pub use writing::write_value;
-
-#[cfg(test)]
-mod tests;
