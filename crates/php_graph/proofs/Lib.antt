@@ -1,4 +1,12 @@
 pub mod NumberLemmas
 pub mod KeyLemmas
 pub mod SizeLemmas
+pub mod EndLemmas
 pub mod DraftLemmas
+pub mod DraftSteps
+pub mod DraftMade
+pub mod DraftKept
+pub mod DraftKnown
+pub mod EqualLemmas
+pub mod PartEnds
+pub mod PartLemmas

@@ -1,6 +1,7 @@
 //! The keys of arrays.
 
 ghost use Rattle.std.specs.Prelude.{◌≡◌, ◌<◌, ◌^◌, IfOk};
+ghost use Rattle.php_graph.specs.Graph.{FitsKey};
 ghost use Rattle.php_graph.specs.Size.{key_cells};
 
 use crate::bytes::Bytes;
@@ -31,6 +32,19 @@ impl Key {
         match self {
             Key::Int(_) => 2,
             Key::Str(bytes) => 1 + bytes.cells(),
+        }
+    }
+    /// Each key is a number of 64 bits, or a byte string.
+    pub(crate) fn check(&self)
+        ensures { FitsKey self.now }
+    {
+        match self {
+            Key::Int(number) => {
+                let _number = *number;
+            }
+            Key::Str(bytes) => {
+                let _bytes = bytes.as_slice();
+            }
         }
     }
 }

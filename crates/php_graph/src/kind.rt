@@ -1,8 +1,9 @@
 //! What stands at a place of a graph.
 
-ghost use Rattle.std.specs.Prelude.{◌≡◌, ◌<◌, ◌+◌, ◌^◌, ◌++◌, ◌∷◌, [], length, true, IfOk, OnOk, IfErr, OnErr};
-ghost use Rattle.php_graph.specs.Graph.{keys_of, children_of, has_key, is_object, lowered_kind};
+ghost use Rattle.std.specs.Prelude.{◌≡◌, ◌<◌, ◌+◌, ◌^◌, ◌++◌, ◌∷◌, [], length, true, None, IsTrue, ◌↔◌, IfOk, OnOk, IfErr, OnErr};
+ghost use Rattle.php_graph.specs.Graph.{keys_of, children_of, has_key, is_array, is_object, lowered_kind, FitsKind};
 ghost use Rattle.php_graph.specs.Building.{with_member, is_name, is_container};
+ghost use Rattle.php_graph.specs.Kept.{last_own};
 ghost use Rattle.php_graph.specs.Keys.{HasKeys};
 ghost use Rattle.php_graph.specs.Size.{cells_of};
 
@@ -82,6 +83,44 @@ impl Kind {
         }
     }
 
+    /// Whether it is an array.
+    pub(crate) fn is_array(&self) -> bool
+        ensures { result ≡ is_array self.now }
+    {
+        match self {
+            Kind::Array(_) => true,
+            _ => false,
+        }
+    }
+
+    /// Whether it is an object.
+    pub(crate) fn is_object(&self) -> bool
+        ensures { result ≡ is_object self.now }
+    {
+        match self {
+            Kind::Object(_, _) => true,
+            _ => false,
+        }
+    }
+
+    /// Each number is of 64 bits, and each byte string has fewer than 2^32 bytes.
+    pub(crate) fn check(&self)
+        ensures { children_of self.now ≡ [] → FitsKind self.now }
+    {
+        match self {
+            Kind::Int(number) => {
+                let _number = *number;
+            }
+            Kind::Str(bytes) => {
+                let _bytes = bytes.as_slice();
+            }
+            Kind::Object(class, _) => {
+                let _bytes = class.as_slice();
+            }
+            _ => {}
+        }
+    }
+
     /// Adds a member to a container. Where there is no memory, the key comes back.
     pub(crate) fn add(&mut self, key: Key, child: Child) -> Result<(), Key>
         requires room { length (children_of self.old) + 1 < 2 ^ 32 }
@@ -151,6 +190,31 @@ impl Kind {
             Kind::Same(place) if *place <= by => Ok(None),
             Kind::Same(place) => Ok(Some(Kind::Same(*place - by))),
             _ => Ok(Some(self.try_copy(alloc)?)),
+        }
+    }
+    /// Whether the two are equal.
+    pub(crate) fn same(&self, other: &Kind) -> bool
+        ensures { IsTrue result ↔ (self.now ≡ other.now) }
+    {
+        match (self, other) {
+            (Kind::Null, Kind::Null) => true,
+            (Kind::Bool(a), Kind::Bool(b)) => *a == *b,
+            (Kind::Int(a), Kind::Int(b)) => *a == *b,
+            (Kind::Str(a), Kind::Str(b)) => *a == *b,
+            (Kind::Array(a), Kind::Array(b)) => a.same(b),
+            (Kind::Object(class_a, a), Kind::Object(class_b, b)) => *class_a == *class_b && a.same(b),
+            (Kind::Same(a), Kind::Same(b)) => *a == *b,
+            _ => false,
+        }
+    }
+    /// The place of the last member that is written here.
+    pub(crate) fn last_own(&self) -> Option<u32>
+        ensures { result ≡ last_own None (children_of self.now) }
+    {
+        match self {
+            Kind::Array(members) => members.last_own(),
+            Kind::Object(_, props) => props.last_own(),
+            _ => None,
         }
     }
 }

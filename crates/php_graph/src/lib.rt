@@ -12,11 +12,12 @@ mod kind;
 mod members;
 mod numbers;
 mod props;
+mod steps;
 
 pub use builder::Builder;
 pub use bytes::Bytes;
 pub use child::Child;
-pub use graph::Graph;
+pub use graph::{Graph, block_words};
 pub use item::{BuildFault, Item, Wants};
 pub use key::Key;
 pub use kind::Kind;

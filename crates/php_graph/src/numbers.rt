@@ -5,6 +5,7 @@ ghost use Rattle.std.specs.Char.{is_ascii_digit};
 ghost use Rattle.std.specs.List.{list_all};
 ghost use Rattle.std.specs.Int.{w64};
 ghost use Rattle.std.specs.Fmt.{signed_decimal};
+ghost use Rattle.php_graph.specs.Graph.{is_class, is_class_byte};
 ghost use Rattle.php_graph.specs.Numbers.{int_of_text, hash_of, is_canonical, digits_after, natural_of, negative_of};
 
 const MINUS: u8 = b'-';
@@ -84,6 +85,28 @@ pub fn integer_texts()
     ensures written { (text : List ℕ) (n : ℤ) → int_of_text text ≡ Some n → (text ≡ signed_decimal n) × FitsSigned w64 n }
     ensures read { (n : ℤ) → FitsSigned w64 n → int_of_text (signed_decimal n) ≡ Some n }
 {
+}
+
+/// Whether a class may have this name: at least one byte, each a digit, a letter, `_`, `\\` or from 0x7F on.
+pub(crate) fn is_class(name: &[u8]) -> bool
+    ensures { result ≡ is_class name.now }
+{
+    !name.is_empty() && are_class_bytes(name)
+}
+
+fn are_class_bytes(name: &[u8]) -> bool
+    ensures { result ≡ list_all is_class_byte name.now }
+{
+    name.iter().all(|byte| is_class_byte(*byte))
+}
+
+fn is_class_byte(byte: u8) -> bool
+    ensures { result ≡ is_class_byte byte }
+{
+    match byte {
+        b'0'..=b'9' | b'A'..=b'Z' | b'a'..=b'z' | b'_' | b'\\' | 0x7F..=0xFF => true,
+        _ => false,
+    }
 }
 
 /// PHP's string hash, which begins with 5381, takes `hash * 33 + byte` for each byte, and has its top bit set.
