@@ -65,7 +65,7 @@ if_some : {A : Type 0} (b : Bool) (o : Option A) (y : A) → cond b o None ≡ S
 if_some true o y e = (refl, e)
 if_some false o y e = absurd cc
 
-then_some : {A B : Type 0} (f : A → Option B) (o : Option A) (y : B) → option_and_then f o ≡ Some y → (x : A) × (o ≡ Some x) × (f x ≡ Some y)
+pub then_some : {A B : Type 0} (f : A → Option B) (o : Option A) (y : B) → option_and_then f o ≡ Some y → (x : A) × (o ≡ Some x) × (f x ≡ Some y)
 then_some f (Some x) y e = (x, refl, e)
 then_some f None y e = absurd cc
 
@@ -75,7 +75,7 @@ pub record IsOwn (level base : ℕ) (g : List Kind) (x to : ℕ) : Type 0 where
   pub ends : ends_after (child_end level g) (children_of kind) (x + 1) ≡ Some to
   pub text : child_text (suc level) base g (Own x) ≡ kind_text base (child_text level base g) (Some kind)
 
-own_at : (level base : ℕ) (g : List Kind) (x from to : ℕ) → child_end (suc level) g (Own x) from ≡ Some to → IsOwn level base g x to
+pub own_at : (level base : ℕ) (g : List Kind) (x from to : ℕ) → child_end (suc level) g (Own x) from ≡ Some to → IsOwn level base g x to
 unfolding child_end child_text
 own_at level base g x from to e =
     let a = if_some (eqb x from) (option_and_then (λ kind. ends_after (child_end level g) (children_of kind) (from + 1)) (kind_at g from)) to e in
@@ -89,7 +89,7 @@ own_at level base g x from to e =
       text = ap (λ (o : Option Kind). kind_text base (child_text level base g) o) there;
     }
 
-no_level : (g : List Kind) (c : Child) (from to : ℕ) → child_end 0 g c from ≡ Some to → ⊥
+pub no_level : (g : List Kind) (c : Child) (from to : ℕ) → child_end 0 g c from ≡ Some to → ⊥
 unfolding child_end
 no_level g c from to e = cc
 
@@ -97,7 +97,7 @@ pub some_level : (level : ℕ) (g : List Kind) (c : Child) → EndsSomewhere lev
 some_level zero g c e = absurd (no_level g c e.from e.to e.ends)
 some_level (suc level) g c e = omega arith
 
-back_text : (level base : ℕ) (g : List Kind) (x : ℕ) → child_text (suc level) base g (Back x) ≡ codes "R:" ++ decimal (x + base) ++ codes ";"
+pub back_text : (level base : ℕ) (g : List Kind) (x : ℕ) → child_text (suc level) base g (Back x) ≡ codes "R:" ++ decimal (x + base) ++ codes ";"
 unfolding child_text
 back_text level base g x = refl
 

@@ -187,7 +187,7 @@ pub(crate) fn begun<'a>(alloc: Global, builder: &mut Builder, bytes: &'a [u8]) -
             if !is_value_tag(*tag) {
                 return Err(stop(Reason::Tag, bytes));
             }
-            if let Some(fault) = builder.room() {
+            if let Err(fault) = builder.room() {
                 return Err(stop(reason(fault), bytes));
             }
             tagged(alloc, builder, *tag, bytes, rest)

@@ -14,7 +14,7 @@ ghost use Rattle.notation.specs.Outer.{outer_stack};
 use crate::cursor::Cursor;
 use crate::fault::{ReadFault, Stop};
 use crate::items::{begun, close, key};
-use php_graph::{Builder, Graph, Wants};
+use php_graph::{Builder, Graph, Wants, integer_texts};
 use std::alloc::{AllocError, Global};
 
 /// Reads the value whose text starts at the cursor, and goes on to what follows it. Where no text of a value
@@ -23,10 +23,13 @@ use std::alloc::{AllocError, Global};
 pub fn read_value(alloc: Global, from: &mut Cursor) -> Result<Graph, ReadFault>
     // It is what reading from left to right gives: the value, or the first fault.
     ensures read { IsReading from.old from.new result }
-    ensures sealed { IfOk result IsGraph }
+    // What is read is spelled there, and the cursor stands after it.
+    ensures found { IfOk result (λ g. IsGraph g × (left from.old ≡ text_of g ++ left from.new)) }
+    ensures place { IfOk result (λ g. from.new.place ≡ from.old.place + length (text_of g)) }
     ensures bytes { from.new.bytes ≡ from.old.bytes }
     ensures fault { OnErr result (from.new ≡ from.old) }
 {
+    integer_texts();
     let bytes = from.rest();
     match whole(alloc, bytes) {
         Ok((graph, rest)) => {
@@ -48,7 +51,7 @@ fn whole(alloc: Global, bytes: &[u8]) -> Result<(Graph, &[u8]), Stop>
     ensures read { Gives (λ x. (x.0, x.1.now)) result (reading_of bytes.now) }
     ensures sealed { IfOk result (λ x. IsGraph x.0) }
 {
-    let mut builder = Builder::new(alloc)?;
+    let mut builder = Builder::new(alloc);
     let mut outer: Vec<u32> = Vec::new(alloc);
     let (count, mut rest) = begun(alloc, &mut builder, bytes)?;
     let mut members = enter(&mut outer, 0, count)?;

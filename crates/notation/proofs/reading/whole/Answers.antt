@@ -13,17 +13,17 @@ use Rattle.notation.proofs.reading.whole.Goals as goal
 pub returns-in_err-count-clause-read : goal.returns-in_err-count-clause-read
 unfolding reading_of
 returns-in_err-count-clause-read c =
-    let p = err_from_is_err_and c.from_residual-in_err-count.result c.from_residual-in_err-count.ensures.1 in
+    let p = err_from_is_err_and c.from_residual.result c.from_residual.ensures.1 in
     let total = value_at levels nothing_drafted c.args.bytes.now in
-    rw (p.1, p.2) (fails_then c.in_err-count.field-0.0 total _ (begun_fails [] 0 c.in_ok-builder.builder c.args.bytes.now c.in_err-count.field-0.0 total c.in_err-count.ensures.read (at_first 0 c.in_ok-builder.builder c.args.bytes.now c.in_ok-builder.ensures)))
+    rw (p.1, p.2) (fails_then c.in_err-count.field-0.0 total _ (begun_fails [] 0 c.new-builder.result c.args.bytes.now c.in_err-count.field-0.0 total c.in_err-count.ensures.read (at_first 0 c.new-builder.result c.args.bytes.now c.new-builder.ensures)))
 
 pub reading-init : goal.reading-init
 reading-init c =
-    let d = c.in_ok-builder.builder in
+    let d = c.new-builder.result in
     let total = value_at levels nothing_drafted c.args.bytes.now in
-    let none : 0 ≡ length d.containers = ap (λ (x : Draft). length x.containers) (sym c.in_ok-builder.ensures) in
+    let none : 0 ≡ length d.containers = ap (λ (x : Draft). length x.containers) (sym c.new-builder.ensures) in
     let put : outer_stack c.in_ok-count.count 0 [] c.in_ok-members.members (reverse c.enter.new.outer.items) = subst (λ (s : List ℕ). outer_stack c.in_ok-count.count 0 (reverse s) c.in_ok-members.members (reverse c.enter.new.outer.items)) c.new-outer.ensures.items c.in_ok-members.ensures in
-    began [] 0 d c.begun.new.builder c.args.bytes.now c.in_ok-count.rest.now c.in_ok-count.count c.in_ok-members.members (reverse c.enter.new.outer.items) total none c.in_ok-count.ensures.room c.in_ok-count.ensures.read c.in_ok-count.ensures.step put (at_first 0 d c.args.bytes.now c.in_ok-builder.ensures)
+    began [] 0 d c.begun.new.builder c.args.bytes.now c.in_ok-count.rest.now c.in_ok-count.count c.in_ok-members.members (reverse c.enter.new.outer.items) total none c.in_ok-count.ensures.room c.in_ok-count.ensures.read c.in_ok-count.ensures.step put (at_first 0 d c.args.bytes.now c.new-builder.ensures)
 
 pub returns-in_err-count-in-Value-clause-read : goal.returns-in_err-count-in-Value-clause-read
 unfolding reading_of
@@ -57,7 +57,7 @@ reading-preserved-then-members-eq0 c =
     let h = c.reading.invariant in
     let some : 0 < length stack = stack_some stack c.reading.members c.reading.builder c.reading.rest.now total w h in
     let items : 0 < length c.reading.outer.items = omega (arith, some, length-reverse c.reading.outer.items) in
-    let top : stack ≡ unwrap_or c.pop.result 0 ∷ reverse c.pop.new.self.items = popped c.reading.outer.items c.pop.new.self.items c.pop.result c.pop.ensures.items (λ lt. c.pop.ensures.variant.1 ?) items in
+    let top : stack ≡ unwrap_or c.pop.result 0 ∷ reverse c.pop.new.self.items = popped c.reading.outer.items c.pop.new.self.items c.pop.result c.pop.ensures.items (λ lt. c.pop.ensures.variant.1 (search rules)) items in
     let e = c.in_ok-rest-in_default.ensures in
     closed_on stack (reverse c.pop.new.self.items) c.unwrap_or-members.result c.reading.members c.reading.builder c.close.new.builder c.reading.rest.now c.in_ok-rest-in_default.rest.now total
         (top ∙ ap (λ (m : ℕ). m ∷ reverse c.pop.new.self.items) (sym c.unwrap_or-members.ensures)) c.if-members-eq0.true w h e.read e.closes.0 e.closes.1 e.closes.2

@@ -1,0 +1,39 @@
+use Rattle.std.proofs.Common.{◌≡◌, ◌+◌, ◌≤◌, ◌++◌, ℕ, List, Ok, drop, length, length-append, sym, ap, ◌∙◌, arith}
+use Rattle.std.specs.Prelude.{Result}
+use Rattle.php_graph.specs.declared.kind.Kind.{Kind}
+use Rattle.notation.specs.declared.fault.Fault.{Fault}
+use Rattle.notation.specs.Notation.{text_of}
+use Rattle.notation.specs.Place.{left}
+use Rattle.notation.specs.Reading.{reading_of}
+use Rattle.notation.proofs.Top.{reading_takes, advance}
+use Rattle.notation.proofs.reading.read_value.Goals as goal
+
+abbrev answered : List Kind × List ℕ → Result (List Kind × List ℕ) Fault
+answered p = Ok p
+
+pub leave-requires : goal.leave-requires
+leave-requires c =
+    let t = reading_takes c.integer_texts.ensures.written c.rest-bytes.result.now c.in-Ok.graph c.in-Ok.rest.now c.in-Ok.ensures.sealed c.in-Ok.ensures.read in
+    omega (arith, ap length t, length-append (text_of c.in-Ok.graph) c.in-Ok.rest.now, ap length c.rest-bytes.ensures.rest)
+
+pub returns-in-Ok-clause-read : goal.returns-in-Ok-clause-read
+returns-in-Ok-clause-read c =
+    let from = c.args.from.now in
+    let t = reading_takes c.integer_texts.ensures.written c.rest-bytes.result.now c.in-Ok.graph c.in-Ok.rest.now c.in-Ok.ensures.sealed c.in-Ok.ensures.read in
+    let a = advance from.bytes from.place c.leave.new.self.place (text_of c.in-Ok.graph) c.in-Ok.rest.now c.rest-bytes.ensures.within (sym c.rest-bytes.ensures.rest ∙ t) c.leave.ensures.place in
+    let left-is : left c.leave.new.self ≡ c.in-Ok.rest.now = ap (λ (l : List ℕ). drop c.leave.new.self.place l) c.leave.ensures.bytes ∙ a.left_is in
+    ap reading_of (sym c.rest-bytes.ensures.rest) ∙ c.in-Ok.ensures.read ∙ ap (λ (l : List ℕ). answered (c.in-Ok.graph, l)) (sym left-is)
+
+pub returns-in-Ok-clause-found : goal.returns-in-Ok-clause-found
+returns-in-Ok-clause-found c =
+    let from = c.args.from.now in
+    let t = reading_takes c.integer_texts.ensures.written c.rest-bytes.result.now c.in-Ok.graph c.in-Ok.rest.now c.in-Ok.ensures.sealed c.in-Ok.ensures.read in
+    let a = advance from.bytes from.place c.leave.new.self.place (text_of c.in-Ok.graph) c.in-Ok.rest.now c.rest-bytes.ensures.within (sym c.rest-bytes.ensures.rest ∙ t) c.leave.ensures.place in
+    let left-is : left c.leave.new.self ≡ c.in-Ok.rest.now = ap (λ (l : List ℕ). drop c.leave.new.self.place l) c.leave.ensures.bytes ∙ a.left_is in
+    (c.in-Ok.ensures.sealed, sym c.rest-bytes.ensures.rest ∙ t ∙ ap (λ (l : List ℕ). text_of c.in-Ok.graph ++ l) (sym left-is))
+
+pub returns-in-Ok-clause-place : goal.returns-in-Ok-clause-place
+returns-in-Ok-clause-place c =
+    let from = c.args.from.now in
+    let t = reading_takes c.integer_texts.ensures.written c.rest-bytes.result.now c.in-Ok.graph c.in-Ok.rest.now c.in-Ok.ensures.sealed c.in-Ok.ensures.read in
+    (advance from.bytes from.place c.leave.new.self.place (text_of c.in-Ok.graph) c.in-Ok.rest.now c.rest-bytes.ensures.within (sym c.rest-bytes.ensures.rest ∙ t) c.leave.ensures.place).place
