@@ -122,7 +122,9 @@ value_inside g p outer key old kind d takes deep few new =
     } in
     let there : kind_at h n ≡ Some kind = subst (λ (l : ℕ). kind_at h (l + 1) ≡ Some kind) len (kind_at-append_new g1 kind) in
     let new1 : IsNewValue g1 kind = record {
-      childless = new.childless; well_formed = new.well_formed; fits = new.fits;
+      childless = new.childless;
+      well_formed = new.well_formed;
+      fits = new.fits;
       target = λ x e. passes-set is_object g p x old more takes.there (with_member-is_object old key (Own n)) ∙ new.target x e;
     } in
     let sound = sound_push g1 (p ∷ outer) kind (sound_member g (p ∷ outer) p old key (Own n) (sound_of g (p ∷ outer) (Some key) d) takes) new1 in
@@ -232,9 +234,16 @@ back_drafted g (p ∷ outer) (Some key) x d wants deep few low high =
 -- a key, which waits from then on
 pub key_drafted : (g : List Kind) (p : ℕ) (outer : List ℕ) (key : Key) → IsDraft g (p ∷ outer) None → FitsKey key → key_fault g p key ≡ None → (is_object_at g p ≡ true → is_name key ≡ true) → IsDraft g (p ∷ outer) (Some key)
 key_drafted g p outer key d fits sound named = record {
-      shaped = d.shaped; opened = d.opened; deep = d.deep; waiting = (fits, sound, named); targets = d.targets;
-      well_formed = d.well_formed; fits = d.fits; count = d.count; members = d.members;
-    }
+  shaped = d.shaped;
+  opened = d.opened;
+  deep = d.deep;
+  waiting = (fits, sound, named);
+  targets = d.targets;
+  well_formed = d.well_formed;
+  fits = d.fits;
+  count = d.count;
+  members = d.members;
+}
 
 -- ---- the end of a container
 
@@ -263,7 +272,11 @@ close_drafted g p outer d =
       opened = d.opened.1;
       deep = omega (arith, d.deep);
       waiting = tt;
-      targets = d.targets; well_formed = d.well_formed; fits = d.fits; count = d.count; members = d.members;
+      targets = d.targets;
+      well_formed = d.well_formed;
+      fits = d.fits;
+      count = d.count;
+      members = d.members;
     }
 
 -- ---- the whole graph

@@ -29,9 +29,10 @@ pair_is : {A B : Type 0} (x y : A × B) → x.0 ≡ y.0 → x.1 ≡ y.1 → x �
 pair_is x y e f = λ i. (e i, f i)
 
 pair_decides : {A B : Type 0} (E : A → A → Bool) (F : B → B → Bool) → ((a b : A) → Decides (E a b) (a ≡ b)) → ((a b : B) → Decides (F a b) (a ≡ b)) → (x y : A × B) → Decides (E x.0 y.0 && F x.1 y.1) (x ≡ y)
-pair_decides E F d f x y =
-    (λ e. let both = and_true (E x.0 y.0) (F x.1 y.1) e in pair_is x y ((d x.0 y.0).0 both.0) ((f x.1 y.1).0 both.1),
-      λ e. rw ((d x.0 y.0).1 (ap (λ p. p.0) e), (f x.1 y.1).1 (ap (λ p. p.1) e)) refl)
+pair_decides E F d f x y = (
+  λ e. let both = and_true (E x.0 y.0) (F x.1 y.1) e in pair_is x y ((d x.0 y.0).0 both.0) ((f x.1 y.1).0 both.1),
+  λ e. rw ((d x.0 y.0).1 (ap (λ p. p.0) e), (f x.1 y.1).1 (ap (λ p. p.1) e)) refl,
+)
 
 pub members_decide : (xs ys : List (Key × Child)) → Decides (pointwise (λ x y. (key_eq.ghosts).eq x.0 y.0 && (child_eq.ghosts).eq x.1 y.1) xs ys) (xs ≡ ys)
 members_decide xs ys = pointwise_decides {E = λ (x : Key × Child) (y : Key × Child). (key_eq.ghosts).eq x.0 y.0 && (child_eq.ghosts).eq x.1 y.1} (pair_decides (key_eq.ghosts).eq (child_eq.ghosts).eq key_decides child_decides) xs ys

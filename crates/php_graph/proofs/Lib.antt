@@ -10,3 +10,6 @@ pub mod DraftKnown
 pub mod EqualLemmas
 pub mod PartEnds
 pub mod PartLemmas
+pub mod NumberTexts
+pub mod LawSteps
+pub mod LawItems

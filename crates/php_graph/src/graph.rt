@@ -1,6 +1,6 @@
 //! Value graphs.
 
-ghost use Rattle.std.specs.Prelude.{◌≡◌, ◌<◌, ◌≤◌, ◌^◌, ◌↔◌, IsTrue, IfOk, length, Some};
+ghost use Rattle.std.specs.Prelude.{◌≡◌, ◌+◌, ◌<◌, ◌≤◌, ◌^◌, ◌↔◌, IsTrue, IfOk, IfSome, length, Some};
 ghost use Rattle.std.specs.Option.{option_map};
 ghost use Rattle.php_graph.specs.Graph.{IsGraph, kind_at, most_values, end_of, part_of, lowered_places};
 ghost use Rattle.php_graph.specs.Counted.{children_in};
@@ -44,7 +44,11 @@ impl Graph {
     {
         let mut offsets = offsets;
         let words = fill_offsets(&places, &mut offsets);
-        Graph { places, offsets, words }
+        Graph {
+            places,
+            offsets,
+            words,
+        }
     }
 
     /// How many places there are.
@@ -112,9 +116,7 @@ impl Graph {
         requires there { k ≤ length self.now }
         ensures { IfOk result (λ part. part ≡ part_of self.now k) }
     {
-        let end = end_of(&self.places, k);
-        let written = &self.places[(k - 1) as usize..(end - 1) as usize];
-        let Some(places) = lowered(alloc, written, k - 1)? else {
+        let Some(places) = part_places(alloc, &self.places, k)? else {
             return Ok(None);
         };
         let offsets = zeros(alloc, places.len())?;
@@ -128,13 +130,29 @@ fn end_of(places: &[Kind], k: u32) -> u32
     requires graph { IsGraph places.now }
     requires from_one { 1 ≤ k }
     requires there { k ≤ length places.now }
-    ensures { end_of places.now k ≡ Some result }
+    ensures end { end_of places.now k ≡ Some result }
+    ensures after { k < result }
+    ensures within { result ≤ length places.now + 1 }
 {
     let mut place = k;
     while let Some(last) = places[(place - 1) as usize].last_own() {
         place = last;
     }
     place + 1
+}
+
+/// The places of the value that is written at place k, with all numbers lowered by k - 1.
+fn part_places(alloc: Global, places: &[Kind], k: u32) -> Result<Option<Vec<Kind>>, AllocError>
+    requires graph { IsGraph places.now }
+    requires few { children_in places.now ≤ most_values }
+    requires from_one { 1 ≤ k }
+    requires there { k ≤ length places.now }
+    ensures part { IfOk result (λ part. option_map (λ v. v.items) part ≡ part_of places.now k) }
+    ensures graph { IfOk result (λ part. IfSome part (λ v. IsGraph v.items × (children_in v.items ≤ most_values))) }
+{
+    let end = end_of(places, k);
+    let written = &places[(k - 1) as usize..(end - 1) as usize];
+    lowered(alloc, written, k - 1)
 }
 
 /// The places with all numbers lowered. None where one of them names a place outside.

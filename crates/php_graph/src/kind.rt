@@ -202,7 +202,8 @@ impl Kind {
             (Kind::Int(a), Kind::Int(b)) => *a == *b,
             (Kind::Str(a), Kind::Str(b)) => *a == *b,
             (Kind::Array(a), Kind::Array(b)) => a.same(b),
-            (Kind::Object(class_a, a), Kind::Object(class_b, b)) => *class_a == *class_b && a.same(b),
+            (Kind::Object(class_a, a), Kind::Object(class_b, b)) => *class_a == *class_b
+                && a.same(b),
             (Kind::Same(a), Kind::Same(b)) => *a == *b,
             _ => false,
         }

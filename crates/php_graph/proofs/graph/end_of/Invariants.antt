@@ -1,5 +1,4 @@
 use Rattle.std.proofs.Common.{◌-◌, ◌+◌, length}
-
 use Rattle.php_graph.proofs.PartEnds.{Leads}
 use Rattle.php_graph.proofs.graph.end_of.Given as goal
 

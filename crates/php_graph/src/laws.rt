@@ -1,0 +1,14 @@
+//! Laws of all graphs and of all that is written.
+
+ghost use Rattle.std.specs.Prelude.{◌≡◌, List, Some};
+ghost use Rattle.std.specs.List.{AllByRecursion};
+ghost use Rattle.php_graph.specs.declared.item.Item.{Item};
+ghost use Rattle.php_graph.specs.declared.item.Wants.TheVariants.{Done};
+ghost use Rattle.php_graph.specs.Graph.{IsGraph};
+ghost use Rattle.php_graph.specs.Building.{Draft, nothing_drafted, all_drafted, drafted, wants_of, FitsItem};
+
+/// Items that fit and are not refused, and after which nothing is wanted, have written a graph.
+pub fn written_graphs()
+    ensures graph { (is : List Item) (d : Draft) → AllByRecursion FitsItem is → drafted nothing_drafted is ≡ Some d → wants_of d ≡ Done → IsGraph d.places }
+    ensures alone { (is : List Item) (d : Draft) → AllByRecursion FitsItem is → drafted nothing_drafted is ≡ Some d → wants_of d ≡ Done → d ≡ all_drafted d.places }
+{}
