@@ -1,7 +1,7 @@
 -- What is read of a value at the top is its text.
 use Rattle.std.proofs.Common.{◌≡◌, ℕ, zero, suc, ◌+◌, ◌-◌, ◌<◌, ◌≤◌, Bool, true, false, cond, List, [], ◌∷◌, ◌++◌, length, map, drop, Option, Some, None, Result, Ok, Err, refl, sym, ap, subst, ◌∙◌, append_assoc, arith, codes, add-one, add-zero, length-append}
 use Rattle.std.specs.Fmt.{decimal}
-use Rattle.std.proofs.lemmas.List.{append-nil, length-map, length-drop, drop_at, drop-drop}
+use Rattle.std.proofs.lemmas.List.{append-nil, length-drop, drop_at, drop-drop}
 use Rattle.php_graph.specs.declared.key.Key.{Key}
 use Rattle.php_graph.specs.declared.child.Child.{Child}
 use Rattle.php_graph.specs.declared.child.Child.TheVariants.{Own, Back}
@@ -74,10 +74,14 @@ Grows kind n head = (ms : List (Key × Child)) → length ms ≡ n → (is_array
 array_grows : (n : ℕ) → Grows (kinds.Array []) n (array_head n)
 array_grows n ms len names w = ap (λ (k : Kind). kind_text 0 w (Some k)) (array_grown [] ms) ∙ ap (λ (k : ℕ). array_head k ++ (member_texts w ms ++ codes "}")) len
 
+named_len : (ps : List (List ℕ × Child)) → length (map named ps) ≡ length ps
+named_len [] = refl
+named_len (p ∷ ps) = ap suc (named_len ps)
+
 object_grows : (class : List ℕ) (n : ℕ) → Grows (kinds.Object class []) n (object_head class n)
 object_grows class n ms len names w =
     let o = object_grown class [] ms (names refl) in
-    let count : length o.props ≡ n = sym (length-map named o.props) ∙ ap length o.members_are ∙ len in
+    let count : length o.props ≡ n = sym (named_len o.props) ∙ ap length o.members_are ∙ len in
     ap (λ (k : Kind). kind_text 0 w (Some k)) o.grown ∙ ap (λ (k : ℕ). object_head class k ++ (member_texts w (map named o.props) ++ codes "}")) count ∙ ap (λ (l : List (Key × Child)). object_head class n ++ (member_texts w l ++ codes "}")) o.members_are
 
 container_value : (law : Written) (level : ℕ) (value : Draft → List ℕ → Result After Fault) → Reads level value → (d : Draft) (kind : Kind) (n : ℕ) (head bytes inner : List ℕ) (y : After)

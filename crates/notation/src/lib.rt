@@ -16,3 +16,6 @@ pub use fault::{ReadFault, Reason};
 pub use reading::read_value;
 pub use words::write_key;
 pub use writing::write_value;
+
+#[cfg(test)]
+mod tests;
