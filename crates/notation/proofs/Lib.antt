@@ -5,3 +5,5 @@ pub mod Fields
 pub mod Takes
 pub mod Whole
 pub mod Top
+pub mod Again
+pub mod Spelled

@@ -61,7 +61,7 @@ kind_split base written (kinds.Same x) = sym (append-nil _)
 
 -- ---- what a member holds
 
-if_some : {A : Type 0} (b : Bool) (o : Option A) (y : A) → cond b o None ≡ Some y → (b ≡ true) × (o ≡ Some y)
+pub if_some : {A : Type 0} (b : Bool) (o : Option A) (y : A) → cond b o None ≡ Some y → (b ≡ true) × (o ≡ Some y)
 if_some true o y e = (refl, e)
 if_some false o y e = absurd cc
 
@@ -125,7 +125,7 @@ place_there g (suc k) kind e = let lt : k < length g = slice_get_within g k kind
 
 -- ---- steps
 
-some_same : {A : Type 0} (x y : A) → Some x ≡ Some y → x ≡ y
+pub some_same : {A : Type 0} (x y : A) → Some x ≡ Some y → x ≡ y
 some_same x y e = cc
 
 -- the number of a shared place was written

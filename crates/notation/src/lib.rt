@@ -13,7 +13,7 @@ mod writing;
 pub use byte_out::ByteOut;
 pub use cursor::Cursor;
 pub use fault::{ReadFault, Reason};
-pub use reading::read_value;
+pub use reading::{read_value, texts_tell_values_apart};
 pub use words::write_key;
 pub use writing::write_value;
 
