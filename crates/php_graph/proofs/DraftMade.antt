@@ -86,10 +86,10 @@ sound_of g cs key d = record { targets = d.targets; well_formed = d.well_formed;
 
 -- ---- values
 
-level_below : (n : ℕ) → suc (suc n) ≤ levels → levels - suc n ≡ suc (levels - suc (suc n))
+pub level_below : (n : ℕ) → suc (suc n) ≤ levels → levels - suc n ≡ suc (levels - suc (suc n))
 level_below n le = omega arith
 
-leaf_ends : (d : ℕ) (h : List Kind) (m : ℕ) (kind : Kind) → kind_at h m ≡ Some kind → children_of kind ≡ [] → child_end (suc d) h (Own m) m ≡ Some (m + 1)
+pub leaf_ends : (d : ℕ) (h : List Kind) (m : ℕ) (kind : Kind) → kind_at h m ≡ Some kind → children_of kind ≡ [] → child_end (suc d) h (Own m) m ≡ Some (m + 1)
 leaf_ends d h m kind there childless = own_makes d h m (m + 1) (record { kind = kind; there = there; members = ap (λ (cs : List Child). ends_after (child_end d h) cs (m + 1)) childless })
 
 -- how a value stands in the graph that it makes

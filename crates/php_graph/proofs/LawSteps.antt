@@ -50,7 +50,7 @@ pub first_none : (a b : Option BuildFault) → first_fault a b ≡ None → (a �
 first_none None b e = (refl, e)
 first_none (Some fault) b e = absurd cc
 
-if_none : (b : Bool) (f : BuildFault) → cond b None (Some f) ≡ None → b ≡ true
+pub if_none : (b : Bool) (f : BuildFault) → cond b None (Some f) ≡ None → b ≡ true
 if_none true f e = refl
 if_none false f e = absurd cc
 
@@ -62,7 +62,7 @@ closed_by d p outer is no_key e =
     let here : IsDraft d.places (p ∷ outer) None = subst (λ (k : Option Key). IsDraft d.places (p ∷ outer) k) no_key (subst (λ (cs : List ℕ). IsDraft d.places cs d.key) e is) in
     subst (λ (cs : List ℕ). IsDraft d.places (drop 1 cs) None) (sym e) (close_drafted d.places p outer here)
 
-either : (w : Wants) (key : Key) → (w ≡ ArrayKey) ⊎ ((w ≡ Name) × (is_name key ≡ true)) → (w ≡ ArrayKey) ⊎ (w ≡ Name)
+pub either : (w : Wants) (key : Key) → (w ≡ ArrayKey) ⊎ ((w ≡ Name) × (is_name key ≡ true)) → (w ≡ ArrayKey) ⊎ (w ≡ Name)
 either w key (inl e) = inl e
 either w key (inr e) = inr e.0
 
