@@ -92,8 +92,9 @@ impl Builder {
         }
     }
 
-    /// Why there is no room for one more value.
-    fn room(&self) -> Result<(), BuildFault>
+    /// Why there is no room for one more value: it would lie too deep, or there are too many. What is refused so is
+    /// refused whatever the value is.
+    pub fn room(&self) -> Result<(), BuildFault>
         ensures { MatchResult result (λ _. room_fault self.now ≡ None) (λ fault. room_fault self.now ≡ Some fault) }
     {
         if self.containers.len() >= LEVELS {
