@@ -30,3 +30,6 @@ then_told a b before mid after faults_before faults_mid faults_after whole rest 
         t.2 ∙ (ap (λ (h : Option (List ℕ)). append_known h (take t.0 b)) whole.0 ∙ (append_known-append before a (take t.0 b) ∙ ap (append_known before) (sym (take-append-add a b t.0)))),
         subst (λ (n : ℕ). Rose n faults_after) whole.1 t.3);
     }
+
+pub told_as : (all : Bool) (a b : List ℕ) (before after : Option (List ℕ)) (faults_before faults_after : ℕ) → a ≡ b → WasTold all a before after faults_before faults_after → WasTold all b before after faults_before faults_after
+told_as all a b before after faults_before faults_after same t = subst (λ (l : List ℕ). WasTold all l before after faults_before faults_after) same t

@@ -5,4 +5,6 @@ pub mod Fields
 pub mod Takes
 pub mod Whole
 pub mod Top
+pub mod Again
+pub mod Spelled
 pub mod Bounds

@@ -72,7 +72,7 @@ null_takes d bytes y e =
     let start : IsStart d b.0 None (78 ∷ bytes) a.0 = record { item = items.Null; counted = tt; put = sym (put_ok (fault_of d items.Null) (pushed d items.Null) b.0 bytes b.1); text = ap (λ (t : List ℕ). 78 ∷ t) (mark_takes 59 bytes a.0 a.1) } in
     begun_is (b.0, None, a.0) y d (78 ∷ bytes) start (ok_is (b.0, None, a.0) y b.2)
 
-truth_text : (b : Bool) (rest : List ℕ) → 98 ∷ 58 ∷ (cond b (49 ∷ []) (48 ∷ []) ++ 59 ∷ rest) ≡ cond b (codes "b:1;") (codes "b:0;") ++ rest
+pub truth_text : (b : Bool) (rest : List ℕ) → 98 ∷ 58 ∷ (cond b (49 ∷ []) (48 ∷ []) ++ 59 ∷ rest) ≡ cond b (codes "b:1;") (codes "b:0;") ++ rest
 truth_text true rest = refl
 truth_text false rest = refl
 
@@ -109,10 +109,10 @@ str_takes law d bytes y e =
     let start : IsStart d p.0 None (115 ∷ bytes) a.0.1 = record { item = items.Str a.0.0; counted = tt; put = sym (put_ok (fault_of d (items.Str a.0.0)) (pushed d (items.Str a.0.0)) p.0 bytes p.1); text = ap (λ (t : List ℕ). 115 ∷ t) (string_takes law bytes a.0.0 a.0.1 a.1) ∙ sym (str_text a.0.0 a.0.1) } in
     begun_is (p.0, None, a.0.1) y d (115 ∷ bytes) start (ok_is (p.0, None, a.0.1) y p.2)
 
-same_text : (x : ℕ) (rest : List ℕ) → (codes "r:" ++ decimal x ++ codes ";") ++ rest ≡ 114 ∷ 58 ∷ (decimal x ++ 59 ∷ rest)
+pub same_text : (x : ℕ) (rest : List ℕ) → (codes "r:" ++ decimal x ++ codes ";") ++ rest ≡ 114 ∷ 58 ∷ (decimal x ++ 59 ∷ rest)
 same_text x rest = simp append_assoc
 
-back_text : (x : ℕ) (rest : List ℕ) → (codes "R:" ++ decimal x ++ codes ";") ++ rest ≡ 82 ∷ 58 ∷ (decimal x ++ 59 ∷ rest)
+pub back_text : (x : ℕ) (rest : List ℕ) → (codes "R:" ++ decimal x ++ codes ";") ++ rest ≡ 82 ∷ 58 ∷ (decimal x ++ 59 ∷ rest)
 back_text x rest = simp append_assoc
 
 same_takes : (law : Written) (d : Draft) (bytes : List ℕ) (y : Begun) → same_at d bytes ≡ Ok y → IsStart d y.0 y.1 (114 ∷ bytes) y.2
@@ -137,10 +137,10 @@ back_takes law d bytes y e =
     let start : IsStart d p.0 None (82 ∷ bytes) m.0 = record { item = items.Back b.0.0; counted = tt; put = sym (put_ok (fault_of d (items.Back b.0.0)) (pushed d (items.Back b.0.0)) p.0 a.0 p.1); text = ap (λ (t : List ℕ). 82 ∷ t) parts ∙ sym (back_text b.0.0 m.0) } in
     begun_is (p.0, None, m.0) y d (82 ∷ bytes) start (ok_is (p.0, None, m.0) y p.2)
 
-array_text : (n : ℕ) (rest : List ℕ) → array_head n ++ rest ≡ 97 ∷ 58 ∷ (decimal n ++ 58 ∷ 123 ∷ rest)
+pub array_text : (n : ℕ) (rest : List ℕ) → array_head n ++ rest ≡ 97 ∷ 58 ∷ (decimal n ++ 58 ∷ 123 ∷ rest)
 array_text n rest = simp append_assoc
 
-object_text : (class : List ℕ) (n : ℕ) (rest : List ℕ) → object_head class n ++ rest ≡ 79 ∷ 58 ∷ (decimal (length class) ++ 58 ∷ 34 ∷ (class ++ 34 ∷ 58 ∷ (decimal n ++ 58 ∷ 123 ∷ rest)))
+pub object_text : (class : List ℕ) (n : ℕ) (rest : List ℕ) → object_head class n ++ rest ≡ 79 ∷ 58 ∷ (decimal (length class) ++ 58 ∷ 34 ∷ (class ++ 34 ∷ 58 ∷ (decimal n ++ 58 ∷ 123 ∷ rest)))
 object_text class n rest = simp append_assoc
 
 array_takes : (law : Written) (d : Draft) (bytes : List ℕ) (y : Begun) → array_at d bytes ≡ Ok y → IsStart d y.0 y.1 (97 ∷ bytes) y.2

@@ -25,7 +25,7 @@ use Rattle.notation.proofs.Whole.{After, Agrees, agrees_own, with_members, AllNa
 
 -- ---- one place
 
-own_unfold : (level : ℕ) (g : List Kind) (x : ℕ) (kind : Kind) → kind_at g x ≡ Some kind → child_text (suc level) 0 g (Own x) ≡ kind_text 0 (child_text level 0 g) (Some kind)
+pub own_unfold : (level : ℕ) (g : List Kind) (x : ℕ) (kind : Kind) → kind_at g x ≡ Some kind → child_text (suc level) 0 g (Own x) ≡ kind_text 0 (child_text level 0 g) (Some kind)
 unfolding child_text
 own_unfold level g x kind e = ap (λ (o : Option Kind). kind_text 0 (child_text level 0 g) o) e
 
@@ -74,7 +74,7 @@ Grows kind n head = (ms : List (Key × Child)) → length ms ≡ n → (is_array
 array_grows : (n : ℕ) → Grows (kinds.Array []) n (array_head n)
 array_grows n ms len names w = ap (λ (k : Kind). kind_text 0 w (Some k)) (array_grown [] ms) ∙ ap (λ (k : ℕ). array_head k ++ (member_texts w ms ++ codes "}")) len
 
-named_len : (ps : List (List ℕ × Child)) → length (map named ps) ≡ length ps
+pub named_len : (ps : List (List ℕ × Child)) → length (map named ps) ≡ length ps
 named_len [] = refl
 named_len (p ∷ ps) = ap suc (named_len ps)
 
@@ -103,10 +103,10 @@ container_value law level value reads d kind n head bytes inner y container grow
       no_key = ap (λ (x : Draft). x.key) (sym c.is);
       own = λ _. refl;
       text = λ g h.
-          let w = child_text level 0 g in
-          let members : inner ≡ member_texts w m.members ++ (codes "}" ++ y.1) = m.text g (subst (λ (k : ℕ). Agrees g k m.news) (sym len) h.1) ∙ ap (λ (t : List ℕ). member_texts w m.members ++ t) c.text in
-          let own : child_text (suc level) 0 g (Own (next_place d)) ≡ head ++ (member_texts w m.members ++ codes "}") = own_unfold level g (next_place d) (with_members kind m.members) (ap (kind_at g) (next_is d) ∙ h.0) ∙ grown w in
-          text ∙ ap (λ (t : List ℕ). head ++ t) (members ∙ sym (append_assoc (member_texts w m.members) (codes "}") y.1)) ∙ sym (append_assoc head (member_texts w m.members ++ codes "}") y.1) ∙ ap (λ (t : List ℕ). t ++ y.1) (sym own);
+        let w = child_text level 0 g in
+        let members : inner ≡ member_texts w m.members ++ (codes "}" ++ y.1) = m.text g (subst (λ (k : ℕ). Agrees g k m.news) (sym len) h.1) ∙ ap (λ (t : List ℕ). member_texts w m.members ++ t) c.text in
+        let own : child_text (suc level) 0 g (Own (next_place d)) ≡ head ++ (member_texts w m.members ++ codes "}") = own_unfold level g (next_place d) (with_members kind m.members) (ap (kind_at g) (next_is d) ∙ h.0) ∙ grown w in
+        text ∙ ap (λ (t : List ℕ). head ++ t) (members ∙ sym (append_assoc (member_texts w m.members) (codes "}") y.1)) ∙ sym (append_assoc head (member_texts w m.members ++ codes "}") y.1) ∙ ap (λ (t : List ℕ). t ++ y.1) (sym own);
     }
 
 -- ---- values

@@ -8,7 +8,7 @@ ghost use Rattle.notation.specs.Notation.{text_of};
 ghost use Rattle.notation.specs.Place.{left};
 ghost use Rattle.notation.specs.Marks.{Gives};
 ghost use Rattle.notation.specs.Reading.{reading_of, value_at};
-ghost use Rattle.notation.specs.Answer.{IsReading};
+ghost use Rattle.notation.specs.Answer.{IsReading, CanBeWritten};
 ghost use Rattle.notation.specs.Outer.{outer_stack};
 
 use crate::cursor::Cursor;
@@ -26,6 +26,8 @@ pub fn read_value(alloc: Global, from: &mut Cursor) -> Result<Graph, ReadFault>
     // What is read is spelled there, and the cursor stands after it.
     ensures found { IfOk result (λ g. IsGraph g × (left from.old ≡ text_of g ++ left from.new)) }
     ensures place { IfOk result (λ g. from.new.place ≡ from.old.place + length (text_of g)) }
+    // What is spelled there is read, unless memory runs out.
+    ensures only { (g : List Kind) (rest : List ℕ) → IsGraph g → CanBeWritten g → left from.old ≡ text_of g ++ rest → MatchResult result (λ h. (h ≡ g) × (left from.new ≡ rest)) (λ e. e ≡ ReadFault.Memory) }
     ensures bytes { from.new.bytes ≡ from.old.bytes }
     ensures fault { OnErr result (from.new ≡ from.old) }
 {

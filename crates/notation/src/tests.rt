@@ -53,21 +53,21 @@ fn good_texts(rt: HostRuntime) -> Result<(), Fail> {
 }
 
 #[derive(Drop)]
-struct Bad {
+struct Row {
     text: &'static [u8],
     place: u64,
     reason: Reason,
 }
 
-fn bad(text: &'static [u8], place: u64, reason: Reason) -> Bad {
-    Bad {
+fn stops_at(text: &'static [u8], place: u64, reason: Reason) -> Row {
+    Row {
         text,
         place,
         reason,
     }
 }
 
-fn refused(rt: &impl Abort, alloc: Global, row: &Bad) {
+fn refused(rt: &impl Abort, alloc: Global, row: &Row) {
     let mut from = Cursor::new(row.text);
     match read_value(alloc, &mut from) {
         Err(ReadFault::Bad { place, reason }) => {
@@ -82,28 +82,28 @@ fn refused(rt: &impl Abort, alloc: Global, row: &Bad) {
 #[test]
 fn first_faults(rt: HostRuntime) {
     let rows = [
-        bad(b"", 0, Reason::End),
-        bad(b"i:", 2, Reason::End),
-        bad(b"i:5", 3, Reason::End),
-        bad(b"d:1.5;", 0, Reason::Tag),
-        bad(b"i:05;", 2, Reason::Number),
-        bad(b"i:-0;", 2, Reason::Number),
-        bad(b"i:+5;", 2, Reason::Number),
-        bad(b"i:9223372036854775808;", 2, Reason::Number),
-        bad(b"b:2;", 2, Reason::Number),
-        bad(b"s:3:\"ab\";", 2, Reason::Length),
-        bad(b"s:4294967295:\"abc\";", 2, Reason::Length),
-        bad(b"s:4294967296:\"\";", 2, Reason::Number),
-        bad(b"i;5;", 1, Reason::Mark),
-        bad(b"a:1:{i:0;r:1;}", 11, Reason::Target),
-        bad(b"R:1;", 2, Reason::Target),
-        bad(b"a:2:{i:0;N;}", 11, Reason::Tag),
-        bad(b"a:1:{i:0;N;i:1;N;}", 11, Reason::Mark),
-        bad(b"a:2:{i:0;N;i:0;N;}", 11, Reason::Repeat),
-        bad(b"a:1:{s:1:\"5\";N;}", 5, Reason::Integer),
-        bad(b"O:1:\"-\":0:{}", 0, Reason::Class),
-        bad(b"O:0:\"\":0:{}", 0, Reason::Class),
-        bad(b"O:1:\"A\":1:{i:0;N;}", 11, Reason::Tag),
+        stops_at(b"", 0, Reason::End),
+        stops_at(b"i:", 2, Reason::End),
+        stops_at(b"i:5", 3, Reason::End),
+        stops_at(b"d:1.5;", 0, Reason::Tag),
+        stops_at(b"i:05;", 2, Reason::Number),
+        stops_at(b"i:-0;", 2, Reason::Number),
+        stops_at(b"i:+5;", 2, Reason::Number),
+        stops_at(b"i:9223372036854775808;", 2, Reason::Number),
+        stops_at(b"b:2;", 2, Reason::Number),
+        stops_at(b"s:3:\"ab\";", 2, Reason::Length),
+        stops_at(b"s:4294967295:\"abc\";", 2, Reason::Length),
+        stops_at(b"s:4294967296:\"\";", 2, Reason::Number),
+        stops_at(b"i;5;", 1, Reason::Mark),
+        stops_at(b"a:1:{i:0;r:1;}", 11, Reason::Target),
+        stops_at(b"R:1;", 2, Reason::Target),
+        stops_at(b"a:2:{i:0;N;}", 11, Reason::Tag),
+        stops_at(b"a:1:{i:0;N;i:1;N;}", 11, Reason::Mark),
+        stops_at(b"a:2:{i:0;N;i:0;N;}", 11, Reason::Repeat),
+        stops_at(b"a:1:{s:1:\"5\";N;}", 5, Reason::Integer),
+        stops_at(b"O:1:\"-\":0:{}", 0, Reason::Class),
+        stops_at(b"O:0:\"\":0:{}", 0, Reason::Class),
+        stops_at(b"O:1:\"A\":1:{i:0;N;}", 11, Reason::Tag),
     ];
     for row in &rows {
         refused(&rt, rt.alloc(), row);
@@ -115,10 +115,7 @@ fn based(rt: HostRuntime) -> Result<(), Fail> {
     let value = read(rt.alloc(), b"O:1:\"A\":2:{s:1:\"x\";r:1;s:1:\"y\";R:1;}")?;
     let mut out = ByteOut::new(rt.alloc());
     write_value(&value, 2, &mut out)?;
-    assert_eq!(rt;
-        out.as_slice(),
-        b"O:1:\"A\":2:{s:1:\"x\";r:3;s:1:\"y\";R:3;}".as_slice()
-    );
+    assert_eq!(rt; out.as_slice(), b"O:1:\"A\":2:{s:1:\"x\";r:3;s:1:\"y\";R:3;}".as_slice());
     Ok(())
 }
 

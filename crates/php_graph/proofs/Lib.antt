@@ -13,3 +13,4 @@ pub mod PartLemmas
 pub mod NumberTexts
 pub mod LawSteps
 pub mod LawItems
+pub mod LawWritten

@@ -92,8 +92,8 @@ impl Builder {
         }
     }
 
-    /// Whether there is room for one more value: `TooDeep` inside 512 open containers, `TooManyPlaces` after
-    /// 16,777,216 values. A reader asks it once it has seen that a value begins.
+    /// Why there is no room for one more value: it would lie too deep, or there are too many. What is refused so is
+    /// refused whatever the value is.
     pub fn room(&self) -> Result<(), BuildFault>
         ensures { MatchResult result (λ _. room_fault self.now ≡ None) (λ fault. room_fault self.now ≡ Some fault) }
     {

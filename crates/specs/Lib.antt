@@ -1,4 +1,0 @@
-pub mod Text
-pub mod Graph
-pub mod Size
-pub mod Building
