@@ -16,3 +16,4 @@ pub mod LawItems
 pub mod LawWritten
 pub mod LawPlaced
 pub mod LawReach
+pub mod LawReached
