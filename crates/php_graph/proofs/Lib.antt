@@ -14,3 +14,5 @@ pub mod NumberTexts
 pub mod LawSteps
 pub mod LawItems
 pub mod LawWritten
+pub mod LawSlices
+pub mod LawCount
