@@ -17,3 +17,5 @@ pub mod LawWritten
 pub mod LawPlaced
 pub mod LawReach
 pub mod LawReached
+pub mod LawSlices
+pub mod LawCount
