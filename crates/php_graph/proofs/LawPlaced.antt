@@ -1,7 +1,6 @@
 -- A value at the next place of a graph that is being written again.
 use Rattle.std.proofs.Common.{◌≡◌, ℕ, suc, ◌+◌, ◌<◌, ◌≤◌, Bool, true, false, cond, List, [], ◌∷◌, ◌++◌, length, Option, Some, None, refl, sym, ap, subst, ◌∙◌, arith, length-append, inl, inr}
 use Rattle.std.specs.Prelude.{◌&&◌, nat_le, count_by}
-use Rattle.std.specs.Option.{is_none}
 use Rattle.std.proofs.lemmas.Bool.{cases_lt}
 use Rattle.std.proofs.lemmas.Bool.Decides.{nat_tests}
 use Rattle.std.proofs.lemmas.List.Sums.{sum_by-append, sum_by-cons}
@@ -12,7 +11,6 @@ use Rattle.php_graph.specs.declared.kind.Kind.{Kind}
 use Rattle.php_graph.specs.declared.item.Item.{Item}
 use Rattle.php_graph.specs.declared.item.Item.TheVariants as items
 use Rattle.php_graph.specs.declared.item.Wants.TheVariants.{Value}
-use Rattle.php_graph.specs.declared.item.BuildFault.TheVariants.{TooDeep, TooManyPlaces, BadNumber}
 use Rattle.php_graph.specs.Graph.{kind_at, passes, is_object, is_object_at, levels, most_values, values_in}
 use Rattle.php_graph.specs.Building.{Draft, wants_of, wants_by, is_value, item_fits, room_fault, fault_of, pushed, drafted, with_value, with_member, attached, is_container}
 use Rattle.php_graph.specs.Drafted.{IsDraft, IsNewValue}

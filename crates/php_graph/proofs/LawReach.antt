@@ -1,31 +1,26 @@
 -- The items of a graph write it.
-use Rattle.std.proofs.Common.{◌≡◌, ℕ, zero, suc, ◌+◌, ◌<◌, ◌≤◌, Bool, true, false, cond, List, [], ◌∷◌, ◌++◌, length, map, set, Option, Some, None, refl, sym, ap, subst, ◌∙◌, arith, append_assoc, length-append, inl, inr}
+use Rattle.std.proofs.Common.{◌≡◌, ℕ, ◌+◌, ◌<◌, ◌≤◌, Bool, true, false, cond, List, [], ◌∷◌, ◌++◌, length, map, Option, Some, None, refl, sym, ap, subst, ◌∙◌, arith, append_assoc, inl, inr}
 use Rattle.std.specs.Prelude.{◌&&◌, ◌||◌, not}
-use Rattle.std.specs.List.{AllByRecursion, list_all, slice_get}
-use Rattle.std.specs.Option.{is_none}
+use Rattle.std.specs.List.{AllByRecursion, list_all}
 use Rattle.std.proofs.lemmas.Bool.{cases_lt, false≢true}
 use Rattle.std.proofs.lemmas.List.{append-nil}
 use Rattle.std.proofs.lemmas.List.Folds.{list_any-append}
 use Rattle.php_graph.specs.declared.key.Key.{Key}
 use Rattle.php_graph.specs.declared.key.Key.TheVariants as keys
 use Rattle.php_graph.specs.declared.child.Child.{Child}
-use Rattle.php_graph.specs.declared.child.Child.TheVariants.{Own, Back}
 use Rattle.php_graph.specs.declared.kind.Kind.{Kind}
 use Rattle.php_graph.specs.declared.kind.Kind.TheVariants as kinds
 use Rattle.php_graph.specs.declared.item.Item.{Item}
 use Rattle.php_graph.specs.declared.item.Item.TheVariants as items
-use Rattle.php_graph.specs.declared.item.Wants.{Wants}
-use Rattle.php_graph.specs.declared.item.Wants.TheVariants.{Value, ArrayKey, Name, Done}
+use Rattle.php_graph.specs.declared.item.Wants.TheVariants.{ArrayKey, Name}
 use Rattle.php_graph.specs.declared.item.BuildFault.TheVariants.{RepeatedKey, IntegerText}
-use Rattle.php_graph.specs.Graph.{kind_at, children_of, keys_of, passes, is_array, is_array_at, is_object, is_object_at, key_eq, has_key, are_distinct, is_array_key, FitsKey, ends_after, most_values, values_in}
-use Rattle.php_graph.specs.Building.{Draft, item_fits, fault_of, fault_in, pushed, drafted, member_items, named, with_member, attached, is_container, is_name}
-use Rattle.php_graph.specs.Drafted.{IsDraft, IsNewValue}
+use Rattle.php_graph.specs.Graph.{kind_at, keys_of, passes, is_array, is_array_at, is_object, key_eq, has_key, are_distinct, is_array_key, FitsKey, ends_after, most_values, values_in}
+use Rattle.php_graph.specs.Building.{item_fits, fault_in, drafted, member_items, named, with_member, is_container, is_name}
 use Rattle.php_graph.proofs.EndLemmas.{then_some}
 use Rattle.php_graph.proofs.DraftLemmas.{kind_at-set_other, kind_at-set_same, place_is, with_member-is_object, with_member-is_container, key_eq-swap, or_false, and_true, not_true}
-use Rattle.php_graph.proofs.DraftSteps.{same_or}
-use Rattle.php_graph.proofs.DraftMade.{attached_is, key_drafted, close_drafted}
-use Rattle.php_graph.proofs.LawItems.{members_of, members_children, opening, with_member-members, with_member-opening}
-use Rattle.php_graph.proofs.LawPlaced.{draft, values, values-cons, values-append, value_first, step_on, Ready, Waits, next, placed, Placed, place_value, ChildDone, Pushes, value_step}
+use Rattle.php_graph.proofs.DraftMade.{attached_is, key_drafted}
+use Rattle.php_graph.proofs.LawItems.{members_of, opening, with_member-members, with_member-opening}
+use Rattle.php_graph.proofs.LawPlaced.{draft, values, values-cons, values-append, step_on, Ready, next, ChildDone}
 
 -- ---- keys that may come
 

@@ -1,6 +1,6 @@
 -- A graph is written by its items.
-use Rattle.std.proofs.Common.{◌≡◌, ℕ, zero, suc, ◌+◌, ◌<◌, ◌≤◌, Bool, true, false, cond, List, [], ◌∷◌, ◌++◌, length, map, Option, Some, None, refl, sym, ap, subst, ◌∙◌, arith, append_assoc, inl, inr}
-use Rattle.std.specs.Prelude.{◌&&◌, IsTrue}
+use Rattle.std.proofs.Common.{◌≡◌, ℕ, zero, suc, ◌+◌, ◌<◌, ◌≤◌, Bool, true, cond, List, [], ◌∷◌, ◌++◌, length, map, Option, Some, None, refl, sym, ap, subst, ◌∙◌, arith, append_assoc, inl, inr}
+use Rattle.std.specs.Prelude.{IsTrue}
 use Rattle.std.specs.List.{AllByRecursion, list_all, slice_get}
 use Rattle.std.proofs.lemmas.Bool.{false≢true}
 use Rattle.std.proofs.lemmas.List.{append-nil}
@@ -14,12 +14,11 @@ use Rattle.php_graph.specs.declared.kind.Kind.TheVariants as kinds
 use Rattle.php_graph.specs.declared.item.Item.{Item}
 use Rattle.php_graph.specs.declared.item.Item.TheVariants as items
 use Rattle.php_graph.specs.declared.item.Wants.TheVariants.{Value}
-use Rattle.php_graph.specs.declared.item.BuildFault.TheVariants.{BadNumber, BadClass}
-use Rattle.php_graph.specs.Graph.{kind_at, children_of, keys_of, passes, is_object, is_object_at, is_array_at, are_distinct, is_array_key, is_class, is_well_formed, FitsKey, FitsKind, ends_after, child_end, end_of, levels, most_values, values_in, IsGraph}
-use Rattle.php_graph.specs.Building.{Draft, nothing_drafted, all_drafted, wants_by, is_value, fault_of, drafted, named, member_items, kind_items, child_items, items_of, attached, is_container, is_name}
-use Rattle.php_graph.specs.Drafted.{IsDraft, IsNewValue}
+use Rattle.php_graph.specs.Graph.{kind_at, children_of, is_object, is_object_at, is_array_at, are_distinct, is_array_key, is_class, is_well_formed, FitsKey, FitsKind, ends_after, child_end, end_of, levels, most_values, values_in, IsGraph}
+use Rattle.php_graph.specs.Building.{nothing_drafted, all_drafted, wants_by, drafted, named, member_items, kind_items, child_items, items_of, is_container, is_name}
+use Rattle.php_graph.specs.Drafted.{IsDraft}
 use Rattle.php_graph.proofs.EndLemmas.{own_end, back_end}
-use Rattle.php_graph.proofs.DraftLemmas.{and_true, All-place, place_is}
+use Rattle.php_graph.proofs.DraftLemmas.{and_true, All-place}
 use Rattle.php_graph.proofs.DraftSteps.{same_or}
 use Rattle.php_graph.proofs.DraftMade.{close_drafted}
 use Rattle.php_graph.proofs.LawSteps.{nothing_is}
