@@ -55,16 +55,6 @@ same_object class ps kind holds opened members = absurd (false≢true holds)
 
 -- ---- a container
 
-same_list : (xs ys : List Kind) → length xs ≡ length ys → ((i : ℕ) → i < length xs → slice_get xs i ≡ slice_get ys i) → xs ≡ ys
-same_list [] [] e same = refl
-same_list [] (y ∷ ys) e same = absurd (omega arith)
-same_list (x ∷ xs) [] e same = absurd (omega arith)
-same_list (x ∷ xs) (y ∷ ys) e same =
-    let first : Some x ≡ Some y = same 0 (omega arith) in
-    let head : x ≡ y = cc in
-    let tail : xs ≡ ys = same_list xs ys (omega arith) (λ i lt. same (suc i) (omega arith)) in
-    λ i. head i ∷ tail i
-
 -- a container whose members have all been written is closed
 closed_done : (g places : List Kind) (cs : List ℕ) (key : Option Key) (empty kind : Kind) (item : Item) (ms : List (Key × Child)) (e : ℕ) (is : List Item) → Waits places cs key → Pushes places cs key empty item → is_container empty ≡ true → Placed g places cs key empty → kind_at g (next places) ≡ Some kind
     → (m : MembersDone g (placed places cs key empty) (next places) cs empty ms e is) → m.filled ≡ kind → ChildDone g places cs key (Own (next places)) e (item ∷ is ++ items.Close ∷ [])
@@ -87,8 +77,8 @@ closed_done g places cs key empty kind item ms e is w p holds s there m same =
           ∙ step_on (draft m.after (n ∷ cs) None) items.Close rest (close_fits (is_array_at m.after n)) refl;
     }
 
--- what opens a container
-pub record Begins (kind empty : Kind) (item : Item) : Type 0 where
+-- a container without members, and those that are still to come
+pub record Begins (kind empty : Kind) : Type 0 where
   pub holds : is_container empty ≡ true
   pub object : is_object empty ≡ is_object kind
   pub opened : opening empty ≡ opening kind
@@ -97,7 +87,7 @@ pub record Begins (kind empty : Kind) (item : Item) : Type 0 where
   pub same : (b : Kind) → is_container b ≡ true → opening b ≡ opening kind → members_of b ≡ members_of kind → b ≡ kind
 
 container_done : (g : List Kind) (w : Child → List Item) (end : Child → ℕ → Option ℕ) (places : List Kind) (cs : List ℕ) (key : Option Key) (kind empty : Kind) (item : Item) (e : ℕ) → EachDone g w end (next places ∷ cs) → Ready g places cs key → Waits places cs key → kind_at g (next places) ≡ Some kind
-    → Pushes places cs key empty item → Begins kind empty item → ends_after end (children_of kind) (next places + 1) ≡ Some e → values_in places + values (item ∷ member_items w (members_of kind) ++ items.Close ∷ []) ≤ most_values
+    → Pushes places cs key empty item → Begins kind empty → ends_after end (children_of kind) (next places + 1) ≡ Some e → values_in places + values (item ∷ member_items w (members_of kind) ++ items.Close ∷ []) ≤ most_values
     → ChildDone g places cs key (Own (next places)) e (item ∷ member_items w (members_of kind) ++ items.Close ∷ [])
 container_done g w end places cs key kind empty item e each r wt there p b ends few =
     let n = next places in
@@ -120,7 +110,7 @@ names_fit : (ps : List (List ℕ × Child)) → AllByRecursion (λ p. AreBytes p
 names_fit [] all = tt
 names_fit (p ∷ ps) all = (all.0, names_fit ps all.1)
 
-array_begins : (ms : List (Key × Child)) → IsTrue (is_well_formed (kinds.Array ms)) → FitsKind (kinds.Array ms) → Begins (kinds.Array ms) (kinds.Array []) items.OpenArray
+array_begins : (ms : List (Key × Child)) → IsTrue (is_well_formed (kinds.Array ms)) → FitsKind (kinds.Array ms) → Begins (kinds.Array ms) (kinds.Array [])
 array_begins ms well fits =
     let w = and_true (are_distinct (map (λ m. m.0) ms)) (list_all (λ m. is_array_key m.0) ms) well in
     record {
@@ -132,7 +122,7 @@ array_begins ms well fits =
       same = λ b holds opened members. same_array ms b holds opened members;
     }
 
-object_begins : (class : List ℕ) (ps : List (List ℕ × Child)) → IsTrue (is_well_formed (kinds.Object class ps)) → FitsKind (kinds.Object class ps) → Begins (kinds.Object class ps) (kinds.Object class []) (items.OpenObject class)
+object_begins : (class : List ℕ) (ps : List (List ℕ × Child)) → IsTrue (is_well_formed (kinds.Object class ps)) → FitsKind (kinds.Object class ps) → Begins (kinds.Object class ps) (kinds.Object class [])
 object_begins class ps well fits =
     let w = and_true (are_distinct (map (λ p. keys.Str p.0) ps)) (is_class class) well in
     record {
@@ -224,6 +214,16 @@ child_done (suc level) g ig places cs key (Own x) e deep wants r ends few =
     subst (λ (k : Option Kind). ChildDone g places cs key (Own x) e (kind_items (child_items level g) k)) (sym at) (subst (λ (y : ℕ). ChildDone g places cs key (Own y) e (kind_items (child_items level g) (Some kind))) (sym o.0) done)
 
 -- ---- a whole graph
+
+same_list : (xs ys : List Kind) → length xs ≡ length ys → ((i : ℕ) → i < length xs → slice_get xs i ≡ slice_get ys i) → xs ≡ ys
+same_list [] [] e same = refl
+same_list [] (y ∷ ys) e same = absurd (omega arith)
+same_list (x ∷ xs) [] e same = absurd (omega arith)
+same_list (x ∷ xs) (y ∷ ys) e same =
+    let first : Some x ≡ Some y = same 0 (omega arith) in
+    let head : x ≡ y = cc in
+    let tail : xs ≡ ys = same_list xs ys (omega arith) (λ i lt. same (suc i) (omega arith)) in
+    λ i. head i ∷ tail i
 
 pub reached : (g : List Kind) → IsGraph g → values (items_of g) ≡ values_in g → drafted nothing_drafted (items_of g) ≡ Some (all_drafted g)
 unfolding items_of end_of
