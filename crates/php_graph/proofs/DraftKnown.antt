@@ -94,7 +94,7 @@ known_opened h true n cs cs' kind opens there childless known =
       ap places_of opens.1 ∙ places_of-push cs c ∙ ap (λ (k : ℕ). k ∷ places_of cs) opens.2,
     )
 
-values_after : (g : List Kind) (cs : List ℕ) (key : Option Key) (child : Child) → IsDraft g cs key → wants_by g cs key ≡ Value → (cs ≡ [] → is_back child ≡ false) → values_in (attached g cs key child) ≡ values_in g + cond (is_back child) 1 0
+pub values_after : (g : List Kind) (cs : List ℕ) (key : Option Key) (child : Child) → IsDraft g cs key → wants_by g cs key ≡ Value → (cs ≡ [] → is_back child ≡ false) → values_in (attached g cs key child) ≡ values_in g + cond (is_back child) 1 0
 values_after g [] None child d wants top = rw (top refl) (omega arith)
 values_after g [] (Some key) child d wants top = absurd d.waiting
 values_after g (p ∷ outer) None child d wants top = absurd (no_value (is_array_at g p) wants)
@@ -168,7 +168,7 @@ wants_no_value g (p ∷ outer) (Some key) d (inr e) = absurd cc
 
 -- ---- a member that shares a place
 
-no_back : (g : List Kind) (cs : List ℕ) (key : Option Key) (x : ℕ) → IsDraft g cs key → wants_by g cs key ≡ Value → 1 ≤ x → x ≤ length g → cs ≡ [] → ⊥
+pub no_back : (g : List Kind) (cs : List ℕ) (key : Option Key) (x : ℕ) → IsDraft g cs key → wants_by g cs key ≡ Value → 1 ≤ x → x ≤ length g → cs ≡ [] → ⊥
 no_back [] [] None x d wants low high e = omega arith
 no_back (k ∷ ks) [] None x d wants low high e = cc
 no_back g [] (Some key) x d wants low high e = d.waiting

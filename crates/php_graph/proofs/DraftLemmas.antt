@@ -106,7 +106,7 @@ with_member-is_container kind key c = refl
 pub no_same : (kind : Kind) (x : ℕ) → is_container kind ≡ true → kind ≡ kinds.Same x → ⊥
 no_same kind x holds e = false≢true (sym (ap is_container e) ∙ holds)
 
-key_eq-swap : (a b : Key) → key_eq a b ≡ key_eq b a
+pub key_eq-swap : (a b : Key) → key_eq a b ≡ key_eq b a
 key_eq-swap (keys.Int a) (keys.Int b) = laws-law.symm (keys.Int a) (keys.Int b)
 key_eq-swap (keys.Int a) (keys.Str b) = refl
 key_eq-swap (keys.Str a) (keys.Int b) = refl

@@ -14,3 +14,8 @@ pub mod NumberTexts
 pub mod LawSteps
 pub mod LawItems
 pub mod LawWritten
+pub mod LawPlaced
+pub mod LawReach
+pub mod LawReached
+pub mod LawSlices
+pub mod LawCount

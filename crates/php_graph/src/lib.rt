@@ -22,7 +22,7 @@ pub use graph::{Graph, block_words};
 pub use item::{BuildFault, Item, Wants};
 pub use key::Key;
 pub use kind::Kind;
-pub use laws::written_graphs;
+pub use laws::{graphs_are_written, written_graphs};
 pub use members::Members;
 pub use numbers::{hash_of, int_of_text, integer_texts};
 pub use props::Props;
