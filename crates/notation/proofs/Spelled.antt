@@ -25,7 +25,7 @@ use Rattle.notation.specs.declared.fault.Fault.{Fault}
 use Rattle.notation.specs.Marks.{◌>>=◌, fail, mark_at, natural_at, number_as, as_truth, sized_at, string_at, integer_at, count_at}
 use Rattle.notation.specs.Notation.{integer_text, string_text, key_text, array_head, object_head, member_texts, kind_text, child_text, text_of, text_from}
 use Rattle.notation.specs.Parts.{members_of}
-use Rattle.notation.specs.Answer.{CanBeWritten, IsReading}
+use Rattle.notation.specs.Answer.{IsReading}
 use Rattle.notation.specs.Place.{Standing, left}
 use Rattle.std.specs.Prelude.{MatchResult}
 use Rattle.notation.specs.declared.fault.ReadFault.{ReadFault}
@@ -38,6 +38,9 @@ use Rattle.notation.proofs.Top.{own_unfold, named_len}
 use Rattle.notation.proofs.Whole.{After}
 use Rattle.notation.proofs.Fields.{ok_is}
 
+-- a builder that is given the items of the graph comes to it
+abbrev pub CanBeWritten : List Kind → Type 0
+CanBeWritten g = drafted nothing_drafted (items_of g) ≡ Some (all_drafted g)
 
 -- ---- items that were taken
 

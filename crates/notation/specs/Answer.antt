@@ -1,7 +1,6 @@
 -- What an answer of the reader says.
-use Rattle.std.specs.Prelude.{◌≡◌, ℕ, ◌+◌, List, length, Option, Some, Result, Ok, Err}
+use Rattle.std.specs.Prelude.{◌≡◌, ℕ, ◌+◌, List, length, Result, Ok, Err}
 use Rattle.php_graph.specs.declared.kind.Kind.{Kind}
-use Rattle.php_graph.specs.Building.{nothing_drafted, all_drafted, drafted, items_of}
 use Rattle.notation.specs.declared.fault.Reason.{Reason}
 use Rattle.notation.specs.declared.fault.Fault.{Fault}
 use Rattle.notation.specs.declared.fault.ReadFault.{ReadFault}
@@ -18,7 +17,3 @@ abbrev pub IsReading : Standing → Standing → Result (List Kind) ReadFault �
 IsReading from to (Ok g) = reading_of (left from) ≡ Ok (g, left to)
 IsReading from to (Err (Bad place reason)) = IsFirstFault from place reason
 IsReading from to (Err Memory) = Unit {0}
-
--- The graph is what a builder has after the items of the graph.
-abbrev pub CanBeWritten : List Kind → Type 0
-CanBeWritten g = drafted nothing_drafted (items_of g) ≡ Some (all_drafted g)

@@ -8,16 +8,18 @@ ghost use Rattle.notation.specs.Notation.{text_of};
 ghost use Rattle.notation.specs.Place.{left};
 ghost use Rattle.notation.specs.Marks.{Gives};
 ghost use Rattle.notation.specs.Reading.{reading_of, value_at};
-ghost use Rattle.notation.specs.Answer.{IsReading, CanBeWritten};
+ghost use Rattle.notation.specs.Answer.{IsReading};
 ghost use Rattle.notation.specs.Outer.{outer_stack};
 
 use crate::cursor::Cursor;
 use crate::fault::{ReadFault, Stop};
 use crate::items::{begun, close, key};
-use php_graph::{Builder, Graph, Wants, integer_texts};
+use php_graph::{Builder, Graph, Wants, graphs_are_written, integer_texts};
 use std::alloc::{AllocError, Global};
 
-/// Reads the value whose text starts at the cursor, and goes on to what follows it. Where no text of a value
+/// Reads the value whose text starts at the cursor, and goes on to what follows it. The notation is that of
+/// PHP's `serialize` and `unserialize`: `R:k;` takes no number, and shares the value that took the number k;
+/// `r:k;` takes a number of its own, and names the object that took the number k. Where no text of a value
 /// starts there, the answer is the first fault from the left, with the place of its byte. Memory is taken only
 /// for bytes that are there. After a fault the cursor stands where it stood.
 pub fn read_value(alloc: Global, from: &mut Cursor) -> Result<Graph, ReadFault>
@@ -27,11 +29,12 @@ pub fn read_value(alloc: Global, from: &mut Cursor) -> Result<Graph, ReadFault>
     ensures found { IfOk result (λ g. IsGraph g × (left from.old ≡ text_of g ++ left from.new)) }
     ensures place { IfOk result (λ g. from.new.place ≡ from.old.place + length (text_of g)) }
     // What is spelled there is read, unless memory runs out.
-    ensures only { (g : List Kind) (rest : List ℕ) → IsGraph g → CanBeWritten g → left from.old ≡ text_of g ++ rest → MatchResult result (λ h. (h ≡ g) × (left from.new ≡ rest)) (λ e. e ≡ ReadFault.Memory) }
+    ensures only { (g : List Kind) (rest : List ℕ) → IsGraph g → left from.old ≡ text_of g ++ rest → MatchResult result (λ h. (h ≡ g) × (left from.new ≡ rest)) (λ e. e ≡ ReadFault.Memory) }
     ensures bytes { from.new.bytes ≡ from.old.bytes }
     ensures fault { OnErr result (from.new ≡ from.old) }
 {
     integer_texts();
+    graphs_are_written();
     let bytes = from.rest();
     match whole(alloc, bytes) {
         Ok((graph, rest)) => {

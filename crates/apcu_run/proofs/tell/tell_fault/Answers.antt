@@ -19,4 +19,4 @@ unfolding script_message
 returns g c =
     then_told (codes "apcu_run: script: byte ") (decimal c.args.place ++ reason_text c.args.reason) _ _ _ _ _ _ c.if-not-tell_text.ensures
     (then_told (decimal c.args.place) (reason_text c.args.reason) _ _ _ _ _ _ (told_as true c.as_bytes.result.now (decimal c.args.place) _ _ _ _ (c.as_bytes.ensures.value ∙ c.format.ensures.text) c.if-not-tell_text-2.ensures)
-    (told_as c.tell_text-all.result c.ending_of.result.now (reason_text c.args.reason) _ _ _ _ c.ending_of.ensures c.tell_text-all.ensures))
+    (record { all = c.tell_text-all.result; told = told_as c.tell_text-all.result c.ending_of.result.now (reason_text c.args.reason) _ _ _ _ c.ending_of.ensures c.tell_text-all.ensures }))

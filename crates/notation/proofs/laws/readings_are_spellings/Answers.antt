@@ -6,4 +6,4 @@ pub returns-clause-takes : goal.returns-clause-takes
 returns-clause-takes c = reading_takes c.integer_texts.ensures.written
 
 pub returns-clause-again : goal.returns-clause-again
-returns-clause-again c = spelled_read c.integer_texts.ensures.read
+returns-clause-again c = λ g rest graph. spelled_read c.integer_texts.ensures.read g rest graph (c.graphs_are_written.ensures g graph)

@@ -45,12 +45,12 @@ returns-in-Ok-clause-place c =
     (advance from.bytes from.place c.leave.new.self.place (text_of c.in-Ok.graph) c.in-Ok.rest.now c.rest-bytes.ensures.within (sym c.rest-bytes.ensures.rest ∙ t) c.leave.ensures.place).place
 
 pub returns-in-Ok-clause-only : goal.returns-in-Ok-clause-only
-returns-in-Ok-clause-only c = λ g rest graph can text. answered c.integer_texts.ensures.read g c.args.from.now c.leave.new.self rest (Ok c.in-Ok.graph) graph can text (returns-in-Ok-clause-read c)
+returns-in-Ok-clause-only c = λ g rest graph text. answered c.integer_texts.ensures.read g c.args.from.now c.leave.new.self rest (Ok c.in-Ok.graph) graph (c.graphs_are_written.ensures g graph) text (returns-in-Ok-clause-read c)
 
 pub returns-in-Err-Fault-clause-only : goal.returns-in-Err-Fault-clause-only
-returns-in-Err-Fault-clause-only c = λ g rest graph can text.
+returns-in-Err-Fault-clause-only c = λ g rest graph text.
     let fails : Fails (stops.Fault c.in-Err-Fault.fault) (reading_of c.rest-bytes.result.now) = subst (λ (s : Stop). Fails s (reading_of c.rest-bytes.result.now)) c.in-Err-Fault.field-0-is c.in-Err-Fault.ensures.read in
-    let clash : was_read (g, rest) ≡ Err c.in-Err-Fault.fault = sym (spelled_read c.integer_texts.ensures.read g rest graph can) ∙ ap reading_of (sym text ∙ sym c.rest-bytes.ensures.rest) ∙ fails in
+    let clash : was_read (g, rest) ≡ Err c.in-Err-Fault.fault = sym (spelled_read c.integer_texts.ensures.read g rest graph (c.graphs_are_written.ensures g graph)) ∙ ap reading_of (sym text ∙ sym c.rest-bytes.ensures.rest) ∙ fails in
     absurd cc
 
 pub returns-in-Err-Fault-clause-read : goal.returns-in-Err-Fault-clause-read
