@@ -58,7 +58,7 @@ space_takes [] rest e = absurd cc
 space_takes (b ∷ bytes) rest e =
     elim (chosen (b == 32) (Ok bytes) (cond (b == 10) (fail Argument (b ∷ bytes)) (fail Separator (b ∷ bytes))) (Ok rest) e) [
       | inl p ↦ ap₂ (λ (x : ℕ) (l : List ℕ). x ∷ l) (eqb-true b 32 p.0) (ok_is bytes rest p.1)
-      | inr p ↦ elim (chosen (b == 10) (fail Argument (b ∷ bytes)) (fail Separator (b ∷ bytes)) (Ok rest) p.1) [ | inl q ↦ absurd (let h = q.1 in cc) | inr q ↦ absurd (let h = q.1 in cc) ]
+      | inr p ↦ elim (chosen (b == 10) (fail Argument (b ∷ bytes)) (fail Separator (b ∷ bytes)) (Ok rest) p.1) [ inl q ↦ absurd (let h = q.1 in cc) | inr q ↦ absurd (let h = q.1 in cc) ]
     ]
 
 one_more_takes : {X : Type 0} (reason : Reason) (bytes rest : List ℕ) → one_more_at reason bytes ≡ Ok rest → X
@@ -71,7 +71,7 @@ end_takes reason [] rest e = absurd cc
 end_takes reason (b ∷ bytes) rest e =
     elim (chosen (b == 10) (Ok bytes) (cond (b == 32) (one_more_at reason bytes) (fail Separator (b ∷ bytes))) (Ok rest) e) [
       | inl p ↦ ap₂ (λ (x : ℕ) (l : List ℕ). x ∷ l) (eqb-true b 10 p.0) (ok_is bytes rest p.1)
-      | inr p ↦ elim (chosen (b == 32) (one_more_at reason bytes) (fail Separator (b ∷ bytes)) (Ok rest) p.1) [ | inl q ↦ one_more_takes reason bytes rest q.1 | inr q ↦ absurd (let h = q.1 in cc) ]
+      | inr p ↦ elim (chosen (b == 32) (one_more_at reason bytes) (fail Separator (b ∷ bytes)) (Ok rest) p.1) [ inl q ↦ one_more_takes reason bytes rest q.1 | inr q ↦ absurd (let h = q.1 in cc) ]
     ]
 
 -- ---- values, of which it is taken
@@ -129,7 +129,7 @@ key_takes : ValuesTake → (bytes k rest : List ℕ) → AreBytes k → key_at b
 unfolding key_at
 key_takes values [] k rest fits e = absurd cc
 key_takes values (b ∷ bytes) k rest fits e =
-    elim (chosen (b == 97) (fail Unbuilt (b ∷ bytes)) (string_at (b ∷ bytes)) (Ok (k, rest)) e) [ | inl p ↦ absurd (let h = p.1 in cc) | inr p ↦ string_takes values (b ∷ bytes) k rest fits p.1 ]
+    elim (chosen (b == 97) (fail Unbuilt (b ∷ bytes)) (string_at (b ∷ bytes)) (Ok (k, rest)) e) [ inl p ↦ absurd (let h = p.1 in cc) | inr p ↦ string_takes values (b ∷ bytes) k rest fits p.1 ]
 
 -- ---- calls
 
@@ -165,7 +165,7 @@ store_takes values bytes call rest fits e =
     (record {
       text = codes " " ++ (pair_text (b.0.0, d.0.0) ++ ends_line);
       taken = store_parts bytes a.0 b.0.1 c.0 d.0.1 f.0 (string_text b.0.0) (text_of d.0.0) (space_takes bytes a.0 a.1) (key_takes values a.0 b.0.0 b.0.1 kept.0.0 b.1) (space_takes b.0.1 c.0 c.1)
-        (values c.0 d.0.0 d.0.1 kept.0.1 d.1) (end_takes Unbuilt d.0.1 f.0 f.1);
+          (values c.0 d.0.0 d.0.1 kept.0.1 d.1) (end_takes Unbuilt d.0.1 f.0 f.1);
       spelled = refl;
     })
 

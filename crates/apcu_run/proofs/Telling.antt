@@ -26,9 +26,12 @@ then_told a b before mid after faults_before faults_mid faults_after whole rest 
     by_all true t = record { all = true; told = (t.0 ∙ (ap (λ (h : Option (List ℕ)). append_known h b) whole.0 ∙ append_known-append before a b), t.1 ∙ whole.1) }
     by_all false t = record {
       all = false;
-      told = (length a + t.0, omega (arith, t.1, length-append a b),
+      told = (
+        length a + t.0,
+        omega (arith, t.1, length-append a b),
         t.2 ∙ (ap (λ (h : Option (List ℕ)). append_known h (take t.0 b)) whole.0 ∙ (append_known-append before a (take t.0 b) ∙ ap (append_known before) (sym (take-append-add a b t.0)))),
-        subst (λ (n : ℕ). Rose n faults_after) whole.1 t.3);
+        subst (λ (n : ℕ). Rose n faults_after) whole.1 t.3,
+      );
     }
 
 pub told_as : (all : Bool) (a b : List ℕ) (before after : Option (List ℕ)) (faults_before faults_after : ℕ) → a ≡ b → WasTold all a before after faults_before faults_after → WasTold all b before after faults_before faults_after
