@@ -1,5 +1,7 @@
-pub mod Text
+pub mod ByteStrings
+pub mod Numbers
 pub mod Graph
 pub mod Size
 pub mod Building
-pub mod Hash
+pub mod Kept
+pub mod Drafted

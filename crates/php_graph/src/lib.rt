@@ -1,15 +1,25 @@
-//! PHP values as graphs: the values themselves, their keys and their sizes in the shared segment.
+//! Value graphs as PHP's serialize notation numbers them, their keys, and PHP's string hash.
 #![tactic(auto)]
 
 mod builder;
 mod bytes;
+mod child;
+mod container;
 mod graph;
+mod item;
+mod key;
 mod kind;
+mod members;
+mod numbers;
+mod props;
 
-pub use builder::{BuildFault, Builder, Item, Wants};
+pub use builder::Builder;
 pub use bytes::Bytes;
-pub use graph::{Graph, block_words};
+pub use child::Child;
+pub use graph::Graph;
+pub use item::{BuildFault, Item, Wants};
+pub use key::Key;
 pub use kind::Kind;
-
-#[cfg(test)]
-mod tests;
+pub use members::Members;
+pub use numbers::{hash_of, int_of_text, integer_texts};
+pub use props::Props;

@@ -1,0 +1,59 @@
+//! What a builder is given, what it wants next, and what it refuses.
+
+ghost use Rattle.std.specs.Prelude.{◌≡◌};
+
+use crate::bytes::Bytes;
+use crate::key::Key;
+use std::alloc::{AllocError, AllocFailed};
+use thiserror::Error;
+
+/// A step in writing a value: a value, the beginning or the end of a container, or a key.
+#[derive(Debug, Drop)]
+pub enum Item {
+    Null,
+    Bool(bool),
+    Int(i64),
+    Str(Bytes),
+    OpenArray,
+    /// An object begins. Its class is given.
+    OpenObject(Bytes),
+    /// The key of an array's next member, or as a `Key::Str` the name of an object's next property.
+    Key(Key),
+    /// The innermost open container ends.
+    Close,
+    /// The notation's `r:k;`, a value of its own that names the object at place k.
+    Same(u32),
+    /// The notation's `R:k;`, which shares the value at place k.
+    Back(u32),
+}
+
+/// What comes next.
+#[derive(Clone, Copy, Debug, PartialEq, Eq)]
+pub enum Wants {
+    Value,
+    /// A key, or the end of the array.
+    ArrayKey,
+    /// A name, or the end of the object.
+    Name,
+    /// Nothing: the graph is whole.
+    Done,
+}
+
+/// Why an item was refused.
+#[derive(Clone, Copy, Debug, PartialEq, Eq, Error)]
+pub enum BuildFault {
+    #[error("out of memory")]
+    Memory,
+    #[error("a value inside more than 511 containers")]
+    TooDeep,
+    #[error("more than 16777216 values")]
+    TooManyPlaces,
+    #[error("a number that names no such place")]
+    BadNumber,
+    #[error("a key that is there already")]
+    RepeatedKey,
+    #[error("a class with no name, or with a byte that no class has")]
+    BadClass,
+    #[error("a string key that is an integer")]
+    IntegerText,
+}
