@@ -3,6 +3,13 @@
 
 mod extents;
 mod gaps;
+mod segment;
+mod vec_words;
 
 pub use extents::Extent;
 pub use gaps::first_fit;
+pub use segment::{Segment, WordsIn};
+pub use vec_words::VecWords;
+
+#[cfg(test)]
+mod tests;
