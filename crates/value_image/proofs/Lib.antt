@@ -1,2 +1,4 @@
 pub mod Runs
 pub mod Packing
+pub mod Items
+pub mod Lengths

@@ -2,7 +2,7 @@
 use Rattle.std.proofs.Common.{◌≡◌, ◌≢◌, ◌⊎◌, ℕ, zero, suc, ◌+◌, ◌-◌, ◌/◌, ◌<◌, ◌≤◌, Bool, true, List, [], ◌∷◌, ◌++◌, length, slice_set, slice_index, take, drop, get_or, refl, ap, ap₂, sym, ◌∙◌, subst, arith, add_assoc, add-zero, add-one, inl, inr, length-append}
 use Rattle.std.proofs.lemmas.Bool.{cases_lt}
 use Rattle.std.proofs.lemmas.List.{length-set, get_or-set_other, take-append-drop, take_more_set, drop-set-lt, drop-drop, append_assoc, take_at, drop_at, length-take, length-take-le, length-drop, get_or-drop, get_or-take, take-take, drop-take}
-use Rattle.seg_words.specs.Windows.{is_named}
+use Rattle.seg_words.specs.Windows.{Aside, is_named}
 use Rattle.seg_words.specs.Blocks.{IsApart, MayStore, IsTold, image_place, image_end}
 use Rattle.value_image.specs.Rows.{written, MayWrite, StandsAt, IsToldAt}
 
@@ -135,3 +135,14 @@ pub may_store-next : (row windows : List ℕ) (at n : ℕ) (run : List ℕ) (i :
 may_store-next row windows at n run i h e lt =
     let more : MayWrite (written row at run) windows (at + i) 1 = may_write-after row windows at n run (at + i) 1 h (omega arith) (omega arith) in
     (omega (arith, more.inside), more.apart (at + i) (omega arith) (omega arith))
+
+-- The same from one call to the next: a run was written, nothing else has changed.
+pub may_write-along : (row : List ℕ) (old : Aside) (at n : ℕ) (run row' : List ℕ) (new : Aside) (b m : ℕ) → MayWrite row old.windows at n
+    → row' ≡ written row at run → new ≡ old → b ≡ at + length run → length run + m ≤ n → MayWrite row' new.windows b m
+may_write-along row old at n run row' new b m h ew ea eb le =
+    rw (ew, ea) (may_write-after row old.windows at n run b m h eb le)
+
+-- one run written behind another
+pub written-along : (row : List ℕ) (at : ℕ) (xs ys row' row'' : List ℕ) (b : ℕ) → row' ≡ written row at xs → row'' ≡ written row' b ys → b ≡ at + length xs → row'' ≡ written row at (xs ++ ys)
+written-along row at xs ys row' row'' b e f eb =
+    f ∙ (ap (λ (r : List ℕ). written r b ys) e ∙ written-then row at xs ys b eb)

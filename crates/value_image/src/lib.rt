@@ -2,6 +2,9 @@
 #![tactic(auto)]
 
 mod bytes;
-mod image;
+mod members;
+mod read;
+mod write;
 
-pub use image::{persist, unpersist};
+pub use read::unpersist;
+pub use write::persist;

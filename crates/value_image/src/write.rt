@@ -1,0 +1,64 @@
+//! The image of a graph.
+
+ghost use Rattle.std.specs.Prelude.{◌≡◌, ◌+◌, ◌<◌, ◌^◌, length};
+ghost use Rattle.php_graph.specs.Size.{cells_of, image_length, offset_of};
+ghost use Rattle.value_image.specs.Rows.{written, MayWrite};
+ghost use Rattle.value_image.specs.Places.{NamesPlaces};
+ghost use Rattle.value_image.specs.Image.{IsImageOf, image_of, place_words};
+
+use crate::members::{INT, put_members, put_one, put_properties, put_string, put_two};
+use php_graph::{Graph, Kind};
+use seg_words::Segment;
+
+/// The tag of `false`.
+const BOOL: u64 = 1;
+/// The tag of an array without members.
+const ARRAY: u64 = 4;
+/// The tag of an object without properties.
+const OBJECT: u64 = 5;
+/// The tag of a place that names an object.
+const SAME: u64 = 6;
+
+/// Writes what stands at a place of the graph, and gives the place behind it.
+fn put_place<S: Segment>(seg: &mut S, at: u32, g: &Graph, kind: &Kind) -> u32
+    requires places { NamesPlaces (length g.now) kind.now }
+    requires short { image_length g.now < 2 ^ 32 }
+    requires apart { MayWrite (S.words seg.old) (S.aside seg.old).windows at (cells_of kind.now) }
+    ensures words { S.words seg.new
+        ≡ written (S.words seg.old) at (place_words g.now kind.now) }
+    ensures end { result ≡ at + cells_of kind.now }
+    ensures aside { S.aside seg.new ≡ S.aside seg.old }
+    ensures rest { S.rest seg.new ≡ S.rest seg.old }
+{
+    match kind {
+        Kind::Null => put_one(seg, at, 0),
+        Kind::Bool(truth) => put_one(seg, at, BOOL + 8 * u64::from(*truth)),
+        Kind::Int(number) => put_two(seg, at, INT, number.cast_unsigned()),
+        Kind::Str(bytes) => put_string(seg, at, bytes),
+        Kind::Array(members) => {
+            let next = put_one(seg, at, ARRAY + 8 * u64::from(members.len()));
+            put_members(seg, next, g, members)
+        }
+        Kind::Object(class, props) => {
+            let next = put_one(seg, at, OBJECT + 8 * u64::from(props.len()));
+            let next = put_string(seg, next, class);
+            put_properties(seg, next, g, props)
+        }
+        Kind::Same(place) => put_two(seg, at, SAME, g.at(*place)),
+    }
+}
+
+/// Writes the image of the graph from place `at` on. It takes no memory.
+pub fn persist<S: Segment>(seg: &mut S, at: u32, g: &Graph)
+    requires { MayWrite (S.words seg.old) (S.aside seg.old).windows at (image_length g.now) }
+    ensures words { S.words seg.new ≡ written (S.words seg.old) at (image_of g.now) }
+    ensures image { IsImageOf (S.words seg.new) at (image_length g.now) g.now }
+    ensures aside { S.aside seg.new ≡ S.aside seg.old }
+    ensures rest { S.rest seg.new ≡ S.rest seg.old }
+{
+    g.is_sealed();
+    let mut next = at;
+    for i in 0..g.places() {
+        next = put_place(seg, next, g, g.kind(i + 1));
+    }
+}
