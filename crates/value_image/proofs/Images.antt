@@ -11,7 +11,7 @@ use Rattle.php_graph.specs.Size.{cells_of, image_length, offset_of}
 use Rattle.value_image.specs.Rows.{written, StandsAt}
 use Rattle.value_image.specs.Image.{kind_words, place_words, image_of, IsImageOf}
 use Rattle.value_image.proofs.Runs.{stands-front, stands-back, stands-written}
-use Rattle.value_image.proofs.Items.{length-items, flat_map-more}
+use Rattle.value_image.proofs.ItemRuns.{length-items, flat_map-more}
 use Rattle.value_image.proofs.Lengths.{length-kind_words}
 
 pub length-image_of : (g : List Kind) → length (image_of g) ≡ image_length g

@@ -10,7 +10,7 @@ use Rattle.php_graph.specs.Size.{words_in, key_cells, cells_of}
 use Rattle.value_image.specs.Packed.{words_of}
 use Rattle.value_image.specs.Image.{string_words, key_words, member_words, property_words, kind_words}
 use Rattle.value_image.proofs.Packing.{length-words_of}
-use Rattle.value_image.proofs.Items.{length-items}
+use Rattle.value_image.proofs.ItemRuns.{length-items}
 
 pub length-string_words : (bytes : List ℕ) → length (string_words bytes) ≡ 1 + words_in (length bytes)
 length-string_words bytes = omega (arith, length-words_of bytes)

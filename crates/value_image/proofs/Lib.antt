@@ -1,6 +1,7 @@
 pub mod Runs
 pub mod Packing
-pub mod Items
+pub mod ItemRuns
 pub mod Lengths
 pub mod Sealed
 pub mod Images
+pub mod Parts

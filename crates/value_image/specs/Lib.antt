@@ -2,3 +2,4 @@ pub mod Packed
 pub mod Rows
 pub mod Places
 pub mod Image
+pub mod Reading

@@ -2,6 +2,7 @@
 #![tactic(auto)]
 
 mod bytes;
+mod items;
 mod members;
 mod read;
 mod write;

@@ -11,12 +11,14 @@ use crate::members::{INT, put_members, put_one, put_properties, put_string, put_
 use php_graph::{Bytes, Graph, Kind, Members, Props};
 use seg_words::Segment;
 
+/// The tag of null.
+pub(crate) const NULL: u64 = 0;
 /// The tag of `false`.
-const BOOL: u64 = 1;
+pub(crate) const BOOL: u64 = 1;
 /// The tag of an array without members.
-const ARRAY: u64 = 4;
+pub(crate) const ARRAY: u64 = 4;
 /// The tag of an object without properties.
-const OBJECT: u64 = 5;
+pub(crate) const OBJECT: u64 = 5;
 /// The tag of a place that names an object.
 const SAME: u64 = 6;
 
@@ -73,7 +75,7 @@ fn put_place<S: Segment>(seg: &mut S, at: u32, g: &Graph, kind: &Kind) -> u32
     ensures rest { S.rest seg.new ≡ S.rest seg.old }
 {
     match kind {
-        Kind::Null => put_one(seg, at, 0),
+        Kind::Null => put_one(seg, at, NULL),
         Kind::Bool(truth) => put_one(seg, at, BOOL + 8 * u64::from(*truth)),
         Kind::Int(number) => put_two(seg, at, INT, number.cast_unsigned()),
         Kind::Str(bytes) => put_string(seg, at, bytes),

@@ -1,7 +1,7 @@
 use Rattle.std.proofs.Common.{ℕ, ◌+◌, ◌∙◌, arith, take, sum_by}
 use Rattle.php_graph.specs.Size.{key_cells, offset_of}
 use Rattle.value_image.specs.Image.{member_words}
-use Rattle.value_image.proofs.Items.{item_may_write, item_written, cells-more}
+use Rattle.value_image.proofs.ItemRuns.{item_may_write, item_written, cells-more}
 use Rattle.value_image.proofs.Lengths.{length-member_words}
 use Rattle.value_image.proofs.members.put_members.Goals as goal
 
