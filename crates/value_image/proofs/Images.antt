@@ -10,7 +10,7 @@ use Rattle.php_graph.specs.Graph.{IsGraph, kind_at}
 use Rattle.php_graph.specs.Size.{cells_of, image_length, offset_of}
 use Rattle.value_image.specs.Rows.{written, StandsAt}
 use Rattle.value_image.specs.Image.{kind_words, place_words, image_of, IsImageOf}
-use Rattle.value_image.proofs.Runs.{stands-front, stands-back, stands-written}
+use Rattle.value_image.proofs.Runs.{stands-front, stands-back, stands-written, stands-inside}
 use Rattle.value_image.proofs.ItemRuns.{length-items, flat_map-more}
 use Rattle.value_image.proofs.Lengths.{length-kind_words}
 
@@ -72,3 +72,10 @@ pub image-written : (row : List ℕ) (at : ℕ) (g : List Kind) → IsGraph g �
 image-written row at g graph room =
     let len = length-image_of g in
     stands-image (written row at (image_of g)) at (image_length g) g graph refl (stands-written row at (image_of g) (omega arith))
+
+-- an image lies inside its row
+pub image-inside : (row : List ℕ) (at len : ℕ) (g : List Kind) → IsImageOf row at len g → 0 < len → at + len ≤ length row
+image-inside row at len g h some =
+    let long = length-image_of g in
+    let inside = stands-inside row at (image_of g) (image-stands row at len g h) (omega (arith, long, h.length_is)) in
+    omega (arith, long, h.length_is)

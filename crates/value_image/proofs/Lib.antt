@@ -5,3 +5,6 @@ pub mod Lengths
 pub mod Sealed
 pub mod Images
 pub mod Parts
+pub mod Mixed
+pub mod Numbered
+pub mod Walk

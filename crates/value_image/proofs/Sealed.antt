@@ -99,7 +99,7 @@ below-at n (x ∷ xs) h zero m at =
     subst (λ y. IsPlaceOf n (number_of y.1)) e (h.0.0, omega (arith, h.0.1))
 below-at n (x ∷ xs) h (suc i) m at = below-at n xs h.1 i m at
 
-get-within : {A : Type 0} (xs : List A) (i : ℕ) (x : A) → slice_get xs i ≡ Some x → i < length xs
+pub get-within : {A : Type 0} (xs : List A) (i : ℕ) (x : A) → slice_get xs i ≡ Some x → i < length xs
 get-within [] i x h = cc
 get-within (y ∷ ys) zero x h = omega arith
 get-within (y ∷ ys) (suc i) x h = omega (arith, get-within ys i x h)

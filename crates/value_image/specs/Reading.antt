@@ -1,6 +1,6 @@
 -- What is read of an image before its places have numbers: where a graph has a place's number, there is an
 -- offset.
-use Rattle.std.specs.Prelude.{◌≡◌, ℕ, ◌+◌, ◌<◌, ◌≤◌, ◌^◌, List, ◌++◌, length, map, slice_index, FitsSigned}
+use Rattle.std.specs.Prelude.{◌≡◌, ℕ, ◌+◌, ◌<◌, ◌≤◌, ◌^◌, List, ◌++◌, length, map, slice_index, slice_get, Some, FitsSigned}
 use Rattle.std.specs.List.{flat_map, AllByRecursion}
 use Rattle.std.specs.Int.{w64}
 use Rattle.php_graph.specs.declared.key.Key.{Key}
@@ -9,8 +9,9 @@ use Rattle.php_graph.specs.declared.child.Child.TheVariants.{Own, Back}
 use Rattle.php_graph.specs.declared.kind.Kind.{Kind}
 use Rattle.php_graph.specs.declared.kind.Kind.TheVariants as kinds
 use Rattle.php_graph.specs.ByteStrings.{AreBytes}
-use Rattle.php_graph.specs.Graph.{FitsKey}
-use Rattle.php_graph.specs.Size.{offset_of}
+use Rattle.php_graph.specs.Graph.{FitsKey, IsGraph}
+use Rattle.php_graph.specs.Size.{offset_of, image_length}
+use Rattle.php_graph.specs.Kept.{offsets_from}
 use Rattle.value_image.specs.Rows.{IsToldAt}
 use Rattle.value_image.specs.Places.{number_of}
 use Rattle.value_image.specs.Image.{string_words, key_words, member_words, property_words, kind_words}
@@ -99,3 +100,22 @@ pub record IsObjectAt (row windows : List ℕ) (at count : ℕ) (class : List �
   pub fits_class : AreBytes class
   pub fits : AllByRecursion FitsProperty ps
   pub count_is : count ≡ length ps
+
+-- ---- whole images
+
+-- each number in it is below n
+abbrev pub AllBelow : {A : Type 0} → ℕ → List (A × Child) → Type 0
+AllBelow {A = A} n ms = (i : ℕ) (m : A × Child) → slice_get ms i ≡ Some m → number_of m.1 < n
+
+abbrev pub IsBelow : ℕ → Kind → Type 0
+IsBelow n (kinds.Array ms) = AllBelow n ms
+IsBelow n (kinds.Object class ps) = AllBelow n ps
+IsBelow n (kinds.Same x) = x < n
+IsBelow n _ = Unit {0}
+
+-- what was read is the graph with offsets in place of numbers, and the offsets of its places
+pub record IsReadOf (places : List Kind) (offsets : List ℕ) (len : ℕ) (g : List Kind) : Type 0 where
+  pub graph : IsGraph g
+  pub places_are : places ≡ map (renumbered_kind (offset_of g)) g
+  pub offsets_are : offsets ≡ offsets_from 0 g
+  pub len_is : len ≡ image_length g

@@ -4,6 +4,7 @@
 mod bytes;
 mod items;
 mod members;
+mod numbers;
 mod read;
 mod write;
 

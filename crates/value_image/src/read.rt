@@ -6,10 +6,11 @@ ghost use Rattle.php_graph.specs.declared.kind.Kind.{Kind};
 ghost use Rattle.php_graph.specs.Size.{words_in, cells_of};
 ghost use Rattle.seg_words.specs.Blocks.{IsTold};
 ghost use Rattle.value_image.specs.Image.{IsImageOf};
-ghost use Rattle.value_image.specs.Reading.{IsKindAt, IsObjectAt};
+ghost use Rattle.value_image.specs.Reading.{IsKindAt, IsObjectAt, IsReadOf};
 
 use crate::items::{read_members, read_properties, read_string, read_text};
 use crate::members::{INT, STR};
+use crate::numbers::number;
 use crate::write::{ARRAY, BOOL, NULL, OBJECT};
 use php_graph::{Bytes, Graph, Kind, Props};
 use seg_words::WordsIn;
@@ -78,6 +79,34 @@ fn read_place<W: WordsIn>(
     }
 }
 
+/// The places of the image that the `len` words from place `at` on are, with offsets in place of
+/// numbers, and the offset of each.
+fn read_places<W: WordsIn>(
+    alloc: Global,
+    from: &mut W,
+    at: u32,
+    len: u32,
+) -> Result<(Vec<Kind>, Vec<u64>), AllocError>
+    requires image { (g : List Kind) × IsImageOf (W.words from.old) at len g }
+    requires told { (i : ℕ) → at ≤ i → i < at + len → IsTold (W.aside from.old).windows i }
+    ensures places { (g : List Kind) → IsImageOf (W.words from.old) at len g
+        → IfOk result (λ r. IsReadOf r.0.items r.1.items len g) }
+    ensures words { W.words from.new ≡ W.words from.old }
+    ensures aside { W.aside from.new ≡ W.aside from.old }
+    ensures rest { W.rest from.new ≡ W.rest from.old }
+{
+    let mut places = Vec::new(alloc);
+    let mut offsets = Vec::new(alloc);
+    let mut offset = 0u32;
+    while offset < len {
+        let (kind, next) = read_place(alloc, from, at + offset)?;
+        places.push(kind)?;
+        offsets.push(u64::from(offset))?;
+        offset = next - at;
+    }
+    Ok((places, offsets))
+}
+
 /// The graph whose image the `len` words from place `at` on are. It fails only for want of memory.
 pub fn unpersist<W: WordsIn>(
     alloc: Global,
@@ -93,5 +122,7 @@ pub fn unpersist<W: WordsIn>(
     ensures aside { W.aside from.new ≡ W.aside from.old }
     ensures rest { W.rest from.new ≡ W.rest from.old }
 {
-    Err(AllocError)
+    let (mut places, offsets) = read_places(alloc, from, at, len)?;
+    number(alloc, &mut places, offsets.as_slice(), len)?;
+    Ok(Graph::from_places(places, offsets, u64::from(len)))
 }
