@@ -1,5 +1,5 @@
 -- Writing a graph item by item.
-use Rattle.std.specs.Prelude.{ℕ, zero, suc, ◌+◌, ◌-◌, Bool, true, false, ◌&&◌, ◌||◌, not, nat_le, if◌then◌else◌, List, [], ◌∷◌, ◌++◌, length, map, drop, slice_set, Option, Some, None, FitsSigned}
+use Rattle.std.specs.Prelude.{◌≡◌, ◌⊎◌, Result, Ok, Err, ℕ, zero, suc, ◌+◌, ◌-◌, Bool, true, false, ◌&&◌, ◌||◌, not, nat_le, if◌then◌else◌, List, [], ◌∷◌, ◌++◌, length, map, drop, slice_set, Option, Some, None, FitsSigned}
 use Rattle.std.specs.Option.{is_none}
 use Rattle.std.specs.Int.{w64}
 use Rattle.php_graph.specs.ByteStrings.{AreBytes}
@@ -14,7 +14,7 @@ use Rattle.php_graph.specs.declared.item.Item.TheVariants as items
 use Rattle.php_graph.specs.declared.item.Wants.{Wants}
 use Rattle.php_graph.specs.declared.item.Wants.TheVariants.{Value, ArrayKey, Name, Done}
 use Rattle.php_graph.specs.declared.item.BuildFault.{BuildFault}
-use Rattle.php_graph.specs.declared.item.BuildFault.TheVariants.{TooDeep, TooManyPlaces, BadNumber, RepeatedKey, BadClass, IntegerText}
+use Rattle.php_graph.specs.declared.item.BuildFault.TheVariants.{Memory, TooDeep, TooManyPlaces, BadNumber, RepeatedKey, BadClass, IntegerText}
 use Rattle.php_graph.specs.Graph.{kind_at, is_array, is_object, is_array_at, is_object_at, keys_of, has_key, is_array_key, is_class, FitsKey, values_in, levels, most_values}
 
 -- A graph that is being written: its places so far, where a container that is open has the members that
@@ -80,13 +80,17 @@ FitsItem _ = Unit {0}
 
 -- ---- what is refused
 
-abbrev pub keys_among : Option Kind → List Key
-keys_among None = []
-keys_among (Some kind) = keys_of kind
+-- A key of this container: an array takes no integer's decimal, and neither takes a key again.
+abbrev pub fault_in : Kind → Key → Option BuildFault
+fault_in kind key = if is_array kind && not (is_array_key key) then Some IntegerText else if has_key (keys_of kind) key then Some RepeatedKey else None
 
--- A key of the container at place p: an array takes no integer's decimal, and neither takes a key again.
+abbrev pub fault_among : Option Kind → Key → Option BuildFault
+fault_among None key = None
+fault_among (Some kind) key = fault_in kind key
+
+-- a key of the container at place p
 abbrev pub key_fault : List Kind → ℕ → Key → Option BuildFault
-key_fault g p key = if is_array_at g p && not (is_array_key key) then Some IntegerText else if has_key (keys_among (kind_at g p)) key then Some RepeatedKey else None
+key_fault g p key = fault_among (kind_at g p) key
 
 -- a key of the innermost container
 abbrev pub innermost_fault : List Kind → List ℕ → Key → Option BuildFault
@@ -116,6 +120,11 @@ abbrev pub fault_of : Draft → Item → Option BuildFault
 fault_of d (items.Key key) = innermost_fault d.places d.containers key
 fault_of d items.Close = None
 fault_of d item = value_fault d item
+
+-- What a step answers where this is wrong with it: that very fault, or where nothing is, Ok, unless memory runs out.
+abbrev pub IsAnswer : Option BuildFault → Result (Unit {0}) BuildFault → Type 0
+IsAnswer fault (Ok done) = fault ≡ None
+IsAnswer fault (Err answered) = ((answered ≡ Memory) × (fault ≡ None)) ⊎ (fault ≡ Some answered)
 
 -- ---- what an item does
 

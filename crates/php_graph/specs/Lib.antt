@@ -4,4 +4,5 @@ pub mod Graph
 pub mod Size
 pub mod Building
 pub mod Kept
+pub mod Keys
 pub mod Drafted

@@ -1,11 +1,12 @@
 -- The decimal text of an integer, and PHP's string hash.
 use Rattle.std.specs.Prelude.{ℕ, ◌+◌, ◌-◌, ◌*◌, ◌%◌, ◌^◌, Bool, true, false, ◌==◌, ◌&&◌, not, nat_lt, nat_le, if◌then◌else◌, List, [], ◌∷◌, length, Option, Some, None, fold, bit_or, ℤ, pos, negsuc}
-use Rattle.std.specs.Str.{all_ascii_digits}
+use Rattle.std.specs.Char.{is_ascii_digit}
+use Rattle.std.specs.List.{list_all}
 
 -- Decimal digits, at least one, and no zero before others.
 abbrev pub is_canonical : List ℕ → Bool
 is_canonical [] = false
-is_canonical (d ∷ ds) = all_ascii_digits (d ∷ ds) && (if d == 48 then length ds == 0 else true)
+is_canonical (d ∷ ds) = list_all is_ascii_digit (d ∷ ds) && (if d == 48 then length ds == 0 else true)
 
 -- the number that digits write behind those of n
 abbrev pub digits_after : ℕ → List ℕ → ℕ

@@ -1,19 +1,33 @@
 //! Writing a graph item by item.
 
-ghost use Rattle.std.specs.Prelude.{◌≡◌, ◌⊎◌, Some, None, IsTrue, OnOk, OnErr, IfErr, IsErrOf};
+ghost use Rattle.std.specs.Prelude.{◌≡◌, ◌⊎◌, [], true, Some, None, IsTrue, OnOk, OnErr, IfErr, IsErrOf, MatchResult};
 ghost use Rattle.php_graph.specs.declared.item.BuildFault.{BuildFault};
 ghost use Rattle.php_graph.specs.declared.item.BuildFault.TheVariants.{Memory};
-ghost use Rattle.php_graph.specs.declared.item.Wants.TheVariants.{Done};
-ghost use Rattle.php_graph.specs.Building.{nothing_drafted, wants_of, item_fits, fault_of, pushed};
-ghost use Rattle.php_graph.specs.Graph.{IsGraph};
+ghost use Rattle.php_graph.specs.declared.item.Item.TheVariants as items;
+ghost use Rattle.php_graph.specs.declared.item.Wants.TheVariants.{Value, ArrayKey, Name, Done};
+ghost use Rattle.php_graph.specs.Building.{nothing_drafted, wants_of, item_fits, is_name, fault_of, pushed, IsAnswer, room_fault, value_fault, with_value, with_back};
+ghost use Rattle.php_graph.specs.declared.kind.Kind.TheVariants as kinds;
+ghost use Rattle.php_graph.specs.Graph.{IsGraph, is_object_at};
+ghost use Rattle.php_graph.specs.Drafted.{IsFresh};
 
+use crate::bytes::Bytes;
+use crate::child::Child;
 use crate::container::Container;
 use crate::graph::Graph;
 use crate::item::{BuildFault, Item, Wants};
 use crate::key::Key;
 use crate::kind::Kind;
+use crate::members::Members;
+use crate::numbers::is_class;
+use crate::props::Props;
+use crate::steps::{attach, note_last, open_container, push_place, put};
 use std::alloc::Global;
 use std::marker::Model;
+
+/// How many containers may lie in one another.
+const LEVELS: usize = 512;
+/// How many values a graph may have.
+const MOST_VALUES: u32 = 16_777_216;
 
 /// A graph that is being written, item by item, in the order of the notation.
 #[derive(Debug, Drop)]
@@ -66,9 +80,142 @@ impl Builder {
         if self.key.is_some() {
             return Wants::Value;
         }
-        match &self.places[(container.place - 1) as usize] {
-            Kind::Array(_) => Wants::ArrayKey,
-            _ => Wants::Name,
+        let kind = &self.places[(container.place - 1) as usize];
+        if kind.is_array() { Wants::ArrayKey } else { Wants::Name }
+    }
+
+    /// Why there is no room for one more value.
+    fn room(&self) -> Result<(), BuildFault>
+        ensures { MatchResult result (λ _. room_fault self.now ≡ None) (λ fault. room_fault self.now ≡ Some fault) }
+    {
+        if self.containers.len() >= LEVELS {
+            return Err(BuildFault::TooDeep);
+        }
+        if self.values >= MOST_VALUES {
+            return Err(BuildFault::TooManyPlaces);
+        }
+        Ok(())
+    }
+
+    /// A value with a place of its own.
+    fn push_value(&mut self, kind: Kind) -> Result<(), BuildFault>
+        requires wanted { wants_of self.old ≡ Value }
+        requires new_value { IsFresh self.old.places kind }
+        ensures answer { IsAnswer (room_fault self.old) result }
+        ensures ok { OnOk result (self.new ≡ with_value self.old kind) }
+        ensures err { OnErr result (self.new ≡ self.old) }
+    {
+        self.room()?;
+        self.offsets.reserve(1)?;
+        self.containers.reserve(1)?;
+        let place = self.places.len() as u32 + 1;
+        let opens = kind.is_container();
+        kind.check();
+        push_place(&mut self.places, &self.containers, &mut self.key, kind)?;
+        put(&mut self.offsets, 0);
+        open_container(&mut self.containers, place, opens);
+        self.values += 1;
+        Ok(())
+    }
+    /// A member that shares the value at this place.
+    fn push_back(&mut self, place: u32) -> Result<(), BuildFault>
+        requires { wants_of self.old ≡ Value }
+        ensures answer { IsAnswer (value_fault self.old (items.Back place)) result }
+        ensures ok { OnOk result (self.new ≡ with_back self.old place) }
+        ensures err { OnErr result (self.new ≡ self.old) }
+    {
+        self.room()?;
+        if place == 0 || place as usize > self.places.len() {
+            return Err(BuildFault::BadNumber);
+        }
+        attach(&mut self.places, &self.containers, &mut self.key, Child::Back(place))?;
+        self.values += 1;
+        Ok(())
+    }
+
+    /// A value that names the object at this place.
+    fn push_same(&mut self, place: u32) -> Result<(), BuildFault>
+        requires { wants_of self.old ≡ Value }
+        ensures answer { IsAnswer (value_fault self.old (items.Same place)) result }
+        ensures ok { OnOk result (self.new ≡ with_value self.old (kinds.Same place)) }
+        ensures err { OnErr result (self.new ≡ self.old) }
+    {
+        self.room()?;
+        if !self.has_object(place) {
+            return Err(BuildFault::BadNumber);
+        }
+        self.push_value(Kind::Same(place))
+    }
+
+    /// Whether an object has begun at this place.
+    fn has_object(&self, place: u32) -> bool
+        ensures { result ≡ is_object_at self.now.places place }
+    {
+        if place == 0 || place as usize > self.places.len() {
+            return false;
+        }
+        let kind = &self.places[(place - 1) as usize];
+        kind.is_object()
+    }
+
+    /// An object that begins.
+    fn push_object(&mut self, class: Bytes) -> Result<(), BuildFault>
+        requires { wants_of self.old ≡ Value }
+        ensures answer { IsAnswer (value_fault self.old (items.OpenObject class)) result }
+        ensures ok { OnOk result (self.new ≡ with_value self.old (kinds.Object class [])) }
+        ensures err { OnErr result (self.new ≡ self.old) }
+    {
+        self.room()?;
+        if !is_class(class.as_slice()) {
+            return Err(BuildFault::BadClass);
+        }
+        let props = Props::new(self.alloc)?;
+        self.push_value(Kind::Object(class, props))
+    }
+
+    /// The key of the next member.
+    fn push_key(&mut self, key: Key) -> Result<(), BuildFault>
+        requires inside { wants_of self.old ≡ ArrayKey ⊎ (wants_of self.old ≡ Name × is_name key ≡ true) }
+        ensures answer { IsAnswer (fault_of self.old (items.Key key)) result }
+        ensures ok { OnOk result (self.new ≡ pushed self.old (items.Key key)) }
+        ensures err { OnErr result (self.new ≡ self.old) }
+    {
+        note_last(self.alloc, &self.places, &mut self.containers, &key)?;
+        self.key = Some(key);
+        Ok(())
+    }
+
+    /// The innermost open container ends.
+    fn close(&mut self)
+        requires { wants_of self.old ≡ ArrayKey ⊎ wants_of self.old ≡ Name }
+        ensures { self.new ≡ pushed self.old items.Close }
+    {
+        let _ = self.containers.pop();
+    }
+
+    fn step(&mut self, item: Item) -> Result<(), BuildFault>
+        requires { IsTrue (item_fits (wants_of self.old) item) }
+        ensures answer { IsAnswer (fault_of self.old item) result }
+        ensures ok { OnOk result (self.new ≡ pushed self.old item) }
+        ensures err { OnErr result (self.new ≡ self.old) }
+    {
+        match item {
+            Item::Null => self.push_value(Kind::Null),
+            Item::Bool(truth) => self.push_value(Kind::Bool(truth)),
+            Item::Int(number) => self.push_value(Kind::Int(number)),
+            Item::Str(bytes) => self.push_value(Kind::Str(bytes)),
+            Item::OpenArray => {
+                let members = Members::new(self.alloc);
+                self.push_value(Kind::Array(members))
+            }
+            Item::OpenObject(class) => self.push_object(class),
+            Item::Key(key) => self.push_key(key),
+            Item::Close => {
+                self.close();
+                Ok(())
+            }
+            Item::Same(place) => self.push_same(place),
+            Item::Back(place) => self.push_back(place),
         }
     }
 
@@ -83,6 +230,23 @@ impl Builder {
         ensures cause { IfErr result (λ fault. (fault ≡ Memory) ⊎ (fault_of self.old item ≡ Some fault)) }
         ensures err { OnErr result (self.new ≡ self.old) }
     {
-        Err(BuildFault::Memory)
+        self.step(item)
+    }
+
+    /// The graph that was written.
+    pub fn seal(self) -> Graph
+        requires { wants_of self ≡ Done }
+        ensures places { result ≡ self.places }
+        ensures graph { IsGraph self.places }
+    {
+        let Builder {
+            places,
+            offsets,
+            containers: _,
+            key: _,
+            values: _,
+            alloc: _,
+        } = self;
+        Graph::from_parts(places, offsets)
     }
 }

@@ -1,11 +1,12 @@
 //! Byte strings.
 
-ghost use Rattle.std.specs.Prelude.{◌≡◌, IfOk, length, ◌^◌, ◌<◌, ◌==◌};
+ghost use Rattle.std.specs.Prelude.{◌≡◌, IfOk, length, ◌^◌, ◌<◌, ◌==◌, ◌≤◌};
 ghost use Rattle.std.specs.Cmp.Lexicographic.{pointwise, slice_cmp};
 ghost use Rattle.std.specs.Ordering.{nat_cmp, as_partial_cmp};
 ghost use Rattle.std.specs.Cmp.Rules.{comparing};
 ghost use Rattle.std.specs.Cmp.{partial_order_from_own_ties};
 ghost use Rattle.std.proofs.Common.{rules};
+ghost use Rattle.php_graph.specs.ByteStrings.{AreBytes};
 
 use std::alloc::{AllocError, Global};
 use std::cmp::Ordering;
@@ -40,9 +41,30 @@ impl Bytes {
 
     /// The bytes.
     pub fn as_slice(&self) -> &[u8]
-        ensures { result.now ≡ self.now }
+        ensures bytes { result.now ≡ self.now }
+        ensures fits { AreBytes self.now }
     {
         self.items.as_slice()
+    }
+
+    /// Equal bytes.
+    pub(crate) fn try_copy(&self, alloc: Global) -> Result<Bytes, AllocError>
+        ensures { IfOk result (λ copy. copy ≡ self.now) }
+    {
+        let items = Vec::from_slice(alloc, &self.items)?;
+        Ok(Bytes { items })
+    }
+}
+
+impl Bytes {
+    ghost use Rattle.php_graph.specs.Size.{words_in};
+
+    /// The words of the bytes in an image, eight bytes a word.
+    pub(crate) fn cells(&self) -> u64
+        ensures cells { result ≡ words_in (length self.now) }
+        ensures small { result ≤ 2 ^ 29 }
+    {
+        (self.items.len() as u64 + 7) / 8
     }
 }
 

@@ -1,11 +1,12 @@
 //! Value graphs.
 
-ghost use Rattle.std.specs.Prelude.{◌≡◌, ◌<◌, ◌≤◌, length, IfOk, Some};
-ghost use Rattle.php_graph.specs.Graph.{IsGraph, kind_at, part_of};
+ghost use Rattle.std.specs.Prelude.{◌≡◌, ◌<◌, ◌≤◌, ◌^◌, length, Some};
+ghost use Rattle.php_graph.specs.Graph.{IsGraph, kind_at, most_values};
+ghost use Rattle.php_graph.specs.Drafted.{children_in};
+ghost use Rattle.php_graph.specs.Kept.{offsets_from};
 ghost use Rattle.php_graph.specs.Size.{image_length, offset_of};
 
 use crate::kind::Kind;
-use std::alloc::{AllocError, Global};
 use std::marker::Model;
 
 /// A value as PHP's serialize notation numbers it: a list of places from 1, in the order in which they are
@@ -32,6 +33,18 @@ impl Model for Graph {
 }
 
 impl Graph {
+    /// The graph with these places, and room for where each stands.
+    pub(crate) fn from_parts(places: Vec<Kind>, offsets: Vec<u64>) -> Graph
+        requires graph { IsGraph places.items }
+        requires few { children_in places.items ≤ most_values }
+        requires room { length offsets.items ≡ length places.items }
+        ensures { result ≡ places.items }
+    {
+        let mut offsets = offsets;
+        let words = fill_offsets(&places, &mut offsets);
+        Graph { places, offsets, words }
+    }
+
     /// How many places there are.
     pub fn places(&self) -> u32
         ensures { result ≡ length self.now }
@@ -70,4 +83,19 @@ impl Graph {
     {
         let _places = &self.places;
     }
+}
+
+/// Writes where each place stands, and answers the words of all.
+fn fill_offsets(places: &[Kind], offsets: &mut Vec<u64>) -> u64
+    requires room { length offsets.old.items ≡ length places.now }
+    requires small { image_length places.now < 2 ^ 60 }
+    ensures offsets { offsets.new.items ≡ offsets_from 0 places.now }
+    ensures words { result ≡ image_length places.now }
+{
+    let mut words = 0;
+    for i in 0..places.len() {
+        offsets[i] = words;
+        words += places[i].cells();
+    }
+    words
 }

@@ -1,10 +1,11 @@
 //! What a builder is given, what it wants next, and what it refuses.
 
 ghost use Rattle.std.specs.Prelude.{◌≡◌};
+ghost use Rattle.php_graph.specs.declared.item.BuildFault.TheVariants.{Memory};
 
 use crate::bytes::Bytes;
 use crate::key::Key;
-use std::alloc::{AllocError, AllocFailed};
+use std::alloc::AllocError;
 use thiserror::Error;
 
 /// A step in writing a value: a value, the beginning or the end of a container, or a key.
@@ -56,4 +57,12 @@ pub enum BuildFault {
     BadClass,
     #[error("a string key that is an integer")]
     IntegerText,
+}
+
+impl From<AllocError> for BuildFault {
+    ghost from_gives = { λ _ fault. fault ≡ Memory };
+
+    fn from(_error: AllocError) -> BuildFault {
+        BuildFault::Memory
+    }
 }

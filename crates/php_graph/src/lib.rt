@@ -12,6 +12,7 @@ mod kind;
 mod members;
 mod numbers;
 mod props;
+mod steps;
 
 pub use builder::Builder;
 pub use bytes::Bytes;

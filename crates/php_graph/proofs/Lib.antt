@@ -1,0 +1,9 @@
+pub mod NumberLemmas
+pub mod KeyLemmas
+pub mod SizeLemmas
+pub mod EndLemmas
+pub mod DraftLemmas
+pub mod DraftSteps
+pub mod DraftMade
+pub mod DraftKept
+pub mod DraftKnown
