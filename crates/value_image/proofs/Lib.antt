@@ -8,3 +8,4 @@ pub mod Parts
 pub mod Mixed
 pub mod Numbered
 pub mod Walk
+pub mod OneGraph

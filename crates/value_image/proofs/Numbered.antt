@@ -94,9 +94,9 @@ table-many table offsets len g e is long filled (suc i) low high =
 -- ---- numbers that come back
 
 -- the table gives back each of n numbers from its offset, and is long enough
-record IsBack (n size : ℕ) (t o : ℕ → ℕ) : Type 0 where
-  below : (x : ℕ) → IsPlaceOf n x → o x < size
-  back : (x : ℕ) → IsPlaceOf n x → t (o x) ≡ x
+pub record IsBack (n size : ℕ) (t o : ℕ → ℕ) : Type 0 where
+  pub below : (x : ℕ) → IsPlaceOf n x → o x < size
+  pub back : (x : ℕ) → IsPlaceOf n x → t (o x) ≡ x
 
 child-back : (n size : ℕ) (t o : ℕ → ℕ) → IsBack n size t o → (c : Child) → IsPlaceOf n (number_of c) → (number_of (renumbered_child o c) < size) × (renumbered_child t (renumbered_child o c) ≡ c)
 child-back n size t o h (Own x) place = (h.below x place, ap Own (h.back x place))
@@ -142,7 +142,7 @@ kinds-below n size t o h (x ∷ xs) places zero kind at =
     subst (IsBelow size) e (kind-below n size t o h x (places 0 x refl))
 kinds-below n size t o h (x ∷ xs) places (suc i) kind at = kinds-below n size t o h xs (λ j y get. places (suc j) y get) i kind at
 
-kinds-back : (n size : ℕ) (t o : ℕ → ℕ) → IsBack n size t o → (ks : List Kind) → ((i : ℕ) (kind : Kind) → slice_get ks i ≡ Some kind → NamesPlaces n kind)
+pub kinds-back : (n size : ℕ) (t o : ℕ → ℕ) → IsBack n size t o → (ks : List Kind) → ((i : ℕ) (kind : Kind) → slice_get ks i ≡ Some kind → NamesPlaces n kind)
     → map (renumbered_kind t) (map (renumbered_kind o) ks) ≡ ks
 kinds-back n size t o h [] places = refl
 kinds-back n size t o h (x ∷ xs) places =

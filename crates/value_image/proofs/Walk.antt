@@ -65,7 +65,7 @@ properties-fit : (f : ℕ → ℕ) → ((x : ℕ) → f x < 2 ^ 32) → (ps : Li
 properties-fit f small [] h = tt
 properties-fit f small (p ∷ ps) h = ((h.0, child-small f small p.1), properties-fit f small ps h.1)
 
-kind-fits : (f : ℕ → ℕ) → ((x : ℕ) → f x < 2 ^ 32) → (kind : Kind) → FitsKind kind → FitsRead (renumbered_kind f kind)
+pub kind-fits : (f : ℕ → ℕ) → ((x : ℕ) → f x < 2 ^ 32) → (kind : Kind) → FitsKind kind → FitsRead (renumbered_kind f kind)
 kind-fits f small kinds.Null h = tt
 kind-fits f small (kinds.Bool b) h = tt
 kind-fits f small (kinds.Int n) h = h
