@@ -43,17 +43,17 @@ stands-items f cells len row at (x ∷ xs) each =
     let here : at + 0 ≡ at = omega arith in
     stands-both row at (f x) (flat_map f xs) (subst (λ k. StandsAt row k (f x)) here (each 0 x refl))
     (stands-items f cells len row (at + length (f x)) xs (λ i y get.
-      let e : at + sum_by cells (x ∷ take i xs) ≡ at + length (f x) + sum_by cells (take i xs) = omega (arith, sum_by-cons cells x (take i xs), len x) in
-      subst (λ k. StandsAt row k (f y)) e (each (suc i) y get)))
+    let e : at + sum_by cells (x ∷ take i xs) ≡ at + length (f x) + sum_by cells (take i xs) = omega (arith, sum_by-cons cells x (take i xs), len x) in
+    subst (λ k. StandsAt row k (f y)) e (each (suc i) y get)))
 
 -- the same words as one run
 pub image-stands : (row : List ℕ) (at len : ℕ) (g : List Kind) → IsImageOf row at len g → StandsAt row at (image_of g)
 unfolding image_of
 image-stands row at len g h =
     stands-items (place_words g) cells_of (length-kind_words (offset_of g)) row at g (λ i kind get.
-      ap (λ (n : ℕ). take n (drop (at + image_length (take i g)) row)) (length-kind_words (offset_of g) kind)
-      ∙ (let e : suc i - 1 ≡ i = omega arith in
-      ap (λ (n : ℕ). take (cells_of kind) (drop (at + image_length (take n g)) row)) (sym e) ∙ h.places (suc i) kind get))
+    ap (λ (n : ℕ). take n (drop (at + image_length (take i g)) row)) (length-kind_words (offset_of g) kind)
+    ∙ (let e : suc i - 1 ≡ i = omega arith in
+    ap (λ (n : ℕ). take (cells_of kind) (drop (at + image_length (take n g)) row)) (sym e) ∙ h.places (suc i) kind get))
 
 -- and back
 pub stands-image : (row : List ℕ) (at len : ℕ) (g : List Kind) → IsGraph g → len ≡ image_length g → StandsAt row at (image_of g) → IsImageOf row at len g

@@ -85,8 +85,7 @@ table-many table offsets len g e is long filled (suc i) low high =
     let same : length offsets ≡ length g = ap (length {A = ℕ}) e ∙ length-offsets 0 g in
     let back : suc i - 1 ≡ i = omega arith in
     let at_i : slice_index offsets i ≡ offset_of g (suc i) =
-    ap (λ (xs : List ℕ). get_or xs i 0) e ∙ (get_or-offsets 0 g i (omega arith) ∙ (zero-add _ ∙ ap (λ (k : ℕ). image_length (take k g)) (sym back))) in
-    (
+    ap (λ (xs : List ℕ). get_or xs i 0) e ∙ (get_or-offsets 0 g i (omega arith) ∙ (zero-add _ ∙ ap (λ (k : ℕ). image_length (take k g)) (sym back))) in (
       omega (arith, offset_of-below g (suc i) (low, high)),
       ap (slice_index table) (sym at_i) ∙ (filled i (omega arith) ∙ omega arith),
     )

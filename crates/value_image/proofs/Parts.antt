@@ -29,8 +29,7 @@ use Rattle.value_image.proofs.Lengths.{length-string_words, length-key_words, le
 pub told-first : (row windows : List ℕ) (at w : ℕ) (run : List ℕ) → IsToldAt row windows at (w ∷ run) → (at < length row) × IsTold windows at × (slice_index row at ≡ w)
 told-first row windows at w run h =
     let inside = stands-inside row at (w ∷ run) h.stands (omega arith) in
-    let same : at + 0 ≡ at = omega arith in
-    (
+    let same : at + 0 ≡ at = omega arith in (
       omega (arith, inside),
       h.told at (omega arith) (omega arith),
       subst (λ k. slice_index row k ≡ w) same (stands-at row at (w ∷ run) 0 h.stands (omega arith)),
@@ -194,12 +193,15 @@ kind-array row windows at (kinds.Bool false) h code = let tag = (told-first row 
 kind-array row windows at (kinds.Int n) h code = let tag = (told-first row windows at _ _ h.told).2 in absurd (omega (arith, tag, code))
 kind-array row windows at (kinds.Str bytes) h code = let tag = (told-first row windows at (3 + 8 * length bytes) (words_of bytes) h.told).2 in absurd (omega (arith, tag, code))
 kind-array row windows at (kinds.Array ms) h code =
-    let tag = (told-first row windows at (4 + 8 * length ms) (flat_map (member_words itself) ms) h.told).2 in
-    (ms, refl, record {
-      told = told-rest row windows at (4 + 8 * length ms) (flat_map (member_words itself) ms) h.told;
-      fits = h.fits;
-      count_is = omega (arith, tag);
-    })
+    let tag = (told-first row windows at (4 + 8 * length ms) (flat_map (member_words itself) ms) h.told).2 in (
+      ms,
+      refl,
+      record {
+        told = told-rest row windows at (4 + 8 * length ms) (flat_map (member_words itself) ms) h.told;
+        fits = h.fits;
+        count_is = omega (arith, tag);
+      },
+    )
 kind-array row windows at (kinds.Object class ps) h code = let tag = (told-first row windows at (5 + 8 * length ps) (string_words class ++ flat_map (property_words itself) ps) h.told).2 in absurd (omega (arith, tag, code))
 kind-array row windows at (kinds.Same x) h code = let tag = (told-first row windows at _ _ h.told).2 in absurd (omega (arith, tag, code))
 
@@ -213,13 +215,17 @@ kind-object row windows at (kinds.Int n) h code = let tag = (told-first row wind
 kind-object row windows at (kinds.Str bytes) h code = let tag = (told-first row windows at (3 + 8 * length bytes) (words_of bytes) h.told).2 in absurd (omega (arith, tag, code))
 kind-object row windows at (kinds.Array ms) h code = let tag = (told-first row windows at (4 + 8 * length ms) (flat_map (member_words itself) ms) h.told).2 in absurd (omega (arith, tag, code))
 kind-object row windows at (kinds.Object class ps) h code =
-    let tag = (told-first row windows at (5 + 8 * length ps) (string_words class ++ flat_map (property_words itself) ps) h.told).2 in
-    (class, ps, refl, record {
-      told = told-rest row windows at (5 + 8 * length ps) (string_words class ++ flat_map (property_words itself) ps) h.told;
-      fits_class = h.fits.0;
-      fits = h.fits.1;
-      count_is = omega (arith, tag);
-    })
+    let tag = (told-first row windows at (5 + 8 * length ps) (string_words class ++ flat_map (property_words itself) ps) h.told).2 in (
+      class,
+      ps,
+      refl,
+      record {
+        told = told-rest row windows at (5 + 8 * length ps) (string_words class ++ flat_map (property_words itself) ps) h.told;
+        fits_class = h.fits.0;
+        fits = h.fits.1;
+        count_is = omega (arith, tag);
+      },
+    )
 kind-object row windows at (kinds.Same x) h code = let tag = (told-first row windows at _ _ h.told).2 in absurd (omega (arith, tag, code))
 
 -- the same behind the read of the tag

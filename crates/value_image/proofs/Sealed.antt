@@ -64,8 +64,7 @@ child-closed (suc level) g (Own x) m e one h =
             | None ↦ λ at ends. cc
             | Some kind ↦ λ at ends.
                 let inner = members-closed g (child_end level g) (λ d n f low is. child-closed level g d n f low is) (children_of kind) (m + 1) e (omega arith) ends in
-                let up : m + 1 ≤ e = inner.0.up in
-                (
+                let up : m + 1 ≤ e = inner.0.up in (
                   record {
                     up = omega (arith, up);
                     inside = λ p other low high there. elim (cases_lt m p) [

@@ -135,9 +135,9 @@ walk-more g places offsets offset kind kind' places' offsets' offset' walk get e
     record {
       within = omega (arith, len, get-within g (length places) kind get);
       places_are = ep ∙ (ap₂ (λ (ks : List Kind) (k : Kind). ks ++ k ∷ []) walk.places_are ek
-      ∙ (sym (map-append (renumbered_kind f) (take (length places) g) (kind ∷ [])) ∙ ap (map (renumbered_kind f)) (sym taken)));
+          ∙ (sym (map-append (renumbered_kind f) (take (length places) g) (kind ∷ [])) ∙ ap (map (renumbered_kind f)) (sym taken)));
       offsets_are = eo ∙ (ap₂ (λ (os : List ℕ) (o : ℕ). os ++ o ∷ []) walk.offsets_are walk.offset_is
-      ∙ (sym (offsets-push 0 (take (length places) g) kind ∙ ap (λ (o : ℕ). offsets_from 0 (take (length places) g) ++ o ∷ []) (zero-add _)) ∙ ap (offsets_from 0) (sym taken)));
+          ∙ (sym (offsets-push 0 (take (length places) g) kind ∙ ap (λ (o : ℕ). offsets_from 0 (take (length places) g) ++ o ∷ []) (zero-add _)) ∙ ap (offsets_from 0) (sym taken)));
       offset_is = omega (arith, en, walk.offset_is, cells-more cells_of g (length places) kind get, ap image_length taken, ap image_length front);
     }
 

@@ -102,7 +102,11 @@ fn child_in(word: u64) -> Child
     ensures { (child : Child) → word ≡ child_word itself child → result ≡ child }
 {
     let offset = (word / 2) as u32;
-    if word % 2 == 0 { Child::Own(offset) } else { Child::Back(offset) }
+    if word % 2 == 0 {
+        Child::Own(offset)
+    } else {
+        Child::Back(offset)
+    }
 }
 
 /// The member at place `at`, and the place behind it.

@@ -14,12 +14,10 @@ pub fn images_are_runs()
     ensures image { (row : List ℕ) (at : ℕ) (g : List Kind) → IsGraph g
         → StandsAt row at (image_of g) → IsImageOf row at (image_length g) g }
     ensures length { (g : List Kind) → length (image_of g) ≡ image_length g }
-{
-}
+{}
 
 /// The same words are the image of one graph at most.
 pub fn images_differ()
     ensures { (row : List ℕ) (at len : ℕ) (g h : List Kind) → IsImageOf row at len g
         → IsImageOf row at len h → g ≡ h }
-{
-}
+{}

@@ -12,3 +12,6 @@ mod write;
 pub use laws::{images_are_runs, images_differ};
 pub use read::unpersist;
 pub use write::persist;
+
+#[cfg(test)]
+mod tests;

@@ -73,7 +73,7 @@ fn table_of(alloc: Global, offsets: &[u64], len: u32) -> Result<Vec<u32>, AllocE
         → slice_index offsets.now i < slice_index offsets.now j }
     ensures { IfOk result (λ table. (length table.items ≡ len)
         × ((i : ℕ) → i < length offsets.now
-            → slice_index table.items (slice_index offsets.now i) ≡ i + 1)) }
+        → slice_index table.items (slice_index offsets.now i) ≡ i + 1)) }
 {
     let mut table = Vec::from_elem(alloc, 0u32, len as usize)?;
     for i in 0..offsets.len() {

@@ -28,8 +28,8 @@ fn read_object<W: WordsIn>(
     ensures object { (class : List ℕ) (ps : List (List ℕ × Child))
         → IsObjectAt (W.words from.old) (W.aside from.old).windows at count class ps
         → IfOk result (λ r. (r.0 ≡ class) × (r.1 ≡ ps)
-            × (r.2 ≡ at + (1 + words_in (length class)
-                + sum_by (λ p. 2 + words_in (length p.0)) ps))) }
+        × (r.2 ≡ at + (1 + words_in (length class)
+        + sum_by (λ p. 2 + words_in (length p.0)) ps))) }
     ensures words { W.words from.new ≡ W.words from.old }
     ensures aside { W.aside from.new ≡ W.aside from.old }
     ensures rest { W.rest from.new ≡ W.rest from.old }
@@ -40,11 +40,7 @@ fn read_object<W: WordsIn>(
 }
 
 /// What stands at place `at`, with offsets in place of numbers, and the place behind it.
-fn read_place<W: WordsIn>(
-    alloc: Global,
-    from: &mut W,
-    at: u32,
-) -> Result<(Kind, u32), AllocError>
+fn read_place<W: WordsIn>(alloc: Global, from: &mut W, at: u32) -> Result<(Kind, u32), AllocError>
     requires { (kind : Kind) × IsKindAt (W.words from.old) (W.aside from.old).windows at kind }
     ensures place { (kind : Kind) → IsKindAt (W.words from.old) (W.aside from.old).windows at kind
         → IfOk result (λ r. (r.0 ≡ kind) × (r.1 ≡ at + cells_of kind)) }

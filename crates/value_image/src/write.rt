@@ -39,13 +39,7 @@ fn put_array<S: Segment>(seg: &mut S, at: u32, g: &Graph, members: &Members) -> 
 }
 
 /// Writes an object, and gives the place behind it.
-fn put_object<S: Segment>(
-    seg: &mut S,
-    at: u32,
-    g: &Graph,
-    class: &Bytes,
-    props: &Props,
-) -> u32
+fn put_object<S: Segment>(seg: &mut S, at: u32, g: &Graph, class: &Bytes, props: &Props) -> u32
     requires places { AllNamePlaces (length g.now) props.now }
     requires short { image_length g.now < 2 ^ 32 }
     requires apart { MayWrite (S.words seg.old) (S.aside seg.old).windows at

@@ -32,7 +32,7 @@ loop-i-preserved g c =
     let x = rw (take_rest c.args.bytes.now (8 * c.loop-i.i)) at c.read_u64.ensures in
     record {
       words = c.store.ensures.words ∙ (ap (λ (r : List ℕ). slice_set r (c.args.at + c.loop-i.i) c.read_u64.result) c.loop-i.invariant.words
-      ∙ written-more (g.S.WordsIn.words c.args.seg.now) c.args.at c.args.bytes.now c.loop-i.i c.read_u64.result room x);
+          ∙ written-more (g.S.WordsIn.words c.args.seg.now) c.args.at c.args.bytes.now c.loop-i.i c.read_u64.result room x);
       aside = c.store.ensures.aside ∙ c.loop-i.invariant.aside;
       rest = c.store.ensures.rest ∙ c.loop-i.invariant.rest;
     }

@@ -15,12 +15,12 @@ read_member-requires g c =
 pub loop-i-preserved : goal.loop-i-preserved
 loop-i-preserved g c = record {
   items = λ ms h.
-    let inv = c.loop-i.invariant.items ms h in
-    let next = members-next _ _ _ _ ms c.loop-i._i _ _ _ h c.loop-i-test.true inv.1 c.loop-i.invariant.words c.loop-i.invariant.aside in
-    let got = c.in_ok-key.ensures.member next.0 next.2 in (
-      c.in_ok-push.ensures.items ∙ (ap₂ (λ (ms : List (Key × Child)) (m : Key × Child). ms ++ m ∷ []) inv.0 got.0 ∙ sym (take_more-get ms c.loop-i._i next.0 next.1)),
-      omega (arith, got.1, inv.1, cells-more (λ m. 1 + key_cells m.0) ms c.loop-i._i next.0 next.1),
-    );
+      let inv = c.loop-i.invariant.items ms h in
+      let next = members-next _ _ _ _ ms c.loop-i._i _ _ _ h c.loop-i-test.true inv.1 c.loop-i.invariant.words c.loop-i.invariant.aside in
+      let got = c.in_ok-key.ensures.member next.0 next.2 in (
+        c.in_ok-push.ensures.items ∙ (ap₂ (λ (ms : List (Key × Child)) (m : Key × Child). ms ++ m ∷ []) inv.0 got.0 ∙ sym (take_more-get ms c.loop-i._i next.0 next.1)),
+        omega (arith, got.1, inv.1, cells-more (λ m. 1 + key_cells m.0) ms c.loop-i._i next.0 next.1),
+      );
   words = c.in_ok-key.ensures.words ∙ c.loop-i.invariant.words;
   aside = c.in_ok-key.ensures.aside ∙ c.loop-i.invariant.aside;
   rest = c.in_ok-key.ensures.rest ∙ c.loop-i.invariant.rest;

@@ -34,13 +34,13 @@ loop-offset-smaller g c =
 pub loop-offset-preserved : goal.loop-offset-preserved
 loop-offset-preserved g c = record {
   places = λ graph h.
-    let short : c.args.len < 2 ^ 32 = omega arith in
-    let walk = c.loop-offset.invariant.places graph h in
-    let step = walk-next _ _ c.args.at c.args.len graph _ _ c.loop-offset.offset _ _ h short c.requires.told walk c.loop-offset-test.true c.loop-offset.invariant.words c.loop-offset.invariant.aside in
-    let got = c.in_ok-kind.ensures.place (renumbered_kind (offset_of graph) step.0) step.2 in
-    let same = kind-cells (offset_of graph) step.0 in
-    let offset = ap (λ (o : ℕ). c.loop-offset.offsets.items ++ o ∷ []) c.from.ensures in
-    walk-more graph c.loop-offset.places.items c.loop-offset.offsets.items c.loop-offset.offset step.0 c.in_ok-kind.kind _ _ _ walk step.1 got.0 c.in_ok-push.ensures.items (c.in_ok-push-2.ensures.items ∙ offset) (omega (arith, got.1));
+      let short : c.args.len < 2 ^ 32 = omega arith in
+      let walk = c.loop-offset.invariant.places graph h in
+      let step = walk-next _ _ c.args.at c.args.len graph _ _ c.loop-offset.offset _ _ h short c.requires.told walk c.loop-offset-test.true c.loop-offset.invariant.words c.loop-offset.invariant.aside in
+      let got = c.in_ok-kind.ensures.place (renumbered_kind (offset_of graph) step.0) step.2 in
+      let same = kind-cells (offset_of graph) step.0 in
+      let offset = ap (λ (o : ℕ). c.loop-offset.offsets.items ++ o ∷ []) c.from.ensures in
+      walk-more graph c.loop-offset.places.items c.loop-offset.offsets.items c.loop-offset.offset step.0 c.in_ok-kind.kind _ _ _ walk step.1 got.0 c.in_ok-push.ensures.items (c.in_ok-push-2.ensures.items ∙ offset) (omega (arith, got.1));
   words = c.in_ok-kind.ensures.words ∙ c.loop-offset.invariant.words;
   aside = c.in_ok-kind.ensures.aside ∙ c.loop-offset.invariant.aside;
   rest = c.in_ok-kind.ensures.rest ∙ c.loop-offset.invariant.rest;
