@@ -16,7 +16,8 @@ use Rattle.php_graph.specs.declared.item.Wants.TheVariants.{Value, ArrayKey, Nam
 use Rattle.php_graph.specs.Graph.{kind_at, children_of, keys_of, is_array, is_object, levels, most_values, values_in}
 use Rattle.php_graph.specs.Keys.{KnowsKeys}
 use Rattle.php_graph.specs.Building.{Draft, with_member, is_container, is_name, attached, wants_by, wants_of, with_value}
-use Rattle.php_graph.specs.Drafted.{keys_among, IsSpine, IsShaped, IsDraft, IsBuilding, KnowsAll, Opens, CanTake, CanAttach, children_in, is_open_at, IsNewValue, places_of, draft_of}
+use Rattle.php_graph.specs.Drafted.{keys_among, IsSpine, IsShaped, IsDraft, IsBuilding, KnowsAll, Opens, CanTake, CanAttach, is_open_at, IsNewValue, places_of, draft_of}
+use Rattle.php_graph.specs.Counted.{children_in}
 use Rattle.php_graph.proofs.EndLemmas.{ends_rise}
 use Rattle.php_graph.proofs.DraftLemmas.{places_of-push, kind_at-set_other, kind_at-set_same, kind_at-append_old, kind_at-append_new, IsPlace, place_is, get_or-place, with_member-keys}
 use Rattle.php_graph.proofs.DraftSteps.{Takes}

@@ -40,16 +40,17 @@ grown_is g more p old new there =
 knows_outer : (g h : List Kind) (outer : List Container) (p : ℕ) → IsSpine g (map (λ c. c.place) outer) p → ((k : ℕ) → k < p → kind_at h k ≡ kind_at g k) → KnowsAll g outer None → KnowsAll h outer None
 knows_outer g h [] p spine same known = tt
 knows_outer g h (c ∷ outer) p spine same known =
-    let rise : c.place + 1 ≤ p = ends_rise (levels - suc (length (map (λ c. c.place) outer))) g spine.0 (c.place + 1) p spine.2 in
-    (subst (λ (o : Option Kind). KnowsKeys c.highest c.seen (keys_among o ++ [])) (sym (same c.place (omega arith))) known.0,
-      knows_outer g h outer c.place spine.3 (λ k lt. same k (omega arith)) known.1)
+    let rise : c.place + 1 ≤ p = ends_rise (levels - suc (length (map (λ c. c.place) outer))) g spine.0 (c.place + 1) p spine.2 in (
+      subst (λ (o : Option Kind). KnowsKeys c.highest c.seen (keys_among o ++ [])) (sym (same c.place (omega arith))) known.0,
+      knows_outer g h outer c.place spine.3 (λ k lt. same k (omega arith)) known.1,
+    )
 
 -- a member more, under the key that waited
 known_member : (g h : List Kind) (c : Container) (outer : List Container) (key : Key) (old new : Kind) → Grown g h c.place old new → keys_of new ≡ keys_of old ++ key ∷ [] → IsSpine g (map (λ c. c.place) outer) c.place → KnowsAll g (c ∷ outer) (Some key) → KnowsAll h (c ∷ outer) None
 known_member g h c outer key old new grown keys spine known =
     let place = place_is g c.place old grown.there in
     let same : keys_among (kind_at g c.place) ++ key ∷ [] ≡ keys_among (kind_at h c.place) ++ [] =
-      ap (λ (o : Option Kind). keys_among o ++ key ∷ []) grown.there ∙ sym keys ∙ sym (ap keys_among grown.changed) ∙ sym (append-nil (keys_among (kind_at h c.place))) in
+    ap (λ (o : Option Kind). keys_among o ++ key ∷ []) grown.there ∙ sym keys ∙ sym (ap keys_among grown.changed) ∙ sym (append-nil (keys_among (kind_at h c.place))) in
     (subst (KnowsKeys c.highest c.seen) same known.0, knows_outer g h outer c.place spine (λ k lt. grown.others k (λ e. omega arith) (omega (arith, place.high))) known.1)
 
 pub known_attached : (g more : List Kind) (r : List Container) (key : Option Key) (child : Child) → IsDraft g (map (λ c. c.place) r) key → wants_by g (map (λ c. c.place) r) key ≡ Value → KnowsAll g r key → KnowsAll (attached g (map (λ c. c.place) r) key child ++ more) r None
@@ -89,9 +90,10 @@ known_opened h false n cs cs' kind opens there childless known = (subst (λ (xs 
 known_opened h true n cs cs' kind opens there childless known =
     let c = opens.0 in
     let turned : reverse cs' ≡ c ∷ reverse cs = ap reverse opens.1 ∙ reverse-append cs (c ∷ []) in
-    let keys : [] ≡ keys_among (kind_at h c.place) ++ [] = sym (append-nil (keys_among (kind_at h c.place)) ∙ ap (λ (k : ℕ). keys_among (kind_at h k)) opens.2 ∙ ap keys_among there ∙ childless_keys kind childless) in
-    (subst (λ (xs : List Container). KnowsAll h xs None) (sym turned) (subst (KnowsKeys c.highest c.seen) keys opens.3, known),
-      ap places_of opens.1 ∙ places_of-push cs c ∙ ap (λ (k : ℕ). k ∷ places_of cs) opens.2)
+    let keys : [] ≡ keys_among (kind_at h c.place) ++ [] = sym (append-nil (keys_among (kind_at h c.place)) ∙ ap (λ (k : ℕ). keys_among (kind_at h k)) opens.2 ∙ ap keys_among there ∙ childless_keys kind childless) in (
+      subst (λ (xs : List Container). KnowsAll h xs None) (sym turned) (subst (KnowsKeys c.highest c.seen) keys opens.3, known),
+      ap places_of opens.1 ∙ places_of-push cs c ∙ ap (λ (k : ℕ). k ∷ places_of cs) opens.2,
+    )
 
 values_after : (g : List Kind) (cs : List ℕ) (key : Option Key) (child : Child) → IsDraft g cs key → wants_by g cs key ≡ Value → (cs ≡ [] → is_back child ≡ false) → values_in (attached g cs key child) ≡ values_in g + cond (is_back child) 1 0
 values_after g [] None child d wants top = rw (top refl) (omega arith)
@@ -220,7 +222,12 @@ last_is g cs c some at known opened =
     let place = place_is g c.place o.0 o.1 in
     let k : KnowsAll g (c ∷ l.0) None = subst (λ (xs : List Container). KnowsAll g xs None) l.1 known in
     record {
-      rest = l.0; first = l.1; kind = o.0; there = o.1; low = place.low; high = place.high;
+      rest = l.0;
+      first = l.1;
+      kind = o.0;
+      there = o.1;
+      low = place.low;
+      high = place.high;
       knows = subst (KnowsKeys c.highest c.seen) (append-nil (keys_among (kind_at g c.place)) ∙ ap keys_among o.1) k.0;
       outer = k.1;
     }
@@ -249,11 +256,11 @@ last_err g cs c y (Err fault) i same knows = last_knows g cs c y None i same (su
 
 pub building_refused : (g : List Kind) (offsets : List ℕ) (cs cs' : List Container) (key : Option Key) (values : ℕ) → IsBuilding g offsets cs key values → key ≡ None → places_of cs' ≡ places_of cs → KnowsAll g (reverse cs') None → IsBuilding g offsets cs' key values
 building_refused g offsets cs cs' key values b no_key same known = record {
-      draft = subst (λ (xs : List ℕ). IsDraft g xs key) (sym same) b.draft;
-      known = subst (KnowsAll g (reverse cs')) (sym no_key) known;
-      offsets_are = b.offsets_are;
-      values_are = b.values_are;
-    }
+  draft = subst (λ (xs : List ℕ). IsDraft g xs key) (sym same) b.draft;
+  known = subst (KnowsAll g (reverse cs')) (sym no_key) known;
+  offsets_are = b.offsets_are;
+  values_are = b.values_are;
+}
 
 not_both : (o : Option Kind) → cond (passes is_array o) ArrayKey Name ≡ ArrayKey → passes is_object o ≡ true → ⊥
 not_both None e object = cc
@@ -269,7 +276,7 @@ named_only : (g : List Kind) (p : ℕ) (outer : List ℕ) (key : Key) → (wants
 named_only g p outer key (inr w) object = w.1
 named_only g p outer key (inl e) object = absurd (not_both (kind_at g p) e object)
 
-key_in : (g : List Kind) (cs : List ℕ) (key : Key) → IsDraft g cs None → (wants_by g cs None ≡ ArrayKey) ⊎ ((wants_by g cs None ≡ Name) × (is_name key ≡ true)) → FitsKey key → innermost_fault g cs key ≡ None → IsDraft g cs (Some key)
+pub key_in : (g : List Kind) (cs : List ℕ) (key : Key) → IsDraft g cs None → (wants_by g cs None ≡ ArrayKey) ⊎ ((wants_by g cs None ≡ Name) × (is_name key ≡ true)) → FitsKey key → innermost_fault g cs key ≡ None → IsDraft g cs (Some key)
 key_in [] [] key d (inl e) fits sound = absurd cc
 key_in [] [] key d (inr e) fits sound = let f = e.0 in absurd cc
 key_in (k ∷ ks) [] key d (inl e) fits sound = absurd cc

@@ -15,7 +15,8 @@ use Rattle.php_graph.specs.declared.item.BuildFault.{BuildFault}
 use Rattle.php_graph.specs.declared.item.BuildFault.TheVariants.{RepeatedKey, IntegerText}
 use Rattle.php_graph.specs.Graph.{kind_at, children_of, keys_of, passes, is_array, is_object, is_object_at, is_array_at, has_key, is_array_key, FitsKey, is_back, child_end, ends_after, end_of, levels, most_values, values_in, IsGraph}
 use Rattle.php_graph.specs.Building.{with_member, is_container, is_name, key_fault, fault_in, attached, wants_by}
-use Rattle.php_graph.specs.Drafted.{keys_among, IsSpine, IsShaped, IsDraft, IsWaiting, children_at, children_in, is_open_at, IsNewValue}
+use Rattle.php_graph.specs.Drafted.{keys_among, IsSpine, IsShaped, IsDraft, IsWaiting, children_at, is_open_at, IsNewValue}
+use Rattle.php_graph.specs.Counted.{children_in}
 use Rattle.php_graph.proofs.EndLemmas.{EndsAt, own_makes, back_makes, ends_after-append}
 use Rattle.php_graph.proofs.DraftLemmas.{kind_at-set_other, kind_at-set_same, kind_at-append_old, kind_at-append_new, IsPlace, place_is, get_or-place, with_member-children, with_member-is_object, and_true}
 use Rattle.php_graph.proofs.DraftSteps.{Grown, shaped_member, shaped_container, IsSound, Takes, sound_member, sound_push, passes-set}
@@ -85,10 +86,10 @@ sound_of g cs key d = record { targets = d.targets; well_formed = d.well_formed;
 
 -- ---- values
 
-level_below : (n : ℕ) → suc (suc n) ≤ levels → levels - suc n ≡ suc (levels - suc (suc n))
+pub level_below : (n : ℕ) → suc (suc n) ≤ levels → levels - suc n ≡ suc (levels - suc (suc n))
 level_below n le = omega arith
 
-leaf_ends : (d : ℕ) (h : List Kind) (m : ℕ) (kind : Kind) → kind_at h m ≡ Some kind → children_of kind ≡ [] → child_end (suc d) h (Own m) m ≡ Some (m + 1)
+pub leaf_ends : (d : ℕ) (h : List Kind) (m : ℕ) (kind : Kind) → kind_at h m ≡ Some kind → children_of kind ≡ [] → child_end (suc d) h (Own m) m ≡ Some (m + 1)
 leaf_ends d h m kind there childless = own_makes d h m (m + 1) (record { kind = kind; there = there; members = ap (λ (cs : List Child). ends_after (child_end d h) cs (m + 1)) childless })
 
 -- how a value stands in the graph that it makes
@@ -121,7 +122,9 @@ value_inside g p outer key old kind d takes deep few new =
     } in
     let there : kind_at h n ≡ Some kind = subst (λ (l : ℕ). kind_at h (l + 1) ≡ Some kind) len (kind_at-append_new g1 kind) in
     let new1 : IsNewValue g1 kind = record {
-      childless = new.childless; well_formed = new.well_formed; fits = new.fits;
+      childless = new.childless;
+      well_formed = new.well_formed;
+      fits = new.fits;
       target = λ x e. passes-set is_object g p x old more takes.there (with_member-is_object old key (Own n)) ∙ new.target x e;
     } in
     let sound = sound_push g1 (p ∷ outer) kind (sound_member g (p ∷ outer) p old key (Own n) (sound_of g (p ∷ outer) (Some key) d) takes) new1 in
@@ -231,9 +234,16 @@ back_drafted g (p ∷ outer) (Some key) x d wants deep few low high =
 -- a key, which waits from then on
 pub key_drafted : (g : List Kind) (p : ℕ) (outer : List ℕ) (key : Key) → IsDraft g (p ∷ outer) None → FitsKey key → key_fault g p key ≡ None → (is_object_at g p ≡ true → is_name key ≡ true) → IsDraft g (p ∷ outer) (Some key)
 key_drafted g p outer key d fits sound named = record {
-      shaped = d.shaped; opened = d.opened; deep = d.deep; waiting = (fits, sound, named); targets = d.targets;
-      well_formed = d.well_formed; fits = d.fits; count = d.count; members = d.members;
-    }
+  shaped = d.shaped;
+  opened = d.opened;
+  deep = d.deep;
+  waiting = (fits, sound, named);
+  targets = d.targets;
+  well_formed = d.well_formed;
+  fits = d.fits;
+  count = d.count;
+  members = d.members;
+}
 
 -- ---- the end of a container
 
@@ -262,7 +272,11 @@ close_drafted g p outer d =
       opened = d.opened.1;
       deep = omega (arith, d.deep);
       waiting = tt;
-      targets = d.targets; well_formed = d.well_formed; fits = d.fits; count = d.count; members = d.members;
+      targets = d.targets;
+      well_formed = d.well_formed;
+      fits = d.fits;
+      count = d.count;
+      members = d.members;
     }
 
 -- ---- the whole graph

@@ -12,7 +12,8 @@ use Rattle.php_graph.specs.declared.kind.Kind.{Kind}
 use Rattle.php_graph.specs.declared.kind.Kind.TheVariants as kinds
 use Rattle.php_graph.specs.Graph.{kind_at, children_of, keys_of, passes, is_array, is_object, is_object_at, is_array_at, has_key, is_array_key, is_well_formed, FitsKey, FitsKind, is_back, child_end, ends_after, end_of, levels, values_in}
 use Rattle.php_graph.specs.Building.{with_member, is_container, is_name, key_fault}
-use Rattle.php_graph.specs.Drafted.{keys_among, IsSpine, IsShaped, children_at, children_in, is_open_at, IsNewValue}
+use Rattle.php_graph.specs.Drafted.{keys_among, IsSpine, IsShaped, children_at, is_open_at, IsNewValue}
+use Rattle.php_graph.specs.Counted.{children_in}
 use Rattle.php_graph.proofs.EndLemmas.{Agree, all_agree, ends_rise, ends_after-append, EndsAt, own_makes}
 use Rattle.php_graph.proofs.DraftLemmas.{kind_at-set_other, kind_at-set_same, kind_at-append_old, kind_at-append_new, IsPlace, place_is, get_or-place, with_member-children, with_member-is_object, with_member-is_container, with_member-well_formed, with_member-fits, no_same, All-push, All-set, All-place}
 
@@ -25,9 +26,12 @@ pub spine_agrees : (g h : List Kind) (cs : List ℕ) (p : ℕ) → IsSpine g cs 
 spine_agrees g h [] p s same = s
 spine_agrees g h (q ∷ outer) p s same =
     let rise : q + 1 ≤ p = ends_rise (levels - suc (length outer)) g s.0 (q + 1) p s.2 in
-    let agree : Agree g h (q + 1) p = record { at = λ k low high. same k high } in
-    (s.0, ap children_at (same q (omega arith)) ∙ s.1, all_agree (levels - suc (length outer)) g h s.0 (q + 1) p s.2 agree,
-      spine_agrees g h outer q s.3 (λ k lt. same k (omega arith)))
+    let agree : Agree g h (q + 1) p = record { at = λ k low high. same k high } in (
+      s.0,
+      ap children_at (same q (omega arith)) ∙ s.1,
+      all_agree (levels - suc (length outer)) g h s.0 (q + 1) p s.2 agree,
+      spine_agrees g h outer q s.3 (λ k lt. same k (omega arith)),
+    )
 
 -- h is g with another container at place p, and maybe more behind
 pub record Grown (g h : List Kind) (p : ℕ) (old new : Kind) : Type 0 where
@@ -58,9 +62,10 @@ pub shaped_container : (g h : List Kind) (p : ℕ) (outer : List ℕ) (old new k
 shaped_container g h p outer old new kind m grown is_next kids shaped there childless =
     let d = levels - suc (length outer) in
     let before = old_members g h p d m old new grown is_next shaped.0 in
-    let place = place_is g p old grown.there in
-    (rw (there, childless) refl,
-      (children_of old, ap children_at grown.changed ∙ kids, before, spine_agrees g h outer p shaped.1 (λ k lt. grown.others k (λ e. omega arith) (omega (arith, place.high)))))
+    let place = place_is g p old grown.there in (
+      rw (there, childless) refl,
+      (children_of old, ap children_at grown.changed ∙ kids, before, spine_agrees g h outer p shaped.1 (λ k lt. grown.others k (λ e. omega arith) (omega (arith, place.high)))),
+    )
 
 -- ---- what is said of each place
 
@@ -125,19 +130,19 @@ opened_push g containers kind false is all = All-map (λ q. is_open_at g q ≡ t
 
 pub sound_push : (g : List Kind) (containers : List ℕ) (kind : Kind) → IsSound g containers → IsNewValue g kind → IsSound (g ++ kind ∷ []) (cond (is_container kind) ((length g + 1) ∷ containers) containers)
 sound_push g containers kind sound new = record {
-      targets = λ q x e. elim (cases_lt q (length g + 1)) [
-        | inl lt ↦
-            let before = sound.targets q x (sym (kind_at-append_old g (kind ∷ []) q (omega arith)) ∙ e) in
-            (before.0, passes-push is_object g x kind before.1)
-        | inr le ↦
-            let high : q ≤ length g + 1 = omega (arith, (place_is (g ++ kind ∷ []) q (kinds.Same x) e).high, length-append g (kind ∷ [])) in
-            let at_end : q ≡ length g + 1 = omega arith in
-            let is_new : Some kind ≡ Some (kinds.Same x) = sym (kind_at-append_new g kind) ∙ ap (kind_at (g ++ kind ∷ [])) (sym at_end) ∙ e in
-            let is : kind ≡ kinds.Same x = cc in
-            let there = passes_some is_object g x (kind_at g x) refl (new.target x is) in
-            (omega arith, passes-push is_object g x kind (new.target x is))
-      ];
-      well_formed = All-push (λ k. IsTrue (is_well_formed k)) g kind sound.well_formed new.well_formed;
-      fits = All-push FitsKind g kind sound.fits new.fits;
-      opened = opened_push g containers kind (is_container kind) refl sound.opened;
-    }
+  targets = λ q x e. elim (cases_lt q (length g + 1)) [
+    | inl lt ↦
+        let before = sound.targets q x (sym (kind_at-append_old g (kind ∷ []) q (omega arith)) ∙ e) in
+        (before.0, passes-push is_object g x kind before.1)
+    | inr le ↦
+        let high : q ≤ length g + 1 = omega (arith, (place_is (g ++ kind ∷ []) q (kinds.Same x) e).high, length-append g (kind ∷ [])) in
+        let at_end : q ≡ length g + 1 = omega arith in
+        let is_new : Some kind ≡ Some (kinds.Same x) = sym (kind_at-append_new g kind) ∙ ap (kind_at (g ++ kind ∷ [])) (sym at_end) ∙ e in
+        let is : kind ≡ kinds.Same x = cc in
+        let there = passes_some is_object g x (kind_at g x) refl (new.target x is) in
+        (omega arith, passes-push is_object g x kind (new.target x is))
+  ];
+  well_formed = All-push (λ k. IsTrue (is_well_formed k)) g kind sound.well_formed new.well_formed;
+  fits = All-push FitsKind g kind sound.fits new.fits;
+  opened = opened_push g containers kind (is_container kind) refl sound.opened;
+}

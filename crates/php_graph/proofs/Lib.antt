@@ -7,3 +7,10 @@ pub mod DraftSteps
 pub mod DraftMade
 pub mod DraftKept
 pub mod DraftKnown
+pub mod EqualLemmas
+pub mod PartEnds
+pub mod PartLemmas
+pub mod NumberTexts
+pub mod LawSteps
+pub mod LawItems
+pub mod LawWritten

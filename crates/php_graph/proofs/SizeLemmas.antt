@@ -10,7 +10,7 @@ use Rattle.php_graph.specs.declared.child.Child.{Child}
 use Rattle.php_graph.specs.declared.kind.Kind.TheVariants as kinds
 use Rattle.php_graph.specs.ByteStrings.{AreBytes}
 use Rattle.php_graph.specs.Graph.{children_of, FitsKey, FitsKind, IsGraph, most_values}
-use Rattle.php_graph.specs.Drafted.{children_in}
+use Rattle.php_graph.specs.Counted.{children_in}
 use Rattle.php_graph.specs.Size.{cells_of, key_cells, words_in, image_length}
 use Rattle.php_graph.specs.Kept.{offsets_from}
 

@@ -1,8 +1,9 @@
 -- What a builder keeps while a graph is written.
-use Rattle.std.specs.Prelude.{◌≡◌, ◌⊎◌, ℕ, suc, ◌+◌, ◌-◌, ◌≤◌, ◌<◌, ◌^◌, Bool, true, false, IsTrue, List, [], ◌∷◌, ◌++◌, length, map, reverse, sum_by, Option, Some, None}
+use Rattle.std.specs.Prelude.{◌≡◌, ◌⊎◌, ℕ, suc, ◌+◌, ◌-◌, ◌≤◌, ◌<◌, ◌^◌, Bool, true, false, IsTrue, List, [], ◌∷◌, ◌++◌, length, map, reverse, Option, Some, None}
 use Rattle.std.specs.List.{AllByRecursion}
 use Rattle.std.specs.Option.{option_to_list}
 use Rattle.php_graph.specs.Keys.{KnowsKeys}
+use Rattle.php_graph.specs.Counted.{children_in}
 use Rattle.php_graph.specs.declared.key.Key.{Key}
 use Rattle.php_graph.specs.declared.child.Child.{Child}
 use Rattle.php_graph.specs.declared.child.Child.TheVariants.{Own, Back}
@@ -36,10 +37,6 @@ IsSpine g (q ∷ outer) p = (before : List Child) × (children_at (kind_at g q) 
 abbrev pub IsShaped : List Kind → List ℕ → ℕ → Type 0
 IsShaped g [] m = (m ≡ 1) ⊎ (end_of g 1 ≡ Some m)
 IsShaped g (p ∷ outer) m = (ends_after (child_end (levels - suc (length outer)) g) (children_at (kind_at g p)) (p + 1) ≡ Some m) × IsSpine g outer p
-
--- how many members the containers have
-abbrev pub children_in : List Kind → ℕ
-children_in g = sum_by (λ kind. length (children_of kind)) g
 
 -- A key that waits is one that its container may take.
 abbrev pub IsWaiting : List Kind → List ℕ → Option Key → Type 0

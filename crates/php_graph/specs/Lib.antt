@@ -3,6 +3,7 @@ pub mod Numbers
 pub mod Graph
 pub mod Size
 pub mod Building
+pub mod Counted
 pub mod Kept
 pub mod Keys
 pub mod Drafted

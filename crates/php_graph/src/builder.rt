@@ -75,13 +75,21 @@ impl Builder {
         ensures { result ≡ wants_of self.now }
     {
         let Some(container) = self.containers.last() else {
-            return if self.places.is_empty() { Wants::Value } else { Wants::Done };
+            return if self.places.is_empty() {
+                Wants::Value
+            } else {
+                Wants::Done
+            };
         };
         if self.key.is_some() {
             return Wants::Value;
         }
         let kind = &self.places[(container.place - 1) as usize];
-        if kind.is_array() { Wants::ArrayKey } else { Wants::Name }
+        if kind.is_array() {
+            Wants::ArrayKey
+        } else {
+            Wants::Name
+        }
     }
 
     /// Why there is no room for one more value.
@@ -128,7 +136,12 @@ impl Builder {
         if place == 0 || place as usize > self.places.len() {
             return Err(BuildFault::BadNumber);
         }
-        attach(&mut self.places, &self.containers, &mut self.key, Child::Back(place))?;
+        attach(
+            &mut self.places,
+            &self.containers,
+            &mut self.key,
+            Child::Back(place),
+        )?;
         self.values += 1;
         Ok(())
     }
@@ -151,7 +164,8 @@ impl Builder {
     fn has_object(&self, place: u32) -> bool
         ensures { result ≡ is_object_at self.now.places place }
     {
-        if place == 0 || place as usize > self.places.len() {
+        let at = place as usize;
+        if at == 0 || at > self.places.len() {
             return false;
         }
         let kind = &self.places[(place - 1) as usize];

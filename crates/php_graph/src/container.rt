@@ -89,7 +89,11 @@ fn see(
 }
 
 /// Adds an equal key to the set.
-pub(crate) fn insert_copy(set: &mut BTreeSet<Key>, alloc: Global, key: &Key) -> Result<(), AllocError>
+pub(crate) fn insert_copy(
+    set: &mut BTreeSet<Key>,
+    alloc: Global,
+    key: &Key,
+) -> Result<(), AllocError>
     ensures ok { OnOk result ((ks : List Key) → HasKeys ks set.old → HasKeys (ks ++ key.now ∷ []) set.new) }
     ensures err { OnErr result ((ks : List Key) → HasKeys ks set.old → HasKeys ks set.new) }
 {

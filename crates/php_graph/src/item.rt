@@ -2,6 +2,7 @@
 
 ghost use Rattle.std.specs.Prelude.{◌≡◌};
 ghost use Rattle.php_graph.specs.declared.item.BuildFault.TheVariants.{Memory};
+ghost use Rattle.php_graph.specs.Building.{item_fits};
 
 use crate::bytes::Bytes;
 use crate::key::Key;
@@ -38,6 +39,30 @@ pub enum Wants {
     Name,
     /// Nothing: the graph is whole.
     Done,
+}
+
+impl Wants {
+    /// Whether this item may come.
+    pub fn permits(self, item: &Item) -> bool
+        ensures { result ≡ item_fits self item.now }
+    {
+        match self {
+            Wants::Value => match item {
+                Item::Key(_) | Item::Close => false,
+                _ => true,
+            },
+            Wants::ArrayKey => match item {
+                Item::Key(_) | Item::Close => true,
+                _ => false,
+            },
+            Wants::Name => match item {
+                Item::Key(key) => key.is_name(),
+                Item::Close => true,
+                _ => false,
+            },
+            Wants::Done => false,
+        }
+    }
 }
 
 /// Why an item was refused.

@@ -1,6 +1,7 @@
 //! The keys of arrays.
 
 ghost use Rattle.std.specs.Prelude.{◌≡◌, ◌<◌, ◌^◌, IfOk};
+ghost use Rattle.php_graph.specs.Building.{is_name};
 ghost use Rattle.php_graph.specs.Graph.{FitsKey};
 ghost use Rattle.php_graph.specs.Size.{key_cells};
 
@@ -45,6 +46,15 @@ impl Key {
             Key::Str(bytes) => {
                 let _bytes = bytes.as_slice();
             }
+        }
+    }
+    /// Whether it is a byte string, as the names of properties are.
+    pub(crate) fn is_name(&self) -> bool
+        ensures { result ≡ is_name self.now }
+    {
+        match self {
+            Key::Int(_) => false,
+            Key::Str(_) => true,
         }
     }
 }

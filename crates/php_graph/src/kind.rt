@@ -1,8 +1,9 @@
 //! What stands at a place of a graph.
 
-ghost use Rattle.std.specs.Prelude.{◌≡◌, ◌<◌, ◌+◌, ◌^◌, ◌++◌, ◌∷◌, [], length, true, IfOk, OnOk, IfErr, OnErr};
+ghost use Rattle.std.specs.Prelude.{◌≡◌, ◌<◌, ◌+◌, ◌^◌, ◌++◌, ◌∷◌, [], length, true, None, IsTrue, ◌↔◌, IfOk, OnOk, IfErr, OnErr};
 ghost use Rattle.php_graph.specs.Graph.{keys_of, children_of, has_key, is_array, is_object, lowered_kind, FitsKind};
 ghost use Rattle.php_graph.specs.Building.{with_member, is_name, is_container};
+ghost use Rattle.php_graph.specs.Kept.{last_own};
 ghost use Rattle.php_graph.specs.Keys.{HasKeys};
 ghost use Rattle.php_graph.specs.Size.{cells_of};
 
@@ -189,6 +190,32 @@ impl Kind {
             Kind::Same(place) if *place <= by => Ok(None),
             Kind::Same(place) => Ok(Some(Kind::Same(*place - by))),
             _ => Ok(Some(self.try_copy(alloc)?)),
+        }
+    }
+    /// Whether the two are equal.
+    pub(crate) fn same(&self, other: &Kind) -> bool
+        ensures { IsTrue result ↔ (self.now ≡ other.now) }
+    {
+        match (self, other) {
+            (Kind::Null, Kind::Null) => true,
+            (Kind::Bool(a), Kind::Bool(b)) => *a == *b,
+            (Kind::Int(a), Kind::Int(b)) => *a == *b,
+            (Kind::Str(a), Kind::Str(b)) => *a == *b,
+            (Kind::Array(a), Kind::Array(b)) => a.same(b),
+            (Kind::Object(class_a, a), Kind::Object(class_b, b)) => *class_a == *class_b
+                && a.same(b),
+            (Kind::Same(a), Kind::Same(b)) => *a == *b,
+            _ => false,
+        }
+    }
+    /// The place of the last member that is written here.
+    pub(crate) fn last_own(&self) -> Option<u32>
+        ensures { result ≡ last_own None (children_of self.now) }
+    {
+        match self {
+            Kind::Array(members) => members.last_own(),
+            Kind::Object(_, props) => props.last_own(),
+            _ => None,
         }
     }
 }

@@ -10,6 +10,7 @@ mod graph;
 mod item;
 mod key;
 mod kind;
+mod laws;
 mod members;
 mod numbers;
 mod props;
@@ -18,10 +19,14 @@ mod steps;
 pub use builder::Builder;
 pub use bytes::Bytes;
 pub use child::Child;
-pub use graph::Graph;
+pub use graph::{Graph, block_words};
 pub use item::{BuildFault, Item, Wants};
 pub use key::Key;
 pub use kind::Kind;
+pub use laws::written_graphs;
 pub use members::Members;
 pub use numbers::{hash_of, int_of_text, integer_texts};
 pub use props::Props;
+
+#[cfg(test)]
+mod tests;

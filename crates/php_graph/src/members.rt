@@ -1,8 +1,9 @@
 //! The members of an array.
 
-ghost use Rattle.std.specs.Prelude.{◌≡◌, ◌<◌, length, [], IsTrue, ◌↔◌, slice_get, Some, IfOk, OnOk, IfErr, OnErr, ◌+◌, ◌^◌, ◌∷◌, ◌++◌};
+ghost use Rattle.std.specs.Prelude.{◌≡◌, ◌<◌, length, [], IsTrue, ◌↔◌, slice_get, Some, None, IfOk, OnOk, IfErr, OnErr, ◌+◌, ◌^◌, ◌∷◌, ◌++◌};
 ghost use Rattle.php_graph.specs.Graph.{lowered_members, has_key};
 ghost use Rattle.php_graph.specs.Keys.{HasKeys};
+ghost use Rattle.php_graph.specs.Kept.{last_own};
 ghost use Rattle.std.specs.Prelude.{map, sum_by};
 ghost use Rattle.php_graph.specs.Size.{key_cells};
 
@@ -138,5 +139,23 @@ impl Members {
             items.push((item.0.try_copy(alloc)?, child))?;
         }
         Ok(Some(Members { items }))
+    }
+    /// Whether these are the same members in the same order.
+    pub(crate) fn same(&self, other: &Members) -> bool
+        ensures { IsTrue result ↔ (self.now ≡ other.now) }
+    {
+        self.items == other.items
+    }
+    /// The place of the last one that is written here.
+    pub(crate) fn last_own(&self) -> Option<u32>
+        ensures { result ≡ last_own None (map (λ m. m.1) self.now) }
+    {
+        let mut last = None;
+        for item in &self.items {
+            if let Child::Own(place) = item.1 {
+                last = Some(place);
+            }
+        }
+        last
     }
 }

@@ -11,7 +11,9 @@ ghost use Rattle.php_graph.specs.Numbers.{int_of_text, hash_of, is_canonical, di
 const MINUS: u8 = b'-';
 /// Where a digit follows a number above this one, the number is above 2^63.
 const LARGE: u64 = 1 << 60;
+
 const HASH_START: u64 = 5381;
+
 const TOP_BIT: u64 = 1 << 63;
 
 /// Whether these are digits, at least one, with no zero before others.
@@ -52,7 +54,11 @@ fn natural_of(digits: &[u8]) -> Option<i64>
     ensures { result ≡ natural_of digits.now }
 {
     let number = small_number(digits)?;
-    if number < TOP_BIT { Some(number as i64) } else { None }
+    if number < TOP_BIT {
+        Some(number as i64)
+    } else {
+        None
+    }
 }
 
 fn negative_of(digits: &[u8]) -> Option<i64>
@@ -75,7 +81,11 @@ pub fn int_of_text(text: &[u8]) -> Option<i64>
     match text {
         [] => None,
         [first, digits @ ..] => {
-            if *first == MINUS { negative_of(digits) } else { natural_of(text) }
+            if *first == MINUS {
+                negative_of(digits)
+            } else {
+                natural_of(text)
+            }
         }
     }
 }
@@ -84,8 +94,7 @@ pub fn int_of_text(text: &[u8]) -> Option<i64>
 pub fn integer_texts()
     ensures written { (text : List ℕ) (n : ℤ) → int_of_text text ≡ Some n → (text ≡ signed_decimal n) × FitsSigned w64 n }
     ensures read { (n : ℤ) → FitsSigned w64 n → int_of_text (signed_decimal n) ≡ Some n }
-{
-}
+{}
 
 /// Whether a class may have this name: at least one byte, each a digit, a letter, `_`, `\\` or from 0x7F on.
 pub(crate) fn is_class(name: &[u8]) -> bool

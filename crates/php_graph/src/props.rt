@@ -1,9 +1,10 @@
 //! The properties of an object.
 
-ghost use Rattle.std.specs.Prelude.{◌≡◌, ◌<◌, length, [], IsTrue, ◌↔◌, slice_get, Some, IfOk, OnOk, IfErr, OnErr, ◌+◌, ◌^◌, ◌∷◌, ◌++◌, map, sum_by};
+ghost use Rattle.std.specs.Prelude.{◌≡◌, ◌<◌, length, [], IsTrue, ◌↔◌, slice_get, Some, None, IfOk, OnOk, IfErr, OnErr, ◌+◌, ◌^◌, ◌∷◌, ◌++◌, map, sum_by};
 ghost use Rattle.php_graph.specs.declared.key.Key.TheVariants.{Str};
 ghost use Rattle.php_graph.specs.Graph.{lowered_members, has_key};
 ghost use Rattle.php_graph.specs.Keys.{HasKeys};
+ghost use Rattle.php_graph.specs.Kept.{last_own};
 ghost use Rattle.php_graph.specs.Size.{words_in};
 
 use crate::bytes::Bytes;
@@ -147,5 +148,24 @@ impl Props {
         }
         let items = Box::new(alloc, items)?;
         Ok(Some(Props { items }))
+    }
+    /// Whether these are the same properties in the same order.
+    pub(crate) fn same(&self, other: &Props) -> bool
+        ensures { IsTrue result ↔ (self.now ≡ other.now) }
+    {
+        self.items == other.items
+    }
+    /// The place of the last one that is written here.
+    pub(crate) fn last_own(&self) -> Option<u32>
+        ensures { result ≡ last_own None (map (λ m. m.1) self.now) }
+    {
+        let mut last = None;
+        let items: &Vec<(Bytes, Child)> = &self.items;
+        for item in items {
+            if let Child::Own(place) = item.1 {
+                last = Some(place);
+            }
+        }
+        last
     }
 }

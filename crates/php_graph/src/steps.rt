@@ -10,9 +10,9 @@ ghost use Rattle.php_graph.specs.Drafted.{Opens, places_of, CanAttach, KnowsAll,
 
 use crate::child::Child;
 use crate::container::Container;
+use crate::item::BuildFault;
 use crate::key::Key;
 use crate::kind::Kind;
-use crate::item::BuildFault;
 use crate::numbers::int_of_text;
 use std::alloc::{AllocError, Global};
 
@@ -116,7 +116,12 @@ pub(crate) fn note_last(
 }
 
 /// Notes a key of an open container, unless it may not stand there.
-fn note_key(alloc: Global, kind: &Kind, container: &mut Container, key: &Key) -> Result<(), BuildFault>
+fn note_key(
+    alloc: Global,
+    kind: &Kind,
+    container: &mut Container,
+    key: &Key,
+) -> Result<(), BuildFault>
     requires { KnowsKeys container.old.highest container.old.seen (keys_of kind.now) }
     ensures answer { IsAnswer (fault_in kind.now key.now) result }
     ensures place { container.new.place ≡ container.old.place }

@@ -18,8 +18,8 @@ last : (c : After-index_mut-container) → IsLast c.args.places.now c.args.conta
 last c =
     let n = number c in
     last_is c.args.places.now c.args.containers.now.items c.index_mut-container.result.now (λ e. c.if-last-eq0.false (n ∙ e))
-      (c.index_mut-container.ensures.value ∙ ap (λ (k : ℕ). get_or c.args.containers.now.items (k - 1) c.index_mut-container.result.now) n)
-      c.requires.known c.requires.opened
+    (c.index_mut-container.ensures.value ∙ ap (λ (k : ℕ). get_or c.args.containers.now.items (k - 1) c.index_mut-container.result.now) n)
+    c.requires.known c.requires.opened
 
 pub bounds-places-container : goal.bounds-places-container
 bounds-places-container c = let i = last (goal.at.bounds-places-container c).After-index_mut-container in omega (arith, i.low, i.high)
@@ -38,7 +38,7 @@ returns-clause-answer c =
     let i = last (goal.at.returns-clause-answer c).After-index_mut-container in
     let same = kind_is (goal.at.returns-clause-answer c).After-note_key i in
     last_answer c.args.places.now c.args.containers.now.items c.index_mut-container.result.now c.args.key.now c.note_key.result i
-      (subst (λ (k : Kind). IsAnswer (fault_in k c.args.key.now) c.note_key.result) same c.note_key.ensures.answer)
+    (subst (λ (k : Kind). IsAnswer (fault_in k c.args.key.now) c.note_key.result) same c.note_key.ensures.answer)
 
 pub returns-clause-places : goal.returns-clause-places
 returns-clause-places c =

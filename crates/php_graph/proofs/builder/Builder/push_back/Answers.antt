@@ -19,6 +19,6 @@ invariant_of-self-2 c =
     let wants = ap wants_of c.self.view_is ∙ c.requires in
     let room = has_room (draft_of g cs c.self.inside.key) (ap room_fault c.self.view_is ∙ c.in_ok-room.ensures) in
     let is : c.attach.new.places.items ≡ attached g (places_of cs) c.self.inside.key (Back c.args.place) =
-      c.in_ok-attach.ensures.ok ∙ ap (λ (xs : List Container). attached g (places_of xs) c.self.inside.key (Back c.args.place)) c.deref.ensures.value in
+    c.in_ok-attach.ensures.ok ∙ ap (λ (xs : List Container). attached g (places_of xs) c.self.inside.key (Back c.args.place)) c.deref.ensures.value in
     let built = building_back g c.attach.new.places.items c.self.inside.offsets.items cs c.self.inside.key c.self.inside.values c.args.place c.self.invariant wants room (omega (arith, c.if-place-eq0.false)) (omega (arith, c.if-place-len.false, c.len.ensures, c.self.inside.places.ok.0)) is in
     subst (λ (k : Option Key). IsBuilding c.attach.new.places.items c.self.inside.offsets.items cs k (c.self.inside.values + 1)) (sym c.in_ok-attach.ensures.used) built

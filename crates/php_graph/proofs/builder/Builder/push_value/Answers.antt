@@ -27,10 +27,10 @@ invariant_of-self-2 c =
     let cs = c.self.inside.containers.items in
     let number : c.len.result ≡ length g = omega (arith, c.len.ensures, c.self.inside.places.ok.0) in
     let is : c.push_place.new.places.items ≡ attached g (places_of cs) c.self.inside.key (Own (length g + 1)) ++ c.args.kind ∷ [] =
-      c.in_ok-push_place.ensures.ok ∙ ap (λ (xs : List Container). attached g (places_of xs) c.self.inside.key (Own (length g + 1)) ++ c.args.kind ∷ []) same in
+    c.in_ok-push_place.ensures.ok ∙ ap (λ (xs : List Container). attached g (places_of xs) c.self.inside.key (Own (length g + 1)) ++ c.args.kind ∷ []) same in
     let more : length c.put.new.items.items ≡ length c.self.inside.offsets.items + 1 = ap length c.put.ensures ∙ length-append c.reserve.new.self.items (0 ∷ []) ∙ ap (λ (xs : List ℕ). length xs + 1) c.reserve.ensures.items in
     let opens = opens_is (is_container c.args.kind) c.is_container-opens.result (length g + 1) (c.len.result + 1) cs c.reserve-2.new.self.items c.open_container.new.containers.items
-      c.is_container-opens.ensures (omega (arith, number)) c.reserve-2.ensures.items c.open_container.ensures in
+    c.is_container-opens.ensures (omega (arith, number)) c.reserve-2.ensures.items c.open_container.ensures in
     let built = building_value g c.push_place.new.places.items c.self.inside.offsets.items c.put.new.items.items cs c.open_container.new.containers.items c.self.inside.key c.self.inside.values c.args.kind
-      c.self.invariant wants room new is more opens in
+    c.self.invariant wants room new is more opens in
     subst (λ (k : Option Key). IsBuilding c.push_place.new.places.items c.put.new.items.items c.open_container.new.containers.items k (c.self.inside.values + 1)) (sym c.in_ok-push_place.ensures.used) built

@@ -15,6 +15,7 @@ invariant_of-result c =
     record {
       graph = c.requires.graph;
       offsets_are = c.fill_offsets-words.ensures.offsets ∙ ap (offsets_from 0) c.deref.ensures.value;
+      few = c.requires.few;
       words_are = words;
       small = omega (arith, short, words);
     }
