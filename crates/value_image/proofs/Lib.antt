@@ -9,3 +9,4 @@ pub mod Mixed
 pub mod Numbered
 pub mod Walk
 pub mod OneGraph
+pub mod Counts
