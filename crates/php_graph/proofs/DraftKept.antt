@@ -1,27 +1,21 @@
 -- What a builder keeps, after each item.
-use Rattle.std.proofs.Common.{◌≡◌, ◌≢◌, ◌⊎◌, ℕ, zero, suc, ◌+◌, ◌-◌, ◌<◌, ◌≤◌, ◌^◌, Bool, true, false, cond, List, [], ◌∷◌, ◌++◌, length, map, reverse, get_or, set, sum_by, Option, Some, None, refl, sym, ap, subst, ◌∙◌, arith, length-append, inl, inr}
-use Rattle.std.specs.Prelude.{◌&&◌, ◌||◌, not, IsTrue, nat_le}
+use Rattle.std.proofs.Common.{◌≡◌, ℕ, zero, suc, ◌-◌, ◌<◌, ◌≤◌, Bool, true, false, cond, List, [], ◌∷◌, ◌++◌, length, map, reverse, get_or, set, Option, Some, None, refl, sym, ap, subst, ◌∙◌, arith, length-append}
 use Rattle.std.specs.List.{AllByRecursion, slice_get}
-use Rattle.std.specs.Option.{option_to_list, is_some}
-use Rattle.std.proofs.lemmas.Bool.{cases_lt, false≢true}
-use Rattle.std.proofs.lemmas.List.{length-set, append-nil, reverse-append, reverse-reverse}
-use Rattle.std.proofs.lemmas.List.Sums.{sum_by-set, sum_by-append, sum_by-cons}
+use Rattle.std.specs.Option.{is_some}
+use Rattle.std.proofs.lemmas.Bool.{false≢true}
+use Rattle.std.proofs.lemmas.List.{reverse-append, reverse-reverse}
+use Rattle.std.proofs.lemmas.List.Sums.{sum_by-cons}
 use Rattle.php_graph.specs.declared.container.Container.{Container}
 use Rattle.php_graph.specs.declared.key.Key.{Key}
 use Rattle.php_graph.specs.declared.child.Child.{Child}
-use Rattle.php_graph.specs.declared.child.Child.TheVariants.{Own, Back}
 use Rattle.php_graph.specs.declared.kind.Kind.{Kind}
-use Rattle.php_graph.specs.declared.kind.Kind.TheVariants as kinds
-use Rattle.php_graph.specs.declared.item.Wants.TheVariants.{Value, ArrayKey, Name, Done}
-use Rattle.php_graph.specs.Graph.{kind_at, children_of, keys_of, is_array, is_object, levels, most_values, values_in}
-use Rattle.php_graph.specs.Keys.{KnowsKeys}
-use Rattle.php_graph.specs.Building.{Draft, with_member, is_container, is_name, attached, wants_by, wants_of, with_value}
-use Rattle.php_graph.specs.Drafted.{keys_among, IsSpine, IsShaped, IsDraft, IsBuilding, KnowsAll, Opens, CanTake, CanAttach, is_open_at, IsNewValue, places_of, draft_of}
+use Rattle.php_graph.specs.declared.item.Wants.TheVariants.{Value, ArrayKey, Name}
+use Rattle.php_graph.specs.Graph.{kind_at, children_of, is_array}
+use Rattle.php_graph.specs.Building.{with_member, is_container, attached, wants_by, wants_of}
+use Rattle.php_graph.specs.Drafted.{IsDraft, CanTake, CanAttach, is_open_at, places_of, draft_of}
 use Rattle.php_graph.specs.Counted.{children_in}
-use Rattle.php_graph.proofs.EndLemmas.{ends_rise}
-use Rattle.php_graph.proofs.DraftLemmas.{places_of-push, kind_at-set_other, kind_at-set_same, kind_at-append_old, kind_at-append_new, IsPlace, place_is, get_or-place, with_member-keys}
-use Rattle.php_graph.proofs.DraftSteps.{Takes}
-use Rattle.php_graph.proofs.DraftMade.{open_kind, takes_key, value_drafted}
+use Rattle.php_graph.proofs.DraftLemmas.{kind_at-append_old, place_is, get_or-place}
+use Rattle.php_graph.proofs.DraftMade.{open_kind, takes_key}
 
 -- ---- the innermost container
 

@@ -1,9 +1,8 @@
 -- What a builder knows of keys, and all that it keeps, after a value.
-use Rattle.std.proofs.Common.{◌≡◌, ◌≢◌, ◌⊎◌, ℕ, zero, suc, ◌+◌, ◌-◌, ◌<◌, ◌≤◌, ◌^◌, Bool, true, false, cond, List, [], ◌∷◌, ◌++◌, length, map, reverse, get_or, set, sum_by, Option, Some, None, refl, sym, ap, subst, ◌∙◌, arith, length-append, inl, inr}
-use Rattle.std.specs.Prelude.{IsTrue, nat_le, Result, Ok, Err, OnOk, OnErr}
-use Rattle.std.specs.List.{AllByRecursion, slice_get}
+use Rattle.std.proofs.Common.{◌≡◌, ◌⊎◌, ℕ, suc, ◌+◌, ◌-◌, ◌<◌, ◌≤◌, Bool, true, false, cond, List, [], ◌∷◌, ◌++◌, length, map, reverse, get_or, set, Option, Some, None, refl, sym, ap, subst, ◌∙◌, arith, length-append, inl, inr}
+use Rattle.std.specs.Prelude.{nat_le, Result, Ok, Err, OnOk, OnErr}
+use Rattle.std.specs.List.{AllByRecursion}
 use Rattle.std.specs.Option.{option_to_list}
-use Rattle.std.proofs.lemmas.Bool.{false≢true}
 use Rattle.std.proofs.lemmas.Bool.Decides.{nat_tests}
 use Rattle.std.proofs.lemmas.List.{length-set, append-nil, reverse-append, reverse-reverse}
 use Rattle.std.proofs.lemmas.Option.{slice_get_read}
@@ -14,17 +13,17 @@ use Rattle.php_graph.specs.declared.child.Child.{Child}
 use Rattle.php_graph.specs.declared.child.Child.TheVariants.{Own, Back}
 use Rattle.php_graph.specs.declared.kind.Kind.{Kind}
 use Rattle.php_graph.specs.declared.kind.Kind.TheVariants as kinds
-use Rattle.php_graph.specs.declared.item.Wants.TheVariants.{Value, ArrayKey, Name, Done}
+use Rattle.php_graph.specs.declared.item.Wants.TheVariants.{Value, ArrayKey, Name}
 use Rattle.php_graph.specs.declared.item.BuildFault.{BuildFault}
 use Rattle.php_graph.specs.declared.item.BuildFault.TheVariants.{TooDeep, TooManyPlaces}
 use Rattle.php_graph.specs.Graph.{kind_at, children_of, keys_of, is_array_at, is_object_at, is_array, is_object, passes, levels, most_values, values_in, is_back, FitsKey}
 use Rattle.php_graph.specs.Keys.{KnowsKeys}
 use Rattle.php_graph.specs.Building.{Draft, with_member, is_container, is_name, fault_in, innermost_fault, IsAnswer, attached, changed_at, wants_by, room_fault}
-use Rattle.php_graph.specs.Drafted.{keys_among, IsSpine, IsDraft, IsBuilding, KnowsAll, Opens, IsNewValue, is_open_at, places_of, draft_of}
+use Rattle.php_graph.specs.Drafted.{keys_among, IsSpine, IsDraft, IsBuilding, KnowsAll, Opens, IsNewValue, is_open_at, places_of}
 use Rattle.php_graph.proofs.EndLemmas.{ends_rise}
-use Rattle.php_graph.proofs.DraftLemmas.{places_of-push, kind_at-set_other, kind_at-set_same, kind_at-append_old, kind_at-append_new, IsPlace, place_is, with_member-keys, with_member-children}
-use Rattle.php_graph.proofs.DraftSteps.{Grown, Takes}
-use Rattle.php_graph.proofs.DraftMade.{open_kind, takes_key, value_drafted, back_drafted, key_drafted, close_drafted, values_push, values_set, no_value, nothing_on_top, attached_is, no_fault}
+use Rattle.php_graph.proofs.DraftLemmas.{places_of-push, kind_at-set_other, kind_at-set_same, kind_at-append_old, kind_at-append_new, place_is, with_member-keys, with_member-children}
+use Rattle.php_graph.proofs.DraftSteps.{Grown}
+use Rattle.php_graph.proofs.DraftMade.{open_kind, takes_key, value_drafted, back_drafted, key_drafted, close_drafted, values_push, values_set, no_value, attached_is, no_fault}
 
 pub grown_is : (g more : List Kind) (p : ℕ) (old new : Kind) → kind_at g p ≡ Some old → Grown g (set g (p - 1) new ++ more) p old new
 grown_is g more p old new there =

@@ -1,17 +1,16 @@
 -- What a builder's draft says of its open containers, and what keeps it.
-use Rattle.std.proofs.Common.{◌≡◌, ◌≢◌, ℕ, zero, suc, ◌+◌, ◌-◌, ◌<◌, ◌≤◌, Bool, true, false, cond, List, [], ◌∷◌, ◌++◌, length, map, reverse, get_or, set, sum_by, Option, Some, None, refl, sym, ap, subst, ◌∙◌, arith, length-append, inl, inr}
-use Rattle.std.specs.Prelude.{◌&&◌, ◌||◌, not, count_by, IsTrue}
-use Rattle.std.specs.List.{AllByRecursion, slice_get, list_all, list_any}
-use Rattle.std.proofs.lemmas.List.{reverse-append, map-append, length-set}
+use Rattle.std.proofs.Common.{◌≡◌, ◌≢◌, ℕ, zero, suc, ◌+◌, ◌-◌, ◌<◌, ◌≤◌, Bool, true, false, List, [], ◌∷◌, ◌++◌, length, map, get_or, set, Some, refl, sym, ap, subst, ◌∙◌, arith}
+use Rattle.std.specs.Prelude.{◌&&◌, ◌||◌, not, IsTrue}
+use Rattle.std.specs.List.{AllByRecursion, slice_get, list_all}
+use Rattle.std.proofs.lemmas.List.{reverse-append, map-append}
 use Rattle.std.proofs.lemmas.List.Folds.{list_any-append, list_all-append}
 use Rattle.php_graph.specs.declared.container.Container.{Container}
 use Rattle.php_graph.specs.declared.key.Key.{Key}
 use Rattle.php_graph.specs.declared.key.Key.TheVariants as keys
 use Rattle.php_graph.specs.declared.child.Child.{Child}
-use Rattle.php_graph.specs.declared.child.Child.TheVariants.{Own, Back}
 use Rattle.php_graph.specs.declared.kind.Kind.{Kind}
 use Rattle.php_graph.specs.declared.kind.Kind.TheVariants as kinds
-use Rattle.php_graph.specs.Graph.{kind_at, children_of, keys_of, passes, is_array, is_object, is_object_at, key_eq, has_key, are_distinct, is_array_key, is_class, is_well_formed, FitsKey, FitsKind, is_back}
+use Rattle.php_graph.specs.Graph.{kind_at, children_of, keys_of, is_array, is_object, key_eq, has_key, are_distinct, is_array_key, is_class, is_well_formed, FitsKey, FitsKind}
 use Rattle.php_graph.specs.Building.{with_member, is_container, is_name}
 use Rattle.php_graph.specs.Drafted.{places_of}
 use Rattle.std.proofs.lemmas.Bool.{false≢true}

@@ -1,24 +1,22 @@
 -- The draft after each item.
-use Rattle.std.proofs.Common.{◌≡◌, ◌≢◌, ◌⊎◌, ℕ, zero, suc, ◌+◌, ◌-◌, ◌<◌, ◌≤◌, Bool, true, false, cond, List, [], ◌∷◌, ◌++◌, length, map, reverse, get_or, set, sum_by, Option, Some, None, refl, sym, ap, subst, ◌∙◌, arith, length-append, zero-add, inl, inr}
-use Rattle.std.specs.Prelude.{◌&&◌, ◌||◌, not, count_by, IsTrue, nat_le}
-use Rattle.std.specs.List.{AllByRecursion}
-use Rattle.std.proofs.lemmas.Bool.{cases_lt, false≢true}
-use Rattle.std.proofs.lemmas.List.{length-set, append-nil}
+use Rattle.std.proofs.Common.{◌≡◌, ℕ, suc, ◌+◌, ◌-◌, ◌≤◌, Bool, true, false, cond, List, [], ◌∷◌, ◌++◌, length, get_or, set, Option, Some, None, refl, sym, ap, subst, ◌∙◌, arith, length-append, zero-add, inl, inr}
+use Rattle.std.specs.Prelude.{◌&&◌, not, count_by}
+use Rattle.std.proofs.lemmas.Bool.{false≢true}
+use Rattle.std.proofs.lemmas.List.{length-set}
 use Rattle.std.proofs.lemmas.List.Sums.{sum_by-set, sum_by-append, sum_by-cons}
 use Rattle.php_graph.specs.declared.key.Key.{Key}
 use Rattle.php_graph.specs.declared.child.Child.{Child}
 use Rattle.php_graph.specs.declared.child.Child.TheVariants.{Own, Back}
 use Rattle.php_graph.specs.declared.kind.Kind.{Kind}
-use Rattle.php_graph.specs.declared.kind.Kind.TheVariants as kinds
 use Rattle.php_graph.specs.declared.item.Wants.TheVariants.{Value, ArrayKey, Name, Done}
 use Rattle.php_graph.specs.declared.item.BuildFault.{BuildFault}
 use Rattle.php_graph.specs.declared.item.BuildFault.TheVariants.{RepeatedKey, IntegerText}
 use Rattle.php_graph.specs.Graph.{kind_at, children_of, keys_of, passes, is_array, is_object, is_object_at, is_array_at, has_key, is_array_key, FitsKey, is_back, child_end, ends_after, end_of, levels, most_values, values_in, IsGraph}
 use Rattle.php_graph.specs.Building.{with_member, is_container, is_name, key_fault, fault_in, attached, wants_by}
-use Rattle.php_graph.specs.Drafted.{keys_among, IsSpine, IsShaped, IsDraft, IsWaiting, children_at, is_open_at, IsNewValue}
+use Rattle.php_graph.specs.Drafted.{IsShaped, IsDraft, IsWaiting, is_open_at, IsNewValue}
 use Rattle.php_graph.specs.Counted.{children_in}
-use Rattle.php_graph.proofs.EndLemmas.{EndsAt, own_makes, back_makes, ends_after-append}
-use Rattle.php_graph.proofs.DraftLemmas.{kind_at-set_other, kind_at-set_same, kind_at-append_old, kind_at-append_new, IsPlace, place_is, get_or-place, with_member-children, with_member-is_object, and_true}
+use Rattle.php_graph.proofs.EndLemmas.{own_makes, back_makes, ends_after-append}
+use Rattle.php_graph.proofs.DraftLemmas.{kind_at-set_other, kind_at-set_same, kind_at-append_old, kind_at-append_new, place_is, get_or-place, with_member-children, with_member-is_object}
 use Rattle.php_graph.proofs.DraftSteps.{Grown, shaped_member, shaped_container, IsSound, Takes, sound_member, sound_push, passes-set}
 
 -- ---- counts

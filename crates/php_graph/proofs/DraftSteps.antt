@@ -1,21 +1,18 @@
 -- Each item that is taken leads from a draft to a draft.
-use Rattle.std.proofs.Common.{◌≡◌, ◌≢◌, ◌⊎◌, ℕ, zero, suc, ◌+◌, ◌-◌, ◌<◌, ◌≤◌, Bool, true, false, cond, List, [], ◌∷◌, ◌++◌, length, map, reverse, get_or, set, sum_by, Option, Some, None, refl, sym, ap, subst, ◌∙◌, arith, length-append, inl, inr}
-use Rattle.std.specs.Prelude.{◌&&◌, ◌||◌, not, count_by, IsTrue, nat_le}
+use Rattle.std.proofs.Common.{◌≡◌, ◌≢◌, ◌⊎◌, ℕ, suc, ◌+◌, ◌-◌, ◌<◌, ◌≤◌, Bool, true, false, cond, List, [], ◌∷◌, ◌++◌, length, set, Option, Some, None, refl, sym, ap, ◌∙◌, arith, length-append, inl, inr}
+use Rattle.std.specs.Prelude.{IsTrue}
 use Rattle.std.specs.List.{AllByRecursion}
 use Rattle.std.proofs.lemmas.Bool.{cases_lt, false≢true}
-use Rattle.std.proofs.lemmas.List.{length-set, append-nil}
-use Rattle.std.proofs.lemmas.List.Sums.{sum_by-set, sum_by-append, sum_by-cons}
 use Rattle.php_graph.specs.declared.key.Key.{Key}
 use Rattle.php_graph.specs.declared.child.Child.{Child}
-use Rattle.php_graph.specs.declared.child.Child.TheVariants.{Own, Back}
+use Rattle.php_graph.specs.declared.child.Child.TheVariants.{Own}
 use Rattle.php_graph.specs.declared.kind.Kind.{Kind}
 use Rattle.php_graph.specs.declared.kind.Kind.TheVariants as kinds
-use Rattle.php_graph.specs.Graph.{kind_at, children_of, keys_of, passes, is_array, is_object, is_object_at, is_array_at, has_key, is_array_key, is_well_formed, FitsKey, FitsKind, is_back, child_end, ends_after, end_of, levels, values_in}
-use Rattle.php_graph.specs.Building.{with_member, is_container, is_name, key_fault}
-use Rattle.php_graph.specs.Drafted.{keys_among, IsSpine, IsShaped, children_at, is_open_at, IsNewValue}
-use Rattle.php_graph.specs.Counted.{children_in}
-use Rattle.php_graph.proofs.EndLemmas.{Agree, all_agree, ends_rise, ends_after-append, EndsAt, own_makes}
-use Rattle.php_graph.proofs.DraftLemmas.{kind_at-set_other, kind_at-set_same, kind_at-append_old, kind_at-append_new, IsPlace, place_is, get_or-place, with_member-children, with_member-is_object, with_member-is_container, with_member-well_formed, with_member-fits, no_same, All-push, All-set, All-place}
+use Rattle.php_graph.specs.Graph.{kind_at, children_of, keys_of, passes, is_array, is_object, is_object_at, has_key, is_array_key, is_well_formed, FitsKey, FitsKind, child_end, ends_after, levels}
+use Rattle.php_graph.specs.Building.{with_member, is_container, is_name}
+use Rattle.php_graph.specs.Drafted.{IsSpine, IsShaped, children_at, is_open_at, IsNewValue}
+use Rattle.php_graph.proofs.EndLemmas.{Agree, all_agree, ends_rise, ends_after-append}
+use Rattle.php_graph.proofs.DraftLemmas.{kind_at-set_other, kind_at-set_same, kind_at-append_old, kind_at-append_new, place_is, with_member-is_object, with_member-is_container, with_member-well_formed, with_member-fits, no_same, All-push, All-set, All-place}
 
 pub same_or : (a b : ℕ) → (a ≡ b) ⊎ (a ≢ b)
 same_or a b = elim (cases_lt a b) [ inl lt ↦ inr (λ e. omega arith) | inr le ↦ elim (cases_lt b a) [ inl lt ↦ inr (λ e. omega arith) | inr le' ↦ inl (omega arith) ] ]

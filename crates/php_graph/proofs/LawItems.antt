@@ -1,8 +1,7 @@
 -- The items that have been pushed are those of the draft.
-use Rattle.std.proofs.Common.{◌≡◌, ◌≢◌, ◌⊎◌, ℕ, zero, suc, ◌+◌, ◌-◌, ◌<◌, ◌≤◌, Bool, true, false, cond, List, [], ◌∷◌, ◌++◌, length, map, drop, set, Option, Some, None, refl, sym, ap, subst, ◌∙◌, arith, append_assoc, inl, inr}
-use Rattle.std.specs.Prelude.{◌&&◌, IsTrue, nat_le}
+use Rattle.std.proofs.Common.{◌≡◌, ℕ, zero, suc, ◌+◌, ◌-◌, ◌<◌, ◌≤◌, true, List, [], ◌∷◌, ◌++◌, length, map, Some, refl, sym, ap, subst, ◌∙◌, arith, append_assoc}
 use Rattle.std.proofs.lemmas.Bool.{false≢true}
-use Rattle.std.proofs.lemmas.List.{append-nil, map-append, length-set}
+use Rattle.std.proofs.lemmas.List.{append-nil, map-append}
 use Rattle.php_graph.specs.declared.key.Key.{Key}
 use Rattle.php_graph.specs.declared.key.Key.TheVariants as keys
 use Rattle.php_graph.specs.declared.child.Child.{Child}
@@ -12,16 +11,11 @@ use Rattle.php_graph.specs.declared.kind.Kind.TheVariants as kinds
 use Rattle.php_graph.specs.declared.item.Item.{Item}
 use Rattle.php_graph.specs.declared.item.Item.TheVariants as items
 use Rattle.php_graph.specs.Graph.{kind_at, children_of, is_object, ends_after, child_end, levels}
-use Rattle.php_graph.specs.Building.{named, member_items, kind_items, child_items, items_of, with_member, is_container, is_name, attached, wants_by, is_value}
-use Rattle.php_graph.proofs.EndLemmas.{then_some, EndsAt, own_end, grows, ends_rise, ends_grow, ends_after-append, own_makes, back_makes, Agree, Agree-part, all_agree}
+use Rattle.php_graph.specs.Building.{named, member_items, kind_items, child_items, items_of, with_member, is_container, is_name}
+use Rattle.php_graph.proofs.EndLemmas.{then_some, own_end, grows, ends_rise, ends_after-append, own_makes, Agree, Agree-part, all_agree}
 use Rattle.php_graph.proofs.DraftLemmas.{place_is, with_member-is_container}
-use Rattle.php_graph.specs.declared.item.Wants.TheVariants.{Value}
-use Rattle.php_graph.specs.Graph.{is_array_at}
-use Rattle.php_graph.specs.Drafted.{IsDraft}
-use Rattle.php_graph.proofs.DraftMade.{level_below, leaf_ends, open_kind, takes_key, no_value, nothing_on_top, attached_is}
-use Rattle.php_graph.proofs.DraftKnown.{grown_is, length-attached, HasRoom}
-use Rattle.php_graph.proofs.DraftLemmas.{kind_at-append_new}
-use Rattle.php_graph.proofs.DraftSteps.{Grown, Takes}
+use Rattle.php_graph.proofs.DraftMade.{level_below}
+use Rattle.php_graph.proofs.DraftSteps.{Grown}
 
 -- the members of an array, the properties of an object under their keys
 abbrev pub members_of : Kind → List (Key × Child)

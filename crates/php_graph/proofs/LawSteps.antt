@@ -1,6 +1,6 @@
 -- Each item that fits and is not refused leads from a draft to a draft.
-use Rattle.std.proofs.Common.{◌≡◌, ◌⊎◌, ℕ, zero, suc, ◌+◌, ◌-◌, ◌<◌, ◌≤◌, Bool, true, false, cond, List, [], ◌∷◌, ◌++◌, length, drop, Option, Some, None, refl, sym, ap, subst, ◌∙◌, arith, inl, inr}
-use Rattle.std.specs.Prelude.{◌&&◌, IsTrue, nat_le}
+use Rattle.std.proofs.Common.{◌≡◌, ◌⊎◌, ℕ, zero, suc, Bool, true, false, cond, List, [], ◌∷◌, length, drop, Option, Some, None, refl, sym, ap, subst, ◌∙◌, arith, inl, inr}
+use Rattle.std.specs.Prelude.{◌&&◌, nat_le}
 use Rattle.std.specs.Option.{is_none}
 use Rattle.std.specs.List.{AllByRecursion}
 use Rattle.std.proofs.lemmas.Bool.{false≢true}
@@ -14,12 +14,12 @@ use Rattle.php_graph.specs.declared.item.Wants.{Wants}
 use Rattle.php_graph.specs.declared.item.Wants.TheVariants.{Value, ArrayKey, Name, Done}
 use Rattle.php_graph.specs.declared.item.BuildFault.{BuildFault}
 use Rattle.php_graph.specs.declared.item.BuildFault.TheVariants.{BadNumber, BadClass}
-use Rattle.php_graph.specs.Graph.{kind_at, children_of, is_object_at, is_class, is_well_formed, FitsKind, levels, IsGraph}
-use Rattle.php_graph.specs.Building.{Draft, nothing_drafted, all_drafted, wants_of, wants_by, is_value, is_name, item_fits, FitsItem, room_fault, first_fault, content_fault, fault_of, pushed, drafted, with_value}
+use Rattle.php_graph.specs.Graph.{kind_at, is_object_at, is_class, IsGraph}
+use Rattle.php_graph.specs.Building.{Draft, nothing_drafted, all_drafted, wants_of, wants_by, is_value, is_name, item_fits, FitsItem, room_fault, first_fault, fault_of, pushed, drafted, with_value}
 use Rattle.php_graph.specs.Drafted.{IsDraft, IsNewValue}
 use Rattle.php_graph.proofs.DraftLemmas.{and_true}
 use Rattle.php_graph.proofs.DraftMade.{value_drafted, back_drafted, close_drafted, done_graph, done_on_top}
-use Rattle.php_graph.proofs.DraftKnown.{HasRoom, has_room, wants_no_value, key_in}
+use Rattle.php_graph.proofs.DraftKnown.{has_room, wants_no_value, key_in}
 
 abbrev pub IsDrafted : Draft → Type 0
 IsDrafted d = IsDraft d.places d.containers d.key

@@ -1,6 +1,6 @@
 -- Whatever items are taken, they are those of the draft that they lead to.
-use Rattle.std.proofs.Common.{◌≡◌, ◌≢◌, ◌⊎◌, ℕ, zero, suc, ◌+◌, ◌-◌, ◌<◌, ◌≤◌, Bool, true, false, cond, List, [], ◌∷◌, ◌++◌, length, map, drop, set, Option, Some, None, refl, sym, ap, subst, ◌∙◌, arith, append_assoc, length-append, inl, inr}
-use Rattle.std.specs.Prelude.{◌&&◌, IsTrue, nat_le}
+use Rattle.std.proofs.Common.{◌≡◌, ℕ, zero, suc, ◌+◌, ◌-◌, ◌≤◌, Bool, true, false, cond, List, [], ◌∷◌, ◌++◌, length, map, drop, set, Option, Some, None, refl, sym, ap, subst, ◌∙◌, arith, append_assoc, length-append}
+use Rattle.std.specs.Prelude.{◌&&◌, nat_le}
 use Rattle.std.specs.List.{AllByRecursion}
 use Rattle.std.proofs.lemmas.Bool.{false≢true}
 use Rattle.std.proofs.lemmas.Bool.Decides.{nat_tests}
@@ -20,8 +20,8 @@ use Rattle.php_graph.specs.Drafted.{IsDraft}
 use Rattle.php_graph.proofs.EndLemmas.{back_makes}
 use Rattle.php_graph.proofs.DraftLemmas.{kind_at-append_new, and_true}
 use Rattle.php_graph.proofs.DraftSteps.{Grown, Takes}
-use Rattle.php_graph.proofs.DraftMade.{level_below, leaf_ends, open_kind, takes_key, no_value, nothing_on_top, attached_is}
-use Rattle.php_graph.proofs.DraftKnown.{grown_is, HasRoom, has_room, wants_no_value}
+use Rattle.php_graph.proofs.DraftMade.{level_below, leaf_ends, takes_key, no_value, nothing_on_top, attached_is}
+use Rattle.php_graph.proofs.DraftKnown.{grown_is, has_room, wants_no_value}
 use Rattle.php_graph.proofs.LawSteps.{IsDrafted, value_wanted, key_wanted, close_wanted, either, first_none, if_none, step_drafted, nothing_is, taken, drafted_graph}
 use Rattle.php_graph.proofs.LawItems.{members_of, opening, WroteIn, leaf_wrote, open_wrote, close_wrote, close_top}
 

@@ -1,13 +1,12 @@
 -- Where a part of a graph ends.
-use Rattle.std.proofs.Common.{◌≡◌, ◌≢◌, ℕ, zero, suc, ◌+◌, ◌-◌, ◌<◌, ◌≤◌, Bool, true, false, List, [], ◌∷◌, ◌++◌, length, get_or, Option, Some, None, refl, sym, ap, subst, ◌∙◌, arith, inl, inr}
+use Rattle.std.proofs.Common.{◌≡◌, ℕ, zero, suc, ◌+◌, ◌<◌, ◌≤◌, List, [], ◌∷◌, length, Option, Some, None, refl, sym, ap, subst, ◌∙◌, arith, inl, inr}
 use Rattle.std.proofs.lemmas.Bool.{cases_lt}
 use Rattle.php_graph.specs.declared.child.Child.{Child}
 use Rattle.php_graph.specs.declared.child.Child.TheVariants.{Own, Back}
 use Rattle.php_graph.specs.declared.kind.Kind.{Kind}
 use Rattle.php_graph.specs.Graph.{kind_at, children_of, ends_after, child_end, end_of, levels, IsGraph}
 use Rattle.php_graph.specs.Kept.{last_own}
-use Rattle.php_graph.proofs.EndLemmas.{then_some, EndsAt, own_end, own_makes, back_end, grows, own_grows, ends_rise, ends_grow, one_level_more}
-use Rattle.php_graph.proofs.DraftLemmas.{place_is}
+use Rattle.php_graph.proofs.EndLemmas.{then_some, own_end, back_end, own_grows, ends_rise, one_level_more}
 use Rattle.php_graph.proofs.DraftSteps.{same_or}
 
 -- the value at place k ends here

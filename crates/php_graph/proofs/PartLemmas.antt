@@ -1,11 +1,10 @@
 -- A part of a graph is a graph.
-use Rattle.std.proofs.Common.{◌≡◌, ◌≢◌, ℕ, zero, suc, ◌+◌, ◌-◌, ◌<◌, ◌≤◌, Bool, true, false, cond, List, [], ◌∷◌, ◌++◌, length, map, take, drop, get_or, sum_by, Option, Some, None, refl, sym, ap, subst, ◌∙◌, arith, zero-add, inl, inr}
-use Rattle.std.specs.Prelude.{◌&&◌, nat_lt, nat_le, count_by, IsTrue, IfOk, IfSome, Result, Ok, Err}
+use Rattle.std.proofs.Common.{◌≡◌, ℕ, zero, suc, ◌+◌, ◌-◌, ◌<◌, ◌≤◌, Bool, true, cond, List, [], ◌∷◌, length, map, take, drop, get_or, sum_by, Option, Some, None, refl, sym, ap, subst, ◌∙◌, arith, zero-add}
+use Rattle.std.specs.Prelude.{◌&&◌, nat_lt, count_by, IsTrue, IfOk, IfSome, Result, Ok, Err}
 use Rattle.std.specs.Global.{Vec}
 use Rattle.std.specs.declared.alloc.AllocError.{AllocError}
 use Rattle.std.specs.List.{AllByRecursion, slice_get, list_all}
-use Rattle.std.specs.Option.{option_and_then, option_map}
-use Rattle.std.proofs.lemmas.Bool.{cases_lt}
+use Rattle.std.specs.Option.{option_map}
 use Rattle.std.proofs.lemmas.Bool.Decides.{nat_tests}
 use Rattle.std.proofs.lemmas.List.{length-take, length-drop}
 use Rattle.std.proofs.lemmas.Option.{slice_get-get_or}
@@ -17,13 +16,12 @@ use Rattle.php_graph.specs.declared.child.Child.TheVariants.{Own, Back}
 use Rattle.php_graph.specs.declared.kind.Kind.{Kind}
 use Rattle.php_graph.specs.declared.kind.Kind.TheVariants as kinds
 use Rattle.php_graph.specs.ByteStrings.{AreBytes}
-use Rattle.php_graph.specs.Graph.{kind_at, children_of, passes, is_object, is_object_at, is_array_key, are_distinct, is_class, is_well_formed, FitsKey, FitsKind, is_back, values_in, most_values, ends_after, child_end, end_of, levels, IsGraph, lowered_number, lowered_child, lowered_members, lowered_kind, lowered_places, part_of}
+use Rattle.php_graph.specs.Graph.{kind_at, children_of, passes, is_object, is_object_at, is_array_key, are_distinct, is_class, is_well_formed, FitsKey, FitsKind, is_back, most_values, ends_after, child_end, end_of, levels, IsGraph, lowered_number, lowered_child, lowered_members, lowered_kind, lowered_places, part_of}
 use Rattle.php_graph.specs.Counted.{children_in}
-use Rattle.php_graph.proofs.EndLemmas.{chosen, then_some, EndsAt, own_end, own_makes, back_end, back_makes, grows, own_grows, ends_rise, ends_grow}
-use Rattle.php_graph.proofs.DraftLemmas.{place_is, All-place}
+use Rattle.php_graph.proofs.EndLemmas.{chosen, then_some, EndsAt, own_end, own_makes, back_end, back_makes, grows, own_grows, ends_rise}
+use Rattle.php_graph.proofs.DraftLemmas.{place_is}
 use Rattle.php_graph.proofs.DraftMade.{backs}
-use Rattle.php_graph.proofs.DraftSteps.{passes_some}
-use Rattle.php_graph.proofs.PartEnds.{Ends, place_ends}
+use Rattle.php_graph.proofs.PartEnds.{place_ends}
 
 map_some : {A B : Type 0} (f : A → B) (o : Option A) (y : B) → option_map f o ≡ Some y → (x : A) × (o ≡ Some x) × (f x ≡ y)
 map_some f None y e = absurd cc

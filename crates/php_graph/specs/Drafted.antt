@@ -6,7 +6,7 @@ use Rattle.php_graph.specs.Keys.{KnowsKeys}
 use Rattle.php_graph.specs.Counted.{children_in}
 use Rattle.php_graph.specs.declared.key.Key.{Key}
 use Rattle.php_graph.specs.declared.child.Child.{Child}
-use Rattle.php_graph.specs.declared.child.Child.TheVariants.{Own, Back}
+use Rattle.php_graph.specs.declared.child.Child.TheVariants.{Own}
 use Rattle.php_graph.specs.declared.kind.Kind.{Kind}
 use Rattle.php_graph.specs.declared.kind.Kind.TheVariants as kinds
 use Rattle.php_graph.specs.declared.container.Container.{Container}

@@ -1,5 +1,5 @@
 -- What a graph keeps beside its places.
-use Rattle.std.specs.Prelude.{◌≡◌, ℕ, ◌+◌, ◌≤◌, Option, Some, None, ◌<◌, ◌^◌, List, [], ◌∷◌}
+use Rattle.std.specs.Prelude.{◌≡◌, ℕ, ◌+◌, ◌≤◌, Option, Some, ◌<◌, ◌^◌, List, [], ◌∷◌}
 use Rattle.php_graph.specs.declared.kind.Kind.{Kind}
 use Rattle.php_graph.specs.Graph.{IsGraph, most_values}
 use Rattle.php_graph.specs.Counted.{children_in}

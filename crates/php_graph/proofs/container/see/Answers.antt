@@ -1,5 +1,4 @@
 use Rattle.php_graph.specs.Graph.{keys_of}
-use Rattle.php_graph.specs.Keys.{SeesKeys}
 use Rattle.php_graph.proofs.KeyLemmas.{ok_at, err_at}
 use Rattle.php_graph.proofs.container.see.Goals as goal
 

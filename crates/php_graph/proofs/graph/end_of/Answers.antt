@@ -1,9 +1,7 @@
-use Rattle.std.proofs.Common.{◌≡◌, ◌∙◌, ◌-◌, ◌+◌, ap, arith, sym, Some, None}
-use Rattle.php_graph.specs.declared.kind.Kind.{Kind}
-use Rattle.php_graph.specs.Graph.{kind_at, children_of, end_of}
-use Rattle.php_graph.specs.Kept.{last_own}
+use Rattle.std.proofs.Common.{◌≡◌, ◌∙◌, ◌+◌, ap, arith, sym, Some}
+use Rattle.php_graph.specs.Graph.{kind_at, end_of}
 use Rattle.php_graph.proofs.DraftLemmas.{IsPlace, place_is, get_or-place}
-use Rattle.php_graph.proofs.PartEnds.{Leads, leads_first, leads_kind, leads_on, leads_end, at_place}
+use Rattle.php_graph.proofs.PartEnds.{leads_first, leads_kind, leads_on, leads_end}
 use Rattle.php_graph.proofs.PartLemmas.{IsEnd, end_is}
 use Rattle.php_graph.proofs.graph.end_of.Goals as goal
 use Rattle.php_graph.proofs.graph.end_of.Goals.{At-loop-last, After-last_own, In_default}

@@ -1,4 +1,4 @@
-use Rattle.std.proofs.Common.{◌≡◌, sym, ap, subst, List, Option}
+use Rattle.std.proofs.Common.{◌≡◌, sym, subst, List, Option}
 use Rattle.std.specs.Prelude.{IfOk}
 use Rattle.std.specs.Option.{option_map}
 use Rattle.php_graph.specs.declared.kind.Kind.{Kind}

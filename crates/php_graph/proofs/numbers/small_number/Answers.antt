@@ -1,6 +1,4 @@
-use Rattle.std.proofs.Common.{arith, inr, get_or, drop, ◌+◌, ◌≡◌, ◌∙◌, sym, ap, subst, ◌<◌, ◌^◌, ℕ, List, ◌∷◌}
-use Rattle.std.proofs.lemmas.List.{drop_more}
-use Rattle.php_graph.specs.Numbers.{digits_after}
+use Rattle.std.proofs.Common.{arith, inr}
 use Rattle.php_graph.proofs.NumberLemmas.{large_so_far}
 use Rattle.php_graph.proofs.numbers.small_number.Goals as goal
 

@@ -1,8 +1,7 @@
-use Rattle.std.proofs.Common.{◌≡◌, ◌∙◌, ◌-◌, sym, ap, subst, arith, set, Some, Bool, true}
+use Rattle.std.proofs.Common.{◌≡◌, ◌∙◌, ◌-◌, sym, ap, subst, arith, set, Some}
 use Rattle.php_graph.specs.declared.kind.Kind.{Kind}
 use Rattle.php_graph.specs.declared.key.Key.{Key}
 use Rattle.std.specs.Prelude.{Option}
-use Rattle.php_graph.specs.Graph.{is_object, children_of}
 use Rattle.php_graph.specs.Building.{with_member, attached}
 use Rattle.php_graph.specs.Drafted.{CanTake, CanAttach, places_of}
 use Rattle.php_graph.proofs.DraftLemmas.{place_is, get_or-place}

@@ -1,11 +1,7 @@
-use Rattle.std.proofs.Common.{◌≡◌, ◌∙◌, ◌-◌, sym, ap, subst, arith, get_or, set, length, List, ℕ}
-use Rattle.std.specs.Prelude.{OnOk, OnErr}
-use Rattle.php_graph.specs.declared.container.Container.{Container}
+use Rattle.std.proofs.Common.{◌≡◌, ◌∙◌, ◌-◌, ap, subst, arith, get_or, set, length, ℕ}
 use Rattle.php_graph.specs.declared.kind.Kind.{Kind}
-use Rattle.php_graph.specs.Graph.{keys_of}
-use Rattle.php_graph.specs.Keys.{KnowsKeys}
-use Rattle.php_graph.specs.Building.{innermost_fault, fault_in, IsAnswer}
-use Rattle.php_graph.specs.Drafted.{places_of, KnowsAll}
+use Rattle.php_graph.specs.Building.{fault_in, IsAnswer}
+use Rattle.php_graph.specs.Drafted.{places_of}
 use Rattle.php_graph.proofs.DraftLemmas.{get_or-place}
 use Rattle.php_graph.proofs.DraftKnown.{IsLast, last_is, last_answer, last_places, last_ok, last_err}
 use Rattle.php_graph.proofs.steps.note_last.Goals as goal

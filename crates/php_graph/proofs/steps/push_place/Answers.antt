@@ -1,9 +1,9 @@
-use Rattle.std.proofs.Common.{◌≡◌, ◌∙◌, ◌+◌, ◌++◌, ◌∷◌, [], ap, subst, List, ℕ, arith, length}
+use Rattle.std.proofs.Common.{◌≡◌, ◌∙◌, ◌+◌, ◌++◌, ◌∷◌, [], ap, List, ℕ, arith, length}
 use Rattle.php_graph.specs.declared.kind.Kind.{Kind}
 use Rattle.php_graph.specs.declared.child.Child.TheVariants.{Own}
 use Rattle.php_graph.specs.Building.{attached}
-use Rattle.php_graph.specs.Drafted.{CanAttach, places_of}
-use Rattle.php_graph.proofs.DraftKept.{attached-push, can-push}
+use Rattle.php_graph.specs.Drafted.{places_of}
+use Rattle.php_graph.proofs.DraftKept.{attached-push}
 use Rattle.php_graph.proofs.steps.push_place.Goals as goal
 
 pub returns-in-Ok-clause-ok : goal.returns-in-Ok-clause-ok

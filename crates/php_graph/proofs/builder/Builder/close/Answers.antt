@@ -1,4 +1,4 @@
-use Rattle.std.proofs.Common.{◌≡◌, ◌∙◌, ◌⊎◌, inl, inr, sym, ap, subst}
+use Rattle.std.proofs.Common.{◌≡◌, ◌⊎◌, sym, subst}
 use Rattle.php_graph.specs.declared.item.Wants.TheVariants.{ArrayKey, Name}
 use Rattle.php_graph.specs.Building.{Draft, wants_of}
 use Rattle.php_graph.specs.Drafted.{places_of}

@@ -1,14 +1,11 @@
-use Rattle.std.proofs.Common.{◌≡◌, ◌∙◌, ◌+◌, sym, ap, subst, List, arith, length, length-append, ℕ, Option, None, ◌++◌, ◌∷◌, []}
-use Rattle.std.specs.Prelude.{vec_len}
+use Rattle.std.proofs.Common.{◌≡◌, ◌∙◌, ◌+◌, sym, ap, subst, List, arith, length, length-append, ℕ, Option, ◌++◌, ◌∷◌, []}
 use Rattle.php_graph.specs.declared.container.Container.{Container}
 use Rattle.php_graph.specs.declared.key.Key.{Key}
-use Rattle.php_graph.specs.declared.kind.Kind.{Kind}
 use Rattle.php_graph.specs.declared.child.Child.TheVariants.{Own}
-use Rattle.php_graph.specs.declared.item.Wants.TheVariants.{Value}
-use Rattle.php_graph.specs.Building.{Draft, wants_of, wants_by, room_fault, attached, is_container}
-use Rattle.php_graph.specs.Drafted.{CanAttach, IsBuilding, IsFresh, IsNewValue, Opens, places_of, draft_of}
+use Rattle.php_graph.specs.Building.{Draft, wants_of, room_fault, attached, is_container}
+use Rattle.php_graph.specs.Drafted.{CanAttach, IsBuilding, IsFresh, IsNewValue, places_of, draft_of}
 use Rattle.php_graph.proofs.DraftKept.{can_attach}
-use Rattle.php_graph.proofs.DraftKnown.{HasRoom, has_room, building_value, opens_is}
+use Rattle.php_graph.proofs.DraftKnown.{has_room, building_value, opens_is}
 use Rattle.php_graph.proofs.builder.Builder.push_value.Goals as goal
 
 pub push_place-requires-clause-can : goal.push_place-requires-clause-can

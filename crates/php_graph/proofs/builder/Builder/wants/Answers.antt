@@ -1,9 +1,9 @@
-use Rattle.std.proofs.Common.{◌≡◌, ◌∙◌, ◌-◌, sym, ap, subst, arith, length, List, Some, true, false, cond, Bool}
+use Rattle.std.proofs.Common.{◌≡◌, ◌∙◌, ◌-◌, sym, ap, subst, arith, length, List, Some, cond, Bool}
 use Rattle.std.specs.List.{slice_get}
 use Rattle.php_graph.specs.declared.container.Container.{Container}
 use Rattle.php_graph.specs.declared.item.Wants.TheVariants.{ArrayKey, Name}
 use Rattle.php_graph.specs.Building.{wants_of}
-use Rattle.php_graph.proofs.DraftKept.{IsInnermost, innermost_is, wants_here}
+use Rattle.php_graph.proofs.DraftKept.{innermost_is, wants_here}
 use Rattle.php_graph.proofs.builder.Builder.wants.Goals as goal
 use Rattle.php_graph.proofs.builder.Builder.wants.Goals.{In-Some, After-is_array}
 

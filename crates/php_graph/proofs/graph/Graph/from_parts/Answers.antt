@@ -1,7 +1,7 @@
-use Rattle.std.proofs.Common.{◌≡◌, ◌∙◌, ◌<◌, ◌^◌, sym, ap, subst, List, arith}
+use Rattle.std.proofs.Common.{◌∙◌, ◌<◌, ◌^◌, sym, ap, subst, List, arith}
 use Rattle.php_graph.specs.declared.kind.Kind.{Kind}
 use Rattle.php_graph.specs.Size.{image_length}
-use Rattle.php_graph.specs.Kept.{IsKept, offsets_from}
+use Rattle.php_graph.specs.Kept.{offsets_from}
 use Rattle.php_graph.proofs.SizeLemmas.{image_short}
 use Rattle.php_graph.proofs.graph.Graph.from_parts.Goals as goal
 

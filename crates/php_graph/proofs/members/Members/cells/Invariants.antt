@@ -1,4 +1,4 @@
-use Rattle.std.proofs.Common.{◌≡◌, ◌+◌, sum_by, drop, length}
+use Rattle.std.proofs.Common.{◌≡◌, ◌+◌, sum_by, drop}
 use Rattle.php_graph.specs.Size.{key_cells}
 use Rattle.php_graph.proofs.members.Members.cells.Given as goal
 

@@ -1,4 +1,4 @@
-use Rattle.std.proofs.Common.{◌≡◌, map, take}
+use Rattle.std.proofs.Common.{map, take}
 use Rattle.php_graph.specs.Keys.{HasKeys}
 use Rattle.php_graph.proofs.members.Members.key_set.Given as goal
 

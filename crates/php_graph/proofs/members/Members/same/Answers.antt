@@ -1,4 +1,4 @@
-use Rattle.std.proofs.Common.{◌≡◌, ◌∙◌, sym, ap}
+use Rattle.std.proofs.Common.{◌∙◌, sym}
 use Rattle.php_graph.proofs.EqualLemmas.{members_decide}
 use Rattle.php_graph.proofs.members.Members.same.Goals as goal
 

@@ -1,4 +1,4 @@
-use Rattle.std.proofs.Common.{◌≡◌, map, take}
+use Rattle.std.proofs.Common.{map, take}
 use Rattle.php_graph.specs.declared.key.Key.TheVariants.{Str}
 use Rattle.php_graph.specs.Keys.{HasKeys}
 use Rattle.php_graph.proofs.props.Props.key_set.Given as goal

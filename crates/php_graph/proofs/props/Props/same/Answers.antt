@@ -1,4 +1,4 @@
-use Rattle.std.proofs.Common.{◌≡◌, ◌∙◌, sym, ap}
+use Rattle.std.proofs.Common.{◌∙◌, sym}
 use Rattle.php_graph.proofs.EqualLemmas.{props_decide}
 use Rattle.php_graph.proofs.props.Props.same.Goals as goal
 
