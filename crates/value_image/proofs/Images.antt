@@ -1,15 +1,15 @@
 -- An image place by place, and as one run of words.
-use Rattle.std.proofs.Common.{◌≡◌, ℕ, zero, suc, ◌+◌, ◌-◌, ◌<◌, ◌≤◌, List, [], ◌∷◌, ◌++◌, length, take, drop, Option, Some, None, slice_get, sum_by, refl, sym, ap, ap₂, ◌∙◌, subst, arith, add-one, length-append}
+use Rattle.std.proofs.Common.{◌≡◌, ℕ, zero, suc, ◌+◌, ◌-◌, ◌<◌, ◌≤◌, List, [], ◌∷◌, ◌++◌, length, take, drop, Some, slice_get, sum_by, refl, sym, ap, ap₂, ◌∙◌, subst, arith, length-append}
 use Rattle.std.specs.List.{flat_map}
 use Rattle.std.proofs.Math.Seq.{take-add}
 use Rattle.std.proofs.lemmas.Grind.{flat_map-append}
-use Rattle.std.proofs.lemmas.List.{take_all, take-append-drop, drop-drop}
+use Rattle.std.proofs.lemmas.List.{take-append-drop, drop-drop}
 use Rattle.std.proofs.lemmas.List.Sums.{sum_by-cons}
 use Rattle.php_graph.specs.declared.kind.Kind.{Kind}
 use Rattle.php_graph.specs.Graph.{IsGraph, kind_at}
 use Rattle.php_graph.specs.Size.{cells_of, image_length, offset_of}
 use Rattle.value_image.specs.Rows.{written, StandsAt}
-use Rattle.value_image.specs.Image.{kind_words, place_words, image_of, IsImageOf}
+use Rattle.value_image.specs.Image.{place_words, image_of, IsImageOf}
 use Rattle.value_image.proofs.Runs.{stands-front, stands-back, stands-written, stands-inside}
 use Rattle.value_image.proofs.ItemRuns.{length-items, flat_map-more}
 use Rattle.value_image.proofs.Lengths.{length-kind_words}

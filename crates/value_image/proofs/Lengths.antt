@@ -1,5 +1,5 @@
 -- How many words the parts of an image have.
-use Rattle.std.proofs.Common.{◌≡◌, ℕ, suc, ◌+◌, List, [], ◌∷◌, ◌++◌, length, sum_by, refl, ap, ap₂, ◌∙◌, arith, length-append}
+use Rattle.std.proofs.Common.{◌≡◌, ℕ, ◌+◌, List, length, refl, arith, length-append}
 use Rattle.std.specs.List.{flat_map}
 use Rattle.php_graph.specs.declared.key.Key.{Key}
 use Rattle.php_graph.specs.declared.key.Key.TheVariants as keys
@@ -7,7 +7,6 @@ use Rattle.php_graph.specs.declared.child.Child.{Child}
 use Rattle.php_graph.specs.declared.kind.Kind.{Kind}
 use Rattle.php_graph.specs.declared.kind.Kind.TheVariants as kinds
 use Rattle.php_graph.specs.Size.{words_in, key_cells, cells_of}
-use Rattle.value_image.specs.Packed.{words_of}
 use Rattle.value_image.specs.Image.{string_words, key_words, member_words, property_words, kind_words}
 use Rattle.value_image.proofs.Packing.{length-words_of}
 use Rattle.value_image.proofs.ItemRuns.{length-items}

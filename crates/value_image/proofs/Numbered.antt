@@ -1,17 +1,15 @@
 -- From offsets back to numbers.
-use Rattle.std.proofs.Common.{◌≡◌, ℕ, zero, suc, ◌+◌, ◌-◌, ◌<◌, ◌≤◌, ◌^◌, List, [], ◌∷◌, length, map, take, slice_index, slice_get, get_or, Option, Some, None, sum_by, refl, sym, ap, ap₂, ◌∙◌, subst, arith, add-zero, zero-add}
-use Rattle.std.specs.List.{AllByRecursion}
+use Rattle.std.proofs.Common.{◌≡◌, ℕ, zero, suc, ◌+◌, ◌-◌, ◌<◌, ◌≤◌, List, [], ◌∷◌, length, map, take, slice_index, slice_get, get_or, Some, refl, sym, ap, ap₂, ◌∙◌, subst, arith, add-zero, zero-add}
 use Rattle.std.proofs.lemmas.List.{take-take, length-map}
 use Rattle.std.proofs.lemmas.List.Sums.{sum_by-cons, sum_by_more, sum_by-take-le}
 use Rattle.php_graph.specs.declared.child.Child.{Child}
 use Rattle.php_graph.specs.declared.child.Child.TheVariants.{Own, Back}
 use Rattle.php_graph.specs.declared.kind.Kind.{Kind}
 use Rattle.php_graph.specs.declared.kind.Kind.TheVariants as kinds
-use Rattle.php_graph.specs.Graph.{IsGraph, kind_at}
 use Rattle.php_graph.specs.Size.{cells_of, image_length, offset_of}
 use Rattle.php_graph.specs.Kept.{offsets_from}
 use Rattle.value_image.specs.Places.{number_of, IsPlaceOf, AllNamePlaces, NamesPlaces}
-use Rattle.value_image.specs.Reading.{renumbered_child, renumbered_member, renumbered_kind, AllBelow, IsBelow, IsTableOf, IsReadOf}
+use Rattle.value_image.specs.Reading.{renumbered_child, renumbered_member, renumbered_kind, IsBelow, IsTableOf, IsReadOf}
 use Rattle.value_image.proofs.Sealed.{names_places}
 
 -- ---- offsets

@@ -1,5 +1,5 @@
 -- The same words are the image of one graph at most.
-use Rattle.std.proofs.Common.{◌≡◌, ◌≢◌, ℕ, zero, suc, ◌+◌, ◌-◌, ◌*◌, ◌/◌, ◌%◌, ◌<◌, ◌≤◌, ◌^◌, ℤ, Bool, true, false, cond, eqb, List, [], ◌∷◌, ◌++◌, length, map, take, drop, slice_index, sum_by, refl, sym, ap, ap₂, ◌∙◌, subst, arith, add-zero, FitsSigned}
+use Rattle.std.proofs.Common.{◌≡◌, ◌≢◌, ℕ, zero, suc, ◌+◌, ◌-◌, ◌*◌, ◌%◌, ◌<◌, ℤ, Bool, true, false, cond, eqb, List, [], ◌∷◌, ◌++◌, length, map, take, slice_index, sum_by, refl, sym, ap, ap₂, ◌∙◌, subst, arith, add-zero, FitsSigned}
 use Rattle.std.specs.List.{flat_map, AllByRecursion}
 use Rattle.std.specs.Int.{w64, cast_unsigned, cast_signed}
 use Rattle.std.proofs.lemmas.Int.{to_z-of_z}
@@ -14,14 +14,13 @@ use Rattle.php_graph.specs.declared.kind.Kind.{Kind}
 use Rattle.php_graph.specs.declared.kind.Kind.TheVariants as kinds
 use Rattle.php_graph.specs.ByteStrings.{AreBytes}
 use Rattle.php_graph.specs.Graph.{IsGraph, FitsKind, FitsKey}
-use Rattle.php_graph.specs.Size.{words_in, key_cells, cells_of, image_length, offset_of}
-use Rattle.value_image.specs.Packed.{bytes_of, words_of}
+use Rattle.php_graph.specs.Size.{cells_of, image_length, offset_of}
+use Rattle.value_image.specs.Packed.{words_of}
 use Rattle.value_image.specs.Rows.{StandsAt, IsToldAt}
 use Rattle.value_image.specs.Image.{string_words, key_words, child_word, member_words, property_words, kind_words, place_words, image_of, IsImageOf}
 use Rattle.value_image.specs.Places.{IsPlaceOf}
 use Rattle.value_image.specs.Reading.{itself, renumbered_member, renumbered_kind, IsStringAt, IsKeyAt}
 use Rattle.value_image.proofs.Runs.{told-front, told-back}
-use Rattle.value_image.proofs.Lengths.{length-string_words, length-key_words, length-kind_words}
 use Rattle.value_image.proofs.Sealed.{names_places}
 use Rattle.value_image.proofs.Images.{image-stands}
 use Rattle.value_image.proofs.Parts.{told-first, told-rest, text-bytes, key-int, key-string}

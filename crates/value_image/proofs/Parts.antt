@@ -1,8 +1,7 @@
 -- What stands in a row, part by part.
-use Rattle.std.proofs.Common.{◌≡◌, ◌≢◌, ℕ, zero, suc, ◌+◌, ◌-◌, ◌*◌, ◌/◌, ◌%◌, ◌<◌, ◌≤◌, ◌^◌, Bool, true, false, List, [], ◌∷◌, ◌++◌, length, take, drop, slice_index, slice_get, Option, Some, None, sum_by, refl, sym, ap, ◌∙◌, subst, arith, FitsSigned, ℤ}
-use Rattle.std.specs.List.{flat_map, AllByRecursion}
+use Rattle.std.proofs.Common.{◌≡◌, ◌≢◌, ℕ, ◌+◌, ◌*◌, ◌/◌, ◌%◌, ◌<◌, ◌≤◌, ◌^◌, true, false, List, [], ◌∷◌, ◌++◌, length, take, drop, slice_index, slice_get, Some, sum_by, refl, sym, ap, ◌∙◌, subst, arith, FitsSigned, ℤ}
+use Rattle.std.specs.List.{flat_map}
 use Rattle.std.specs.Int.{w64, cast_unsigned}
-use Rattle.std.proofs.lemmas.Grind.{flat_map-append}
 use Rattle.std.proofs.lemmas.List.{take-append-drop}
 use Rattle.std.proofs.lemmas.List.Sums.{sum_by-cons}
 use Rattle.php_graph.specs.declared.key.Key.{Key}
@@ -10,20 +9,17 @@ use Rattle.php_graph.specs.declared.key.Key.TheVariants as keys
 use Rattle.php_graph.specs.declared.child.Child.{Child}
 use Rattle.php_graph.specs.declared.kind.Kind.{Kind}
 use Rattle.php_graph.specs.declared.kind.Kind.TheVariants as kinds
-use Rattle.php_graph.specs.ByteStrings.{AreBytes}
-use Rattle.php_graph.specs.Graph.{FitsKey}
 use Rattle.php_graph.specs.Size.{words_in, key_cells}
 use Rattle.seg_words.specs.Windows.{Aside}
 use Rattle.seg_words.specs.Blocks.{IsTold}
 use Rattle.value_image.specs.Packed.{bytes_of, words_of}
-use Rattle.value_image.specs.Rows.{StandsAt, IsToldAt}
-use Rattle.value_image.specs.Image.{string_words, key_words, child_word, member_words, property_words}
-use Rattle.value_image.specs.Places.{number_of}
+use Rattle.value_image.specs.Rows.{IsToldAt}
+use Rattle.value_image.specs.Image.{string_words, member_words, property_words}
 use Rattle.value_image.specs.Reading.{itself, IsStringAt, IsKeyAt, IsMemberAt, IsPropertyAt, AreMembersAt, ArePropertiesAt, IsObjectAt, IsKindAt, FitsMember, FitsProperty}
-use Rattle.value_image.proofs.Runs.{stands-inside, stands-at, stands-back, told-front, told-back}
+use Rattle.value_image.proofs.Runs.{stands-inside, stands-at, told-front, told-back}
 use Rattle.value_image.proofs.Packing.{length-words_of, unpacked}
 use Rattle.value_image.proofs.ItemRuns.{told-item, all-get, get-some, length-items}
-use Rattle.value_image.proofs.Lengths.{length-string_words, length-key_words, length-member_words, length-property_words}
+use Rattle.value_image.proofs.Lengths.{length-string_words, length-member_words, length-property_words}
 
 -- the first word of a run
 pub told-first : (row windows : List ℕ) (at w : ℕ) (run : List ℕ) → IsToldAt row windows at (w ∷ run) → (at < length row) × IsTold windows at × (slice_index row at ≡ w)

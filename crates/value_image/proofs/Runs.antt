@@ -1,9 +1,8 @@
 -- Runs of words that are written into a row, or stand in it.
-use Rattle.std.proofs.Common.{◌≡◌, ◌≢◌, ◌⊎◌, ℕ, zero, suc, ◌+◌, ◌-◌, ◌/◌, ◌<◌, ◌≤◌, Bool, true, List, [], ◌∷◌, ◌++◌, length, slice_set, slice_index, take, drop, get_or, refl, ap, ap₂, sym, ◌∙◌, subst, arith, add_assoc, add-zero, add-one, inl, inr, length-append}
-use Rattle.std.proofs.lemmas.Bool.{cases_lt}
+use Rattle.std.proofs.Common.{◌≡◌, ◌≢◌, ◌⊎◌, ℕ, ◌+◌, ◌-◌, ◌/◌, ◌<◌, ◌≤◌, List, [], ◌∷◌, ◌++◌, length, slice_set, slice_index, take, drop, get_or, refl, ap, ap₂, sym, ◌∙◌, subst, arith, add-zero, length-append}
 use Rattle.std.proofs.lemmas.List.{length-set, get_or-set_other, take-append-drop, take_more_set, drop-set-lt, drop-drop, append_assoc, take_at, drop_at, length-take, length-take-le, length-drop, get_or-drop, get_or-take, take-take, drop-take}
-use Rattle.seg_words.specs.Windows.{Aside, is_named}
-use Rattle.seg_words.specs.Blocks.{IsApart, MayStore, IsTold, image_place, image_end}
+use Rattle.seg_words.specs.Windows.{Aside}
+use Rattle.seg_words.specs.Blocks.{IsApart, MayStore, image_place, image_end}
 use Rattle.value_image.specs.Rows.{written, MayWrite, StandsAt, IsToldAt}
 
 -- ---- what was written

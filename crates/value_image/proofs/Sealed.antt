@@ -1,5 +1,5 @@
 -- The numbers in a graph are places of it.
-use Rattle.std.proofs.Common.{◌≡◌, ℕ, zero, suc, ◌+◌, ◌-◌, ◌<◌, ◌≤◌, Bool, true, false, cond, eqb, ltb, leb, ◌&&◌, IsTrue, List, [], ◌∷◌, length, map, Option, Some, None, slice_get, refl, sym, ap, ◌∙◌, subst, arith, inl, inr}
+use Rattle.std.proofs.Common.{◌≡◌, ℕ, zero, suc, ◌+◌, ◌<◌, ◌≤◌, true, false, cond, eqb, ltb, leb, ◌&&◌, IsTrue, List, [], ◌∷◌, length, map, Option, Some, None, slice_get, refl, sym, subst, arith, inl, inr}
 use Rattle.std.specs.Option.{option_and_then}
 use Rattle.std.specs.List.{AllByRecursion}
 use Rattle.std.proofs.lemmas.Bool.{cases_lt}
@@ -9,7 +9,7 @@ use Rattle.php_graph.specs.declared.child.Child.TheVariants.{Own, Back}
 use Rattle.php_graph.specs.declared.kind.Kind.{Kind}
 use Rattle.php_graph.specs.declared.kind.Kind.TheVariants as kinds
 use Rattle.php_graph.specs.Graph.{IsGraph, kind_at, children_of, ends_after, child_end, end_of, levels, is_object_at}
-use Rattle.value_image.specs.Places.{number_of, IsPlaceOf, AllNamePlaces, NamesPlaces}
+use Rattle.value_image.specs.Places.{number_of, IsPlaceOf, NamesPlaces}
 
 -- the members name places before e
 abbrev pub AllBelow : ℕ → List Child → Type 0

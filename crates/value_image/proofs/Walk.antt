@@ -1,5 +1,5 @@
 -- An image read place by place.
-use Rattle.std.proofs.Common.{◌≡◌, ℕ, zero, suc, ◌+◌, ◌-◌, ◌*◌, ◌<◌, ◌≤◌, ◌^◌, List, [], ◌∷◌, ◌++◌, length, map, take, drop, slice_get, get_or, Option, Some, None, sum_by, refl, inl, inr, zero-add, sym, ap, ap₂, ◌∙◌, subst, arith, add-one}
+use Rattle.std.proofs.Common.{◌≡◌, ℕ, suc, ◌+◌, ◌-◌, ◌*◌, ◌<◌, ◌≤◌, ◌^◌, List, [], ◌∷◌, ◌++◌, length, map, take, drop, slice_get, Some, refl, inl, inr, zero-add, sym, ap, ap₂, ◌∙◌, arith}
 use Rattle.std.specs.List.{flat_map, AllByRecursion}
 use Rattle.std.proofs.lemmas.Bool.{cases_lt}
 use Rattle.std.proofs.lemmas.List.{length-map, length_push, map-append, take_all}
@@ -10,19 +10,19 @@ use Rattle.php_graph.specs.declared.child.Child.TheVariants.{Own, Back}
 use Rattle.php_graph.specs.declared.kind.Kind.{Kind}
 use Rattle.php_graph.specs.declared.kind.Kind.TheVariants as kinds
 use Rattle.php_graph.specs.ByteStrings.{AreBytes}
-use Rattle.php_graph.specs.Graph.{IsGraph, kind_at, FitsKind, FitsKey}
+use Rattle.php_graph.specs.Graph.{IsGraph, FitsKind, FitsKey}
 use Rattle.php_graph.specs.Size.{cells_of, image_length, offset_of}
 use Rattle.php_graph.specs.Kept.{offsets_from}
 use Rattle.seg_words.specs.Windows.{Aside}
 use Rattle.seg_words.specs.Blocks.{IsTold}
-use Rattle.value_image.specs.Rows.{StandsAt, IsToldAt}
+use Rattle.value_image.specs.Rows.{StandsAt}
 use Rattle.value_image.specs.Places.{number_of}
 use Rattle.value_image.specs.Image.{string_words, key_words, child_word, member_words, property_words, kind_words, place_words, IsImageOf}
 use Rattle.value_image.specs.Reading.{itself, renumbered_child, renumbered_member, renumbered_kind, FitsMember, FitsProperty, FitsRead, IsKindAt, IsReadOf}
 use Rattle.value_image.proofs.ItemRuns.{take_more-get, cells-more, cells-within, get-some, all-get}
 use Rattle.value_image.proofs.Lengths.{length-kind_words}
 use Rattle.value_image.proofs.Sealed.{get-within}
-use Rattle.value_image.proofs.Numbered.{cells_of-one, image-rising}
+use Rattle.value_image.proofs.Numbered.{image-rising}
 
 -- ---- offsets in place of numbers
 

@@ -1,4 +1,4 @@
-use Rattle.std.proofs.Common.{◌≡◌, ℕ, ◌+◌, ◌*◌, ◌/◌, ◌%◌, ◌<◌, List, ap, sym, refl, ◌∙◌, arith, subst, length, take, drop, get_or, slice_index}
+use Rattle.std.proofs.Common.{◌≡◌, ℕ, ◌+◌, ◌*◌, ◌/◌, ◌%◌, List, ap, sym, ◌∙◌, arith, subst, length, take, drop, get_or}
 use Rattle.std.proofs.lemmas.List.{take_all, get_or-drop, length-drop}
 use Rattle.seg_words.specs.Blocks.{IsTold}
 use Rattle.byteorder.specs.Endian.{little_bytes}

@@ -1,4 +1,4 @@
-use Rattle.std.proofs.Common.{◌≡◌, ◌+◌, List, [], ◌∷◌, ◌++◌, take, sum_by, length, ℕ, arith, ap₂, sym, ◌∙◌}
+use Rattle.std.proofs.Common.{◌+◌, List, [], ◌∷◌, ◌++◌, length, ℕ, arith, ap₂, sym, ◌∙◌}
 use Rattle.php_graph.specs.declared.child.Child.{Child}
 use Rattle.php_graph.specs.Size.{words_in}
 use Rattle.value_image.proofs.ItemRuns.{take_more-get, cells-more}

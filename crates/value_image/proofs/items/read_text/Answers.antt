@@ -1,5 +1,4 @@
-use Rattle.std.proofs.Common.{◌≡◌, ℕ, ◌+◌, ◌/◌, List, length, ap, ◌∙◌, sym, arith}
-use Rattle.php_graph.specs.Size.{words_in}
+use Rattle.std.proofs.Common.{◌∙◌, arith}
 use Rattle.value_image.proofs.Parts.{text-inside, text-told, text-bytes, text-end}
 use Rattle.value_image.proofs.items.read_text.Goals as goal
 

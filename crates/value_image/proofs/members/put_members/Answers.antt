@@ -1,4 +1,4 @@
-use Rattle.std.proofs.Common.{ℕ, ◌+◌, ◌∙◌, arith, take, sum_by}
+use Rattle.std.proofs.Common.{◌+◌, ◌∙◌, arith}
 use Rattle.php_graph.specs.Size.{key_cells, offset_of}
 use Rattle.value_image.specs.Image.{member_words}
 use Rattle.value_image.proofs.ItemRuns.{item_may_write, item_written, cells-more}

@@ -1,4 +1,4 @@
-use Rattle.std.proofs.Common.{ℕ, ◌+◌, ◌∙◌, arith, take, sum_by, length}
+use Rattle.std.proofs.Common.{◌+◌, ◌∙◌, arith, length}
 use Rattle.php_graph.specs.Size.{words_in, offset_of}
 use Rattle.value_image.specs.Image.{property_words}
 use Rattle.value_image.proofs.ItemRuns.{item_may_write, item_written, cells-more}

@@ -1,5 +1,5 @@
 use Rattle.std.proofs.Common.{◌≡◌, ◌+◌, ◌*◌, [], ◌∷◌, length, arith}
-use Rattle.value_image.proofs.Runs.{may_write-fewer, may_write-along, written-along}
+use Rattle.value_image.proofs.Runs.{may_write-fewer, may_write-along}
 use Rattle.value_image.proofs.members.put_string.Goals as goal
 
 pub put_one-next-requires : goal.put_one-next-requires

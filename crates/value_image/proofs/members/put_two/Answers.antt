@@ -1,4 +1,4 @@
-use Rattle.std.proofs.Common.{[], ◌∷◌, arith, refl}
+use Rattle.std.proofs.Common.{[], ◌∷◌, arith}
 use Rattle.value_image.proofs.Runs.{may_write-fewer, may_write-along}
 use Rattle.value_image.proofs.members.put_two.Goals as goal
 

@@ -1,6 +1,5 @@
-use Rattle.std.proofs.Common.{◌≡◌, ℕ, [], ◌∷◌, List, length, map, slice_index, sym, ap, ◌∙◌, arith}
-use Rattle.php_graph.specs.declared.kind.Kind.{Kind}
-use Rattle.value_image.specs.Reading.{renumbered_kind, IsTableOf}
+use Rattle.std.proofs.Common.{ℕ, [], ◌∷◌, List, length, map, slice_index, ap, ◌∙◌, arith}
+use Rattle.value_image.specs.Reading.{renumbered_kind}
 use Rattle.value_image.proofs.Numbered.{length-offsets, places-few, offsets-below, offsets-rising, table-many, read-one, read-below, read-back}
 use Rattle.value_image.proofs.numbers.number.Goals as goal
 

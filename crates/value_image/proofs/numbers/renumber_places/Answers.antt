@@ -1,4 +1,4 @@
-use Rattle.std.proofs.Common.{◌≡◌, ℕ, ◌<◌, List, length, slice_index, slice_get, slice_set, get_or, Option, Some, ap, ap₂, sym, ◌∙◌, arith}
+use Rattle.std.proofs.Common.{◌≡◌, ℕ, ◌<◌, List, length, slice_index, slice_get, slice_set, get_or, Some, ap, ap₂, sym, ◌∙◌, arith}
 use Rattle.php_graph.specs.declared.kind.Kind.{Kind}
 use Rattle.value_image.specs.Reading.{renumbered_kind}
 use Rattle.value_image.proofs.Mixed.{mixed, length-mixed, get-mixed, set-mixed, get-read}

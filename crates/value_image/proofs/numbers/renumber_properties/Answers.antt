@@ -1,4 +1,4 @@
-use Rattle.std.proofs.Common.{◌≡◌, ℕ, ◌+◌, ◌<◌, List, length, slice_index, slice_get, slice_set, Option, Some, ap, ap₂, sym, ◌∙◌, arith}
+use Rattle.std.proofs.Common.{◌≡◌, ℕ, List, length, slice_index, slice_get, slice_set, Some, ap, ap₂, sym, ◌∙◌, arith}
 use Rattle.php_graph.specs.declared.child.Child.{Child}
 use Rattle.value_image.specs.Reading.{renumbered_member}
 use Rattle.value_image.proofs.Mixed.{length-mixed, get-mixed, set-mixed}

@@ -1,4 +1,4 @@
-use Rattle.std.proofs.Common.{◌≡◌, ◌+◌, List, arith}
+use Rattle.std.proofs.Common.{arith}
 use Rattle.value_image.proofs.Parts.{object-class, object-properties}
 use Rattle.value_image.proofs.read.read_object.Goals as goal
 

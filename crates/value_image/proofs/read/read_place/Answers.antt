@@ -1,8 +1,8 @@
-use Rattle.std.proofs.Common.{◌≡◌, ℕ, ◌+◌, List, sum_by, arith, ap, ap₂, sym, ◌∙◌}
+use Rattle.std.proofs.Common.{◌≡◌, ℕ, ◌+◌, List, sum_by, arith, ap, sym, ◌∙◌}
 use Rattle.php_graph.specs.declared.key.Key.{Key}
 use Rattle.php_graph.specs.declared.child.Child.{Child}
 use Rattle.php_graph.specs.declared.kind.Kind.{Kind}
-use Rattle.php_graph.specs.declared.kind.Kind.TheVariants.{Array, Object}
+use Rattle.php_graph.specs.declared.kind.Kind.TheVariants.{Array}
 use Rattle.php_graph.specs.Size.{cells_of, key_cells}
 use Rattle.value_image.proofs.Parts.{array-at, object-at, members-few, object-few}
 use Rattle.value_image.proofs.read.read_place.Goals as goal

@@ -1,9 +1,9 @@
-use Rattle.std.proofs.Common.{◌≡◌, ℕ, ◌+◌, ◌-◌, ◌<◌, ◌^◌, List, [], ◌∷◌, ◌++◌, arith, ap, ◌∙◌}
+use Rattle.std.proofs.Common.{ℕ, ◌<◌, ◌^◌, [], ◌∷◌, ◌++◌, arith, ap, ◌∙◌}
 use Rattle.value_image.specs.Reading.{renumbered_kind}
 use Rattle.php_graph.specs.Size.{offset_of}
 use Rattle.value_image.proofs.Images.{image-inside}
 use Rattle.value_image.proofs.Numbered.{cells_of-one}
-use Rattle.value_image.proofs.Walk.{walk-none, walk-next, walk-more, walk-all, kind-cells}
+use Rattle.value_image.proofs.Walk.{walk-next, walk-more, walk-all, kind-cells}
 use Rattle.value_image.proofs.read.read_places.Goals as goal
 
 pub read_place-requires : goal.read_place-requires

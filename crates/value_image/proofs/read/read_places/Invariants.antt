@@ -1,9 +1,6 @@
-use Rattle.std.proofs.Common.{◌≡◌, ◌+◌, ◌-◌, ◌≤◌, List, length, map, take}
+use Rattle.std.proofs.Common.{◌≡◌, ◌-◌, List}
 use Rattle.php_graph.specs.declared.kind.Kind.{Kind}
-use Rattle.php_graph.specs.Size.{image_length, offset_of}
-use Rattle.php_graph.specs.Kept.{offsets_from}
 use Rattle.value_image.specs.Image.{IsImageOf}
-use Rattle.value_image.specs.Reading.{renumbered_kind}
 use Rattle.value_image.proofs.Walk.{IsWalkTo}
 use Rattle.value_image.proofs.read.read_places.Given as goal
 
