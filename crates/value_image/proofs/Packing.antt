@@ -13,6 +13,7 @@ use Rattle.byteorder.specs.Endian.{little_bytes, little_number, little_from}
 use Rattle.byteorder.specs.Numbers.{length-bytes_low_first, little_from-take}
 use Rattle.byteorder.proofs.Bytes.{little_from-zeros_after}
 use Rattle.byteorder.proofs.Slices.{write_step}
+use Rattle.php_graph.specs.ByteStrings.{AreBytes}
 use Rattle.php_graph.specs.Size.{words_in}
 use Rattle.value_image.specs.Packed.{bytes_of, words_of, word_at}
 use Rattle.value_image.specs.Rows.{written}
@@ -205,3 +206,7 @@ unpacked bs rest all =
     ap (take (length bs)) (flat_map-append (little_bytes 8) (words_of bs) rest)
     ∙ (take-append-le (length bs) (bytes_of (words_of bs)) (bytes_of rest) (omega (arith, len, long))
     ∙ packed bs (small-all bs all))
+
+pub words_of-apart : (x y : List ℕ) → AreBytes x → AreBytes y → length x ≡ length y → words_of x ≡ words_of y → x ≡ y
+words_of-apart x y hx hy len e =
+    sym (packed x (small-all x hx.1)) ∙ (ap₂ (λ (n : ℕ) (ws : List ℕ). take n (bytes_of ws)) len e ∙ packed y (small-all y hy.1))

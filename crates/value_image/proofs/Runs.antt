@@ -145,3 +145,26 @@ may_write-along row old at n run row' new b m h ew ea eb le =
 pub written-along : (row : List ℕ) (at : ℕ) (xs ys row' row'' : List ℕ) (b : ℕ) → row' ≡ written row at xs → row'' ≡ written row' b ys → b ≡ at + length xs → row'' ≡ written row at (xs ++ ys)
 written-along row at xs ys row' row'' b e f eb =
     f ∙ (ap (λ (r : List ℕ). written r b ys) e ∙ written-then row at xs ys b eb)
+
+pub written-before : (row : List ℕ) (at : ℕ) (run : List ℕ) (i : ℕ) → i < at → slice_index (written row at run) i ≡ slice_index row i
+written-before row at [] i lt = refl
+written-before row at (w ∷ run) i lt =
+    let ne : i ≢ at = omega arith in
+    written-before (slice_set row at w) (at + 1) run i (omega arith) ∙ get_or-set_other row at i w 0 ne
+
+pub written-behind : (row : List ℕ) (at : ℕ) (run : List ℕ) (i : ℕ) → at + length run ≤ i → slice_index (written row at run) i ≡ slice_index row i
+written-behind row at [] i le = refl
+written-behind row at (w ∷ run) i le =
+    let ne : i ≢ at = omega arith in
+    written-behind (slice_set row at w) (at + 1) run i (omega arith) ∙ get_or-set_other row at i w 0 ne
+
+-- what may be stored still may be, once a run that may be written was
+pub may_store-written : (row windows : List ℕ) (at : ℕ) (run : List ℕ) (i : ℕ) → MayWrite row windows at (length run) → MayStore row windows i → MayStore (written row at run) windows i
+may_store-written row windows at [] i h hi = hi
+may_store-written row windows at (w ∷ run) i h hi =
+    let same = length-set row at w in
+    let next : MayWrite (slice_set row at w) windows (at + 1) (length run) = record {
+      inside = omega (arith, same, h.inside);
+      apart = λ j low high. may_store-set row windows at j w (h.apart at (omega arith) (omega arith)) (h.apart j (omega arith) (omega arith));
+    } in
+    may_store-written (slice_set row at w) windows (at + 1) run i next (may_store-set row windows at i w (h.apart at (omega arith) (omega arith)) hi)

@@ -9,8 +9,8 @@ ghost use Rattle.value_image.specs.Rows.{written, MayWrite};
 use byteorder::{ByteOrder, LittleEndian};
 use seg_words::{Segment, WordsIn};
 
-/// Writes the bytes from place `at` on, eight a word, the last word filled with zeros.
-pub(crate) fn put_bytes<S: Segment>(seg: &mut S, at: u32, bytes: &[u8])
+/// Writes the bytes from place `at` on, eight a word, the last word filled with zeros. It takes no memory.
+pub fn put_bytes<S: Segment>(seg: &mut S, at: u32, bytes: &[u8])
     requires { MayWrite (S.words seg.old) (S.aside seg.old).windows at (words_in (length bytes.now)) }
     ensures words { S.words seg.new ≡ written (S.words seg.old) at (words_of bytes.now) }
     ensures aside { S.aside seg.new ≡ S.aside seg.old }
@@ -27,8 +27,8 @@ pub(crate) fn put_bytes<S: Segment>(seg: &mut S, at: u32, bytes: &[u8])
     }
 }
 
-/// Fills the buffer with the bytes of the words from place `at` on.
-pub(crate) fn get_bytes<W: WordsIn>(from: &mut W, at: u32, out: &mut [u8])
+/// Fills the buffer with the bytes of the words from place `at` on. It takes no memory.
+pub fn get_bytes<W: WordsIn>(from: &mut W, at: u32, out: &mut [u8])
     requires inside { at + words_in (length out.old) ≤ length (W.words from.old) }
     requires told { (i : ℕ) → at ≤ i → i < at + words_in (length out.old)
         → IsTold (W.aside from.old).windows i }

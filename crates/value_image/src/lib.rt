@@ -9,7 +9,8 @@ mod numbers;
 mod read;
 mod write;
 
-pub use laws::{images_are_runs, images_differ};
+pub use bytes::{get_bytes, put_bytes};
+pub use laws::{bytes_are_packed, images_are_runs, images_differ, runs_are_written};
 pub use read::unpersist;
 pub use write::persist;
 
