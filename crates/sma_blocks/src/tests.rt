@@ -3,6 +3,7 @@ ghost use Rattle.seg_words.specs.Windows.{is_named};
 ghost use Rattle.sma_blocks.specs.Live.{live_blocks, with_block, without_block};
 ghost use Rattle.sma_blocks.specs.Ready.{IsReady};
 
+use crate::laws::{block_laws, list_laws};
 use crate::sma::Sma;
 use seg_words::{Extent, Segment, VecWords, first_fit};
 use std::alloc::{AllocError, Global};
@@ -256,4 +257,10 @@ fn agrees_with_the_plain_list(rt: HostRuntime) -> Result<(), Fail> {
     let mut sma = Sma::format(&mut words, 32);
     assert_eq!(rt; play(rt.alloc(), &mut sma, &mut words, &calls)?, 10_000);
     Ok(())
+}
+
+#[test]
+fn states_its_laws() {
+    block_laws();
+    list_laws();
 }
