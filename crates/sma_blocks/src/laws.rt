@@ -1,8 +1,9 @@
-ghost use Rattle.std.specs.Prelude.{◌≡◌, ◌≢◌, ◌⊎◌, ℕ, ◌+◌, ◌≤◌, true, List, Contains};
+ghost use Rattle.std.specs.Prelude.{◌≡◌, ◌≢◌, ◌⊎◌, ℕ, ◌+◌, ◌≤◌, true, List, Option, Contains};
 ghost use Rattle.seg_words.specs.declared.extents.Extent.{Extent};
 ghost use Rattle.seg_words.specs.Windows.{Aside, is_named};
 ghost use Rattle.sma_blocks.specs.declared.sma.Sma.{Sma};
 ghost use Rattle.sma_blocks.specs.Live.{live_blocks, with_block, without_block};
+ghost use Rattle.sma_blocks.specs.Calls.{Call, answers_to, after_calls, AllMade};
 ghost use Rattle.sma_blocks.specs.Ready.{IsReady, ChangesInside, ChangesBefore, KeepsLengths, Stays};
 
 /// What may change and leave all blocks as they are: words inside a live block, past its first, where
@@ -22,4 +23,10 @@ pub fn list_laws()
     ensures with_cases { (block : Extent) (blocks : List Extent) (other : Extent) → Contains (with_block block blocks) other → (block ≡ other) ⊎ Contains blocks other }
     ensures left { (at : ℕ) (blocks : List Extent) (other : Extent) → Contains blocks other → other.place ≢ at → Contains (without_block at blocks) other }
     ensures without_cases { (at : ℕ) (blocks : List Extent) (other : Extent) → Contains (without_block at blocks) other → Contains blocks other × (other.place ≢ at) }
+{}
+
+/// Any calls of `take` and `give`, one after the other, answer as the plain list of live blocks does
+/// and leave its blocks. From `Sma::format` on that list begins empty.
+pub fn call_laws()
+    ensures { (sma : Sma) (old new : List ℕ) (calls : List Call) (answers : List (Option ℕ)) → AllMade sma old calls answers new → (answers ≡ answers_to sma.from sma.to (live_blocks old sma.from) calls) × (live_blocks new sma.from ≡ after_calls sma.from sma.to (live_blocks old sma.from) calls) }
 {}

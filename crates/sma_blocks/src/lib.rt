@@ -4,7 +4,7 @@
 mod laws;
 mod sma;
 
-pub use laws::{block_laws, list_laws};
+pub use laws::{block_laws, call_laws, list_laws};
 pub use sma::Sma;
 
 #[cfg(test)]
