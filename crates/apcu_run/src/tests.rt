@@ -120,7 +120,7 @@ struct Refused {
     told: &'static [u8],
 }
 
-fn refused(input: &'static [u8], told: &'static [u8]) -> Refused {
+fn refusal(input: &'static [u8], told: &'static [u8]) -> Refused {
     Refused { input, told }
 }
 
@@ -151,19 +151,19 @@ fn lines_with_a_fault(rt: HostRuntime) -> Result<(), Fail> {
             b"worker\napcu_fetch a:0:{}\n",
             b"apcu_run: script: byte 18: unbuilt\n",
         ),
-        refused(b"worker\nworker\n", b"apcu_run: script: byte 7: unbuilt\n"),
+        refusal(b"worker\nworker\n", b"apcu_run: script: byte 7: unbuilt\n"),
         refused(
             b"worker\napcu_inc s:1:\"a\";\n",
             b"apcu_run: script: byte 7: unbuilt\n",
         ),
-        refused(b"worker", b"apcu_run: script: byte 6: end\n"),
-        refused(b"worker 1\n", b"apcu_run: script: byte 7: argument\n"),
+        refusal(b"worker", b"apcu_run: script: byte 6: end\n"),
+        refusal(b"worker 1\n", b"apcu_run: script: byte 7: argument\n"),
         refused(
             b"apcu_fetch s:1:\"a\";\n",
             b"apcu_run: script: byte 0: line\n",
         ),
-        refused(b"worker\n\n", b"apcu_run: script: byte 7: line\n"),
-        refused(b"\n", b"apcu_run: script: byte 0: line\n"),
+        refusal(b"worker\n\n", b"apcu_run: script: byte 7: line\n"),
+        refusal(b"\n", b"apcu_run: script: byte 0: line\n"),
     ];
     for row in &rows {
         expect(&rt, rt.alloc(), row.input, Status::Script, b"", row.told)?;
@@ -175,23 +175,23 @@ fn lines_with_a_fault(rt: HostRuntime) -> Result<(), Fail> {
 fn values_with_a_fault(rt: HostRuntime) -> Result<(), Fail> {
     let alloc = rt.alloc();
     let rows = [
-        refused(b"i:05;", b"apcu_run: script: byte 29: number\n"),
-        refused(b"s:3:\"ab\";", b"apcu_run: script: byte 29: length\n"),
-        refused(b"d:1.5;", b"apcu_run: script: byte 27: tag\n"),
-        refused(b"a:1:{i:0;r:1;}", b"apcu_run: script: byte 38: target\n"),
+        refusal(b"i:05;", b"apcu_run: script: byte 29: number\n"),
+        refusal(b"s:3:\"ab\";", b"apcu_run: script: byte 29: length\n"),
+        refusal(b"d:1.5;", b"apcu_run: script: byte 27: tag\n"),
+        refusal(b"a:1:{i:0;r:1;}", b"apcu_run: script: byte 38: target\n"),
         refused(
             b"s:4294967295:\"a\";",
             b"apcu_run: script: byte 29: length\n",
         ),
-        refused(b"a:4294967295:{}", b"apcu_run: script: byte 41: tag\n"),
-        refused(b"a:1:{i:0;R:2;}", b"apcu_run: script: byte 38: target\n"),
-        refused(b"R:1;", b"apcu_run: script: byte 29: target\n"),
+        refusal(b"a:4294967295:{}", b"apcu_run: script: byte 41: tag\n"),
+        refusal(b"a:1:{i:0;R:2;}", b"apcu_run: script: byte 38: target\n"),
+        refusal(b"R:1;", b"apcu_run: script: byte 29: target\n"),
         refused(
             b"i:9223372036854775808;",
             b"apcu_run: script: byte 29: number\n",
         ),
-        refused(b"b:2;", b"apcu_run: script: byte 29: number\n"),
-        refused(b"a:1:{i:0;i:1;", b"apcu_run: script: byte 40: mark\n"),
+        refusal(b"b:2;", b"apcu_run: script: byte 29: number\n"),
+        refusal(b"a:1:{i:0;i:1;", b"apcu_run: script: byte 40: mark\n"),
         refused(
             b"a:2:{i:0;N;i:0;N;}",
             b"apcu_run: script: byte 38: repeat\n",
@@ -200,8 +200,8 @@ fn values_with_a_fault(rt: HostRuntime) -> Result<(), Fail> {
             b"a:1:{s:1:\"5\";N;}",
             b"apcu_run: script: byte 32: integer\n",
         ),
-        refused(b"O:1:\"-\":0:{}", b"apcu_run: script: byte 27: class\n"),
-        refused(b"C:1:\"A\":0:{}", b"apcu_run: script: byte 27: tag\n"),
+        refusal(b"O:1:\"-\":0:{}", b"apcu_run: script: byte 27: class\n"),
+        refusal(b"C:1:\"A\":0:{}", b"apcu_run: script: byte 27: tag\n"),
     ];
     for row in &rows {
         let script = storing(alloc, row.input)?;

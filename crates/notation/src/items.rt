@@ -79,7 +79,11 @@ fn int<'a>(builder: &mut Builder, bytes: &'a [u8]) -> Result<(Option<u32>, &'a [
 }
 
 #[tactic(auto, unfolding(crate::specs::Reading::str_at))]
-fn str<'a>(alloc: Global, builder: &mut Builder, bytes: &'a [u8]) -> Result<(Option<u32>, &'a [u8]), Stop>
+fn str<'a>(
+    alloc: Global,
+    builder: &mut Builder,
+    bytes: &'a [u8],
+) -> Result<(Option<u32>, &'a [u8]), Stop>
     requires { wants_of builder.old ≡ Value }
     ensures read { Gives (λ x. (builder.new, x.0, x.1.now)) result (str_at builder.old bytes.now) }
     ensures step { IfOk result (λ x. IsValueStep builder.old builder.new (opened x.0)) }
@@ -132,7 +136,12 @@ fn array<'a>(builder: &mut Builder, bytes: &'a [u8]) -> Result<(Option<u32>, &'a
 }
 
 #[tactic(auto, unfolding(crate::specs::Reading::object_at))]
-fn object<'a>(alloc: Global, builder: &mut Builder, at: &[u8], bytes: &'a [u8]) -> Result<(Option<u32>, &'a [u8]), Stop>
+fn object<'a>(
+    alloc: Global,
+    builder: &mut Builder,
+    at: &[u8],
+    bytes: &'a [u8],
+) -> Result<(Option<u32>, &'a [u8]), Stop>
     requires { wants_of builder.old ≡ Value }
     ensures read { Gives (λ x. (builder.new, x.0, x.1.now)) result (object_at builder.old at.now bytes.now) }
     ensures step { IfOk result (λ x. IsValueStep builder.old builder.new (opened x.0)) }
@@ -146,7 +155,13 @@ fn object<'a>(alloc: Global, builder: &mut Builder, at: &[u8], bytes: &'a [u8]) 
 }
 
 #[tactic(auto, unfolding(crate::specs::Reading::tagged_at))]
-fn tagged<'a>(alloc: Global, builder: &mut Builder, tag: u8, bytes: &'a [u8], rest: &'a [u8]) -> Result<(Option<u32>, &'a [u8]), Stop>
+fn tagged<'a>(
+    alloc: Global,
+    builder: &mut Builder,
+    tag: u8,
+    bytes: &'a [u8],
+    rest: &'a [u8],
+) -> Result<(Option<u32>, &'a [u8]), Stop>
     requires wants { wants_of builder.old ≡ Value }
     requires tagged { is_tag tag ≡ true }
     requires split { bytes.now ≡ tag ∷ rest.now }
@@ -169,12 +184,18 @@ fn tagged<'a>(alloc: Global, builder: &mut Builder, tag: u8, bytes: &'a [u8], re
 fn is_value_tag(b: u8) -> bool
     ensures { result ≡ is_tag b }
 {
-    b == b'N' || (b == b'b' || (b == b'i' || (b == b's' || (b == b'a' || (b == b'O' || (b == b'r' || b == b'R'))))))
+    b == b'N'
+        || (b == b'b'
+            || (b == b'i' || (b == b's' || (b == b'a' || (b == b'O' || (b == b'r' || b == b'R'))))))
 }
 
 // A value up to its members, and how many of them are to come if it is a container.
 #[tactic(auto, unfolding(crate::specs::Reading::begun_at))]
-pub(crate) fn begun<'a>(alloc: Global, builder: &mut Builder, bytes: &'a [u8]) -> Result<(Option<u32>, &'a [u8]), Stop>
+pub(crate) fn begun<'a>(
+    alloc: Global,
+    builder: &mut Builder,
+    bytes: &'a [u8],
+) -> Result<(Option<u32>, &'a [u8]), Stop>
     requires { wants_of builder.old ≡ Value }
     ensures read { Gives (λ x. (builder.new, x.0, x.1.now)) result (begun_at builder.old bytes.now) }
     ensures step { IfOk result (λ x. IsValueStep builder.old builder.new (opened x.0)) }
@@ -197,7 +218,11 @@ pub(crate) fn begun<'a>(alloc: Global, builder: &mut Builder, bytes: &'a [u8]) -
 
 // A key of an array, or a name of an object.
 #[tactic(auto, unfolding(crate::specs::Reading::key_at))]
-pub(crate) fn key<'a>(alloc: Global, builder: &mut Builder, bytes: &'a [u8]) -> Result<&'a [u8], Stop>
+pub(crate) fn key<'a>(
+    alloc: Global,
+    builder: &mut Builder,
+    bytes: &'a [u8],
+) -> Result<&'a [u8], Stop>
     requires { wants_key (wants_of builder.old) ≡ true }
     ensures read { Gives (λ rest. (builder.new, rest.now)) result (key_at builder.old bytes.now) }
     ensures waits { OnOk result ((builder.new.containers ≡ builder.old.containers) × (builder.new.places ≡ builder.old.places) × IsSome builder.new.key) }
@@ -228,7 +253,13 @@ fn put_key(builder: &mut Builder, key: Key, at: &[u8]) -> Result<(), Stop>
 }
 
 #[tactic(auto, unfolding(crate::specs::Reading::key_tagged_at))]
-fn key_tagged<'a>(alloc: Global, integers: bool, tag: u8, bytes: &[u8], rest: &'a [u8]) -> Result<(Key, &'a [u8]), Stop>
+fn key_tagged<'a>(
+    alloc: Global,
+    integers: bool,
+    tag: u8,
+    bytes: &[u8],
+    rest: &'a [u8],
+) -> Result<(Key, &'a [u8]), Stop>
     requires { bytes.now ≡ tag ∷ rest.now }
     ensures read { Gives (λ x. (x.0, x.1.now)) result (key_tagged_at integers tag rest.now) }
     ensures named { IfOk result (λ x. integers ≡ false → is_name x.0 ≡ true) }

@@ -115,7 +115,10 @@ fn based(rt: HostRuntime) -> Result<(), Fail> {
     let value = read(rt.alloc(), b"O:1:\"A\":2:{s:1:\"x\";r:1;s:1:\"y\";R:1;}")?;
     let mut out = ByteOut::new(rt.alloc());
     write_value(&value, 2, &mut out)?;
-    assert_eq!(rt; out.as_slice(), b"O:1:\"A\":2:{s:1:\"x\";r:3;s:1:\"y\";R:3;}".as_slice());
+    assert_eq!(rt;
+        out.as_slice(),
+        b"O:1:\"A\":2:{s:1:\"x\";r:3;s:1:\"y\";R:3;}".as_slice()
+    );
     Ok(())
 }
 

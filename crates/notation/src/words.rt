@@ -64,7 +64,11 @@ pub(crate) fn put_start(kind: &Kind, base: u64, out: &mut ByteOut) -> Result<boo
 }
 
 // The key of the member with this number, and what the member holds; nothing behind the last member.
-pub(crate) fn put_key_of(kind: &Kind, i: u32, out: &mut ByteOut) -> Result<Option<Child>, AllocError>
+pub(crate) fn put_key_of(
+    kind: &Kind,
+    i: u32,
+    out: &mut ByteOut,
+) -> Result<Option<Child>, AllocError>
     ensures ok { IfOk result (λ held. MemberStep (slice_get (members_of kind.now) i) held out.old out.new) }
     ensures next { IfOk result (λ held. IsSome held → i + 1 < 2 ^ 32) }
     ensures err { OnErr result (Extends out.old out.new) }

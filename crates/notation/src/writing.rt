@@ -50,7 +50,13 @@ fn put_graph(g: &Graph, base: u64, out: &mut ByteOut) -> Result<(), AllocError>
 }
 
 // The next member of the container, or its end.
-fn step(g: &Graph, base: u64, frame: Frame, frames: &mut Vec<Frame>, out: &mut ByteOut) -> Result<(), AllocError>
+fn step(
+    g: &Graph,
+    base: u64,
+    frame: Frame,
+    frames: &mut Vec<Frame>,
+    out: &mut ByteOut,
+) -> Result<(), AllocError>
     requires base { base < 2 ^ 56 }
     requires begun { AreBegun g.now (frame ∷ reverse frames.old.items) }
     ensures ok { OnOk result (IsStepMade base g.now (frame ∷ reverse frames.old.items) (reverse frames.new.items) out.old out.new) }
@@ -69,7 +75,13 @@ fn step(g: &Graph, base: u64, frame: Frame, frames: &mut Vec<Frame>, out: &mut B
 }
 
 // What a member holds, up to its own members.
-fn put_child(g: &Graph, base: u64, child: Child, frames: &mut Vec<Frame>, out: &mut ByteOut) -> Result<(), AllocError>
+fn put_child(
+    g: &Graph,
+    base: u64,
+    child: Child,
+    frames: &mut Vec<Frame>,
+    out: &mut ByteOut,
+) -> Result<(), AllocError>
     requires base { base < 2 ^ 56 }
     requires ends { EndsSomewhere (levels - length frames.old.items) g.now child }
     ensures ok { OnOk result (IsChildBegun base g.now child (reverse frames.old.items) (reverse frames.new.items) out.old out.new) }

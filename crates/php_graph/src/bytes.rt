@@ -15,7 +15,7 @@ use std::marker::Model;
 /// A byte string of fewer than 2^32 bytes, as keys, names, classes and string values are.
 #[derive(Debug, Drop)]
 pub struct Bytes {
-    items: Vec<u8>,
+    pub(crate) items: Vec<u8>,
 }
 
 impl Model for Bytes {

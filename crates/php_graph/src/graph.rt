@@ -18,11 +18,11 @@ use std::marker::Model;
 /// written. Order, sharing and cycles are the numbers in its members. It is whole and well formed always.
 #[derive(Debug, Drop)]
 pub struct Graph {
-    places: Vec<Kind>,
+    pub(crate) places: Vec<Kind>,
     /// Where the image has each place, in words.
-    offsets: Vec<u64>,
+    pub(crate) offsets: Vec<u64>,
     /// The length of the image in words.
-    words: u64,
+    pub(crate) words: u64,
 }
 
 impl Model for Graph {

@@ -1,6 +1,7 @@
 //! Value graphs as PHP's serialize notation numbers them, their keys, and PHP's string hash.
 #![tactic(auto)]
 
+mod assembly;
 mod builder;
 mod bytes;
 mod child;

@@ -17,7 +17,7 @@ use std::marker::Model;
 /// The members of an array in their order: each key with what it holds.
 #[derive(Debug, Drop)]
 pub struct Members {
-    items: Vec<(Key, Child)>,
+    pub(crate) items: Vec<(Key, Child)>,
 }
 
 impl Model for Members {

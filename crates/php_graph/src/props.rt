@@ -19,7 +19,7 @@ use std::marker::Model;
 /// They stand behind a pointer, so that the many places that are no object stay small.
 #[derive(Debug, Drop)]
 pub struct Props {
-    items: Box<Vec<(Bytes, Child)>>,
+    pub(crate) items: Box<Vec<(Bytes, Child)>>,
 }
 
 impl Model for Props {

@@ -1,14 +1,11 @@
 -- What formatting leaves.
-use Rattle.std.proofs.Common.{◌≡◌, ◌≢◌, ◌⊎◌, inl, inr, ℕ, zero, suc, ◌+◌, ◌-◌, ◌%◌, ◌<◌, ◌≤◌, Bool, true, false, not, eqb, ltb, leb, cond, ◌&&◌, ◌||◌, List, [], ◌∷◌, ◌++◌, length, get_or, slice_index, slice_set, refl, sym, ap, ◌∙◌, subst, arith, rules}
-use Rattle.std.proofs.lemmas.Bool.Decides.{nat_tests}
+use Rattle.std.proofs.Common.{◌≡◌, ℕ, ◌+◌, ◌-◌, ◌%◌, ◌<◌, ◌≤◌, false, List, [], ◌∷◌, length, slice_index, slice_set, refl, sym, ap, ◌∙◌, subst, arith}
 use Rattle.std.proofs.lemmas.Bool.{false≢true}
-use Rattle.std.proofs.lemmas.List.{get_or-set_same, get_or-set_other, length-set}
-use Rattle.seg_words.specs.declared.extents.Extent.{Extent}
+use Rattle.std.proofs.lemmas.List.{get_or-set_same, length-set}
 use Rattle.seg_words.specs.Windows.{Aside, is_named}
-use Rattle.sma_blocks.specs.declared.sma.Sma.{Sma}
-use Rattle.sma_blocks.specs.Pieces.{Piece, pieces, StandsAt, Fill, gaps_touch, IsFormatted}
+use Rattle.sma_blocks.specs.Pieces.{Piece, pieces, Fill, gaps_touch}
 use Rattle.sma_blocks.specs.Live.{lives, live_blocks}
-use Rattle.sma_blocks.specs.Ready.{NameLive, IsReady}
+use Rattle.sma_blocks.specs.Ready.{IsReady}
 use Rattle.sma_blocks.proofs.Filling.{pieces-filled}
 
 -- the one gap of freshly formatted words

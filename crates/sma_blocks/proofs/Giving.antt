@@ -1,23 +1,23 @@
 -- What giving a block back leaves.
-use Rattle.std.proofs.Common.{◌≡◌, ◌≢◌, ◌⊎◌, inl, inr, ℕ, zero, suc, ◌+◌, ◌-◌, ◌%◌, ◌<◌, ◌≤◌, Bool, true, false, not, eqb, ltb, leb, cond, ◌&&◌, ◌||◌, List, [], ◌∷◌, ◌++◌, length, slice_index, slice_set, refl, sym, ap, ◌∙◌, subst, arith, rules}
-use Rattle.std.proofs.lemmas.Bool.{cases_lt, cases_Bool, false≢true, not-true}
-use Rattle.std.proofs.lemmas.List.{get_or-set_same, get_or-set_other, length-set, append-nil}
+use Rattle.std.proofs.Common.{◌≡◌, ◌≢◌, ◌⊎◌, inl, inr, ℕ, ◌+◌, ◌-◌, ◌%◌, ◌<◌, ◌≤◌, Bool, true, false, not, cond, List, [], ◌∷◌, ◌++◌, length, slice_index, slice_set, refl, sym, ap, ◌∙◌, subst, arith}
+use Rattle.std.proofs.lemmas.Bool.{not-true}
+use Rattle.std.proofs.lemmas.List.{get_or-set_same, get_or-set_other, length-set}
 use Rattle.std.specs.List.{Contains}
 use Rattle.std.proofs.lemmas.List.Elements.{Contains-append_cases}
 use Rattle.seg_words.specs.declared.extents.Extent.{Extent}
 use Rattle.seg_words.specs.Windows.{Aside, is_named}
 use Rattle.seg_words.specs.Blocks.{MayStore}
 use Rattle.sma_blocks.specs.declared.sma.Sma.{Sma}
-use Rattle.sma_blocks.specs.Pieces.{Piece, pieces, StandsAt, Fill, gaps_touch, IsFormatted}
+use Rattle.sma_blocks.specs.Pieces.{Piece, pieces, Fill, gaps_touch, IsFormatted}
 use Rattle.sma_blocks.specs.Live.{lives, live_blocks, IsLive, without_block, SameBlocks}
 use Rattle.sma_blocks.specs.Ready.{NameLive, IsReady}
 use Rattle.sma_blocks.specs.Walk.{IsEdge, ends_in_gap, IsFreeBefore, IsFreeAfter}
-use Rattle.sma_blocks.proofs.Filling.{Fill-le, Fill-append, pieces-filled, pieces-end, edge_whole}
+use Rattle.sma_blocks.proofs.Filling.{Fill-le, Fill-append, pieces-filled, edge_whole}
 use Rattle.sma_blocks.proofs.Lives.{extent_of, lives-append, lives_between, Contains-cases, without_block_between}
 use Rattle.sma_blocks.proofs.Naming.{between, may_store, names_less}
 use Rattle.sma_blocks.proofs.Merging.{merged_front, merged_back, merged_after, merged_join, merged_gap, merged_live, ends_in_gap-append}
 use Rattle.sma_blocks.proofs.Places.{blocks_at, Fill-even, piece_seen}
-use Rattle.sma_blocks.proofs.Changes.{Change, change_pieces, change_blocks, change_same, change_names, change_formatted}
+use Rattle.sma_blocks.proofs.Changes.{Change, change_blocks, change_same, change_names, change_formatted}
 
 -- a live block ahead of an edge begins there or past the piece there
 pub live_ahead : (ws : List ℕ) (from place at : ℕ) (p : Piece) (rest : List Piece) → IsEdge ws from place → pieces ws place ≡ p ∷ rest → IsLive (live_blocks ws from) at → place ≤ at → ((at ≡ place) × (p.live ≡ true)) ⊎ (place + p.size ≤ at)
@@ -26,15 +26,15 @@ live_ahead ws from place at p rest h is live ahead =
     let all : live_blocks ws from ≡ lives h.passed ++ lives (p ∷ rest) = blocks_at ws from place h ∙ ap (λ ps. lives h.passed ++ lives ps) is in
     let filled : Fill ws place (p ∷ rest) (length ws) = subst (λ ps. Fill ws place ps (length ws)) is h.after in
     elim (Contains-append_cases (lives h.passed) (lives (p ∷ rest)) e (subst (λ es. Contains es e) all live.1)) [
-      inl before ↦ let b = lives_between ws from h.passed place e h.before before in absurd (omega (arith, b.1, b.2))
-    | inr here ↦ go p.live filled here
+      | inl before ↦ let b = lives_between ws from h.passed place e h.before before in absurd (omega (arith, b.1, b.2))
+      | inr here ↦ go p.live filled here
     ]
   where
     go : (kind : Bool) → Fill ws place (p ∷ rest) (length ws) → Contains (cond kind (extent_of p ∷ lives rest) (lives rest)) (record { place = at; size = live.0 }) → ((at ≡ place) × (kind ≡ true)) ⊎ (place + p.size ≤ at)
     go true f c = elim (Contains-cases (extent_of p) (lives rest) (record { place = at; size = live.0 }) c) [
-        inl same ↦ inl (sym (ap (λ (x : Extent). x.place) same) ∙ f.0.place, refl)
+      | inl same ↦ inl (sym (ap (λ (x : Extent). x.place) same) ∙ f.0.place, refl)
       | inr later ↦ inr (lives_between ws (place + p.size) rest (length ws) (record { place = at; size = live.0 }) f.1 later).0
-      ]
+    ]
     go false f c = inr (lives_between ws (place + p.size) rest (length ws) (record { place = at; size = live.0 }) f.1 c).0
 
 -- a live block lies before the end
@@ -142,7 +142,7 @@ around_blocks : {sma : Sma} {ws : List ℕ} {aside : Aside} {at size first last 
 around_blocks {sma} {ws} {aside} {at} {size} {first} {last} h =
     let behind : lives (h.after.tail ++ h.after.rest) ≡ lives h.after.rest = lives-append h.after.tail h.after.rest ∙ ap (λ es. es ++ lives h.after.rest) h.after.free in
     let here : lives (h.before.tail ++ (block at size ∷ (h.after.tail ++ h.after.rest))) ≡ given at size ∷ lives (h.after.tail ++ h.after.rest) =
-        lives-append h.before.tail (block at size ∷ (h.after.tail ++ h.after.rest)) ∙ ap (λ es. es ++ (given at size ∷ lives (h.after.tail ++ h.after.rest))) h.before.free in
+    lives-append h.before.tail (block at size ∷ (h.after.tail ++ h.after.rest)) ∙ ap (λ es. es ++ (given at size ∷ lives (h.after.tail ++ h.after.rest))) h.before.free in
     ap lives (around_pieces h) ∙ lives-append h.before.front (h.before.tail ++ (block at size ∷ (h.after.tail ++ h.after.rest))) ∙ ap (λ es. lives h.before.front ++ es) (here ∙ ap (λ es. given at size ∷ es) behind)
 
 pub around_order : {sma : Sma} {ws : List ℕ} {aside : Aside} {at size first last : ℕ} (h : Around sma ws aside at size first last) → (first ≤ at) × (at + size ≤ last) × (last ≤ length ws) × (2 ≤ size)
@@ -167,8 +167,8 @@ give_change {sma} {ws} {aside} {at} {size} {first} {last} h =
       middle = give_middle h;
       after = h.after.after;
       same = λ i out.
-        let other : i ≢ first = elim out [ inl l ↦ (λ q. omega arith) | inr r ↦ (λ q. omega (arith, order.0, order.1, order.3)) ] in
-        get_or-set_other ws first i ((last - first) + 1) 0 other;
+          let other : i ≢ first = elim out [ inl l ↦ (λ q. omega arith) | inr r ↦ (λ q. omega (arith, order.0, order.1, order.3)) ] in
+          get_or-set_other ws first i ((last - first) + 1) 0 other;
       count = length-set ws first ((last - first) + 1);
     }
 
@@ -215,16 +215,16 @@ give_ready {sma} {ws} {aside} {at} {size} {first} {last} h =
 pub live_past : (ws now : List ℕ) (from place at size : ℕ) (is_gap : Bool) → IsEdge ws from place → now ≡ ws → pieces now place ≡ record { place = place; size = size; live = not is_gap } ∷ pieces now (place + size) → IsLive (live_blocks ws from) at → place < at → place + size ≤ at
 live_past ws now from place at size is_gap h same is live ahead =
     elim (live_ahead ws from place at (record { place = place; size = size; live = not is_gap }) (pieces ws (place + size)) h (piece_seen ws now place size is_gap is_gap same refl is) live (omega arith)) [
-      inl here ↦ absurd (omega (arith, here.0))
-    | inr past ↦ past
+      | inl here ↦ absurd (omega (arith, here.0))
+      | inr past ↦ past
     ]
 
 pub around_seen : (sma : Sma) (ws : List ℕ) (aside : Aside) (at size first last : ℕ) (now later : List ℕ) (is_gap : Bool) → IsReady sma ws aside → IsLive (live_blocks ws sma.from) at → is_named aside.windows at ≡ false → IsFreeBefore ws sma.from first at → now ≡ ws → pieces now at ≡ record { place = at; size = size; live = not is_gap } ∷ pieces now (at + size) → 2 ≤ size → later ≡ ws → IsFreeAfter later (at + size) last → Around sma ws aside at size first last
 around_seen sma ws aside at size first last now later is_gap ready live unnamed before same is some same_later after =
     let seen = piece_seen ws now at size is_gap is_gap same refl is in
     let block : is_gap ≡ false = elim (live_ahead ws sma.from at at (record { place = at; size = size; live = not is_gap }) (pieces ws (at + size)) (before_edge ws sma.from first at before) seen live (omega arith)) [
-      inl here ↦ not-true is_gap here.1
-    | inr past ↦ absurd (omega arith)
+      | inl here ↦ not-true is_gap here.1
+      | inr past ↦ absurd (omega arith)
     ] in
     record {
       ready = ready;

@@ -1,13 +1,13 @@
 -- The live blocks of pieces that stand side by side.
-use Rattle.std.proofs.Common.{◌≡◌, ◌≢◌, ◌⊎◌, inl, inr, ℕ, zero, suc, ◌+◌, ◌-◌, ◌%◌, ◌<◌, ◌≤◌, Bool, true, false, not, eqb, ltb, leb, cond, ◌&&◌, ◌||◌, List, [], ◌∷◌, ◌++◌, length, get_or, slice_index, max, min, refl, sym, ap, ◌∙◌, subst, arith, rules}
+use Rattle.std.proofs.Common.{◌≡◌, ◌≢◌, ◌⊎◌, inl, inr, ℕ, zero, suc, ◌+◌, ◌<◌, ◌≤◌, Bool, true, false, not, eqb, ltb, cond, ◌&&◌, List, [], ◌∷◌, ◌++◌, max, min, refl, ap, ◌∙◌, arith}
 use Rattle.std.proofs.lemmas.Bool.Decides.{nat_tests}
-use Rattle.std.proofs.lemmas.Bool.{and_left, and_right, not_from_true, lt-ltb, le-ltb, or_cases, cases_Bool, false≢true}
-use Rattle.std.specs.List.{list_all, filter, Contains}
+use Rattle.std.proofs.lemmas.Bool.{and_left, and_right, not_from_true, lt-ltb, le-ltb}
+use Rattle.std.specs.List.{Contains}
 use Rattle.std.proofs.lemmas.List.Folds.{list_all-append}
 use Rattle.std.proofs.lemmas.List.Elements.{filter-append}
 use Rattle.seg_words.specs.declared.extents.Extent.{Extent}
 use Rattle.seg_words.specs.Gaps.{meets, is_free}
-use Rattle.sma_blocks.specs.Pieces.{Piece, Fill, gaps_touch}
+use Rattle.sma_blocks.specs.Pieces.{Piece, Fill}
 use Rattle.sma_blocks.specs.Live.{lives, with_block, without_block}
 use Rattle.sma_blocks.proofs.Filling.{Fill-le}
 
@@ -73,12 +73,12 @@ lives_between ws a (p ∷ ps) b e h c =
   where
     go : (live : Bool) → a + p.size ≤ b → (Contains (lives ps) e → (a ≤ e.place) × (e.place + e.size ≤ b) × (2 ≤ e.size)) → Contains (cond live (extent_of p ∷ lives ps) (lives ps)) e → (a ≤ e.place) × (e.place + e.size ≤ b) × (2 ≤ e.size)
     go true end rest d = elim (Contains-cases (extent_of p) (lives ps) e d) [
-        inl same ↦
+      | inl same ↦
           let place : p.place ≡ e.place = ap (λ (x : Extent). x.place) same in
           let size : p.size ≡ e.size = ap (λ (x : Extent). x.size) same in
           (omega (arith, h.0.place), omega (arith, h.0.place), omega (arith, h.0.enough))
       | inr other ↦ rest other
-      ]
+    ]
     go false end rest d = rest d
 
 -- a block before all others

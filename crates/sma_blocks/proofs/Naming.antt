@@ -1,17 +1,15 @@
 -- What the windows name, and which words are told and may be stored because of it.
-use Rattle.std.proofs.Common.{◌≡◌, ◌≢◌, ◌⊎◌, inl, inr, ℕ, zero, suc, ◌+◌, ◌-◌, ◌/◌, ◌%◌, ◌<◌, ◌≤◌, Bool, true, false, not, eqb, ltb, leb, cond, ◌&&◌, ◌||◌, List, [], ◌∷◌, ◌++◌, length, slice_index, slice_set, refl, sym, ap, ◌∙◌, subst, arith, rules}
-use Rattle.std.proofs.lemmas.Bool.Decides.{nat_tests}
-use Rattle.std.proofs.lemmas.Bool.{and_left, and_right, and_parts, and_from, or_left, or_right, false_from_ne_true, eqb-true, ltb-true, eq-eqb, lt-ltb, false≢true}
+use Rattle.std.proofs.Common.{◌≡◌, ◌≢◌, ◌⊎◌, inl, inr, ℕ, ◌+◌, ◌<◌, ◌≤◌, true, false, eqb, ltb, ◌&&◌, List, [], ◌∷◌, ◌++◌, length, slice_index, refl, sym, ap, ◌∙◌, subst, arith}
+use Rattle.std.proofs.lemmas.Bool.{and_parts, and_from, or_left, or_right, false_from_ne_true, eqb-true, ltb-true, eq-eqb, lt-ltb, false≢true}
 use Rattle.std.specs.List.{Contains, list_any}
-use Rattle.std.proofs.lemmas.List.{get_or-set_other, length-set}
 use Rattle.std.proofs.lemmas.List.Elements.{Contains-append_cases, Contains-append_left, Contains-append_right}
 use Rattle.seg_words.specs.declared.extents.Extent.{Extent}
 use Rattle.seg_words.specs.Windows.{Aside, has, is_named}
-use Rattle.seg_words.specs.Blocks.{image_place, image_end, IsTold, IsApart, MayStore}
+use Rattle.seg_words.specs.Blocks.{image_end, IsTold, MayStore}
 use Rattle.sma_blocks.specs.Pieces.{Piece, pieces, Fill}
 use Rattle.sma_blocks.specs.Live.{lives, live_blocks}
 use Rattle.sma_blocks.specs.declared.sma.Sma.{Sma}
-use Rattle.sma_blocks.specs.Ready.{Holds, NameLive, IsReady}
+use Rattle.sma_blocks.specs.Ready.{NameLive, IsReady}
 use Rattle.sma_blocks.specs.Walk.{IsEdge}
 use Rattle.sma_blocks.proofs.Filling.{edge_whole, Part, part}
 use Rattle.sma_blocks.proofs.Lives.{lives-append, lives_between, Contains-cases, Contains-later}
@@ -20,8 +18,8 @@ told_each : (i : ℕ) (ws : List ℕ) → ((x : ℕ) → has x ws ≡ true → 0
 told_each i [] h = refl
 told_each i (w ∷ ws) h =
     let first : (ltb 0 w && eqb i (w + 11)) ≡ false = false_from_ne_true (ltb 0 w && eqb i (w + 11)) (λ t.
-      let parts = and_parts (ltb 0 w) (eqb i (w + 11)) t in
-      h w (or_left (eqb w w) (has w ws) (eq-eqb w w refl)) (ltb-true 0 w parts.0) (eqb-true i (w + 11) parts.1)) in
+    let parts = and_parts (ltb 0 w) (eqb i (w + 11)) t in
+    h w (or_left (eqb w w) (has w ws) (eq-eqb w w refl)) (ltb-true 0 w parts.0) (eqb-true i (w + 11) parts.1)) in
     rw first (told_each i ws (λ x q some. h x (or_right (eqb x w) (has x ws) q) some))
 
 -- a word that is word 11 of no named block is told
@@ -36,22 +34,22 @@ Between blocks low high = (e : Extent) → Contains blocks e → (e.place + e.si
 pub between : (ws : List ℕ) (a : ℕ) (ps : List Piece) (b c : ℕ) (qs : List Piece) (d : ℕ) → Fill ws a ps b → Fill ws c qs d → Between (lives ps ++ lives qs) b c
 unfolding Between
 between ws a ps b c qs d h k e m = elim (Contains-append_cases (lives ps) (lives qs) e m) [
-    inl l ↦ inl (lives_between ws a ps b e h l).1
+  | inl l ↦ inl (lives_between ws a ps b e h l).1
   | inr r ↦ inr (lives_between ws c qs d e k r).0
-  ]
+]
 
 -- the first word of a piece is told
 pub told_at_edge : (ws windows : List ℕ) (from at : ℕ) → NameLive ws windows (live_blocks ws from) → IsEdge ws from at → IsTold windows at
 unfolding Between
 told_at_edge ws windows from at names h =
     told_from windows at (λ x named.
-      let block = names x named in
-      let all : live_blocks ws from ≡ lives h.passed ++ lives (pieces ws at) = ap lives (edge_whole ws from at h) ∙ lives-append h.passed (pieces ws at) in
-      let member : Contains (lives h.passed ++ lives (pieces ws at)) (record { place = x; size = block.size }) = subst (λ es. Contains es (record { place = x; size = block.size })) all block.live in
-      elim (between ws from h.passed at at (pieces ws at) (length ws) h.before h.after (record { place = x; size = block.size }) member) [
-        inl l ↦ (λ q. omega (arith, l, block.inside))
+    let block = names x named in
+    let all : live_blocks ws from ≡ lives h.passed ++ lives (pieces ws at) = ap lives (edge_whole ws from at h) ∙ lives-append h.passed (pieces ws at) in
+    let member : Contains (lives h.passed ++ lives (pieces ws at)) (record { place = x; size = block.size }) = subst (λ es. Contains es (record { place = x; size = block.size })) all block.live in
+    elim (between ws from h.passed at at (pieces ws at) (length ws) h.before h.after (record { place = x; size = block.size }) member) [
+      | inl l ↦ (λ q. omega (arith, l, block.inside))
       | inr r ↦ (λ q. omega (arith, r))
-      ])
+    ])
 
 -- a store outside the named blocks is apart from all that their readers rely on
 pub may_store : (ws windows : List ℕ) (blocks : List Extent) (low high i : ℕ) → NameLive ws windows blocks → Between blocks low high → low ≤ i → i < high → MayStore ws windows i
@@ -59,8 +57,8 @@ unfolding Between
 may_store ws windows blocks low high i names out from to at named =
     let block = names at named in
     elim (out (record { place = at; size = block.size }) block.live) [
-      inl l ↦ record { key_length = (λ q. omega (arith, l, block.inside)); image_length = (λ q. omega (arith, l, block.inside)); pin_count = (λ q. omega (arith, l, block.inside)); image = inr (omega (arith, l, block.inside)) }
-    | inr r ↦ record { key_length = (λ q. omega (arith, r)); image_length = (λ q. omega (arith, r)); pin_count = (λ q. omega (arith, r)); image = inl (omega (arith, r)) }
+      | inl l ↦ record { key_length = (λ q. omega (arith, l, block.inside)); image_length = (λ q. omega (arith, l, block.inside)); pin_count = (λ q. omega (arith, l, block.inside)); image = inr (omega (arith, l, block.inside)) }
+      | inr r ↦ record { key_length = (λ q. omega (arith, r)); image_length = (λ q. omega (arith, r)); pin_count = (λ q. omega (arith, r)); image = inl (omega (arith, r)) }
     ]
 
 -- the named blocks stay where the words of the blocks stay
@@ -69,7 +67,7 @@ unfolding Between
 names_same old new windows blocks low high names out same at named =
     let block = names at named in
     let outside : (i : ℕ) → at ≤ i → i < at + block.size → (i < low) ⊎ (high ≤ i) =
-        λ i first last. elim (out (record { place = at; size = block.size }) block.live) [ inl l ↦ inl (omega (arith, l)) | inr r ↦ inr (omega (arith, r)) ] in
+    λ i first last. elim (out (record { place = at; size = block.size }) block.live) [ inl l ↦ inl (omega (arith, l)) | inr r ↦ inr (omega (arith, r)) ] in
     let key : slice_index new (at + 2) ≡ slice_index old (at + 2) = same (at + 2) (outside (at + 2) (omega arith) (omega (arith, block.inside))) in
     let image : slice_index new (at + 3) ≡ slice_index old (at + 3) = same (at + 3) (outside (at + 3) (omega arith) (omega (arith, block.inside))) in
     let ends : image_end new at ≡ image_end old at = cc (key, image) in
@@ -83,8 +81,8 @@ names_more ws windows xs e ys names at named =
     record {
       size = block.size;
       live = elim (Contains-append_cases xs ys b block.live) [
-        inl l ↦ Contains-append_left xs (e ∷ ys) b l
-      | inr r ↦ Contains-append_right xs (e ∷ ys) b (Contains-later e ys b r)
+        | inl l ↦ Contains-append_left xs (e ∷ ys) b l
+        | inr r ↦ Contains-append_right xs (e ∷ ys) b (Contains-later e ys b r)
       ];
       inside = block.inside;
     }
@@ -97,10 +95,10 @@ names_less ws windows xs e ys names free at named =
     record {
       size = block.size;
       live = elim (Contains-append_cases xs (e ∷ ys) b block.live) [
-        inl l ↦ Contains-append_left xs ys b l
-      | inr r ↦ elim (Contains-cases e ys b r) [
-          inl same ↦ absurd (false≢true (sym (sym (ap (λ (x : Extent). is_named windows x.place) same) ∙ free) ∙ named))
-        | inr later ↦ Contains-append_right xs ys b later
+        | inl l ↦ Contains-append_left xs ys b l
+        | inr r ↦ elim (Contains-cases e ys b r) [
+          | inl same ↦ absurd (false≢true (sym (sym (ap (λ (x : Extent). is_named windows x.place) same) ∙ free) ∙ named))
+          | inr later ↦ Contains-append_right xs ys b later
         ]
       ];
       inside = block.inside;

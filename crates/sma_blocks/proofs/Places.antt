@@ -1,10 +1,10 @@
 -- Where a block fits, met along the walk.
-use Rattle.std.proofs.Common.{◌≡◌, ◌≢◌, ◌⊎◌, inl, inr, ℕ, zero, suc, ◌+◌, ◌-◌, ◌%◌, ◌<◌, ◌≤◌, Bool, true, false, not, eqb, ltb, leb, cond, ◌&&◌, ◌||◌, List, [], ◌∷◌, ◌++◌, length, Option, Some, None, refl, sym, ap, ◌∙◌, subst, arith, rules}
-use Rattle.std.proofs.lemmas.Bool.{and_left, and_right, and_from, cases_lt, cases_Bool, false≢true}
+use Rattle.std.proofs.Common.{◌≡◌, ◌⊎◌, inl, inr, ℕ, ◌+◌, ◌%◌, ◌<◌, ◌≤◌, Bool, true, false, not, eqb, leb, ◌&&◌, List, [], ◌∷◌, ◌++◌, length, None, refl, sym, ap, ◌∙◌, subst, arith}
+use Rattle.std.proofs.lemmas.Bool.{and_right, and_from, cases_lt, cases_Bool, false≢true}
 use Rattle.seg_words.specs.declared.extents.Extent.{Extent}
 use Rattle.seg_words.specs.Gaps.{meets, is_free, fits, first_fit}
-use Rattle.seg_words.proofs.Fitting.{fits-from, fits_past, first_fit-some, first_fit-none}
-use Rattle.sma_blocks.specs.Pieces.{Piece, pieces, StandsAt, Fill, gaps_touch, IsFormatted}
+use Rattle.seg_words.proofs.Fitting.{fits-from, fits_past, first_fit-none}
+use Rattle.sma_blocks.specs.Pieces.{Piece, pieces, Fill, gaps_touch, IsFormatted}
 use Rattle.sma_blocks.specs.Live.{lives, live_blocks}
 use Rattle.sma_blocks.specs.Walk.{IsEdge, ends_in_gap}
 use Rattle.sma_blocks.proofs.Filling.{Fill-le, edge_whole}
@@ -70,16 +70,16 @@ piece_seen old now at size is_gap kind same known is =
 -- nothing fits at a place inside a piece that is passed
 pub none_in_passed : (ws : List ℕ) (from to n at size b : ℕ) (now : List ℕ) (is_gap : Bool) → IsFormatted ws from → to ≡ length ws → IsEdge ws from at → now ≡ ws → pieces now at ≡ record { place = at; size = size; live = not is_gap } ∷ pieces now (at + size) → 1 ≤ n → (is_gap ≡ false) ⊎ (size < n) → at ≤ b → b < at + size → fits from to n (live_blocks ws from) b ≡ false
 none_in_passed ws from to n at size b now is_gap formatted end h same is some passed low high = elim (cases_Bool is_gap) [
-    inl gap ↦ elim passed [
-      inl live ↦ absurd (false≢true (sym live ∙ gap))
+  | inl gap ↦ elim passed [
+    | inl live ↦ absurd (false≢true (sym live ∙ gap))
     | inr small ↦ none_in_gap ws from to n at size b (pieces ws (at + size)) formatted end h (piece_seen ws now at size is_gap true same gap is) small low high
-    ]
-  | inr live ↦ none_in_block ws from to n at size b (pieces ws (at + size)) h (piece_seen ws now at size is_gap false same live is) some low high
   ]
+  | inr live ↦ none_in_block ws from to n at size b (pieces ws (at + size)) h (piece_seen ws now at size is_gap false same live is) some low high
+]
 
 -- nothing fits at all
 pub none_fits : (from to n at : ℕ) (blocks : List Extent) → 1 ≤ n → to ≤ at → ((b : ℕ) → b < at → fits from to n blocks b ≡ false) → first_fit from to n blocks ≡ None
 none_fits from to n at blocks some past none_below = first_fit-none from to n blocks (λ b. elim (cases_lt b at) [
-    inl low ↦ none_below b low
+  | inl low ↦ none_below b low
   | inr high ↦ fits_past from to n blocks b (omega arith)
-  ])
+])

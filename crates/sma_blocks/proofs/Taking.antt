@@ -1,14 +1,14 @@
 -- What taking a block leaves.
-use Rattle.std.proofs.Common.{◌≡◌, ◌≢◌, ◌⊎◌, inl, inr, ℕ, zero, suc, ◌+◌, ◌-◌, ◌%◌, ◌<◌, ◌≤◌, Bool, true, false, not, eqb, ltb, leb, cond, ◌&&◌, ◌||◌, List, [], ◌∷◌, ◌++◌, length, slice_index, slice_set, Option, Some, None, refl, sym, ap, ◌∙◌, subst, arith, rules, add-zero}
+use Rattle.std.proofs.Common.{◌≡◌, ◌≢◌, ◌⊎◌, inl, inr, ℕ, ◌+◌, ◌-◌, ◌%◌, ◌<◌, ◌≤◌, Bool, true, false, not, ltb, cond, List, [], ◌∷◌, ◌++◌, length, slice_index, slice_set, Some, refl, sym, ap, ◌∙◌, subst, arith, add-zero}
 use Rattle.std.proofs.lemmas.Bool.{cases_lt, lt-ltb, le-ltb}
 use Rattle.std.proofs.lemmas.List.{get_or-set_same, get_or-set_other, length-set}
 use Rattle.seg_words.specs.declared.extents.Extent.{Extent}
 use Rattle.seg_words.specs.Windows.{Aside}
-use Rattle.seg_words.specs.Blocks.{image_end, IsApart, MayStore}
+use Rattle.seg_words.specs.Blocks.{MayStore}
 use Rattle.seg_words.specs.Gaps.{fits, first_fit}
 use Rattle.seg_words.proofs.Fitting.{first_fit-some}
 use Rattle.sma_blocks.specs.declared.sma.Sma.{Sma}
-use Rattle.sma_blocks.specs.Pieces.{Piece, pieces, StandsAt, Fill, gaps_touch, IsFormatted}
+use Rattle.sma_blocks.specs.Pieces.{Piece, pieces, Fill, gaps_touch}
 use Rattle.sma_blocks.specs.Live.{lives, live_blocks, with_block, SameBlocks}
 use Rattle.sma_blocks.specs.Ready.{NameLive, IsReady}
 use Rattle.sma_blocks.specs.Walk.{IsEdge, ends_in_gap, cut_words}
@@ -17,7 +17,7 @@ use Rattle.sma_blocks.proofs.Lives.{with_block_between}
 use Rattle.sma_blocks.proofs.Naming.{between, may_store, names_more}
 use Rattle.sma_blocks.proofs.Merging.{merged_front, merged_back, merged_after, merged_join, merged_gap}
 use Rattle.sma_blocks.proofs.Places.{blocks_at, piece_seen, fits_in_gap}
-use Rattle.sma_blocks.proofs.Changes.{Change, change_pieces, change_blocks, change_same, change_names, change_formatted}
+use Rattle.sma_blocks.proofs.Changes.{Change, change_blocks, change_same, change_names, change_formatted}
 
 -- a store that is apart from what readers rely on leaves every other such store so
 pub may_store_after : (ws windows : List ℕ) (j i v : ℕ) → MayStore ws windows j → MayStore ws windows i → MayStore (slice_set ws j v) windows i
@@ -45,7 +45,7 @@ cut_count ws at size n = go (ltb n size)
 
 pub cut_same : (ws : List ℕ) (at size n i : ℕ) → 1 ≤ n → (i < at) ⊎ (at + size ≤ i) → n ≤ size → slice_index (cut_words ws at size n) i ≡ slice_index ws i
 cut_same ws at size n i some out enough = elim (cases_lt n size) [
-    inl lt ↦
+  | inl lt ↦
       let b : ltb n size ≡ true = lt-ltb n size lt in
       let first : i ≢ at = elim out [ inl l ↦ (λ q. omega arith) | inr r ↦ (λ q. omega arith) ] in
       let second : i ≢ at + n = elim out [ inl l ↦ (λ q. omega arith) | inr r ↦ (λ q. omega arith) ] in
@@ -54,7 +54,7 @@ cut_same ws at size n i some out enough = elim (cases_lt n size) [
       let b : ltb n size ≡ false = le-ltb n size ge in
       let first : i ≢ at = elim out [ inl l ↦ (λ q. omega arith) | inr r ↦ (λ q. omega arith) ] in
       rw b (get_or-set_other ws at i n 0 first)
-  ]
+]
 
 pub cut_first : (ws : List ℕ) (at size n : ℕ) → at < length ws → slice_index (cut_words ws at size n) at ≡ n
 cut_first ws at size n inside = go (ltb n size)
@@ -72,19 +72,21 @@ taken at n = record { place = at; size = n; live = true }
 
 cut_fill : (ws : List ℕ) (at size n : ℕ) → at + size ≤ length ws → 2 ≤ n → n ≤ size → n % 2 ≡ 0 → size % 2 ≡ 0 → Fill (cut_words ws at size n) at (taken at n ∷ left_over at size n) (at + size)
 cut_fill ws at size n inside some enough even even_size =
-    let word : slice_index (cut_words ws at size n) at ≡ n + 0 = cut_first ws at size n (omega arith) ∙ sym (add-zero n) in
-    (record { place = refl; word = word; even = even; enough = some }, elim (cases_lt n size) [
-      inl lt ↦
-        let b : ltb n size ≡ true = lt-ltb n size lt in
-        let other : at + n ≢ at = λ q. omega arith in
-        let found : slice_index (slice_set (slice_set ws (at + n) ((size - n) + 1)) at n) (at + n) ≡ (size - n) + 1 =
-          get_or-set_other (slice_set ws (at + n) ((size - n) + 1)) at (at + n) n 0 other ∙ get_or-set_same ws (at + n) ((size - n) + 1) 0 (omega arith) in
-        let rest_word : slice_index (cut_words ws at size n) (at + n) ≡ (size - n) + 1 = rw b found in
-        rw b (record { place = refl; word = rest_word; even = omega arith; enough = omega arith }, omega arith)
-    | inr ge ↦
-        let b : ltb n size ≡ false = le-ltb n size ge in
-        rw b (omega arith)
-    ])
+    let word : slice_index (cut_words ws at size n) at ≡ n + 0 = cut_first ws at size n (omega arith) ∙ sym (add-zero n) in (
+      record { place = refl; word = word; even = even; enough = some },
+      elim (cases_lt n size) [
+        | inl lt ↦
+            let b : ltb n size ≡ true = lt-ltb n size lt in
+            let other : at + n ≢ at = λ q. omega arith in
+            let found : slice_index (slice_set (slice_set ws (at + n) ((size - n) + 1)) at n) (at + n) ≡ (size - n) + 1 =
+            get_or-set_other (slice_set ws (at + n) ((size - n) + 1)) at (at + n) n 0 other ∙ get_or-set_same ws (at + n) ((size - n) + 1) 0 (omega arith) in
+            let rest_word : slice_index (cut_words ws at size n) (at + n) ≡ (size - n) + 1 = rw b found in
+            rw b (record { place = refl; word = rest_word; even = omega arith; enough = omega arith }, omega arith)
+        | inr ge ↦
+            let b : ltb n size ≡ false = le-ltb n size ge in
+            rw b (omega arith)
+      ],
+    )
 
 -- a gap at an edge, and the pieces round it
 pub record Room (sma : Sma) (ws : List ℕ) (aside : Aside) (at size n : ℕ) : Type 0 where
@@ -140,7 +142,7 @@ take_more {sma} {ws} {aside} {at} {size} {n} h =
     let filled = room_fill h in
     let e : Extent = record { place = at; size = n } in
     let put : with_block e (lives h.edge.passed ++ lives (pieces ws (at + size))) ≡ lives h.edge.passed ++ e ∷ lives (pieces ws (at + size)) =
-        with_block_between ws sma.from h.edge.passed at (at + size) (pieces ws (at + size)) (length ws) e h.edge.before filled.1 (omega arith) (omega (arith, filled.0.enough)) in
+    with_block_between ws sma.from h.edge.passed at (at + size) (pieces ws (at + size)) (length ws) e h.edge.before filled.1 (omega arith) (omega (arith, filled.0.enough)) in
     take_blocks h ∙ sym put ∙ ap (with_block e) (sym (room_blocks h))
 
 pub take_same : {sma : Sma} {ws : List ℕ} {aside : Aside} {at size n : ℕ} (h : Room sma ws aside at size n) → SameBlocks ws (cut_words ws at size n) sma.from (live_blocks ws sma.from)

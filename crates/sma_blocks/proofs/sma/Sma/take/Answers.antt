@@ -1,12 +1,11 @@
-use Rattle.std.proofs.Common.{◌≡◌, ◌<◌, ◌+◌, ◌⊎◌, inl, inr, false, true, sym, ◌∙◌, ap, subst, arith}
+use Rattle.std.proofs.Common.{◌≡◌, ◌<◌, ◌+◌, ◌⊎◌, inl, inr, false, sym, ◌∙◌, ap, subst, arith}
 use Rattle.std.proofs.lemmas.Bool.{cases_lt}
-use Rattle.seg_words.specs.Windows.{Aside}
 use Rattle.seg_words.specs.Blocks.{MayStore}
-use Rattle.sma_blocks.specs.Live.{live_blocks, with_block, SameBlocks}
+use Rattle.sma_blocks.specs.Live.{live_blocks, SameBlocks}
 use Rattle.sma_blocks.specs.Ready.{IsReady}
 use Rattle.sma_blocks.specs.Walk.{IsEdge, cut_words}
 use Rattle.sma_blocks.proofs.Places.{none_in_passed, none_fits}
-use Rattle.sma_blocks.proofs.Taking.{Room, room_seen, take_place, take_more, take_same, take_ready, room_apart}
+use Rattle.sma_blocks.proofs.Taking.{room_seen, take_place, take_more, take_same, take_ready, room_apart}
 use Rattle.sma_blocks.proofs.sma.Sma.take.Goals as goal
 use Rattle.sma_blocks.proofs.sma.Sma.take.Goals.{else-part-via-then-part+else-n-part, else-part-via-else-part}
 
@@ -14,8 +13,8 @@ pub cut-requires-clause-apart : goal.cut-requires-clause-apart
 cut-requires-clause-apart g c =
     let room = room_seen c.args.self.now (g.S.WordsIn.words c.args.seg.now) (g.S.WordsIn.aside c.args.seg.now) c.loop-at.at c.part_at-part.result.size c.args.n (g.S.WordsIn.words c.loop-at.seg) c.part_at-part.result.is_gap c.requires.ready c.loop-at.invariant.edge c.loop-at.invariant.words c.if-part.true c.part_at-part.ensures.is c.requires.size.0 c.requires.size.1 c.if-n-part.true in
     λ i low high.
-      subst (λ a. MayStore (g.S.WordsIn.words c.part_at-part.new.seg) a.windows i) (sym (c.part_at-part.ensures.aside ∙ c.loop-at.invariant.aside))
-      (subst (λ ws. MayStore ws (g.S.WordsIn.aside c.args.seg.now).windows i) (sym (c.part_at-part.ensures.words ∙ c.loop-at.invariant.words)) (room_apart room i low high))
+    subst (λ a. MayStore (g.S.WordsIn.words c.part_at-part.new.seg) a.windows i) (sym (c.part_at-part.ensures.aside ∙ c.loop-at.invariant.aside))
+    (subst (λ ws. MayStore ws (g.S.WordsIn.aside c.args.seg.now).windows i) (sym (c.part_at-part.ensures.words ∙ c.loop-at.invariant.words)) (room_apart room i low high))
 
 pub returns-then-n-part-clause-place : goal.returns-then-n-part-clause-place
 returns-then-n-part-clause-place g c =
@@ -44,8 +43,8 @@ returns-then-n-part-clause-ready g c =
 pub loop-at-preserved : goal.loop-at-preserved
 loop-at-preserved g c =
     let passed : (c.part_at-part.result.is_gap ≡ false) ⊎ (c.part_at-part.result.size < c.args.n) = elim c.else-part.branch [
-      else-part-via-then-part+else-n-part w ↦ inr w.if-n-part.false
-    | else-part-via-else-part w ↦ inl w.if-part.false
+      | else-part-via-then-part+else-n-part w ↦ inr w.if-n-part.false
+      | else-part-via-else-part w ↦ inl w.if-part.false
     ] in
     record {
       words = c.part_at-part.ensures.words ∙ c.loop-at.invariant.words;
@@ -54,8 +53,8 @@ loop-at-preserved g c =
       edge = subst (λ ws. IsEdge ws c.args.self.now.from (c.loop-at.at + c.part_at-part.result.size)) c.loop-at.invariant.words c.part_at-part.ensures.edge;
       within = c.part_at-part.ensures.size.2;
       none_below = λ b lt. elim (cases_lt b c.loop-at.at) [
-        inl low ↦ c.loop-at.invariant.none_below b low
-      | inr high ↦ none_in_passed (g.S.WordsIn.words c.args.seg.now) c.args.self.now.from c.args.self.now.to c.args.n c.loop-at.at c.part_at-part.result.size b (g.S.WordsIn.words c.loop-at.seg) c.part_at-part.result.is_gap c.requires.ready.formatted c.requires.ready.end c.loop-at.invariant.edge c.loop-at.invariant.words c.part_at-part.ensures.is (omega (arith, c.requires.size.1)) passed high lt
+        | inl low ↦ c.loop-at.invariant.none_below b low
+        | inr high ↦ none_in_passed (g.S.WordsIn.words c.args.seg.now) c.args.self.now.from c.args.self.now.to c.args.n c.loop-at.at c.part_at-part.result.size b (g.S.WordsIn.words c.loop-at.seg) c.part_at-part.result.is_gap c.requires.ready.formatted c.requires.ready.end c.loop-at.invariant.edge c.loop-at.invariant.words c.part_at-part.ensures.is (omega (arith, c.requires.size.1)) passed high lt
       ];
     }
 
