@@ -127,38 +127,38 @@ fn refusal(input: &'static [u8], told: &'static [u8]) -> Refused {
 #[test]
 fn lines_with_a_fault(rt: HostRuntime) -> Result<(), Fail> {
     let rows = [
-        refused(
+        refusal(
             b"worker\napcu_store s:1:\"a\"; i:5;",
             b"apcu_run: script: byte 31: end\n",
         ),
-        refused(
+        refusal(
             b"worker\napcu_store s:1:\"a\"; i:5; i:1;\n",
             b"apcu_run: script: byte 32: unbuilt\n",
         ),
-        refused(
+        refusal(
             b"worker\napcu_store s:1:\"a\"; i:5;,\n",
             b"apcu_run: script: byte 31: separator\n",
         ),
-        refused(
+        refusal(
             b"worker\napcu_store s:1:\"a\";\n",
             b"apcu_run: script: byte 26: argument\n",
         ),
-        refused(
+        refusal(
             b"worker\napcu_store i:1; i:5;\n",
             b"apcu_run: script: byte 18: argument\n",
         ),
-        refused(
+        refusal(
             b"worker\napcu_fetch a:0:{}\n",
             b"apcu_run: script: byte 18: unbuilt\n",
         ),
         refusal(b"worker\nworker\n", b"apcu_run: script: byte 7: unbuilt\n"),
-        refused(
+        refusal(
             b"worker\napcu_inc s:1:\"a\";\n",
             b"apcu_run: script: byte 7: unbuilt\n",
         ),
         refusal(b"worker", b"apcu_run: script: byte 6: end\n"),
         refusal(b"worker 1\n", b"apcu_run: script: byte 7: argument\n"),
-        refused(
+        refusal(
             b"apcu_fetch s:1:\"a\";\n",
             b"apcu_run: script: byte 0: line\n",
         ),
@@ -179,24 +179,24 @@ fn values_with_a_fault(rt: HostRuntime) -> Result<(), Fail> {
         refusal(b"s:3:\"ab\";", b"apcu_run: script: byte 29: length\n"),
         refusal(b"d:1.5;", b"apcu_run: script: byte 27: tag\n"),
         refusal(b"a:1:{i:0;r:1;}", b"apcu_run: script: byte 38: target\n"),
-        refused(
+        refusal(
             b"s:4294967295:\"a\";",
             b"apcu_run: script: byte 29: length\n",
         ),
         refusal(b"a:4294967295:{}", b"apcu_run: script: byte 41: tag\n"),
         refusal(b"a:1:{i:0;R:2;}", b"apcu_run: script: byte 38: target\n"),
         refusal(b"R:1;", b"apcu_run: script: byte 29: target\n"),
-        refused(
+        refusal(
             b"i:9223372036854775808;",
             b"apcu_run: script: byte 29: number\n",
         ),
         refusal(b"b:2;", b"apcu_run: script: byte 29: number\n"),
         refusal(b"a:1:{i:0;i:1;", b"apcu_run: script: byte 40: mark\n"),
-        refused(
+        refusal(
             b"a:2:{i:0;N;i:0;N;}",
             b"apcu_run: script: byte 38: repeat\n",
         ),
-        refused(
+        refusal(
             b"a:1:{s:1:\"5\";N;}",
             b"apcu_run: script: byte 32: integer\n",
         ),

@@ -36,8 +36,8 @@ signed_bytes (negsuc n) h (suc k) within = decimal_bytes (suc n) (omega (arith, 
 run_again : (text : List ℕ) (b : ℕ) (rest : List ℕ) → ((k : ℕ) → k < length text → ends_number (get_or text k 0) ≡ false) → ends_number b ≡ true → number_len (text ++ b ∷ rest) ≡ length text
 run_again text b rest inner ends =
     position_or_len_is ends_number (text ++ b ∷ rest) (length text) 0 (omega (arith, length-append text (b ∷ rest)))
-        (λ k lt. rw (get_or_append_left text (b ∷ rest) 0 k lt) (inner k lt))
-        (λ _. rw (get_or-append_seam text b rest 0) ends)
+    (λ k lt. rw (get_or_append_left text (b ∷ rest) 0 k lt) (inner k lt))
+    (λ _. rw (get_or-append_seam text b rest 0) ends)
 
 number_of : (bytes : List ℕ) → 0 < length bytes → number_at bytes ≡ found (int_of_text (take (number_len bytes) bytes)) (drop (number_len bytes) bytes) bytes
 unfolding number_at

@@ -155,10 +155,10 @@ keyed m outer n d e bytes rest total w h key containers places waits =
     let want : wants_of e ≡ wants.Value = value_by e.places e.containers e.key (omega (arith, inside, ap length containers)) waits in
     let value = value_at (levels - suc (length outer)) in
     let step : outer_at (m ∷ outer) (suc n) d bytes ≡ (((value e rest >>= λ v. members_at value n v.0 v.1) >>= λ p. closed_at p.0 p.1) >>= after_value outer m)
-        = ap (λ (r : Result (Draft × List ℕ) Fault). ((r >>= λ k. (value k.0 k.1 >>= λ v. members_at value n v.0 v.1)) >>= λ p. closed_at p.0 p.1) >>= after_value outer m) key in
+    = ap (λ (r : Result (Draft × List ℕ) Fault). ((r >>= λ k. (value k.0 k.1 >>= λ v. members_at value n v.0 v.1)) >>= λ p. closed_at p.0 p.1) >>= after_value outer m) key in
     let flat : (((value e rest >>= λ v. members_at value n v.0 v.1) >>= λ p. closed_at p.0 p.1) >>= after_value outer m) ≡ (value e rest >>= after_value (m ∷ outer) n)
-        = ap (λ (r : Result (Draft × List ℕ) Fault). r >>= after_value outer m) (assoc (value e rest) (λ v. members_at value n v.0 v.1) (λ p. closed_at p.0 p.1))
-          ∙ assoc (value e rest) (λ v. members_at value n v.0 v.1 >>= λ p. closed_at p.0 p.1) (after_value outer m) in
+    = ap (λ (r : Result (Draft × List ℕ) Fault). r >>= after_value outer m) (assoc (value e rest) (λ v. members_at value n v.0 v.1) (λ p. closed_at p.0 p.1))
+    ∙ assoc (value e rest) (λ v. members_at value n v.0 v.1 >>= λ p. closed_at p.0 p.1) (after_value outer m) in
     record {
       open_are = h.open_are ∙ ap length (sym containers);
       few = h.few;

@@ -341,7 +341,7 @@ by_kind law level g value again graph x (kinds.Object class ps) m e there ends s
     let len : length (map named ps) ≡ length ps = named_len ps in
     let mt = member_texts (child_text level 0 g) (map named ps) ++ codes "}" in
     subst (λ (n : ℕ). IsRead (value_with value) d ((object_head class n ++ mt) ++ rest) rest more f) len
-        (container_again law level g value again (items.OpenObject class) (object_head class (length (map named ps))) (map named ps) m e ended small (names_fit ps fits.1) d more f rest (λ inner sound. object_read law d class (length (map named ps)) inner fits.0.0 few sound) h)
+    (container_again law level g value again (items.OpenObject class) (object_head class (length (map named ps))) (map named ps) m e ended small (names_fit ps fits.1) d more f rest (λ inner sound. object_read law d class (length (map named ps)) inner fits.0.0 few sound) h)
 
 own_items : (level : ℕ) (g : List Kind) (x : ℕ) (kind : Kind) → kind_at g x ≡ Some kind → child_items (suc level) g (Own x) ≡ kind_items (child_items level g) (Some kind)
 unfolding child_items

@@ -168,13 +168,13 @@ container_begun base g x kind frames after f old new e there container is at fir
     let stack : reverse after ≡ f ∷ reverse frames = ap reverse pushed ∙ reverse-append frames (f ∷ []) in
     let here : kind_at g f.place ≡ Some kind = ap (kind_at g) at ∙ there in
     let frame : frame_text (child_text (levels - suc (length (reverse frames))) base g) f.next (kind_at g f.place) ≡ rest =
-        ap (λ (l : ℕ). frame_text (child_text (levels - suc l) base g) f.next (kind_at g f.place)) len ∙ ap (λ (i : ℕ). frame_text written i (kind_at g f.place)) first ∙ ap (λ (y : Option Kind). frame_text written 0 y) here in
+    ap (λ (l : ℕ). frame_text (child_text (levels - suc l) base g) f.next (kind_at g f.place)) len ∙ ap (λ (i : ℕ). frame_text written i (kind_at g f.place)) first ∙ ap (λ (y : Option Kind). frame_text written 0 y) here in
     let pend : pending base g (reverse after) ≡ rest ++ pending base g (reverse frames) = ap (pending base g) stack ∙ ap (λ (t : List ℕ). t ++ pending base g (reverse frames)) frame in
     let ended : HasEnd (child_end (levels - suc (length (reverse frames))) g) (map (λ m. m.1) (drop f.next (members_of kind))) =
-        (x + 1, e.to, ap (λ (l : ℕ). ends_after (child_end (levels - suc l) g) (map (λ m. m.1) (drop f.next (members_of kind))) (x + 1)) len ∙ ap (λ (i : ℕ). ends_after (child_end (levels - suc k) g) (map (λ m. m.1) (drop i (members_of kind))) (x + 1)) first ∙ ap (λ (cs : List Child). ends_after (child_end (levels - suc k) g) cs (x + 1)) (sym (held_by kind)) ∙ ap (λ (y : Kind). ends_after (child_end (levels - suc k) g) (children_of y) (x + 1)) (sym same) ∙ o.ends) in
+    (x + 1, e.to, ap (λ (l : ℕ). ends_after (child_end (levels - suc l) g) (map (λ m. m.1) (drop f.next (members_of kind))) (x + 1)) len ∙ ap (λ (i : ℕ). ends_after (child_end (levels - suc k) g) (map (λ m. m.1) (drop i (members_of kind))) (x + 1)) first ∙ ap (λ (cs : List Child). ends_after (child_end (levels - suc k) g) cs (x + 1)) (sym (held_by kind)) ∙ ap (λ (y : Kind). ends_after (child_end (levels - suc k) g) (children_of y) (x + 1)) (sym same) ∙ o.ends) in
     record {
       written = ap (λ (t : List ℕ). t ++ pending base g (reverse after)) is ∙ ap (λ (t : List ℕ). (old ++ start_text base kind) ++ t) pend ∙ append_assoc old (start_text base kind) (rest ++ pending base g (reverse frames))
-        ∙ ap (λ (t : List ℕ). old ++ t) (sym (append_assoc (start_text base kind) rest (pending base g (reverse frames))) ∙ ap (λ (t : List ℕ). t ++ pending base g (reverse frames)) (sym text));
+          ∙ ap (λ (t : List ℕ). old ++ t) (sym (append_assoc (start_text base kind) rest (pending base g (reverse frames))) ∙ ap (λ (t : List ℕ). t ++ pending base g (reverse frames)) (sym text));
       begun = λ h. subst (AreBegun g) (sym stack) (record { kind = kind; there = here; ended = ended }, h);
       longer = omega (arith, ap length is, length-append old (start_text base kind));
     }
@@ -243,20 +243,20 @@ member_made base g kind f h frames pushed after m old mid new there here begun i
     let there' : kind_at g h.place ≡ Some kind = ap (kind_at g) place ∙ there in
     let rest = member_texts written (drop (suc f.next) (members_of kind)) ++ codes "}" in
     let front : frame_text written f.next (kind_at g f.place) ≡ key_text m.0 ++ (written m.1 ++ rest) =
-        ap (λ (o : Option Kind). frame_text written f.next o) there ∙ ap (λ (ms : List (Key × Child)). member_texts written ms ++ codes "}") (drop_some (members_of kind) f.next m here)
-        ∙ append_assoc (key_text m.0) (written m.1 ++ member_texts written (drop (suc f.next) (members_of kind))) (codes "}")
-        ∙ ap (λ (t : List ℕ). key_text m.0 ++ t) (append_assoc (written m.1) (member_texts written (drop (suc f.next) (members_of kind))) (codes "}")) in
+    ap (λ (o : Option Kind). frame_text written f.next o) there ∙ ap (λ (ms : List (Key × Child)). member_texts written ms ++ codes "}") (drop_some (members_of kind) f.next m here)
+    ∙ append_assoc (key_text m.0) (written m.1 ++ member_texts written (drop (suc f.next) (members_of kind))) (codes "}")
+    ∙ ap (λ (t : List ℕ). key_text m.0 ++ t) (append_assoc (written m.1) (member_texts written (drop (suc f.next) (members_of kind))) (codes "}")) in
     let back : frame_text written h.next (kind_at g h.place) ≡ rest =
-        ap (λ (o : Option Kind). frame_text written h.next o) there' ∙ ap (λ (i : ℕ). members_text written i (members_of kind)) next in
+    ap (λ (o : Option Kind). frame_text written h.next o) there' ∙ ap (λ (i : ℕ). members_text written i (members_of kind)) next in
     let pend : pending base g (reverse pushed) ≡ rest ++ pending base g outer = ap (pending base g) stack ∙ ap (λ (t : List ℕ). t ++ pending base g outer) back in
     let top : pending base g (f ∷ outer) ≡ key_text m.0 ++ (written m.1 ++ (rest ++ pending base g outer)) =
-        ap (λ (t : List ℕ). t ++ pending base g outer) front ∙ append_assoc (key_text m.0) (written m.1 ++ rest) (pending base g outer) ∙ ap (λ (t : List ℕ). key_text m.0 ++ t) (append_assoc (written m.1) rest (pending base g outer)) in
+    ap (λ (t : List ℕ). t ++ pending base g outer) front ∙ append_assoc (key_text m.0) (written m.1 ++ rest) (pending base g outer) ∙ ap (λ (t : List ℕ). key_text m.0 ++ t) (append_assoc (written m.1) rest (pending base g outer)) in
     let len : length (reverse pushed) ≡ suc (length outer) = ap length stack in
     let held : child_text (levels - length (reverse pushed)) base g m.1 ≡ written m.1 = ap (λ (k : ℕ). child_text (levels - k) base g m.1) len in
     let whole : new ++ pending base g after ≡ mid ++ (written m.1 ++ (rest ++ pending base g outer)) =
-        child.written ∙ ap (λ (t : List ℕ). mid ++ (t ++ pending base g (reverse pushed))) held ∙ ap (λ (t : List ℕ). mid ++ (written m.1 ++ t)) pend in
+    child.written ∙ ap (λ (t : List ℕ). mid ++ (t ++ pending base g (reverse pushed))) held ∙ ap (λ (t : List ℕ). mid ++ (written m.1 ++ t)) pend in
     let joined : mid ++ (written m.1 ++ (rest ++ pending base g outer)) ≡ old ++ pending base g (f ∷ outer) =
-        ap (λ (t : List ℕ). t ++ (written m.1 ++ (rest ++ pending base g outer))) is ∙ append_assoc old (key_text m.0) (written m.1 ++ (rest ++ pending base g outer)) ∙ ap (λ (t : List ℕ). old ++ t) (sym top) in
+    ap (λ (t : List ℕ). t ++ (written m.1 ++ (rest ++ pending base g outer))) is ∙ append_assoc old (key_text m.0) (written m.1 ++ (rest ++ pending base g outer)) ∙ ap (λ (t : List ℕ). old ++ t) (sym top) in
     let ended : HasEnd (child_end level g) (map (λ x. x.1) (drop h.next (members_of kind))) = subst (λ (i : ℕ). HasEnd (child_end level g) (map (λ x. x.1) (drop i (members_of kind)))) (sym next) n.others in
     let fresh : AreBegun g (reverse pushed) = subst (AreBegun g) (sym stack) (record { kind = kind; there = there'; ended = ended }, begun.1) in
     record {

@@ -103,10 +103,10 @@ container_value law level value reads d kind n head bytes inner y container grow
       no_key = ap (λ (x : Draft). x.key) (sym c.is);
       own = λ _. refl;
       text = λ g h.
-        let w = child_text level 0 g in
-        let members : inner ≡ member_texts w m.members ++ (codes "}" ++ y.1) = m.text g (subst (λ (k : ℕ). Agrees g k m.news) (sym len) h.1) ∙ ap (λ (t : List ℕ). member_texts w m.members ++ t) c.text in
-        let own : child_text (suc level) 0 g (Own (next_place d)) ≡ head ++ (member_texts w m.members ++ codes "}") = own_unfold level g (next_place d) (with_members kind m.members) (ap (kind_at g) (next_is d) ∙ h.0) ∙ grown w in
-        text ∙ ap (λ (t : List ℕ). head ++ t) (members ∙ sym (append_assoc (member_texts w m.members) (codes "}") y.1)) ∙ sym (append_assoc head (member_texts w m.members ++ codes "}") y.1) ∙ ap (λ (t : List ℕ). t ++ y.1) (sym own);
+          let w = child_text level 0 g in
+          let members : inner ≡ member_texts w m.members ++ (codes "}" ++ y.1) = m.text g (subst (λ (k : ℕ). Agrees g k m.news) (sym len) h.1) ∙ ap (λ (t : List ℕ). member_texts w m.members ++ t) c.text in
+          let own : child_text (suc level) 0 g (Own (next_place d)) ≡ head ++ (member_texts w m.members ++ codes "}") = own_unfold level g (next_place d) (with_members kind m.members) (ap (kind_at g) (next_is d) ∙ h.0) ∙ grown w in
+          text ∙ ap (λ (t : List ℕ). head ++ t) (members ∙ sym (append_assoc (member_texts w m.members) (codes "}") y.1)) ∙ sym (append_assoc head (member_texts w m.members ++ codes "}") y.1) ∙ ap (λ (t : List ℕ). t ++ y.1) (sym own);
     }
 
 -- ---- values

@@ -218,9 +218,9 @@ members_takes law level value reads (suc n) d before kind after p outer places c
     let read : value d1 a.0.1 ≡ Ok v.0 = ap (λ (x : Draft). value x a.0.1) (sym k.put) ∙ v.1 in
     let w = reads d1 a.0.1 v.0 read in
     let inside : attached d.places d.containers (Some k.key) w.child ≡ before ++ with_member kind k.key w.child ∷ after =
-        ap (λ (g : List Kind). attached g d.containers (Some k.key) w.child) places ∙ ap (λ (cs : List ℕ). attached (before ++ kind ∷ after) cs (Some k.key) w.child) containers ∙ attached_in before kind after p outer k.key w.child at in
+    ap (λ (g : List Kind). attached g d.containers (Some k.key) w.child) places ∙ ap (λ (cs : List ℕ). attached (before ++ kind ∷ after) cs (Some k.key) w.child) containers ∙ attached_in before kind after p outer k.key w.child at in
     let places2 : v.0.0.places ≡ before ++ with_member kind k.key w.child ∷ (after ++ w.news) =
-        w.places ∙ ap (λ (g : List Kind). g ++ w.news) inside ∙ append_assoc before (with_member kind k.key w.child ∷ after) w.news in
+    w.places ∙ ap (λ (g : List Kind). g ++ w.news) inside ∙ append_assoc before (with_member kind k.key w.child ∷ after) w.news in
     let m = members_takes law level value reads n v.0.0 before (with_member kind k.key w.child) (after ++ w.news) p outer places2 (w.containers ∙ containers) w.no_key at v.0.1 y v.2 in
     let len2 : length v.0.0.places ≡ length d.places + length w.news = omega (arith, ap length w.places, length-append (attached d.places d.containers (Some k.key) w.child) w.news, attached_len d.places d.containers (Some k.key) w.child) in
     record {
@@ -232,6 +232,6 @@ members_takes law level value reads (suc n) d before kind after p outer places c
       no_key = m.no_key;
       names = λ f. (k.named (wants_here d before kind after p outer places containers key at ∙ f), m.names (still_array kind k.key w.child ∙ f));
       text = λ g h.
-        k.text ∙ ap (λ (t : List ℕ). key_text k.key ++ t) (w.text g (agrees_front g (suc (length d.places)) w.news m.news h) ∙ ap (λ (t : List ℕ). child_text level 0 g w.child ++ t) (m.text g (agrees_back g (suc (length d.places)) (suc (length v.0.0.places)) w.news m.news (omega (arith, len2)) h)) ∙ sym (append_assoc (child_text level 0 g w.child) (member_texts (child_text level 0 g) m.members) y.1))
-        ∙ sym (append_assoc (key_text k.key) (child_text level 0 g w.child ++ member_texts (child_text level 0 g) m.members) y.1);
+          k.text ∙ ap (λ (t : List ℕ). key_text k.key ++ t) (w.text g (agrees_front g (suc (length d.places)) w.news m.news h) ∙ ap (λ (t : List ℕ). child_text level 0 g w.child ++ t) (m.text g (agrees_back g (suc (length d.places)) (suc (length v.0.0.places)) w.news m.news (omega (arith, len2)) h)) ∙ sym (append_assoc (child_text level 0 g w.child) (member_texts (child_text level 0 g) m.members) y.1))
+          ∙ sym (append_assoc (key_text k.key) (child_text level 0 g w.child ++ member_texts (child_text level 0 g) m.members) y.1);
     }

@@ -26,4 +26,3 @@ members_text written i ms = member_texts written (drop i ms) ++ codes "}"
 abbrev pub frame_text : (Child → List ℕ) → ℕ → Option Kind → List ℕ
 frame_text written i None = []
 frame_text written i (Some kind) = members_text written i (members_of kind)
-

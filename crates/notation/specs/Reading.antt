@@ -103,14 +103,14 @@ object_at d at bytes = do
 -- by the letter: N b i s a O r R
 unfoldable pub tagged_at : Draft → ℕ → List ℕ → Result Begun Fault
 tagged_at d tag rest =
-  if tag == 78 then null_at d rest
-  else if tag == 98 then truth_at d rest
-  else if tag == 105 then int_at d rest
-  else if tag == 115 then str_at d rest
-  else if tag == 97 then array_at d rest
-  else if tag == 79 then object_at d (tag ∷ rest) rest
-  else if tag == 114 then same_at d rest
-  else back_at d rest
+    if tag == 78 then null_at d rest
+    else if tag == 98 then truth_at d rest
+    else if tag == 105 then int_at d rest
+    else if tag == 115 then str_at d rest
+    else if tag == 97 then array_at d rest
+    else if tag == 79 then object_at d (tag ∷ rest) rest
+    else if tag == 114 then same_at d rest
+    else back_at d rest
 
 abbrev pub is_tag : ℕ → Bool
 is_tag b = b == 78 || (b == 98 || (b == 105 || (b == 115 || (b == 97 || (b == 79 || (b == 114 || b == 82))))))
@@ -133,9 +133,9 @@ takes_integers _ = false
 -- what follows the letter of a key: i s
 unfoldable pub key_tagged_at : Bool → ℕ → List ℕ → Result (Key × List ℕ) Fault
 key_tagged_at integers tag rest =
-  if tag == 115 then (string_at rest >>= λ text. Ok (keys.Str text.0, text.1))
-  else if tag == 105 && integers then (integer_at rest >>= λ n. Ok (keys.Int n.0, n.1))
-  else fail Tag (tag ∷ rest)
+    if tag == 115 then (string_at rest >>= λ text. Ok (keys.Str text.0, text.1))
+    else if tag == 105 && integers then (integer_at rest >>= λ n. Ok (keys.Int n.0, n.1))
+    else fail Tag (tag ∷ rest)
 
 -- A key of an array, or a name of an object, by what the innermost container takes. A key is at fault at
 -- its first byte.

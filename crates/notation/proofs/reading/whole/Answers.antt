@@ -60,7 +60,7 @@ reading-preserved-then-members-eq0 c =
     let top : stack ≡ unwrap_or c.pop.result 0 ∷ reverse c.pop.new.self.items = popped c.reading.outer.items c.pop.new.self.items c.pop.result c.pop.ensures.items (λ lt. c.pop.ensures.variant.1 (search rules)) items in
     let e = c.in_ok-rest-in_default.ensures in
     closed_on stack (reverse c.pop.new.self.items) c.unwrap_or-members.result c.reading.members c.reading.builder c.close.new.builder c.reading.rest.now c.in_ok-rest-in_default.rest.now total
-        (top ∙ ap (λ (m : ℕ). m ∷ reverse c.pop.new.self.items) (sym c.unwrap_or-members.ensures)) c.if-members-eq0.true w h e.read e.closes.0 e.closes.1 e.closes.2
+    (top ∙ ap (λ (m : ℕ). m ∷ reverse c.pop.new.self.items) (sym c.unwrap_or-members.ensures)) c.if-members-eq0.true w h e.read e.closes.0 e.closes.1 e.closes.2
 
 pub returns-in_err-rest-in_default-2-clause-read : goal.returns-in_err-rest-in_default-2-clause-read
 unfolding reading_of

@@ -38,7 +38,7 @@ returns-in_ok-push-in-Own-clause-ok c =
     let e = subst (EndsSomewhere (levels - length frames) g) c.in-Own.is c.requires.ends in
     let s = c.in_ok-put_start-in-Own.ensures.ok in
     subst (λ (child : Child). IsChildBegun c.args.base g child (reverse frames) (reverse c.push.new.self.items) c.args.out.now c.put_start.new.out) (sym c.in-Own.is)
-        (container_begun c.args.base g c.in-Own.x c.kind.result.now frames c.push.new.self.items _ c.args.out.now c.put_start.new.out e c.kind.ensures (sym s.1 ∙ c.if-branch.true) s.0 refl refl c.in_ok-push-in-Own.ensures.items)
+    (container_begun c.args.base g c.in-Own.x c.kind.result.now frames c.push.new.self.items _ c.args.out.now c.put_start.new.out e c.kind.ensures (sym s.1 ∙ c.if-branch.true) s.0 refl refl c.in_ok-push-in-Own.ensures.items)
 
 pub returns-else-branch-clause-ok : goal.returns-else-branch-clause-ok
 returns-else-branch-clause-ok c =
@@ -47,4 +47,4 @@ returns-else-branch-clause-ok c =
     let e = subst (EndsSomewhere (levels - length frames) g) c.in-Own.is c.requires.ends in
     let s = c.in_ok-put_start-in-Own.ensures.ok in
     subst (λ (child : Child). IsChildBegun c.args.base g child (reverse frames) (reverse frames) c.args.out.now c.put_start.new.out) (sym c.in-Own.is)
-        (plain_begun c.args.base g c.in-Own.x c.kind.result.now frames c.args.out.now c.put_start.new.out e c.kind.ensures (sym s.1 ∙ c.if-branch.false) s.0)
+    (plain_begun c.args.base g c.in-Own.x c.kind.result.now frames c.args.out.now c.put_start.new.out e c.kind.ensures (sym s.1 ∙ c.if-branch.false) s.0)

@@ -32,4 +32,4 @@ returns-in_ok-push-in-Some-clause-ok c =
     let frames = c.args.frames.now.items in
     let m = some_member (slice_get (members_of kind) c.args.frame.next) c.in_ok-put_key_of.field-0 c.in-Some.child c.args.out.now c.put_key_of.new.out c.in-Some.is c.in_ok-put_key_of.ensures.ok in
     on_ok c.put_child.result (λ h. member_made c.args.base g kind c.args.frame _ frames c.push-in-Some.new.self.items (reverse c.put_child.new.frames.items) m.member c.args.out.now c.put_key_of.new.out c.put_child.new.out c.kind.ensures m.there c.requires.begun m.key refl (add-one c.args.frame.next) c.in_ok-push-in-Some.ensures.items
-        (subst (λ (x : Child). IsChildBegun c.args.base g x (reverse c.push-in-Some.new.self.items) (reverse c.put_child.new.frames.items) c.put_key_of.new.out c.put_child.new.out) (sym m.held) h)) c.put_child.ensures.ok
+    (subst (λ (x : Child). IsChildBegun c.args.base g x (reverse c.push-in-Some.new.self.items) (reverse c.put_child.new.frames.items) c.put_key_of.new.out c.put_child.new.out) (sym m.held) h)) c.put_child.ensures.ok
