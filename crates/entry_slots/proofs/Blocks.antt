@@ -27,21 +27,21 @@ lives_apart ws a (p ∷ ps) b e f h x y =
         → ((e : Extent) → Contains (lives ps) e → a + p.size ≤ e.place)
         → Contains (cond live (extent_of p ∷ lives ps) (lives ps)) e → Contains (cond live (extent_of p ∷ lives ps) (lives ps)) f → (e ≡ f) ⊎ ((e.place + e.size ≤ f.place) ⊎ (f.place + f.size ≤ e.place))
     go true rest low x y = elim (Contains-cases (extent_of p) (lives ps) e x) [
-        inl here ↦
+      | inl here ↦
           let place : p.place ≡ e.place = ap (λ (x : Extent). x.place) here in
           let size : p.size ≡ e.size = ap (λ (x : Extent). x.size) here in
           elim (Contains-cases (extent_of p) (lives ps) f y) [
-            inl too ↦ inl (sym here ∙ too)
-          | inr later ↦ inr (inl (omega (arith, h.0.place, low f later)))
+            | inl too ↦ inl (sym here ∙ too)
+            | inr later ↦ inr (inl (omega (arith, h.0.place, low f later)))
           ]
       | inr other ↦ elim (Contains-cases (extent_of p) (lives ps) f y) [
-            inl here ↦
-              let place : p.place ≡ f.place = ap (λ (x : Extent). x.place) here in
-              let size : p.size ≡ f.size = ap (λ (x : Extent). x.size) here in
-              inr (inr (omega (arith, h.0.place, low e other)))
-          | inr later ↦ rest other later
-          ]
+        | inl here ↦
+            let place : p.place ≡ f.place = ap (λ (x : Extent). x.place) here in
+            let size : p.size ≡ f.size = ap (λ (x : Extent). x.size) here in
+            inr (inr (omega (arith, h.0.place, low e other)))
+        | inr later ↦ rest other later
       ]
+    ]
     go false rest low x y = rest x y
 
 pub live_apart : (sma : Sma) (ws : List ℕ) (aside : Aside) (e f : Extent) → IsReady sma ws aside → Contains (live_blocks ws sma.from) e → Contains (live_blocks ws sma.from) f → Apart e f
@@ -56,23 +56,23 @@ pub told_in : (sma : Sma) (ws : List ℕ) (aside : Aside) (e : Extent) (i : ℕ)
 unfolding Apart
 told_in sma ws aside e i ready live low high other =
     told_from aside.windows i (λ x named.
-      let block = ready.windows x named in
-      let f : Extent = record { place = x; size = block.size } in
-      elim (live_apart sma ws aside e f ready live block.live) [
-        inl same ↦ let place : e.place ≡ x = ap (λ (y : Extent). y.place) same in (λ q. other (q ∙ ap (λ (n : ℕ). n + 11) (sym place)))
+    let block = ready.windows x named in
+    let f : Extent = record { place = x; size = block.size } in
+    elim (live_apart sma ws aside e f ready live block.live) [
+      | inl same ↦ let place : e.place ≡ x = ap (λ (y : Extent). y.place) same in (λ q. other (q ∙ ap (λ (n : ℕ). n + 11) (sym place)))
       | inr apart ↦ elim apart [
-          inl before ↦ (λ q. omega (arith, before))
+        | inl before ↦ (λ q. omega (arith, before))
         | inr after ↦ (λ q. omega (arith, after, block.inside))
-        ]
-      ])
+      ]
+    ])
 
 -- and so is each slot word
 pub told_slot : (sma : Sma) (ws : List ℕ) (aside : Aside) (i : ℕ) → IsReady sma ws aside → i < sma.from → IsTold aside.windows i
 told_slot sma ws aside i ready low =
     told_from aside.windows i (λ x named.
-      let block = ready.windows x named in
-      let bounds = live_bounds sma ws aside (record { place = x; size = block.size }) ready block.live in
-      (λ q. omega (arith, bounds.0)))
+    let block = ready.windows x named in
+    let bounds = live_bounds sma ws aside (record { place = x; size = block.size }) ready block.live in
+    (λ q. omega (arith, bounds.0)))
 
 -- a word that was read after calls that changed nothing
 pub read_along : (ws ws' : List ℕ) (aside aside' : Aside) (i w : ℕ) → ws' ≡ ws → aside' ≡ aside → IsTold aside.windows i → (IsTold aside'.windows i → w ≡ slice_index ws' i) → w ≡ slice_index ws i

@@ -24,13 +24,13 @@ chain_first ws at (row ∷ rows) h = h.0
 pub chain_next : (ws : List ℕ) (at first : ℕ) (rows : List Row) → IsChain ws first rows → has_place at rows ≡ true → slice_index ws (at + 1) ≡ next_place at rows
 chain_next ws at first [] h there = absurd (false≢true there)
 chain_next ws at first (row ∷ rows) h there = elim (cases_Bool (is_at at row)) [
-    inl here ↦
+  | inl here ↦
       let place : row.place ≡ at = eqb-true row.place at here in
       rw here (ap (λ (n : ℕ). slice_index ws (n + 1)) (sym place) ∙ chain_first ws (slice_index ws (row.place + 1)) rows h.1)
   | inr other ↦
       let later : has_place at rows ≡ true = elim (or_cases (is_at at row) (has_place at rows) there) [ inl here ↦ absurd (false≢true (sym other ∙ here)) | inr l ↦ l ] in
       rw other (chain_next ws at (slice_index ws (row.place + 1)) rows h.1 later)
-  ]
+]
 
 -- each row of the list has its block
 abbrev pub AreHome : EntrySlots → List ℕ → Aside → List Row → Type 0
@@ -43,9 +43,9 @@ small_first e ws aside (row ∷ rows) h = let w = room (h row (Contains-first ro
 pub small_next : (e : EntrySlots) (ws : List ℕ) (aside : Aside) (at : ℕ) (rows : List Row) → AreHome e ws aside rows → next_place at rows < 2 ^ 32
 small_next e ws aside at [] h = omega arith
 small_next e ws aside at (row ∷ rows) h = elim (cases_Bool (is_at at row)) [
-    inl here ↦ rw here (small_first e ws aside rows (λ r c. h r (Contains-later row rows r c)))
+  | inl here ↦ rw here (small_first e ws aside rows (λ r c. h r (Contains-later row rows r c)))
   | inr other ↦ rw other (small_next e ws aside at rows (λ r c. h r (Contains-later row rows r c)))
-  ]
+]
 
 -- the rows of a chain have their blocks
 pub home_chain : {e : EntrySlots} {ws : List ℕ} {aside : Aside} {s : Entries} (slot : ℕ) → Stands e ws aside s → AreHome e ws aside (chain_of s slot)
@@ -71,15 +71,15 @@ pub small_after : {e : EntrySlots} {ws : List ℕ} {aside : Aside} {at : ℕ} �
 small_after {e = e} {ws = ws} {aside = aside} {at = at} h =
     let s = h.entries in
     elim (or_cases (has_place at s.rows) (has_place at s.removed) (sym (any-append at s.rows s.removed) ∙ h.there)) [
-      inl l ↦
-        let own = in_own_slot s at l in
-        let slot = slot_of s.conf own.0.key in
-        let lt : slot < e.sma.from = omega (arith, slot_small (hash_of own.0.key) s.conf.slots h.stand.good.slots_least, h.stand.from) in
-        let small = small_next e ws aside at (chain_of s slot) (home_chain slot h.stand) in
-        omega (arith, next_row s at slot h.stand lt own.1, small)
-    | inr r ↦
-        let small = small_next e ws aside at s.removed (λ row c. home_removed row h.stand c) in
-        omega (arith, next_removed s at h.stand r, small)
+      | inl l ↦
+          let own = in_own_slot s at l in
+          let slot = slot_of s.conf own.0.key in
+          let lt : slot < e.sma.from = omega (arith, slot_small (hash_of own.0.key) s.conf.slots h.stand.good.slots_least, h.stand.from) in
+          let small = small_next e ws aside at (chain_of s slot) (home_chain slot h.stand) in
+          omega (arith, next_row s at slot h.stand lt own.1, small)
+      | inr r ↦
+          let small = small_next e ws aside at s.removed (λ row c. home_removed row h.stand c) in
+          omega (arith, next_removed s at h.stand r, small)
     ]
   where
     any-append : (at : ℕ) (xs ys : List Row) → has_place at (xs ++ ys) ≡ (has_place at xs || has_place at ys)

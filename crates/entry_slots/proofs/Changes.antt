@@ -32,12 +32,12 @@ shrink p ps i past x = go p.live x.live
   where
     go : (live : Bool) → Contains (cond live (extent_of p ∷ lives ps) (lives ps)) x.block → Inner (lives ps) i
     go true c = elim (Contains-cases (extent_of p) (lives ps) x.block c) [
-        inl here ↦
+      | inl here ↦
           let place : p.place ≡ x.block.place = ap (λ (y : Extent). y.place) here in
           let size : p.size ≡ x.block.size = ap (λ (y : Extent). y.size) here in
           absurd (omega (arith, x.high))
       | inr later ↦ record { block = x.block; live = later; low = x.low; high = x.high }
-      ]
+    ]
     go false c = record { block = x.block; live = c; low = x.low; high = x.high }
 
 fill_inner : (old new : List ℕ) (a : ℕ) (ps : List Piece) (b : ℕ) → ((i : ℕ) → a ≤ i → i < b → (slice_index new i ≡ slice_index old i) ⊎ Inner (lives ps) i) → Fill old a ps b → Fill new a ps b
@@ -45,14 +45,15 @@ fill_inner old new a [] b same h = h
 fill_inner old new a (p ∷ ps) b same h =
     let end : a + p.size ≤ b = Fill-le old (a + p.size) ps b h.1 in
     let here : slice_index new a ≡ slice_index old a = elim (same a (omega arith) (omega (arith, h.0.enough))) [
-        inl e ↦ e
+      | inl e ↦ e
       | inr x ↦ absurd (omega (arith, (lives_between old a (p ∷ ps) b x.block h x.live).0, x.low))
-      ] in
-    (record { place = h.0.place; word = here ∙ h.0.word; even = h.0.even; enough = h.0.enough },
-    fill_inner old new (a + p.size) ps b (λ i low high. elim (same i (omega arith) high) [
-        inl e ↦ inl e
-      | inr x ↦ inr (shrink p ps i (omega (arith, h.0.place)) x)
-      ]) h.1)
+    ] in (
+      record { place = h.0.place; word = here ∙ h.0.word; even = h.0.even; enough = h.0.enough },
+      fill_inner old new (a + p.size) ps b (λ i low high. elim (same i (omega arith) high) [
+        | inl e ↦ inl e
+        | inr x ↦ inr (shrink p ps i (omega (arith, h.0.place)) x)
+      ]) h.1,
+    )
 
 pub change_pieces : {sma : Sma} {ws : List ℕ} {aside : Aside} {ws' : List ℕ} → IsReady sma ws aside → Change sma ws aside ws' → pieces ws' sma.from ≡ pieces ws sma.from
 change_pieces {sma} {ws} {aside} {ws'} ready c =
@@ -70,14 +71,14 @@ change_ready {sma} {ws} {aside} {ws'} ready c = record {
     merged = ap (gaps_touch false) (change_pieces ready c) ∙ ready.formatted.merged;
   };
   windows = λ x named.
-    let block = ready.windows x named in
-    let both = c.named x named in
-    let ends : image_end ws' x ≡ image_end ws x = ap₂ (λ k v. x + 12 + (k + 7) / 8 + v) both.0 both.1 in
-    record {
-      size = block.size;
-      live = subst (λ bs. Contains bs (record { place = x; size = block.size })) (sym (change_live ready c)) block.live;
-      inside = omega (arith, ends, block.inside);
-    };
+      let block = ready.windows x named in
+      let both = c.named x named in
+      let ends : image_end ws' x ≡ image_end ws x = ap₂ (λ k v. x + 12 + (k + 7) / 8 + v) both.0 both.1 in
+      record {
+        size = block.size;
+        live = subst (λ bs. Contains bs (record { place = x; size = block.size })) (sym (change_live ready c)) block.live;
+        inside = omega (arith, ends, block.inside);
+      };
 }
 
 -- only words from `low` up to `high` changed
@@ -92,8 +93,8 @@ pub only_set : (ws ws' : List ℕ) (low high i v : ℕ) → OnlyIn ws ws' low hi
 only_set ws ws' low high i v h l k = record {
   count = length-set ws' i v ∙ h.count;
   same = λ j out.
-    let other : j ≢ i = elim out [ inl low ↦ (λ q. omega arith) | inr past ↦ (λ q. omega arith) ] in
-    get_or-set_other ws' i j v 0 other ∙ h.same j out;
+      let other : j ≢ i = elim out [ inl low ↦ (λ q. omega arith) | inr past ↦ (λ q. omega arith) ] in
+      get_or-set_other ws' i j v 0 other ∙ h.same j out;
 }
 
 -- the lengths in a block that a window names stay where words change from word 4 of a block on
@@ -104,9 +105,9 @@ named_same sma ws aside e ready live ws' only x named =
     let block = ready.windows x named in
     let f : Extent = record { place = x; size = block.size } in
     elim (live_apart sma ws aside e f ready live block.live) [
-      inl same ↦ (let place : e.place ≡ x = ap (λ (y : Extent). y.place) same in (only.same (x + 2) (inl (omega arith)), only.same (x + 3) (inl (omega arith))))
-    | inr apart ↦ elim apart [
-        inl before ↦ (only.same (x + 2) (inr (omega arith)), only.same (x + 3) (inr (omega arith)))
-      | inr after ↦ (only.same (x + 2) (inl (omega (arith, block.inside))), only.same (x + 3) (inl (omega (arith, block.inside))))
+      | inl same ↦ (let place : e.place ≡ x = ap (λ (y : Extent). y.place) same in (only.same (x + 2) (inl (omega arith)), only.same (x + 3) (inl (omega arith))))
+      | inr apart ↦ elim apart [
+        | inl before ↦ (only.same (x + 2) (inr (omega arith)), only.same (x + 3) (inr (omega arith)))
+        | inr after ↦ (only.same (x + 2) (inl (omega (arith, block.inside))), only.same (x + 3) (inl (omega (arith, block.inside))))
       ]
     ]

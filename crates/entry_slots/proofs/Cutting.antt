@@ -34,18 +34,19 @@ AreDistinct (row ∷ rows) = ((q : Row) → Contains rows q → q.place ≢ row.
 
 pub distinct_counted : (rows : List Row) → ((x : ℕ) → count_by (is_at x) rows ≤ 1) → AreDistinct rows
 distinct_counted [] h = tt
-distinct_counted (row ∷ rows) h =
-    ((λ q c same.
+distinct_counted (row ∷ rows) h = (
+  (λ q c same.
       let one : cond {A = ℕ} (is_at row.place row) 1 0 ≡ 1 = ap (λ (b : Bool). cond {A = ℕ} b 1 0) (at_itself row row.place refl) in
       omega (arith, h row.place, count-cons (is_at row.place) row rows, counted (is_at row.place) rows q c (at_itself q row.place same))),
-    distinct_counted rows (λ x. omega (arith, h x, count-cons (is_at x) row rows)))
+  distinct_counted rows (λ x. omega (arith, h x, count-cons (is_at x) row rows)),
+)
 
 pub count-filter : (t p : Row → Bool) (rows : List Row) → count_by t (filter p rows) ≤ count_by t rows
 count-filter t p [] = omega arith
 count-filter t p (row ∷ rows) = elim (cases_Bool (p row)) [
-    inl y ↦ rw y (omega (arith, count-cons t row (filter p rows), count-cons t row rows, count-filter t p rows))
+  | inl y ↦ rw y (omega (arith, count-cons t row (filter p rows), count-cons t row rows, count-filter t p rows))
   | inr n ↦ rw n (omega (arith, count-cons t row rows, count-filter t p rows))
-  ]
+]
 
 pub rows_once : {e : EntrySlots} {ws : List ℕ} {aside : Aside} {s : Entries} → Stands e ws aside s → (x : ℕ) → count_by (is_at x) s.rows ≤ 1
 rows_once h x = omega (arith, once h x)
@@ -60,9 +61,9 @@ distinct_front (x ∷ xs) ys h = ((λ q c. h.0 q (Contains-append_left xs ys q c
 pub distinct_both : (xs ys : List Row) (p q : Row) → AreDistinct (xs ++ ys) → Contains xs p → Contains ys q → q.place ≢ p.place
 distinct_both [] ys p q h cp cq = absurd (none_in_nil p cp)
 distinct_both (x ∷ xs) ys p q h cp cq = elim (Contains-cases x xs p cp) [
-    inl here ↦ (λ e. h.0 q (Contains-append_right xs ys q cq) (e ∙ ap (λ (r : Row). r.place) (sym here)))
+  | inl here ↦ (λ e. h.0 q (Contains-append_right xs ys q cq) (e ∙ ap (λ (r : Row). r.place) (sym here)))
   | inr later ↦ distinct_both xs ys p q h.1 later cq
-  ]
+]
 
 -- ---- the words that hold a chain together
 
@@ -111,9 +112,10 @@ pub relink : (ws ws' : List ℕ) (first m : ℕ) (front back back' : List Row) �
 relink ws ws' first m [] back back' e chain rest same kept other distinct = subst (λ (n : ℕ). IsChain ws' (slice_index ws' n) back') e rest
 relink ws ws' first m (row ∷ rows) back back' e chain rest same kept other distinct =
     let l = link_in first m row rows e in
-    let apart : first ≢ m = λ q. other l.0 l.1 (sym l.2 ∙ sym q) in
-    (same apart ∙ chain.0,
-    relink ws ws' (row.place + 1) m rows back back' e chain.1 rest (λ o. kept row (Contains-first row rows) o) (λ q c o. kept q (Contains-later row rows q c) o) (λ q c o. distinct.0 q c (omega arith)) distinct.1)
+    let apart : first ≢ m = λ q. other l.0 l.1 (sym l.2 ∙ sym q) in (
+      same apart ∙ chain.0,
+      relink ws ws' (row.place + 1) m rows back back' e chain.1 rest (λ o. kept row (Contains-first row rows) o) (λ q c o. kept q (Contains-later row rows q c) o) (λ q c o. distinct.0 q c (omega arith)) distinct.1,
+    )
 
 -- what a chain's words at its front lead to
 pub chain_rest : (ws : List ℕ) (first : ℕ) (front back : List Row) → IsChain ws (slice_index ws first) (front ++ back) → IsChain ws (slice_index ws (link_after first front)) back
@@ -127,12 +129,12 @@ module _ {e : EntrySlots} {ws : List ℕ} {aside : Aside} {s : Entries} (h : Sta
   set_change = record {
     count = length-set ws m v;
     inner = λ i low. elim (cases_eq i m) [
-        inl same ↦ elim spot [
-          inl slot ↦ absurd (omega arith)
+      | inl same ↦ elim spot [
+        | inl slot ↦ absurd (omega arith)
         | inr q ↦ (let w = room q.1 in inr (record { block = extent_of q.0; live = q.1.live; low = omega (arith, q.2); high = omega (arith, q.2, w.enough) }))
-        ]
+      ]
       | inr other ↦ inl (get_or-set_other ws m i v 0 other)
-      ];
+    ];
     named = λ x named. let both = set_named x named in (get_or-set_other ws m (x + 2) v 0 both.0, get_or-set_other ws m (x + 3) v 0 both.1);
   } where
     set_named : (x : ℕ) → is_named aside.windows x ≡ true → (x + 2 ≢ m) × (x + 3 ≢ m)
@@ -144,15 +146,15 @@ module _ {e : EntrySlots} {ws : List ℕ} {aside : Aside} {s : Entries} (h : Sta
   set_row row home = record {
     count = length-set ws m v;
     same = λ i low high one. get_or-set_other ws m i v 0 (λ same. elim spot [
-        inl slot ↦ (let w = room home in omega (arith, w.low))
+      | inl slot ↦ (let w = room home in omega (arith, w.low))
       | inr q ↦ elim (cases_eq row.place q.0.place) [
-          inl at ↦ one (omega (arith, q.2))
+        | inl at ↦ one (omega (arith, q.2))
         | inr other ↦ elim (rows_apart row q.0 home q.1 other) [
-            inl before ↦ omega (arith, q.2)
+          | inl before ↦ omega (arith, q.2)
           | inr after ↦ (let w = room q.1 in omega (arith, q.2, w.enough))
-          ]
         ]
-      ]);
+      ]
+    ]);
   }
 
   pub set_entry : (row : Row) → IsHome e ws aside row → IsEntry (slice_set ws m v) row

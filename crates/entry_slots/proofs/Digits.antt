@@ -9,7 +9,7 @@ use Rattle.php_graph.specs.Size.{words_in}
 use Rattle.php_graph.specs.Numbers.{hash_step}
 use Rattle.value_image.specs.Packed.{word_at}
 
--- one of eight bytes, of which each is below 256 
+-- one of eight bytes, of which each is below 256
 pub byte_of : (j : ℕ) (a b c d e f g h w : ℕ) → a < 256 → b < 256 → c < 256 → d < 256 → e < 256 → f < 256 → g < 256 → h < 256
     → w ≡ a + 256 * (b + 256 * (c + 256 * (d + 256 * (e + 256 * (f + 256 * (g + 256 * (h + 0)))))))
     → j < 8 → (w / 2 ^ (8 * j)) % 256 ≡ get_or (a ∷ b ∷ c ∷ d ∷ e ∷ f ∷ g ∷ h ∷ []) j 0
@@ -48,8 +48,8 @@ key_byte key i w small is =
     let xs : List ℕ = drop (8 * (i / 8)) key in
     let lt : i % 8 < 8 = omega arith in
     byte_of (i % 8) (slice_index xs 0) (slice_index xs 1) (slice_index xs 2) (slice_index xs 3) (slice_index xs 4) (slice_index xs 5) (slice_index xs 6) (slice_index xs 7) w
-      (small_drop key (8 * (i / 8)) 0 small) (small_drop key (8 * (i / 8)) 1 small) (small_drop key (8 * (i / 8)) 2 small) (small_drop key (8 * (i / 8)) 3 small)
-      (small_drop key (8 * (i / 8)) 4 small) (small_drop key (8 * (i / 8)) 5 small) (small_drop key (8 * (i / 8)) 6 small) (small_drop key (8 * (i / 8)) 7 small) is lt
+    (small_drop key (8 * (i / 8)) 0 small) (small_drop key (8 * (i / 8)) 1 small) (small_drop key (8 * (i / 8)) 2 small) (small_drop key (8 * (i / 8)) 3 small)
+    (small_drop key (8 * (i / 8)) 4 small) (small_drop key (8 * (i / 8)) 5 small) (small_drop key (8 * (i / 8)) 6 small) (small_drop key (8 * (i / 8)) 7 small) is lt
     ∙ (eight xs (i % 8) lt ∙ (get_or-drop (8 * (i / 8)) key (i % 8) 0 ∙ ap (λ (n : ℕ). get_or key n 0) (omega arith)))
 
 -- the hash of one byte more

@@ -26,14 +26,14 @@ pub cleared_stands : {e : EntrySlots} {ws : List ℕ} {aside : Aside} (s : Entri
 cleared_stands {e} {ws} {aside} s h at v q there place =
     let spot : Spot e ws aside (at + 1) = inr (q, home_unlinked q h there, ap (λ n. n + 1) (sym place)) in
     relisted s h (slice_set ws (at + 1) v) (set_change h (at + 1) v spot) (set_entry h (at + 1) v spot)
-      (λ slot lt.
-        let word : slice_index (slice_set ws (at + 1) v) slot ≡ slice_index ws slot = get_or-set_other ws (at + 1) slot v 0 (let w = room (home_unlinked q h there) in λ same. omega (arith, w.low, h.from)) in
-        subst (λ n. IsChain (slice_set ws (at + 1) v) n (chain_of s slot)) (sym word)
-          (chain_kept ws (slice_set ws (at + 1) v) (slice_index ws slot) (chain_of s slot) (λ row c. set_link h (at + 1) v spot row (λ same.
-            rows_unlinked h row q (Contains-filter (is_in_slot s.conf slot) s.rows row c).0 there (omega arith))) (h.chains slot lt)))
-      e.removed s.removed s.unlinked
-      (chain_kept ws (slice_set ws (at + 1) v) e.removed s.removed (λ row c. set_link h (at + 1) v spot row (λ same. removed_unlinked h row q c there (omega arith))) h.removed_chain)
-      (λ row c. home_removed row h c) (λ row c. home_unlinked row h c) (λ p. refl)
+    (λ slot lt.
+    let word : slice_index (slice_set ws (at + 1) v) slot ≡ slice_index ws slot = get_or-set_other ws (at + 1) slot v 0 (let w = room (home_unlinked q h there) in λ same. omega (arith, w.low, h.from)) in
+    subst (λ n. IsChain (slice_set ws (at + 1) v) n (chain_of s slot)) (sym word)
+    (chain_kept ws (slice_set ws (at + 1) v) (slice_index ws slot) (chain_of s slot) (λ row c. set_link h (at + 1) v spot row (λ same.
+    rows_unlinked h row q (Contains-filter (is_in_slot s.conf slot) s.rows row c).0 there (omega arith))) (h.chains slot lt)))
+    e.removed s.removed s.unlinked
+    (chain_kept ws (slice_set ws (at + 1) v) e.removed s.removed (λ row c. set_link h (at + 1) v spot row (λ same. removed_unlinked h row q c there (omega arith))) h.removed_chain)
+    (λ row c. home_removed row h c) (λ row c. home_unlinked row h c) (λ p. refl)
 
 -- the moment at which it was dropped
 abbrev pub dropped_row : ℕ → ℕ → Row → Row
@@ -54,32 +54,32 @@ module _ {e : EntrySlots} {ws : List ℕ} {aside : Aside} (s : Entries) (h : Sta
 
   link_other : (row : Row) → IsHome e ws aside row → slice_index (slice_set ws (at + 8) t) (row.place + 1) ≡ slice_index ws (row.place + 1)
   link_other row home = other_word (row.place + 1) (λ same. elim (cases_eq row.place q.place) [
-      inl one ↦ omega arith
+    | inl one ↦ omega arith
     | inr two ↦ elim (rows_apart row q home own two) [
-        inl before ↦ (let w = room home in omega (arith, w.enough))
+      | inl before ↦ (let w = room home in omega (arith, w.enough))
       | inr after ↦ (let w = room own in omega (arith, w.enough))
-      ]
-    ])
+    ]
+  ])
 
   row_other : (row : Row) → IsHome e ws aside row → row.place ≢ q.place → SameRow ws (slice_set ws (at + 8) t) row
   row_other row home other = record {
     count = length-set ws (at + 8) t;
     same = λ i low high one. other_word i (λ same. elim (rows_apart row q home own other) [
-        inl before ↦ omega arith
+      | inl before ↦ omega arith
       | inr after ↦ (let w = room own in omega (arith, w.enough))
-      ]);
+    ]);
   }
 
   noted_change : Change e.sma ws aside (slice_set ws (at + 8) t)
   noted_change = record {
     count = length-set ws (at + 8) t;
     inner = λ i low. elim (cases_eq i (at + 8)) [
-        inl same ↦ (let w = room own in inr (record { block = extent_of q; live = own.live; low = omega arith; high = omega (arith, w.enough) }))
+      | inl same ↦ (let w = room own in inr (record { block = extent_of q; live = own.live; low = omega arith; high = omega (arith, w.enough) }))
       | inr other ↦ inl (other_word i other)
-      ];
+    ];
     named = λ x named.
-      let may = may_note q own at 8 place (omega arith) (omega arith) (omega arith) x named in
-      (other_word (x + 2) (λ same. may.key_length (sym same)), other_word (x + 3) (λ same. may.image_length (sym same)));
+        let may = may_note q own at 8 place (omega arith) (omega arith) (omega arith) x named in
+        (other_word (x + 2) (λ same. may.key_length (sym same)), other_word (x + 3) (λ same. may.image_length (sym same)));
   }
 
   noted_entry : (row : Row) → IsHome e ws aside row → row.place ≡ at → IsEntry (slice_set ws (at + 8) t) (record row { dtime = t })
@@ -91,9 +91,9 @@ module _ {e : EntrySlots} {ws : List ℕ} {aside : Aside} (s : Entries) (h : Sta
         later = λ i low high. other_word i (omega arith);
       } in
       entry_noted ws (slice_set ws (at + 8) t) row row.mtime row.atime t row.hits home.entry but
-        (other_word (row.place + 6) (omega arith) ∙ home.entry.mtime) (other_word (row.place + 7) (omega arith) ∙ home.entry.atime)
-        (ap (slice_index (slice_set ws (at + 8) t)) (ap (λ n. n + 8) same) ∙ get_or-set_same ws (at + 8) t 0 (omega (arith, w.high, w.enough)))
-        (other_word (row.place + 9) (omega arith) ∙ home.entry.hits)
+      (other_word (row.place + 6) (omega arith) ∙ home.entry.mtime) (other_word (row.place + 7) (omega arith) ∙ home.entry.atime)
+      (ap (slice_index (slice_set ws (at + 8) t)) (ap (λ n. n + 8) same) ∙ get_or-set_same ws (at + 8) t 0 (omega (arith, w.high, w.enough)))
+      (other_word (row.place + 9) (omega arith) ∙ home.entry.hits)
 
   extents_same : (test : Extent → Bool) (rows : List Row) → count_by (λ row. test (extent_of row)) (map (dropped_row at t) rows) ≡ count_by (λ row. test (extent_of row)) rows
   extents_same test [] = refl
@@ -106,24 +106,24 @@ module _ {e : EntrySlots} {ws : List ℕ} {aside : Aside} (s : Entries) (h : Sta
   pub noted_stands : Stands e (slice_set ws (at + 8) t) aside (noted at t s)
   noted_stands = record {
     chains = λ slot lt.
-      let w = room own in
-      let word : slice_index (slice_set ws (at + 8) t) slot ≡ slice_index ws slot = other_word slot (λ same. omega (arith, w.low, h.from)) in
-      subst (λ n. IsChain (slice_set ws (at + 8) t) n (chain_of s slot)) (sym word)
+        let w = room own in
+        let word : slice_index (slice_set ws (at + 8) t) slot ≡ slice_index ws slot = other_word slot (λ same. omega (arith, w.low, h.from)) in
+        subst (λ n. IsChain (slice_set ws (at + 8) t) n (chain_of s slot)) (sym word)
         (chain_kept ws (slice_set ws (at + 8) t) (slice_index ws slot) (chain_of s slot) (λ row c. link_other row (home_row row h (Contains-filter (is_in_slot s.conf slot) s.rows row c).0)) (h.chains slot lt));
     removed_chain = chain_kept ws (slice_set ws (at + 8) t) e.removed s.removed (λ row c. link_other row (home_removed row h c)) h.removed_chain;
     rows = λ row c. entry_kept ws (slice_set ws (at + 8) t) row (h.rows row c) (row_other row (home_row row h c) (λ same. rows_unlinked h row q c there (sym same)));
     removed = λ row c. entry_kept ws (slice_set ws (at + 8) t) row (h.removed row c) (row_other row (home_removed row h c) (λ same. removed_unlinked h row q c there (sym same)));
     unlinked = λ x c.
-      let r = map_there (dropped_row at t) s.unlinked x c in
-      let home = home_unlinked r.0 h r.1 in
-      elim (cases_eq r.0.place at) [
-        inl same ↦
-          let here : dropped_row at t r.0 ≡ record r.0 { dtime = t } = ap (λ (b : Bool). let y : Row = cond b (record r.0 { dtime = t }) r.0 in y) (eq-eqb r.0.place at same) in
-          subst (λ y. IsEntry (slice_set ws (at + 8) t) y) (sym here ∙ r.2) (noted_entry r.0 home same)
-      | inr other ↦
-          let here : dropped_row at t r.0 ≡ r.0 = ap (λ (b : Bool). let y : Row = cond b (record r.0 { dtime = t }) r.0 in y) (ne_eqb r.0.place at other) in
-          subst (λ y. IsEntry (slice_set ws (at + 8) t) y) (sym here ∙ r.2) (entry_kept ws (slice_set ws (at + 8) t) r.0 home.entry (row_other r.0 home (λ same. other (same ∙ place))))
-      ];
+        let r = map_there (dropped_row at t) s.unlinked x c in
+        let home = home_unlinked r.0 h r.1 in
+        elim (cases_eq r.0.place at) [
+          | inl same ↦
+              let here : dropped_row at t r.0 ≡ record r.0 { dtime = t } = ap (λ (b : Bool). let y : Row = cond b (record r.0 { dtime = t }) r.0 in y) (eq-eqb r.0.place at same) in
+              subst (λ y. IsEntry (slice_set ws (at + 8) t) y) (sym here ∙ r.2) (noted_entry r.0 home same)
+          | inr other ↦
+              let here : dropped_row at t r.0 ≡ r.0 = ap (λ (b : Bool). let y : Row = cond b (record r.0 { dtime = t }) r.0 in y) (ne_eqb r.0.place at other) in
+              subst (λ y. IsEntry (slice_set ws (at + 8) t) y) (sym here ∙ r.2) (entry_kept ws (slice_set ws (at + 8) t) r.0 home.entry (row_other r.0 home (λ same. other (same ∙ place))))
+        ];
     taken = h.taken;
     ready = change_ready h.ready noted_change;
     blocks = record { count = λ test. ap (count_by test) (change_live h.ready noted_change) ∙ omega (arith, h.blocks.count test, count_blocks test s, count_blocks test (noted at t s), extents_same test s.unlinked) };

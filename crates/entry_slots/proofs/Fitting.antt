@@ -14,8 +14,8 @@ all_there p [] x h c = absurd (none_in_nil x c)
 all_there p (y ∷ ys) x h c =
     let both = and_parts (p y) (list_all p ys) h in
     elim (Contains-cases y ys x c) [
-      inl here ↦ ap p (sym here) ∙ both.0
-    | inr later ↦ all_there p ys x both.1 later
+      | inl here ↦ ap p (sym here) ∙ both.0
+      | inr later ↦ all_there p ys x both.1 later
     ]
 
 all_from : {X : Type 0} (p : X → Bool) (xs : List X) → ((x : X) → Contains xs x → p x ≡ true) → list_all p xs ≡ true
@@ -48,9 +48,9 @@ same_fit from to n xs ys same =
 find_passes : (p : ℕ → Bool) (xs : List ℕ) (x : ℕ) → find p xs ≡ Some x → p x ≡ true
 find_passes p [] x h = cc
 find_passes p (y ∷ ys) x h = elim (cases_Bool (p y)) [
-    inl t ↦ (let e : Some y ≡ Some x = subst (λ (b : Bool). cond b (Some y) (find p ys) ≡ Some x) t h in let same : y ≡ x = cc in ap p (sym same) ∙ t)
+  | inl t ↦ (let e : Some y ≡ Some x = subst (λ (b : Bool). cond b (Some y) (find p ys) ≡ Some x) t h in let same : y ≡ x = cc in ap p (sym same) ∙ t)
   | inr f ↦ find_passes p ys x (subst (λ (b : Bool). cond b (Some y) (find p ys) ≡ Some x) f h)
-  ]
+]
 
 -- the words at the place are free
 pub fit_free : (from to n at : ℕ) (xs : List Extent) → first_fit from to n xs ≡ Some at → is_free at n xs ≡ true
@@ -61,12 +61,12 @@ fit_free from to n at xs h =
 pub not_free : (i n : ℕ) (xs : List Extent) (e : Extent) → Contains xs e → 1 ≤ n → e.place ≤ i → i < e.place + e.size → is_free i n xs ≡ false
 not_free i n xs e c some low high =
     false_from_ne_true (is_free i n xs) (λ t.
-      let apart = not-true (meets i n e) (all_there (λ x. not (meets i n x)) xs e t c) in
-      false≢true (sym apart ∙ meets_at i n e (omega arith)))
+    let apart = not-true (meets i n e) (all_there (λ x. not (meets i n x)) xs e t c) in
+    false≢true (sym apart ∙ meets_at i n e (omega arith)))
 
 pub count-with_block : (p : Extent → Bool) (e : Extent) (xs : List Extent) → count_by p (with_block e xs) ≡ cond (p e) 1 0 + count_by p xs
 count-with_block p e [] = count-cons p e []
 count-with_block p e (x ∷ xs) = elim (cases_Bool (ltb e.place x.place)) [
-    inl t ↦ rw t (count-cons p e (x ∷ xs))
+  | inl t ↦ rw t (count-cons p e (x ∷ xs))
   | inr f ↦ rw f (omega (arith, count-cons p x (with_block e xs), count-cons p x xs, count-with_block p e xs))
-  ]
+]

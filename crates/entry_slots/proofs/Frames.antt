@@ -26,8 +26,8 @@ run_same ws ws' at run count same h =
     let n : ℕ = length run in
     let long : length (take n (drop at ws')) ≡ length (take n (drop at ws)) = omega (arith, length-take n (drop at ws'), length-take n (drop at ws), length-drop at ws', length-drop at ws) in
     ext_get_or 0 (take n (drop at ws')) (take n (drop at ws)) long (λ i lt.
-      let few : i < n = omega (arith, length-take n (drop at ws'), lt) in
-      get_or-take n (drop at ws') i 0 few ∙ (get_or-drop at ws' i 0 ∙ (same (at + i) (omega arith) (omega arith) ∙ (sym (get_or-drop at ws i 0) ∙ sym (get_or-take n (drop at ws) i 0 few)))))
+    let few : i < n = omega (arith, length-take n (drop at ws'), lt) in
+    get_or-take n (drop at ws') i 0 few ∙ (get_or-drop at ws' i 0 ∙ (same (at + i) (omega arith) (omega arith) ∙ (sym (get_or-drop at ws i 0) ∙ sym (get_or-take n (drop at ws) i 0 few)))))
     ∙ h
 
 -- the words of a row's block are as they were, but for the chain's
@@ -55,9 +55,9 @@ entry_noted ws ws' row mtime atime dtime hits h s em ea ed eh =
     let start : image_place ws row.place ≡ row.place + 12 + words_in (length row.key) = ap (λ n. row.place + 12 + (n + 7) / 8) h.key_length in
     let start' : image_place ws' row.place ≡ row.place + 12 + words_in (length row.key) = ap (λ n. row.place + 12 + (n + 7) / 8) (s.first 2 (omega arith) (omega arith) ∙ h.key_length) in
     let image : StandsAt ws (row.place + 12 + words_in (length row.key)) (image_of row.graph) =
-        image-stands ws (row.place + 12 + words_in (length row.key)) (image_length row.graph) row.graph (subst (λ n. IsImageOf ws n (image_length row.graph) row.graph) start h.image) in
+    image-stands ws (row.place + 12 + words_in (length row.key)) (image_length row.graph) row.graph (subst (λ n. IsImageOf ws n (image_length row.graph) row.graph) start h.image) in
     let image' : StandsAt ws' (row.place + 12 + words_in (length row.key)) (image_of row.graph) =
-        run_same ws ws' (row.place + 12 + words_in (length row.key)) (image_of row.graph) s.count (λ i low high. s.later i (omega arith) (omega arith)) image in
+    run_same ws ws' (row.place + 12 + words_in (length row.key)) (image_of row.graph) s.count (λ i low high. s.later i (omega arith) (omega arith)) image in
     record {
       size = ap (slice_index ws') (sym zero) ∙ (s.first 0 (omega arith) (omega arith) ∙ (ap (slice_index ws) zero ∙ h.size));
       key_length = s.first 2 (omega arith) (omega arith) ∙ h.key_length;
@@ -99,6 +99,6 @@ pub rows_apart : {e : EntrySlots} {ws : List ℕ} {aside : Aside} (p q : Row) �
 unfolding Apart
 rows_apart {e} {ws} {aside} p q hp hq other =
     elim (live_apart e.sma ws aside (extent_of p) (extent_of q) hp.ready hp.live hq.live) [
-      inl same ↦ absurd (other (ap (λ (x : Extent). x.place) same))
-    | inr apart ↦ apart
+      | inl same ↦ absurd (other (ap (λ (x : Extent). x.place) same))
+      | inr apart ↦ apart
     ]

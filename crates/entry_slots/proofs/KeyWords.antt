@@ -18,12 +18,12 @@ use Rattle.entry_slots.proofs.Homes.{IsHome}
 pub same_bytes : (a b : List ℕ) → length a ≡ length b → AllByRecursion (λ x. x < 256) a → AllByRecursion (λ x. x < 256) b → ((j : ℕ) → j < words_in (length b) → word_at a j ≡ word_at b j) → a ≡ b
 same_bytes a b len sa sb each =
     let words : words_of a ≡ words_of b =
-        same_lists (words_of a) (words_of b) (length-words_of a ∙ (ap words_in len ∙ sym (length-words_of b))) (λ k d lt.
-          let la = length-words_of a in
-          let at : k < words_in (length a) = omega (arith, la, lt) in
-          let too : k < words_in (length b) = subst (λ n. k < words_in n) len at in
-          get_or-map-range_with_len (word_at a) 0 (words_in (length a)) k k d at (omega arith)
-          ∙ (each k too ∙ sym (get_or-map-range_with_len (word_at b) 0 (words_in (length b)) k k d too (omega arith)))) in
+    same_lists (words_of a) (words_of b) (length-words_of a ∙ (ap words_in len ∙ sym (length-words_of b))) (λ k d lt.
+    let la = length-words_of a in
+    let at : k < words_in (length a) = omega (arith, la, lt) in
+    let too : k < words_in (length b) = subst (λ n. k < words_in n) len at in
+    get_or-map-range_with_len (word_at a) 0 (words_in (length a)) k k d at (omega arith)
+    ∙ (each k too ∙ sym (get_or-map-range_with_len (word_at b) 0 (words_in (length b)) k k d too (omega arith)))) in
     sym (unpacked a [] sa) ∙ (ap₂ (λ n ws. take n (bytes_of (ws ++ []))) len words ∙ unpacked b [] sb)
 
 -- the words of a row's key

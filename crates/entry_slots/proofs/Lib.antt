@@ -25,3 +25,4 @@ pub mod Digits
 pub mod Removing
 pub mod Relisting
 pub mod Dropping
+pub mod Numbering

@@ -57,9 +57,15 @@ module _ {e : EntrySlots} {ws : List ℕ} {aside : Aside} (s : Entries) (h : Sta
   linked_blocks test =
       let row : Row = fresh_row key g ttl t at s.next_number in
       let p : Row → Bool = λ r. test (extent_of r) in
-      omega (arith, count_blocks test s, count_blocks test (linked at key g ttl t s), count_with_row p row s.rows h.apart,
-        count-append p (filter (has_key key) s.rows) s.unlinked, count_split test (at_place at) s.taken,
-        only_passes test (at_place at) s.taken (extent_of row) taken (eq-eqb at at refl) (omega (arith, once h at)))
+      omega (
+        arith,
+        count_blocks test s,
+        count_blocks test (linked at key g ttl t s),
+        count_with_row p row s.rows h.apart,
+        count-append p (filter (has_key key) s.rows) s.unlinked,
+        count_split test (at_place at) s.taken,
+        only_passes test (at_place at) s.taken (extent_of row) taken (eq-eqb at at refl) (omega (arith, once h at)),
+      )
 
   pub linked_stands : (number count : ℕ) → number ≡ risen s.next_number → count ≡ length (with_row (fresh_row key g ttl t at s.next_number) s.rows)
       → Stands (record e { next_number = number; count = count }) (slice_set ws m at) aside (linked at key g ttl t s)
@@ -67,28 +73,28 @@ module _ {e : EntrySlots} {ws : List ℕ} {aside : Aside} (s : Entries) (h : Sta
       let row : Row = fresh_row key g ttl t at s.next_number in
       record {
         chains = λ two low. elim (cases_eq two slot) [
-            inl same ↦
+          | inl same ↦
               let chain : IsChain (slice_set ws m at) (slice_index (slice_set ws m at) slot) (front ++ row ∷ more) =
-                rejoined h slot lt m at front back split follows (row ∷ more) (refl, rest) (λ q c. elim (Contains-cases row more q c) [
-                  inl here ↦ subst (λ (r : Row). r.place + 1 ≢ m) here new_other
+              rejoined h slot lt m at front back split follows (row ∷ more) (refl, rest) (λ q c. elim (Contains-cases row more q c) [
+                | inl here ↦ subst (λ (r : Row). r.place + 1 ≢ m) here new_other
                 | inr later ↦ back_other h slot lt m at front back split follows q (sub q later)
-                ]) in
+              ]) in
               let whole : IsChain (slice_set ws m at) (slice_index (slice_set ws m at) slot) (filter (is_in_slot s.conf slot) (with_row row s.rows)) = subst (λ rs. IsChain (slice_set ws m at) (slice_index (slice_set ws m at) slot) rs) (sym own) chain in
               subst (λ n. IsChain (slice_set ws m at) (slice_index (slice_set ws m at) n) (filter (is_in_slot s.conf n) (with_row row s.rows))) (sym same) whole
           | inr other ↦
               subst (λ rs. IsChain (slice_set ws m at) (slice_index (slice_set ws m at) two) rs) (sym (other_slot s two row (λ q. other (sym q ∙ is))))
               (other_chain h slot lt m at front back split follows two (omega (arith, h.from)) other)
-          ];
+        ];
         removed_chain = removed_kept h slot lt m at front back split follows;
         rows = λ x c. elim (with_row_there row s.rows x c) [
-            inl here ↦ subst (λ r. IsEntry (slice_set ws m at) r) (sym here) (set_entry h m at spot row new_home)
+          | inl here ↦ subst (λ r. IsEntry (slice_set ws m at) r) (sym here) (set_entry h m at spot row new_home)
           | inr old ↦ set_entry h m at spot x (home_row x h old)
-          ];
+        ];
         removed = λ x c. set_entry h m at spot x (home_removed x h c);
         unlinked = λ x c. elim (Contains-append_cases (filter (has_key key) s.rows) s.unlinked x c) [
-            inl l ↦ set_entry h m at spot x (home_row x h (Contains-filter (has_key key) s.rows x l).0)
+          | inl l ↦ set_entry h m at spot x (home_row x h (Contains-filter (has_key key) s.rows x l).0)
           | inr r ↦ set_entry h m at spot x (home_unlinked x h r)
-          ];
+        ];
         taken = λ b c. h.taken b (Contains-filter (λ block. not (eqb block.place at)) s.taken b c).0;
         ready = change_ready h.ready (set_change h m at spot);
         blocks = record { count = λ test. ap (count_by test) (change_live h.ready (set_change h m at spot)) ∙ (h.blocks.count test ∙ linked_blocks test) };

@@ -6,14 +6,14 @@ use Rattle.seg_words.specs.declared.extents.Extent.{Extent}
 use Rattle.seg_words.specs.Windows.{Aside}
 use Rattle.sma_blocks.specs.Pieces.{Piece, pieces, Fill}
 use Rattle.sma_blocks.specs.Live.{lives, live_blocks}
-use Rattle.sma_blocks.proofs.Lives.{extent_of, lives_between}
-use Rattle.apcu_model.specs.Cache.{Row} 
+use Rattle.sma_blocks.proofs.Lives.{extent_of, lives_between, Contains-cases}
+use Rattle.apcu_model.specs.Cache.{Row}
 use Rattle.apcu_model.specs.Cache as cache
 use Rattle.entry_slots.specs.declared.slots.EntrySlots.{EntrySlots}
 use Rattle.entry_slots.specs.Lists.{is_at}
 use Rattle.entry_slots.specs.Entries.{Entries, blocks_of}
 use Rattle.entry_slots.specs.Standing.{Stands}
-use Rattle.entry_slots.proofs.Members.{count-cons, count-append, counted, there}
+use Rattle.entry_slots.proofs.Members.{count-cons, count-append, counted, there, none_in_nil}
 
 abbrev pub at_place : ℕ → Extent → Bool
 at_place p e = eqb e.place p
@@ -25,10 +25,11 @@ lives_once ws a (p ∷ ps) b x h =
   where
     none_later : p.place ≡ x → count_by (at_place x) (lives ps) < 1
     none_later e = elim (cases_lt (count_by (at_place x) (lives ps)) 1) [
-        inl few ↦ few
+      | inl few ↦ few
       | inr some ↦ let r = there (at_place x) (lives ps) some in
           absurd (omega (arith, (lives_between ws (a + p.size) ps b r.0 h.1 r.1).0, eqb-true r.0.place x r.2, h.0.place, h.0.enough))
-      ]
+    ]
+
     go : (live here : Bool) → eqb p.place x ≡ here → count_by (at_place x) (lives ps) ≤ 1 → count_by (at_place x) (cond live (extent_of p ∷ lives ps) (lives ps)) ≤ 1
     go true true e rest =
         let one : cond {A = ℕ} (at_place x (extent_of p)) 1 0 ≡ 1 = ap (λ v. cond {A = ℕ} v 1 0) e in
@@ -49,8 +50,15 @@ count_blocks test s =
     let rows : List Extent = map cache.extent_of s.rows in
     let removed : List Extent = map cache.extent_of s.removed in
     let unlinked : List Extent = map cache.extent_of s.unlinked in
-    omega (arith, count-append test rows (removed ++ (unlinked ++ s.taken)), count-append test removed (unlinked ++ s.taken), count-append test unlinked s.taken,
-      count-map test cache.extent_of s.rows, count-map test cache.extent_of s.removed, count-map test cache.extent_of s.unlinked)
+    omega (
+      arith,
+      count-append test rows (removed ++ (unlinked ++ s.taken)),
+      count-append test removed (unlinked ++ s.taken),
+      count-append test unlinked s.taken,
+      count-map test cache.extent_of s.rows,
+      count-map test cache.extent_of s.removed,
+      count-map test cache.extent_of s.unlinked,
+    )
 
 -- one block at most stands at a place
 pub once : {e : EntrySlots} {ws : List ℕ} {aside : Aside} {s : Entries} → Stands e ws aside s → (x : ℕ)
@@ -93,3 +101,24 @@ rows_few {e} {ws} {aside} {s} h =
 pub removed_few : {e : EntrySlots} {ws : List ℕ} {aside : Aside} {s : Entries} → Stands e ws aside s → e.sma.from + length s.removed ≤ length ws
 removed_few {e} {ws} {aside} {s} h =
     omega (arith, count_all s.removed, count_blocks (λ (x : Extent). true) s, h.blocks.count (λ (x : Extent). true), lives_few ws e.sma.from (pieces ws e.sma.from) (length ws) h.ready.formatted.full)
+
+one_of : (x : ℕ) (rows : List Row) (p q : Row) → count_by (is_at x) rows ≤ 1 → Contains rows p → Contains rows q → p.place ≡ x → q.place ≡ x → p ≡ q
+one_of x [] p q few cp cq ep eq' = absurd (none_in_nil p cp)
+one_of x (row ∷ rows) p q few cp cq ep eq' = elim (Contains-cases row rows p cp) [
+  | inl here ↦ elim (Contains-cases row rows q cq) [
+    | inl too ↦ sym here ∙ too
+    | inr later ↦
+        let one : cond {A = ℕ} (is_at x row) 1 0 ≡ 1 = ap (λ (b : Bool). cond {A = ℕ} b 1 0) (at_itself row x (ap (λ (r : Row). r.place) here ∙ ep)) in
+        absurd (omega (arith, few, count-cons (is_at x) row rows, counted (is_at x) rows q later (at_itself q x eq')))
+  ]
+  | inr later ↦ elim (Contains-cases row rows q cq) [
+    | inl here ↦
+        let one : cond {A = ℕ} (is_at x row) 1 0 ≡ 1 = ap (λ (b : Bool). cond {A = ℕ} b 1 0) (at_itself row x (ap (λ (r : Row). r.place) here ∙ eq')) in
+        absurd (omega (arith, few, count-cons (is_at x) row rows, counted (is_at x) rows p later (at_itself p x ep)))
+    | inr too ↦ one_of x rows p q (omega (arith, few, count-cons (is_at x) row rows)) later too ep eq'
+  ]
+]
+
+-- two rows at one place are one
+pub rows_one : {e : EntrySlots} {ws : List ℕ} {aside : Aside} {s : Entries} → Stands e ws aside s → (p q : Row) → Contains s.rows p → Contains s.rows q → p.place ≡ q.place → p ≡ q
+rows_one {s = s} h p q cp cq e = one_of q.place s.rows p q (omega (arith, once h q.place)) cp cq e refl

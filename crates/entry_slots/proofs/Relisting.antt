@@ -45,10 +45,12 @@ relisted {e} {ws} {aside} s h ws' change entry chains first removed unlinked cha
   unlinked = λ row c. entry row (others row c);
   taken = h.taken;
   ready = change_ready h.ready change;
-  blocks = record { count = λ test.
-    let p : Row → Bool = λ row. test (extent_of row) in
-    let after : Entries = record s { removed = removed; unlinked = unlinked } in
-    ap (count_by test) (change_live h.ready change) ∙ omega (arith, h.blocks.count test, count_blocks test s, count_blocks test after, same p) };
+  blocks = record {
+    count = λ test.
+        let p : Row → Bool = λ row. test (extent_of row) in
+        let after : Entries = record s { removed = removed; unlinked = unlinked } in
+        ap (count_by test) (change_live h.ready change) ∙ omega (arith, h.blocks.count test, count_blocks test s, count_blocks test after, same p);
+  };
   apart = h.apart;
   number = h.number;
   count = h.count;
@@ -64,24 +66,24 @@ no_change e ws aside = record { count = refl; inner = λ i low. inl refl; named 
 pub only_one : {X : Type 0} (p : X → Bool) (xs : List X) (x : X) → Contains xs x → p x ≡ true → count_by p xs ≤ 1 → filter p xs ≡ x ∷ []
 only_one p [] x c y few = absurd (none_in_nil x c)
 only_one p (z ∷ zs) x c y few = elim (Contains-cases z zs x c) [
-    inl here ↦
+  | inl here ↦
       let at : p z ≡ true = ap p here ∙ y in
       let one : cond {A = ℕ} (p z) 1 0 ≡ 1 = ap (λ (b : Bool). cond {A = ℕ} b 1 0) at in
       let rest : filter p zs ≡ [] = none_left p zs (omega (arith, count-cons p z zs, few)) in
       rw (at, rest) (ap (λ v. v ∷ []) here)
   | inr later ↦
       let other : p z ≡ false = false_from_ne_true (p z) (λ q.
-        let one : cond {A = ℕ} (p z) 1 0 ≡ 1 = ap (λ (b : Bool). cond {A = ℕ} b 1 0) q in
-        omega (arith, count-cons p z zs, few, counted p zs x later y)) in
+      let one : cond {A = ℕ} (p z) 1 0 ≡ 1 = ap (λ (b : Bool). cond {A = ℕ} b 1 0) q in
+      omega (arith, count-cons p z zs, few, counted p zs x later y)) in
       rw other (only_one p zs x later y (omega (arith, count-cons p z zs, few)))
-  ]
+]
   where
     none_left : {X : Type 0} (p : X → Bool) (xs : List X) → count_by p xs ≡ 0 → filter p xs ≡ []
     none_left p [] h = refl
     none_left p (x ∷ xs) h = elim (cases_Bool (p x)) [
-        inl y ↦ (let one : cond {A = ℕ} (p x) 1 0 ≡ 1 = ap (λ (b : Bool). cond {A = ℕ} b 1 0) y in absurd (omega (arith, count-cons p x xs, h)))
+      | inl y ↦ (let one : cond {A = ℕ} (p x) 1 0 ≡ 1 = ap (λ (b : Bool). cond {A = ℕ} b 1 0) y in absurd (omega (arith, count-cons p x xs, h)))
       | inr n ↦ rw n (none_left p xs (omega (arith, count-cons p x xs, h)))
-      ]
+    ]
 
 -- ---- onto the list, and off it
 
@@ -96,9 +98,9 @@ off at s = off_at at s
 module _ {e : EntrySlots} {ws : List ℕ} {aside : Aside} (s : Entries) (h : Stands e ws aside s) (at : ℕ) where
   moved_removed : (row : Row) → Contains (s.removed ++ only_at at s.unlinked) row → IsHome e ws aside row
   moved_removed row c = elim (Contains-append_cases s.removed (only_at at s.unlinked) row c) [
-      inl l ↦ home_removed row h l
+    | inl l ↦ home_removed row h l
     | inr r ↦ home_unlinked row h (Contains-filter (is_at at) s.unlinked row r).0
-    ]
+  ]
 
   moved_unlinked : (row : Row) → Contains (without_place at s.unlinked) row → IsHome e ws aside row
   moved_unlinked row c = home_unlinked row h (Contains-filter (λ r. not (is_at at r)) s.unlinked row c).0
@@ -135,19 +137,19 @@ module _ {e : EntrySlots} {ws : List ℕ} {aside : Aside} (s : Entries) (h : Sta
       let spot : Spot e ws aside link = link_home s h 0 link L some in
       let own = link_spot s h 0 link L some in
       let kept : slice_index (slice_set ws link at) (q.place + 1) ≡ slice_index ws (q.place + 1) = set_link h link at spot q (λ same.
-        removed_unlinked h own.0 q (in_front s h 0 link L own.0 own.1) c (omega (arith, own.2))) in
+      removed_unlinked h own.0 q (in_front s h 0 link L own.0 own.1) c (omega (arith, own.2))) in
       let chain : IsChain (slice_set ws link at) at (q ∷ []) = (sym place, kept ∙ (ap (λ n. slice_index ws (n + 1)) place ∙ word)) in
       relisted s h (slice_set ws link at) (set_change h link at spot) (set_entry h link at spot) (λ slot lt. chains_kept s h 0 link L some at slot (omega (arith, lt, h.from)))
-        e.removed (s.removed ++ only_at at s.unlinked) (without_place at s.unlinked) (subst (λ rs. IsChain (slice_set ws link at) e.removed rs) (sym list) (removed_by_word s h 0 link L some at (q ∷ []) chain)) moved_removed moved_unlinked moved_same
+      e.removed (s.removed ++ only_at at s.unlinked) (without_place at s.unlinked) (subst (λ rs. IsChain (slice_set ws link at) e.removed rs) (sym list) (removed_by_word s h 0 link L some at (q ∷ []) chain)) moved_removed moved_unlinked moved_same
 
   off_removed : (row : Row) → Contains (without_place at s.removed) row → IsHome e ws aside row
   off_removed row c = home_removed row h (Contains-filter (λ r. not (is_at at r)) s.removed row c).0
 
   off_unlinked : (row : Row) → Contains (only_at at s.removed ++ s.unlinked) row → IsHome e ws aside row
   off_unlinked row c = elim (Contains-append_cases (only_at at s.removed) s.unlinked row c) [
-      inl l ↦ home_removed row h (Contains-filter (is_at at) s.removed row l).0
+    | inl l ↦ home_removed row h (Contains-filter (is_at at) s.removed row l).0
     | inr r ↦ home_unlinked row h r
-    ]
+  ]
 
   off_same : (p : Row → Bool) → count_by p s.removed + count_by p s.unlinked ≡ count_by p (without_place at s.removed) + count_by p (only_at at s.removed ++ s.unlinked)
   off_same p = omega (arith, count-append p (only_at at s.removed) s.unlinked, count_split p (is_at at) s.removed)
@@ -170,7 +172,7 @@ module _ {e : EntrySlots} {ws : List ℕ} {aside : Aside} (s : Entries) (h : Sta
       let b = off_back some link L in
       let list : without_place at s.removed ≡ b.1 = off_list some link L b.0 b.1 b.2 b.3 ∙ ap (λ rs. rs ++ b.1) (removed_by_head s h at link L none) in
       relisted s h ws (no_change e ws aside) (λ row home. home.entry) h.chains next (without_place at s.removed) (only_at at s.removed ++ s.unlinked)
-        (subst (λ rs. IsChain ws next rs) (sym list) (subst (λ n. IsChain ws n b.1) (sym en) b.4)) off_removed off_unlinked off_same
+      (subst (λ rs. IsChain ws next rs) (sym list) (subst (λ n. IsChain ws n b.1) (sym en) b.4)) off_removed off_unlinked off_same
 
   pub off_word : at ≢ 0 → (link : ℕ) → IsRemovedLink ws s.removed at link → link ≢ 0 → (next : ℕ) → next ≡ slice_index ws (at + 1) → Stands e (slice_set ws link next) aside (off at s)
   off_word some link L word next en =
@@ -181,9 +183,9 @@ module _ {e : EntrySlots} {ws : List ℕ} {aside : Aside} (s : Entries) (h : Sta
       let spot : Spot e ws aside link = link_home s h at link L word in
       let own = link_spot s h at link L word in
       let chain : IsChain (slice_set ws link next) next b.1 = chain_kept ws (slice_set ws link next) next b.1 (λ row c. set_link h link next spot row (λ same.
-        distinct_both L.front (b.0 ∷ b.1) own.0 row distinct own.1 (Contains-later b.0 b.1 row c) (omega (arith, own.2)))) (subst (λ n. IsChain ws n b.1) (sym en) b.4) in
+      distinct_both L.front (b.0 ∷ b.1) own.0 row distinct own.1 (Contains-later b.0 b.1 row c) (omega (arith, own.2)))) (subst (λ n. IsChain ws n b.1) (sym en) b.4) in
       relisted s h (slice_set ws link next) (set_change h link next spot) (set_entry h link next spot) (λ slot lt. chains_kept s h at link L word next slot (omega (arith, lt, h.from)))
-        e.removed (without_place at s.removed) (only_at at s.removed ++ s.unlinked) (subst (λ rs. IsChain (slice_set ws link next) e.removed rs) (sym list) (removed_by_word s h at link L word next b.1 chain)) off_removed off_unlinked off_same
+      e.removed (without_place at s.removed) (only_at at s.removed ++ s.unlinked) (subst (λ rs. IsChain (slice_set ws link next) e.removed rs) (sym list) (removed_by_word s h at link L word next b.1 chain)) off_removed off_unlinked off_same
 
 -- ---- a block is given back
 
@@ -200,22 +202,24 @@ given_stands {e} {ws} {aside} s h at q there place ws' live same ready =
     let not_removed : (row : Row) → Contains s.removed row → row.place ≢ at = λ row c e. removed_unlinked h row q c there (place ∙ sym e) in
     record {
       chains = λ slot lt.
-        let chain = chain_kept ws ws' (slice_index ws slot) (chain_of s slot) (λ row c. let in' = (Contains-filter (is_in_slot s.conf slot) s.rows row c).0 in link row (home_row row h in') (not_row row in')) (h.chains slot lt) in
-        subst (λ a. IsChain ws' a (chain_of s slot)) (sym (same.before slot (omega (arith, h.from)))) chain;
+          let chain = chain_kept ws ws' (slice_index ws slot) (chain_of s slot) (λ row c. let in' = (Contains-filter (is_in_slot s.conf slot) s.rows row c).0 in link row (home_row row h in') (not_row row in')) (h.chains slot lt) in
+          subst (λ a. IsChain ws' a (chain_of s slot)) (sym (same.before slot (omega (arith, h.from)))) chain;
       removed_chain = chain_kept ws ws' e.removed s.removed (λ row c. link row (home_removed row h c) (not_removed row c)) h.removed_chain;
       rows = λ row c. entry row (home_row row h c) (not_row row c);
       removed = λ row c. entry row (home_removed row h c) (not_removed row c);
       unlinked = λ row c. let r = Contains-filter (λ r. not (is_at at r)) s.unlinked row c in entry row (home_unlinked row h r.0) (λ e. false≢true (sym (not-true (is_at at row) r.1) ∙ at_itself row at e));
       taken = h.taken;
       ready = ready;
-      blocks = record { count = λ test.
-        let p : Row → Bool = λ row. test (extent_of row) in
-        let home = home_unlinked q h there in
-        let few : count_by (at_place at) blocks ≤ 1 = lives_once ws e.sma.from (pieces ws e.sma.from) (length ws) at h.ready.formatted.full in
-        let one : count_by test (filter (at_place at) blocks) ≡ cond (test (extent_of q)) 1 0 = only_passes test (at_place at) blocks (extent_of q) home.live (eq-eqb q.place at place) few in
-        let two : count_by p (only_at at s.unlinked) ≡ cond (p q) 1 0 = only_passes p (is_at at) s.unlinked q there (at_itself q at place) (omega (arith, once h at)) in
-        let after : Entries = record s { unlinked = without_place at s.unlinked } in
-        ap (count_by test) live ∙ omega (arith, count_split test (at_place at) blocks, one, two, count_split p (is_at at) s.unlinked, h.blocks.count test, count_blocks test s, count_blocks test after) };
+      blocks = record {
+        count = λ test.
+            let p : Row → Bool = λ row. test (extent_of row) in
+            let home = home_unlinked q h there in
+            let few : count_by (at_place at) blocks ≤ 1 = lives_once ws e.sma.from (pieces ws e.sma.from) (length ws) at h.ready.formatted.full in
+            let one : count_by test (filter (at_place at) blocks) ≡ cond (test (extent_of q)) 1 0 = only_passes test (at_place at) blocks (extent_of q) home.live (eq-eqb q.place at place) few in
+            let two : count_by p (only_at at s.unlinked) ≡ cond (p q) 1 0 = only_passes p (is_at at) s.unlinked q there (at_itself q at place) (omega (arith, once h at)) in
+            let after : Entries = record s { unlinked = without_place at s.unlinked } in
+            ap (count_by test) live ∙ omega (arith, count_split test (at_place at) blocks, one, two, count_split p (is_at at) s.unlinked, h.blocks.count test, count_blocks test s, count_blocks test after);
+      };
       apart = h.apart;
       number = h.number;
       count = h.count;
@@ -229,9 +233,9 @@ given_stands {e} {ws} {aside} s h at q there place ws' live same ready =
 pub named_stands : (e e' : EntrySlots) (ws ws' : List ℕ) (aside : Aside) (link place : ℕ) (s : Entries) → (link ≡ 0 → (e' ≡ record e { removed = place }) × (ws' ≡ ws)) → (link ≢ 0 → (e' ≡ e) × (ws' ≡ slice_set ws link place))
     → (link ≡ 0 → Stands (record e { removed = place }) ws aside s) → (link ≢ 0 → Stands e (slice_set ws link place) aside s) → Stands e' ws' aside s
 named_stands e e' ws ws' aside link place s head word one two = elim (cases_eq link 0) [
-    inl none ↦ (let f = head none in subst (λ w. Stands e' w aside s) (sym f.1) (subst (λ x. Stands x ws aside s) (sym f.0) (one none)))
+  | inl none ↦ (let f = head none in subst (λ w. Stands e' w aside s) (sym f.1) (subst (λ x. Stands x ws aside s) (sym f.0) (one none)))
   | inr some ↦ (let f = word some in subst (λ w. Stands e' w aside s) (sym f.1) (subst (λ x. Stands x (slice_set ws link place) aside s) (sym f.0) (two some)))
-  ]
+]
 
 pub unlinked_there : {e : EntrySlots} {ws : List ℕ} {aside : Aside} (s : Entries) → Stands e ws aside s → (at : ℕ) → has_place at s.unlinked ≡ true → (q : Row) × Contains s.unlinked q × (q.place ≡ at)
 unlinked_there s h at there = let r = any_there (is_at at) s.unlinked there in (r.0, r.1, eqb-true r.0.place at r.2)
@@ -240,8 +244,8 @@ pub loose_there : {e : EntrySlots} {ws : List ℕ} {aside : Aside} (s : Entries)
 loose_there s h at there =
     let r = any_there (is_at at) (s.unlinked ++ s.removed) there in
     elim (Contains-append_cases s.unlinked s.removed r.0 r.1) [
-      inl l ↦ (r.0, home_unlinked r.0 h l, eqb-true r.0.place at r.2, inl l)
-    | inr k ↦ (r.0, home_removed r.0 h k, eqb-true r.0.place at r.2, inr k)
+      | inl l ↦ (r.0, home_unlinked r.0 h l, eqb-true r.0.place at r.2, inl l)
+      | inr k ↦ (r.0, home_removed r.0 h k, eqb-true r.0.place at r.2, inr k)
     ]
 
 -- no removed row is there: nothing to take off
@@ -263,8 +267,8 @@ pub off_there : {e : EntrySlots} {ws : List ℕ} {aside : Aside} (s : Entries) �
 off_there s h at there =
     let r = loose_there s h at there in
     elim r.3 [
-      inl l ↦ (r.0, Contains-append_right (only_at at s.removed) s.unlinked r.0 l, r.2)
-    | inr k ↦ (r.0, Contains-append_left (only_at at s.removed) s.unlinked r.0 (Contains-kept (is_at at) s.removed r.0 k (at_itself r.0 at r.2)), r.2)
+      | inl l ↦ (r.0, Contains-append_right (only_at at s.removed) s.unlinked r.0 l, r.2)
+      | inr k ↦ (r.0, Contains-append_left (only_at at s.removed) s.unlinked r.0 (Contains-kept (is_at at) s.removed r.0 k (at_itself r.0 at r.2)), r.2)
     ]
 
 only_gone : (at : ℕ) (rows : List Row) → without_place at (only_at at rows) ≡ []

@@ -117,9 +117,9 @@ module _ {e : EntrySlots} {ws : List ℕ} {aside : Aside} (s : Entries) (h : Sta
 
   pub link_spot : link ≢ 0 → (q : Row) × Contains L.front q × (link ≡ q.place + 1)
   link_spot some = elim L.follows [
-      inl none ↦ absurd (some none.1)
+    | inl none ↦ absurd (some none.1)
     | inr more ↦ (let r = last (more.0.place + 1) link more.0 more.1 refl more.3 in (r.0, subst (λ rs. Contains rs r.0) (sym more.2) r.1, r.2))
-    ]
+  ]
     where
       last : (first m : ℕ) (row : Row) (rows : List Row) → first ≡ row.place + 1 → m ≡ link_after first rows → (q : Row) × Contains (row ∷ rows) q × (m ≡ q.place + 1)
       last first m row [] ef e = (row, Contains-first row [], e ∙ ef)
@@ -131,31 +131,31 @@ module _ {e : EntrySlots} {ws : List ℕ} {aside : Aside} (s : Entries) (h : Sta
   -- the list with another back, by a word
   pub removed_by_word : link ≢ 0 → (v : ℕ) (back' : List Row) → IsChain (slice_set ws link v) v back' → IsChain (slice_set ws link v) e.removed (L.front ++ back')
   removed_by_word some v back' chain = elim L.follows [
-      inl none ↦ absurd (some none.1)
+    | inl none ↦ absurd (some none.1)
     | inr more ↦
-      (let first : Row = more.0 in
-      let rows : List Row = more.1 in
-      let ws' : List ℕ = slice_set ws link v in
-      let w = spot_word link h (link_home some) in
-      let whole : s.removed ≡ first ∷ (rows ++ L.back) = L.split ∙ ap (λ rs. rs ++ L.back) more.2 in
-      let old : IsChain ws e.removed (first ∷ (rows ++ L.back)) = subst (λ rs. IsChain ws e.removed rs) whole h.removed_chain in
-      let distinct : AreDistinct (first ∷ (rows ++ L.back)) = subst AreDistinct whole (removed_distinct h) in
-      let word : slice_index ws' link ≡ v = get_or-set_same ws link v 0 w.inside in
-      let tail : IsChain ws' (slice_index ws' (first.place + 1)) (rows ++ back') =
+        (let first : Row = more.0 in
+        let rows : List Row = more.1 in
+        let ws' : List ℕ = slice_set ws link v in
+        let w = spot_word link h (link_home some) in
+        let whole : s.removed ≡ first ∷ (rows ++ L.back) = L.split ∙ ap (λ rs. rs ++ L.back) more.2 in
+        let old : IsChain ws e.removed (first ∷ (rows ++ L.back)) = subst (λ rs. IsChain ws e.removed rs) whole h.removed_chain in
+        let distinct : AreDistinct (first ∷ (rows ++ L.back)) = subst AreDistinct whole (removed_distinct h) in
+        let word : slice_index ws' link ≡ v = get_or-set_same ws link v 0 w.inside in
+        let tail : IsChain ws' (slice_index ws' (first.place + 1)) (rows ++ back') =
         relink ws ws' (first.place + 1) link rows L.back back' more.3 old.1 (subst (λ n. IsChain ws' n back') (sym word) chain)
-          (λ o. get_or-set_other ws link (first.place + 1) v 0 o)
-          (λ q c o. set_link h link v (link_home some) q o)
-          (λ q c same. distinct.0 q (Contains-append_left rows L.back q c) (omega arith))
-          (distinct_front rows L.back distinct.1) in
-      subst (λ rs. IsChain ws' e.removed (rs ++ back')) (sym more.2) (old.0, tail))
-    ]
+        (λ o. get_or-set_other ws link (first.place + 1) v 0 o)
+        (λ q c o. set_link h link v (link_home some) q o)
+        (λ q c same. distinct.0 q (Contains-append_left rows L.back q c) (omega arith))
+        (distinct_front rows L.back distinct.1) in
+        subst (λ rs. IsChain ws' e.removed (rs ++ back')) (sym more.2) (old.0, tail))
+  ]
 
   -- by what begins it
   pub removed_by_head : link ≡ 0 → L.front ≡ []
   removed_by_head none = elim L.follows [
-      inl empty ↦ empty.0
+    | inl empty ↦ empty.0
     | inr more ↦ (let r = last (more.0.place + 1) link more.1 (inl (omega arith)) more.3 in absurd (omega (arith, r)))
-    ]
+  ]
     where
       last : (first m : ℕ) (rows : List Row) → (1 ≤ first) ⊎ (1 ≤ first) → m ≡ link_after first rows → 1 ≤ m
       last first m [] (inl p) e = omega (arith, e)
@@ -169,8 +169,8 @@ module _ {e : EntrySlots} {ws : List ℕ} {aside : Aside} (s : Entries) (h : Sta
       let place : Contains s.removed q.0 = in_front q.0 q.1 in
       let word : slice_index (slice_set ws link v) slot ≡ slice_index ws slot = get_or-set_other ws link slot v 0 (let w = room (home_removed q.0 h place) in λ same. omega (arith, w.low, q.2)) in
       subst (λ n. IsChain (slice_set ws link v) n (chain_of s slot)) (sym word)
-        (chain_kept ws (slice_set ws link v) (slice_index ws slot) (chain_of s slot) (λ row c. set_link h link v (link_home some) row (λ same.
-          rows_removed h row q.0 (Contains-filter (is_in_slot s.conf slot) s.rows row c).0 place (omega (arith, q.2)))) (h.chains slot (omega (arith, h.from))))
+      (chain_kept ws (slice_set ws link v) (slice_index ws slot) (chain_of s slot) (λ row c. set_link h link v (link_home some) row (λ same.
+      rows_removed h row q.0 (Contains-filter (is_in_slot s.conf slot) s.rows row c).0 place (omega (arith, q.2)))) (h.chains slot (omega (arith, h.from))))
 
 -- what a removed row names is a place, or 0
 pub stop_small : {e : EntrySlots} {ws : List ℕ} {aside : Aside} {removed : List Row} {target named passed : ℕ} {front : List Row} (h : Stop ws removed target named passed front) → AreHome e ws aside removed → slice_index ws (named + 1) < 2 ^ 32

@@ -29,9 +29,9 @@ pub record Keeps (f : Row → Row) : Type 0 where
 pub map_there : (f : Row → Row) (rows : List Row) (x : Row) → Contains (map f rows) x → (row : Row) × Contains rows row × (f row ≡ x)
 map_there f [] x c = absurd (none_in_nil x c)
 map_there f (row ∷ rows) x c = elim (Contains-cases (f row) (map f rows) x c) [
-    inl here ↦ (row, Contains-first row rows, here)
+  | inl here ↦ (row, Contains-first row rows, here)
   | inr later ↦ let r = map_there f rows x later in (r.0, Contains-later row rows r.0 r.1, r.2)
-  ]
+]
 
 chain_map : (ws : List ℕ) (f : Row → Row) → Keeps f → (first : ℕ) (rows : List Row) → IsChain ws first rows → IsChain ws first (map f rows)
 chain_map ws f keeps first [] h = h
@@ -43,8 +43,8 @@ slot_map s slot f keeps [] = refl
 slot_map s slot f keeps (row ∷ rows) =
     let same : is_in_slot s.conf slot (f row) ≡ is_in_slot s.conf slot row = ap (λ k. eqb (slot_of s.conf k) slot) (keeps.key row) in
     elim (cases_Bool (is_in_slot s.conf slot row)) [
-      inl t ↦ rw (same, t) (ap (λ rs. f row ∷ rs) (slot_map s slot f keeps rows))
-    | inr n ↦ rw (same, n) (slot_map s slot f keeps rows)
+      | inl t ↦ rw (same, t) (ap (λ rs. f row ∷ rs) (slot_map s slot f keeps rows))
+      | inr n ↦ rw (same, n) (slot_map s slot f keeps rows)
     ]
 
 extents_map : (f : Row → Row) → Keeps f → (rows : List Row) → map extent_of (map f rows) ≡ map extent_of rows
@@ -62,30 +62,30 @@ module _ {e : EntrySlots} {ws : List ℕ} {aside : Aside} {s : Entries} (h : Sta
   others_kept q hq other = record {
     count = only.count;
     same = λ i low high one. elim (rows_apart q own hq home_own other) [
-        inl before ↦ only.same i (inl (omega arith))
+      | inl before ↦ only.same i (inl (omega arith))
       | inr after ↦ only.same i (inr (omega arith))
-      ];
+    ];
   }
 
   links_kept : (q : Row) → IsHome e ws aside q → slice_index ws' (q.place + 1) ≡ slice_index ws (q.place + 1)
   links_kept q hq = elim (cases_eq q.place own.place) [
-      inl same ↦ only.same (q.place + 1) (inl (omega arith))
+    | inl same ↦ only.same (q.place + 1) (inl (omega arith))
     | inr other ↦ elim (rows_apart q own hq home_own other) [
-        inl before ↦ (let w = room hq in only.same (q.place + 1) (inl (omega (arith, w.enough))))
+      | inl before ↦ (let w = room hq in only.same (q.place + 1) (inl (omega (arith, w.enough))))
       | inr after ↦ only.same (q.place + 1) (inr (omega arith))
-      ]
     ]
+  ]
 
   rewriting : Change e.sma ws aside ws'
   rewriting = record {
     count = only.count;
     inner = λ i low. elim (cases_lt i (own.place + 4)) [
-        inl before ↦ inl (only.same i (inl before))
+      | inl before ↦ inl (only.same i (inl before))
       | inr from ↦ elim (cases_lt i (own.place + own.size)) [
-          inl within ↦ inr (record { block = extent_of own; live = home_own.live; low = omega arith; high = within })
+        | inl within ↦ inr (record { block = extent_of own; live = home_own.live; low = omega arith; high = within })
         | inr past ↦ inl (only.same i (inr past))
-        ]
-      ];
+      ]
+    ];
     named = λ x named. let both = named_same e.sma ws aside (extent_of own) home_own.ready home_own.live ws' only x named in both;
   }
 
@@ -100,17 +100,17 @@ module _ {e : EntrySlots} {ws : List ℕ} {aside : Aside} {s : Entries} (h : Sta
       let home : (row : Row) → Contains s.rows row → IsHome e ws aside row = λ row c. home_row row h c in
       record {
         chains = λ slot lt.
-          let chain : IsChain ws (slice_index ws slot) (chain_of s slot) = h.chains slot lt in
-          let kept : IsChain ws' (slice_index ws slot) (chain_of s slot) = rewritten_chain (slice_index ws slot) (chain_of s slot) (λ row c. home row (Contains-filter (is_in_slot s.conf slot) s.rows row c).0) chain in
-          let word : slice_index ws' slot ≡ slice_index ws slot = only.same slot (inl (let w = room home_own in omega (arith, w.low, h.from, lt))) in
-          subst (λ rs. IsChain ws' (slice_index ws' slot) rs) (sym (slot_map s slot f keeps s.rows)) (subst (λ a. IsChain ws' a (map f (chain_of s slot))) (sym word) (chain_map ws' f keeps (slice_index ws slot) (chain_of s slot) kept));
+            let chain : IsChain ws (slice_index ws slot) (chain_of s slot) = h.chains slot lt in
+            let kept : IsChain ws' (slice_index ws slot) (chain_of s slot) = rewritten_chain (slice_index ws slot) (chain_of s slot) (λ row c. home row (Contains-filter (is_in_slot s.conf slot) s.rows row c).0) chain in
+            let word : slice_index ws' slot ≡ slice_index ws slot = only.same slot (inl (let w = room home_own in omega (arith, w.low, h.from, lt))) in
+            subst (λ rs. IsChain ws' (slice_index ws' slot) rs) (sym (slot_map s slot f keeps s.rows)) (subst (λ a. IsChain ws' a (map f (chain_of s slot))) (sym word) (chain_map ws' f keeps (slice_index ws slot) (chain_of s slot) kept));
         removed_chain = rewritten_chain e.removed s.removed (λ row c. home_removed row h c) h.removed_chain;
         rows = λ x c.
-          let r = map_there f s.rows x c in
-          elim (cases_eq r.0.place own.place) [
-            inl same ↦ subst (λ y. IsEntry ws' y) r.2 (entry r.0 r.1 same)
-          | inr other ↦ subst (λ y. IsEntry ws' y) (sym (stays r.0 other) ∙ r.2) (entry_kept ws ws' r.0 (h.rows r.0 r.1) (others_kept r.0 (home r.0 r.1) other))
-          ];
+            let r = map_there f s.rows x c in
+            elim (cases_eq r.0.place own.place) [
+              | inl same ↦ subst (λ y. IsEntry ws' y) r.2 (entry r.0 r.1 same)
+              | inr other ↦ subst (λ y. IsEntry ws' y) (sym (stays r.0 other) ∙ r.2) (entry_kept ws ws' r.0 (h.rows r.0 r.1) (others_kept r.0 (home r.0 r.1) other))
+            ];
         removed = λ row c. entry_kept ws ws' row (h.removed row c) (others_kept row (home_removed row h c) (removed row c));
         unlinked = λ row c. entry_kept ws ws' row (h.unlinked row c) (others_kept row (home_unlinked row h c) (unlinked row c));
         taken = h.taken;

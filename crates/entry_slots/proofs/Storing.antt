@@ -20,11 +20,11 @@ may_store_in sma ws aside e i ready live low high own x named =
     let block = ready.windows x named in
     let f : Extent = record { place = x; size = block.size } in
     elim (live_apart sma ws aside e f ready live block.live) [
-      inl same ↦ (let place : e.place ≡ x = ap (λ (y : Extent). y.place) same in
-        subst (λ (n : ℕ). IsApart ws n i) place (own (subst (λ (n : ℕ). is_named aside.windows n ≡ true) (sym place) named)))
-    | inr apart ↦ elim apart [
-        inl before ↦ record { key_length = omega arith; image_length = omega arith; pin_count = omega arith; image = inl (omega arith) }
-      | inr after ↦ record { key_length = omega (arith, block.inside); image_length = omega (arith, block.inside); pin_count = omega (arith, block.inside); image = inr (omega (arith, block.inside)) }
+      | inl same ↦ (let place : e.place ≡ x = ap (λ (y : Extent). y.place) same in
+          subst (λ (n : ℕ). IsApart ws n i) place (own (subst (λ (n : ℕ). is_named aside.windows n ≡ true) (sym place) named)))
+      | inr apart ↦ elim apart [
+        | inl before ↦ record { key_length = omega arith; image_length = omega arith; pin_count = omega arith; image = inl (omega arith) }
+        | inr after ↦ record { key_length = omega (arith, block.inside); image_length = omega (arith, block.inside); pin_count = omega (arith, block.inside); image = inr (omega (arith, block.inside)) }
       ]
     ]
 

@@ -39,10 +39,10 @@ link_same ws' blocks row h same c = let w = room h in same.inside (row.place + 1
 take_unnamed : (e : EntrySlots) (ws : List ℕ) (aside : Aside) (at n : ℕ) → IsReady e.sma ws aside → 2 ≤ n → first_fit e.sma.from e.sma.to n (live_blocks ws e.sma.from) ≡ Some at → is_named aside.windows at ≡ false
 take_unnamed e ws aside at n ready some fit =
     false_from_ne_true (is_named aside.windows at) (λ named.
-      let block = ready.windows at named in
-      let f : Extent = record { place = at; size = block.size } in
-      let bounds = live_bounds e.sma ws aside f ready block.live in
-      false≢true (sym (not_free at n (live_blocks ws e.sma.from) f block.live (omega arith) (omega arith) (omega (arith, bounds.2))) ∙ fit_free e.sma.from e.sma.to n at (live_blocks ws e.sma.from) fit))
+    let block = ready.windows at named in
+    let f : Extent = record { place = at; size = block.size } in
+    let bounds = live_bounds e.sma ws aside f ready block.live in
+    false≢true (sym (not_free at n (live_blocks ws e.sma.from) f block.live (omega arith) (omega arith) (omega (arith, bounds.2))) ∙ fit_free e.sma.from e.sma.to n at (live_blocks ws e.sma.from) fit))
 
 pub taken_stands : {e : EntrySlots} {ws : List ℕ} {aside : Aside} (s : Entries) (at n : ℕ) (ws' : List ℕ) → Stands e ws aside s → 2 ≤ n
     → first_fit e.sma.from e.sma.to n (live_blocks ws e.sma.from) ≡ Some at
@@ -56,16 +56,16 @@ taken_stands {e} {ws} {aside} s at n ws' h some fit live same ready =
     let kept : (row : Row) → IsHome e ws aside row → IsEntry ws' row = λ row home. entry_kept ws ws' row home.entry (row_same e ws ws' blocks row same home.live) in
     record {
       chains = λ slot lt.
-        let chain = chain_kept ws ws' (slice_index ws slot) (chain_of s slot) (λ row c. link row (home_row row h (Contains-filter (is_in_slot s.conf slot) s.rows row c).0)) (h.chains slot lt) in
-        subst (λ a. IsChain ws' a (chain_of s slot)) (sym (same.before slot (omega (arith, h.from)))) chain;
+          let chain = chain_kept ws ws' (slice_index ws slot) (chain_of s slot) (λ row c. link row (home_row row h (Contains-filter (is_in_slot s.conf slot) s.rows row c).0)) (h.chains slot lt) in
+          subst (λ a. IsChain ws' a (chain_of s slot)) (sym (same.before slot (omega (arith, h.from)))) chain;
       removed_chain = chain_kept ws ws' e.removed s.removed (λ row c. link row (home_removed row h c)) h.removed_chain;
       rows = λ row c. kept row (home_row row h c);
       removed = λ row c. kept row (home_removed row h c);
       unlinked = λ row c. kept row (home_unlinked row h c);
       taken = λ block c. elim (Contains-cases new s.taken block c) [
-          inl here ↦ subst (λ (b : Extent). is_named aside.windows b.place ≡ false) here (take_unnamed e ws aside at n h.ready some fit)
+        | inl here ↦ subst (λ (b : Extent). is_named aside.windows b.place ≡ false) here (take_unnamed e ws aside at n h.ready some fit)
         | inr later ↦ h.taken block later
-        ];
+      ];
       ready = ready;
       blocks = record { count = λ test. ap (count_by test) live ∙ omega (arith, count-with_block test new blocks, count_blocks test (with_taken at n s), count_blocks test s, h.blocks.count test, count-cons test new s.taken) };
       apart = h.apart;

@@ -40,7 +40,7 @@ touch_entry ws row at t h e inside =
     let ws' : List ℕ = touched_words ws at (risen row.hits) t in
     let long : length once ≡ length ws = length-set ws (at + 9) (risen row.hits) in
     let other : (i : ℕ) → i ≢ at + 9 → i ≢ at + 7 → slice_index ws' i ≡ slice_index ws i =
-        λ i p q. get_or-set_other once (at + 7) i t 0 q ∙ get_or-set_other ws (at + 9) i (risen row.hits) 0 p in
+    λ i p q. get_or-set_other once (at + 7) i t 0 q ∙ get_or-set_other ws (at + 9) i (risen row.hits) 0 p in
     let but : SameBut ws ws' row = record {
       count = length-set once (at + 7) t ∙ long;
       first = λ k few o. other (row.place + k) (omega arith) (omega arith);
@@ -62,13 +62,13 @@ touch_stands {e} {ws} {aside} s at hits t h there eh =
     let home = home_row own h r.1 in
     let w = room home in
     let only : OnlyIn ws (touched_words ws at hits t) (own.place + 4) (own.place + own.size) =
-        only_set ws (slice_set ws (at + 9) hits) (own.place + 4) (own.place + own.size) (at + 7) t (only_set ws ws (own.place + 4) (own.place + own.size) (at + 9) hits (only_none ws (own.place + 4) (own.place + own.size)) (omega arith) (omega (arith, w.enough))) (omega arith) (omega (arith, w.enough)) in
+    only_set ws (slice_set ws (at + 9) hits) (own.place + 4) (own.place + own.size) (at + 7) t (only_set ws ws (own.place + 4) (own.place + own.size) (at + 9) hits (only_none ws (own.place + 4) (own.place + own.size)) (omega arith) (omega (arith, w.enough))) (omega arith) (omega (arith, w.enough)) in
     rewritten h (touched_words ws at hits t) own r.1 only (touched_row at t) (touched_keeps at t)
     (λ row other. let no : is_at at row ≡ false = ne_eqb row.place at (λ q. other (q ∙ sym place)) in rw no refl)
     (λ row c same.
-      let here : is_at at row ≡ true = eq-eqb row.place at (same ∙ place) in
-      let words : hits ≡ risen row.hits = eh ∙ ap risen (ap (λ n. slice_index ws (n + 9)) (sym (same ∙ place)) ∙ (h.rows row c).hits) in
-      let entry : IsEntry (touched_words ws at (risen row.hits) t) (touched t row) = touch_entry ws row at t (h.rows row c) (same ∙ place) (omega (arith, w.high, w.enough)) in
-      rw here (subst (λ n. IsEntry (touched_words ws at n t) (touched t row)) (sym words) entry))
+    let here : is_at at row ≡ true = eq-eqb row.place at (same ∙ place) in
+    let words : hits ≡ risen row.hits = eh ∙ ap risen (ap (λ n. slice_index ws (n + 9)) (sym (same ∙ place)) ∙ (h.rows row c).hits) in
+    let entry : IsEntry (touched_words ws at (risen row.hits) t) (touched t row) = touch_entry ws row at t (h.rows row c) (same ∙ place) (omega (arith, w.high, w.enough)) in
+    rw here (subst (λ n. IsEntry (touched_words ws at n t) (touched t row)) (sym words) entry))
     (λ row c. rows_removed h own row r.1 c)
     (λ row c. rows_unlinked h own row r.1 c)

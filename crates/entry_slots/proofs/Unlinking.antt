@@ -79,22 +79,22 @@ unlink_stands {e} {ws} {aside} s h at slot m next lt there link en count ec =
     let in_rows : Contains s.rows own.0 = (Contains-filter (is_in_slot s.conf slot) s.rows own.0 own.1).0 in
     record {
       chains = λ two low. elim (cases_eq two slot) [
-          inl same ↦
+        | inl same ↦
             let chain = rejoined h slot lt m next link.front (row ∷ more) split link.follows more tail (λ q c. back_other h slot lt m next link.front (row ∷ more) split link.follows q (Contains-later row more q c)) in
             let is : filter (is_in_slot s.conf slot) (without_place at s.rows) ≡ link.front ++ more = filter_swap (is_in_slot s.conf slot) (λ r. not (is_at at r)) s.rows ∙ (ap (without_place at) split ∙ without_middle at link.front row more distinct back.3) in
             subst (λ n. IsChain (slice_set ws m next) (slice_index (slice_set ws m next) n) (filter (is_in_slot s.conf n) (without_place at s.rows))) (sym same)
-              (subst (λ rs. IsChain (slice_set ws m next) (slice_index (slice_set ws m next) slot) rs) (sym is) chain)
+            (subst (λ rs. IsChain (slice_set ws m next) (slice_index (slice_set ws m next) slot) rs) (sym is) chain)
         | inr other ↦
             let is : filter (is_in_slot s.conf two) (without_place at s.rows) ≡ chain_of s two = filter_swap (is_in_slot s.conf two) (λ r. not (is_at at r)) s.rows ∙ without_none at (chain_of s two) (λ q c same. slots_apart h slot two (λ k. other (sym k)) own.0 q own.1 c (same ∙ sym place)) in
             subst (λ rs. IsChain (slice_set ws m next) (slice_index (slice_set ws m next) two) rs) (sym is) (other_chain h slot lt m next link.front (row ∷ more) split link.follows two (omega (arith, h.from)) other)
-        ];
+      ];
       removed_chain = removed_kept h slot lt m next link.front (row ∷ more) split link.follows;
       rows = λ x c. set_entry h m next spot x (home_row x h (Contains-filter (λ r. not (is_at at r)) s.rows x c).0);
       removed = λ x c. set_entry h m next spot x (home_removed x h c);
       unlinked = λ x c. elim (Contains-append_cases (only_at at s.rows) s.unlinked x c) [
-          inl l ↦ set_entry h m next spot x (home_row x h (Contains-filter (is_at at) s.rows x l).0)
+        | inl l ↦ set_entry h m next spot x (home_row x h (Contains-filter (is_at at) s.rows x l).0)
         | inr r ↦ set_entry h m next spot x (home_unlinked x h r)
-        ];
+      ];
       taken = h.taken;
       ready = change_ready h.ready (set_change h m next spot);
       blocks = record { count = λ test. ap (count_by test) (change_live h.ready (set_change h m next spot)) ∙ (h.blocks.count test ∙ moved test) };
@@ -110,13 +110,23 @@ unlink_stands {e} {ws} {aside} s h at slot m next lt there link en count ec =
     moved test =
         let p : Row → Bool = λ r. test (extent_of r) in
         omega (arith, count_blocks test s, count_blocks test (unlinked_at at s), count_split p (is_at at) s.rows, count-append p (only_at at s.rows) s.unlinked)
+
     all_counted : (rows : List Row) → count_by (λ (x : Row). true) rows ≡ length rows
     all_counted [] = refl
     all_counted (x ∷ xs) = omega (arith, count-cons (λ (y : Row). true) x xs, all_counted xs)
+
     fewer : (row : Row) → Contains s.rows row → row.place ≡ at → length (without_place at s.rows) + 1 ≡ length s.rows
     fewer row c e =
-        omega (arith, count_split (λ (x : Row). true) (is_at at) s.rows, all_counted (only_at at s.rows), all_counted (without_place at s.rows), all_counted s.rows,
-          length-filter (is_at at) s.rows, rows_once h at, counted (is_at at) s.rows row c (at_itself row at e))
+        omega (
+          arith,
+          count_split (λ (x : Row). true) (is_at at) s.rows,
+          all_counted (only_at at s.rows),
+          all_counted (without_place at s.rows),
+          all_counted s.rows,
+          length-filter (is_at at) s.rows,
+          rows_once h at,
+          counted (is_at at) s.rows row c (at_itself row at e),
+        )
 
 -- a row stands in the chain of its key's slot
 pub own_slot : (s : Entries) (at : ℕ) → has_place at s.rows ≡ true → (row : Row) × Contains s.rows row × (row.place ≡ at) × (has_place at (chain_of s (slot_of s.conf row.key)) ≡ true)

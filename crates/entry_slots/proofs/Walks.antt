@@ -103,12 +103,12 @@ in_key_slot s key row t =
 find_filter : (p q : Row → Bool) (rows : List Row) → ((row : Row) → p row ≡ true → q row ≡ true) → find p rows ≡ find p (filter q rows)
 find_filter p q [] h = refl
 find_filter p q (row ∷ rows) h = elim (cases_Bool (p row)) [
-    inl t ↦ rw (h row t, t) refl
+  | inl t ↦ rw (h row t, t) refl
   | inr f ↦ rw f (elim (cases_Bool (q row)) [
-        inl t ↦ rw (t, f) (find_filter p q rows h)
-      | inr g ↦ rw g (find_filter p q rows h)
-      ])
-  ]
+    | inl t ↦ rw (t, f) (find_filter p q rows h)
+    | inr g ↦ rw g (find_filter p q rows h)
+  ])
+]
 
 pub find_chain : (s : Entries) (key : List ℕ) (slot : ℕ) → slot ≡ slot_of s.conf key → find (has_key key) s.rows ≡ find (has_key key) (chain_of s slot)
 find_chain s key slot e =
@@ -121,8 +121,8 @@ pub find_here : {ws : List ℕ} (s : Entries) (key : List ℕ) (slot at passed :
 find_here {ws} s key slot at passed e h t =
     let first : find (has_key key) (h.row ∷ h.back) ≡ Some h.row = rw (sym t) refl in
     let found : find (has_key key) s.rows ≡ Some h.row =
-        find_chain s key slot e ∙ (ap (find (has_key key)) h.split ∙ (find-append (has_key key) h.front (h.row ∷ h.back)
-        ∙ (ap (λ (o : Option Row). option_or o (find (has_key key) (h.row ∷ h.back))) (find_nowhere (has_key key) h.front h.none) ∙ first))) in
+    find_chain s key slot e ∙ (ap (find (has_key key)) h.split ∙ (find-append (has_key key) h.front (h.row ∷ h.back)
+    ∙ (ap (λ (o : Option Row). option_or o (find (has_key key) (h.row ∷ h.back))) (find_nowhere (has_key key) h.front h.none) ∙ first))) in
     ap Some h.place ∙ ap (option_map (λ (row : Row). row.place)) (sym found)
 
 -- nothing has changed

@@ -60,15 +60,15 @@ module _ {e : EntrySlots} {ws : List ℕ} {aside : Aside} {s : Entries} (h : Sta
   row_other : (row : Row) → IsHome e ws aside row → row.place ≢ b.place → (row.place + row.size ≤ b.place) ⊎ (b.place + b.size ≤ row.place)
   unfolding Apart
   row_other row home other = elim (live_apart e.sma ws aside (extent_of row) b h.ready home.live (taken_live b h there)) [
-      inl same ↦ absurd (other (ap (λ (x : Extent). x.place) same))
+    | inl same ↦ absurd (other (ap (λ (x : Extent). x.place) same))
     | inr apart ↦ apart
-    ]
+  ]
 
   row_whole : (row : Row) → IsHome e ws aside row → row.place ≢ b.place → (i : ℕ) → row.place ≤ i → i < row.place + row.size → slice_index ws' i ≡ slice_index ws i
   row_whole row home other i low high = elim (row_other row home other) [
-      inl before ↦ only.same i (inl (omega arith))
+    | inl before ↦ only.same i (inl (omega arith))
     | inr after ↦ only.same i (inr (omega arith))
-    ]
+  ]
 
   row_kept : (row : Row) → IsHome e ws aside row → row.place ≢ b.place → SameRow ws ws' row
   row_kept row home other = record { count = only.count; same = λ i low high one. row_whole row home other i low high }
@@ -81,22 +81,22 @@ module _ {e : EntrySlots} {ws : List ℕ} {aside : Aside} {s : Entries} (h : Sta
   taken_change = record {
     count = only.count;
     inner = λ i low. elim (cases_lt i (b.place + 1)) [
-        inl before ↦ inl (only.same i (inl before))
+      | inl before ↦ inl (only.same i (inl before))
       | inr from ↦ elim (cases_lt i (b.place + b.size)) [
-          inl within ↦ inr (record { block = b; live = taken_live b h there; low = omega arith; high = within })
+        | inl within ↦ inr (record { block = b; live = taken_live b h there; low = omega arith; high = within })
         | inr past ↦ inl (only.same i (inr past))
-        ]
-      ];
+      ]
+    ];
     named = λ x named.
-      let block = h.ready.windows x named in
-      let f : Extent = record { place = x; size = block.size } in
-      elim (live_apart e.sma ws aside b f h.ready (taken_live b h there) block.live) [
-        inl same ↦ absurd (false≢true (sym (h.taken b there) ∙ (ap (λ (y : Extent). is_named aside.windows y.place) same ∙ named)))
-      | inr apart ↦ elim apart [
-          inl before ↦ (only.same (x + 2) (inr (omega arith)), only.same (x + 3) (inr (omega arith)))
-        | inr after ↦ (only.same (x + 2) (inl (omega (arith, block.inside))), only.same (x + 3) (inl (omega (arith, block.inside))))
-        ]
-      ];
+        let block = h.ready.windows x named in
+        let f : Extent = record { place = x; size = block.size } in
+        elim (live_apart e.sma ws aside b f h.ready (taken_live b h there) block.live) [
+          | inl same ↦ absurd (false≢true (sym (h.taken b there) ∙ (ap (λ (y : Extent). is_named aside.windows y.place) same ∙ named)))
+          | inr apart ↦ elim apart [
+            | inl before ↦ (only.same (x + 2) (inr (omega arith)), only.same (x + 3) (inr (omega arith)))
+            | inr after ↦ (only.same (x + 2) (inl (omega (arith, block.inside))), only.same (x + 3) (inl (omega (arith, block.inside))))
+          ]
+        ];
   }
 
   pub rows_not : (row : Row) → Contains s.rows row → row.place ≢ b.place
@@ -111,9 +111,9 @@ module _ {e : EntrySlots} {ws : List ℕ} {aside : Aside} {s : Entries} (h : Sta
   pub taken_stands : Stands e ws' aside s
   taken_stands = record {
     chains = λ slot lt.
-      let chain = chain_kept ws ws' (slice_index ws slot) (chain_of s slot) (λ row c. let at = (Contains-filter (is_in_slot s.conf slot) s.rows row c).0 in link_kept row (home_row row h at) (rows_not row at)) (h.chains slot lt) in
-      let bounds = live_bounds e.sma ws aside b h.ready (taken_live b h there) in
-      subst (λ a. IsChain ws' a (chain_of s slot)) (sym (only.same slot (inl (omega (arith, bounds.0, h.from, lt))))) chain;
+        let chain = chain_kept ws ws' (slice_index ws slot) (chain_of s slot) (λ row c. let at = (Contains-filter (is_in_slot s.conf slot) s.rows row c).0 in link_kept row (home_row row h at) (rows_not row at)) (h.chains slot lt) in
+        let bounds = live_bounds e.sma ws aside b h.ready (taken_live b h there) in
+        subst (λ a. IsChain ws' a (chain_of s slot)) (sym (only.same slot (inl (omega (arith, bounds.0, h.from, lt))))) chain;
     removed_chain = chain_kept ws ws' e.removed s.removed (λ row c. link_kept row (home_removed row h c) (removed_not row c)) h.removed_chain;
     rows = λ row c. entry_kept ws ws' row (h.rows row c) (row_kept row (home_row row h c) (rows_not row c));
     removed = λ row c. entry_kept ws ws' row (h.removed row c) (row_kept row (home_removed row h c) (removed_not row c));
@@ -145,24 +145,26 @@ written_entry ws at key g note graph bytes ttl size inside =
     let keys : StandsAt ws' (at + 12) (words_of key) = stands-front ws' (at + 12) (words_of key) (image_of g) rest in
     let image : StandsAt ws' (at + 12 + words_in (length key)) (image_of g) = stands-back ws' (at + 12) (words_of key) (image_of g) (at + 12 + words_in (length key)) rest (omega (arith, klen)) in
     let word : (k n : ℕ) → k < 11 → n ≡ k + 1 → slice_index ws' (at + n) ≡ slice_index first k = λ k n few e.
-        ap (λ (i : ℕ). slice_index ws' i) (omega arith) ∙ stands-at ws' (at + 1) first k head few in
+    ap (λ (i : ℕ). slice_index ws' i) (omega arith) ∙ stands-at ws' (at + 1) first k head few in
     let key_len : slice_index ws' (at + 2) ≡ length key = word 1 2 (omega arith) (omega arith) in
-    let start : image_place ws' at ≡ at + 12 + words_in (length key) = ap (λ n. at + 12 + (n + 7) / 8) key_len in
-    (record {
-      size = (written_only ws (at + 1) (entry_words key g note)).same at (inl (omega arith)) ∙ size;
-      key_length = key_len;
-      value_length = word 2 3 (omega arith) (omega arith);
-      ttl = word 3 4 (omega arith) (omega arith);
-      ctime = word 4 5 (omega arith) (omega arith);
-      mtime = word 5 6 (omega arith) (omega arith);
-      atime = word 6 7 (omega arith) (omega arith);
-      dtime = word 7 8 (omega arith) (omega arith);
-      hits = word 8 9 (omega arith) (omega arith);
-      number = word 9 10 (omega arith) (omega arith);
-      pin_count = word 10 11 (omega arith) (omega arith);
-      key = keys;
-      image = subst (λ n. IsImageOf ws' n (image_length g) g) (sym start) (stands-image ws' (at + 12 + words_in (length key)) (image_length g) g graph refl image);
-      whole = refl;
-      bytes = bytes;
-      short_ttl = ttl;
-    }, word 0 1 (omega arith) (omega arith))
+    let start : image_place ws' at ≡ at + 12 + words_in (length key) = ap (λ n. at + 12 + (n + 7) / 8) key_len in (
+      record {
+        size = (written_only ws (at + 1) (entry_words key g note)).same at (inl (omega arith)) ∙ size;
+        key_length = key_len;
+        value_length = word 2 3 (omega arith) (omega arith);
+        ttl = word 3 4 (omega arith) (omega arith);
+        ctime = word 4 5 (omega arith) (omega arith);
+        mtime = word 5 6 (omega arith) (omega arith);
+        atime = word 6 7 (omega arith) (omega arith);
+        dtime = word 7 8 (omega arith) (omega arith);
+        hits = word 8 9 (omega arith) (omega arith);
+        number = word 9 10 (omega arith) (omega arith);
+        pin_count = word 10 11 (omega arith) (omega arith);
+        key = keys;
+        image = subst (λ n. IsImageOf ws' n (image_length g) g) (sym start) (stands-image ws' (at + 12 + words_in (length key)) (image_length g) g graph refl image);
+        whole = refl;
+        bytes = bytes;
+        short_ttl = ttl;
+      },
+      word 0 1 (omega arith) (omega arith),
+    )

@@ -1,9 +1,11 @@
 -- What is read of one entry.
-use Rattle.std.specs.Prelude.{◌≡◌, ℕ, ◌+◌, ◌<◌, ◌≤◌, ◌⊎◌, true, List, ◌++◌, length, Contains, find}
+use Rattle.std.specs.Prelude.{◌≡◌, ℕ, ◌+◌, ◌<◌, ◌≤◌, ◌⊎◌, true, List, ◌++◌, length, Contains, find, ℤ, Some}
 use Rattle.seg_words.specs.Windows.{Aside}
 use Rattle.seg_words.specs.Blocks.{IsTold, MayStore}
 use Rattle.php_graph.specs.Size.{words_in, image_length, block_size}
 use Rattle.php_graph.specs.declared.kind.Kind.{Kind}
+use Rattle.php_graph.specs.declared.kind.Kind.TheVariants as kinds
+use Rattle.php_graph.specs.Graph.{kind_at}
 use Rattle.value_image.specs.Packed.{words_of}
 use Rattle.value_image.specs.Rows.{IsToldAt}
 use Rattle.value_image.specs.Image.{IsImageOf}
@@ -41,6 +43,16 @@ pub record HasLooseAt (e : EntrySlots) (words : List ℕ) (aside : Aside) (at : 
   pub entries : Entries
   pub stand : Stands e words aside entries
   pub there : has_place at (entries.unlinked ++ entries.removed) ≡ true
+
+-- a row that holds an integer has its block at this place
+pub record HasIntAt (e : EntrySlots) (words : List ℕ) (aside : Aside) (at : ℕ) : Type 0 where
+  pub entries : Entries
+  pub stand : Stands e words aside entries
+  pub row : Row
+  pub there : Contains entries.rows row
+  pub place : row.place ≡ at
+  pub number : ℤ
+  pub int : kind_at row.graph 1 ≡ Some (kinds.Int number)
 
 -- the word is there, and may be stored
 pub record IsStorable (words windows : List ℕ) (i : ℕ) : Type 0 where

@@ -21,7 +21,11 @@ pub(crate) fn key_word(key: &[u8], i: u32) -> u64
     ensures { result ≡ word_at key.now i }
 {
     let rest = &key[8 * i as usize..];
-    if rest.len() < 8 { LittleEndian::read_uint(rest, rest.len()) } else { LittleEndian::read_u64(rest) }
+    if rest.len() < 8 {
+        LittleEndian::read_uint(rest, rest.len())
+    } else {
+        LittleEndian::read_u64(rest)
+    }
 }
 
 // PHP's string hash of the key of so many bytes that stands from a place on.

@@ -3,8 +3,12 @@
 
 mod head;
 mod keys;
+mod reading;
 mod slots;
 mod writing;
 
 pub use head::Head;
 pub use slots::EntrySlots;
+
+#[cfg(test)]
+mod tests;

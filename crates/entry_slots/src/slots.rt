@@ -1,23 +1,26 @@
-ghost use Rattle.std.specs.Prelude.{◌≡◌, ◌≢◌, ℕ, ◌+◌, ◌%◌, ◌<◌, ◌≤◌, ◌^◌, true, false, ◌∷◌, ◌++◌, length, slice_index, slice_set, Contains, option_map, find, ◌==◌, if◌then◌else◌, IfSome, IfNone, List};
+ghost use Rattle.std.specs.Prelude.{◌≡◌, ◌≢◌, ℕ, ◌+◌, ◌%◌, ◌<◌, ◌≤◌, ◌^◌, true, false, ◌∷◌, ◌++◌, length, slice_index, slice_set, Contains, option_map, find, ◌==◌, if◌then◌else◌, IfSome, IfNone, List, ℤ, Some};
 ghost use Rattle.seg_words.specs.Windows.{Aside, is_named};
 ghost use Rattle.seg_words.specs.Gaps.{first_fit};
 ghost use Rattle.seg_words.specs.Blocks.{IsTold};
 ghost use Rattle.php_graph.specs.Size.{block_size};
 ghost use Rattle.php_graph.specs.Numbers.{hash_of};
+ghost use Rattle.php_graph.specs.Graph.{kind_at};
+ghost use Rattle.php_graph.specs.declared.kind.Kind.TheVariants as kinds;
 ghost use Rattle.apcu_model.specs.Cache.{Row, has_key};
 ghost use Rattle.apcu_model.specs.Conf.{IsGood};
 ghost use Rattle.apcu_model.specs.Walk.{slot_of};
 ghost use Rattle.entry_slots.specs.Lists.{has_place, first_place, next_place};
-ghost use Rattle.entry_slots.specs.Entries.{Entries, no_entries, chain_of, blocks_of, with_taken, touched_in, linked, found_place, unlinked_at, removed_at, freed_at, moved_at, off_at};
+ghost use Rattle.entry_slots.specs.Entries.{Entries, no_entries, chain_of, blocks_of, with_taken, touched_in, with_number, linked, found_place, unlinked_at, removed_at, freed_at, moved_at, off_at};
 ghost use Rattle.entry_slots.specs.Standing.{Stands};
 ghost use Rattle.entry_slots.specs.Links.{IsLinkTo, IsTarget, HasTarget, IsRemovedLink};
-ghost use Rattle.entry_slots.specs.Reading.{AreStanding, HasEntryAt, HasRowAt, IsHeadOf, MayLink, MayFollow, HasUnlinkedAt, HasLooseAt, IsStorable};
+ghost use Rattle.entry_slots.specs.Reading.{AreStanding, HasEntryAt, HasRowAt, IsHeadOf, MayLink, MayFollow, HasUnlinkedAt, HasLooseAt, HasIntAt, IsStorable};
 ghost use Rattle.seg_words.specs.declared.extents.Extent.{Extent};
 
 use crate::head::Head;
 use crate::keys::{hash_at, key_word};
-use apcu_model::Conf;
+use crate::reading::{count_after, first_words, next_of};
 use crate::writing::{Note, put_entry};
+use apcu_model::Conf;
 use php_graph::{Graph, hash_of};
 use seg_words::{Segment, WordsIn};
 use sma_blocks::Sma;
@@ -169,6 +172,21 @@ impl EntrySlots {
         let hits = seg.load(at + 9);
         seg.store(at + 9, hits.saturating_add(1));
         seg.store(at + 7, t);
+    }
+
+    /// Makes `n` the value of a row that holds an integer, changed at the moment `t`. No window may name
+    /// its block.
+    pub fn set_int<S: Segment>(&mut self, seg: &mut S, at: u32, n: i64, t: u64)
+        requires there { HasIntAt self.old (S.words seg.old) (S.aside seg.old) at }
+        requires unnamed { is_named (S.aside seg.old).windows at ≡ false }
+        ensures set { (s : Entries) (row : Row) (v : ℤ) → Stands self.old (S.words seg.old) (S.aside seg.old) s → Contains s.rows row → row.place ≡ at → kind_at row.graph 1 ≡ Some (kinds.Int v) → Stands self.new (S.words seg.new) (S.aside seg.new) (with_number at n t s) }
+        ensures same { self.new ≡ self.old }
+        ensures aside { S.aside seg.new ≡ S.aside seg.old }
+        ensures rest { S.rest seg.new ≡ S.rest seg.old }
+    {
+        let len = seg.load(at + 2) as u32;
+        seg.store(at + 13 + len.div_ceil(8), n.cast_unsigned());
+        seg.store(at + 6, t);
     }
 
     /// What the entry's first words say.
@@ -394,41 +412,4 @@ impl EntrySlots {
         }
         link
     }
-}
-
-// The words of a block before its pin count.
-fn first_words<S: Segment>(seg: &mut S, at: u32) -> [u64; 11]
-    requires inside { at + 12 ≤ length (S.words seg.old) }
-    requires told { (k : ℕ) → k < 11 → IsTold (S.aside seg.old).windows (at + k) }
-    ensures each { (k : ℕ) → k < 11 → slice_index result k ≡ slice_index (S.words seg.old) (at + k) }
-    ensures words { S.words seg.new ≡ S.words seg.old }
-    ensures aside { S.aside seg.new ≡ S.aside seg.old }
-    ensures rest { S.rest seg.new ≡ S.rest seg.old }
-{
-    let mut words = [0; 11];
-    for k in 0..11 {
-        words[k as usize] = seg.load(at + k);
-    }
-    words
-}
-
-// The place that follows the block in its list.
-pub(crate) fn next_of<S: Segment>(seg: &mut S, at: u32) -> u32
-    requires inside { at + 12 ≤ length (S.words seg.old) }
-    requires told { IsTold (S.aside seg.old).windows (at + 1) }
-    requires place { slice_index (S.words seg.old) (at + 1) < 2 ^ 32 }
-    ensures next { result ≡ slice_index (S.words seg.old) (at + 1) }
-    ensures words { S.words seg.new ≡ S.words seg.old }
-    ensures aside { S.aside seg.new ≡ S.aside seg.old }
-    ensures rest { S.rest seg.new ≡ S.rest seg.old }
-{
-    seg.load(at + 1) as u32
-}
-
-// The number of rows after a new one stands in the place of the one at `replaced`, or last.
-fn count_after(count: u32, replaced: u32) -> u32
-    requires { count + 1 < 2 ^ 32 }
-    ensures { result ≡ (if replaced == 0 then count + 1 else count) }
-{
-    if replaced == 0 { count + 1 } else { count }
 }

@@ -24,13 +24,7 @@ pub(crate) struct Note {
 }
 
 /// Writes the words of an entry's block from word 1 on.
-pub(crate) fn put_entry<S: Segment>(
-    seg: &mut S,
-    at: u32,
-    key: &[u8],
-    g: &Graph,
-    note: Note,
-)
+pub(crate) fn put_entry<S: Segment>(seg: &mut S, at: u32, key: &[u8], g: &Graph, note: Note)
     requires short { length key.now < 2 ^ 32 }
     requires small { image_length g.now < 2 ^ 32 }
     requires apart { MayWrite (S.words seg.old) (S.aside seg.old).windows (at + 1) (11 + words_in (length key.now) + image_length g.now) }

@@ -33,10 +33,10 @@ load-word-requires g c = let lt = word_in c.loop-i.i c.args.len c.loop-i-test.tr
 pub loop-i-preserved : goal.loop-i-preserved
 loop-i-preserved g c = record {
   hashed = λ key h.
-    let lt = word_in c.loop-i.i c.args.len c.loop-i-test.true in
-    let read = read_along (g.S.WordsIn.words c.args.seg.now) (g.S.WordsIn.words c.loop-i.seg) (g.S.WordsIn.aside c.args.seg.now) (g.S.WordsIn.aside c.loop-i.seg) (c.args.at + c.loop-i.i / 8) c.load-word.result c.loop-i.invariant.words c.loop-i.invariant.aside (c.requires.told (c.args.at + c.loop-i.i / 8) (omega arith) (omega (arith, lt))) c.load-word.ensures.word in
-    let byte = key_byte key c.loop-i.i c.load-word.result h.bytes.1 (read ∙ key_word_at (g.S.WordsIn.words c.args.seg.now) c.args.at c.args.len key c.loop-i.i h c.loop-i-test.true) in
-    wrapped c.loop-i.hash (c.load-word.result / 2 ^ (8 * (c.loop-i.i % 8)) % 256) ∙ hash_more key c.loop-i.i c.loop-i.hash (c.load-word.result / 2 ^ (8 * (c.loop-i.i % 8)) % 256) (omega (arith, h.count, c.loop-i-test.true)) (c.loop-i.invariant.hashed key h) byte;
+      let lt = word_in c.loop-i.i c.args.len c.loop-i-test.true in
+      let read = read_along (g.S.WordsIn.words c.args.seg.now) (g.S.WordsIn.words c.loop-i.seg) (g.S.WordsIn.aside c.args.seg.now) (g.S.WordsIn.aside c.loop-i.seg) (c.args.at + c.loop-i.i / 8) c.load-word.result c.loop-i.invariant.words c.loop-i.invariant.aside (c.requires.told (c.args.at + c.loop-i.i / 8) (omega arith) (omega (arith, lt))) c.load-word.ensures.word in
+      let byte = key_byte key c.loop-i.i c.load-word.result h.bytes.1 (read ∙ key_word_at (g.S.WordsIn.words c.args.seg.now) c.args.at c.args.len key c.loop-i.i h c.loop-i-test.true) in
+      wrapped c.loop-i.hash (c.load-word.result / 2 ^ (8 * (c.loop-i.i % 8)) % 256) ∙ hash_more key c.loop-i.i c.loop-i.hash (c.load-word.result / 2 ^ (8 * (c.loop-i.i % 8)) % 256) (omega (arith, h.count, c.loop-i-test.true)) (c.loop-i.invariant.hashed key h) byte;
   words = c.load-word.ensures.words ∙ c.loop-i.invariant.words;
   aside = c.load-word.ensures.aside ∙ c.loop-i.invariant.aside;
   rest = c.load-word.ensures.rest ∙ c.loop-i.invariant.rest;

@@ -25,8 +25,8 @@ pub put_key-requires : goal.put_key-requires
 put_key-requires g c = record {
   short = c.requires.short;
   apart = may_write-along (g.S.WordsIn.words c.args.seg.now) (g.S.WordsIn.aside c.args.seg.now) (c.args.at + 1) (11 + words_in (length c.args.key.now) + image_length c.args.g.now)
-    (run c.from.result (length c.args.key.now) c.words.result c.from-2.result c.args.note.now c.args.note.number)
-    (g.S.WordsIn.words c.put_words.new.seg) (g.S.WordsIn.aside c.put_words.new.seg) (c.args.at + 12) (words_in (length c.args.key.now)) c.requires.apart c.put_words.ensures.words c.put_words.ensures.aside (omega arith) (omega arith);
+      (run c.from.result (length c.args.key.now) c.words.result c.from-2.result c.args.note.now c.args.note.number)
+      (g.S.WordsIn.words c.put_words.new.seg) (g.S.WordsIn.aside c.put_words.new.seg) (c.args.at + 12) (words_in (length c.args.key.now)) c.requires.apart c.put_words.ensures.words c.put_words.ensures.aside (omega arith) (omega arith);
 }
 
 pub persist-requires : goal.persist-requires
@@ -37,7 +37,7 @@ persist-requires g c =
     let both = written-along ws (c.args.at + 1) first key (g.S.WordsIn.words c.put_words.new.seg) (g.S.WordsIn.words c.put_key.new.seg) (c.args.at + 12) c.put_words.ensures.words c.put_key.ensures.words (omega arith) in
     let long : length (first ++ key) ≡ 11 + words_in (length c.args.key.now) = length-append first key ∙ ap (λ (n : ℕ). 11 + n) (length-words_of c.args.key.now) in
     may_write-along ws (g.S.WordsIn.aside c.args.seg.now) (c.args.at + 1) (11 + words_in (length c.args.key.now) + image_length c.args.g.now) (first ++ key)
-      (g.S.WordsIn.words c.put_key.new.seg) (g.S.WordsIn.aside c.put_key.new.seg) (c.args.at + 12 + c.div_ceil.result) (image_length c.args.g.now) c.requires.apart both (c.put_key.ensures.aside ∙ c.put_words.ensures.aside) (omega (arith, c.div_ceil.ensures, long)) (omega (arith, long))
+    (g.S.WordsIn.words c.put_key.new.seg) (g.S.WordsIn.aside c.put_key.new.seg) (c.args.at + 12 + c.div_ceil.result) (image_length c.args.g.now) c.requires.apart both (c.put_key.ensures.aside ∙ c.put_words.ensures.aside) (omega (arith, c.div_ceil.ensures, long)) (omega (arith, long))
 
 pub returns-clause-words : goal.returns-clause-words
 returns-clause-words g c =
@@ -45,7 +45,7 @@ returns-clause-words g c =
     let first : List ℕ = first_words c.args.key.now c.args.g.now c.args.note in
     let key : List ℕ = words_of c.args.key.now in
     let head : g.S.WordsIn.words c.put_words.new.seg ≡ written ws (c.args.at + 1) first =
-        c.put_words.ensures.words ∙ same_run ws (c.args.at + 1) c.from.result c.args.note.next (length c.args.key.now) c.words.result (image_length c.args.g.now) c.from-2.result c.args.note.ttl c.args.note.now c.args.note.number c.from.ensures c.words.ensures.words c.from-2.ensures in
+    c.put_words.ensures.words ∙ same_run ws (c.args.at + 1) c.from.result c.args.note.next (length c.args.key.now) c.words.result (image_length c.args.g.now) c.from-2.result c.args.note.ttl c.args.note.now c.args.note.number c.from.ensures c.words.ensures.words c.from-2.ensures in
     let both = written-along ws (c.args.at + 1) first key (g.S.WordsIn.words c.put_words.new.seg) (g.S.WordsIn.words c.put_key.new.seg) (c.args.at + 12) head c.put_key.ensures.words (omega arith) in
     let long : length (first ++ key) ≡ 11 + words_in (length c.args.key.now) = length-append first key ∙ ap (λ (n : ℕ). 11 + n) (length-words_of c.args.key.now) in
     written-along ws (c.args.at + 1) (first ++ key) (image_of c.args.g.now) (g.S.WordsIn.words c.put_key.new.seg) (g.S.WordsIn.words c.persist.new.seg) (c.args.at + 12 + c.div_ceil.result) both c.persist.ensures.words (omega (arith, c.div_ceil.ensures, long))

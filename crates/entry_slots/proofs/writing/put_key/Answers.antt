@@ -29,7 +29,7 @@ store-requires-clause-apart g c = rw (c.loop-i.invariant.words, c.loop-i.invaria
 pub loop-i-preserved : goal.loop-i-preserved
 loop-i-preserved g c = record {
   words = c.store.ensures.words ∙ (ap (λ (r : List ℕ). slice_set r (c.args.at + c.loop-i.i) c.key_word.result) c.loop-i.invariant.words
-  ∙ written-more (g.S.WordsIn.words c.args.seg.now) c.args.at c.args.key.now c.loop-i.i c.key_word.result (omega (arith, c.div_ceil-i-end.ensures, c.loop-i-test.true)) c.key_word.ensures);
+      ∙ written-more (g.S.WordsIn.words c.args.seg.now) c.args.at c.args.key.now c.loop-i.i c.key_word.result (omega (arith, c.div_ceil-i-end.ensures, c.loop-i-test.true)) c.key_word.ensures);
   aside = c.store.ensures.aside ∙ c.loop-i.invariant.aside;
   rest = c.store.ensures.rest ∙ c.loop-i.invariant.rest;
 }

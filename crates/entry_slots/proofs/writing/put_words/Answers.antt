@@ -25,7 +25,7 @@ store-requires-clause-apart g c = rw (c.loop-i.invariant.words, c.loop-i.invaria
 pub loop-i-preserved : goal.loop-i-preserved
 loop-i-preserved g c = record {
   words = c.store.ensures.words ∙ (ap (λ (r : List ℕ). slice_set r (c.args.at + c.loop-i.i) (get_or c.args.run.now c.loop-i.i 0)) c.loop-i.invariant.words
-  ∙ more (g.S.WordsIn.words c.args.seg.now) c.args.at c.args.run.now c.loop-i.i (get_or c.args.run.now c.loop-i.i 0) c.loop-i-test.true refl);
+      ∙ more (g.S.WordsIn.words c.args.seg.now) c.args.at c.args.run.now c.loop-i.i (get_or c.args.run.now c.loop-i.i 0) c.loop-i-test.true refl);
   aside = c.store.ensures.aside ∙ c.loop-i.invariant.aside;
   rest = c.store.ensures.rest ∙ c.loop-i.invariant.rest;
 }

@@ -49,9 +49,9 @@ loop-passed-preserved g c =
     let slot : ℕ = c.hash_of.result % c.from.result in
     record {
       walk = λ s h.
-        let here = walk_here (c.loop-passed.invariant.walk s h) c.if-at-eq0.false in
-        let is = c.key_is.ensures.is s here.row (stands_along (g.S.WordsIn.words c.loop-passed.seg) (g.S.WordsIn.aside c.loop-passed.seg) h c.loop-passed.invariant.words c.loop-passed.invariant.aside) (here_listed s slot c.loop-passed.at c.loop-passed._passed here) (sym here.place) in
-        walk_next c.next_of-at.result here (sym c.if-key_is.false ∙ is) (c.next_of-at.ensures.next ∙ ap (λ (w : List ℕ). slice_index w (c.loop-passed.at + 1)) words);
+          let here = walk_here (c.loop-passed.invariant.walk s h) c.if-at-eq0.false in
+          let is = c.key_is.ensures.is s here.row (stands_along (g.S.WordsIn.words c.loop-passed.seg) (g.S.WordsIn.aside c.loop-passed.seg) h c.loop-passed.invariant.words c.loop-passed.invariant.aside) (here_listed s slot c.loop-passed.at c.loop-passed._passed here) (sym here.place) in
+          walk_next c.next_of-at.result here (sym c.if-key_is.false ∙ is) (c.next_of-at.ensures.next ∙ ap (λ (w : List ℕ). slice_index w (c.loop-passed.at + 1)) words);
       words = c.next_of-at.ensures.words ∙ words;
       aside = c.next_of-at.ensures.aside ∙ (c.key_is.ensures.aside ∙ c.loop-passed.invariant.aside);
       rest = c.next_of-at.ensures.rest ∙ (c.key_is.ensures.rest ∙ c.loop-passed.invariant.rest);

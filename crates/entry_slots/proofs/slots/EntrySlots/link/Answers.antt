@@ -65,7 +65,7 @@ put_entry-requires g c =
       short = c.requires.short;
       small = omega (arith, r.0, r.1);
       apart = write_along (g.S.WordsIn.words c.args.seg.now) (g.S.WordsIn.words c.behind.new.seg) (g.S.WordsIn.aside c.args.seg.now) (g.S.WordsIn.aside c.behind.new.seg) (c.args.at + 1) (11 + words_in (length c.args.key.now) + image_length c.args.g.now)
-        (c.behind.ensures.words ∙ c.link_to-link.ensures.words) (c.behind.ensures.aside ∙ c.link_to-link.ensures.aside) (taken_write m.entries m.stand c.args.at c.args.key.now c.args.g.now m.taken);
+          (c.behind.ensures.words ∙ c.link_to-link.ensures.words) (c.behind.ensures.aside ∙ c.link_to-link.ensures.aside) (taken_write m.entries m.stand c.args.at c.args.key.now c.args.g.now m.taken);
     }
 
 pub store-requires : goal.store-requires
@@ -106,6 +106,6 @@ returns-clause-linked g c = λ s h taken replaces.
     let bytes : AllByRecursion (λ b. b < 256) c.args.key.now = recursion_from_All (λ b. b < 256) c.args.key.now (All-from_get_or (λ b. b < 256) c.args.key.now 0 (λ i lt. omega (arith, c.type_inv.key i))) in
     stands_along (g.S.WordsIn.words c.store.new.self) (g.S.WordsIn.aside c.store.new.self)
     (link_stands s h c.args.at c.args.key.now c.args.g.now taken note c.is_sealed.ensures (c.requires.short, bytes) (omega (arith, c.ranges.ttl)) refl c.args.replaced slot c.link_to-link.result replaces is c.slot_for-slot.ensures.low link
-      (λ some. c.behind.ensures.next some ∙ ap (λ (v : List ℕ). slice_index v (c.args.replaced + 1)) read) c.behind.ensures.none
-      c.saturating_add-self.result c.count_after-self.result (omega (arith, c.saturating_add-self.ensures)) c.count_after-self.ensures)
+    (λ some. c.behind.ensures.next some ∙ ap (λ (v : List ℕ). slice_index v (c.args.replaced + 1)) read) c.behind.ensures.none
+    c.saturating_add-self.result c.count_after-self.result (omega (arith, c.saturating_add-self.ensures)) c.count_after-self.ensures)
     words (c.store.ensures.aside ∙ (c.put_entry.ensures.aside ∙ (c.behind.ensures.aside ∙ c.link_to-link.ensures.aside)))

@@ -57,8 +57,8 @@ loop-passed-preserved g c =
     let read = read_along (g.S.WordsIn.words c.args.seg.now) (g.S.WordsIn.words c.loop-passed.seg) (g.S.WordsIn.aside c.args.seg.now) (g.S.WordsIn.aside c.loop-passed.seg) c.loop-passed.link c.load-named.result c.loop-passed.invariant.words c.loop-passed.invariant.aside w.told c.load-named.ensures.word in
     record {
       way = λ s h t.
-        let next = way_next (c.loop-passed.invariant.way s h t) t (λ q. c.if-named-target.false (read ∙ q)) in
-        subst (λ (n : ℕ). Way (g.S.WordsIn.words c.args.seg.now) c.args.slot (chain_of s c.args.slot) c.args.target n (c.loop-passed._passed + 1)) (ap (λ (n : ℕ). n + 1) (sym read)) next;
+          let next = way_next (c.loop-passed.invariant.way s h t) t (λ q. c.if-named-target.false (read ∙ q)) in
+          subst (λ (n : ℕ). Way (g.S.WordsIn.words c.args.seg.now) c.args.slot (chain_of s c.args.slot) c.args.target n (c.loop-passed._passed + 1)) (ap (λ (n : ℕ). n + 1) (sym read)) next;
       words = c.load-named.ensures.words ∙ c.loop-passed.invariant.words;
       aside = c.load-named.ensures.aside ∙ c.loop-passed.invariant.aside;
       rest = c.load-named.ensures.rest ∙ c.loop-passed.invariant.rest;

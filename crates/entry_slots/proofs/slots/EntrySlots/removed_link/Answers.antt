@@ -39,11 +39,11 @@ overflow_cast-named g c =
 pub loop-passed-preserved : goal.loop-passed-preserved
 loop-passed-preserved g c = record {
   path = λ s h.
-    let path = c.loop-passed.invariant.path s h in
-    let stop = path_stop path c.if-named-eq0.false in
-    let home = homes_removed h stop.row (stop_in stop) in
-    let read = read_along (g.S.WordsIn.words c.args.seg.now) (g.S.WordsIn.words c.loop-passed.seg) (g.S.WordsIn.aside c.args.seg.now) (g.S.WordsIn.aside c.loop-passed.seg) (c.loop-passed.named + 1) c.load-named.result c.loop-passed.invariant.words c.loop-passed.invariant.aside (told_at home c.loop-passed.named 1 (sym stop.place) (omega arith) (omega arith)) c.load-named.ensures.word in
-    path_next path c.if-named-target.false c.if-named-eq0.false c.load-named.result read;
+      let path = c.loop-passed.invariant.path s h in
+      let stop = path_stop path c.if-named-eq0.false in
+      let home = homes_removed h stop.row (stop_in stop) in
+      let read = read_along (g.S.WordsIn.words c.args.seg.now) (g.S.WordsIn.words c.loop-passed.seg) (g.S.WordsIn.aside c.args.seg.now) (g.S.WordsIn.aside c.loop-passed.seg) (c.loop-passed.named + 1) c.load-named.result c.loop-passed.invariant.words c.loop-passed.invariant.aside (told_at home c.loop-passed.named 1 (sym stop.place) (omega arith) (omega arith)) c.load-named.ensures.word in
+      path_next path c.if-named-target.false c.if-named-eq0.false c.load-named.result read;
   words = c.load-named.ensures.words ∙ c.loop-passed.invariant.words;
   aside = c.load-named.ensures.aside ∙ c.loop-passed.invariant.aside;
   rest = c.load-named.ensures.rest ∙ c.loop-passed.invariant.rest;

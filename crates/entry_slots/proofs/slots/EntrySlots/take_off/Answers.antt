@@ -31,15 +31,17 @@ next_of-next-requires g c =
     }
 
 pub name-requires : goal.name-requires
-name-requires g c = record { may = λ some.
-  let t = c.requires.there in
-  let h1 = stands_along (g.S.WordsIn.words c.removed_link.new.seg) (g.S.WordsIn.aside c.removed_link.new.seg) t.stand c.removed_link.ensures.words c.removed_link.ensures.aside in
-  let link = subst (λ (w : List ℕ). IsRemovedLink w t.entries.removed c.args.at c.in-Some.link) (sym c.removed_link.ensures.words) (c.in-Some.ensures.some t.entries t.stand) in
-  let w = spot_word c.in-Some.link h1 (link_home t.entries h1 c.args.at c.in-Some.link link some) in
-  record {
-    inside = omega (arith, w.inside, ap length c.next_of-next.ensures.words);
-    may = may_along (g.S.WordsIn.words c.removed_link.new.seg) (g.S.WordsIn.words c.next_of-next.new.seg) (g.S.WordsIn.aside c.removed_link.new.seg) (g.S.WordsIn.aside c.next_of-next.new.seg) c.in-Some.link c.next_of-next.ensures.words c.next_of-next.ensures.aside w.may;
-  } }
+name-requires g c = record {
+  may = λ some.
+      let t = c.requires.there in
+      let h1 = stands_along (g.S.WordsIn.words c.removed_link.new.seg) (g.S.WordsIn.aside c.removed_link.new.seg) t.stand c.removed_link.ensures.words c.removed_link.ensures.aside in
+      let link = subst (λ (w : List ℕ). IsRemovedLink w t.entries.removed c.args.at c.in-Some.link) (sym c.removed_link.ensures.words) (c.in-Some.ensures.some t.entries t.stand) in
+      let w = spot_word c.in-Some.link h1 (link_home t.entries h1 c.args.at c.in-Some.link link some) in
+      record {
+        inside = omega (arith, w.inside, ap length c.next_of-next.ensures.words);
+        may = may_along (g.S.WordsIn.words c.removed_link.new.seg) (g.S.WordsIn.words c.next_of-next.new.seg) (g.S.WordsIn.aside c.removed_link.new.seg) (g.S.WordsIn.aside c.next_of-next.new.seg) c.in-Some.link c.next_of-next.ensures.words c.next_of-next.ensures.aside w.may;
+      };
+}
 
 pub returns-clause-off : goal.returns-clause-off
 returns-clause-off g c = λ s h there.
@@ -53,6 +55,6 @@ returns-clause-off g c = λ s h there.
     let next : c.next_of-next.result ≡ slice_index ws (c.args.at + 1) = c.next_of-next.ensures.next ∙ ap (λ (v : List ℕ). slice_index v (c.args.at + 1)) (sym c.next_of-next.ensures.words) in
     stands_along (g.S.WordsIn.words c.name.new.seg) (g.S.WordsIn.aside c.name.new.seg)
     (named_stands c.args.self.now c.name.new.self ws (g.S.WordsIn.words c.name.new.seg) (g.S.WordsIn.aside c.next_of-next.new.seg) c.in-Some.link c.next_of-next.result (off_at c.args.at s) c.name.ensures.head c.name.ensures.word
-      (λ none. off_head s h1 c.args.at some c.in-Some.link link none c.next_of-next.result next)
-      (λ word. off_word s h1 c.args.at some c.in-Some.link link word c.next_of-next.result next))
+    (λ none. off_head s h1 c.args.at some c.in-Some.link link none c.next_of-next.result next)
+    (λ word. off_word s h1 c.args.at some c.in-Some.link link word c.next_of-next.result next))
     refl c.name.ensures.aside

@@ -61,7 +61,7 @@ store-requires-2 g c =
     record {
       place = omega (arith, w.high, w.enough, q.2, ap length c.store.ensures.words, length-set ws (c.args.at + 1) 0);
       apart = may_along (slice_set ws (c.args.at + 1) 0) (g.S.WordsIn.words c.store.new.self) (g.S.WordsIn.aside c.args.seg.now) (g.S.WordsIn.aside c.store.new.self) (c.args.at + 8) c.store.ensures.words c.store.ensures.aside
-        (may_store-set ws (g.S.WordsIn.aside c.args.seg.now).windows (c.args.at + 1) (c.args.at + 8) 0 (may_note q.0 home c.args.at 1 q.2 (omega arith) (omega arith) (omega arith)) (may_note q.0 home c.args.at 8 q.2 (omega arith) (omega arith) (omega arith)));
+          (may_store-set ws (g.S.WordsIn.aside c.args.seg.now).windows (c.args.at + 1) (c.args.at + 8) 0 (may_note q.0 home c.args.at 1 q.2 (omega arith) (omega arith) (omega arith)) (may_note q.0 home c.args.at 8 q.2 (omega arith) (omega arith) (omega arith)));
     }
 
 pub append-requires : goal.append-requires

@@ -33,11 +33,13 @@ link_to-link-requires g c =
 pub behind-next-requires : goal.behind-next-requires
 behind-next-requires g c =
     let m = c.requires.there in
-    record { there = inr (record {
-      entries = m.entries;
-      stand = stands_along (g.S.WordsIn.words c.link_to-link.new.seg) (g.S.WordsIn.aside c.link_to-link.new.seg) m.stand (c.link_to-link.ensures.words ∙ c.slot_at-slot.ensures.words) (c.link_to-link.ensures.aside ∙ c.slot_at-slot.ensures.aside);
-      there = m.there;
-    }) }
+    record {
+      there = inr (record {
+        entries = m.entries;
+        stand = stands_along (g.S.WordsIn.words c.link_to-link.new.seg) (g.S.WordsIn.aside c.link_to-link.new.seg) m.stand (c.link_to-link.ensures.words ∙ c.slot_at-slot.ensures.words) (c.link_to-link.ensures.aside ∙ c.slot_at-slot.ensures.aside);
+        there = m.there;
+      });
+    }
 
 pub store-requires : goal.store-requires
 store-requires g c =
@@ -71,7 +73,7 @@ returns-clause-unlinked g c = λ s h there.
     let some : c.args.at ≢ 0 = λ q. omega (arith, home.some, r.2) in
     let next : c.behind-next.result ≡ slice_index (g.S.WordsIn.words c.slot_at-slot.new.seg) (c.args.at + 1) = c.behind-next.ensures.next some ∙ ap (λ (v : List ℕ). slice_index v (c.args.at + 1)) c.link_to-link.ensures.words in
     let words : g.S.WordsIn.words c.store.new.self ≡ slice_set (g.S.WordsIn.words c.slot_at-slot.new.seg) c.link_to-link.result c.behind-next.result =
-        c.store.ensures.words ∙ (ap (λ (v : List ℕ). slice_set v c.link_to-link.result c.from.result) (c.behind-next.ensures.words ∙ c.link_to-link.ensures.words) ∙ ap (λ (n : ℕ). slice_set (g.S.WordsIn.words c.slot_at-slot.new.seg) c.link_to-link.result n) c.from.ensures) in
+    c.store.ensures.words ∙ (ap (λ (v : List ℕ). slice_set v c.link_to-link.result c.from.result) (c.behind-next.ensures.words ∙ c.link_to-link.ensures.words) ∙ ap (λ (n : ℕ). slice_set (g.S.WordsIn.words c.slot_at-slot.new.seg) c.link_to-link.result n) c.from.ensures) in
     stands_along (g.S.WordsIn.words c.store.new.self) (g.S.WordsIn.aside c.store.new.self)
     (unlink_stands s h1 c.args.at slot c.link_to-link.result c.behind-next.result c.slot_at-slot.ensures.low chain link next (c.args.self.now.count - 1) (omega (arith, h.count, r.1.1)))
     words (c.store.ensures.aside ∙ (c.behind-next.ensures.aside ∙ c.link_to-link.ensures.aside))

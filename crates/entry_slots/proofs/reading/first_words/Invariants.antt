@@ -1,5 +1,5 @@
 use Rattle.std.proofs.Common.{◌≡◌, ℕ, ◌+◌, ◌<◌, slice_index, length}
-use Rattle.entry_slots.proofs.slots.first_words.Given as goal
+use Rattle.entry_slots.proofs.reading.first_words.Given as goal
 
 abbrev pub invariant-loop-k : goal.invariant-loop-k
 invariant-loop-k g l = record {
