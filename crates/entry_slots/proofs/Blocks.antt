@@ -1,15 +1,13 @@
 -- Live blocks lie apart, and which of their words are told and may be stored.
-use Rattle.std.proofs.Common.{◌≡◌, ◌≢◌, ◌⊎◌, inl, inr, ℕ, zero, suc, ◌+◌, ◌-◌, ◌/◌, ◌<◌, ◌≤◌, Bool, true, false, cond, List, [], ◌∷◌, ◌++◌, length, slice_index, refl, sym, ap, ◌∙◌, subst, arith}
-use Rattle.std.proofs.lemmas.Bool.{false≢true}
+use Rattle.std.proofs.Common.{◌≡◌, ◌≢◌, ◌⊎◌, inl, inr, ℕ, ◌+◌, ◌<◌, ◌≤◌, Bool, true, false, cond, List, [], ◌∷◌, length, slice_index, sym, ap, ◌∙◌, subst, arith}
 use Rattle.std.specs.List.{Contains}
 use Rattle.seg_words.specs.declared.extents.Extent.{Extent}
-use Rattle.seg_words.specs.Windows.{Aside, is_named}
-use Rattle.seg_words.specs.Blocks.{image_place, image_end, IsTold, IsApart, MayStore}
+use Rattle.seg_words.specs.Windows.{Aside}
+use Rattle.seg_words.specs.Blocks.{IsTold}
 use Rattle.sma_blocks.specs.declared.sma.Sma.{Sma}
-use Rattle.sma_blocks.specs.Pieces.{Piece, pieces, Fill, StandsAt, gaps_touch, IsFormatted}
+use Rattle.sma_blocks.specs.Pieces.{Piece, pieces, Fill}
 use Rattle.sma_blocks.specs.Live.{lives, live_blocks}
-use Rattle.sma_blocks.specs.Ready.{Holds, NameLive, IsReady}
-use Rattle.sma_blocks.proofs.Filling.{Fill-le, Fill-same, pieces-filled}
+use Rattle.sma_blocks.specs.Ready.{IsReady}
 use Rattle.sma_blocks.proofs.Lives.{extent_of, lives_between, Contains-cases}
 use Rattle.sma_blocks.proofs.Naming.{told_from}
 

@@ -1,10 +1,10 @@
 -- Chains of blocks.
-use Rattle.std.proofs.Common.{◌≡◌, ◌≢◌, ◌⊎◌, inl, inr, ℕ, zero, suc, ◌+◌, ◌-◌, ◌/◌, ◌%◌, ◌<◌, ◌≤◌, ◌^◌, Bool, true, false, not, cond, eqb, ◌||◌, List, [], ◌∷◌, ◌++◌, length, slice_index, map, refl, sym, ap, ◌∙◌, subst, arith}
+use Rattle.std.proofs.Common.{◌≡◌, inl, inr, ℕ, ◌+◌, ◌%◌, ◌<◌, ◌≤◌, ◌^◌, true, ◌||◌, List, [], ◌∷◌, ◌++◌, slice_index, refl, sym, ap, ◌∙◌, arith}
 use Rattle.std.proofs.lemmas.Bool.{eqb-true, eq-eqb, cases_Bool, or_cases, false≢true}
-use Rattle.std.specs.List.{Contains, filter, list_any}
+use Rattle.std.specs.List.{Contains}
 use Rattle.std.proofs.lemmas.List.Folds.{list_any-append}
 use Rattle.seg_words.specs.Windows.{Aside}
-use Rattle.sma_blocks.proofs.Lives.{Contains-cases, Contains-first, Contains-later}
+use Rattle.sma_blocks.proofs.Lives.{Contains-first, Contains-later}
 use Rattle.php_graph.specs.Numbers.{hash_of}
 use Rattle.apcu_model.specs.Cache.{Row}
 use Rattle.apcu_model.specs.Walk.{is_in_slot, slot_of}
@@ -13,8 +13,8 @@ use Rattle.entry_slots.specs.Lists.{is_at, has_place, first_place, next_place}
 use Rattle.entry_slots.specs.Entries.{Entries, chain_of}
 use Rattle.entry_slots.specs.Standing.{IsChain, Stands}
 use Rattle.entry_slots.specs.Reading.{HasEntryAt, AreStanding}
-use Rattle.entry_slots.proofs.Members.{Contains-filter, Contains-kept, any_there, any_from, none_in_nil}
-use Rattle.entry_slots.proofs.Homes.{IsHome, IsRoom, room, home_row, home_removed}
+use Rattle.entry_slots.proofs.Members.{Contains-filter, Contains-kept, any_there, any_from}
+use Rattle.entry_slots.proofs.Homes.{IsHome, room, home_row, home_removed}
 
 pub chain_first : (ws : List ℕ) (at : ℕ) (rows : List Row) → IsChain ws at rows → at ≡ first_place rows
 chain_first ws at [] h = h

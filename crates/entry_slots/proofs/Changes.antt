@@ -1,17 +1,17 @@
 -- Changes of words that leave every block where it is.
-use Rattle.std.proofs.Common.{◌≡◌, ◌≢◌, ◌⊎◌, inl, inr, ℕ, zero, suc, ◌+◌, ◌-◌, ◌/◌, ◌<◌, ◌≤◌, Bool, true, false, cond, List, [], ◌∷◌, ◌++◌, length, slice_index, slice_set, refl, sym, ap, ap₂, ◌∙◌, subst, arith}
+use Rattle.std.proofs.Common.{◌≡◌, ◌≢◌, ◌⊎◌, inl, inr, ℕ, ◌+◌, ◌/◌, ◌<◌, ◌≤◌, Bool, true, false, cond, List, [], ◌∷◌, length, slice_index, slice_set, refl, sym, ap, ap₂, ◌∙◌, subst, arith}
 use Rattle.std.specs.List.{Contains}
 use Rattle.std.proofs.lemmas.List.{get_or-set_other, length-set}
 use Rattle.seg_words.specs.declared.extents.Extent.{Extent}
 use Rattle.seg_words.specs.Windows.{Aside, is_named}
-use Rattle.seg_words.specs.Blocks.{image_place, image_end}
+use Rattle.seg_words.specs.Blocks.{image_end}
 use Rattle.sma_blocks.specs.declared.sma.Sma.{Sma}
-use Rattle.sma_blocks.specs.Pieces.{Piece, pieces, Fill, gaps_touch, IsFormatted}
+use Rattle.sma_blocks.specs.Pieces.{Piece, pieces, Fill, gaps_touch}
 use Rattle.sma_blocks.specs.Live.{lives, live_blocks}
-use Rattle.sma_blocks.specs.Ready.{Holds, NameLive, IsReady}
+use Rattle.sma_blocks.specs.Ready.{IsReady}
 use Rattle.sma_blocks.proofs.Filling.{Fill-le, pieces-filled}
 use Rattle.entry_slots.proofs.Blocks.{Apart, live_apart}
-use Rattle.sma_blocks.proofs.Lives.{extent_of, lives_between, Contains-cases, Contains-later}
+use Rattle.sma_blocks.proofs.Lives.{extent_of, lives_between, Contains-cases}
 
 -- the word lies in one of the blocks, and is not its first
 pub record Inner (blocks : List Extent) (i : ℕ) : Type 0 where

@@ -1,27 +1,24 @@
 -- Chains cut at one word and joined again.
-use Rattle.std.proofs.Common.{◌≡◌, ◌≢◌, ◌⊎◌, inl, inr, ℕ, zero, suc, ◌+◌, ◌-◌, ◌<◌, ◌≤◌, ◌^◌, Bool, true, false, not, cond, eqb, ◌||◌, List, [], ◌∷◌, ◌++◌, length, slice_index, slice_set, map, refl, sym, ap, ◌∙◌, subst, arith, length-append}
-use Rattle.std.proofs.lemmas.Bool.{cases_Bool, cases_eq, eqb-true, eq-eqb, false≢true, or_cases, ne_eqb}
-use Rattle.std.proofs.lemmas.List.{append_assoc, append-nil, length-set, get_or-set_same, get_or-set_other}
-use Rattle.std.proofs.lemmas.List.Folds.{list_any-append}
-use Rattle.std.proofs.lemmas.List.Elements.{Contains-append_left, Contains-append_right, Contains-append_cases}
-use Rattle.std.specs.List.{Contains, filter, count_by, list_any}
-use Rattle.seg_words.specs.declared.extents.Extent.{Extent}
+use Rattle.std.proofs.Common.{◌≡◌, ◌≢◌, ◌⊎◌, inl, inr, ℕ, ◌+◌, ◌<◌, ◌≤◌, Bool, true, cond, List, [], ◌∷◌, ◌++◌, length, slice_index, slice_set, refl, sym, ap, ◌∙◌, subst, arith}
+use Rattle.std.proofs.lemmas.Bool.{cases_Bool, cases_eq}
+use Rattle.std.proofs.lemmas.List.{length-set, get_or-set_other}
+use Rattle.std.proofs.lemmas.List.Elements.{Contains-append_left, Contains-append_right}
+use Rattle.std.specs.List.{Contains, filter, count_by}
 use Rattle.seg_words.specs.Windows.{Aside, is_named}
 use Rattle.seg_words.specs.Blocks.{IsTold, MayStore}
-use Rattle.sma_blocks.specs.Live.{live_blocks}
 use Rattle.sma_blocks.proofs.Lives.{Contains-cases, Contains-first, Contains-later}
 use Rattle.apcu_model.specs.Cache.{Row, extent_of}
-use Rattle.apcu_model.specs.Walk.{is_in_slot, slot_of}
+use Rattle.apcu_model.specs.Walk.{is_in_slot}
 use Rattle.entry_slots.specs.declared.slots.EntrySlots.{EntrySlots}
-use Rattle.entry_slots.specs.Lists.{is_at, has_place, first_place}
+use Rattle.entry_slots.specs.Lists.{is_at}
 use Rattle.entry_slots.specs.Entries.{Entries, chain_of}
 use Rattle.entry_slots.specs.Standing.{IsChain, Stands, IsEntry}
-use Rattle.entry_slots.specs.Links.{link_after, IsLinkTo, IsTarget, HasTarget}
-use Rattle.entry_slots.proofs.Members.{none_in_nil, count-cons, counted, any_there, any_from, Contains-filter}
-use Rattle.entry_slots.proofs.Blocks.{Apart, live_apart, told_slot}
-use Rattle.entry_slots.proofs.Homes.{IsHome, IsRoom, room, home_row, told_at}
-use Rattle.entry_slots.proofs.Chains.{AreHome, home_chain, chain_first, small_first}
-use Rattle.entry_slots.proofs.Changes.{Inner, Change}
+use Rattle.entry_slots.specs.Links.{link_after}
+use Rattle.entry_slots.proofs.Members.{none_in_nil, count-cons, counted}
+use Rattle.entry_slots.proofs.Blocks.{told_slot}
+use Rattle.entry_slots.proofs.Homes.{IsHome, room, told_at}
+use Rattle.entry_slots.proofs.Chains.{AreHome}
+use Rattle.entry_slots.proofs.Changes.{Change}
 use Rattle.entry_slots.proofs.Frames.{SameRow, entry_kept, rows_apart}
 use Rattle.entry_slots.proofs.Storing.{may_note, may_slot}
 use Rattle.entry_slots.proofs.Places.{once, at_itself}

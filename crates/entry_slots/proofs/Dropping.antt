@@ -1,19 +1,19 @@
 -- An unlinked row that becomes a removed one.
-use Rattle.std.proofs.Common.{◌≡◌, ◌≢◌, ◌⊎◌, inl, inr, ℕ, zero, suc, ◌+◌, ◌-◌, ◌<◌, ◌≤◌, Bool, true, false, not, cond, eqb, ◌||◌, List, [], ◌∷◌, ◌++◌, length, slice_index, slice_set, map, refl, sym, ap, ap₂, ◌∙◌, subst, arith}
-use Rattle.std.proofs.lemmas.Bool.{cases_eq, cases_Bool, eq-eqb, eqb-true, ne_eqb}
+use Rattle.std.proofs.Common.{◌≡◌, ◌≢◌, inl, inr, ℕ, ◌+◌, Bool, true, false, cond, ◌||◌, List, [], ◌∷◌, ◌++◌, slice_index, slice_set, map, refl, sym, ap, ap₂, ◌∙◌, subst, arith}
+use Rattle.std.proofs.lemmas.Bool.{cases_eq, eq-eqb, ne_eqb}
 use Rattle.std.proofs.lemmas.List.{length-set, get_or-set_same, get_or-set_other}
-use Rattle.std.specs.List.{Contains, filter, count_by}
+use Rattle.std.specs.List.{Contains, count_by}
 use Rattle.seg_words.specs.declared.extents.Extent.{Extent}
-use Rattle.seg_words.specs.Windows.{Aside, is_named}
+use Rattle.seg_words.specs.Windows.{Aside}
 use Rattle.apcu_model.specs.Cache.{Row, extent_of}
 use Rattle.apcu_model.specs.Walk.{is_in_slot}
 use Rattle.entry_slots.specs.declared.slots.EntrySlots.{EntrySlots}
-use Rattle.entry_slots.specs.Lists.{HaveSame, is_at, has_place, only_at, without_place}
-use Rattle.entry_slots.specs.Entries.{Entries, chain_of, blocks_of, removed_at}
+use Rattle.entry_slots.specs.Lists.{is_at, has_place, only_at, without_place}
+use Rattle.entry_slots.specs.Entries.{Entries, chain_of, removed_at}
 use Rattle.entry_slots.specs.Standing.{IsChain, IsEntry, Stands}
 use Rattle.entry_slots.proofs.Members.{Contains-filter, count-cons}
 use Rattle.entry_slots.proofs.Homes.{IsHome, room, home_row, home_removed, home_unlinked}
-use Rattle.entry_slots.proofs.Changes.{Inner, Change, change_ready, change_live}
+use Rattle.entry_slots.proofs.Changes.{Change, change_ready, change_live}
 use Rattle.entry_slots.proofs.Frames.{SameRow, SameBut, entry_kept, entry_noted, chain_kept, rows_apart}
 use Rattle.entry_slots.proofs.Rewriting.{map_there}
 use Rattle.entry_slots.proofs.Storing.{may_note}

@@ -1,24 +1,22 @@
 -- What is kept of rows where words change elsewhere.
-use Rattle.std.proofs.Common.{◌≡◌, ◌≢◌, ◌⊎◌, inl, inr, ℕ, zero, suc, ◌+◌, ◌-◌, ◌/◌, ◌%◌, ◌<◌, ◌≤◌, Bool, true, false, cond, List, [], ◌∷◌, ◌++◌, length, slice_index, map, take, drop, get_or, refl, sym, ap, ap₂, ◌∙◌, subst, arith}
+use Rattle.std.proofs.Common.{◌≡◌, ◌≢◌, ◌⊎◌, inl, inr, ℕ, ◌+◌, ◌/◌, ◌%◌, ◌<◌, ◌≤◌, List, [], ◌∷◌, length, slice_index, take, drop, sym, ap, ◌∙◌, subst, arith}
 use Rattle.std.proofs.lemmas.List.{ext_get_or, get_or-take, get_or-drop, length-take, length-drop}
-use Rattle.std.proofs.lemmas.Bool.{cases_eq}
-use Rattle.std.specs.List.{Contains, filter}
+use Rattle.std.specs.List.{Contains}
 use Rattle.seg_words.specs.declared.extents.Extent.{Extent}
 use Rattle.seg_words.specs.Windows.{Aside}
 use Rattle.seg_words.specs.Blocks.{image_place}
-use Rattle.php_graph.specs.Size.{words_in, image_length, block_size}
+use Rattle.php_graph.specs.Size.{words_in, image_length}
 use Rattle.value_image.specs.Packed.{words_of}
 use Rattle.value_image.specs.Rows.{StandsAt}
 use Rattle.value_image.specs.Image.{IsImageOf, image_of}
 use Rattle.value_image.proofs.Packing.{length-words_of}
 use Rattle.value_image.proofs.Images.{length-image_of, image-stands, stands-image}
-use Rattle.sma_blocks.proofs.Lives.{Contains-cases, Contains-first, Contains-later}
+use Rattle.sma_blocks.proofs.Lives.{Contains-first, Contains-later}
 use Rattle.apcu_model.specs.Cache.{Row, extent_of}
 use Rattle.entry_slots.specs.declared.slots.EntrySlots.{EntrySlots}
 use Rattle.entry_slots.specs.Standing.{IsChain, IsEntry}
-use Rattle.entry_slots.proofs.Members.{none_in_nil}
 use Rattle.entry_slots.proofs.Blocks.{Apart, live_apart}
-use Rattle.entry_slots.proofs.Homes.{IsHome, IsRoom, room}
+use Rattle.entry_slots.proofs.Homes.{IsHome}
 
 -- a run that stands in both rows of words
 pub run_same : (ws ws' : List ℕ) (at : ℕ) (run : List ℕ) → length ws' ≡ length ws → ((i : ℕ) → at ≤ i → i < at + length run → slice_index ws' i ≡ slice_index ws i) → StandsAt ws at run → StandsAt ws' at run

@@ -1,17 +1,14 @@
 -- What the first words of a block say.
-use Rattle.std.proofs.Common.{◌≡◌, ◌≢◌, ℕ, ◌+◌, ◌-◌, ◌/◌, ◌%◌, ◌<◌, ◌≤◌, ◌^◌, List, length, slice_index, refl, sym, ap, ◌∙◌, subst, arith}
+use Rattle.std.proofs.Common.{◌≡◌, ℕ, ◌+◌, ◌/◌, ◌<◌, ◌^◌, List, length, slice_index, sym, ap, ◌∙◌, subst, arith}
 use Rattle.seg_words.specs.Windows.{Aside}
-use Rattle.seg_words.specs.Blocks.{IsTold, image_place}
+use Rattle.seg_words.specs.Blocks.{image_place}
 use Rattle.php_graph.specs.Size.{words_in, image_length}
-use Rattle.value_image.specs.Packed.{words_of}
 use Rattle.value_image.specs.Image.{IsImageOf}
 use Rattle.value_image.proofs.Packing.{length-words_of}
 use Rattle.apcu_model.specs.Cache.{Row}
-use Rattle.entry_slots.specs.declared.head.Head.{Head}
 use Rattle.entry_slots.specs.declared.slots.EntrySlots.{EntrySlots}
-use Rattle.entry_slots.specs.Standing.{IsEntry}
 use Rattle.entry_slots.specs.Reading.{IsHeadOf}
-use Rattle.entry_slots.proofs.Homes.{IsHome, IsRoom, room}
+use Rattle.entry_slots.proofs.Homes.{IsHome, room}
 
 -- the numbers that are kept in 32 bits
 pub record AreShort (first : List ℕ) (at : ℕ) : Type 0 where

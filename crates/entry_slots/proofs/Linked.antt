@@ -1,24 +1,23 @@
 -- The entries after a new one was linked.
-use Rattle.std.proofs.Common.{◌≡◌, ◌≢◌, ◌⊎◌, inl, inr, ℕ, zero, suc, ◌+◌, ◌-◌, ◌%◌, ◌<◌, ◌≤◌, Bool, true, false, not, cond, eqb, ◌&&◌, List, [], ◌∷◌, ◌++◌, length, slice_index, slice_set, map, refl, sym, ap, ap₂, ◌∙◌, subst, arith}
-use Rattle.std.proofs.lemmas.Bool.{cases_eq, eq-eqb, eqb-true}
+use Rattle.std.proofs.Common.{◌≡◌, ◌≢◌, inl, inr, ℕ, ◌+◌, ◌<◌, Bool, not, eqb, List, ◌∷◌, ◌++◌, length, slice_index, slice_set, refl, sym, ap, ◌∙◌, subst, arith}
+use Rattle.std.proofs.lemmas.Bool.{cases_eq, eq-eqb}
 use Rattle.std.proofs.lemmas.List.Elements.{Contains-append_cases}
 use Rattle.std.specs.List.{Contains, filter, count_by}
 use Rattle.seg_words.specs.declared.extents.Extent.{Extent}
-use Rattle.seg_words.specs.Windows.{Aside, is_named}
-use Rattle.sma_blocks.specs.Live.{live_blocks}
-use Rattle.sma_blocks.proofs.Lives.{Contains-cases, Contains-first}
+use Rattle.seg_words.specs.Windows.{Aside}
+use Rattle.sma_blocks.proofs.Lives.{Contains-cases}
 use Rattle.php_graph.specs.declared.kind.Kind.{Kind}
 use Rattle.apcu_model.specs.Cache.{Row, has_key, extent_of, risen}
 use Rattle.apcu_model.specs.Change.{with_row}
 use Rattle.apcu_model.specs.Walk.{is_in_slot, slot_of}
 use Rattle.apcu_model.proofs.Apart.{are_apart-with_row}
 use Rattle.entry_slots.specs.declared.slots.EntrySlots.{EntrySlots}
-use Rattle.entry_slots.specs.Lists.{HaveSame, is_at}
+use Rattle.entry_slots.specs.Lists.{is_at}
 use Rattle.entry_slots.specs.Entries.{Entries, chain_of, blocks_of, fresh_row, linked}
 use Rattle.entry_slots.specs.Standing.{IsChain, IsEntry, Stands}
 use Rattle.entry_slots.specs.Links.{link_after}
 use Rattle.entry_slots.proofs.Members.{count-append, counted, Contains-filter}
-use Rattle.entry_slots.proofs.Homes.{IsHome, room, home_row, home_removed, home_unlinked}
+use Rattle.entry_slots.proofs.Homes.{IsHome, home_row, home_removed, home_unlinked}
 use Rattle.entry_slots.proofs.Changes.{change_ready, change_live}
 use Rattle.entry_slots.proofs.Places.{once, at_place, at_itself, count_blocks}
 use Rattle.entry_slots.proofs.Cutting.{Spot, set_change, set_entry}

@@ -1,33 +1,18 @@
 -- A new row among the rows, and in its chain.
-use Rattle.std.proofs.Common.{◌≡◌, ◌≢◌, ◌⊎◌, inl, inr, ℕ, zero, suc, ◌+◌, ◌-◌, ◌%◌, ◌<◌, ◌≤◌, Bool, true, false, not, cond, eqb, ◌&&◌, List, [], ◌∷◌, ◌++◌, length, slice_index, slice_set, map, Option, Some, None, refl, sym, ap, ap₂, ◌∙◌, subst, arith, length-append}
-use Rattle.std.proofs.lemmas.Bool.{cases_Bool, cases_eq, and_parts, not-true, eqb-true, eq-eqb, ne_eqb, false≢true, or_cases, or_parts, or_from, or_left, or_right, false_from_ne_true, not_from_true, not_from_false}
-use Rattle.std.proofs.lemmas.List.{append-nil, length-map}
+use Rattle.std.proofs.Common.{◌≡◌, ◌≢◌, ◌⊎◌, inl, inr, ℕ, ◌+◌, ◌≤◌, Bool, true, false, not, cond, eqb, List, [], ◌∷◌, ◌++◌, map, refl, sym, ap, ◌∙◌, subst, arith}
+use Rattle.std.proofs.lemmas.Bool.{cases_Bool, and_parts, not-true, eqb-true, eq-eqb, ne_eqb, false≢true, or_cases, or_parts, or_from, false_from_ne_true}
+use Rattle.std.proofs.lemmas.List.{append-nil}
 use Rattle.std.proofs.lemmas.List.Folds.{list_any-append}
-use Rattle.std.proofs.lemmas.List.Elements.{Contains-append_cases, Contains-append_left, Contains-append_right, filter-append}
-use Rattle.std.specs.List.{Contains, filter, count_by, list_any, find}
-use Rattle.seg_words.specs.declared.extents.Extent.{Extent}
-use Rattle.seg_words.specs.Windows.{Aside, is_named}
-use Rattle.sma_blocks.specs.Live.{live_blocks}
+use Rattle.std.proofs.lemmas.List.Elements.{Contains-append_cases, filter-append}
+use Rattle.std.specs.List.{Contains, filter, count_by, list_any}
 use Rattle.sma_blocks.proofs.Lives.{Contains-cases, Contains-first, Contains-later}
-use Rattle.php_graph.specs.declared.kind.Kind.{Kind}
-use Rattle.apcu_model.specs.Cache.{Row, has_key, extent_of, risen}
+use Rattle.apcu_model.specs.Cache.{Row, has_key}
 use Rattle.apcu_model.specs.Change.{with_row}
 use Rattle.apcu_model.specs.Rows.{are_apart}
 use Rattle.apcu_model.specs.Walk.{is_in_slot, slot_of}
-use Rattle.apcu_model.proofs.Apart.{key_is, key_other, are_apart-filter, are_apart-with_row, replaced, replaced_key, replaced_none}
-use Rattle.entry_slots.specs.declared.slots.EntrySlots.{EntrySlots}
-use Rattle.entry_slots.specs.Lists.{HaveSame, is_at}
-use Rattle.entry_slots.specs.Entries.{Entries, chain_of, blocks_of, fresh_row, linked}
-use Rattle.entry_slots.specs.Standing.{IsChain, IsEntry, Stands}
-use Rattle.entry_slots.specs.Links.{link_after}
-use Rattle.entry_slots.proofs.Members.{none_in_nil, count-cons, count-append, counted, Contains-filter}
-use Rattle.entry_slots.proofs.Homes.{IsHome, room, home_row, home_removed, home_unlinked}
-use Rattle.entry_slots.proofs.Changes.{change_ready, change_live}
-use Rattle.entry_slots.proofs.Frames.{chain_kept, entry_kept}
-use Rattle.entry_slots.proofs.Places.{once, at_place, at_itself, count_blocks}
-use Rattle.entry_slots.proofs.Cutting.{AreDistinct, Spot, set_change, set_row, set_entry, set_link}
-use Rattle.entry_slots.proofs.Rejoining.{in_back, cut_spot, not_word, back_other, rejoined, other_chain, removed_kept}
-use Rattle.entry_slots.proofs.Written.{taken_live}
+use Rattle.apcu_model.proofs.Apart.{key_is, key_other, are_apart-filter, replaced, replaced_key, replaced_none}
+use Rattle.entry_slots.specs.Entries.{Entries, chain_of}
+use Rattle.entry_slots.proofs.Members.{none_in_nil, count-cons, count-append, counted}
 
 -- ---- lists
 

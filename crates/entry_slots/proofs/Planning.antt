@@ -1,14 +1,13 @@
 -- Linking a new entry, from what the caller knows.
-use Rattle.std.proofs.Common.{◌≡◌, ◌≢◌, ◌⊎◌, inl, inr, ℕ, zero, suc, ◌+◌, ◌-◌, ◌/◌, ◌%◌, ◌<◌, ◌≤◌, ◌^◌, Bool, true, false, not, cond, eqb, ◌&&◌, List, [], ◌∷◌, ◌++◌, length, slice_index, slice_set, map, Option, Some, None, refl, sym, ap, ap₂, ◌∙◌, subst, arith, length-append}
-use Rattle.std.proofs.lemmas.Bool.{cases_eq, cases_Bool, eq-eqb, eqb-true, or_from, false≢true, ne_eqb}
+use Rattle.std.proofs.Common.{◌≡◌, ◌≢◌, ◌⊎◌, inl, inr, ℕ, ◌+◌, ◌%◌, ◌<◌, ◌≤◌, ◌^◌, Bool, true, false, cond, eqb, List, [], ◌∷◌, ◌++◌, length, slice_index, slice_set, Some, None, refl, sym, ap, ◌∙◌, subst, arith, length-append}
+use Rattle.std.proofs.lemmas.Bool.{cases_Bool, eq-eqb, or_from, ne_eqb}
 use Rattle.std.proofs.lemmas.List.Elements.{Contains-append_right}
 use Rattle.std.proofs.lemmas.List.{length-map, append-nil}
-use Rattle.std.specs.List.{Contains, filter, count_by, find, list_any}
+use Rattle.std.specs.List.{Contains, find, list_any}
 use Rattle.seg_words.specs.declared.extents.Extent.{Extent}
-use Rattle.seg_words.specs.Windows.{Aside, is_named}
-use Rattle.seg_words.specs.Blocks.{MayStore}
+use Rattle.seg_words.specs.Windows.{Aside}
 use Rattle.sma_blocks.specs.Pieces.{Piece, pieces, Fill}
-use Rattle.sma_blocks.specs.Live.{lives, live_blocks}
+use Rattle.sma_blocks.specs.Live.{lives}
 use Rattle.sma_blocks.proofs.Lives.{extent_of, Contains-cases, Contains-first, Contains-later}
 use Rattle.php_graph.specs.declared.kind.Kind.{Kind}
 use Rattle.php_graph.specs.Graph.{IsGraph}
@@ -30,9 +29,9 @@ use Rattle.entry_slots.specs.Entries.{Entries, chain_of, fresh_row, linked, foun
 use Rattle.entry_slots.specs.Standing.{IsChain, IsEntry, Stands}
 use Rattle.entry_slots.specs.Links.{link_after, IsLinkTo, IsTarget}
 use Rattle.entry_slots.specs.Written.{first_words, entry_words}
-use Rattle.entry_slots.proofs.Members.{any_from, Contains-filter, Contains-kept, none_in_nil}
+use Rattle.entry_slots.proofs.Members.{any_from, Contains-kept, none_in_nil}
 use Rattle.entry_slots.proofs.Blocks.{live_bounds}
-use Rattle.entry_slots.proofs.Homes.{IsHome, room, home_row}
+use Rattle.entry_slots.proofs.Homes.{room, home_row}
 use Rattle.entry_slots.proofs.Chains.{home_chain}
 use Rattle.entry_slots.proofs.Changes.{OnlyIn}
 use Rattle.entry_slots.proofs.Cutting.{AreDistinct, chain_distinct, chain_rest}

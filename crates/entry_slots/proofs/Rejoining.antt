@@ -1,11 +1,11 @@
 -- What a chain and the others are after one of its words is stored.
-use Rattle.std.proofs.Common.{◌≡◌, ◌≢◌, ◌⊎◌, inl, inr, ℕ, zero, suc, ◌+◌, ◌-◌, ◌<◌, ◌≤◌, Bool, true, false, not, cond, eqb, List, [], ◌∷◌, ◌++◌, length, slice_index, slice_set, map, refl, sym, ap, ◌∙◌, subst, arith}
-use Rattle.std.proofs.lemmas.Bool.{cases_Bool, cases_eq, eqb-true, false≢true, ne_eqb}
+use Rattle.std.proofs.Common.{◌≡◌, ◌≢◌, ◌⊎◌, inl, inr, ℕ, ◌+◌, ◌<◌, ◌≤◌, Bool, true, false, List, [], ◌∷◌, ◌++◌, slice_index, slice_set, refl, sym, ◌∙◌, subst, arith}
+use Rattle.std.proofs.lemmas.Bool.{cases_Bool, eqb-true, ne_eqb}
 use Rattle.std.proofs.lemmas.List.{get_or-set_same, get_or-set_other}
 use Rattle.std.proofs.lemmas.List.Elements.{Contains-append_left, Contains-append_right}
 use Rattle.std.specs.List.{Contains, filter, count_by}
 use Rattle.seg_words.specs.Windows.{Aside}
-use Rattle.sma_blocks.proofs.Lives.{Contains-cases, Contains-first, Contains-later}
+use Rattle.sma_blocks.proofs.Lives.{Contains-first, Contains-later}
 use Rattle.apcu_model.specs.Cache.{Row}
 use Rattle.apcu_model.specs.Walk.{is_in_slot, slot_of}
 use Rattle.entry_slots.specs.declared.slots.EntrySlots.{EntrySlots}
@@ -14,8 +14,8 @@ use Rattle.entry_slots.specs.Entries.{Entries, chain_of}
 use Rattle.entry_slots.specs.Standing.{IsChain, Stands}
 use Rattle.entry_slots.specs.Links.{link_after}
 use Rattle.entry_slots.proofs.Members.{count-cons, counted, Contains-filter}
-use Rattle.entry_slots.proofs.Homes.{IsHome, room, home_row, home_removed}
-use Rattle.entry_slots.proofs.Chains.{AreHome, home_chain}
+use Rattle.entry_slots.proofs.Homes.{IsHome, room, home_removed}
+use Rattle.entry_slots.proofs.Chains.{home_chain}
 use Rattle.entry_slots.proofs.Frames.{chain_kept}
 use Rattle.entry_slots.proofs.Places.{at_itself, rows_removed}
 use Rattle.entry_slots.proofs.Cutting.{AreDistinct, chain_distinct, distinct_front, distinct_both, rows_once, Spot, spot_after, spot_word, relink, set_link}

@@ -1,12 +1,11 @@
 -- Rows that go from one list to another, and blocks that are given back.
-use Rattle.std.proofs.Common.{◌≡◌, ◌≢◌, ◌⊎◌, inl, inr, ℕ, zero, suc, ◌+◌, ◌-◌, ◌<◌, ◌≤◌, ◌^◌, Bool, true, false, not, cond, eqb, List, [], ◌∷◌, ◌++◌, length, slice_index, slice_set, map, refl, sym, ap, ap₂, ◌∙◌, subst, arith, length-append}
+use Rattle.std.proofs.Common.{◌≡◌, ◌≢◌, ◌⊎◌, inl, inr, ℕ, ◌+◌, ◌<◌, ◌≤◌, ◌^◌, Bool, true, false, not, cond, eqb, List, [], ◌∷◌, ◌++◌, length, slice_index, slice_set, refl, sym, ap, ap₂, ◌∙◌, subst, arith}
 use Rattle.std.proofs.lemmas.Bool.{cases_eq, cases_Bool, eq-eqb, eqb-true, ne_eqb, not_from_false, not-true, false_from_ne_true, false≢true}
-use Rattle.std.proofs.lemmas.List.{append-nil, length-set, get_or-set_same, get_or-set_other, length-map}
+use Rattle.std.proofs.lemmas.List.{append-nil}
 use Rattle.std.proofs.lemmas.List.Elements.{Contains-append_cases, Contains-append_left, Contains-append_right, filter-append}
-use Rattle.std.specs.List.{Contains, filter, count_by, list_any}
+use Rattle.std.specs.List.{Contains, filter, count_by}
 use Rattle.seg_words.specs.declared.extents.Extent.{Extent}
-use Rattle.seg_words.specs.Windows.{Aside, is_named}
-use Rattle.seg_words.specs.Blocks.{MayStore}
+use Rattle.seg_words.specs.Windows.{Aside}
 use Rattle.sma_blocks.specs.Live.{live_blocks, without_block, SameBlocks}
 use Rattle.sma_blocks.specs.Pieces.{pieces}
 use Rattle.sma_blocks.specs.Ready.{IsReady}
@@ -14,18 +13,17 @@ use Rattle.sma_blocks.proofs.Lives.{Contains-cases, Contains-first, Contains-lat
 use Rattle.apcu_model.specs.Cache.{Row, extent_of}
 use Rattle.apcu_model.specs.Walk.{is_in_slot}
 use Rattle.entry_slots.specs.declared.slots.EntrySlots.{EntrySlots}
-use Rattle.entry_slots.specs.Lists.{HaveSame, is_at, has_place, only_at, without_place}
-use Rattle.entry_slots.specs.Entries.{Entries, chain_of, blocks_of, moved_at, off_at}
+use Rattle.entry_slots.specs.Lists.{is_at, has_place, only_at, without_place}
+use Rattle.entry_slots.specs.Entries.{Entries, chain_of, moved_at, off_at}
 use Rattle.entry_slots.specs.Standing.{IsChain, IsEntry, Stands}
-use Rattle.entry_slots.specs.Links.{link_after, IsRemovedLink}
+use Rattle.entry_slots.specs.Links.{IsRemovedLink}
 use Rattle.entry_slots.proofs.Members.{any_there, any_from, count-append, count-cons, counted, none_in_nil, Contains-filter, Contains-kept}
 use Rattle.entry_slots.proofs.Homes.{IsHome, room, home_row, home_removed, home_unlinked}
-use Rattle.entry_slots.proofs.Changes.{Inner, Change, change_ready, change_live}
-use Rattle.entry_slots.proofs.Frames.{SameRow, SameBut, entry_kept, entry_noted, chain_kept, rows_apart}
-use Rattle.entry_slots.proofs.Storing.{may_note}
+use Rattle.entry_slots.proofs.Changes.{Change, change_ready, change_live}
+use Rattle.entry_slots.proofs.Frames.{entry_kept, chain_kept}
 use Rattle.entry_slots.proofs.Chains.{chain_first, small_first}
 use Rattle.entry_slots.proofs.Taking.{row_same, link_same}
-use Rattle.entry_slots.proofs.Places.{once, at_place, at_itself, count_blocks, lives_once, rows_removed, rows_unlinked, removed_unlinked}
+use Rattle.entry_slots.proofs.Places.{once, at_place, at_itself, count_blocks, lives_once, rows_unlinked, removed_unlinked}
 use Rattle.entry_slots.proofs.Cutting.{AreDistinct, distinct_both, Spot, set_change, set_entry, set_link}
 use Rattle.entry_slots.proofs.Linking.{count_split, only_passes, filter_none}
 use Rattle.entry_slots.proofs.Unlinking.{without_none, without_middle}

@@ -1,29 +1,25 @@
 -- The list of removed rows.
-use Rattle.std.proofs.Common.{◌≡◌, ◌≢◌, ◌⊎◌, inl, inr, ℕ, zero, suc, ◌+◌, ◌-◌, ◌<◌, ◌≤◌, ◌^◌, Bool, true, false, not, cond, eqb, ◌||◌, List, [], ◌∷◌, ◌++◌, length, slice_index, slice_set, map, refl, sym, ap, ap₂, ◌∙◌, subst, arith, length-append}
-use Rattle.std.proofs.lemmas.Bool.{cases_eq, cases_Bool, eq-eqb, eqb-true, ne_eqb, or_from, false≢true}
+use Rattle.std.proofs.Common.{◌≡◌, ◌≢◌, ◌⊎◌, inl, inr, ℕ, ◌+◌, ◌<◌, ◌≤◌, ◌^◌, false, List, [], ◌∷◌, ◌++◌, length, slice_index, slice_set, refl, sym, ap, ◌∙◌, subst, arith, length-append}
+use Rattle.std.proofs.lemmas.Bool.{ne_eqb, or_from}
 use Rattle.std.proofs.lemmas.List.{append_assoc, append-nil, get_or-set_same, get_or-set_other}
 use Rattle.std.proofs.lemmas.List.Folds.{list_any-append}
-use Rattle.std.proofs.lemmas.List.Elements.{Contains-append_cases, Contains-append_left, Contains-append_right}
-use Rattle.std.specs.List.{Contains, filter, count_by, list_any}
-use Rattle.seg_words.specs.declared.extents.Extent.{Extent}
+use Rattle.std.proofs.lemmas.List.Elements.{Contains-append_left, Contains-append_right}
+use Rattle.std.specs.List.{Contains}
 use Rattle.seg_words.specs.Windows.{Aside}
-use Rattle.sma_blocks.proofs.Lives.{Contains-cases, Contains-first, Contains-later}
-use Rattle.apcu_model.specs.Cache.{Row, extent_of}
+use Rattle.sma_blocks.proofs.Lives.{Contains-first, Contains-later}
+use Rattle.apcu_model.specs.Cache.{Row}
 use Rattle.apcu_model.specs.Walk.{is_in_slot}
 use Rattle.entry_slots.specs.declared.slots.EntrySlots.{EntrySlots}
-use Rattle.entry_slots.specs.Lists.{HaveSame, is_at, has_place, only_at, without_place, first_place}
-use Rattle.entry_slots.specs.Entries.{Entries, chain_of, blocks_of}
-use Rattle.entry_slots.specs.Standing.{IsChain, IsEntry, Stands}
+use Rattle.entry_slots.specs.Lists.{is_at, has_place}
+use Rattle.entry_slots.specs.Entries.{Entries, chain_of}
+use Rattle.entry_slots.specs.Standing.{IsChain, Stands}
 use Rattle.entry_slots.specs.Links.{link_after, IsRemovedLink}
-use Rattle.entry_slots.proofs.Members.{any_there, any_from, count-append, counted, none_in_nil, Contains-filter}
-use Rattle.entry_slots.proofs.Homes.{IsHome, room, home_row, home_removed, home_unlinked}
-use Rattle.entry_slots.proofs.Chains.{AreHome, home_chain}
-use Rattle.entry_slots.proofs.Changes.{change_ready, change_live}
+use Rattle.entry_slots.proofs.Members.{Contains-filter}
+use Rattle.entry_slots.proofs.Homes.{room, home_removed}
+use Rattle.entry_slots.proofs.Chains.{AreHome}
 use Rattle.entry_slots.proofs.Frames.{chain_kept}
-use Rattle.entry_slots.proofs.Places.{once, at_itself, count_blocks, rows_removed, removed_unlinked}
-use Rattle.entry_slots.proofs.Cutting.{AreDistinct, distinct_counted, distinct_front, distinct_both, Spot, spot_after, spot_word, relink, set_change, set_entry, set_link}
-use Rattle.entry_slots.proofs.Linking.{count_split}
-use Rattle.entry_slots.proofs.Unlinking.{without_none, without_middle}
+use Rattle.entry_slots.proofs.Places.{once, rows_removed}
+use Rattle.entry_slots.proofs.Cutting.{AreDistinct, distinct_counted, distinct_front, Spot, spot_word, relink, set_link}
 
 pub removed_distinct : {e : EntrySlots} {ws : List ℕ} {aside : Aside} {s : Entries} → Stands e ws aside s → AreDistinct s.removed
 removed_distinct {s = s} h = distinct_counted s.removed (λ x. omega (arith, once h x))

@@ -1,23 +1,20 @@
 -- What is noted of one row changes, and its value may.
-use Rattle.std.proofs.Common.{◌≡◌, ◌≢◌, ◌⊎◌, inl, inr, ℕ, zero, suc, ◌+◌, ◌-◌, ◌/◌, ◌%◌, ◌<◌, ◌≤◌, Bool, true, false, cond, eqb, List, [], ◌∷◌, ◌++◌, length, slice_index, map, refl, sym, ap, ap₂, ◌∙◌, subst, arith}
+use Rattle.std.proofs.Common.{◌≡◌, ◌≢◌, inl, inr, ℕ, ◌+◌, eqb, List, [], ◌∷◌, ◌++◌, slice_index, map, refl, sym, ap, ap₂, ◌∙◌, subst, arith}
 use Rattle.std.proofs.lemmas.List.{length-map}
 use Rattle.std.proofs.lemmas.Bool.{cases_eq, cases_lt, cases_Bool}
 use Rattle.std.specs.List.{Contains, filter, count_by}
 use Rattle.seg_words.specs.declared.extents.Extent.{Extent}
-use Rattle.seg_words.specs.Windows.{Aside, is_named}
-use Rattle.sma_blocks.specs.Live.{live_blocks}
+use Rattle.seg_words.specs.Windows.{Aside}
 use Rattle.sma_blocks.proofs.Lives.{Contains-cases, Contains-first, Contains-later}
 use Rattle.apcu_model.specs.Cache.{Row, extent_of}
 use Rattle.apcu_model.specs.Walk.{is_in_slot, slot_of}
-use Rattle.apcu_model.specs.Rows.{are_apart}
 use Rattle.apcu_model.proofs.Apart.{are_apart-map}
 use Rattle.entry_slots.specs.declared.slots.EntrySlots.{EntrySlots}
-use Rattle.entry_slots.specs.Lists.{HaveSame}
-use Rattle.entry_slots.specs.Entries.{Entries, chain_of, blocks_of}
+use Rattle.entry_slots.specs.Entries.{Entries, chain_of}
 use Rattle.entry_slots.specs.Standing.{IsChain, IsEntry, Stands}
 use Rattle.entry_slots.proofs.Members.{none_in_nil, Contains-filter}
-use Rattle.entry_slots.proofs.Homes.{IsHome, IsRoom, room, home_row, home_removed, home_unlinked}
-use Rattle.entry_slots.proofs.Changes.{Inner, Change, OnlyIn, change_ready, change_live, named_same}
+use Rattle.entry_slots.proofs.Homes.{IsHome, room, home_row, home_removed, home_unlinked}
+use Rattle.entry_slots.proofs.Changes.{Change, OnlyIn, change_ready, change_live, named_same}
 use Rattle.entry_slots.proofs.Frames.{SameRow, entry_kept, chain_kept, rows_apart}
 
 -- key, place and size stay

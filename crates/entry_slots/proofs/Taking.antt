@@ -1,24 +1,23 @@
 -- A block that was taken.
-use Rattle.std.proofs.Common.{◌≡◌, ◌≢◌, ◌⊎◌, inl, inr, ℕ, zero, suc, ◌+◌, ◌-◌, ◌%◌, ◌<◌, ◌≤◌, Bool, true, false, cond, List, [], ◌∷◌, ◌++◌, length, slice_index, map, Option, Some, None, refl, sym, ap, ◌∙◌, subst, arith}
+use Rattle.std.proofs.Common.{◌≡◌, inl, inr, ℕ, ◌+◌, ◌≤◌, false, List, slice_index, Option, Some, None, sym, ap, ◌∙◌, subst, arith}
 use Rattle.std.proofs.lemmas.Bool.{false≢true, false_from_ne_true}
-use Rattle.std.specs.List.{Contains, filter, count_by}
+use Rattle.std.specs.List.{Contains, count_by}
 use Rattle.seg_words.specs.declared.extents.Extent.{Extent}
 use Rattle.std.specs.Option.{IfSome}
 use Rattle.sma_blocks.specs.declared.sma.Sma.{Sma}
 use Rattle.seg_words.specs.Windows.{Aside, is_named}
-use Rattle.seg_words.specs.Gaps.{is_free, first_fit}
+use Rattle.seg_words.specs.Gaps.{first_fit}
 use Rattle.sma_blocks.specs.Live.{live_blocks, with_block, SameBlocks}
 use Rattle.sma_blocks.specs.Ready.{IsReady}
 use Rattle.sma_blocks.proofs.Lives.{Contains-cases}
 use Rattle.apcu_model.specs.Cache.{Row, extent_of}
 use Rattle.apcu_model.specs.Walk.{is_in_slot}
 use Rattle.entry_slots.specs.declared.slots.EntrySlots.{EntrySlots}
-use Rattle.entry_slots.specs.Lists.{HaveSame}
 use Rattle.entry_slots.specs.Entries.{Entries, chain_of, blocks_of, with_taken}
 use Rattle.entry_slots.specs.Standing.{Stands, IsChain, IsEntry}
 use Rattle.entry_slots.proofs.Members.{Contains-filter, count-cons}
 use Rattle.entry_slots.proofs.Blocks.{live_bounds}
-use Rattle.entry_slots.proofs.Homes.{IsHome, IsRoom, room, home_row, home_removed, home_unlinked}
+use Rattle.entry_slots.proofs.Homes.{IsHome, room, home_row, home_removed, home_unlinked}
 use Rattle.entry_slots.proofs.Frames.{SameRow, entry_kept, chain_kept}
 use Rattle.entry_slots.proofs.Fitting.{same_fit, fit_free, not_free, count-with_block}
 use Rattle.entry_slots.proofs.Places.{count_blocks}

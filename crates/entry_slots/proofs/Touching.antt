@@ -1,8 +1,7 @@
 -- An entry that was used.
-use Rattle.std.proofs.Common.{◌≡◌, ◌≢◌, ◌⊎◌, inl, inr, ℕ, zero, suc, ◌+◌, ◌-◌, ◌/◌, ◌<◌, ◌≤◌, ◌^◌, Bool, true, false, cond, eqb, List, [], ◌∷◌, ◌++◌, length, slice_index, slice_set, min, refl, sym, ap, ◌∙◌, subst, arith}
-use Rattle.std.proofs.lemmas.Bool.{eqb-true, eq-eqb, ne_eqb, cases_Bool}
+use Rattle.std.proofs.Common.{◌≡◌, ◌≢◌, ℕ, ◌+◌, ◌≤◌, true, false, cond, List, length, slice_index, slice_set, refl, sym, ap, ◌∙◌, subst, arith}
+use Rattle.std.proofs.lemmas.Bool.{eqb-true, eq-eqb, ne_eqb}
 use Rattle.std.proofs.lemmas.List.{length-set, get_or-set_same, get_or-set_other}
-use Rattle.std.specs.List.{Contains}
 use Rattle.seg_words.specs.Windows.{Aside}
 use Rattle.apcu_model.specs.Cache.{Row, risen}
 use Rattle.apcu_model.specs.Sequential.{touched}
@@ -12,7 +11,7 @@ use Rattle.entry_slots.specs.Entries.{Entries, touched_row, touched_in}
 use Rattle.entry_slots.specs.Standing.{IsEntry, Stands}
 use Rattle.entry_slots.specs.Reading.{HasRowAt}
 use Rattle.entry_slots.proofs.Members.{any_there}
-use Rattle.entry_slots.proofs.Homes.{IsHome, IsRoom, room, home_row}
+use Rattle.entry_slots.proofs.Homes.{IsHome, room, home_row}
 use Rattle.entry_slots.proofs.Changes.{OnlyIn, only_none, only_set}
 use Rattle.entry_slots.proofs.Frames.{SameBut, entry_noted}
 use Rattle.entry_slots.proofs.Rewriting.{Keeps, rewritten}

@@ -1,28 +1,27 @@
 -- A row that leaves its chain.
-use Rattle.std.proofs.Common.{◌≡◌, ◌≢◌, ◌⊎◌, inl, inr, ℕ, zero, suc, ◌+◌, ◌-◌, ◌%◌, ◌<◌, ◌≤◌, Bool, true, false, not, cond, eqb, ◌&&◌, List, [], ◌∷◌, ◌++◌, length, slice_index, slice_set, map, refl, sym, ap, ap₂, ◌∙◌, subst, arith}
-use Rattle.std.proofs.lemmas.Bool.{cases_eq, cases_Bool, eq-eqb, eqb-true, ne_eqb, not_from_false}
-use Rattle.std.proofs.lemmas.List.Elements.{Contains-append_cases, Contains-append_right, filter-append}
+use Rattle.std.proofs.Common.{◌≡◌, ◌≢◌, inl, inr, ℕ, ◌+◌, ◌<◌, Bool, true, false, not, cond, List, [], ◌∷◌, ◌++◌, length, slice_index, slice_set, refl, sym, ap, ap₂, ◌∙◌, subst, arith}
+use Rattle.std.proofs.lemmas.Bool.{cases_eq, eq-eqb, eqb-true, ne_eqb}
+use Rattle.std.proofs.lemmas.List.Elements.{Contains-append_cases, filter-append}
 use Rattle.std.proofs.lemmas.List.Sums.{length-filter}
 use Rattle.std.specs.List.{Contains, filter, count_by}
 use Rattle.seg_words.specs.declared.extents.Extent.{Extent}
 use Rattle.seg_words.specs.Windows.{Aside}
-use Rattle.sma_blocks.proofs.Lives.{Contains-cases, Contains-first, Contains-later}
+use Rattle.sma_blocks.proofs.Lives.{Contains-first, Contains-later}
 use Rattle.apcu_model.specs.Cache.{Row, extent_of}
-use Rattle.apcu_model.specs.Rows.{are_apart}
 use Rattle.apcu_model.specs.Walk.{is_in_slot, slot_of}
 use Rattle.apcu_model.proofs.Apart.{are_apart-filter}
 use Rattle.entry_slots.specs.declared.slots.EntrySlots.{EntrySlots}
-use Rattle.entry_slots.specs.Lists.{HaveSame, is_at, has_place, only_at, without_place}
+use Rattle.entry_slots.specs.Lists.{is_at, has_place, only_at, without_place}
 use Rattle.entry_slots.specs.Entries.{Entries, chain_of, blocks_of, unlinked_at}
-use Rattle.entry_slots.specs.Standing.{IsChain, IsEntry, Stands}
-use Rattle.entry_slots.specs.Links.{link_after, IsLinkTo, IsTarget}
-use Rattle.entry_slots.proofs.Members.{any_there, any_from, count-cons, count-append, counted, none_in_nil, Contains-filter, Contains-kept}
-use Rattle.entry_slots.proofs.Homes.{IsHome, room, home_row, home_removed, home_unlinked}
+use Rattle.entry_slots.specs.Standing.{IsChain, Stands}
+use Rattle.entry_slots.specs.Links.{IsLinkTo}
+use Rattle.entry_slots.proofs.Members.{any_there, any_from, count-cons, count-append, counted, Contains-filter, Contains-kept}
+use Rattle.entry_slots.proofs.Homes.{room, home_row, home_removed, home_unlinked}
 use Rattle.entry_slots.proofs.Chains.{home_chain}
 use Rattle.entry_slots.proofs.Changes.{change_ready, change_live}
-use Rattle.entry_slots.proofs.Places.{once, at_itself, count_blocks}
+use Rattle.entry_slots.proofs.Places.{at_itself, count_blocks}
 use Rattle.entry_slots.proofs.Cutting.{AreDistinct, chain_distinct, distinct_both, rows_once, Spot, set_change, set_entry}
-use Rattle.entry_slots.proofs.Rejoining.{slots_apart, in_back, cut_spot, back_other, rejoined, other_chain, removed_kept}
+use Rattle.entry_slots.proofs.Rejoining.{slots_apart, cut_spot, back_other, rejoined, other_chain, removed_kept}
 use Rattle.entry_slots.proofs.Linking.{count_split}
 
 pub without_none : (at : ℕ) (rows : List Row) → ((q : Row) → Contains rows q → q.place ≢ at) → without_place at rows ≡ rows

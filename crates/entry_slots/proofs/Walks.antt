@@ -1,6 +1,6 @@
 -- How far a walk along a chain has come.
-use Rattle.std.proofs.Common.{◌≡◌, ◌≢◌, ◌⊎◌, inl, inr, ℕ, zero, suc, ◌+◌, ◌%◌, ◌<◌, ◌≤◌, Bool, true, false, cond, eqb, List, [], ◌∷◌, ◌++◌, length, slice_index, Option, Some, None, refl, sym, ap, ◌∙◌, subst, arith, length-append}
-use Rattle.std.proofs.lemmas.Bool.{or_from, or_parts, cases_Bool, false≢true, eq-eqb}
+use Rattle.std.proofs.Common.{◌≡◌, ◌≢◌, inl, inr, ℕ, ◌+◌, ◌<◌, ◌≤◌, Bool, true, false, List, [], ◌∷◌, ◌++◌, length, slice_index, Option, Some, None, refl, sym, ap, ◌∙◌, subst, arith, length-append}
+use Rattle.std.proofs.lemmas.Bool.{or_from, or_parts, cases_Bool, eq-eqb}
 use Rattle.std.specs.List.{list_any, find, filter, Contains}
 use Rattle.std.specs.Option.{option_map, option_or}
 use Rattle.std.proofs.lemmas.List.{append_assoc, append-nil}
@@ -8,17 +8,16 @@ use Rattle.std.proofs.lemmas.List.Folds.{find-append, list_any-append}
 use Rattle.std.proofs.lemmas.List.Elements.{Contains-append_left, Contains-append_right}
 use Rattle.seg_words.specs.Windows.{Aside}
 use Rattle.sma_blocks.proofs.Lives.{Contains-first}
-use Rattle.php_graph.specs.Numbers.{hash_of}
 use Rattle.apcu_model.specs.Cache.{Row, has_key}
 use Rattle.apcu_model.specs.Walk.{is_in_slot, slot_of}
 use Rattle.entry_slots.specs.declared.slots.EntrySlots.{EntrySlots}
-use Rattle.entry_slots.specs.Lists.{is_at, has_place, first_place}
+use Rattle.entry_slots.specs.Lists.{is_at, first_place}
 use Rattle.entry_slots.specs.Reading.{HasEntryAt}
 use Rattle.entry_slots.specs.Entries.{Entries, chain_of}
 use Rattle.entry_slots.specs.Standing.{IsChain, Stands}
 use Rattle.entry_slots.proofs.Members.{Contains-filter, any_from}
-use Rattle.entry_slots.proofs.Homes.{IsHome, room, home_row}
-use Rattle.entry_slots.proofs.Chains.{AreHome, chain_first, home_chain}
+use Rattle.entry_slots.proofs.Homes.{room}
+use Rattle.entry_slots.proofs.Chains.{chain_first, home_chain}
 use Rattle.entry_slots.proofs.KeyWords.{key_of}
 
 -- so many rows of the chain were passed, none with the key, and `at` begins the rest

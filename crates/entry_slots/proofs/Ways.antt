@@ -1,20 +1,19 @@
 -- How far the search for a chain's word has come.
-use Rattle.std.proofs.Common.{◌≡◌, ◌≢◌, ◌⊎◌, inl, inr, ℕ, zero, suc, ◌+◌, ◌-◌, ◌<◌, ◌≤◌, ◌^◌, Bool, true, false, not, cond, eqb, ◌||◌, List, [], ◌∷◌, ◌++◌, length, slice_index, refl, sym, ap, ◌∙◌, subst, arith, length-append}
+use Rattle.std.proofs.Common.{◌≡◌, ◌≢◌, ◌⊎◌, inl, inr, ℕ, ◌+◌, ◌<◌, ◌≤◌, ◌^◌, true, false, List, [], ◌∷◌, ◌++◌, length, slice_index, refl, sym, ap, ◌∙◌, subst, arith, length-append}
 use Rattle.std.proofs.lemmas.Bool.{false≢true, or_from, ne_eqb}
 use Rattle.std.proofs.lemmas.List.{append_assoc, append-nil}
 use Rattle.std.proofs.lemmas.List.Folds.{list_any-append}
 use Rattle.std.proofs.lemmas.List.Elements.{Contains-append_left, Contains-append_right}
-use Rattle.std.specs.List.{Contains, list_any}
+use Rattle.std.specs.List.{Contains}
 use Rattle.seg_words.specs.Windows.{Aside}
 use Rattle.sma_blocks.proofs.Lives.{Contains-first}
 use Rattle.apcu_model.specs.Cache.{Row}
 use Rattle.entry_slots.specs.declared.slots.EntrySlots.{EntrySlots}
-use Rattle.entry_slots.specs.Lists.{is_at, has_place, first_place}
-use Rattle.entry_slots.specs.Entries.{Entries, chain_of}
-use Rattle.entry_slots.specs.Standing.{IsChain, Stands}
-use Rattle.entry_slots.specs.Links.{link_after, IsLinkTo, IsTarget}
-use Rattle.entry_slots.proofs.Homes.{IsHome, room}
-use Rattle.entry_slots.proofs.Chains.{AreHome, home_chain, chain_first, small_first}
+use Rattle.entry_slots.specs.Lists.{is_at, has_place}
+use Rattle.entry_slots.specs.Standing.{IsChain}
+use Rattle.entry_slots.specs.Links.{link_after, IsLinkTo}
+use Rattle.entry_slots.proofs.Homes.{room}
+use Rattle.entry_slots.proofs.Chains.{AreHome}
 use Rattle.entry_slots.proofs.Cutting.{Spot, spot_after}
 
 -- so many rows were passed, none of them at the target, and `link` names what follows

@@ -1,20 +1,19 @@
 -- The block of a new entry, before it is linked.
-use Rattle.std.proofs.Common.{◌≡◌, ◌≢◌, ◌⊎◌, inl, inr, ℕ, zero, suc, ◌+◌, ◌-◌, ◌/◌, ◌%◌, ◌<◌, ◌≤◌, ◌^◌, Bool, true, false, cond, eqb, List, [], ◌∷◌, ◌++◌, length, slice_index, slice_set, get_or, map, refl, sym, ap, ap₂, ◌∙◌, subst, arith, length-append}
-use Rattle.std.proofs.lemmas.Bool.{cases_lt, eqb-true, eq-eqb, false≢true}
-use Rattle.std.proofs.lemmas.List.{length-set, get_or-set_other}
+use Rattle.std.proofs.Common.{◌≡◌, ◌≢◌, ◌⊎◌, inl, inr, ℕ, ◌+◌, ◌/◌, ◌<◌, ◌≤◌, ◌^◌, List, [], ◌∷◌, ◌++◌, length, slice_index, slice_set, map, refl, sym, ap, ◌∙◌, subst, arith, length-append}
+use Rattle.std.proofs.lemmas.Bool.{cases_lt, eq-eqb, false≢true}
+use Rattle.std.proofs.lemmas.List.{get_or-set_other}
 use Rattle.std.proofs.lemmas.List.Elements.{Contains-append_right}
 use Rattle.std.specs.List.{Contains, count_by}
 use Rattle.seg_words.specs.declared.extents.Extent.{Extent}
 use Rattle.seg_words.specs.Windows.{Aside, is_named}
 use Rattle.seg_words.specs.Blocks.{MayStore, image_place}
 use Rattle.sma_blocks.specs.Live.{live_blocks}
-use Rattle.sma_blocks.specs.Ready.{IsReady}
 use Rattle.php_graph.specs.declared.kind.Kind.{Kind}
 use Rattle.php_graph.specs.Graph.{IsGraph}
 use Rattle.php_graph.specs.ByteStrings.{AreBytes}
 use Rattle.php_graph.specs.Size.{words_in, image_length, block_size}
 use Rattle.value_image.specs.Packed.{words_of}
-use Rattle.value_image.specs.Rows.{written, MayWrite, StandsAt}
+use Rattle.value_image.specs.Rows.{written, StandsAt}
 use Rattle.value_image.specs.Image.{IsImageOf, image_of}
 use Rattle.value_image.proofs.Runs.{length-written, stands-written, stands-front, stands-back, stands-at}
 use Rattle.value_image.proofs.Packing.{length-words_of}
@@ -23,14 +22,14 @@ use Rattle.apcu_model.specs.Cache.{Row, extent_of}
 use Rattle.apcu_model.specs.Walk.{is_in_slot}
 use Rattle.entry_slots.specs.declared.slots.EntrySlots.{EntrySlots}
 use Rattle.entry_slots.specs.declared.writing.Note.{Note}
-use Rattle.entry_slots.specs.Lists.{HaveSame, is_at}
+use Rattle.entry_slots.specs.Lists.{is_at}
 use Rattle.entry_slots.specs.Entries.{Entries, chain_of, blocks_of, fresh_row}
 use Rattle.entry_slots.specs.Standing.{IsChain, IsEntry, Stands}
 use Rattle.entry_slots.specs.Written.{first_words, entry_words}
 use Rattle.entry_slots.proofs.Members.{same_there, counted, Contains-filter}
 use Rattle.entry_slots.proofs.Blocks.{Apart, live_apart, live_bounds}
-use Rattle.entry_slots.proofs.Homes.{IsHome, IsRoom, room, home_row, home_removed, home_unlinked}
-use Rattle.entry_slots.proofs.Changes.{Inner, Change, OnlyIn, change_ready, change_live}
+use Rattle.entry_slots.proofs.Homes.{IsHome, room, home_row, home_removed, home_unlinked}
+use Rattle.entry_slots.proofs.Changes.{Change, OnlyIn, change_ready, change_live}
 use Rattle.entry_slots.proofs.Frames.{SameRow, entry_kept, chain_kept}
 use Rattle.entry_slots.proofs.Storing.{may_store_in}
 use Rattle.entry_slots.proofs.Places.{once, at_place, at_itself}

@@ -1,6 +1,6 @@
 -- What entries in hash chains stand for: the rows and removed rows of a cache, and the blocks that are in
 -- no list for a while; and how the calls change them.
-use Rattle.std.specs.Prelude.{ℕ, ◌==◌, ◌&&◌, not, if◌then◌else◌, List, [], ◌∷◌, ◌++◌, length, map, filter, ℤ, Option, Some, None}
+use Rattle.std.specs.Prelude.{ℕ, ◌==◌, not, if◌then◌else◌, List, [], ◌∷◌, ◌++◌, length, map, filter, ℤ, Option, Some, None}
 use Rattle.seg_words.specs.declared.extents.Extent.{Extent}
 use Rattle.php_graph.specs.declared.kind.Kind.{Kind}
 use Rattle.php_graph.specs.declared.kind.Kind.TheVariants as kinds

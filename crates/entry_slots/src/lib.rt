@@ -4,6 +4,7 @@
 mod head;
 mod keys;
 mod reading;
+mod removed;
 mod slots;
 mod writing;
 

@@ -1,7 +1,6 @@
-ghost use Rattle.std.specs.Prelude.{◌≡◌, ◌≢◌, ℕ, ◌+◌, ◌%◌, ◌<◌, ◌≤◌, ◌^◌, true, false, ◌∷◌, ◌++◌, length, slice_index, slice_set, Contains, option_map, find, ◌==◌, if◌then◌else◌, IfSome, IfNone, List, ℤ, Some};
+ghost use Rattle.std.specs.Prelude.{◌≡◌, ◌≢◌, ℕ, ◌+◌, ◌%◌, ◌<◌, ◌≤◌, ◌^◌, true, false, ◌++◌, length, slice_index, Contains, option_map, find, ◌==◌, IfSome, IfNone, List, ℤ, Some};
 ghost use Rattle.seg_words.specs.Windows.{Aside, is_named};
 ghost use Rattle.seg_words.specs.Gaps.{first_fit};
-ghost use Rattle.seg_words.specs.Blocks.{IsTold};
 ghost use Rattle.php_graph.specs.Size.{block_size};
 ghost use Rattle.php_graph.specs.Numbers.{hash_of};
 ghost use Rattle.php_graph.specs.Graph.{kind_at};
@@ -10,11 +9,10 @@ ghost use Rattle.apcu_model.specs.Cache.{Row, has_key};
 ghost use Rattle.apcu_model.specs.Conf.{IsGood};
 ghost use Rattle.apcu_model.specs.Walk.{slot_of};
 ghost use Rattle.entry_slots.specs.Lists.{has_place, first_place, next_place};
-ghost use Rattle.entry_slots.specs.Entries.{Entries, no_entries, chain_of, blocks_of, with_taken, touched_in, with_number, linked, found_place, unlinked_at, removed_at, freed_at, moved_at, off_at};
+ghost use Rattle.entry_slots.specs.Entries.{Entries, no_entries, chain_of, blocks_of, with_taken, touched_in, with_number, linked, found_place, unlinked_at, removed_at, freed_at};
 ghost use Rattle.entry_slots.specs.Standing.{Stands};
-ghost use Rattle.entry_slots.specs.Links.{IsLinkTo, IsTarget, HasTarget, IsRemovedLink};
-ghost use Rattle.entry_slots.specs.Reading.{AreStanding, HasEntryAt, HasRowAt, IsHeadOf, MayLink, MayFollow, HasUnlinkedAt, HasLooseAt, HasIntAt, IsStorable};
-ghost use Rattle.seg_words.specs.declared.extents.Extent.{Extent};
+ghost use Rattle.entry_slots.specs.Links.{IsLinkTo, IsTarget, HasTarget};
+ghost use Rattle.entry_slots.specs.Reading.{AreStanding, HasEntryAt, HasRowAt, IsHeadOf, MayLink, MayFollow, HasUnlinkedAt, HasLooseAt, HasIntAt};
 
 use crate::head::Head;
 use crate::keys::{hash_at, key_word};
@@ -31,9 +29,9 @@ use sma_blocks::Sma;
 /// It keeps what stands beside the words of a segment. No call takes memory.
 #[derive(Debug, Drop)]
 pub struct EntrySlots {
-    sma: Sma,
+    pub(crate) sma: Sma,
     /// The place of the first removed entry, or 0.
-    removed: u32,
+    pub(crate) removed: u32,
     /// The number that the next entry gets.
     next_number: u64,
     /// The number of rows.
@@ -294,75 +292,6 @@ impl EntrySlots {
     {
         self.take_off(seg, at);
         self.sma.give(seg, at);
-    }
-
-    // Puts the unlinked row, which names no other, at the end of the removed ones.
-    fn append<S: Segment>(&mut self, seg: &mut S, at: u32)
-        requires there { HasUnlinkedAt self.old (S.words seg.old) (S.aside seg.old) at }
-        requires alone { slice_index (S.words seg.old) (at + 1) ≡ 0 }
-        ensures moved { (s : Entries) → Stands self.old (S.words seg.old) (S.aside seg.old) s → has_place at s.unlinked ≡ true → Stands self.new (S.words seg.new) (S.aside seg.new) (moved_at at s) }
-        ensures aside { S.aside seg.new ≡ S.aside seg.old }
-        ensures rest { S.rest seg.new ≡ S.rest seg.old }
-    {
-        let Some(link) = self.removed_link(seg, 0) else {
-            return;
-        };
-        self.name(seg, link, at);
-    }
-
-    // Takes the row off the list of removed rows, if it is there. Its block stays live.
-    fn take_off<S: Segment>(&mut self, seg: &mut S, at: u32)
-        requires there { HasLooseAt self.old (S.words seg.old) (S.aside seg.old) at }
-        ensures off { (s : Entries) → Stands self.old (S.words seg.old) (S.aside seg.old) s → has_place at (s.unlinked ++ s.removed) ≡ true → Stands self.new (S.words seg.new) (S.aside seg.new) (off_at at s) }
-        ensures same { self.new.sma ≡ self.old.sma }
-        ensures aside { S.aside seg.new ≡ S.aside seg.old }
-        ensures rest { S.rest seg.new ≡ S.rest seg.old }
-    {
-        let Some(link) = self.removed_link(seg, at) else {
-            return;
-        };
-        let next = next_of(seg, at);
-        self.name(seg, link, next);
-    }
-
-    // Makes the link of the removed list name the place; link 0 begins the list.
-    fn name<S: Segment>(&mut self, seg: &mut S, link: u32, place: u32)
-        requires may { link ≢ 0 → IsStorable (S.words seg.old) (S.aside seg.old).windows link }
-        ensures head { link ≡ 0 → (self.new ≡ record self.old { removed = place }) × (S.words seg.new ≡ S.words seg.old) }
-        ensures word { link ≢ 0 → (self.new ≡ self.old) × (S.words seg.new ≡ slice_set (S.words seg.old) link place) }
-        ensures aside { S.aside seg.new ≡ S.aside seg.old }
-        ensures rest { S.rest seg.new ≡ S.rest seg.old }
-    {
-        if link == 0 {
-            self.removed = place;
-        } else {
-            seg.store(link, u64::from(place));
-        }
-    }
-
-    // The link of the removed list that names the row at `target`, or with 0 the last one; `None` where the
-    // list has no such row.
-    fn removed_link<S: Segment>(&self, seg: &mut S, target: u32) -> Option<u32>
-        requires stand { AreStanding self.now (S.words seg.old) (S.aside seg.old) }
-        ensures some { (s : Entries) → Stands self.now (S.words seg.old) (S.aside seg.old) s → IfSome result (λ link. IsRemovedLink (S.words seg.old) s.removed target link) }
-        ensures none { (s : Entries) → Stands self.now (S.words seg.old) (S.aside seg.old) s → IfNone result ((target ≢ 0) × (has_place target s.removed ≡ false)) }
-        ensures words { S.words seg.new ≡ S.words seg.old }
-        ensures aside { S.aside seg.new ≡ S.aside seg.old }
-        ensures rest { S.rest seg.new ≡ S.rest seg.old }
-    {
-        let mut link = 0;
-        let mut named = self.removed;
-        for _passed in 0..self.sma.to {
-            if named == target {
-                return Some(link);
-            }
-            if named == 0 {
-                return None;
-            }
-            link = named + 1;
-            named = seg.load(link) as u32;
-        }
-        None
     }
 
     // The slot of the row at a place.

@@ -112,7 +112,10 @@ fn writes_the_words_of_an_entry(rt: HostRuntime) -> Result<(), Fail> {
     let mut words = VecWords::new(rt.alloc(), 512)?;
     let mut slots = EntrySlots::format(&mut words, &small());
     let five = number(rt.alloc(), 5)?;
-    assert_eq!(rt; insert_new(&mut slots, &mut words, b"a", &five, 0), Some(32));
+    assert_eq!(rt;
+        insert_new(&mut slots, &mut words, b"a", &five, 0),
+        Some(32)
+    );
     assert_eq!(rt; slots.rows(), 1);
     let items = words.into_words();
     let wanted = [16, 0, 1, 2, 0, 0, 0, 0, 0, 0, 1, 0, 97, 2, 5];
@@ -162,7 +165,15 @@ fn removes_in_another_order(rt: HostRuntime) -> Result<(), Fail> {
     assert_eq!(rt; (slots.rows(), slots.first_removed(&mut words)), (1, 64));
     // one is left in the chain; the removed ones stand by their moments
     let items = words.into_words();
-    for (place, word) in [(6, 80), (81, 0), (65, 32), (33, 0), (72, 5), (40, 6), (88, 0)] {
+    for (place, word) in [
+        (6, 80),
+        (81, 0),
+        (65, 32),
+        (33, 0),
+        (72, 5),
+        (40, 6),
+        (88, 0),
+    ] {
         assert_eq!(rt; items.get(place), Some(&word), "at {place}");
     }
     Ok(())
@@ -193,8 +204,14 @@ fn sets_and_uses(rt: HostRuntime) -> Result<(), Fail> {
         panic!(rt; "there is room");
     };
     let head = read.head;
-    assert_eq!(rt; (head.key_len, head.image, head.image_len, head.size), (2, 45, 2, 16));
-    assert_eq!(rt; (head.ctime, head.mtime, head.atime, head.dtime), (0, 9, 9, 0));
+    assert_eq!(rt;
+        (head.key_len, head.image, head.image_len, head.size),
+        (2, 45, 2, 16)
+    );
+    assert_eq!(rt;
+        (head.ctime, head.mtime, head.atime, head.dtime),
+        (0, 9, 9, 0)
+    );
     assert_eq!(rt; (head.hits, head.ttl, head.number), (1, 0, 1));
     assert_eq!(rt; (read.has_key, read.next), (true, 0));
     assert_eq!(rt; words.into_words().get(46), Some(&u64::MAX));

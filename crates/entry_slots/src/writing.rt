@@ -1,11 +1,10 @@
 //! Writing the block of an entry.
 
-ghost use Rattle.std.specs.Prelude.{◌≡◌, ℕ, ◌+◌, ◌<◌, ◌^◌, ◌++◌, length};
+ghost use Rattle.std.specs.Prelude.{◌≡◌, ◌+◌, ◌<◌, ◌^◌, length};
 ghost use Rattle.php_graph.specs.Size.{words_in, image_length};
 ghost use Rattle.value_image.specs.Packed.{words_of};
 ghost use Rattle.value_image.specs.Rows.{written, MayWrite};
-ghost use Rattle.value_image.specs.Image.{image_of};
-ghost use Rattle.entry_slots.specs.Written.{first_words, entry_words};
+ghost use Rattle.entry_slots.specs.Written.{entry_words};
 
 use crate::keys::key_word;
 use php_graph::Graph;

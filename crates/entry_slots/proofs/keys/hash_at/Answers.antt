@@ -1,7 +1,6 @@
-use Rattle.std.proofs.Common.{◌≡◌, ℕ, ◌+◌, ◌*◌, ◌/◌, ◌%◌, ◌<◌, ◌≤◌, ◌^◌, List, take, fold, length, slice_index, get_or, ap, sym, refl, ◌∙◌, subst, arith}
+use Rattle.std.proofs.Common.{◌≡◌, ℕ, ◌+◌, ◌*◌, ◌/◌, ◌%◌, ◌<◌, ◌^◌, List, take, fold, length, slice_index, ap, sym, ◌∙◌, subst, arith}
 use Rattle.std.specs.Prelude.{bit_or}
 use Rattle.std.proofs.lemmas.List.{take_all}
-use Rattle.seg_words.specs.Windows.{Aside}
 use Rattle.php_graph.specs.Numbers.{hash_step, hash_of}
 use Rattle.php_graph.specs.Size.{words_in}
 use Rattle.value_image.specs.Packed.{words_of, word_at}

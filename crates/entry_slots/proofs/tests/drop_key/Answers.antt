@@ -1,7 +1,7 @@
-use Rattle.std.proofs.Common.{◌≡◌, ℕ, Bool, true, false, cond, eqb, ◌||◌, List, [], ◌∷◌, ◌++◌, Option, Some, None, sym, ap, ◌∙◌, subst, refl, arith}
-use Rattle.std.specs.List.{find, list_any, filter}
+use Rattle.std.proofs.Common.{◌≡◌, ℕ, Bool, true, false, cond, List, [], ◌∷◌, ◌++◌, Some, sym, subst, refl}
+use Rattle.std.specs.List.{find}
 use Rattle.std.specs.Option.{option_map}
-use Rattle.std.proofs.lemmas.Bool.{cases_Bool, eq-eqb, or_left, or_right, false≢true}
+use Rattle.std.proofs.lemmas.Bool.{eq-eqb, or_left, or_right, false≢true}
 use Rattle.seg_words.specs.Windows.{Aside}
 use Rattle.apcu_model.specs.Cache.{Row, has_key}
 use Rattle.entry_slots.specs.declared.slots.EntrySlots.{EntrySlots}
@@ -38,11 +38,13 @@ pub unlink-requires : goal.unlink-requires
 unlink-requires g c =
     let s = c.requires.stand.0 in
     let h = c.requires.stand.1 in
-    record { there = record {
-      entries = s;
-      stand = along c.args.slots.now (g.S.WordsIn.words c.args.seg.now) (g.S.WordsIn.words c.find.new.seg) (g.S.WordsIn.aside c.args.seg.now) (g.S.WordsIn.aside c.find.new.seg) s c.find.ensures.words c.find.ensures.aside h;
-      there = found_there (has_key c.args.key.now) s.rows c.in-Some.at (c.in-Some.ensures.row s h);
-    } }
+    record {
+      there = record {
+        entries = s;
+        stand = along c.args.slots.now (g.S.WordsIn.words c.args.seg.now) (g.S.WordsIn.words c.find.new.seg) (g.S.WordsIn.aside c.args.seg.now) (g.S.WordsIn.aside c.find.new.seg) s c.find.ensures.words c.find.ensures.aside h;
+        there = found_there (has_key c.args.key.now) s.rows c.in-Some.at (c.in-Some.ensures.row s h);
+      };
+    }
 
 pub to_removed-requires : goal.to_removed-requires
 to_removed-requires g c =
@@ -50,11 +52,13 @@ to_removed-requires g c =
     let h = c.requires.stand.1 in
     let there = found_there (has_key c.args.key.now) s.rows c.in-Some.at (c.in-Some.ensures.row s h) in
     let h1 = along c.args.slots.now (g.S.WordsIn.words c.args.seg.now) (g.S.WordsIn.words c.find.new.seg) (g.S.WordsIn.aside c.args.seg.now) (g.S.WordsIn.aside c.find.new.seg) s c.find.ensures.words c.find.ensures.aside h in
-    record { there = record {
-      entries = unlinked_at c.in-Some.at s;
-      stand = c.unlink.ensures.unlinked s h1 there;
-      there = only_there c.in-Some.at s.rows s.unlinked there;
-    } }
+    record {
+      there = record {
+        entries = unlinked_at c.in-Some.at s;
+        stand = c.unlink.ensures.unlinked s h1 there;
+        there = only_there c.in-Some.at s.rows s.unlinked there;
+      };
+    }
 
 pub returns-clause-stand : goal.returns-clause-stand
 returns-clause-stand g c =

@@ -1,6 +1,5 @@
-use Rattle.std.proofs.Common.{◌≡◌, ℕ, ◌<◌, sym, subst, arith, refl, length}
+use Rattle.std.proofs.Common.{◌≡◌, ℕ, subst, arith, refl, length}
 use Rattle.std.specs.List.{Contains}
-use Rattle.seg_words.specs.declared.extents.Extent.{Extent}
 use Rattle.php_graph.specs.Size.{block_size}
 use Rattle.entry_slots.specs.Entries.{Entries, with_taken, linked}
 use Rattle.entry_slots.specs.Standing.{Stands}

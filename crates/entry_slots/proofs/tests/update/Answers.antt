@@ -1,7 +1,6 @@
-use Rattle.std.proofs.Common.{◌≡◌, ℕ, ◌+◌, Bool, true, false, cond, eqb, List, [], ◌∷◌, ◌++◌, map, Some, sym, ap, ◌∙◌, refl, arith, length, subst}
+use Rattle.std.proofs.Common.{◌≡◌, ℕ, true, false, cond, List, [], ◌∷◌, Some, ap, ◌∙◌, refl, arith, length}
 use Rattle.std.specs.Prelude.{ℤ}
 use Rattle.std.specs.Int.{w64, cast_signed, cast_unsigned}
-use Rattle.std.specs.List.{Contains}
 use Rattle.std.proofs.lemmas.Bool.{eq-eqb, or_left}
 use Rattle.php_graph.specs.declared.kind.Kind.{Kind}
 use Rattle.php_graph.specs.declared.kind.Kind.TheVariants as kinds
@@ -42,11 +41,13 @@ touch-requires g c =
     let n : ℤ = cast_signed w64 (cast_unsigned w64 c.args.n) in
     let first : Entries = one c.args.conf.now at c.args.key.now c.args.g.now in
     let row : Row = fresh_row c.args.key.now c.args.g.now 0 0 at 1 in
-    record { there = record {
-      entries = with_number at n c.args.t first;
-      stand = c.set_int.ensures.set first row c.in-Int.field-0 (c.in_ok-at.ensures.linked (no_entries c.args.conf.now) c.requires.fresh) (0, omega arith, refl) refl (c.kind.ensures ∙ ap Some c.in-Int.is);
-      there = or_left (is_at at (number_row at n c.args.t row)) false (numbered_there at c.args.t n row refl);
-    } }
+    record {
+      there = record {
+        entries = with_number at n c.args.t first;
+        stand = c.set_int.ensures.set first row c.in-Int.field-0 (c.in_ok-at.ensures.linked (no_entries c.args.conf.now) c.requires.fresh) (0, omega arith, refl) refl (c.kind.ensures ∙ ap Some c.in-Int.is);
+        there = or_left (is_at at (number_row at n c.args.t row)) false (numbered_there at c.args.t n row refl);
+      };
+    }
 
 pub read_at-requires : goal.read_at-requires
 read_at-requires g c =

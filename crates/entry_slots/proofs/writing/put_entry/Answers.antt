@@ -1,13 +1,12 @@
-use Rattle.std.proofs.Common.{◌≡◌, ℕ, ◌+◌, ◌*◌, ◌/◌, ◌%◌, ◌<◌, ◌≤◌, List, [], ◌∷◌, ◌++◌, ap, sym, refl, ◌∙◌, arith, length, take, slice_set, length-append}
+use Rattle.std.proofs.Common.{◌≡◌, ℕ, ◌+◌, List, [], ◌∷◌, ◌++◌, ap, ◌∙◌, arith, length, length-append}
 use Rattle.std.proofs.lemmas.List.{append_assoc}
-use Rattle.seg_words.specs.Windows.{Aside}
 use Rattle.php_graph.specs.Size.{words_in, image_length}
 use Rattle.value_image.specs.Packed.{words_of}
 use Rattle.value_image.specs.Image.{image_of}
-use Rattle.value_image.specs.Rows.{written, MayWrite}
+use Rattle.value_image.specs.Rows.{written}
 use Rattle.value_image.proofs.Runs.{may_write-fewer, may_write-along, written-along}
 use Rattle.value_image.proofs.Packing.{length-words_of}
-use Rattle.entry_slots.specs.Written.{first_words, entry_words}
+use Rattle.entry_slots.specs.Written.{first_words}
 use Rattle.entry_slots.proofs.writing.put_entry.Goals as goal
 
 abbrev run : ℕ → ℕ → ℕ → ℕ → ℕ → ℕ → List ℕ

@@ -1,4 +1,4 @@
-use Rattle.std.proofs.Common.{◌≡◌, ℕ, ◌+◌, ◌*◌, ◌/◌, ◌%◌, ◌<◌, ◌≤◌, List, ap, sym, refl, ◌∙◌, arith, length, take, slice_set}
+use Rattle.std.proofs.Common.{ℕ, ◌+◌, ◌<◌, List, ap, sym, ◌∙◌, arith, length, take, slice_set}
 use Rattle.std.proofs.lemmas.List.{length-take-le}
 use Rattle.seg_words.specs.Blocks.{MayStore}
 use Rattle.php_graph.specs.Size.{words_in}

@@ -1,4 +1,4 @@
-use Rattle.std.proofs.Common.{◌≡◌, ℕ, ◌+◌, ◌*◌, ◌/◌, ◌%◌, ◌<◌, ◌≤◌, List, ap, ap₂, sym, refl, ◌∙◌, arith, length, take, slice_set, get_or, [], ◌∷◌}
+use Rattle.std.proofs.Common.{◌≡◌, ℕ, ◌+◌, ◌<◌, List, ap, ap₂, sym, refl, ◌∙◌, arith, length, take, slice_set, get_or, [], ◌∷◌}
 use Rattle.std.proofs.lemmas.List.{take_all, take_more, length-take-le}
 use Rattle.seg_words.specs.Blocks.{MayStore}
 use Rattle.value_image.specs.Rows.{written, MayWrite}

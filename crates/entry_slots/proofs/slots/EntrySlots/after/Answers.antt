@@ -1,4 +1,4 @@
-use Rattle.std.proofs.Common.{◌≡◌, ◌+◌, ◌<◌, sym, ap, ◌∙◌, arith, length}
+use Rattle.std.proofs.Common.{◌∙◌, arith}
 use Rattle.entry_slots.proofs.Homes.{row_there, room, told_at}
 use Rattle.entry_slots.proofs.Chains.{small_after, next_row, next_removed}
 use Rattle.entry_slots.proofs.slots.EntrySlots.after.Goals as goal

@@ -1,8 +1,6 @@
-use Rattle.std.proofs.Common.{◌≡◌, ◌≢◌, ℕ, ◌+◌, List, sym, ap, ◌∙◌, subst, slice_index, slice_set, refl}
-use Rattle.seg_words.specs.Windows.{Aside}
+use Rattle.std.proofs.Common.{◌≡◌, ℕ, ◌+◌, List, sym, ap, ◌∙◌, subst, slice_index, refl}
 use Rattle.entry_slots.specs.Entries.{moved_at}
 use Rattle.entry_slots.specs.Links.{IsRemovedLink}
-use Rattle.entry_slots.specs.Standing.{Stands}
 use Rattle.entry_slots.proofs.Walks.{stands_along}
 use Rattle.entry_slots.proofs.Cutting.{spot_word}
 use Rattle.entry_slots.proofs.Removing.{link_home}

@@ -1,10 +1,10 @@
-use Rattle.std.proofs.Common.{◌≡◌, ◌≢◌, ◌⊎◌, inl, inr, ℕ, ◌+◌, ◌<◌, ◌++◌, true, List, sym, ap, ◌∙◌, arith, length, ◌||◌}
+use Rattle.std.proofs.Common.{◌≢◌, inl, inr, ℕ, List, ◌∙◌, arith}
 use Rattle.std.proofs.lemmas.Bool.{or_left}
 use Rattle.std.proofs.lemmas.List.Folds.{list_any-append}
 use Rattle.seg_words.specs.Windows.{Aside}
 use Rattle.entry_slots.specs.declared.slots.EntrySlots.{EntrySlots}
 use Rattle.entry_slots.specs.Lists.{is_at, has_place}
-use Rattle.entry_slots.specs.Reading.{HasEntryAt, HasRowAt, MayFollow}
+use Rattle.entry_slots.specs.Reading.{HasEntryAt, MayFollow}
 use Rattle.entry_slots.proofs.Homes.{row_there, room, told_at}
 use Rattle.entry_slots.proofs.Chains.{small_after}
 use Rattle.entry_slots.proofs.slots.EntrySlots.behind.Goals as goal

@@ -1,4 +1,4 @@
-use Rattle.std.proofs.Common.{◌≡◌, ◌+◌, ◌<◌, sym, ap, ◌∙◌, arith, length, slice_index}
+use Rattle.std.proofs.Common.{◌∙◌, arith, slice_index}
 use Rattle.entry_slots.proofs.Blocks.{told_slot}
 use Rattle.entry_slots.proofs.Chains.{small_slot, chain_first}
 use Rattle.entry_slots.specs.Entries.{chain_of}

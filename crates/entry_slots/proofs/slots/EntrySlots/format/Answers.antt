@@ -1,10 +1,8 @@
-use Rattle.std.proofs.Common.{◌≡◌, ◌≢◌, ℕ, ◌+◌, ◌<◌, ◌/◌, List, [], sym, ap, ◌∙◌, arith, length, slice_index, refl, subst, false, true}
+use Rattle.std.proofs.Common.{◌≡◌, ℕ, List, sym, ap, ◌∙◌, arith, refl, subst, false}
 use Rattle.std.proofs.lemmas.Bool.{false≢true}
-use Rattle.std.specs.List.{Contains, count_by}
+use Rattle.std.specs.List.{count_by}
 use Rattle.seg_words.specs.Windows.{Aside, is_named}
 use Rattle.sma_blocks.specs.Live.{live_blocks}
-use Rattle.apcu_model.specs.Cache.{Row}
-use Rattle.entry_slots.specs.Lists.{HaveSame}
 use Rattle.entry_slots.proofs.Members.{none_in_nil}
 use Rattle.entry_slots.proofs.slots.EntrySlots.format.Goals as goal
 

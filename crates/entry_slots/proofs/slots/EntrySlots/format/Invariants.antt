@@ -1,4 +1,4 @@
-use Rattle.std.proofs.Common.{◌≡◌, ℕ, ◌+◌, ◌<◌, slice_index, length}
+use Rattle.std.proofs.Common.{◌≡◌, ℕ, ◌<◌, slice_index, length}
 use Rattle.entry_slots.proofs.slots.EntrySlots.format.Given as goal
 
 abbrev pub invariant-loop-slot : goal.invariant-loop-slot

@@ -1,6 +1,5 @@
-use Rattle.std.proofs.Common.{◌≡◌, ◌≢◌, ℕ, ◌+◌, ◌<◌, List, sym, ap, ◌∙◌, subst, slice_index, slice_set, refl, arith, length, false}
+use Rattle.std.proofs.Common.{◌≡◌, ℕ, List, sym, ap, subst, false}
 use Rattle.std.specs.List.{Contains}
-use Rattle.seg_words.specs.declared.extents.Extent.{Extent}
 use Rattle.seg_words.specs.Windows.{Aside, is_named}
 use Rattle.sma_blocks.specs.declared.sma.Sma.{Sma}
 use Rattle.sma_blocks.specs.Live.{live_blocks, IsLive}

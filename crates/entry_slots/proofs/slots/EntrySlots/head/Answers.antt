@@ -1,4 +1,4 @@
-use Rattle.std.proofs.Common.{◌≡◌, ◌≢◌, ◌+◌, ◌<◌, ◌/◌, sym, ap, ◌∙◌, arith, length, slice_index, refl}
+use Rattle.std.proofs.Common.{◌+◌, arith}
 use Rattle.entry_slots.proofs.Homes.{row_there, room, told_at, home_listed}
 use Rattle.entry_slots.proofs.Heads.{short_words, head_is}
 use Rattle.entry_slots.proofs.slots.EntrySlots.head.Goals as goal

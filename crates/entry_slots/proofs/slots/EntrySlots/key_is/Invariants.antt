@@ -1,4 +1,4 @@
-use Rattle.std.proofs.Common.{◌≡◌, ℕ, ◌+◌, ◌<◌, slice_index, length}
+use Rattle.std.proofs.Common.{◌≡◌, ℕ, ◌+◌, ◌<◌, slice_index}
 use Rattle.value_image.specs.Packed.{word_at}
 use Rattle.entry_slots.proofs.slots.EntrySlots.key_is.Given as goal
 

@@ -1,6 +1,5 @@
-use Rattle.std.proofs.Common.{◌≡◌, ◌≢◌, ◌⊎◌, inl, inr, ℕ, ◌+◌, ◌<◌, ◌%◌, ◌≤◌, ◌^◌, List, sym, ap, ◌∙◌, arith, length, slice_index, slice_set, subst, refl, true}
+use Rattle.std.proofs.Common.{◌≡◌, ◌⊎◌, inl, inr, ℕ, ◌+◌, ◌<◌, ◌%◌, List, sym, ap, ◌∙◌, arith, length, slice_index, slice_set, subst, refl, true}
 use Rattle.std.specs.List.{AllByRecursion}
-use Rattle.std.proofs.lemmas.List.{length-set}
 use Rattle.std.proofs.lemmas.List.Elements.{recursion_from_All, All-from_get_or}
 use Rattle.seg_words.specs.Windows.{Aside}
 use Rattle.php_graph.specs.Numbers.{hash_of}
@@ -10,9 +9,9 @@ use Rattle.apcu_model.specs.Walk.{slot_of}
 use Rattle.entry_slots.specs.declared.slots.EntrySlots.{EntrySlots}
 use Rattle.entry_slots.specs.declared.writing.Note.{Note}
 use Rattle.entry_slots.specs.Lists.{has_place}
-use Rattle.entry_slots.specs.Entries.{Entries, chain_of, linked}
+use Rattle.entry_slots.specs.Entries.{Entries, chain_of}
 use Rattle.entry_slots.specs.Standing.{Stands}
-use Rattle.entry_slots.specs.Links.{IsLinkTo, HasTarget}
+use Rattle.entry_slots.specs.Links.{IsLinkTo}
 use Rattle.entry_slots.specs.Reading.{MayFollow}
 use Rattle.entry_slots.specs.Written.{entry_words}
 use Rattle.entry_slots.proofs.Walks.{stands_along}
@@ -20,7 +19,7 @@ use Rattle.entry_slots.proofs.Storing.{may_along}
 use Rattle.entry_slots.proofs.Cutting.{IsLinkWord, spot_word}
 use Rattle.entry_slots.proofs.Rejoining.{cut_spot}
 use Rattle.entry_slots.proofs.Places.{rows_few}
-use Rattle.entry_slots.proofs.Planning.{Old, old_row, old_target, old_place, taken_room, taken_write, entry_stands, link_stands}
+use Rattle.entry_slots.proofs.Planning.{old_row, old_target, old_place, taken_room, taken_write, entry_stands, link_stands}
 use Rattle.entry_slots.proofs.slots.EntrySlots.link.Goals as goal
 
 slot_is : (e : EntrySlots) (s : Entries) (key : List ℕ) (slot : ℕ) → e.sma.from ≡ s.conf.slots → slot ≡ hash_of key % e.sma.from → slot ≡ slot_of s.conf key

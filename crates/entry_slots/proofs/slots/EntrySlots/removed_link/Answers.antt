@@ -1,15 +1,8 @@
-use Rattle.std.proofs.Common.{◌≡◌, ◌≢◌, ◌⊎◌, inl, inr, ℕ, ◌+◌, ◌<◌, ◌≤◌, ◌^◌, List, sym, ap, ◌∙◌, arith, length, slice_index, refl, subst, false}
-use Rattle.seg_words.specs.Windows.{Aside}
-use Rattle.seg_words.specs.Blocks.{IsTold}
-use Rattle.apcu_model.specs.Cache.{Row}
-use Rattle.entry_slots.specs.declared.slots.EntrySlots.{EntrySlots}
-use Rattle.entry_slots.specs.Entries.{Entries}
-use Rattle.entry_slots.specs.Standing.{Stands}
+use Rattle.std.proofs.Common.{◌+◌, sym, ◌∙◌, arith, refl}
 use Rattle.entry_slots.proofs.Homes.{room, told_at}
 use Rattle.entry_slots.proofs.Blocks.{read_along}
-use Rattle.entry_slots.proofs.Chains.{small_first, chain_first}
 use Rattle.entry_slots.proofs.Places.{removed_few}
-use Rattle.entry_slots.proofs.Removing.{Path, Stop, path_start, path_stop, stop_in, path_next, path_found, path_end, path_short, homes_removed, stop_small}
+use Rattle.entry_slots.proofs.Removing.{path_start, path_stop, stop_in, path_next, path_found, path_end, path_short, homes_removed, stop_small}
 use Rattle.entry_slots.proofs.slots.EntrySlots.removed_link.Goals as goal
 
 pub loop-passed-init : goal.loop-passed-init

@@ -1,4 +1,4 @@
-use Rattle.std.proofs.Common.{◌≡◌, ◌≢◌, ℕ, ◌+◌, ◌<◌, ◌%◌, ◌≤◌, List, sym, ap, ◌∙◌, arith, length, slice_index, subst, refl}
+use Rattle.std.proofs.Common.{◌≡◌, ℕ, ◌+◌, ◌<◌, ◌%◌, ◌≤◌, List, sym, ap, ◌∙◌, arith, length, subst}
 use Rattle.seg_words.specs.Windows.{Aside}
 use Rattle.seg_words.specs.Blocks.{IsTold}
 use Rattle.php_graph.specs.Numbers.{hash_of}
@@ -6,11 +6,9 @@ use Rattle.php_graph.specs.Size.{words_in}
 use Rattle.value_image.specs.Packed.{words_of}
 use Rattle.value_image.specs.Rows.{StandsAt}
 use Rattle.apcu_model.specs.Cache.{Row}
-use Rattle.apcu_model.specs.Walk.{slot_of}
 use Rattle.entry_slots.specs.declared.slots.EntrySlots.{EntrySlots}
 use Rattle.entry_slots.specs.Written.{IsKeyAt}
 use Rattle.entry_slots.proofs.Homes.{IsHome, room, told_at, home_row}
-use Rattle.entry_slots.proofs.Chains.{slot_small}
 use Rattle.entry_slots.proofs.KeyWords.{key_length_at}
 use Rattle.entry_slots.proofs.Touching.{row_at}
 use Rattle.entry_slots.proofs.slots.EntrySlots.slot_at.Goals as goal

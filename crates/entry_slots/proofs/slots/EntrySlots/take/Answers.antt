@@ -1,4 +1,4 @@
-use Rattle.std.proofs.Common.{◌≡◌, ◌≢◌, ℕ, ◌+◌, ◌<◌, ◌≤◌, List, true, Option, Some, None, sym, ap, ◌∙◌, arith, length, slice_index, refl, subst}
+use Rattle.std.proofs.Common.{◌∙◌}
 use Rattle.entry_slots.proofs.Taking.{take_place, take_some}
 use Rattle.entry_slots.proofs.slots.EntrySlots.take.Goals as goal
 

@@ -1,8 +1,6 @@
-use Rattle.std.proofs.Common.{◌≡◌, ◌≢◌, ℕ, ◌+◌, ◌<◌, List, sym, ap, ◌∙◌, subst, slice_index, slice_set, refl, arith, length}
-use Rattle.seg_words.specs.Windows.{Aside}
-use Rattle.entry_slots.specs.Entries.{Entries, off_at}
+use Rattle.std.proofs.Common.{◌≡◌, ◌≢◌, ℕ, ◌+◌, List, sym, ap, ◌∙◌, subst, slice_index, refl, arith, length}
+use Rattle.entry_slots.specs.Entries.{off_at}
 use Rattle.entry_slots.specs.Links.{IsRemovedLink}
-use Rattle.entry_slots.specs.Standing.{Stands}
 use Rattle.entry_slots.proofs.Homes.{room, told_at}
 use Rattle.entry_slots.proofs.Walks.{stands_along}
 use Rattle.entry_slots.proofs.Storing.{may_along}

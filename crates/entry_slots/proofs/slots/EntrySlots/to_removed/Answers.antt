@@ -1,12 +1,10 @@
-use Rattle.std.proofs.Common.{◌≡◌, ◌≢◌, ℕ, ◌+◌, ◌<◌, ◌≤◌, List, true, sym, ap, ◌∙◌, subst, slice_index, slice_set, refl, arith, length, map}
+use Rattle.std.proofs.Common.{◌≡◌, ℕ, ◌+◌, List, true, ap, ◌∙◌, subst, slice_index, slice_set, arith, length}
 use Rattle.std.proofs.lemmas.List.{length-set, get_or-set_same, get_or-set_other}
-use Rattle.std.specs.List.{Contains}
 use Rattle.seg_words.specs.Windows.{Aside}
 use Rattle.value_image.proofs.Runs.{may_store-set}
-use Rattle.apcu_model.specs.Cache.{Row}
 use Rattle.entry_slots.specs.declared.slots.EntrySlots.{EntrySlots}
 use Rattle.entry_slots.specs.Lists.{has_place}
-use Rattle.entry_slots.specs.Entries.{Entries, removed_at}
+use Rattle.entry_slots.specs.Entries.{Entries}
 use Rattle.entry_slots.specs.Standing.{Stands}
 use Rattle.entry_slots.proofs.Homes.{room, home_unlinked}
 use Rattle.entry_slots.proofs.Walks.{stands_along}

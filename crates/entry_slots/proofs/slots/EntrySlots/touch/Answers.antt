@@ -1,9 +1,6 @@
-use Rattle.std.proofs.Common.{◌≡◌, ◌≢◌, ◌⊎◌, inl, inr, ℕ, ◌+◌, ◌<◌, ◌≤◌, List, true, sym, ap, ◌∙◌, arith, length, slice_index, slice_set, refl, subst}
-use Rattle.seg_words.specs.Windows.{Aside}
+use Rattle.std.proofs.Common.{◌≡◌, ℕ, ◌+◌, List, ap, ◌∙◌, arith, length, slice_set}
 use Rattle.value_image.proofs.Runs.{may_store-set}
 use Rattle.std.proofs.lemmas.List.{length-set}
-use Rattle.entry_slots.specs.Standing.{Stands}
-use Rattle.entry_slots.specs.Entries.{touched_in}
 use Rattle.entry_slots.proofs.Homes.{room, told_at}
 use Rattle.entry_slots.proofs.Storing.{may_note, may_along}
 use Rattle.entry_slots.proofs.Touching.{row_at, touched_words, touch_stands}

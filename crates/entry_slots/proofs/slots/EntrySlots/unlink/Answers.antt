@@ -1,7 +1,4 @@
-use Rattle.std.proofs.Common.{◌≡◌, ◌≢◌, ◌⊎◌, inl, inr, ℕ, ◌+◌, ◌-◌, ◌<◌, ◌%◌, ◌≤◌, List, sym, ap, ◌∙◌, arith, length, slice_index, slice_set, subst, true}
-use Rattle.std.specs.List.{Contains}
-use Rattle.seg_words.specs.Windows.{Aside}
-use Rattle.apcu_model.specs.Cache.{Row}
+use Rattle.std.proofs.Common.{◌≡◌, ◌≢◌, inr, ℕ, ◌+◌, ◌-◌, List, sym, ap, ◌∙◌, arith, length, slice_index, slice_set, subst, true}
 use Rattle.apcu_model.specs.Walk.{slot_of}
 use Rattle.entry_slots.specs.Lists.{has_place}
 use Rattle.entry_slots.specs.Entries.{Entries, chain_of}
