@@ -52,11 +52,17 @@ is_legal_mask workers worker m mask =
     nat_lt mask (2 ^ 64)
     && list_all (λ v. not (is_in_mask mask v) || (not (v == worker) && nat_lt v workers && is_some (window_of m v))) (range_with_len 0 64)
 
--- values that are answered under the lock are never copied outside it
+-- null, a truth value and an integer are answered under the lock, and never copied outside it
+abbrev pub is_scalar_kind : Kind → Bool
+is_scalar_kind kinds.Null = true
+is_scalar_kind (kinds.Bool b) = true
+is_scalar_kind (kinds.Int n) = true
+is_scalar_kind _ = false
+
+-- whether a value's first place is such a one
 abbrev pub is_scalar : List Kind → Bool
 is_scalar [] = false
-is_scalar (kinds.Int n ∷ places) = true
-is_scalar (kinds.Str bytes ∷ places) = false
+is_scalar (kind ∷ places) = is_scalar_kind kind
 
 -- the window that a look-up opens
 abbrev pub opened_at : ℕ → Option Row → List (ℕ × ℕ)

@@ -1,7 +1,7 @@
 -- The order in which rows are visited.
 use Rattle.std.specs.Prelude.{ℕ, ◌%◌, ◌==◌, Bool, List, filter}
 use Rattle.std.specs.List.{flat_map, range_with_len}
-use Rattle.php_graph.specs.Hash.{hash_of}
+use Rattle.php_graph.specs.Numbers.{hash_of}
 use Rattle.apcu_model.specs.declared.conf.Conf.{Conf}
 use Rattle.apcu_model.specs.Cache.{Row}
 

@@ -5,8 +5,7 @@ ghost use Rattle.apcu_model.specs.Rows.{touched_at};
 ghost use Rattle.apcu_model.specs.Walk.{is_in_slot};
 
 use crate::conf::Conf;
-use crate::hash::hash_of;
-use php_graph::{Bytes, Graph};
+use php_graph::{Bytes, Graph, hash_of};
 use seg_words::Extent;
 use std::marker::Model;
 

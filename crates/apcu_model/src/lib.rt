@@ -3,7 +3,6 @@
 
 mod conf;
 mod entry;
-mod hash;
 mod journal;
 mod laws;
 mod plain;

@@ -7,10 +7,9 @@ ghost use Rattle.apcu_model.specs.Sequential.{found_in, is_stored, looked_up};
 
 use crate::conf::Conf;
 use crate::entry::Entry;
-use crate::hash::hash_of;
 use crate::request::Reply;
 use crate::rows::{drop_expired, drop_expired_in, list_extents, live_in, put_row, touch_in};
-use php_graph::{Bytes, Graph, block_words};
+use php_graph::{Bytes, Graph, block_words, hash_of};
 use seg_words::{Extent, first_fit};
 use std::alloc::{AllocError, Global};
 

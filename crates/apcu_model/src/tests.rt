@@ -2,23 +2,25 @@ ghost use Rattle.std.specs.Prelude.{◌<◌, ◌^◌, length};
 ghost use Rattle.apcu_model.specs.Conf.{IsGood};
 
 use super::*;
-use php_graph::{Builder, Bytes, Graph, Item, Kind};
+use php_graph::{Builder, Bytes, Graph, Item, Kind, Wants};
 use std::alloc::Global;
 use std::process::Abort;
 use std::test::Fail;
 
-fn graph(alloc: Global, item: Item) -> Result<Graph, Fail> {
+fn graph(rt: &impl Abort, alloc: Global, item: Item) -> Result<Graph, Fail> {
     let mut builder = Builder::new(alloc);
+    assert!(rt; builder.wants().permits(&item));
     builder.push(item)?;
+    assert!(rt; builder.wants() == Wants::Done);
     Ok(builder.seal())
 }
 
 // A string of so many bytes.
-fn text(alloc: Global, len: usize) -> Result<Graph, Fail>
+fn text(rt: &impl Abort, alloc: Global, len: usize) -> Result<Graph, Fail>
     requires { len < 2 ^ 32 }
 {
     let bytes = vec![in alloc; b'x'; len]?;
-    graph(alloc, Item::Str(Bytes::of(alloc, &bytes)?))
+    graph(rt, alloc, Item::Str(Bytes::of(alloc, &bytes)?))
 }
 
 fn store(
@@ -56,7 +58,7 @@ fn number_of(value: &Graph) -> i64 {
     }
     match value.kind(1) {
         Kind::Int(n) => *n,
-        Kind::Str(_) => -1,
+        _ => -1,
     }
 }
 
@@ -86,7 +88,7 @@ fn filled(rt: &impl Abort, alloc: Global, conf: &Conf, ttl: u32, t: u64) -> Resu
                 rt,
                 &mut plain,
                 key(alloc, name)?,
-                graph(alloc, Item::Int(1))?,
+                graph(rt, alloc, Item::Int(1))?,
                 ttl,
                 t
             )?
@@ -106,7 +108,7 @@ fn stores_and_fetches(rt: HostRuntime) -> Result<(), Fail> {
                 &rt,
                 &mut plain,
                 key(alloc, 1)?,
-                graph(alloc, Item::Int(n))?,
+                graph(&rt, alloc, Item::Int(n))?,
                 0,
                 100
             )?
@@ -115,7 +117,7 @@ fn stores_and_fetches(rt: HostRuntime) -> Result<(), Fail> {
     }
     let again = Request::Store {
         key: key(alloc, 1)?,
-        value: graph(alloc, Item::Int(9))?,
+        value: graph(&rt, alloc, Item::Int(9))?,
         ttl: 0,
         exclusive: true,
     };
@@ -134,7 +136,7 @@ fn fits_what_an_empty_segment_takes(rt: HostRuntime) -> Result<(), Fail> {
             &rt,
             &mut plain,
             key(alloc, 1)?,
-            graph(alloc, Item::Int(1))?,
+            graph(&rt, alloc, Item::Int(1))?,
             0,
             100
         )?
@@ -144,7 +146,7 @@ fn fits_what_an_empty_segment_takes(rt: HostRuntime) -> Result<(), Fail> {
             &rt,
             &mut plain,
             Bytes::of(alloc, b"a")?,
-            text(alloc, len)?,
+            text(&rt, alloc, len)?,
             0,
             100,
         )?;
@@ -172,7 +174,7 @@ fn makes_room(rt: HostRuntime) -> Result<(), Fail> {
                 &rt,
                 &mut plain,
                 key(alloc, 31)?,
-                graph(alloc, Item::Int(1))?,
+                graph(&rt, alloc, Item::Int(1))?,
                 0,
                 t
             )?
@@ -205,7 +207,7 @@ fn expires(rt: HostRuntime) -> Result<(), Fail> {
             &rt,
             &mut plain,
             key(alloc, 1)?,
-            graph(alloc, Item::Int(1))?,
+            graph(&rt, alloc, Item::Int(1))?,
             10,
             100
         )?

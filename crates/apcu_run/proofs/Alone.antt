@@ -23,7 +23,8 @@ use Rattle.apcu_run.specs.declared.script.Call.TheVariants.{StoreOne, FetchOne}
 use Rattle.apcu_run.specs.declared.script.Step.{Step}
 use Rattle.apcu_run.specs.Play.{next_of, wanted, Wish, Play, nothing_played, marked, played_from, played, after_wish, event_of, are_done, is_complete_play, IsLegal, IsComplete}
 use Rattle.apcu_run.specs.Alone.{request_of, step_reply, after_step, replies_to, lines_of, own_mark, marks_for, alone_text}
-use Rattle.apcu_run.specs.Output.{ends_line, flag_text, reply_text, call_text, left_by, script_lines, worker_lines, journal_lines, play_text, output_of, IsOutput}
+use Rattle.apcu_run.specs.Grammar.{ends_line}
+use Rattle.apcu_run.specs.Output.{flag_text, reply_text, call_text, left_by, script_lines, worker_lines, journal_lines, play_text, output_of, IsOutput}
 
 pub found_text : (found : Option Row) (key : List ℕ) (more : List Reply) → call_text (FetchOne key) (found_in found ∷ more) ≡ reply_text (found_in found)
 found_text (Some row) key more = refl

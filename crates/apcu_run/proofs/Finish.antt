@@ -11,7 +11,8 @@ use Rattle.apcu_model.specs.declared.journal.Mark.{Mark}
 use Rattle.apcu_model.specs.Cache.{Cache, empty_cache}
 use Rattle.apcu_run.specs.declared.script.Step.{Step}
 use Rattle.apcu_run.specs.Alone.{lines_of, own_mark, marks_for, alone_text}
-use Rattle.apcu_run.specs.Output.{ends_line, mark_line, journal_lines, IsOutput}
+use Rattle.apcu_run.specs.Grammar.{ends_line}
+use Rattle.apcu_run.specs.Output.{mark_line, journal_lines, IsOutput}
 use Rattle.apcu_run.proofs.Alone.{output_alone, output_none}
 
 -- one mark more is written

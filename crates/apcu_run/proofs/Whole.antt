@@ -42,8 +42,8 @@ module _ (conf : Conf) (words : ℕ) (before after held_before held_after : Opti
 
   refused_is : (input : List ℕ) → before ≡ Some input → IsRefused before after → (length input ≤ longest_input) × ((scripts : List (List Step)) → AreScripts input scripts → ⊥)
   refused_is input told refused =
-      let same = was_read input refused.input before after told refused.read in
-      (subst (λ (i : List ℕ). length i ≤ longest_input) (sym same) refused.read.short, λ scripts are. refused.nothing scripts (subst (λ (i : List ℕ). AreScripts i scripts) same are))
+      let same = was_read input refused.at.input before after told refused.at.read in
+      (subst (λ (i : List ℕ). length i ≤ longest_input) (sym same) refused.at.read.short, λ scripts are. refused.at.nothing scripts (subst (λ (i : List ℕ). AreScripts i scripts) same are))
 
   done_by : (status : Status) → Ended status → (input : List ℕ) (scripts : List (List Step)) → words ≡ 1 → before ≡ Some input → length input ≤ longest_input → AreScripts input scripts
       → (Rose reads_before reads_after → ⊥) → (Rose writes_before writes_after → ⊥) → IsUnlessMemory Done status

@@ -11,7 +11,8 @@ use Rattle.apcu_model.specs.Sequential.{reply_to, cache_after}
 use Rattle.apcu_run.specs.declared.script.Call.{Call}
 use Rattle.apcu_run.specs.declared.script.Call.TheVariants.{StoreOne, FetchOne}
 use Rattle.apcu_run.specs.declared.script.Step.{Step}
-use Rattle.apcu_run.specs.Output.{ends_line, reply_text, journal_lines}
+use Rattle.apcu_run.specs.Grammar.{ends_line}
+use Rattle.apcu_run.specs.Output.{reply_text, journal_lines}
 
 -- what a call asks
 abbrev pub request_of : Call → Request

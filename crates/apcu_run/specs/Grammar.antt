@@ -1,14 +1,17 @@
 -- What scripts are spelled as.
 use Rattle.std.specs.Prelude.{◌≡◌, ℕ, ◌≤◌, false, List, [], ◌∷◌, ◌++◌, length, codes}
 use Rattle.std.specs.List.{flat_map, AllByRecursion}
-use Rattle.php_graph.specs.Text.{IsString}
+use Rattle.php_graph.specs.ByteStrings.{AreBytes}
 use Rattle.php_graph.specs.Graph.{IsGraph}
 use Rattle.php_graph.specs.declared.kind.Kind.{Kind}
 use Rattle.notation.specs.Notation.{text_of, string_text}
 use Rattle.apcu_run.specs.declared.script.Call.{Call}
 use Rattle.apcu_run.specs.declared.script.Call.TheVariants.{StoreOne, FetchOne}
 use Rattle.apcu_run.specs.declared.script.Step.{Step}
-use Rattle.apcu_run.specs.Output.{ends_line}
+
+-- a line feed
+abbrev pub ends_line : List ℕ
+ends_line = 10 ∷ []
 
 -- a call's word, and the space behind it
 abbrev pub word_of : Call → List ℕ
@@ -27,12 +30,12 @@ abbrev pub call_spelling : Call → List ℕ
 call_spelling call = word_of call ++ arguments_of call
 
 abbrev pub IsPair : List ℕ × List Kind → Type 0
-IsPair pair = IsString pair.0 × IsGraph pair.1
+IsPair pair = AreBytes pair.0 × IsGraph pair.1
 
 -- the calls that have a spelling: no limit of time and no `apcu_add` yet
 abbrev pub IsSpelled : Call → Type 0
 IsSpelled (StoreOne key value ttl exclusive) = IsPair (key, value) × (ttl ≡ 0) × (exclusive ≡ false)
-IsSpelled (FetchOne key) = IsString key
+IsSpelled (FetchOne key) = AreBytes key
 
 -- each call stands on a line of its own
 abbrev pub step_line : Step → List ℕ

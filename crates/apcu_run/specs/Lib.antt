@@ -1,7 +1,8 @@
 pub mod Play
-pub mod Output
 pub mod Grammar
-pub mod Reads
+pub mod Output
+pub mod Reading
+pub mod Gives
 pub mod Alone
 pub mod Message
 pub mod Run

@@ -11,11 +11,8 @@ use Rattle.apcu_model.specs.History.{is_in_mask}
 use Rattle.apcu_run.specs.declared.script.Call.{Call}
 use Rattle.apcu_run.specs.declared.script.Call.TheVariants.{StoreOne, FetchOne}
 use Rattle.apcu_run.specs.declared.script.Step.{Step}
+use Rattle.apcu_run.specs.Grammar.{ends_line}
 use Rattle.apcu_run.specs.Play.{Next, Asks, Leaves, next_of, Play, played, IsLegal, IsComplete}
-
--- a line feed
-abbrev pub ends_line : List ℕ
-ends_line = 10 ∷ []
 
 abbrev pub flag_text : Bool → List ℕ
 flag_text true = codes "b:1;"

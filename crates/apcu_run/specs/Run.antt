@@ -1,6 +1,6 @@
 -- What a run promises. `left` is what a source has left, `held` what a sink holds, before and after the
 -- run; a source or a sink may not tell.
-use Rattle.std.specs.Prelude.{◌≡◌, ◌⊎◌, ℕ, ◌<◌, ◌≤◌, List, length, take, Option, Some}
+use Rattle.std.specs.Prelude.{◌≡◌, ◌⊎◌, Bool, true, false, ℕ, ◌<◌, ◌≤◌, List, length, take, Option, Some}
 use Rattle.std.specs.Io.KnownBytes.{prepend_known, append_known, IsAtEnd}
 use Rattle.io_edges.specs.Faults.{Rose}
 use Rattle.apcu_model.specs.declared.conf.Conf.{Conf}
@@ -8,6 +8,9 @@ use Rattle.apcu_model.specs.declared.journal.Mark.{Mark}
 use Rattle.apcu_run.specs.declared.script.Step.{Step}
 use Rattle.apcu_run.specs.declared.status.Status.{Status}
 use Rattle.apcu_run.specs.declared.status.Status.TheVariants.{Done, Script, NoMemory, TooLong}
+use Rattle.notation.specs.declared.fault.Reason.{Reason}
+use Rattle.apcu_run.specs.Gives.{IsFirstFault}
+use Rattle.apcu_run.specs.Message.{script_message}
 use Rattle.apcu_run.specs.Play.{IsLegal, IsComplete}
 use Rattle.apcu_run.specs.Grammar.{AreScripts}
 use Rattle.apcu_run.specs.Output.{output_of}
@@ -52,17 +55,35 @@ pub record ReplaysPart (conf : Conf) (left_before left_after held_before held_af
   pub fewer : count < length printed
   pub written : held_after ≡ append_known held_before (take count printed)
 
--- the whole input spells no scripts
-pub record IsRefused (left_before left_after : Option (List ℕ)) : Type 0 where
+-- The whole input spells no scripts: its first fault, from left to right, is at this place and of this reason.
+pub record IsRefusedAt (left_before left_after : Option (List ℕ)) (place : ℕ) (reason : Reason) : Type 0 where
   pub input : List ℕ
   pub read : WasRead left_before left_after input
   pub nothing : (scripts : List (List Step)) → AreScripts input scripts → ⊥
+  pub first : IsFirstFault input place reason
 
--- The message stands behind what was held, or the first of it where a write failed.
-abbrev pub IsTold : List ℕ → Option (List ℕ) → Option (List ℕ) → ℕ → ℕ → Type 0
-IsTold message held_before held_after faults_before faults_after =
-    ((held_after ≡ append_known held_before message) × (faults_after ≡ faults_before))
-    ⊎ ((count : ℕ) × (count < length message) × (held_after ≡ append_known held_before (take count message)) × Rose faults_before faults_after)
+pub record IsRefused (left_before left_after : Option (List ℕ)) : Type 0 where
+  pub place : ℕ
+  pub reason : Reason
+  pub at : IsRefusedAt left_before left_after place reason
+
+-- whether all of a text was told: it stands behind what was held, or only the first of it and a write failed
+abbrev pub WasTold : Bool → List ℕ → Option (List ℕ) → Option (List ℕ) → ℕ → ℕ → Type 0
+WasTold true text held_before held_after faults_before faults_after = (held_after ≡ append_known held_before text) × (faults_after ≡ faults_before)
+WasTold false text held_before held_after faults_before faults_after =
+    (count : ℕ) × (count < length text) × (held_after ≡ append_known held_before (take count text)) × Rose faults_before faults_after
+
+-- the message was told, or the first of it where a write failed
+pub record IsTold (message : List ℕ) (held_before held_after : Option (List ℕ)) (faults_before faults_after : ℕ) : Type 0 where
+  pub all : Bool
+  pub told : WasTold all message held_before held_after faults_before faults_after
+
+-- a script's first fault was told
+pub record TellsRefusal (left_before left_after held_before held_after : Option (List ℕ)) (faults_before faults_after : ℕ) : Type 0 where
+  pub place : ℕ
+  pub reason : Reason
+  pub refused : IsRefusedAt left_before left_after place reason
+  pub told : IsTold (script_message place reason) held_before held_after faults_before faults_after
 
 -- this status, if memory was found
 abbrev pub IsUnlessMemory : Status → Status → Type 0

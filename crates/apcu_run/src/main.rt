@@ -8,15 +8,18 @@ mod reading;
 mod run;
 mod script;
 mod status;
+mod tell;
+mod word;
 
 use io_edges::{NoGate, StdSink, StdSource};
-use run::{run, tell};
+use run::run;
 use status::Status;
 use std::alloc::AllocError;
 use std::env;
 use std::io::ErrorKind;
 use std::process::ExitCode;
 use std::rt::Env;
+use tell::tell;
 
 // The program's words, its name first. A word that is not UTF-8 makes the command line as faulty as none.
 fn words_of<R: Env + AllocGlobal>(rt: &R) -> Result<Vec<String>, AllocError> {

@@ -1,6 +1,7 @@
 ghost use Rattle.std.specs.Prelude.{◌≡◌, ◌++◌, ◌≤◌, OnOk, codes};
 ghost use Rattle.std.specs.Fmt.{decimal};
-ghost use Rattle.apcu_run.specs.Output.{reply_text, mark_line, mask_text, ends_line};
+ghost use Rattle.apcu_run.specs.Grammar.{ends_line};
+ghost use Rattle.apcu_run.specs.Output.{reply_text, mark_line, mask_text};
 
 use apcu_model::{Mark, Reply};
 use itoa::Buffer;

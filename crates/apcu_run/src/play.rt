@@ -2,7 +2,8 @@ ghost use Rattle.std.specs.Prelude.{◌≡◌, ◌+◌, ◌-◌, ◌<◌, ◌≤
 ghost use Rattle.std.specs.List.{AllByRecursion};
 ghost use Rattle.apcu_model.specs.Conf.{IsGood};
 ghost use Rattle.apcu_run.specs.Alone.{request_of, step_reply, after_step, own_mark, lines_of, marks_for};
-ghost use Rattle.apcu_run.specs.Output.{reply_text, ends_line, journal_lines, IsOutput};
+ghost use Rattle.apcu_run.specs.Grammar.{ends_line};
+ghost use Rattle.apcu_run.specs.Output.{reply_text, journal_lines, IsOutput};
 
 use crate::output::{write_mark, write_reply, write_worker};
 use crate::script::{Call, Script, Scripts, Step};

@@ -8,7 +8,7 @@ pub enum Status {
     Done,
     /// The command line is not one of this program.
     Usage,
-    /// The input spells no scripts.
+    /// The input spells no scripts. The message has the first fault's place and reason.
     Script,
     /// A read of the input failed.
     ReadFault,
@@ -36,14 +36,14 @@ impl Status {
         }
     }
 
-    /// What is told of it on standard error, a line; nothing where the run is done.
+    /// What is told of it on standard error, a line; nothing where the run is done, and nothing here of a
+    /// script with a fault, of which place and reason are told.
     pub fn message(self) -> &'static [u8]
         ensures { result.now ≡ message_of self }
     {
         match self {
-            Status::Done => b"",
+            Status::Done | Status::Script => b"",
             Status::Usage => b"apcu_run: usage\n",
-            Status::Script => b"apcu_run: script\n",
             Status::ReadFault => b"apcu_run: read fault\n",
             Status::WriteFault => b"apcu_run: write fault\n",
             Status::NoMemory => b"apcu_run: out of memory\n",

@@ -1,5 +1,6 @@
 use super::*;
 use io_edges::{MemSink, MemSource, Sink, Source};
+use notation::ByteOut;
 use std::alloc::Global;
 use std::process::Abort;
 use std::sync::Wait;
@@ -32,7 +33,7 @@ fn expect<R: Threads + Wait + Sync + Abort>(
     told: &[u8],
 ) -> Result<(), Fail> {
     let mut source = MemSource::new(input, 7, &[]);
-    let mut out = MemSink::new(alloc, 4096, 5, &[])?;
+    let mut out = MemSink::new(alloc, 16384, 5, &[])?;
     let mut err = MemSink::new(alloc, 64, 64, &[])?;
     assert_eq!(rt;
         run_over(rt, alloc, &mut source, &mut out, &mut err)?,
@@ -43,8 +44,52 @@ fn expect<R: Threads + Wait + Sync + Abort>(
     Ok(())
 }
 
+// A script that stores this value under the key `a`; the value stands at byte 27.
+fn storing(alloc: Global, value: &[u8]) -> Result<ByteOut, Fail> {
+    let mut script = ByteOut::new(alloc);
+    script.push(b"worker\napcu_store s:1:\"a\"; ")?;
+    script.push(value)?;
+    script.push(b"\n")?;
+    Ok(script)
+}
+
+// The value comes back as it was stored.
+fn comes_back(
+    rt: &(impl Threads + Wait + Sync + Abort),
+    alloc: Global,
+    value: &[u8],
+) -> Result<(), Fail> {
+    let mut script = storing(alloc, value)?;
+    script.push(b"apcu_fetch s:1:\"a\";\n")?;
+    let mut printed = ByteOut::new(alloc);
+    printed.push(b"worker 0\nb:1;\n")?;
+    printed.push(value)?;
+    printed.push(b"b:1;\njournal\n0\n0\n0\n")?;
+    expect(
+        rt,
+        alloc,
+        script.as_slice(),
+        Status::Done,
+        printed.as_slice(),
+        b"",
+    )
+}
+
+// An array in an array, so many of them, around a null.
+fn nested(alloc: Global, levels: usize, ends: &[u8]) -> Result<ByteOut, Fail> {
+    let mut value = ByteOut::new(alloc);
+    for _ in 0..levels {
+        value.push(b"a:1:{i:0;")?;
+    }
+    value.push(b"N;")?;
+    for _ in 0..levels {
+        value.push(ends)?;
+    }
+    Ok(value)
+}
+
 #[test]
-fn scripts_and_what_is_no_script(rt: HostRuntime) -> Result<(), Fail> {
+fn scripts(rt: HostRuntime) -> Result<(), Fail> {
     let alloc = rt.alloc();
     expect(&rt, alloc, STORE_AND_FETCH, Status::Done, PRINTED, b"")?;
     expect(&rt, alloc, b"", Status::Done, b"journal\n", b"")?;
@@ -56,20 +101,122 @@ fn scripts_and_what_is_no_script(rt: HostRuntime) -> Result<(), Fail> {
         b"worker 0\nb:0;b:0;\njournal\n0\n0\n",
         b"",
     )?;
-    for bad in [
-        b"worker\napcu_store s:1:\"a\"; i:05;\n".as_slice(),
-        b"worker\napcu_store s:1:\"a\"; i:5;",
-        b"worker\napcu_store s:1:\"a\"; i:5; \n",
-        b"worker\napcu_store i:1; i:5;\n",
-        b"worker\nworker\n",
-        b"worker",
-        b"apcu_fetch s:1:\"a\";\n",
-        b"worker\n\n",
-        b"\n",
+    for value in [
+        b"b:0;".as_slice(),
+        b"N;",
+        b"a:1:{i:0;R:1;}",
+        b"O:1:\"A\":2:{s:1:\"x\";r:1;s:1:\"y\";R:1;}",
+        b"a:4:{i:0;i:1;i:1;R:2;i:2;O:1:\"A\":0:{}i:3;r:3;}",
     ] {
-        expect(&rt, alloc, bad, Status::Script, b"", b"apcu_run: script\n")?;
+        comes_back(&rt, alloc, value)?;
+    }
+    let deepest = nested(alloc, 511, b"}")?;
+    comes_back(&rt, alloc, deepest.as_slice())
+}
+
+#[derive(Drop)]
+struct Refused {
+    input: &'static [u8],
+    told: &'static [u8],
+}
+
+fn refusal(input: &'static [u8], told: &'static [u8]) -> Refused {
+    Refused { input, told }
+}
+
+#[test]
+fn lines_with_a_fault(rt: HostRuntime) -> Result<(), Fail> {
+    let rows = [
+        refusal(
+            b"worker\napcu_store s:1:\"a\"; i:5;",
+            b"apcu_run: script: byte 31: end\n",
+        ),
+        refusal(
+            b"worker\napcu_store s:1:\"a\"; i:5; i:1;\n",
+            b"apcu_run: script: byte 32: unbuilt\n",
+        ),
+        refusal(
+            b"worker\napcu_store s:1:\"a\"; i:5;,\n",
+            b"apcu_run: script: byte 31: separator\n",
+        ),
+        refusal(
+            b"worker\napcu_store s:1:\"a\";\n",
+            b"apcu_run: script: byte 26: argument\n",
+        ),
+        refusal(
+            b"worker\napcu_store i:1; i:5;\n",
+            b"apcu_run: script: byte 18: argument\n",
+        ),
+        refusal(
+            b"worker\napcu_fetch a:0:{}\n",
+            b"apcu_run: script: byte 18: unbuilt\n",
+        ),
+        refusal(b"worker\nworker\n", b"apcu_run: script: byte 7: unbuilt\n"),
+        refusal(
+            b"worker\napcu_inc s:1:\"a\";\n",
+            b"apcu_run: script: byte 7: unbuilt\n",
+        ),
+        refusal(b"worker", b"apcu_run: script: byte 6: end\n"),
+        refusal(b"worker 1\n", b"apcu_run: script: byte 7: argument\n"),
+        refusal(
+            b"apcu_fetch s:1:\"a\";\n",
+            b"apcu_run: script: byte 0: line\n",
+        ),
+        refusal(b"worker\n\n", b"apcu_run: script: byte 7: line\n"),
+        refusal(b"\n", b"apcu_run: script: byte 0: line\n"),
+    ];
+    for row in &rows {
+        expect(&rt, rt.alloc(), row.input, Status::Script, b"", row.told)?;
     }
     Ok(())
+}
+
+#[test]
+fn values_with_a_fault(rt: HostRuntime) -> Result<(), Fail> {
+    let alloc = rt.alloc();
+    let rows = [
+        refusal(b"i:05;", b"apcu_run: script: byte 29: number\n"),
+        refusal(b"s:3:\"ab\";", b"apcu_run: script: byte 29: length\n"),
+        refusal(b"d:1.5;", b"apcu_run: script: byte 27: tag\n"),
+        refusal(b"a:1:{i:0;r:1;}", b"apcu_run: script: byte 38: target\n"),
+        refusal(
+            b"s:4294967295:\"a\";",
+            b"apcu_run: script: byte 29: length\n",
+        ),
+        refusal(b"a:4294967295:{}", b"apcu_run: script: byte 41: tag\n"),
+        refusal(b"a:1:{i:0;R:2;}", b"apcu_run: script: byte 38: target\n"),
+        refusal(b"R:1;", b"apcu_run: script: byte 29: target\n"),
+        refusal(
+            b"i:9223372036854775808;",
+            b"apcu_run: script: byte 29: number\n",
+        ),
+        refusal(b"b:2;", b"apcu_run: script: byte 29: number\n"),
+        refusal(b"a:1:{i:0;i:1;", b"apcu_run: script: byte 40: mark\n"),
+        refusal(
+            b"a:2:{i:0;N;i:0;N;}",
+            b"apcu_run: script: byte 38: repeat\n",
+        ),
+        refusal(
+            b"a:1:{s:1:\"5\";N;}",
+            b"apcu_run: script: byte 32: integer\n",
+        ),
+        refusal(b"O:1:\"-\":0:{}", b"apcu_run: script: byte 27: class\n"),
+        refusal(b"C:1:\"A\":0:{}", b"apcu_run: script: byte 27: tag\n"),
+    ];
+    for row in &rows {
+        let script = storing(alloc, row.input)?;
+        expect(&rt, alloc, script.as_slice(), Status::Script, b"", row.told)?;
+    }
+    let too_deep = nested(alloc, 512, b"")?;
+    let script = storing(alloc, too_deep.as_slice())?;
+    expect(
+        &rt,
+        alloc,
+        script.as_slice(),
+        Status::Script,
+        b"",
+        b"apcu_run: script: byte 4635: depth\n",
+    )
 }
 
 #[test]

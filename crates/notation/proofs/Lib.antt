@@ -1,4 +1,10 @@
-pub mod Decimals
-pub mod Integers
+pub mod Steps
+pub mod Outer
+pub mod Texts
 pub mod Fields
-pub mod Values
+pub mod Takes
+pub mod Whole
+pub mod Top
+pub mod Again
+pub mod Spelled
+pub mod Bounds

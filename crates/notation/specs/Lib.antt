@@ -1,5 +1,11 @@
 pub mod Notation
+pub mod Keys
 pub mod Place
-pub mod Numbers
+pub mod Marks
 pub mod Reading
 pub mod Appending
+pub mod Parts
+pub mod Writing
+pub mod Steps
+pub mod Outer
+pub mod Answer

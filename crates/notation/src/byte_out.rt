@@ -43,6 +43,11 @@ impl ByteOut {
         bytes
     }
 
+    // The allocator of the bytes.
+    pub(crate) fn alloc(&self) -> Global {
+        *self.bytes.allocator()
+    }
+
     /// Keeps the first `len` bytes.
     pub fn cut(&mut self, len: usize)
         requires { len ≤ length self.old }

@@ -1,4 +1,4 @@
-ghost use Rattle.std.specs.Prelude.{◌≡◌, ℕ, ◌+◌, ◌<◌, ◌≤◌, length, List, take, drop, slice_get, IsSome};
+ghost use Rattle.std.specs.Prelude.{◌≡◌, ℕ, ◌+◌, ◌-◌, ◌<◌, ◌≤◌, length, List, take, drop, slice_get, IsSome};
 ghost use Rattle.notation.specs.Place.{Standing, left};
 
 use std::marker::Model;
@@ -68,5 +68,12 @@ impl<'a> Cursor<'a> {
         ensures bytes { self.new.bytes ≡ self.old.bytes }
     {
         self.place = self.bytes.len() - count;
+    }
+
+    // The place from which so many bytes are left.
+    pub(crate) fn place_before(&self, count: usize) -> u64
+        ensures { result ≡ length self.now.bytes - count }
+    {
+        self.bytes.len().saturating_sub(count) as u64
     }
 }

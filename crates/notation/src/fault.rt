@@ -1,24 +1,94 @@
 ghost use Rattle.std.specs.Prelude.{◌≡◌};
-ghost use Rattle.notation.specs.declared.fault.ReadFault.TheVariants.{Memory};
+ghost use Rattle.notation.specs.declared.fault.Stop.TheVariants.{Memory};
 
 use std::alloc::AllocError;
 use thiserror::Error;
 
+/// What is wrong with the bytes, in the order of the notation's faults.
+#[derive(Clone, Copy, Debug, PartialEq, Eq, Error)]
+pub enum Reason {
+    /// The bytes end where more are due.
+    #[error("end")]
+    End,
+    /// A byte that begins no value, key or name that may stand there.
+    #[error("tag")]
+    Tag,
+    /// No number of the range, in its canonical decimal.
+    #[error("number")]
+    Number,
+    /// A string's bytes are not all there, or no quote stands behind them.
+    #[error("length")]
+    Length,
+    /// Not the mark that is due: `:`, `;`, `"`, `{` or `}`.
+    #[error("mark")]
+    Mark,
+    /// A value inside 512 containers.
+    #[error("depth")]
+    Depth,
+    /// A value after 16,777,216 others.
+    #[error("places")]
+    Places,
+    /// A number that names no place, or no object, that began before.
+    #[error("target")]
+    Target,
+    /// A key or a name that is there already.
+    #[error("repeat")]
+    Repeat,
+    /// No name of a class.
+    #[error("class")]
+    Class,
+    /// An array's string key that is an integer's decimal.
+    #[error("integer")]
+    Integer,
+    /// A line that begins with no known word.
+    #[error("line")]
+    Line,
+    /// Neither a space nor a line feed where one is due.
+    #[error("separator")]
+    Separator,
+    /// An argument too many, or one of the wrong kind or range, or none where one is due.
+    #[error("argument")]
+    Argument,
+    /// A script too many.
+    #[error("workers")]
+    Workers,
+    /// Generators that lie too deep.
+    #[error("generator")]
+    Generator,
+    /// What is not built yet.
+    #[error("unbuilt")]
+    Unbuilt,
+}
+
 /// Why no value was read.
 #[derive(Debug, Drop, Error)]
 pub enum ReadFault {
-    /// No text of a value starts there.
-    #[error("no value in the notation")]
-    Bad,
+    /// No text of a value starts there: the first fault, and the place of its byte among all bytes, from 0.
+    #[error("byte {place}: {reason}")]
+    Bad { place: u64, reason: Reason },
     /// There was no memory for the value.
     #[error("out of memory")]
     Memory,
 }
 
-impl From<AllocError> for ReadFault {
+/// The first fault, and how many bytes are left from where it is.
+#[derive(Clone, Copy, Debug)]
+pub struct Fault {
+    pub reason: Reason,
+    pub left: usize,
+}
+
+/// Why reading stopped.
+#[derive(Debug, Drop)]
+pub(crate) enum Stop {
+    Memory,
+    Fault(Fault),
+}
+
+impl From<AllocError> for Stop {
     ghost from_gives = { λ _ e. e ≡ Memory };
 
-    fn from(_e: AllocError) -> ReadFault {
-        ReadFault::Memory
+    fn from(_e: AllocError) -> Stop {
+        Stop::Memory
     }
 }

@@ -4,14 +4,19 @@
 mod byte_out;
 mod cursor;
 mod fault;
-mod number;
+mod items;
+mod laws;
+mod marks;
 mod reading;
+mod words;
 mod writing;
 
 pub use byte_out::ByteOut;
 pub use cursor::Cursor;
-pub use fault::ReadFault;
-pub use reading::{read_value, texts_tell_values_apart};
+pub use fault::{Fault, ReadFault, Reason};
+pub use laws::{readings_are_spellings, texts_tell_values_apart};
+pub use reading::read_value;
+pub use words::write_key;
 pub use writing::write_value;
 
 #[cfg(test)]

@@ -1,140 +1,95 @@
-ghost use Rattle.std.specs.Prelude.{◌≡◌, ℕ, ◌+◌, ◌<◌, ◌^◌, ◌++◌, List, [], ◌∷◌, length, MatchResult, IfOk, OnErr};
+//! Reading values.
+
+ghost use Rattle.std.specs.Prelude.{◌≡◌, ℕ, ◌+◌, ◌<◌, ◌≤◌, ◌++◌, ◌∷◌, List, length, reverse, Option, Some, None, MatchResult, IfOk, OnOk, OnErr};
 ghost use Rattle.php_graph.specs.declared.kind.Kind.{Kind};
 ghost use Rattle.php_graph.specs.Graph.{IsGraph};
+ghost use Rattle.php_graph.specs.Building.{nothing_drafted};
 ghost use Rattle.notation.specs.Notation.{text_of};
 ghost use Rattle.notation.specs.Place.{left};
-ghost use Rattle.php_graph.specs.Building.{kind_of};
-ghost use Rattle.notation.specs.Reading.{Gives, mark_at, integer_at, length_at, bytes_at, int_at, string_at, str_at, value_at};
+ghost use Rattle.notation.specs.Marks.{Gives};
+ghost use Rattle.notation.specs.Reading.{reading_of, value_at};
+ghost use Rattle.notation.specs.Answer.{IsReading};
+ghost use Rattle.notation.specs.Outer.{outer_stack};
 
 use crate::cursor::Cursor;
-use crate::fault::ReadFault;
-use crate::number::{integer, run_len};
-use php_graph::{Builder, Bytes, Graph, Item};
-use std::alloc::Global;
+use crate::fault::{ReadFault, Stop};
+use crate::items::{begun, close, key};
+use php_graph::{Builder, Graph, Wants, graphs_are_written, integer_texts};
+use std::alloc::{AllocError, Global};
 
-/// Reads the value whose text starts at the cursor, and goes on to what follows it. `Bad` where no
-/// text of a value starts there: a fault leaves the cursor where it stood.
+/// Reads the value whose text starts at the cursor, and goes on to what follows it. The notation is that of
+/// PHP's `serialize` and `unserialize`: `R:k;` takes no number, and shares the value that took the number k;
+/// `r:k;` takes a number of its own, and names the object that took the number k. Where no text of a value
+/// starts there, the answer is the first fault from the left, with the place of its byte. Memory is taken only
+/// for bytes that are there. After a fault the cursor stands where it stood.
 pub fn read_value(alloc: Global, from: &mut Cursor) -> Result<Graph, ReadFault>
+    // It is what reading from left to right gives: the value, or the first fault.
+    ensures read { IsReading from.old from.new result }
     // What is read is spelled there, and the cursor stands after it.
     ensures found { IfOk result (λ g. IsGraph g × (left from.old ≡ text_of g ++ left from.new)) }
     ensures place { IfOk result (λ g. from.new.place ≡ from.old.place + length (text_of g)) }
-    ensures bytes { from.new.bytes ≡ from.old.bytes }
     // What is spelled there is read, unless memory runs out.
     ensures only { (g : List Kind) (rest : List ℕ) → IsGraph g → left from.old ≡ text_of g ++ rest → MatchResult result (λ h. (h ≡ g) × (left from.new ≡ rest)) (λ e. e ≡ ReadFault.Memory) }
+    ensures bytes { from.new.bytes ≡ from.old.bytes }
     ensures fault { OnErr result (from.new ≡ from.old) }
 {
-    let (graph, rest) = spelled(alloc, from.rest())?;
-    from.leave(rest.len());
-    Ok(graph)
-}
-
-/// No text of a value is the front of another: two texts that go on to the same bytes are of one
-/// value, and the same bytes follow them.
-pub fn texts_tell_values_apart()
-    ensures { (g h : List Kind) (x y : List ℕ) → IsGraph g → IsGraph h → text_of g ++ x ≡ text_of h ++ y → (g ≡ h) × (x ≡ y) }
-{}
-
-fn spelled(alloc: Global, bytes: &[u8]) -> Result<(Graph, &[u8]), ReadFault>
-    ensures found { IfOk result (λ x. IsGraph x.0 × (bytes.now ≡ text_of x.0 ++ x.1.now)) }
-    ensures only { (g : List Kind) (rest : List ℕ) → IsGraph g → bytes.now ≡ text_of g ++ rest → MatchResult result (λ x. (x.0 ≡ g) × (x.1.now ≡ rest)) (λ e. e ≡ ReadFault.Memory) }
-{
-    value(alloc, bytes)
-}
-
-#[tactic(auto, unfolding(crate::specs::Reading::value_at))]
-fn value(alloc: Global, bytes: &[u8]) -> Result<(Graph, &[u8]), ReadFault>
-    ensures { Gives (λ x. (x.0, x.1.now)) result (value_at bytes.now) }
-{
-    match bytes {
-        [b'i', rest @ ..] => int(alloc, rest),
-        [b's', rest @ ..] => str(alloc, rest),
-        _ => Err(ReadFault::Bad),
+    integer_texts();
+    graphs_are_written();
+    let bytes = from.rest();
+    match whole(alloc, bytes) {
+        Ok((graph, rest)) => {
+            from.leave(rest.len());
+            Ok(graph)
+        }
+        Err(Stop::Memory) => Err(ReadFault::Memory),
+        Err(Stop::Fault(fault)) => Err(ReadFault::Bad {
+            place: from.place_before(fault.left),
+            reason: fault.reason,
+        }),
     }
 }
 
-#[tactic(auto, unfolding(crate::specs::Reading::int_at))]
-fn int(alloc: Global, bytes: &[u8]) -> Result<(Graph, &[u8]), ReadFault>
-    ensures { Gives (λ x. (x.0, x.1.now)) result (int_at bytes.now) }
-{
-    let rest = mark(b':', bytes)?;
-    let (n, rest) = integer_of(rest)?;
-    let rest = mark(b';', rest)?;
-    Ok((single(alloc, Item::Int(n))?, rest))
-}
-
-#[tactic(auto, unfolding(crate::specs::Reading::str_at))]
-fn str(alloc: Global, bytes: &[u8]) -> Result<(Graph, &[u8]), ReadFault>
-    ensures { Gives (λ x. (x.0, x.1.now)) result (str_at bytes.now) }
-{
-    let (text, rest) = string(bytes)?;
-    let text = Bytes::of(alloc, text)?;
-    Ok((single(alloc, Item::Str(text))?, rest))
-}
-
-// A value of one place.
-fn single(alloc: Global, item: Item) -> Result<Graph, ReadFault>
-    ensures { MatchResult result (λ g. g ≡ kind_of item ∷ []) (λ e. e ≡ ReadFault.Memory) }
+// A whole value. The open containers are kept here, each with the number of members that are to come in the one
+// around it; those of the innermost are in `members`.
+#[tactic(auto, unfolding(crate::specs::Reading::reading_of))]
+fn whole(alloc: Global, bytes: &[u8]) -> Result<(Graph, &[u8]), Stop>
+    ensures read { Gives (λ x. (x.0, x.1.now)) result (reading_of bytes.now) }
+    ensures sealed { IfOk result (λ x. IsGraph x.0) }
 {
     let mut builder = Builder::new(alloc);
-    match builder.push(item) {
-        Ok(()) => Ok(builder.seal()),
-        Err(_) => Err(ReadFault::Memory),
+    let mut outer: Vec<u32> = Vec::new(alloc);
+    let (count, mut rest) = begun(alloc, &mut builder, bytes)?;
+    let mut members = enter(&mut outer, 0, count)?;
+    'reading: loop {
+        match builder.wants() {
+            Wants::Done => return Ok((builder.seal(), rest)),
+            Wants::Value => {
+                let (count, after) = begun(alloc, &mut builder, rest)?;
+                rest = after;
+                members = enter(&mut outer, members, count)?;
+            }
+            _ => {
+                if members == 0 {
+                    rest = close(&mut builder, rest)?;
+                    members = outer.pop().unwrap_or(0);
+                } else {
+                    rest = key(alloc, &mut builder, rest)?;
+                    members -= 1;
+                }
+            }
+        }
     }
 }
 
-#[tactic(auto, unfolding(crate::specs::Reading::string_at))]
-fn string(bytes: &[u8]) -> Result<(&[u8], &[u8]), ReadFault>
-    ensures read { Gives (λ x. (x.0.now, x.1.now)) result (string_at bytes.now) }
-    ensures short { IfOk result (λ x. length x.0.now < 2 ^ 32) }
+// Opens a container if there is one, and answers how many members are to come in the innermost.
+fn enter(outer: &mut Vec<u32>, members: u32, count: Option<u32>) -> Result<u32, AllocError>
+    ensures { IfOk result (λ n. outer_stack count members (reverse outer.old.items) n (reverse outer.new.items)) }
 {
-    let rest = mark(b':', bytes)?;
-    let (len, rest) = length_of(rest)?;
-    let rest = mark(b':', rest)?;
-    let rest = mark(b'"', rest)?;
-    let (text, rest) = front(len, rest)?;
-    let rest = mark(b'"', rest)?;
-    let rest = mark(b';', rest)?;
-    Ok((text, rest))
-}
-
-fn front(len: u32, bytes: &[u8]) -> Result<(&[u8], &[u8]), ReadFault>
-    ensures read { Gives (λ x. (x.0.now, x.1.now)) result (bytes_at len bytes.now) }
-    ensures length { IfOk result (λ x. length x.0.now ≡ len) }
-{
-    let len = len as usize;
-    if bytes.len() < len {
-        return Err(ReadFault::Bad);
-    }
-    Ok(bytes.split_at(len))
-}
-
-#[tactic(auto, unfolding(crate::specs::Reading::length_at))]
-fn length_of(bytes: &[u8]) -> Result<(u32, &[u8]), ReadFault>
-    ensures { Gives (λ x. (x.0, x.1.now)) result (length_at bytes.now) }
-{
-    let (n, rest) = integer_of(bytes)?;
-    if n < 0 || n > 4_294_967_295 {
-        return Err(ReadFault::Bad);
-    }
-    Ok((n as u32, rest))
-}
-
-#[tactic(auto, unfolding(crate::specs::Reading::integer_at))]
-fn integer_of(bytes: &[u8]) -> Result<(i64, &[u8]), ReadFault>
-    ensures { Gives (λ x. (x.0, x.1.now)) result (integer_at bytes.now) }
-{
-    let (run, rest) = bytes.split_at(run_len(bytes));
-    match integer(run) {
-        Some(n) => Ok((n, rest)),
-        None => Err(ReadFault::Bad),
-    }
-}
-
-fn mark(due: u8, bytes: &[u8]) -> Result<&[u8], ReadFault>
-    ensures { Gives (λ rest. rest.now) result (mark_at due bytes.now) }
-{
-    match bytes {
-        [b, rest @ ..] if *b == due => Ok(rest),
-        _ => Err(ReadFault::Bad),
+    match count {
+        Some(n) => {
+            outer.push(members)?;
+            Ok(n)
+        }
+        None => Ok(members),
     }
 }

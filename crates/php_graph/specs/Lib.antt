@@ -1,5 +1,9 @@
-pub mod Text
+pub mod ByteStrings
+pub mod Numbers
 pub mod Graph
 pub mod Size
 pub mod Building
-pub mod Hash
+pub mod Counted
+pub mod Kept
+pub mod Keys
+pub mod Drafted

@@ -1,21 +1,38 @@
--- How many words a value takes in the segment.
-use Rattle.std.specs.Prelude.{ℕ, ◌+◌, ◌*◌, ◌/◌, List, length, sum_by}
+-- How many 64-bit words a graph's image takes, and an entry's block.
+use Rattle.std.specs.Prelude.{ℕ, ◌+◌, ◌-◌, ◌/◌, ◌%◌, List, length, sum_by, take}
+use Rattle.php_graph.specs.declared.key.Key.{Key}
+use Rattle.php_graph.specs.declared.key.Key.TheVariants as keys
 use Rattle.php_graph.specs.declared.kind.Kind.{Kind}
-use Rattle.php_graph.specs.declared.kind.Kind.TheVariants.{Int, Str}
+use Rattle.php_graph.specs.declared.kind.Kind.TheVariants as kinds
 
--- the words that hold so many bytes, eight in each
+-- the words of n bytes, eight a word
 abbrev pub words_in : ℕ → ℕ
 words_in n = (n + 7) / 8
 
--- the words of one place: its tag, and what follows it
+-- the words of a key: of an integer two, of a byte string its tag and its bytes
+abbrev pub key_cells : Key → ℕ
+key_cells (keys.Int n) = 2
+key_cells (keys.Str bytes) = 1 + words_in (length bytes)
+
+-- The words of a place: its tag and what it holds; a member of a container takes a word for its child,
+-- and those of its key.
 abbrev pub cells_of : Kind → ℕ
-cells_of (Int n) = 2
-cells_of (Str bytes) = 1 + words_in (length bytes)
+cells_of kinds.Null = 1
+cells_of (kinds.Bool b) = 1
+cells_of (kinds.Int n) = 2
+cells_of (kinds.Str bytes) = 1 + words_in (length bytes)
+cells_of (kinds.Array ms) = 1 + sum_by (λ m. 1 + key_cells m.0) ms
+cells_of (kinds.Object class ps) = 2 + words_in (length class) + sum_by (λ p. 2 + words_in (length p.0)) ps
+cells_of (kinds.Same x) = 2
 
 -- the words of all places
 abbrev pub image_length : List Kind → ℕ
 image_length g = sum_by cells_of g
 
--- the words of an entry's block: twelve of its own, the key, the value, and one more where that is odd
+-- where the image has place k: behind the places before it
+abbrev pub offset_of : List Kind → ℕ → ℕ
+offset_of g k = image_length (take (k - 1) g)
+
+-- The block of an entry: twelve words, its key and its image, filled up to an even number.
 abbrev pub block_size : ℕ → List Kind → ℕ
-block_size key_len g = 2 * ((12 + words_in key_len + image_length g + 1) / 2)
+block_size key_len g = let n = 12 + words_in key_len + image_length g in n + n % 2

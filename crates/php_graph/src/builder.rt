@@ -1,109 +1,267 @@
-ghost use Rattle.std.specs.Prelude.{◌≡◌, ◌↔◌, ℕ, List, [], ◌∷◌, ◌++◌, length, OnOk, OnErr};
-ghost use Rattle.php_graph.specs.declared.kind.Kind.{Kind};
-ghost use Rattle.php_graph.specs.Graph.{IsGraph, IsKind};
-ghost use Rattle.php_graph.specs.Building.{wants_of, kind_of};
+//! Writing a graph item by item.
+
+ghost use Rattle.std.specs.Prelude.{◌≡◌, ◌⊎◌, [], true, Some, None, IsTrue, OnOk, OnErr, IfErr, IsErrOf, MatchResult};
+ghost use Rattle.php_graph.specs.declared.item.BuildFault.{BuildFault};
+ghost use Rattle.php_graph.specs.declared.item.BuildFault.TheVariants.{Memory};
+ghost use Rattle.php_graph.specs.declared.item.Item.TheVariants as items;
+ghost use Rattle.php_graph.specs.declared.item.Wants.TheVariants.{Value, ArrayKey, Name, Done};
+ghost use Rattle.php_graph.specs.Building.{nothing_drafted, wants_of, item_fits, is_name, fault_of, pushed, IsAnswer, room_fault, value_fault, with_value, with_back};
+ghost use Rattle.php_graph.specs.declared.kind.Kind.TheVariants as kinds;
+ghost use Rattle.php_graph.specs.Graph.{IsGraph, is_object_at};
+ghost use Rattle.php_graph.specs.Drafted.{IsFresh};
 
 use crate::bytes::Bytes;
+use crate::child::Child;
+use crate::container::Container;
 use crate::graph::Graph;
+use crate::item::{BuildFault, Item, Wants};
+use crate::key::Key;
 use crate::kind::Kind;
-use std::alloc::{AllocError, Global};
+use crate::members::Members;
+use crate::numbers::is_class;
+use crate::props::Props;
+use crate::steps::{attach, note_last, open_container, push_place, put};
+use std::alloc::Global;
 use std::marker::Model;
-use thiserror::Error;
 
-/// What a builder may be given next.
-#[derive(Clone, Copy, Debug, PartialEq, Eq)]
-pub enum Wants {
-    /// The beginning of a value.
-    Value,
-    /// Nothing: the graph is whole.
-    Done,
-}
+/// How many containers may lie in one another.
+const LEVELS: usize = 512;
+/// How many values a graph may have.
+const MOST_VALUES: u32 = 16_777_216;
 
-/// One step of writing a value.
-#[derive(Debug, Drop)]
-pub enum Item {
-    /// An integer.
-    Int(i64),
-    /// A string.
-    Str(Bytes),
-}
-
-/// Why an item was not taken.
-#[derive(Debug, Drop, Error)]
-pub enum BuildFault {
-    #[error("out of memory")]
-    Memory,
-}
-
-/// A value that is being written, item by item. Contracts see the places so far.
+/// A graph that is being written, item by item, in the order of the notation.
 #[derive(Debug, Drop)]
 pub struct Builder {
     places: Vec<Kind>,
+    /// Room for where the image has each place. It is filled in once the graph is whole.
+    offsets: Vec<u64>,
+    /// The open containers, the outermost first.
+    containers: Vec<Container>,
+    /// The key that waits for its value.
+    key: Option<Key>,
+    /// The values so far: places, and members that share one.
+    values: u32,
+    alloc: Global,
 }
 
 impl Model for Builder {
-    ghost use Rattle.std.specs.Prelude.{ℕ, ◌⊎◌, ◌≡◌, [], List, ◌≤◌, length};
-    ghost use Rattle.std.specs.List.{AllByRecursion};
-    ghost use Rattle.php_graph.specs.declared.kind.Kind.{Kind};
-    ghost use Rattle.php_graph.specs.Graph.{IsKind};
+    ghost use Rattle.php_graph.specs.Building.{Draft};
+    ghost use Rattle.php_graph.specs.Drafted.{draft_of, IsBuilding};
 
-    ghost Value = { List Kind };
+    ghost Value = { Draft };
 
-    ghost view = { λ b. b.places.items };
+    ghost view = { λ a. draft_of a.places.items a.containers.items a.key };
 
-    ghost invariant = { λ b. (length b.places.items ≤ 1) × AllByRecursion IsKind b.places.items };
+    ghost invariant = { λ a. IsBuilding a.places.items a.offsets.items a.containers.items a.key a.values };
 }
 
 impl Builder {
-    /// A builder that wants a value. Nothing is allocated yet.
+    /// Nothing is written yet. This takes no memory.
     pub fn new(alloc: Global) -> Builder
-        ensures { result ≡ [] }
+        ensures { result ≡ nothing_drafted }
     {
         Builder {
             places: Vec::new(alloc),
+            offsets: Vec::new(alloc),
+            containers: Vec::new(alloc),
+            key: None,
+            values: 0,
+            alloc,
         }
     }
 
-    /// What may be pushed next.
+    /// What comes next.
     pub fn wants(&self) -> Wants
         ensures { result ≡ wants_of self.now }
     {
-        if self.places.is_empty() {
-            Wants::Value
+        let Some(container) = self.containers.last() else {
+            return if self.places.is_empty() {
+                Wants::Value
+            } else {
+                Wants::Done
+            };
+        };
+        if self.key.is_some() {
+            return Wants::Value;
+        }
+        let kind = &self.places[(container.place - 1) as usize];
+        if kind.is_array() {
+            Wants::ArrayKey
         } else {
-            Wants::Done
+            Wants::Name
         }
     }
 
-    /// Takes the next item, or has no memory for it and stays as it was.
-    pub fn push(&mut self, item: Item) -> Result<(), BuildFault>
-        requires { wants_of self.old ≡ Wants.Value }
-        ensures ok { OnOk result (self.new ≡ self.old ++ kind_of item ∷ []) }
+    /// Why there is no room for one more value: it would lie too deep, or there are too many. What is refused so is
+    /// refused whatever the value is.
+    pub fn room(&self) -> Result<(), BuildFault>
+        ensures { MatchResult result (λ _. room_fault self.now ≡ None) (λ fault. room_fault self.now ≡ Some fault) }
+    {
+        if self.containers.len() >= LEVELS {
+            return Err(BuildFault::TooDeep);
+        }
+        if self.values >= MOST_VALUES {
+            return Err(BuildFault::TooManyPlaces);
+        }
+        Ok(())
+    }
+
+    /// A value with a place of its own.
+    fn push_value(&mut self, kind: Kind) -> Result<(), BuildFault>
+        requires wanted { wants_of self.old ≡ Value }
+        requires new_value { IsFresh self.old.places kind }
+        ensures answer { IsAnswer (room_fault self.old) result }
+        ensures ok { OnOk result (self.new ≡ with_value self.old kind) }
         ensures err { OnErr result (self.new ≡ self.old) }
     {
-        match self.places.push(place_of(item)) {
-            Ok(()) => Ok(()),
-            Err(_) => Err(BuildFault::Memory),
+        self.room()?;
+        self.offsets.reserve(1)?;
+        self.containers.reserve(1)?;
+        let place = self.places.len() as u32 + 1;
+        let opens = kind.is_container();
+        kind.check();
+        push_place(&mut self.places, &self.containers, &mut self.key, kind)?;
+        put(&mut self.offsets, 0);
+        open_container(&mut self.containers, place, opens);
+        self.values += 1;
+        Ok(())
+    }
+    /// A member that shares the value at this place.
+    fn push_back(&mut self, place: u32) -> Result<(), BuildFault>
+        requires { wants_of self.old ≡ Value }
+        ensures answer { IsAnswer (value_fault self.old (items.Back place)) result }
+        ensures ok { OnOk result (self.new ≡ with_back self.old place) }
+        ensures err { OnErr result (self.new ≡ self.old) }
+    {
+        self.room()?;
+        if place == 0 || place as usize > self.places.len() {
+            return Err(BuildFault::BadNumber);
         }
+        attach(
+            &mut self.places,
+            &self.containers,
+            &mut self.key,
+            Child::Back(place),
+        )?;
+        self.values += 1;
+        Ok(())
+    }
+
+    /// A value that names the object at this place.
+    fn push_same(&mut self, place: u32) -> Result<(), BuildFault>
+        requires { wants_of self.old ≡ Value }
+        ensures answer { IsAnswer (value_fault self.old (items.Same place)) result }
+        ensures ok { OnOk result (self.new ≡ with_value self.old (kinds.Same place)) }
+        ensures err { OnErr result (self.new ≡ self.old) }
+    {
+        self.room()?;
+        if !self.has_object(place) {
+            return Err(BuildFault::BadNumber);
+        }
+        self.push_value(Kind::Same(place))
+    }
+
+    /// Whether an object has begun at this place.
+    fn has_object(&self, place: u32) -> bool
+        ensures { result ≡ is_object_at self.now.places place }
+    {
+        let at = place as usize;
+        if at == 0 || at > self.places.len() {
+            return false;
+        }
+        let kind = &self.places[(place - 1) as usize];
+        kind.is_object()
+    }
+
+    /// An object that begins.
+    fn push_object(&mut self, class: Bytes) -> Result<(), BuildFault>
+        requires { wants_of self.old ≡ Value }
+        ensures answer { IsAnswer (value_fault self.old (items.OpenObject class)) result }
+        ensures ok { OnOk result (self.new ≡ with_value self.old (kinds.Object class [])) }
+        ensures err { OnErr result (self.new ≡ self.old) }
+    {
+        self.room()?;
+        if !is_class(class.as_slice()) {
+            return Err(BuildFault::BadClass);
+        }
+        let props = Props::new(self.alloc)?;
+        self.push_value(Kind::Object(class, props))
+    }
+
+    /// The key of the next member.
+    fn push_key(&mut self, key: Key) -> Result<(), BuildFault>
+        requires inside { wants_of self.old ≡ ArrayKey ⊎ (wants_of self.old ≡ Name × is_name key ≡ true) }
+        ensures answer { IsAnswer (fault_of self.old (items.Key key)) result }
+        ensures ok { OnOk result (self.new ≡ pushed self.old (items.Key key)) }
+        ensures err { OnErr result (self.new ≡ self.old) }
+    {
+        note_last(self.alloc, &self.places, &mut self.containers, &key)?;
+        self.key = Some(key);
+        Ok(())
+    }
+
+    /// The innermost open container ends.
+    fn close(&mut self)
+        requires { wants_of self.old ≡ ArrayKey ⊎ wants_of self.old ≡ Name }
+        ensures { self.new ≡ pushed self.old items.Close }
+    {
+        let _ = self.containers.pop();
+    }
+
+    fn step(&mut self, item: Item) -> Result<(), BuildFault>
+        requires { IsTrue (item_fits (wants_of self.old) item) }
+        ensures answer { IsAnswer (fault_of self.old item) result }
+        ensures ok { OnOk result (self.new ≡ pushed self.old item) }
+        ensures err { OnErr result (self.new ≡ self.old) }
+    {
+        match item {
+            Item::Null => self.push_value(Kind::Null),
+            Item::Bool(truth) => self.push_value(Kind::Bool(truth)),
+            Item::Int(number) => self.push_value(Kind::Int(number)),
+            Item::Str(bytes) => self.push_value(Kind::Str(bytes)),
+            Item::OpenArray => {
+                let members = Members::new(self.alloc);
+                self.push_value(Kind::Array(members))
+            }
+            Item::OpenObject(class) => self.push_object(class),
+            Item::Key(key) => self.push_key(key),
+            Item::Close => {
+                self.close();
+                Ok(())
+            }
+            Item::Same(place) => self.push_same(place),
+            Item::Back(place) => self.push_back(place),
+        }
+    }
+
+    /// Writes the next item. It is refused where it begins a value inside 512 containers, or the value number
+    /// 16,777,217; where it shares a place that has not begun, or names no object that has; where its key is
+    /// an integer's decimal, or is there already; or where its class has no such name. Want of memory comes
+    /// only where none of these does. A refusal leaves everything as it was.
+    pub fn push(&mut self, item: Item) -> Result<(), BuildFault>
+        requires { IsTrue (item_fits (wants_of self.old) item) }
+        ensures ok { OnOk result ((self.new ≡ pushed self.old item) × (fault_of self.old item ≡ None)) }
+        ensures refused { (fault : BuildFault) → fault_of self.old item ≡ Some fault → IsErrOf result fault }
+        ensures cause { IfErr result (λ fault. (fault ≡ Memory) ⊎ (fault_of self.old item ≡ Some fault)) }
+        ensures err { OnErr result (self.new ≡ self.old) }
+    {
+        self.step(item)
     }
 
     /// The graph that was written.
     pub fn seal(self) -> Graph
-        requires { wants_of self ≡ Wants.Done }
-        ensures places { result ≡ self }
-        ensures sealed { IsGraph result }
+        requires { wants_of self ≡ Done }
+        ensures places { result ≡ self.places }
+        ensures graph { IsGraph self.places }
     {
-        Graph::from_places(self.places)
-    }
-}
-
-// The place that an item begins. A number has its type's range, a string its own length.
-fn place_of(item: Item) -> Kind
-    ensures place { result ≡ kind_of item }
-    ensures fits { IsKind result }
-{
-    match item {
-        Item::Int(n) => Kind::Int(n),
-        Item::Str(bytes) => Kind::Str(bytes.sealed()),
+        let Builder {
+            places,
+            offsets,
+            containers: _,
+            key: _,
+            values: _,
+            alloc: _,
+        } = self;
+        Graph::from_parts(places, offsets)
     }
 }

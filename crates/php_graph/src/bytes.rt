@@ -1,51 +1,107 @@
-ghost use Rattle.std.specs.Prelude.{◌≡◌, ℕ, ◌<◌, ◌^◌, List, length, IfOk};
-ghost use Rattle.php_graph.specs.Text.{IsString};
+//! Byte strings.
+
+ghost use Rattle.std.specs.Prelude.{◌≡◌, IfOk, length, ◌^◌, ◌<◌, ◌==◌, ◌≤◌};
+ghost use Rattle.std.specs.Cmp.Lexicographic.{pointwise, slice_cmp};
+ghost use Rattle.std.specs.Ordering.{nat_cmp, as_partial_cmp};
+ghost use Rattle.std.specs.Cmp.Rules.{comparing};
+ghost use Rattle.std.specs.Cmp.{partial_order_from_own_ties};
+ghost use Rattle.std.proofs.Common.{rules};
+ghost use Rattle.php_graph.specs.ByteStrings.{AreBytes};
 
 use std::alloc::{AllocError, Global};
+use std::cmp::Ordering;
 use std::marker::Model;
 
-/// A string of fewer than 2^32 bytes: a PHP string, which need not be text.
+/// A byte string of fewer than 2^32 bytes, as keys, names, classes and string values are.
 #[derive(Debug, Drop)]
 pub struct Bytes {
-    items: Vec<u8>,
+    pub(crate) items: Vec<u8>,
 }
 
 impl Model for Bytes {
-    ghost use Rattle.std.specs.Prelude.{List, ℕ, length, ◌<◌, ◌^◌};
+    ghost use Rattle.std.specs.Prelude.{List, ℕ};
+    ghost use Rattle.php_graph.specs.ByteStrings.{AreBytes};
 
     ghost Value = { List ℕ };
 
-    ghost view = { λ b. b.items.items };
+    ghost view = { λ a. a.items.items };
 
-    ghost invariant = { λ b. length b.items.items < 2 ^ 32 };
+    ghost invariant = { λ a. AreBytes a.items.items };
 }
 
 impl Bytes {
     /// A copy of these bytes.
     pub fn of(alloc: Global, from: &[u8]) -> Result<Bytes, AllocError>
         requires { length from.now < 2 ^ 32 }
-        ensures { IfOk result (λ b. b ≡ from.now) }
+        ensures { IfOk result (λ bytes. bytes ≡ from.now) }
     {
-        Ok(Bytes {
-            items: Vec::from_slice(alloc, from)?,
-        })
+        let items = Vec::from_slice(alloc, from)?;
+        Ok(Bytes { items })
     }
 
     /// The bytes.
     pub fn as_slice(&self) -> &[u8]
         ensures bytes { result.now ≡ self.now }
-        ensures string { IsString self.now }
+        ensures fits { AreBytes self.now }
     {
-        let items: &[u8] = &self.items;
-        items
+        self.items.as_slice()
     }
 
-    // The same bytes, with what their type keeps said in a clause.
-    pub(crate) fn sealed(self) -> Bytes
-        ensures same { result ≡ self }
-        ensures string { IsString result }
+    /// Equal bytes.
+    pub(crate) fn try_copy(&self, alloc: Global) -> Result<Bytes, AllocError>
+        ensures { IfOk result (λ copy. copy ≡ self.now) }
     {
-        let _ = self.as_slice();
-        self
+        let items = Vec::from_slice(alloc, &self.items)?;
+        Ok(Bytes { items })
+    }
+}
+
+impl Bytes {
+    ghost use Rattle.php_graph.specs.Size.{words_in};
+
+    /// The words of the bytes in an image, eight bytes a word.
+    pub(crate) fn cells(&self) -> u64
+        ensures cells { result ≡ words_in (length self.now) }
+        ensures small { result ≤ 2 ^ 29 }
+    {
+        (self.items.len() as u64 + 7) / 8
+    }
+}
+
+impl PartialEq for Bytes {
+    ghost eq = { pointwise ◌==◌ };
+
+    ghost laws = { Prim.search (comparing, rules) };
+
+    fn eq(&self, other: &Bytes) -> bool {
+        self.items == other.items
+    }
+}
+
+impl Eq for Bytes {
+    ghost laws = { Prim.search (comparing, rules) };
+}
+
+impl Ord for Bytes {
+    ghost cmp = { slice_cmp nat_cmp };
+
+    ghost total = { Prim.search (comparing, rules) };
+
+    ghost matches_partial_cmp = { Prim.search (comparing, rules) };
+
+    ghost matches_eq = { Prim.search (comparing, rules) };
+
+    fn cmp(&self, other: &Bytes) -> Ordering {
+        self.items.cmp(&other.items)
+    }
+}
+
+impl PartialOrd for Bytes {
+    ghost partial_cmp = { as_partial_cmp (slice_cmp nat_cmp) };
+
+    ghost laws = { partial_order_from_own_ties (Prim.search (comparing, rules)) (Prim.search (comparing, rules)) };
+
+    fn partial_cmp(&self, other: &Bytes) -> Option<Ordering> {
+        Some(self.cmp(other))
     }
 }

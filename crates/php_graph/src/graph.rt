@@ -1,131 +1,257 @@
-ghost use Rattle.std.specs.Prelude.{◌≡◌, ℕ, ◌+◌, ◌<◌, ◌≤◌, ◌^◌, List, [], ◌∷◌, length, IfOk, IfErr, slice_get, Some};
-ghost use Rattle.php_graph.specs.Text.{IsString};
+//! Value graphs.
+
+ghost use Rattle.std.specs.Prelude.{◌≡◌, ℕ, ◌+◌, ◌<◌, ◌≤◌, ◌^◌, ◌↔◌, IsTrue, IfOk, IfErr, IfSome, List, [], ◌∷◌, length, Some};
+ghost use Rattle.php_graph.specs.ByteStrings.{AreBytes};
 ghost use Rattle.php_graph.specs.declared.kind.Kind.TheVariants.{Str};
-ghost use Rattle.php_graph.specs.declared.kind.Kind.{Kind};
-ghost use Rattle.php_graph.specs.Graph.{IsGraph, kind_at};
-ghost use Rattle.php_graph.specs.Size.{words_in, cells_of, image_length, block_size};
+ghost use Rattle.std.specs.Option.{option_map};
+ghost use Rattle.php_graph.specs.Graph.{IsGraph, kind_at, most_values, end_of, part_of, lowered_places};
+ghost use Rattle.php_graph.specs.Counted.{children_in};
+ghost use Rattle.php_graph.specs.Kept.{offsets_from};
+ghost use Rattle.php_graph.specs.Size.{image_length, offset_of, block_size};
 
 use crate::bytes::Bytes;
 use crate::kind::Kind;
 use std::alloc::{AllocError, Global};
 use std::marker::Model;
 
-/// A whole value. Contracts see the list of its places, which are numbered from 1 in the order of
-/// PHP's serialize notation.
+/// A value as PHP's serialize notation numbers it: a list of places from 1, in the order in which they are
+/// written. Order, sharing and cycles are the numbers in its members. It is whole and well formed always.
 #[derive(Debug, Drop)]
 pub struct Graph {
-    kinds: Vec<Kind>,
+    pub(crate) places: Vec<Kind>,
+    /// Where the image has each place, in words.
+    pub(crate) offsets: Vec<u64>,
+    /// The length of the image in words.
+    pub(crate) words: u64,
 }
 
 impl Model for Graph {
     ghost use Rattle.std.specs.Prelude.{List};
     ghost use Rattle.php_graph.specs.declared.kind.Kind.{Kind};
-    ghost use Rattle.php_graph.specs.Graph.{IsGraph};
+    ghost use Rattle.php_graph.specs.Kept.{IsKept};
 
     ghost Value = { List Kind };
 
-    ghost view = { λ g. g.kinds.items };
+    ghost view = { λ a. a.places.items };
 
-    ghost invariant = { λ g. IsGraph g.kinds.items };
+    ghost invariant = { λ a. IsKept a.places.items a.offsets.items a.words };
 }
 
 impl Graph {
-    // The places of a value that was written whole.
-    pub(crate) fn from_places(kinds: Vec<Kind>) -> Graph
-        requires { IsGraph kinds.items }
-        ensures { result ≡ kinds.items }
+    /// The graph with these places, and room for where each stands.
+    pub(crate) fn from_parts(places: Vec<Kind>, offsets: Vec<u64>) -> Graph
+        requires graph { IsGraph places.items }
+        requires few { children_in places.items ≤ most_values }
+        requires room { length offsets.items ≡ length places.items }
+        ensures { result ≡ places.items }
     {
-        Graph { kinds }
+        let mut offsets = offsets;
+        let words = fill_offsets(&places, &mut offsets);
+        Graph {
+            places,
+            offsets,
+            words,
+        }
     }
 
-    /// How many places there are, at least 1.
+    /// How many places there are.
     pub fn places(&self) -> u32
-        ensures count { result ≡ length self.now }
-        ensures sealed { IsGraph self.now }
+        ensures { result ≡ length self.now }
     {
-        self.kinds.len() as u32
+        self.places.len() as u32
     }
 
-    /// What stands at a place, counted from 1.
+    /// What stands at place k.
     pub fn kind(&self, k: u32) -> &Kind
-        requires first { 1 ≤ k }
-        requires last { k ≤ length self.now }
+        requires from_one { 1 ≤ k }
+        requires there { k ≤ length self.now }
         ensures { kind_at self.now k ≡ Some result.now }
     {
-        &self.kinds[k as usize - 1]
+        &self.places[(k - 1) as usize]
     }
 
-    /// The length of the value's image in words.
+    /// Where place k stands in the graph's image, in words.
+    pub fn at(&self, k: u32) -> u64
+        requires from_one { 1 ≤ k }
+        requires there { k ≤ length self.now }
+        ensures { result ≡ offset_of self.now k }
+    {
+        self.offsets[(k - 1) as usize]
+    }
+
+    /// The length of the graph's image, in words.
     pub fn words(&self) -> u64
-        ensures length { result ≡ image_length self.now }
-        ensures few { result < 2 ^ 56 }
+        ensures words { result ≡ image_length self.now }
+        ensures small { result < 2 ^ 60 }
     {
-        let mut words: u64 = 0;
-        for kind in &self.kinds {
-            words += cells(kind);
-        }
-        words
+        self.words
     }
 
-    /// The bytes of a value that is one string; any other value comes back as it is. It takes no memory.
-    pub fn into_string(self) -> Result<Bytes, Graph>
-        ensures string { IfOk result (λ bytes. (self ≡ Str bytes ∷ []) × IsString bytes) }
-        ensures other { IfErr result (λ g. (g ≡ self) × ((bytes : List ℕ) → self ≡ Str bytes ∷ [] → ⊥)) }
+    /// Each graph is whole and well formed.
+    pub fn is_sealed(&self)
+        ensures { IsGraph self.now }
     {
-        let Graph { mut kinds } = self;
-        match kinds.pop() {
-            Some(Kind::Str(bytes)) => Ok(bytes.sealed()),
-            Some(kind) => {
-                kinds.push_reserved(kind);
-                Err(Graph { kinds })
-            }
-            None => Err(Graph { kinds }),
-        }
+        let _places = &self.places;
+    }
+    /// Whether the two have equal places: the same values in the same order, shared alike.
+    pub fn same(&self, other: &Graph) -> bool
+        ensures { IsTrue result ↔ (self.now ≡ other.now) }
+    {
+        same_places(&self.places, &other.places)
     }
 
     /// An equal graph.
     pub fn try_copy(&self, alloc: Global) -> Result<Graph, AllocError>
-        ensures { IfOk result (λ g. g ≡ self.now) }
+        ensures { IfOk result (λ copy. copy ≡ self.now) }
     {
-        let mut kinds = Vec::new(alloc);
-        for kind in &self.kinds {
-            kinds.push(copy_of(alloc, kind)?)?;
+        let places = copied(alloc, &self.places)?;
+        let offsets = Vec::from_slice(alloc, &self.offsets)?;
+        Ok(Graph {
+            places,
+            offsets,
+            words: self.words,
+        })
+    }
+    /// The value that is written at place k, as a graph of its own: its places, with all numbers lowered by k - 1.
+    /// None exactly where one of them names a place outside that value.
+    pub fn part(&self, alloc: Global, k: u32) -> Result<Option<Graph>, AllocError>
+        requires from_one { 1 ≤ k }
+        requires there { k ≤ length self.now }
+        ensures { IfOk result (λ part. part ≡ part_of self.now k) }
+    {
+        let Some(places) = part_places(alloc, &self.places, k)? else {
+            return Ok(None);
+        };
+        let offsets = zeros(alloc, places.len())?;
+        Ok(Some(Graph::from_parts(places, offsets)))
+    }
+}
+
+/// The number after the value that is written at place k. Only the last of its members, the last one's last
+/// and so on are looked at.
+fn end_of(places: &[Kind], k: u32) -> u32
+    requires graph { IsGraph places.now }
+    requires from_one { 1 ≤ k }
+    requires there { k ≤ length places.now }
+    ensures end { end_of places.now k ≡ Some result }
+    ensures after { k < result }
+    ensures within { result ≤ length places.now + 1 }
+{
+    let mut place = k;
+    while let Some(last) = places[(place - 1) as usize].last_own() {
+        place = last;
+    }
+    place + 1
+}
+
+/// The places of the value that is written at place k, with all numbers lowered by k - 1.
+fn part_places(alloc: Global, places: &[Kind], k: u32) -> Result<Option<Vec<Kind>>, AllocError>
+    requires graph { IsGraph places.now }
+    requires few { children_in places.now ≤ most_values }
+    requires from_one { 1 ≤ k }
+    requires there { k ≤ length places.now }
+    ensures part { IfOk result (λ part. option_map (λ v. v.items) part ≡ part_of places.now k) }
+    ensures graph { IfOk result (λ part. IfSome part (λ v. IsGraph v.items × (children_in v.items ≤ most_values))) }
+{
+    let end = end_of(places, k);
+    let written = &places[(k - 1) as usize..(end - 1) as usize];
+    lowered(alloc, written, k - 1)
+}
+
+/// The places with all numbers lowered. None where one of them names a place outside.
+fn lowered(alloc: Global, places: &[Kind], by: u32) -> Result<Option<Vec<Kind>>, AllocError>
+    ensures { IfOk result (λ lowered. option_map (λ v. v.items) lowered ≡ lowered_places by places.now) }
+{
+    let mut made = Vec::new(alloc);
+    for kind in places {
+        let Some(kind) = kind.lowered(alloc, by)? else {
+            return Ok(None);
+        };
+        made.push(kind)?;
+    }
+    Ok(Some(made))
+}
+
+fn zeros(alloc: Global, len: usize) -> Result<Vec<u64>, AllocError>
+    ensures { IfOk result (λ v. length v.items ≡ len) }
+{
+    let mut made = Vec::new(alloc);
+    for _ in 0..len {
+        made.push(0)?;
+    }
+    Ok(made)
+}
+
+fn same_places(places: &[Kind], others: &[Kind]) -> bool
+    ensures { IsTrue result ↔ (places.now ≡ others.now) }
+{
+    if places.len() != others.len() {
+        return false;
+    }
+    for i in 0..places.len() {
+        if !places[i].same(&others[i]) {
+            return false;
         }
-        Ok(Graph { kinds })
     }
+    true
 }
 
-fn copy_of(alloc: Global, kind: &Kind) -> Result<Kind, AllocError>
-    ensures { IfOk result (λ k. k ≡ kind.now) }
+fn copied(alloc: Global, places: &[Kind]) -> Result<Vec<Kind>, AllocError>
+    ensures { IfOk result (λ copies. copies.items ≡ places.now) }
 {
-    Ok(match kind {
-        Kind::Int(n) => Kind::Int(*n),
-        Kind::Str(bytes) => Kind::Str(Bytes::of(alloc, bytes.as_slice())?),
-    })
-}
-
-fn cells(kind: &Kind) -> u64
-    ensures cells { result ≡ cells_of kind.now }
-    ensures few { result < 2 ^ 32 }
-{
-    match kind {
-        Kind::Int(_) => 2,
-        Kind::Str(bytes) => 1 + words_for(bytes.as_slice().len() as u64),
+    let mut copies = Vec::new(alloc);
+    for kind in places {
+        copies.push(kind.try_copy(alloc)?)?;
     }
+    Ok(copies)
 }
 
-// The words that hold so many bytes.
-fn words_for(bytes: u64) -> u64
-    requires { bytes < 2 ^ 32 }
-    ensures { result ≡ words_in bytes }
-{
-    (bytes + 7) / 8
-}
-
-/// The size in words of an entry's block: for a key of `key_len` bytes and a value.
+/// The words of an entry's block: twelve, its key and the graph's image, filled up to an even number.
 pub fn block_words(key_len: u64, g: &Graph) -> u64
     requires { key_len < 2 ^ 32 }
     ensures { result ≡ block_size key_len g.now }
 {
-    2 * ((12 + words_for(key_len) + g.words() + 1) / 2)
+    let words = 12 + (key_len + 7) / 8 + g.words();
+    words + words % 2
+}
+
+/// Writes where each place stands, and answers the words of all.
+fn fill_offsets(places: &[Kind], offsets: &mut Vec<u64>) -> u64
+    requires room { length offsets.old.items ≡ length places.now }
+    requires small { image_length places.now < 2 ^ 60 }
+    ensures offsets { offsets.new.items ≡ offsets_from 0 places.now }
+    ensures words { result ≡ image_length places.now }
+{
+    let mut words = 0;
+    for i in 0..places.len() {
+        offsets[i] = words;
+        words += places[i].cells();
+    }
+    words
+}
+
+impl Graph {
+    /// The bytes of a value that is one string; any other value comes back as it is. It takes no memory.
+    pub fn into_string(self) -> Result<Bytes, Graph>
+        ensures string { IfOk result (λ bytes. (self ≡ Str bytes ∷ []) × AreBytes bytes) }
+        ensures other { IfErr result (λ g. (g ≡ self) × ((bytes : List ℕ) → self ≡ Str bytes ∷ [] → ⊥)) }
+    {
+        let Graph {
+            mut places,
+            offsets,
+            words,
+        } = self;
+        if places.len() == 1 {
+            match places.pop() {
+                Some(Kind::Str(bytes)) => return Ok(bytes),
+                Some(kind) => places.push_reserved(kind),
+                None => {}
+            }
+        }
+        Err(Graph {
+            places,
+            offsets,
+            words,
+        })
+    }
 }

@@ -1,15 +1,32 @@
-//! PHP values as graphs: the values themselves, their keys and their sizes in the shared segment.
+//! Value graphs as PHP's serialize notation numbers them, their keys, and PHP's string hash.
 #![tactic(auto)]
 
+mod assembly;
 mod builder;
 mod bytes;
+mod child;
+mod container;
 mod graph;
+mod item;
+mod key;
 mod kind;
+mod laws;
+mod members;
+mod numbers;
+mod props;
+mod steps;
 
-pub use builder::{BuildFault, Builder, Item, Wants};
+pub use builder::Builder;
 pub use bytes::Bytes;
+pub use child::Child;
 pub use graph::{Graph, block_words};
+pub use item::{BuildFault, Item, Wants};
+pub use key::Key;
 pub use kind::Kind;
+pub use laws::{graphs_are_written, written_graphs};
+pub use members::Members;
+pub use numbers::{hash_of, int_of_text, integer_texts};
+pub use props::Props;
 
 #[cfg(test)]
 mod tests;

@@ -1,5 +1,5 @@
 -- When blocks may be taken and given.
-use Rattle.std.specs.Prelude.{◌≡◌, ℕ, ◌+◌, ◌≤◌, true, List, length, Contains}
+use Rattle.std.specs.Prelude.{◌≡◌, ◌⊎◌, ℕ, ◌+◌, ◌≤◌, true, List, length, slice_index, Contains}
 use Rattle.seg_words.specs.declared.extents.Extent.{Extent}
 use Rattle.seg_words.specs.Windows.{Aside, is_named}
 use Rattle.seg_words.specs.Blocks.{image_end}
@@ -22,3 +22,23 @@ pub record IsReady (sma : Sma) (words : List ℕ) (aside : Aside) : Type 0 where
   pub end : sma.to ≡ length words
   pub formatted : IsFormatted words sma.from
   pub windows : NameLive words aside.windows (live_blocks words sma.from)
+
+-- only words inside the block, past its first, may differ
+pub record ChangesInside (old new : List ℕ) (block : Extent) : Type 0 where
+  pub count : length new ≡ length old
+  pub outside : (i : ℕ) → (i ≤ block.place) ⊎ (block.place + block.size ≤ i) → slice_index new i ≡ slice_index old i
+
+-- only words before a place may differ
+pub record ChangesBefore (old new : List ℕ) (from : ℕ) : Type 0 where
+  pub count : length new ≡ length old
+  pub after : (i : ℕ) → from ≤ i → slice_index new i ≡ slice_index old i
+
+-- if a window names the block at this place, the lengths of its key and of its image are as they were
+abbrev pub KeepsLengths : List ℕ → List ℕ → List ℕ → ℕ → Type 0
+KeepsLengths windows old new at =
+    is_named windows at ≡ true → (slice_index new (at + 2) ≡ slice_index old (at + 2)) × (slice_index new (at + 3) ≡ slice_index old (at + 3))
+
+-- the new words have the same live blocks, and are as ready as the old ones
+pub record Stays (sma : Sma) (old new : List ℕ) (aside : Aside) : Type 0 where
+  pub blocks : live_blocks new sma.from ≡ live_blocks old sma.from
+  pub ready : IsReady sma new aside

@@ -1,7 +1,8 @@
 use Rattle.std.proofs.Common.{◌≡◌, ◌++◌, take}
 use Rattle.std.specs.Prelude.{codes}
 use Rattle.std.specs.List.{flat_map}
-use Rattle.apcu_run.specs.Output.{ends_line, mark_line}
+use Rattle.apcu_run.specs.Grammar.{ends_line}
+use Rattle.apcu_run.specs.Output.{mark_line}
 use Rattle.apcu_run.proofs.play.write_journal.Given as goal
 
 abbrev pub invariant-loop-i : goal.invariant-loop-i

@@ -1,0 +1,24 @@
+#!/bin/sh
+# Nanoseconds a word of writing images, of reading graphs back, and of a plain copy of as many words.
+# Usage: bench/value_image.sh PROGRAM, where PROGRAM is the built image_bench.
+set -eu
+program=$1
+
+# The processor time of a run in nanoseconds.
+spent() {
+    { /usr/bin/env bash -c 'TIMEFORMAT="%3U %3S"; time "$@" >/dev/null' sh "$@"; } 2>&1 |
+        awk '{ printf "%.0f\n", ($1 + $2) * 1e9 }'
+}
+
+echo "graph       words   persist   unpersist   copy"
+for row in "string100 14 20000000" "string10k 1251 200000" "string1m 125001 2000" \
+    "integers 5001 40000" "nested 1997 20000"; do
+    set -- $row
+    line=$1
+    for work in persist unpersist copy; do
+        base=$(spent "$program" "$work" "$1" 0)
+        full=$(spent "$program" "$work" "$1" "$3")
+        line="$line $(echo "$full $base $2 $3" | awk '{ printf "%.2f", ($1 - $2) / $3 / $4 }')"
+    done
+    echo "$line" | awk -v words="$2" '{ printf "%-10s %6d %9s %11s %6s\n", $1, words, $2, $3, $4 }'
+done

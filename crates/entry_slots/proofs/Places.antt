@@ -1,0 +1,124 @@
+-- No place is there twice.
+use Rattle.std.proofs.Common.{◌≡◌, ◌≢◌, inl, inr, ℕ, ◌+◌, ◌<◌, ◌≤◌, Bool, true, false, cond, eqb, List, [], ◌∷◌, ◌++◌, length, map, refl, sym, ap, ◌∙◌, arith}
+use Rattle.std.proofs.lemmas.Bool.{cases_lt, eqb-true, eq-eqb}
+use Rattle.std.specs.List.{Contains, count_by}
+use Rattle.seg_words.specs.declared.extents.Extent.{Extent}
+use Rattle.seg_words.specs.Windows.{Aside}
+use Rattle.sma_blocks.specs.Pieces.{Piece, pieces, Fill}
+use Rattle.sma_blocks.specs.Live.{lives}
+use Rattle.sma_blocks.proofs.Lives.{extent_of, lives_between, Contains-cases}
+use Rattle.apcu_model.specs.Cache.{Row}
+use Rattle.apcu_model.specs.Cache as cache
+use Rattle.entry_slots.specs.declared.slots.EntrySlots.{EntrySlots}
+use Rattle.entry_slots.specs.Lists.{is_at}
+use Rattle.entry_slots.specs.Entries.{Entries, blocks_of}
+use Rattle.entry_slots.specs.Standing.{Stands}
+use Rattle.entry_slots.proofs.Members.{count-cons, count-append, counted, there, none_in_nil}
+
+abbrev pub at_place : ℕ → Extent → Bool
+at_place p e = eqb e.place p
+
+pub lives_once : (ws : List ℕ) (a : ℕ) (ps : List Piece) (b x : ℕ) → Fill ws a ps b → count_by (at_place x) (lives ps) ≤ 1
+lives_once ws a [] b x h = omega arith
+lives_once ws a (p ∷ ps) b x h =
+    go p.live (eqb p.place x) refl (lives_once ws (a + p.size) ps b x h.1)
+  where
+    none_later : p.place ≡ x → count_by (at_place x) (lives ps) < 1
+    none_later e = elim (cases_lt (count_by (at_place x) (lives ps)) 1) [
+      | inl few ↦ few
+      | inr some ↦ let r = there (at_place x) (lives ps) some in
+          absurd (omega (arith, (lives_between ws (a + p.size) ps b r.0 h.1 r.1).0, eqb-true r.0.place x r.2, h.0.place, h.0.enough))
+    ]
+
+    go : (live here : Bool) → eqb p.place x ≡ here → count_by (at_place x) (lives ps) ≤ 1 → count_by (at_place x) (cond live (extent_of p ∷ lives ps) (lives ps)) ≤ 1
+    go true true e rest =
+        let one : cond {A = ℕ} (at_place x (extent_of p)) 1 0 ≡ 1 = ap (λ v. cond {A = ℕ} v 1 0) e in
+        omega (arith, count-cons (at_place x) (extent_of p) (lives ps), none_later (eqb-true p.place x e))
+    go true false e rest =
+        let none : cond {A = ℕ} (at_place x (extent_of p)) 1 0 ≡ 0 = ap (λ v. cond {A = ℕ} v 1 0) e in
+        omega (arith, count-cons (at_place x) (extent_of p) (lives ps))
+    go false here e rest = rest
+
+pub count-map : {X Y : Type 0} (p : Y → Bool) (f : X → Y) (xs : List X) → count_by p (map f xs) ≡ count_by (λ x. p (f x)) xs
+count-map p f [] = refl
+count-map p f (x ∷ xs) = omega (arith, count-cons p (f x) (map f xs), count-cons (λ y. p (f y)) x xs, count-map p f xs)
+
+-- all blocks, list by list
+pub count_blocks : (test : Extent → Bool) (s : Entries) → count_by test (blocks_of s)
+    ≡ count_by (λ row. test (cache.extent_of row)) s.rows + (count_by (λ row. test (cache.extent_of row)) s.removed + (count_by (λ row. test (cache.extent_of row)) s.unlinked + count_by test s.taken))
+count_blocks test s =
+    let rows : List Extent = map cache.extent_of s.rows in
+    let removed : List Extent = map cache.extent_of s.removed in
+    let unlinked : List Extent = map cache.extent_of s.unlinked in
+    omega (
+      arith,
+      count-append test rows (removed ++ (unlinked ++ s.taken)),
+      count-append test removed (unlinked ++ s.taken),
+      count-append test unlinked s.taken,
+      count-map test cache.extent_of s.rows,
+      count-map test cache.extent_of s.removed,
+      count-map test cache.extent_of s.unlinked,
+    )
+
+-- one block at most stands at a place
+pub once : {e : EntrySlots} {ws : List ℕ} {aside : Aside} {s : Entries} → Stands e ws aside s → (x : ℕ)
+    → count_by (is_at x) s.rows + (count_by (is_at x) s.removed + (count_by (is_at x) s.unlinked + count_by (at_place x) s.taken)) ≤ 1
+once {e} {ws} {aside} {s} h x =
+    omega (arith, count_blocks (at_place x) s, h.blocks.count (at_place x), lives_once ws e.sma.from (pieces ws e.sma.from) (length ws) x h.ready.formatted.full)
+
+pub at_itself : (row : Row) (x : ℕ) → row.place ≡ x → is_at x row ≡ true
+at_itself row x e = eq-eqb row.place x e
+
+pub rows_removed : {e : EntrySlots} {ws : List ℕ} {aside : Aside} {s : Entries} → Stands e ws aside s → (p q : Row) → Contains s.rows p → Contains s.removed q → q.place ≢ p.place
+rows_removed {s = s} h p q cp cq same =
+    omega (arith, once h p.place, counted (is_at p.place) s.rows p cp (at_itself p p.place refl), counted (is_at p.place) s.removed q cq (at_itself q p.place same))
+
+pub rows_unlinked : {e : EntrySlots} {ws : List ℕ} {aside : Aside} {s : Entries} → Stands e ws aside s → (p q : Row) → Contains s.rows p → Contains s.unlinked q → q.place ≢ p.place
+rows_unlinked {s = s} h p q cp cq same =
+    omega (arith, once h p.place, counted (is_at p.place) s.rows p cp (at_itself p p.place refl), counted (is_at p.place) s.unlinked q cq (at_itself q p.place same))
+
+pub removed_unlinked : {e : EntrySlots} {ws : List ℕ} {aside : Aside} {s : Entries} → Stands e ws aside s → (p q : Row) → Contains s.removed p → Contains s.unlinked q → q.place ≢ p.place
+removed_unlinked {s = s} h p q cp cq same =
+    omega (arith, once h p.place, counted (is_at p.place) s.removed p cp (at_itself p p.place refl), counted (is_at p.place) s.unlinked q cq (at_itself q p.place same))
+
+-- how many blocks fit
+lives_few : (ws : List ℕ) (a : ℕ) (ps : List Piece) (b : ℕ) → Fill ws a ps b → a + count_by (λ (e : Extent). true) (lives ps) ≤ b
+lives_few ws a [] b h = omega (arith, h)
+lives_few ws a (p ∷ ps) b h = go p.live (lives_few ws (a + p.size) ps b h.1)
+  where
+    go : (live : Bool) → a + p.size + count_by (λ (e : Extent). true) (lives ps) ≤ b → a + count_by (λ (e : Extent). true) (cond live (extent_of p ∷ lives ps) (lives ps)) ≤ b
+    go true rest = omega (arith, count-cons (λ (e : Extent). true) (extent_of p) (lives ps), h.0.enough)
+    go false rest = omega arith
+
+count_all : {X : Type 0} (xs : List X) → count_by (λ x. true) xs ≡ length xs
+count_all [] = refl
+count_all (x ∷ xs) = omega (arith, count-cons (λ y. true) x xs, count_all xs)
+
+pub rows_few : {e : EntrySlots} {ws : List ℕ} {aside : Aside} {s : Entries} → Stands e ws aside s → e.count ≤ length ws
+rows_few {e} {ws} {aside} {s} h =
+    omega (arith, h.count, count_all s.rows, count_blocks (λ (x : Extent). true) s, h.blocks.count (λ (x : Extent). true), lives_few ws e.sma.from (pieces ws e.sma.from) (length ws) h.ready.formatted.full)
+
+pub removed_few : {e : EntrySlots} {ws : List ℕ} {aside : Aside} {s : Entries} → Stands e ws aside s → e.sma.from + length s.removed ≤ length ws
+removed_few {e} {ws} {aside} {s} h =
+    omega (arith, count_all s.removed, count_blocks (λ (x : Extent). true) s, h.blocks.count (λ (x : Extent). true), lives_few ws e.sma.from (pieces ws e.sma.from) (length ws) h.ready.formatted.full)
+
+one_of : (x : ℕ) (rows : List Row) (p q : Row) → count_by (is_at x) rows ≤ 1 → Contains rows p → Contains rows q → p.place ≡ x → q.place ≡ x → p ≡ q
+one_of x [] p q few cp cq ep eq' = absurd (none_in_nil p cp)
+one_of x (row ∷ rows) p q few cp cq ep eq' = elim (Contains-cases row rows p cp) [
+  | inl here ↦ elim (Contains-cases row rows q cq) [
+    | inl too ↦ sym here ∙ too
+    | inr later ↦
+        let one : cond {A = ℕ} (is_at x row) 1 0 ≡ 1 = ap (λ (b : Bool). cond {A = ℕ} b 1 0) (at_itself row x (ap (λ (r : Row). r.place) here ∙ ep)) in
+        absurd (omega (arith, few, count-cons (is_at x) row rows, counted (is_at x) rows q later (at_itself q x eq')))
+  ]
+  | inr later ↦ elim (Contains-cases row rows q cq) [
+    | inl here ↦
+        let one : cond {A = ℕ} (is_at x row) 1 0 ≡ 1 = ap (λ (b : Bool). cond {A = ℕ} b 1 0) (at_itself row x (ap (λ (r : Row). r.place) here ∙ eq')) in
+        absurd (omega (arith, few, count-cons (is_at x) row rows, counted (is_at x) rows p later (at_itself p x ep)))
+    | inr too ↦ one_of x rows p q (omega (arith, few, count-cons (is_at x) row rows)) later too ep eq'
+  ]
+]
+
+-- two rows at one place are one
+pub rows_one : {e : EntrySlots} {ws : List ℕ} {aside : Aside} {s : Entries} → Stands e ws aside s → (p q : Row) → Contains s.rows p → Contains s.rows q → p.place ≡ q.place → p ≡ q
+rows_one {s = s} h p q cp cq e = one_of q.place s.rows p q (omega (arith, once h q.place)) cp cq e refl

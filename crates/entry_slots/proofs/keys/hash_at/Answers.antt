@@ -1,0 +1,48 @@
+use Rattle.std.proofs.Common.{◌≡◌, ℕ, ◌+◌, ◌*◌, ◌/◌, ◌%◌, ◌<◌, ◌^◌, List, take, fold, length, slice_index, ap, sym, ◌∙◌, subst, arith}
+use Rattle.std.specs.Prelude.{bit_or}
+use Rattle.std.proofs.lemmas.List.{take_all}
+use Rattle.php_graph.specs.Numbers.{hash_step, hash_of}
+use Rattle.php_graph.specs.Size.{words_in}
+use Rattle.value_image.specs.Packed.{words_of, word_at}
+use Rattle.value_image.proofs.Runs.{stands-at}
+use Rattle.value_image.proofs.Packing.{length-words_of, get_or-words_of}
+use Rattle.entry_slots.specs.Written.{IsKeyAt}
+use Rattle.entry_slots.proofs.Blocks.{read_along}
+use Rattle.entry_slots.proofs.Digits.{key_byte, hash_more}
+use Rattle.entry_slots.proofs.keys.hash_at.Goals as goal
+
+word_in : (i len : ℕ) → i < len → i / 8 < words_in len
+word_in i len lt = omega arith
+
+key_word_at : (ws : List ℕ) (at len : ℕ) (key : List ℕ) (i : ℕ) → IsKeyAt ws at len key → i < len → slice_index ws (at + i / 8) ≡ word_at key (i / 8)
+key_word_at ws at len key i h lt =
+    let n = length-words_of key in
+    let few : i / 8 < words_in (length key) = subst (λ (k : ℕ). i / 8 < words_in k) (sym h.count) (word_in i len lt) in
+    stands-at ws at (words_of key) (i / 8) h.stands (omega (arith, n)) ∙ get_or-words_of key (i / 8) few
+
+wrapped : (h b : ℕ) → (h * 33 % 2 ^ 64 + b) % 2 ^ 64 ≡ (h * 33 + b) % 2 ^ 64
+wrapped h b = omega arith
+
+pub overflow_add-at : goal.overflow_add-at
+overflow_add-at g c = let short = g.met.S.WordsIn.short c.args.seg.now in let lt = word_in c.loop-i.i c.args.len c.loop-i-test.true in omega (arith, short, c.requires.inside, lt)
+
+pub load-word-requires : goal.load-word-requires
+load-word-requires g c = let lt = word_in c.loop-i.i c.args.len c.loop-i-test.true in rw c.loop-i.invariant.words (omega (arith, c.requires.inside, lt))
+
+pub loop-i-preserved : goal.loop-i-preserved
+loop-i-preserved g c = record {
+  hashed = λ key h.
+      let lt = word_in c.loop-i.i c.args.len c.loop-i-test.true in
+      let read = read_along (g.S.WordsIn.words c.args.seg.now) (g.S.WordsIn.words c.loop-i.seg) (g.S.WordsIn.aside c.args.seg.now) (g.S.WordsIn.aside c.loop-i.seg) (c.args.at + c.loop-i.i / 8) c.load-word.result c.loop-i.invariant.words c.loop-i.invariant.aside (c.requires.told (c.args.at + c.loop-i.i / 8) (omega arith) (omega (arith, lt))) c.load-word.ensures.word in
+      let byte = key_byte key c.loop-i.i c.load-word.result h.bytes.1 (read ∙ key_word_at (g.S.WordsIn.words c.args.seg.now) c.args.at c.args.len key c.loop-i.i h c.loop-i-test.true) in
+      wrapped c.loop-i.hash (c.load-word.result / 2 ^ (8 * (c.loop-i.i % 8)) % 256) ∙ hash_more key c.loop-i.i c.loop-i.hash (c.load-word.result / 2 ^ (8 * (c.loop-i.i % 8)) % 256) (omega (arith, h.count, c.loop-i-test.true)) (c.loop-i.invariant.hashed key h) byte;
+  words = c.load-word.ensures.words ∙ c.loop-i.invariant.words;
+  aside = c.load-word.ensures.aside ∙ c.loop-i.invariant.aside;
+  rest = c.load-word.ensures.rest ∙ c.loop-i.invariant.rest;
+}
+
+pub returns-clause-hash : goal.returns-clause-hash
+unfolding hash_of
+returns-clause-hash g c = λ key h.
+    let all : take c.loop-i.i key ≡ key = take_all c.loop-i.i key (omega (arith, h.count, c.loop-i-test.false)) in
+    ap (λ (n : ℕ). bit_or n (2 ^ 63)) (c.loop-i.invariant.hashed key h ∙ ap (fold hash_step 5381) all)

@@ -1,0 +1,12 @@
+use Rattle.std.proofs.Common.{◌≡◌, ℕ, List, take, fold}
+use Rattle.php_graph.specs.Numbers.{hash_step}
+use Rattle.entry_slots.specs.Written.{IsKeyAt}
+use Rattle.entry_slots.proofs.keys.hash_at.Given as goal
+
+abbrev pub invariant-loop-i : goal.invariant-loop-i
+invariant-loop-i g l = record {
+  hashed : (key : List ℕ) → IsKeyAt (g.S.WordsIn.words l.fn.seg) l.at l.len key → l.hash ≡ fold hash_step 5381 (take l.i key);
+  words : g.S.WordsIn.words l.seg ≡ g.S.WordsIn.words l.fn.seg;
+  aside : g.S.WordsIn.aside l.seg ≡ g.S.WordsIn.aside l.fn.seg;
+  rest : g.S.WordsIn.rest l.seg ≡ g.S.WordsIn.rest l.fn.seg;
+}

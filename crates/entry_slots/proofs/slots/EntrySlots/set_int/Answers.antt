@@ -1,0 +1,104 @@
+use Rattle.std.proofs.Common.{◌≡◌, ℕ, ◌+◌, ◌/◌, ◌<◌, ◌≤◌, List, false, sym, ap, ◌∙◌, subst, slice_set, arith, rules, length, Some}
+use Rattle.std.specs.Prelude.{ℤ}
+use Rattle.std.specs.Int.{w64, cast_unsigned}
+use Rattle.std.proofs.lemmas.Bool.{false≢true}
+use Rattle.std.proofs.lemmas.List.{length-set}
+use Rattle.seg_words.specs.Windows.{Aside, is_named}
+use Rattle.seg_words.specs.Blocks.{MayStore}
+use Rattle.value_image.proofs.Runs.{may_store-set}
+use Rattle.php_graph.specs.declared.kind.Kind.TheVariants as kinds
+use Rattle.php_graph.specs.Graph.{kind_at}
+use Rattle.php_graph.specs.Size.{words_in, image_length}
+use Rattle.apcu_model.specs.Cache.{Row, extent_of}
+use Rattle.entry_slots.specs.declared.slots.EntrySlots.{EntrySlots}
+use Rattle.entry_slots.proofs.Homes.{IsHome, room, told_at, home_row}
+use Rattle.entry_slots.proofs.Walks.{stands_along}
+use Rattle.entry_slots.proofs.KeyWords.{key_length_at}
+use Rattle.entry_slots.proofs.Storing.{may_store_in, may_note, may_along}
+use Rattle.entry_slots.proofs.Numbering.{graph_one, number_words, number_stands}
+use Rattle.entry_slots.proofs.slots.EntrySlots.set_int.Goals as goal
+
+-- the word of the integer is in the block
+value_in : {e : EntrySlots} {ws : List ℕ} {aside : Aside} (row : Row) (v : ℤ) → IsHome e ws aside row → kind_at row.graph 1 ≡ Some (kinds.Int v) → (at len i : ℕ) → row.place ≡ at → len ≡ length row.key → i ≡ at + 13 + (len + 7) / 8
+    → (i < at + row.size) × (at + row.size ≤ length ws) × (length ws ≤ 16777216) × (14 ≤ row.size)
+value_in row v h int at len i e el ei =
+    let w = room h in
+    let two : image_length row.graph ≡ 2 = ap image_length (graph_one row.graph v h.entry.image.graph int) in
+    let long : words_in len ≡ words_in (length row.key) = ap words_in el in
+    (omega (arith, w.enough, two, long), omega (arith, w.high), w.short, omega (arith, w.enough, two))
+
+-- it may be stored
+value_may : {e : EntrySlots} {ws : List ℕ} {aside : Aside} (row : Row) → IsHome e ws aside row → (at i : ℕ) → row.place ≡ at → is_named aside.windows at ≡ false → at ≤ i → i < at + row.size → MayStore ws aside.windows i
+value_may {e} {ws} {aside} row h at i place free low high =
+    may_store_in e.sma ws aside (extent_of row) i h.ready h.live (omega arith) (omega arith) (λ named. absurd (false≢true (sym (subst (λ (n : ℕ). is_named aside.windows n ≡ false) (sym place) free) ∙ named)))
+
+pub overflow_add-at : goal.overflow_add-at
+overflow_add-at g c = let m = c.requires.there in let w = room (home_row m.row m.stand m.there) in omega (arith, w.high, w.enough, w.short, m.place)
+
+pub load-len-requires : goal.load-len-requires
+load-len-requires g c = let m = c.requires.there in let w = room (home_row m.row m.stand m.there) in omega (arith, w.high, w.enough, w.short, m.place)
+
+pub overflow_cast-len : goal.overflow_cast-len
+overflow_cast-len g c =
+    let m = c.requires.there in
+    let home = home_row m.row m.stand m.there in
+    let read = c.load-len.ensures.word (told_at home c.args.at 2 m.place (omega arith) (omega arith)) in
+    omega (arith, read, key_length_at home c.args.at m.place, home.entry.bytes.0)
+
+pub overflow_add-at-2 : goal.overflow_add-at-2
+overflow_add-at-2 g c = let m = c.requires.there in let w = room (home_row m.row m.stand m.there) in omega (arith, w.high, w.enough, w.short, m.place)
+
+pub overflow_add-at-3 : goal.overflow_add-at-3
+overflow_add-at-3 g c =
+    let m = c.requires.there in
+    let home = home_row m.row m.stand m.there in
+    let read = c.load-len.ensures.word (told_at home c.args.at 2 m.place (omega arith) (omega arith)) in
+    let v = value_in m.row m.number home m.int c.args.at c.load-len.result (c.args.at + 13 + c.div_ceil.result) m.place (read ∙ key_length_at home c.args.at m.place) (omega (arith, c.div_ceil.ensures)) in
+    omega (arith, v.0, v.1, v.2)
+
+pub overflow_add-at-4 : goal.overflow_add-at-4
+overflow_add-at-4 g c = let m = c.requires.there in let w = room (home_row m.row m.stand m.there) in omega (arith, w.high, w.enough, w.short, m.place)
+
+pub store-requires : goal.store-requires
+store-requires g c =
+    let m = c.requires.there in
+    let home = home_row m.row m.stand m.there in
+    let read = c.load-len.ensures.word (told_at home c.args.at 2 m.place (omega arith) (omega arith)) in
+    let v = value_in m.row m.number home m.int c.args.at c.load-len.result (c.args.at + 13 + c.div_ceil.result) m.place (read ∙ key_length_at home c.args.at m.place) (omega (arith, c.div_ceil.ensures)) in
+    record {
+      place = omega (arith, v.0, v.1, ap length c.load-len.ensures.words);
+      apart = may_along (g.S.WordsIn.words c.args.seg.now) (g.S.WordsIn.words c.load-len.new.self) (g.S.WordsIn.aside c.args.seg.now) (g.S.WordsIn.aside c.load-len.new.self) (c.args.at + 13 + c.div_ceil.result) c.load-len.ensures.words c.load-len.ensures.aside
+          (value_may m.row home c.args.at (c.args.at + 13 + c.div_ceil.result) m.place c.requires.unnamed (omega arith) v.0);
+    }
+
+pub store-requires-2 : goal.store-requires-2
+store-requires-2 g c =
+    let m = c.requires.there in
+    let home = home_row m.row m.stand m.there in
+    let w = room home in
+    let ws : List ℕ = g.S.WordsIn.words c.args.seg.now in
+    let i : ℕ = c.args.at + 13 + c.div_ceil.result in
+    let read = c.load-len.ensures.word (told_at home c.args.at 2 m.place (omega arith) (omega arith)) in
+    let v = value_in m.row m.number home m.int c.args.at c.load-len.result i m.place (read ∙ key_length_at home c.args.at m.place) (omega (arith, c.div_ceil.ensures)) in
+    let words : g.S.WordsIn.words c.store.new.self ≡ slice_set ws i c.cast_unsigned.result = c.store.ensures.words ∙ ap (λ (u : List ℕ). slice_set u i c.cast_unsigned.result) c.load-len.ensures.words in
+    record {
+      place = omega (arith, w.high, w.enough, m.place, ap length words, length-set ws i c.cast_unsigned.result);
+      apart = may_along (slice_set ws i c.cast_unsigned.result) (g.S.WordsIn.words c.store.new.self) (g.S.WordsIn.aside c.args.seg.now) (g.S.WordsIn.aside c.store.new.self) (c.args.at + 6) words (c.store.ensures.aside ∙ c.load-len.ensures.aside)
+          (may_store-set ws (g.S.WordsIn.aside c.args.seg.now).windows i (c.args.at + 6) c.cast_unsigned.result (value_may m.row home c.args.at i m.place c.requires.unnamed (omega arith) v.0) (may_note m.row home c.args.at 6 m.place (omega arith) (omega arith) (omega arith)));
+    }
+
+pub returns-clause-set : goal.returns-clause-set
+returns-clause-set g c = λ s row v h there place int.
+    let home = home_row row h there in
+    let ws : List ℕ = g.S.WordsIn.words c.args.seg.now in
+    let i : ℕ = c.args.at + 13 + c.div_ceil.result in
+    let read = c.load-len.ensures.word (told_at home c.args.at 2 place (omega arith) (omega arith)) in
+    let len : c.load-len.result ≡ length row.key = read ∙ key_length_at home c.args.at place in
+    let long : words_in c.load-len.result ≡ words_in (length row.key) = ap words_in len in
+    let cast : c.cast_unsigned.result ≡ cast_unsigned w64 c.args.n = search rules in
+    let words : g.S.WordsIn.words c.store-2.new.self ≡ number_words ws c.args.at i (cast_unsigned w64 c.args.n) c.args.t =
+    c.store-2.ensures.words ∙ (ap (λ (u : List ℕ). slice_set u (c.args.at + 6) c.args.t) (c.store.ensures.words ∙ ap (λ (u : List ℕ). slice_set u i c.cast_unsigned.result) c.load-len.ensures.words)
+    ∙ ap (λ (n : ℕ). slice_set (slice_set ws i n) (c.args.at + 6) c.args.t) cast) in
+    stands_along (g.S.WordsIn.words c.store-2.new.self) (g.S.WordsIn.aside c.store-2.new.self)
+    (number_stands s h c.args.at i c.args.t c.args.n v row there place int c.ranges.n (omega (arith, c.div_ceil.ensures, long)))
+    words (c.store-2.ensures.aside ∙ (c.store.ensures.aside ∙ c.load-len.ensures.aside))

@@ -1,0 +1,51 @@
+use Rattle.std.proofs.Common.{◌≡◌, ℕ, ◌+◌, List, [], ◌∷◌, ◌++◌, ap, ◌∙◌, arith, length, length-append}
+use Rattle.std.proofs.lemmas.List.{append_assoc}
+use Rattle.php_graph.specs.Size.{words_in, image_length}
+use Rattle.value_image.specs.Packed.{words_of}
+use Rattle.value_image.specs.Image.{image_of}
+use Rattle.value_image.specs.Rows.{written}
+use Rattle.value_image.proofs.Runs.{may_write-fewer, may_write-along, written-along}
+use Rattle.value_image.proofs.Packing.{length-words_of}
+use Rattle.entry_slots.specs.Written.{first_words}
+use Rattle.entry_slots.proofs.writing.put_entry.Goals as goal
+
+abbrev run : ℕ → ℕ → ℕ → ℕ → ℕ → ℕ → List ℕ
+run next key image ttl now number = next ∷ key ∷ image ∷ ttl ∷ now ∷ now ∷ now ∷ 0 ∷ 0 ∷ number ∷ 0 ∷ []
+
+same_run : (row : List ℕ) (at next next' key image image' ttl ttl' now number : ℕ) → next ≡ next' → image ≡ image' → ttl ≡ ttl' → written row at (run next key image ttl now number) ≡ written row at (run next' key image' ttl' now number)
+same_run row at next next' key image image' ttl ttl' now number en ei et =
+    ap (λ (n : ℕ). written row at (run n key image ttl now number)) en
+    ∙ (ap (λ (n : ℕ). written row at (run next' key n ttl now number)) ei ∙ ap (λ (n : ℕ). written row at (run next' key image' n now number)) et)
+
+pub put_words-requires : goal.put_words-requires
+put_words-requires g c = may_write-fewer (g.S.WordsIn.words c.args.seg.now) (g.S.WordsIn.aside c.args.seg.now).windows (c.args.at + 1) (11 + words_in (length c.args.key.now) + image_length c.args.g.now) 11 c.requires.apart (omega arith)
+
+pub put_key-requires : goal.put_key-requires
+put_key-requires g c = record {
+  short = c.requires.short;
+  apart = may_write-along (g.S.WordsIn.words c.args.seg.now) (g.S.WordsIn.aside c.args.seg.now) (c.args.at + 1) (11 + words_in (length c.args.key.now) + image_length c.args.g.now)
+      (run c.from.result (length c.args.key.now) c.words.result c.from-2.result c.args.note.now c.args.note.number)
+      (g.S.WordsIn.words c.put_words.new.seg) (g.S.WordsIn.aside c.put_words.new.seg) (c.args.at + 12) (words_in (length c.args.key.now)) c.requires.apart c.put_words.ensures.words c.put_words.ensures.aside (omega arith) (omega arith);
+}
+
+pub persist-requires : goal.persist-requires
+persist-requires g c =
+    let ws : List ℕ = g.S.WordsIn.words c.args.seg.now in
+    let first : List ℕ = run c.from.result (length c.args.key.now) c.words.result c.from-2.result c.args.note.now c.args.note.number in
+    let key : List ℕ = words_of c.args.key.now in
+    let both = written-along ws (c.args.at + 1) first key (g.S.WordsIn.words c.put_words.new.seg) (g.S.WordsIn.words c.put_key.new.seg) (c.args.at + 12) c.put_words.ensures.words c.put_key.ensures.words (omega arith) in
+    let long : length (first ++ key) ≡ 11 + words_in (length c.args.key.now) = length-append first key ∙ ap (λ (n : ℕ). 11 + n) (length-words_of c.args.key.now) in
+    may_write-along ws (g.S.WordsIn.aside c.args.seg.now) (c.args.at + 1) (11 + words_in (length c.args.key.now) + image_length c.args.g.now) (first ++ key)
+    (g.S.WordsIn.words c.put_key.new.seg) (g.S.WordsIn.aside c.put_key.new.seg) (c.args.at + 12 + c.div_ceil.result) (image_length c.args.g.now) c.requires.apart both (c.put_key.ensures.aside ∙ c.put_words.ensures.aside) (omega (arith, c.div_ceil.ensures, long)) (omega (arith, long))
+
+pub returns-clause-words : goal.returns-clause-words
+returns-clause-words g c =
+    let ws : List ℕ = g.S.WordsIn.words c.args.seg.now in
+    let first : List ℕ = first_words c.args.key.now c.args.g.now c.args.note in
+    let key : List ℕ = words_of c.args.key.now in
+    let head : g.S.WordsIn.words c.put_words.new.seg ≡ written ws (c.args.at + 1) first =
+    c.put_words.ensures.words ∙ same_run ws (c.args.at + 1) c.from.result c.args.note.next (length c.args.key.now) c.words.result (image_length c.args.g.now) c.from-2.result c.args.note.ttl c.args.note.now c.args.note.number c.from.ensures c.words.ensures.words c.from-2.ensures in
+    let both = written-along ws (c.args.at + 1) first key (g.S.WordsIn.words c.put_words.new.seg) (g.S.WordsIn.words c.put_key.new.seg) (c.args.at + 12) head c.put_key.ensures.words (omega arith) in
+    let long : length (first ++ key) ≡ 11 + words_in (length c.args.key.now) = length-append first key ∙ ap (λ (n : ℕ). 11 + n) (length-words_of c.args.key.now) in
+    written-along ws (c.args.at + 1) (first ++ key) (image_of c.args.g.now) (g.S.WordsIn.words c.put_key.new.seg) (g.S.WordsIn.words c.persist.new.seg) (c.args.at + 12 + c.div_ceil.result) both c.persist.ensures.words (omega (arith, c.div_ceil.ensures, long))
+    ∙ ap (λ (r : List ℕ). written ws (c.args.at + 1) r) (append_assoc first key (image_of c.args.g.now))

@@ -1,0 +1,112 @@
+-- What entries in hash chains stand for: the rows and removed rows of a cache, and the blocks that are in
+-- no list for a while; and how the calls change them.
+use Rattle.std.specs.Prelude.{ℕ, ◌==◌, not, if◌then◌else◌, List, [], ◌∷◌, ◌++◌, length, map, filter, ℤ, Option, Some, None}
+use Rattle.seg_words.specs.declared.extents.Extent.{Extent}
+use Rattle.php_graph.specs.declared.kind.Kind.{Kind}
+use Rattle.php_graph.specs.declared.kind.Kind.TheVariants as kinds
+use Rattle.php_graph.specs.Size.{block_size}
+use Rattle.apcu_model.specs.declared.conf.Conf.{Conf}
+use Rattle.apcu_model.specs.Cache.{Row, Cache, risen, has_key, extent_of}
+use Rattle.apcu_model.specs.Change.{with_row}
+use Rattle.apcu_model.specs.Sequential.{touched}
+use Rattle.apcu_model.specs.Walk.{is_in_slot}
+use Rattle.entry_slots.specs.Lists.{is_at, only_at, without_place}
+
+pub record Entries : Type 0 where
+  pub conf : Conf
+  -- the rows and the removed rows of the cache
+  pub rows : List Row
+  pub removed : List Row
+  pub next_number : ℕ
+  -- rows that were taken out of their chain, and are not removed or freed yet
+  pub unlinked : List Row
+  -- blocks that were taken, and are no row's yet
+  pub taken : List Extent
+
+-- no row, in a segment of this shape
+abbrev pub no_entries : Conf → Entries
+no_entries conf = record { conf = conf; rows = []; removed = []; next_number = 1; unlinked = []; taken = [] }
+
+-- the entries of a cache, where no block is loose
+abbrev pub entries_of : Cache → Entries
+entries_of c = record { conf = c.conf; rows = c.rows; removed = c.removed; next_number = c.next_number; unlinked = []; taken = [] }
+
+-- the rows of one hash chain, in their order
+abbrev pub chain_of : Entries → ℕ → List Row
+chain_of s slot = filter (is_in_slot s.conf slot) s.rows
+
+-- all blocks
+abbrev pub blocks_of : Entries → List Extent
+blocks_of s = map extent_of s.rows ++ (map extent_of s.removed ++ (map extent_of s.unlinked ++ s.taken))
+
+-- a block more that is no row's
+abbrev pub with_taken : ℕ → ℕ → Entries → Entries
+with_taken at n s = record s { taken = record { place = at; size = n } ∷ s.taken }
+
+-- a new row
+abbrev pub fresh_row : List ℕ → List Kind → ℕ → ℕ → ℕ → ℕ → Row
+fresh_row key graph ttl t at number = record {
+  key = key;
+  graph = graph;
+  ttl = ttl;
+  ctime = t;
+  mtime = t;
+  atime = t;
+  dtime = 0;
+  hits = 0;
+  place = at;
+  size = block_size (length key) graph;
+  number = number;
+}
+
+-- the place of the row that was found, or 0
+abbrev pub found_place : Option Row → ℕ
+found_place None = 0
+found_place (Some row) = row.place
+
+-- A new row in the block at `at`, which was taken: it stands in the place of the row of its key, whose block
+-- is loose now, or last where there is none.
+abbrev pub linked : ℕ → List ℕ → List Kind → ℕ → ℕ → Entries → Entries
+linked at key graph ttl t s = record s {
+  rows = with_row (fresh_row key graph ttl t at s.next_number) s.rows;
+  next_number = risen s.next_number;
+  unlinked = filter (has_key key) s.rows ++ s.unlinked;
+  taken = filter (λ block. not (block.place == at)) s.taken;
+}
+
+-- the row at this place is in no chain any more
+abbrev pub unlinked_at : ℕ → Entries → Entries
+unlinked_at at s = record s { rows = without_place at s.rows; unlinked = only_at at s.rows ++ s.unlinked }
+
+-- the unlinked row at this place is the last of the removed rows, dropped at the moment t
+abbrev pub removed_at : ℕ → ℕ → Entries → Entries
+removed_at at t s = record s {
+  removed = s.removed ++ map {A = Row} (λ row. record row { dtime = t }) (only_at at s.unlinked);
+  unlinked = without_place at s.unlinked;
+}
+
+-- the unlinked row at this place is the last of the removed rows
+abbrev pub moved_at : ℕ → Entries → Entries
+moved_at at s = record s { removed = s.removed ++ only_at at s.unlinked; unlinked = without_place at s.unlinked }
+
+-- the row at this place is no removed one any more, and its block is not given back yet
+abbrev pub off_at : ℕ → Entries → Entries
+off_at at s = record s { removed = without_place at s.removed; unlinked = only_at at s.removed ++ s.unlinked }
+
+-- the unlinked or removed row at this place is gone, and so is its block
+abbrev pub freed_at : ℕ → Entries → Entries
+freed_at at s = record s { removed = without_place at s.removed; unlinked = without_place at s.unlinked }
+
+-- the row at this place was used
+abbrev pub touched_row : ℕ → ℕ → Row → Row
+touched_row at t row = if is_at at row then touched t row else row
+
+abbrev pub touched_in : ℕ → ℕ → Entries → Entries
+touched_in at t s = record s { rows = map {A = Row} {B = Row} (touched_row at t) s.rows }
+
+-- the row at this place holds the integer n
+abbrev pub number_row : ℕ → ℤ → ℕ → Row → Row
+number_row at n t row = if is_at at row then (record row { graph = kinds.Int n ∷ []; mtime = t }) else row
+
+abbrev pub with_number : ℕ → ℤ → ℕ → Entries → Entries
+with_number at n t s = record s { rows = map {A = Row} {B = Row} (number_row at n t) s.rows }

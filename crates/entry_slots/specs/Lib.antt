@@ -1,0 +1,6 @@
+pub mod Lists
+pub mod Entries
+pub mod Standing
+pub mod Reading
+pub mod Written
+pub mod Links

@@ -1,0 +1,47 @@
+//! Keys as words.
+
+ghost use Rattle.std.specs.Prelude.{◌≡◌, ℕ, ◌+◌, ◌<◌, ◌≤◌, List, length};
+ghost use Rattle.seg_words.specs.Blocks.{IsTold};
+ghost use Rattle.php_graph.specs.Numbers.{hash_of};
+ghost use Rattle.entry_slots.specs.Written.{IsKeyAt};
+ghost use Rattle.php_graph.specs.Size.{words_in};
+ghost use Rattle.value_image.specs.Packed.{word_at};
+
+use byteorder::{ByteOrder, LittleEndian};
+use seg_words::{Segment, WordsIn};
+
+/// Where the hash starts.
+const HASH_START: u64 = 5381;
+/// The bit that is set in each hash.
+const TOP_BIT: u64 = 1 << 63;
+
+// The word of a key's eight bytes from byte `8 * i` on, the first byte lowest; past the end they are 0.
+pub(crate) fn key_word(key: &[u8], i: u32) -> u64
+    requires { i < words_in (length key.now) }
+    ensures { result ≡ word_at key.now i }
+{
+    let rest = &key[8 * i as usize..];
+    if rest.len() < 8 {
+        LittleEndian::read_uint(rest, rest.len())
+    } else {
+        LittleEndian::read_u64(rest)
+    }
+}
+
+// PHP's string hash of the key of so many bytes that stands from a place on.
+pub(crate) fn hash_at<S: Segment>(seg: &mut S, at: u32, len: u32) -> u64
+    requires inside { at + words_in len ≤ length (S.words seg.old) }
+    requires told { (i : ℕ) → at ≤ i → i < at + words_in len → IsTold (S.aside seg.old).windows i }
+    ensures hash { (key : List ℕ) → IsKeyAt (S.words seg.old) at len key → result ≡ hash_of key }
+    ensures words { S.words seg.new ≡ S.words seg.old }
+    ensures aside { S.aside seg.new ≡ S.aside seg.old }
+    ensures rest { S.rest seg.new ≡ S.rest seg.old }
+{
+    let mut hash = HASH_START;
+    for i in 0..len {
+        let word = seg.load(at + i / 8);
+        let byte = (word >> (8 * (i % 8))) % 256;
+        hash = hash.wrapping_mul(33).wrapping_add(byte);
+    }
+    hash | TOP_BIT
+}

@@ -1,0 +1,75 @@
+//! Writing the block of an entry.
+
+ghost use Rattle.std.specs.Prelude.{◌≡◌, ◌+◌, ◌<◌, ◌^◌, length};
+ghost use Rattle.php_graph.specs.Size.{words_in, image_length};
+ghost use Rattle.value_image.specs.Packed.{words_of};
+ghost use Rattle.value_image.specs.Rows.{written, MayWrite};
+ghost use Rattle.entry_slots.specs.Written.{entry_words};
+
+use crate::keys::key_word;
+use php_graph::Graph;
+use seg_words::Segment;
+use value_image::persist;
+
+/// What is noted of a new entry, beside its key and its value.
+#[derive(Clone, Copy)]
+pub(crate) struct Note {
+    /// The place of the entry that follows it in its chain, or 0.
+    pub(crate) next: u32,
+    pub(crate) ttl: u32,
+    /// The moment at which it is stored.
+    pub(crate) now: u64,
+    pub(crate) number: u64,
+}
+
+/// Writes the words of an entry's block from word 1 on.
+pub(crate) fn put_entry<S: Segment>(seg: &mut S, at: u32, key: &[u8], g: &Graph, note: Note)
+    requires short { length key.now < 2 ^ 32 }
+    requires small { image_length g.now < 2 ^ 32 }
+    requires apart { MayWrite (S.words seg.old) (S.aside seg.old).windows (at + 1) (11 + words_in (length key.now) + image_length g.now) }
+    ensures words { S.words seg.new ≡ written (S.words seg.old) (at + 1) (entry_words key.now g.now note) }
+    ensures aside { S.aside seg.new ≡ S.aside seg.old }
+    ensures rest { S.rest seg.new ≡ S.rest seg.old }
+{
+    let first = [
+        u64::from(note.next),
+        key.len() as u64,
+        g.words(),
+        u64::from(note.ttl),
+        note.now,
+        note.now,
+        note.now,
+        0,
+        0,
+        note.number,
+        0,
+    ];
+    put_words(seg, at + 1, &first);
+    put_key(seg, at + 12, key);
+    persist(seg, at + 12 + (key.len() as u32).div_ceil(8), g);
+}
+
+// Writes words from a place on.
+fn put_words<S: Segment>(seg: &mut S, at: u32, run: &[u64])
+    requires { MayWrite (S.words seg.old) (S.aside seg.old).windows at (length run.now) }
+    ensures words { S.words seg.new ≡ written (S.words seg.old) at run.now }
+    ensures aside { S.aside seg.new ≡ S.aside seg.old }
+    ensures rest { S.rest seg.new ≡ S.rest seg.old }
+{
+    for i in 0..run.len() {
+        seg.store(at + i as u32, run[i]);
+    }
+}
+
+// Writes a key, eight bytes a word.
+fn put_key<S: Segment>(seg: &mut S, at: u32, key: &[u8])
+    requires short { length key.now < 2 ^ 32 }
+    requires apart { MayWrite (S.words seg.old) (S.aside seg.old).windows at (words_in (length key.now)) }
+    ensures words { S.words seg.new ≡ written (S.words seg.old) at (words_of key.now) }
+    ensures aside { S.aside seg.new ≡ S.aside seg.old }
+    ensures rest { S.rest seg.new ≡ S.rest seg.old }
+{
+    for i in 0..(key.len() as u32).div_ceil(8) {
+        seg.store(at + i, key_word(key, i));
+    }
+}

@@ -1,0 +1,9 @@
+use Rattle.notation.proofs.Top.{reading_takes}
+use Rattle.notation.proofs.Spelled.{spelled_read}
+use Rattle.notation.proofs.laws.readings_are_spellings.Goals as goal
+
+pub returns-clause-takes : goal.returns-clause-takes
+returns-clause-takes c = reading_takes c.integer_texts.ensures.written
+
+pub returns-clause-again : goal.returns-clause-again
+returns-clause-again c = λ g rest graph. spelled_read c.integer_texts.ensures.read g rest graph (c.graphs_are_written.ensures g graph)

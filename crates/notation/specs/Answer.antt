@@ -1,0 +1,19 @@
+-- What an answer of the reader says.
+use Rattle.std.specs.Prelude.{◌≡◌, ℕ, ◌+◌, List, length, Result, Ok, Err}
+use Rattle.php_graph.specs.declared.kind.Kind.{Kind}
+use Rattle.notation.specs.declared.fault.Reason.{Reason}
+use Rattle.notation.specs.declared.fault.Fault.{Fault}
+use Rattle.notation.specs.declared.fault.ReadFault.{ReadFault}
+use Rattle.notation.specs.declared.fault.ReadFault.TheVariants.{Bad, Memory}
+use Rattle.notation.specs.Place.{Standing, left}
+use Rattle.notation.specs.Reading.{reading_of}
+
+-- The first fault stands at this place among all bytes, so many before their end.
+abbrev pub IsFirstFault : Standing → ℕ → Reason → Type 0
+IsFirstFault from place reason = (fault : Fault) × (reading_of (left from) ≡ Err fault) × (fault.reason ≡ reason) × (place + fault.left ≡ length from.bytes)
+
+-- A value is what was read, with the bytes after it; a fault is the first one. Memory may be wanting always.
+abbrev pub IsReading : Standing → Standing → Result (List Kind) ReadFault → Type 0
+IsReading from to (Ok g) = reading_of (left from) ≡ Ok (g, left to)
+IsReading from to (Err (Bad place reason)) = IsFirstFault from place reason
+IsReading from to (Err Memory) = Unit {0}

@@ -1,0 +1,28 @@
+//! Laws of texts of values.
+
+ghost use Rattle.std.specs.Prelude.{◌≡◌, ◌++◌, ℕ, List, Ok};
+ghost use Rattle.php_graph.specs.declared.kind.Kind.{Kind};
+ghost use Rattle.php_graph.specs.Graph.{IsGraph};
+ghost use Rattle.notation.specs.Notation.{text_of};
+ghost use Rattle.notation.specs.Reading.{reading_of};
+
+use php_graph::{graphs_are_written, integer_texts};
+
+/// What reading gives is what is spelled: the text of a value that was read stands in front of what was left, and
+/// the text of a value is read, whatever follows it.
+pub fn readings_are_spellings()
+    ensures takes { (bytes : List ℕ) (g : List Kind) (rest : List ℕ) → IsGraph g → reading_of bytes ≡ Ok (g, rest) → bytes ≡ text_of g ++ rest }
+    ensures again { (g : List Kind) (rest : List ℕ) → IsGraph g → reading_of (text_of g ++ rest) ≡ Ok (g, rest) }
+{
+    integer_texts();
+    graphs_are_written();
+}
+
+/// No text of a value is the front of another: two texts that go on to the same bytes are of one value, and
+/// the same bytes follow them.
+pub fn texts_tell_values_apart()
+    ensures { (g h : List Kind) (x y : List ℕ) → IsGraph g → IsGraph h → text_of g ++ x ≡ text_of h ++ y → (g ≡ h) × (x ≡ y) }
+{
+    integer_texts();
+    graphs_are_written();
+}

@@ -1,0 +1,154 @@
+//! The parts of the notation that lie in no other: marks, numbers, and byte strings.
+
+ghost use Rattle.std.specs.Prelude.{◌≡◌, ◌<◌, ◌≤◌, ◌^◌, length, IfOk};
+ghost use Rattle.notation.specs.Marks.{Gives, found, mark_at, ends_number, number_len, number_at, number_as, as_natural, as_truth, natural_at, quoted_at, sized_at, string_at, integer_at, count_at};
+
+use crate::fault::{Fault, Reason, Stop};
+use php_graph::int_of_text;
+
+// A fault where so many bytes are left.
+pub(crate) fn stop(reason: Reason, bytes: &[u8]) -> Stop
+    ensures { result ≡ Stop.Fault (record { reason = reason; left = length bytes.now }) }
+{
+    Stop::Fault(Fault {
+        reason,
+        left: bytes.len(),
+    })
+}
+
+// The bytes after the mark that is due.
+pub(crate) fn mark(due: u8, bytes: &[u8]) -> Result<&[u8], Stop>
+    ensures read { Gives (λ rest. rest.now) result (mark_at due bytes.now) }
+    ensures less { IfOk result (λ x. length x.now < length bytes.now) }
+{
+    match bytes {
+        [] => Err(stop(Reason::End, bytes)),
+        [b, rest @ ..] if *b == due => Ok(rest),
+        _ => Err(stop(Reason::Mark, bytes)),
+    }
+}
+
+// How many digits and minus signs stand in front.
+fn run_len(bytes: &[u8]) -> usize
+    ensures length { result ≡ number_len bytes.now }
+    ensures within { result ≤ length bytes.now }
+{
+    for (i, b) in bytes.iter().enumerate() {
+        if ends_run(*b) {
+            return i;
+        }
+    }
+    bytes.len()
+}
+
+fn ends_run(b: u8) -> bool
+    ensures { result ≡ ends_number b }
+{
+    !(b.is_ascii_digit() || b == b'-')
+}
+
+// A 64-bit integer.
+#[tactic(auto, unfolding(crate::specs::Marks::number_at))]
+pub(crate) fn number(bytes: &[u8]) -> Result<(i64, &[u8]), Stop>
+    ensures read { Gives (λ x. (x.0, x.1.now)) result (number_at bytes.now) }
+    ensures less { IfOk result (λ x. length x.1.now ≤ length bytes.now) }
+{
+    if bytes.is_empty() {
+        return Err(stop(Reason::End, bytes));
+    }
+    let (run, rest) = bytes.split_at(run_len(bytes));
+    match int_of_text(run) {
+        Some(n) => Ok((n, rest)),
+        None => Err(stop(Reason::Number, bytes)),
+    }
+}
+
+// A length, a count or the number of a place.
+pub(crate) fn natural(bytes: &[u8]) -> Result<(u32, &[u8]), Stop>
+    ensures read { Gives (λ x. (x.0, x.1.now)) result (natural_at bytes.now) }
+    ensures less { IfOk result (λ x. length x.1.now ≤ length bytes.now) }
+{
+    let (n, rest) = number(bytes)?;
+    if n < 0 || n > 4_294_967_295 {
+        return Err(stop(Reason::Number, bytes));
+    }
+    Ok((n as u32, rest))
+}
+
+// A truth value.
+pub(crate) fn truth(bytes: &[u8]) -> Result<(bool, &[u8]), Stop>
+    ensures read { Gives (λ x. (x.0, x.1.now)) result (number_as as_truth bytes.now) }
+    ensures less { IfOk result (λ x. length x.1.now ≤ length bytes.now) }
+{
+    let (n, rest) = number(bytes)?;
+    match n {
+        0 => Ok((false, rest)),
+        1 => Ok((true, rest)),
+        _ => Err(stop(Reason::Number, bytes)),
+    }
+}
+
+// So many bytes that a quote follows. The fault is at the number that says how many there are.
+fn quoted<'a>(len: u32, number: &[u8], bytes: &'a [u8]) -> Result<(&'a [u8], &'a [u8]), Stop>
+    ensures read { Gives (λ x. (x.0.now, x.1.now)) result (quoted_at len number.now bytes.now) }
+    ensures length { IfOk result (λ x. length x.0.now ≡ len) }
+    ensures less { IfOk result (λ x. length x.1.now < length bytes.now) }
+{
+    let len = len as usize;
+    if len < bytes.len() && bytes[len] == b'"' {
+        Ok((&bytes[..len], &bytes[len + 1..]))
+    } else {
+        Err(stop(Reason::Length, number))
+    }
+}
+
+// A byte string in quotes, with its length before it.
+#[tactic(auto, unfolding(crate::specs::Marks::sized_at))]
+pub(crate) fn sized(bytes: &[u8]) -> Result<(&[u8], &[u8]), Stop>
+    ensures read { Gives (λ x. (x.0.now, x.1.now)) result (sized_at bytes.now) }
+    ensures short { IfOk result (λ x. length x.0.now < 2 ^ 32) }
+    ensures less { IfOk result (λ x. length x.1.now < length bytes.now) }
+{
+    let number = mark(b':', bytes)?;
+    let (len, rest) = natural(number)?;
+    let rest = mark(b':', rest)?;
+    let rest = mark(b'"', rest)?;
+    quoted(len, number, rest)
+}
+
+// What follows the letter of a string.
+#[tactic(auto, unfolding(crate::specs::Marks::string_at))]
+pub(crate) fn string(bytes: &[u8]) -> Result<(&[u8], &[u8]), Stop>
+    ensures read { Gives (λ x. (x.0.now, x.1.now)) result (string_at bytes.now) }
+    ensures short { IfOk result (λ x. length x.0.now < 2 ^ 32) }
+    ensures less { IfOk result (λ x. length x.1.now < length bytes.now) }
+{
+    let (text, rest) = sized(bytes)?;
+    let rest = mark(b';', rest)?;
+    Ok((text, rest))
+}
+
+// What follows the letter of an integer.
+#[tactic(auto, unfolding(crate::specs::Marks::integer_at))]
+pub(crate) fn integer(bytes: &[u8]) -> Result<(i64, &[u8]), Stop>
+    ensures read { Gives (λ x. (x.0, x.1.now)) result (integer_at bytes.now) }
+    ensures less { IfOk result (λ x. length x.1.now < length bytes.now) }
+{
+    let rest = mark(b':', bytes)?;
+    let (n, rest) = number(rest)?;
+    let rest = mark(b';', rest)?;
+    Ok((n, rest))
+}
+
+// How many members there are, and what opens them.
+#[tactic(auto, unfolding(crate::specs::Marks::count_at))]
+pub(crate) fn count(bytes: &[u8]) -> Result<(u32, &[u8]), Stop>
+    ensures read { Gives (λ x. (x.0, x.1.now)) result (count_at bytes.now) }
+    ensures less { IfOk result (λ x. length x.1.now < length bytes.now) }
+{
+    let rest = mark(b':', bytes)?;
+    let (n, rest) = natural(rest)?;
+    let rest = mark(b':', rest)?;
+    let rest = mark(b'{', rest)?;
+    Ok((n, rest))
+}

@@ -1,0 +1,8 @@
+use Rattle.std.proofs.Common.{map, take}
+use Rattle.php_graph.specs.declared.key.Key.TheVariants.{Str}
+use Rattle.php_graph.specs.Keys.{HasKeys}
+use Rattle.php_graph.proofs.props.Props.key_set.Given as goal
+
+-- the set has the keys so far
+abbrev pub invariant-loop-item : goal.invariant-loop-item
+invariant-loop-item l = HasKeys (map (λ p. Str p.0) (take l.item-index l.item-items)) l.set

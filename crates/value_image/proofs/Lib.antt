@@ -1,0 +1,12 @@
+pub mod Runs
+pub mod Packing
+pub mod ItemRuns
+pub mod Lengths
+pub mod Sealed
+pub mod Images
+pub mod Parts
+pub mod Mixed
+pub mod Numbered
+pub mod Walk
+pub mod OneGraph
+pub mod Counts

@@ -1,0 +1,5 @@
+pub mod Packed
+pub mod Rows
+pub mod Places
+pub mod Image
+pub mod Reading

@@ -1,0 +1,103 @@
+//! The numbers of places, in place of their offsets.
+
+ghost use Rattle.std.specs.Prelude.{◌≡◌, ℕ, ◌+◌, ◌<◌, ◌^◌, List, length, map, slice_index, slice_get, Some, IfOk, OnOk};
+ghost use Rattle.php_graph.specs.declared.kind.Kind.{Kind};
+ghost use Rattle.value_image.specs.Places.{number_of};
+ghost use Rattle.value_image.specs.Reading.{AllBelow, IsBelow, IsReadOf, renumbered_child, renumbered_member, renumbered_kind};
+
+use php_graph::{Child, Kind, Members, Props};
+use std::alloc::{AllocError, Global};
+
+/// The member with the number that the table has at its offset.
+fn renumbered(child: Child, table: &[u32]) -> Child
+    requires { number_of child < length table.now }
+    ensures { result ≡ renumbered_child (slice_index table.now) child }
+{
+    match child {
+        Child::Own(offset) => Child::Own(table[offset as usize]),
+        Child::Back(offset) => Child::Back(table[offset as usize]),
+    }
+}
+
+/// Gives each member its number.
+fn renumber_members(members: &mut Members, table: &[u32])
+    requires { AllBelow (length table.now) members.old }
+    ensures { members.new ≡ map (renumbered_member (slice_index table.now)) members.old }
+{
+    for i in 0..members.len() {
+        let child = members.at(i).1;
+        members.set_child(i, renumbered(child, table));
+    }
+}
+
+/// Gives each property its number.
+fn renumber_properties(props: &mut Props, table: &[u32])
+    requires { AllBelow (length table.now) props.old }
+    ensures { props.new ≡ map (renumbered_member (slice_index table.now)) props.old }
+{
+    for i in 0..props.len() {
+        let child = props.at(i).1;
+        props.set_child(i, renumbered(child, table));
+    }
+}
+
+/// Gives what stands at a place its numbers.
+fn renumber_place(kind: &mut Kind, table: &[u32])
+    requires { IsBelow (length table.now) kind.old }
+    ensures { kind.new ≡ renumbered_kind (slice_index table.now) kind.old }
+{
+    match kind {
+        Kind::Array(members) => renumber_members(members, table),
+        Kind::Object(_, props) => renumber_properties(props, table),
+        Kind::Same(offset) => *offset = table[*offset as usize],
+        _ => {}
+    }
+}
+
+/// Gives all places their numbers.
+fn renumber_places(places: &mut Vec<Kind>, table: &[u32])
+    requires { (i : ℕ) (kind : Kind) → slice_get places.old.items i ≡ Some kind
+        → IsBelow (length table.now) kind }
+    ensures { places.new.items ≡ map (renumbered_kind (slice_index table.now)) places.old.items }
+{
+    for i in 0..places.len() {
+        renumber_place(&mut places[i], table);
+    }
+}
+
+/// A table of so many words that has the number of each place, from 1, at the place's offset.
+fn table_of(alloc: Global, offsets: &[u64], len: u32) -> Result<Vec<u32>, AllocError>
+    requires few { length offsets.now < 2 ^ 32 }
+    requires below { (i : ℕ) → i < length offsets.now → slice_index offsets.now i < len }
+    requires rising { (i j : ℕ) → i < j → j < length offsets.now
+        → slice_index offsets.now i < slice_index offsets.now j }
+    ensures { IfOk result (λ table. (length table.items ≡ len)
+        × ((i : ℕ) → i < length offsets.now
+        → slice_index table.items (slice_index offsets.now i) ≡ i + 1)) }
+{
+    let mut table = Vec::from_elem(alloc, 0u32, len as usize)?;
+    for i in 0..offsets.len() {
+        table[offsets[i] as usize] = i as u32 + 1;
+    }
+    Ok(table)
+}
+
+/// Gives the places that were read their numbers.
+pub(crate) fn number(
+    alloc: Global,
+    places: &mut Vec<Kind>,
+    offsets: &[u64],
+    len: u32,
+) -> Result<(), AllocError>
+    requires { (g : List Kind) × IsReadOf places.old.items offsets.now len g }
+    ensures { (g : List Kind) → IsReadOf places.old.items offsets.now len g
+        → OnOk result (places.new.items ≡ g) }
+{
+    if places.len() == 1 {
+        renumber_places(places, &[1]);
+        return Ok(());
+    }
+    let table = table_of(alloc, offsets, len)?;
+    renumber_places(places, table.as_slice());
+    Ok(())
+}

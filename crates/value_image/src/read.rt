@@ -1,0 +1,124 @@
+//! The graph of an image.
+
+ghost use Rattle.std.specs.Prelude.{◌≡◌, ◌+◌, ℕ, ◌≤◌, ◌<◌, List, IfOk, length, sum_by};
+ghost use Rattle.php_graph.specs.declared.child.Child.{Child};
+ghost use Rattle.php_graph.specs.declared.kind.Kind.{Kind};
+ghost use Rattle.php_graph.specs.Size.{words_in, cells_of};
+ghost use Rattle.seg_words.specs.Blocks.{IsTold};
+ghost use Rattle.value_image.specs.Image.{IsImageOf};
+ghost use Rattle.value_image.specs.Reading.{IsKindAt, IsObjectAt, IsReadOf};
+
+use crate::items::{read_members, read_properties, read_string, read_text};
+use crate::members::{INT, STR};
+use crate::numbers::number;
+use crate::write::{ARRAY, BOOL, NULL, OBJECT};
+use php_graph::{Bytes, Graph, Kind, Props};
+use seg_words::WordsIn;
+use std::alloc::{AllocError, Global};
+
+/// The class and the properties of an object from place `at` on, and the place behind them.
+fn read_object<W: WordsIn>(
+    alloc: Global,
+    from: &mut W,
+    at: u32,
+    count: u32,
+) -> Result<(Bytes, Props, u32), AllocError>
+    requires { (class : List ℕ) × (ps : List (List ℕ × Child))
+        × IsObjectAt (W.words from.old) (W.aside from.old).windows at count class ps }
+    ensures object { (class : List ℕ) (ps : List (List ℕ × Child))
+        → IsObjectAt (W.words from.old) (W.aside from.old).windows at count class ps
+        → IfOk result (λ r. (r.0 ≡ class) × (r.1 ≡ ps)
+        × (r.2 ≡ at + (1 + words_in (length class)
+        + sum_by (λ p. 2 + words_in (length p.0)) ps))) }
+    ensures words { W.words from.new ≡ W.words from.old }
+    ensures aside { W.aside from.new ≡ W.aside from.old }
+    ensures rest { W.rest from.new ≡ W.rest from.old }
+{
+    let (class, behind) = read_string(alloc, from, at)?;
+    let (props, next) = read_properties(alloc, from, behind, count)?;
+    Ok((class, props, next))
+}
+
+/// What stands at place `at`, with offsets in place of numbers, and the place behind it.
+fn read_place<W: WordsIn>(alloc: Global, from: &mut W, at: u32) -> Result<(Kind, u32), AllocError>
+    requires { (kind : Kind) × IsKindAt (W.words from.old) (W.aside from.old).windows at kind }
+    ensures place { (kind : Kind) → IsKindAt (W.words from.old) (W.aside from.old).windows at kind
+        → IfOk result (λ r. (r.0 ≡ kind) × (r.1 ≡ at + cells_of kind)) }
+    ensures words { W.words from.new ≡ W.words from.old }
+    ensures aside { W.aside from.new ≡ W.aside from.old }
+    ensures rest { W.rest from.new ≡ W.rest from.old }
+{
+    let tag = from.load(at);
+    match tag % 8 {
+        NULL => Ok((Kind::Null, at + 1)),
+        BOOL => Ok((Kind::Bool(tag != BOOL), at + 1)),
+        INT => {
+            let number = from.load(at + 1);
+            Ok((Kind::Int(number.cast_signed()), at + 2))
+        }
+        STR => {
+            let (bytes, next) = read_text(alloc, from, at, tag)?;
+            Ok((Kind::Str(bytes), next))
+        }
+        ARRAY => {
+            let (members, next) = read_members(alloc, from, at + 1, (tag / 8) as u32)?;
+            Ok((Kind::Array(members), next))
+        }
+        OBJECT => {
+            let (class, props, next) = read_object(alloc, from, at + 1, (tag / 8) as u32)?;
+            Ok((Kind::Object(class, props), next))
+        }
+        _ => {
+            let offset = from.load(at + 1);
+            Ok((Kind::Same(offset as u32), at + 2))
+        }
+    }
+}
+
+/// The places of the image that the `len` words from place `at` on are, with offsets in place of
+/// numbers, and the offset of each.
+fn read_places<W: WordsIn>(
+    alloc: Global,
+    from: &mut W,
+    at: u32,
+    len: u32,
+) -> Result<(Vec<Kind>, Vec<u64>), AllocError>
+    requires image { (g : List Kind) × IsImageOf (W.words from.old) at len g }
+    requires told { (i : ℕ) → at ≤ i → i < at + len → IsTold (W.aside from.old).windows i }
+    ensures places { (g : List Kind) → IsImageOf (W.words from.old) at len g
+        → IfOk result (λ r. IsReadOf r.0.items r.1.items len g) }
+    ensures words { W.words from.new ≡ W.words from.old }
+    ensures aside { W.aside from.new ≡ W.aside from.old }
+    ensures rest { W.rest from.new ≡ W.rest from.old }
+{
+    let mut places = Vec::new(alloc);
+    let mut offsets = Vec::new(alloc);
+    let mut offset = 0u32;
+    while offset < len {
+        let (kind, next) = read_place(alloc, from, at + offset)?;
+        places.push(kind)?;
+        offsets.push(u64::from(offset))?;
+        offset = next - at;
+    }
+    Ok((places, offsets))
+}
+
+/// The graph whose image the `len` words from place `at` on are. It fails only for want of memory.
+pub fn unpersist<W: WordsIn>(
+    alloc: Global,
+    from: &mut W,
+    at: u32,
+    len: u32,
+) -> Result<Graph, AllocError>
+    requires image { (g : List Kind) × IsImageOf (W.words from.old) at len g }
+    requires told { (i : ℕ) → at ≤ i → i < at + len → IsTold (W.aside from.old).windows i }
+    ensures graph { (g : List Kind) → IsImageOf (W.words from.old) at len g
+        → IfOk result (λ answer. answer ≡ g) }
+    ensures words { W.words from.new ≡ W.words from.old }
+    ensures aside { W.aside from.new ≡ W.aside from.old }
+    ensures rest { W.rest from.new ≡ W.rest from.old }
+{
+    let (mut places, offsets) = read_places(alloc, from, at, len)?;
+    number(alloc, &mut places, offsets.as_slice(), len)?;
+    Ok(Graph::from_places(places, offsets, u64::from(len)))
+}

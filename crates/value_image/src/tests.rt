@@ -1,0 +1,217 @@
+ghost use Rattle.std.specs.Prelude.{◌≡◌, ℕ, ◌+◌, ◌<◌, ◌≤◌, IfOk};
+ghost use Rattle.php_graph.specs.Building.{item_fits};
+ghost use Rattle.php_graph.specs.Size.{image_length};
+ghost use Rattle.seg_words.specs.Blocks.{IsTold};
+ghost use Rattle.value_image.specs.Rows.{MayWrite};
+
+use crate::{persist, unpersist};
+use php_graph::{Builder, Bytes, Graph, Item, Key, Wants};
+use seg_words::{Segment, VecWords};
+use std::alloc::{AllocError, Global};
+use std::test::Fail;
+
+// A step in writing a value.
+#[derive(Clone, Copy)]
+enum Step {
+    Null,
+    Bool(bool),
+    Int(i64),
+    Str(&'static [u8]),
+    Array,
+    Object(&'static [u8]),
+    Number(i64),
+    Name(&'static [u8]),
+    Close,
+    Same(u32),
+    Back(u32),
+}
+
+fn bytes_of(alloc: Global, from: &[u8]) -> Result<Bytes, AllocError> {
+    if from.len() > 100 {
+        return Err(AllocError);
+    }
+    Bytes::of(alloc, from)
+}
+
+fn item_of(alloc: Global, step: &Step) -> Result<Item, AllocError> {
+    Ok(match step {
+        Step::Null => Item::Null,
+        Step::Bool(truth) => Item::Bool(*truth),
+        Step::Int(number) => Item::Int(*number),
+        Step::Str(bytes) => Item::Str(bytes_of(alloc, bytes)?),
+        Step::Array => Item::OpenArray,
+        Step::Object(class) => Item::OpenObject(bytes_of(alloc, class)?),
+        Step::Number(number) => Item::Key(Key::Int(*number)),
+        Step::Name(name) => Item::Key(Key::Str(bytes_of(alloc, name)?)),
+        Step::Close => Item::Close,
+        Step::Same(place) => Item::Same(*place),
+        Step::Back(place) => Item::Back(*place),
+    })
+}
+
+fn fits(wants: Wants, item: &Item) -> bool
+    ensures { result ≡ item_fits wants item.now }
+{
+    match wants {
+        Wants::Value => !matches!(item, Item::Key(_) | Item::Close),
+        Wants::ArrayKey => matches!(item, Item::Key(_) | Item::Close),
+        Wants::Name => matches!(item, Item::Key(Key::Str(_)) | Item::Close),
+        Wants::Done => false,
+    }
+}
+
+// The graph that the steps write, if they write one.
+fn graph_of(alloc: Global, steps: &[Step]) -> Option<Graph> {
+    let mut builder = Builder::new(alloc);
+    for step in steps {
+        let item = item_of(alloc, step).ok()?;
+        if !fits(builder.wants(), &item) {
+            return None;
+        }
+        builder.push(item).ok()?;
+    }
+    match builder.wants() {
+        Wants::Done => Some(builder.seal()),
+        _ => None,
+    }
+}
+
+// Writes the image, and reads the graph from it.
+fn round_trip<S: Segment>(
+    alloc: Global,
+    row: &mut S,
+    at: u32,
+    g: &Graph,
+) -> Result<Graph, AllocError>
+    requires apart { MayWrite (S.words row.old) (S.aside row.old).windows at (image_length g.now) }
+    requires told { (i : ℕ) → at ≤ i → i < at + image_length g.now → IsTold (S.aside row.old).windows i }
+    ensures { IfOk result (λ back. back ≡ g.now) }
+{
+    persist(row, at, g);
+    unpersist(alloc, row, at, g.words() as u32)
+}
+
+// A row with the graph's image at place 2.
+fn row_of(alloc: Global, g: &Graph) -> Result<Vec<u64>, AllocError> {
+    let words = g.words();
+    if words > 1000 {
+        return Err(AllocError);
+    }
+    let mut row = VecWords::new(alloc, words as u32 + 3)?;
+    persist(&mut row, 2, g);
+    Ok(row.into_words())
+}
+
+#[test]
+fn writes_worked_images(rt: HostRuntime) -> Result<(), Fail> {
+    let itself = [Step::Array, Step::Number(0), Step::Back(1), Step::Close];
+    let Some(g) = graph_of(rt.alloc(), &itself) else {
+        panic!(rt; "no array");
+    };
+    let row = row_of(rt.alloc(), &g)?;
+    let words: &[u64] = &[0, 0, 12, 1, 2, 0, 0];
+    assert_eq!(rt; row.as_slice(), words);
+    let object = [
+        Step::Object(b"A"),
+        Step::Name(b"x"),
+        Step::Same(1),
+        Step::Name(b"y"),
+        Step::Back(1),
+        Step::Close,
+    ];
+    let Some(g) = graph_of(rt.alloc(), &object) else {
+        panic!(rt; "no object");
+    };
+    let row = row_of(rt.alloc(), &g)?;
+    let words: &[u64] = &[0, 0, 21, 11, 65, 18, 11, 120, 1, 11, 121, 6, 0, 0];
+    assert_eq!(rt; row.as_slice(), words);
+    Ok(())
+}
+
+// Whether the steps write a graph that comes back from its image, so many places and words.
+fn comes_back(alloc: Global, steps: &[Step]) -> Result<Option<(u32, u64)>, AllocError> {
+    let Some(g) = graph_of(alloc, steps) else {
+        return Ok(None);
+    };
+    let words = g.words();
+    if words > 1000 {
+        return Ok(None);
+    }
+    let mut row = VecWords::new(alloc, words as u32)?;
+    let back = round_trip(alloc, &mut row, 0, &g)?;
+    let mut again = VecWords::new(alloc, words as u32)?;
+    if back.words() != words {
+        return Ok(None);
+    }
+    persist(&mut again, 0, &back);
+    if row.into_words() != again.into_words() {
+        return Ok(None);
+    }
+    Ok(Some((back.places(), words)))
+}
+
+#[test]
+fn brings_scalars_back(rt: HostRuntime) -> Result<(), Fail> {
+    let alloc = rt.alloc();
+    let scalars = [
+        (Step::Null, 1),
+        (Step::Bool(false), 1),
+        (Step::Bool(true), 1),
+        (Step::Int(i64::MIN), 2),
+        (Step::Int(-1), 2),
+        (Step::Int(i64::MAX), 2),
+        (Step::Str(b""), 1),
+        (Step::Str(b"seven b"), 2),
+        (Step::Str(b"eight by"), 2),
+        (Step::Str(b"nine byte"), 3),
+        (Step::Str(b"\xff\0\0\0\0\0\0\xff\0"), 3),
+    ];
+    for (step, words) in scalars {
+        assert_eq!(rt; comes_back(alloc, &[step])?, Some((1, words)));
+    }
+    Ok(())
+}
+
+#[test]
+fn brings_containers_back(rt: HostRuntime) -> Result<(), Fail> {
+    let alloc = rt.alloc();
+    let empty = [Step::Array, Step::Close];
+    assert_eq!(rt; comes_back(alloc, &empty)?, Some((1, 1)));
+    let bare = [Step::Object(b"Some\\Class"), Step::Close];
+    assert_eq!(rt; comes_back(alloc, &bare)?, Some((1, 4)));
+    let keys = [
+        Step::Array,
+        Step::Name(b""),
+        Step::Null,
+        Step::Name(b"seven_b"),
+        Step::Bool(true),
+        Step::Name(b"eight_by"),
+        Step::Back(2),
+        Step::Name(b"nine_byte"),
+        Step::Int(7),
+        Step::Number(i64::MIN),
+        Step::Str(b"x"),
+        Step::Close,
+    ];
+    assert_eq!(rt; comes_back(alloc, &keys)?, Some((5, 22)));
+    let nested = [
+        Step::Array,
+        Step::Number(0),
+        Step::Array,
+        Step::Number(5),
+        Step::Object(b"A"),
+        Step::Name(b"me"),
+        Step::Same(3),
+        Step::Name(b""),
+        Step::Back(1),
+        Step::Close,
+        Step::Close,
+        Step::Number(1),
+        Step::Same(3),
+        Step::Number(2),
+        Step::Back(4),
+        Step::Close,
+    ];
+    assert_eq!(rt; comes_back(alloc, &nested)?, Some((5, 26)));
+    Ok(())
+}
