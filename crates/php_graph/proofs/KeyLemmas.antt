@@ -1,19 +1,19 @@
 -- Keys and names.
-use Rattle.std.proofs.Common.{◌≡◌, ℕ, Bool, true, false, cond, List, [], ◌∷◌, ◌++◌, map, Option, Some, None, refl, sym, ap, ◌∙◌, arith}
-use Rattle.std.specs.Prelude.{ℤ, ◌<ℤ◌, ◌||◌}
-use Rattle.std.specs.List.{list_any, AllByRecursion}
-use Rattle.std.specs.Ordering.{is_eq}
-use Rattle.std.specs.BTreeSet.{BTreeSet, Updates, contains}
+use Rattle.std.proofs.Common.{◌≡◌, ◌⊎◌, inl, inr, ℕ, ◌<◌, ◌≤◌, Bool, true, false, cond, List, [], ◌∷◌, ◌++◌, map, Option, Some, None, refl, sym, ap, subst, ◌∙◌, arith}
+use Rattle.std.specs.Prelude.{ℤ, ◌||◌, nat_lt, Result, Ok, Err, OnOk, OnErr}
+use Rattle.std.specs.Cmp.Lexicographic.{bytes_decides}
+use Rattle.std.specs.List.{list_any}
+use Rattle.std.specs.Ordering.{is_eq, nat_cmp}
+use Rattle.std.specs.BTreeSet.{BTreeSet, Updates, contains, contains_by}
 use Rattle.std.specs.BTreeMap.{is_at}
 use Rattle.std.proofs.lemmas.List.Folds.{list_any-append}
-use Rattle.std.proofs.lemmas.Int.{ints}
+use Rattle.std.proofs.lemmas.Bool.Decides.{nat_tests, Decides-int_eq}
 use Rattle.php_graph.specs.declared.child.Child.{Child}
 use Rattle.php_graph.specs.declared.key.Key.{Key}
 use Rattle.php_graph.specs.declared.key.Key.TheVariants.{Int, Str}
+use Rattle.php_graph.specs.declared.item.BuildFault.TheVariants.{RepeatedKey}
 use Rattle.php_graph.specs.Graph.{key_eq, has_key}
-use Rattle.php_graph.specs.Keys.{key_cmp, IsAtMost, BoundsKeys, IsAbove, HasKeys}
-use Rattle.std.specs.Prelude.{Result, Ok, Err, OnOk, OnErr}
-use Rattle.std.specs.declared.alloc.AllocError.{AllocError}
+use Rattle.php_graph.specs.Keys.{key_cmp, mark_of, is_above, raised, repeat_fault, BoundsKeys, HasMarks, HasKeys}
 use Rattle.php_graph.specs.contracts.key.KeyOrd.TheImpl as key_ord
 use Rattle.php_graph.specs.contracts.key.KeyOrd.TheImpl.Laws.{matches_eq-law}
 use Rattle.php_graph.specs.contracts.key.KeyEq.TheImpl.Laws.{laws-law}
@@ -36,20 +36,6 @@ or_swapped true false = refl
 or_swapped false true = refl
 or_swapped false false = refl
 
--- an integer above all keys is none of them
-above_one : (h n : ℤ) (k : Key) → IsAtMost h k → h <ℤ n → key_eq (Int n) k ≡ false
-above_one h n (Int m) at_most above = grind (arith, ints)
-above_one h n (Str bytes) at_most above = refl
-
-pub above_all : (h n : ℤ) (ks : List Key) → AllByRecursion (IsAtMost h) ks → h <ℤ n → has_key ks (Int n) ≡ false
-above_all h n [] bounds above = refl
-above_all h n (k ∷ ks) bounds above = rw (above_one h n k bounds.0 above, above_all h n ks bounds.1 above) refl
-
-pub above_is_new : (h : Option ℤ) (ks : List Key) (k : Key) → BoundsKeys h ks → IsAbove h k → has_key ks k ≡ false
-above_is_new None ks k bounds above = absurd above
-above_is_new (Some h) ks (Int n) bounds above = above_all h n ks bounds above
-above_is_new (Some h) ks (Str bytes) bounds above = absurd above
-
 -- the derived order is the one of the definitions
 cmp_is : (k q : Key) → (key_ord.ghosts).cmp k q ≡ key_cmp k q
 cmp_is (Int a) (Int b) = refl
@@ -70,10 +56,65 @@ copy_inserted ks k copy set new e updates has q =
     contains_is q new ∙ updates.0 q ∙ ap (λ (b : Bool). cond b true (contains (key_ord.ghosts).cmp set q)) (ap (λ (c : Key). is_eq ((key_ord.ghosts).cmp c q)) e ∙ ap is_eq (cmp_is k q) ∙ at_is_eq k q)
     ∙ ap (cond (key_eq q k) true) (sym (contains_is q set) ∙ has q) ∙ or_swapped (key_eq q k) (has_key ks q) ∙ sym (list_any-append (key_eq q) ks (k ∷ []))
 
-pub ok_at : (ks : List Key) (k : Key) (set new : BTreeSet Key) (r : Result (Unit {0}) AllocError) → HasKeys ks set → OnOk r ((ks : List Key) → HasKeys ks set → HasKeys (ks ++ k ∷ []) new) → OnOk r (HasKeys (ks ++ k ∷ []) new)
+pub ok_at : {E : Type 0} (ks : List Key) (k : Key) (set new : BTreeSet Key) (r : Result (Unit {0}) E) → HasKeys ks set → OnOk r ((ks : List Key) → HasKeys ks set → HasKeys (ks ++ k ∷ []) new) → OnOk r (HasKeys (ks ++ k ∷ []) new)
 ok_at ks k set new (Ok u) has after = after ks has
 ok_at ks k set new (Err e) has after = tt
 
-pub err_at : (ks : List Key) (set new : BTreeSet Key) (r : Result (Unit {0}) AllocError) → HasKeys ks set → OnErr r ((ks : List Key) → HasKeys ks set → HasKeys ks new) → OnErr r (HasKeys ks new)
+pub err_at : {E : Type 0} (ks : List Key) (set new : BTreeSet Key) (r : Result (Unit {0}) E) → HasKeys ks set → OnErr r ((ks : List Key) → HasKeys ks set → HasKeys ks new) → OnErr r (HasKeys ks new)
 err_at ks set new (Ok u) has after = tt
 err_at ks set new (Err e) has after = after ks has
+
+pub repeated_is : (ks : List Key) (k : Key) (set : BTreeSet Key) → HasKeys ks set → contains_by ((key_ord.ghosts).cmp k) set ≡ true → repeat_fault ks k ≡ Some RepeatedKey
+repeated_is ks k set has there = ap (λ (b : Bool). cond b (Some RepeatedKey) None) (sym (has k) ∙ contains_is k set ∙ there)
+
+-- ---- marks
+
+same_key : (a b : Key) → key_eq a b ≡ true → a ≡ b
+same_key (Int a) (Int b) e = ap Int ((Decides-int_eq a b).0 e)
+same_key (Int a) (Str b) e = absurd cc
+same_key (Str a) (Int b) e = absurd cc
+same_key (Str a) (Str b) e = ap Str ((bytes_decides a b).0 e)
+
+or_true : (a b : Bool) → (a || b) ≡ true → (a ≡ true) ⊎ (b ≡ true)
+or_true true b e = inl refl
+or_true false b e = inr e
+
+no_other : (a : Bool) → (a || false) ≡ true → a ≡ true
+no_other true e = refl
+no_other false e = e
+
+-- a key among these and one more
+among : (ks : List Key) (k q : Key) → has_key (ks ++ k ∷ []) q ≡ true → (has_key ks q ≡ true) ⊎ (q ≡ k)
+among ks k q e = elim (or_true (has_key ks q) (key_eq q k || false) (sym (list_any-append (key_eq q) ks (k ∷ [])) ∙ e)) [
+  | inl old ↦ inl old
+  | inr last ↦ inr (same_key q k (no_other (key_eq q k) last))
+]
+
+always : (b : Bool) → cond b true true ≡ true
+always true = refl
+always false = refl
+
+-- a mark that a set got
+pub marks_more : (ks : List Key) (k : Key) (m : ℕ) (set new : BTreeSet ℕ) → m ≡ mark_of k → Updates nat_cmp set new m true → HasMarks ks set → HasMarks (ks ++ k ∷ []) new
+marks_more ks k m set new e updates has q there = elim (among ks k q there) [
+  | inl old ↦ updates.0 (mark_of q) ∙ ap (cond (is_at (nat_cmp m) (mark_of q)) true) (has q old) ∙ always (is_at (nat_cmp m) (mark_of q))
+  | inr last ↦ ap (contains nat_cmp new) (ap mark_of last ∙ sym e) ∙ updates.1
+]
+
+-- the highest once a key more is there
+bounds_one : (h : ℕ) (b : Bool) (ks : List Key) (k : Key) → nat_lt h (mark_of k) ≡ b → BoundsKeys (Some h) ks → BoundsKeys (cond b (Some (mark_of k)) (Some h)) (ks ++ k ∷ [])
+bounds_one h true ks k above bounds = λ q there. elim (among ks k q there) [
+  | inl old ↦ let le = bounds q old in grind (arith, nat_tests)
+  | inr last ↦ omega (arith, ap mark_of last)
+]
+bounds_one h false ks k above bounds = λ q there. elim (among ks k q there) [
+  | inl old ↦ bounds q old
+  | inr last ↦ let e = ap mark_of last in grind (arith, nat_tests)
+]
+
+pub bounds_more : (h : Option ℕ) (ks : List Key) (k : Key) → BoundsKeys h ks → BoundsKeys (raised h (mark_of k)) (ks ++ k ∷ [])
+bounds_more None ks k bounds = λ q there. elim (among ks k q there) [
+  | inl old ↦ let e = ap (λ (xs : List Key). has_key xs q) bounds in absurd cc
+  | inr last ↦ omega (arith, ap mark_of last)
+]
+bounds_more (Some h) ks k bounds = bounds_one h (nat_lt h (mark_of k)) ks k refl bounds

@@ -1,6 +1,6 @@
 -- What a builder knows of the keys of an open container.
-use Rattle.std.specs.Prelude.{◌≡◌, ℤ, ◌≤ℤ◌, ◌<ℤ◌, List, Option, Some, None}
-use Rattle.std.specs.List.{AllByRecursion}
+use Rattle.std.specs.Prelude.{◌≡◌, ℕ, ◌+◌, ◌%◌, ◌^◌, ◌≤◌, Bool, true, nat_lt, if◌then◌else◌, List, [], Option, Some, None}
+use Rattle.std.specs.Int.{w64, cast_unsigned}
 use Rattle.std.specs.BTreeSet.{BTreeSet, contains}
 use Rattle.std.specs.Cmp.Lexicographic.{slice_cmp}
 use Rattle.std.specs.Ordering.{nat_cmp, int_cmp}
@@ -8,7 +8,12 @@ use Rattle.std.specs.declared.cmp.Ordering.{Ordering}
 use Rattle.std.specs.declared.cmp.Ordering.TheVariants.{Less, Greater}
 use Rattle.php_graph.specs.declared.key.Key.{Key}
 use Rattle.php_graph.specs.declared.key.Key.TheVariants.{Int, Str}
+use Rattle.php_graph.specs.declared.container.Seen.{Seen}
+use Rattle.php_graph.specs.declared.container.Seen.TheVariants.{Nothing, Marks, Keys}
+use Rattle.php_graph.specs.declared.item.BuildFault.{BuildFault}
+use Rattle.php_graph.specs.declared.item.BuildFault.TheVariants.{RepeatedKey}
 use Rattle.php_graph.specs.Graph.{has_key}
+use Rattle.php_graph.specs.Numbers.{hash_of}
 
 -- integers come before byte strings
 abbrev pub key_cmp : Key → Key → Ordering
@@ -17,30 +22,45 @@ key_cmp (Int a) (Str b) = Less
 key_cmp (Str a) (Int b) = Greater
 key_cmp (Str a) (Str b) = slice_cmp nat_cmp a b
 
-abbrev pub IsAtMost : ℤ → Key → Type 0
-IsAtMost h (Int n) = n ≤ℤ h
-IsAtMost h (Str bytes) = ⊥
+-- A key's mark: of an integer its number in their order, from 0, and of a byte string its hash. Equal keys have equal
+-- marks.
+abbrev pub mark_of : Key → ℕ
+mark_of (Int n) = (cast_unsigned w64 n + 2 ^ 63) % 2 ^ 64
+mark_of (Str bytes) = hash_of bytes
 
--- Where there is a bound, all keys are integers and none is above it.
-abbrev pub BoundsKeys : Option ℤ → List Key → Type 0
-BoundsKeys None ks = Unit {0}
-BoundsKeys (Some h) ks = AllByRecursion (IsAtMost h) ks
+-- No key's mark is above the highest. Where there is none, there is no key.
+abbrev pub BoundsKeys : Option ℕ → List Key → Type 0
+BoundsKeys None ks = ks ≡ []
+BoundsKeys (Some h) ks = (q : Key) → has_key ks q ≡ true → mark_of q ≤ h
 
--- an integer above the bound
-abbrev pub IsAbove : Option ℤ → Key → Type 0
-IsAbove (Some h) (Int n) = h <ℤ n
-IsAbove _ _ = ⊥
+-- whether a mark is above the highest
+abbrev pub is_above : Option ℕ → ℕ → Bool
+is_above None m = true
+is_above (Some h) m = nat_lt h m
+
+-- the highest once this mark is there too
+abbrev pub raised : Option ℕ → ℕ → Option ℕ
+raised highest m = if is_above highest m then Some m else highest
+
+-- the set has the marks of all these keys
+abbrev pub HasMarks : List Key → BTreeSet ℕ → Type 0
+HasMarks ks set = (q : Key) → has_key ks q ≡ true → contains nat_cmp set (mark_of q) ≡ true
 
 -- the set has just these keys
 abbrev pub HasKeys : List Key → BTreeSet Key → Type 0
 HasKeys ks set = (q : Key) → contains key_cmp set q ≡ has_key ks q
 
--- where there is a set, it has just these keys
-abbrev pub SeesKeys : Option (BTreeSet Key) → List Key → Type 0
-SeesKeys None ks = Unit {0}
-SeesKeys (Some set) ks = HasKeys ks set
+-- what is kept of the keys is so
+abbrev pub SeesKeys : Seen → List Key → Type 0
+SeesKeys Nothing ks = Unit {0}
+SeesKeys (Marks set) ks = HasMarks ks set
+SeesKeys (Keys set) ks = HasKeys ks set
 
 -- what is known of the keys ks
-pub record KnowsKeys (highest : Option ℤ) (seen : Option (BTreeSet Key)) (ks : List Key) : Type 0 where
+pub record KnowsKeys (highest : Option ℕ) (seen : Seen) (ks : List Key) : Type 0 where
   pub bounded : BoundsKeys highest ks
   pub sees : SeesKeys seen ks
+
+-- what is wrong with one more key: it is there already
+abbrev pub repeat_fault : List Key → Key → Option BuildFault
+repeat_fault ks k = if has_key ks k then Some RepeatedKey else None

@@ -1,10 +1,15 @@
 //! What a builder knows of a container that is open.
 
-ghost use Rattle.std.specs.Prelude.{◌≡◌, ◌++◌, ◌∷◌, [], List, IsTrue, OnOk, OnErr};
+ghost use Rattle.std.specs.Prelude.{◌≡◌, ◌++◌, ◌∷◌, [], List, IsTrue, not, false, Err, IfOk, OnOk, OnErr};
+ghost use Rattle.std.specs.Ordering.{nat_cmp};
+ghost use Rattle.std.specs.BTreeSet.{contains};
 ghost use Rattle.php_graph.specs.declared.key.Key.{Key};
+ghost use Rattle.php_graph.specs.declared.container.Seen.TheVariants.{Nothing};
 ghost use Rattle.php_graph.specs.Graph.{keys_of, has_key};
-ghost use Rattle.php_graph.specs.Keys.{KnowsKeys, BoundsKeys, SeesKeys, HasKeys, IsAbove};
+ghost use Rattle.php_graph.specs.Building.{IsAnswer};
+ghost use Rattle.php_graph.specs.Keys.{KnowsKeys, SeesKeys, HasKeys, HasMarks, is_above, raised, mark_of, repeat_fault};
 
+use crate::item::BuildFault;
 use crate::key::Key;
 use crate::kind::Kind;
 use std::alloc::{AllocError, Global};
@@ -13,15 +18,26 @@ use std::collections::BTreeSet;
 /// Up to so many keys are looked through one by one.
 const FEW_KEYS: u32 = 8;
 
+/// What is kept of a container's keys, to tell those that are new.
+#[derive(Debug, Drop)]
+pub(crate) enum Seen {
+    /// Nothing: there are few keys, or each one's mark was above those before it.
+    Nothing,
+    /// Each key's mark.
+    Marks(BTreeSet<u64>),
+    /// Each key, from where one came whose mark was there.
+    Keys(BTreeSet<Key>),
+}
+
 /// An open container, and what is known of its keys.
 #[derive(Debug, Drop)]
 pub(crate) struct Container {
     /// Its place, from 1.
     pub(crate) place: u32,
-    /// Where all its keys are integers, one that none of them is above.
-    pub(crate) highest: Option<i64>,
-    /// Its keys, once there are many of them that do not rise.
-    pub(crate) seen: Option<BTreeSet<Key>>,
+    /// No key's mark is above it. None where there is no key.
+    pub(crate) highest: Option<u64>,
+    /// What is kept of its keys.
+    pub(crate) seen: Seen,
 }
 
 impl Container {
@@ -32,60 +48,130 @@ impl Container {
     {
         Container {
             place,
-            highest: Some(i64::MIN),
-            seen: None,
+            highest: None,
+            seen: Seen::Nothing,
         }
     }
 
-    /// Whether the container has this key. An integer above all keys is not looked for.
-    pub(crate) fn has(&self, kind: &Kind, key: &Key) -> bool
-        requires { KnowsKeys self.now.highest self.now.seen (keys_of kind.now) }
-        ensures { result ≡ has_key (keys_of kind.now) key.now }
-    {
-        if is_above(self.highest, key) {
-            return false;
-        }
-        match &self.seen {
-            Some(seen) => seen.contains(key),
-            None => kind.has_key(key),
-        }
-    }
-
-    /// Notes that the container gets this key.
-    pub(crate) fn note(&mut self, alloc: Global, kind: &Kind, key: &Key) -> Result<(), AllocError>
+    /// Notes that the container gets this key, unless it has it. A key whose mark is above all others is new, and
+    /// is not looked for.
+    pub(crate) fn note(&mut self, alloc: Global, kind: &Kind, key: &Key) -> Result<(), BuildFault>
         requires { KnowsKeys self.old.highest self.old.seen (keys_of kind.now) }
         ensures place { self.new.place ≡ self.old.place }
+        ensures answer { IsAnswer (repeat_fault (keys_of kind.now) key.now) result }
         ensures ok { OnOk result (KnowsKeys self.new.highest self.new.seen (keys_of kind.now ++ key.now ∷ [])) }
         ensures err { OnErr result (KnowsKeys self.new.highest self.new.seen (keys_of kind.now)) }
     {
-        let many = !is_above(self.highest, key) && kind.members() >= FEW_KEYS;
-        see(&mut self.seen, alloc, kind, key, many)?;
-        self.highest = raised(self.highest, key);
+        let mark = key.mark();
+        let rises = is_above(self.highest, mark);
+        see(&mut self.seen, alloc, kind, key, mark, rises)?;
+        self.highest = raised(self.highest, mark);
         Ok(())
     }
 }
 
-/// Notes a key among those that are seen. Where there are many, they are noted from here on.
+/// Notes a key, unless it is there. One whose mark rises above all others is new.
 fn see(
-    seen: &mut Option<BTreeSet<Key>>,
+    seen: &mut Seen,
     alloc: Global,
     kind: &Kind,
     key: &Key,
-    many: bool,
-) -> Result<(), AllocError>
-    requires { SeesKeys seen.old (keys_of kind.now) }
+    mark: u64,
+    rises: bool,
+) -> Result<(), BuildFault>
+    requires sees { SeesKeys seen.old (keys_of kind.now) }
+    requires mark { mark ≡ mark_of key.now }
+    requires new { IsTrue rises → has_key (keys_of kind.now) key.now ≡ false }
+    ensures answer { IsAnswer (repeat_fault (keys_of kind.now) key.now) result }
     ensures ok { OnOk result (SeesKeys seen.new (keys_of kind.now ++ key.now ∷ [])) }
     ensures err { OnErr result (SeesKeys seen.new (keys_of kind.now)) }
 {
     match seen {
-        Some(set) => insert_copy(set, alloc, key),
-        None => {
-            if many {
-                *seen = Some(kind.key_set(alloc, key)?);
+        Seen::Nothing => {
+            if rises {
+                return Ok(());
             }
-            Ok(())
+            see_first(seen, alloc, kind, key, mark)
         }
+        Seen::Marks(marks) => {
+            if insert_mark(marks, mark)? {
+                return Ok(());
+            }
+            see_marked(seen, alloc, kind, key)
+        }
+        Seen::Keys(keys) => insert_new(keys, alloc, key),
     }
+}
+
+/// Notes a key where nothing is kept, unless it is there. Where there are many, their marks are kept from here on.
+fn see_first(
+    seen: &mut Seen,
+    alloc: Global,
+    kind: &Kind,
+    key: &Key,
+    mark: u64,
+) -> Result<(), BuildFault>
+    requires nothing { seen.old ≡ Nothing }
+    requires mark { mark ≡ mark_of key.now }
+    ensures answer { IsAnswer (repeat_fault (keys_of kind.now) key.now) result }
+    ensures ok { OnOk result (SeesKeys seen.new (keys_of kind.now ++ key.now ∷ [])) }
+    ensures err { OnErr result (SeesKeys seen.new (keys_of kind.now)) }
+{
+    if kind.members() < FEW_KEYS {
+        return if kind.has_key(key) {
+            Err(BuildFault::RepeatedKey)
+        } else {
+            Ok(())
+        };
+    }
+    let Ok(mut marks) = kind.mark_set(alloc) else {
+        return Err(no_memory(kind, key));
+    };
+    if insert_mark(&mut marks, mark)? {
+        *seen = Seen::Marks(marks);
+        return Ok(());
+    }
+    see_marked(seen, alloc, kind, key)
+}
+
+/// Notes a key whose mark is there, unless it is there itself. From here on all keys are kept, so that many
+/// keys of one mark cost no more than others.
+fn see_marked(seen: &mut Seen, alloc: Global, kind: &Kind, key: &Key) -> Result<(), BuildFault>
+    requires { SeesKeys seen.old (keys_of kind.now) }
+    ensures answer { IsAnswer (repeat_fault (keys_of kind.now) key.now) result }
+    ensures ok { OnOk result (SeesKeys seen.new (keys_of kind.now ++ key.now ∷ [])) }
+    ensures err { OnErr result (SeesKeys seen.new (keys_of kind.now)) }
+{
+    let Ok(mut keys) = kind.key_set(alloc) else {
+        return Err(no_memory(kind, key));
+    };
+    let noted = insert_new(&mut keys, alloc, key);
+    *seen = Seen::Keys(keys);
+    noted
+}
+
+/// What is answered where there is no memory. A key that is there is refused as ever.
+fn no_memory(kind: &Kind, key: &Key) -> BuildFault
+    ensures { IsAnswer (repeat_fault (keys_of kind.now) key.now) (Err result) }
+{
+    if kind.has_key(key) {
+        BuildFault::RepeatedKey
+    } else {
+        BuildFault::Memory
+    }
+}
+
+/// Adds an equal key to the set, unless it is there.
+fn insert_new(keys: &mut BTreeSet<Key>, alloc: Global, key: &Key) -> Result<(), BuildFault>
+    ensures answer { (ks : List Key) → HasKeys ks keys.old → IsAnswer (repeat_fault ks key.now) result }
+    ensures ok { OnOk result ((ks : List Key) → HasKeys ks keys.old → HasKeys (ks ++ key.now ∷ []) keys.new) }
+    ensures err { OnErr result ((ks : List Key) → HasKeys ks keys.old → HasKeys ks keys.new) }
+{
+    if keys.contains(key) {
+        return Err(BuildFault::RepeatedKey);
+    }
+    insert_copy(keys, alloc, key)?;
+    Ok(())
 }
 
 /// Adds an equal key to the set.
@@ -101,22 +187,33 @@ pub(crate) fn insert_copy(
     Ok(())
 }
 
-/// Whether the key is an integer above the highest.
-fn is_above(highest: Option<i64>, key: &Key) -> bool
-    ensures { IsTrue result → IsAbove highest key.now }
+/// Adds a key's mark to the set: whether it is new there. Memory is wanted only for one that is.
+pub(crate) fn insert_mark(marks: &mut BTreeSet<u64>, mark: u64) -> Result<bool, AllocError>
+    ensures new { IfOk result (λ new. new ≡ not (contains nat_cmp marks.old mark)) }
+    ensures absent { OnErr result (contains nat_cmp marks.old mark ≡ false) }
+    ensures ok { OnOk result ((ks : List Key) (k : Key) → mark ≡ mark_of k → HasMarks ks marks.old → HasMarks (ks ++ k ∷ []) marks.new) }
+    ensures kept { (ks : List Key) → HasMarks ks marks.old → HasMarks ks marks.new }
 {
-    match (highest, key) {
-        (Some(highest), Key::Int(number)) => highest < *number,
-        _ => false,
+    let new = marks.insert(mark)?;
+    Ok(new)
+}
+
+/// Whether a mark is above the highest.
+fn is_above(highest: Option<u64>, mark: u64) -> bool
+    ensures { result ≡ is_above highest mark }
+{
+    match highest {
+        Some(highest) => highest < mark,
+        None => true,
     }
 }
 
-/// The highest once the key is there too.
-fn raised(highest: Option<i64>, key: &Key) -> Option<i64>
-    ensures { (ks : List Key) → BoundsKeys highest ks → BoundsKeys result (ks ++ key.now ∷ []) }
+/// The highest once this mark is there too.
+fn raised(highest: Option<u64>, mark: u64) -> Option<u64>
+    ensures { result ≡ raised highest mark }
 {
-    match (highest, key) {
-        (Some(highest), Key::Int(number)) => Some(highest.max(*number)),
-        _ => None,
+    match highest {
+        Some(highest) if mark <= highest => Some(highest),
+        _ => Some(mark),
     }
 }

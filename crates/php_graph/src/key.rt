@@ -3,9 +3,11 @@
 ghost use Rattle.std.specs.Prelude.{◌≡◌, ◌<◌, ◌^◌, IfOk};
 ghost use Rattle.php_graph.specs.Building.{is_name};
 ghost use Rattle.php_graph.specs.Graph.{FitsKey};
+ghost use Rattle.php_graph.specs.Keys.{mark_of};
 ghost use Rattle.php_graph.specs.Size.{key_cells};
 
 use crate::bytes::Bytes;
+use crate::numbers::{TOP_BIT, hash_of};
 use std::alloc::{AllocError, Global};
 
 /// A key of an array: a 64-bit integer, or a byte string.
@@ -46,6 +48,15 @@ impl Key {
             Key::Str(bytes) => {
                 let _bytes = bytes.as_slice();
             }
+        }
+    }
+    /// The key's mark. Equal keys have equal marks, and few others do. Marks of integers rise as they do.
+    pub(crate) fn mark(&self) -> u64
+        ensures { result ≡ mark_of self.now }
+    {
+        match self {
+            Key::Int(number) => number.cast_unsigned().wrapping_add(TOP_BIT),
+            Key::Str(bytes) => hash_of(bytes.as_slice()),
         }
     }
     /// Whether it is a byte string, as the names of properties are.

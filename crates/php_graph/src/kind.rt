@@ -4,12 +4,11 @@ ghost use Rattle.std.specs.Prelude.{◌≡◌, ◌<◌, ◌+◌, ◌^◌, ◌++�
 ghost use Rattle.php_graph.specs.Graph.{keys_of, children_of, has_key, is_array, is_object, lowered_kind, FitsKind};
 ghost use Rattle.php_graph.specs.Building.{with_member, is_name, is_container};
 ghost use Rattle.php_graph.specs.Kept.{last_own};
-ghost use Rattle.php_graph.specs.Keys.{HasKeys};
+ghost use Rattle.php_graph.specs.Keys.{HasKeys, HasMarks};
 ghost use Rattle.php_graph.specs.Size.{cells_of};
 
 use crate::bytes::Bytes;
 use crate::child::Child;
-use crate::container::insert_copy;
 use crate::key::Key;
 use crate::members::Members;
 use crate::props::Props;
@@ -54,16 +53,19 @@ impl Kind {
         }
     }
 
-    /// The keys of a container, and this one.
-    pub(crate) fn key_set(&self, alloc: Global, key: &Key) -> Result<BTreeSet<Key>, AllocError>
-        ensures { IfOk result (HasKeys (keys_of self.now ++ key.now ∷ [])) }
+    /// The marks of a container's keys.
+    pub(crate) fn mark_set(&self, alloc: Global) -> Result<BTreeSet<u64>, AllocError>
+        ensures { IfOk result (HasMarks (keys_of self.now)) }
     {
-        let mut set = self.own_keys(alloc)?;
-        insert_copy(&mut set, alloc, key)?;
-        Ok(set)
+        match self {
+            Kind::Array(members) => members.mark_set(alloc),
+            Kind::Object(_, props) => props.mark_set(alloc),
+            _ => Ok(BTreeSet::new(alloc)),
+        }
     }
 
-    fn own_keys(&self, alloc: Global) -> Result<BTreeSet<Key>, AllocError>
+    /// The keys of a container.
+    pub(crate) fn key_set(&self, alloc: Global) -> Result<BTreeSet<Key>, AllocError>
         ensures { IfOk result (HasKeys (keys_of self.now)) }
     {
         match self {

@@ -2,13 +2,13 @@
 
 ghost use Rattle.std.specs.Prelude.{◌≡◌, ◌<◌, length, [], IsTrue, ◌↔◌, slice_get, Some, None, IfOk, OnOk, IfErr, OnErr, ◌+◌, ◌^◌, ◌∷◌, ◌++◌};
 ghost use Rattle.php_graph.specs.Graph.{lowered_members, has_key};
-ghost use Rattle.php_graph.specs.Keys.{HasKeys};
+ghost use Rattle.php_graph.specs.Keys.{HasKeys, HasMarks};
 ghost use Rattle.php_graph.specs.Kept.{last_own};
 ghost use Rattle.std.specs.Prelude.{map, sum_by};
 ghost use Rattle.php_graph.specs.Size.{key_cells};
 
 use crate::child::Child;
-use crate::container::insert_copy;
+use crate::container::{insert_copy, insert_mark};
 use crate::key::Key;
 use std::alloc::{AllocError, Global};
 use std::collections::BTreeSet;
@@ -78,6 +78,17 @@ impl Members {
                 Err(key)
             }
         }
+    }
+
+    /// The keys' marks.
+    pub(crate) fn mark_set(&self, alloc: Global) -> Result<BTreeSet<u64>, AllocError>
+        ensures { IfOk result (HasMarks (map (λ m. m.0) self.now)) }
+    {
+        let mut marks = BTreeSet::new(alloc);
+        for item in &self.items {
+            insert_mark(&mut marks, item.0.mark())?;
+        }
+        Ok(marks)
     }
 
     /// The keys, for quick look-ups.

@@ -14,7 +14,7 @@ const LARGE: u64 = 1 << 60;
 
 const HASH_START: u64 = 5381;
 
-const TOP_BIT: u64 = 1 << 63;
+pub(crate) const TOP_BIT: u64 = 1 << 63;
 
 /// Whether these are digits, at least one, with no zero before others.
 fn is_canonical(digits: &[u8]) -> bool

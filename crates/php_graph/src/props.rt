@@ -3,14 +3,15 @@
 ghost use Rattle.std.specs.Prelude.{◌≡◌, ◌<◌, length, [], IsTrue, ◌↔◌, slice_get, Some, None, IfOk, OnOk, IfErr, OnErr, ◌+◌, ◌^◌, ◌∷◌, ◌++◌, map, sum_by};
 ghost use Rattle.php_graph.specs.declared.key.Key.TheVariants.{Str};
 ghost use Rattle.php_graph.specs.Graph.{lowered_members, has_key};
-ghost use Rattle.php_graph.specs.Keys.{HasKeys};
+ghost use Rattle.php_graph.specs.Keys.{HasKeys, HasMarks};
 ghost use Rattle.php_graph.specs.Kept.{last_own};
 ghost use Rattle.php_graph.specs.Size.{words_in};
 
 use crate::bytes::Bytes;
 use crate::child::Child;
-use crate::container::insert_copy;
+use crate::container::{insert_copy, insert_mark};
 use crate::key::Key;
+use crate::numbers::hash_of;
 use std::alloc::{AllocError, Global};
 use std::collections::BTreeSet;
 use std::marker::Model;
@@ -79,6 +80,18 @@ impl Props {
                 Err(name)
             }
         }
+    }
+
+    /// The names' marks.
+    pub(crate) fn mark_set(&self, alloc: Global) -> Result<BTreeSet<u64>, AllocError>
+        ensures { IfOk result (HasMarks (map (λ p. Str p.0) self.now)) }
+    {
+        let mut marks = BTreeSet::new(alloc);
+        let items: &Vec<(Bytes, Child)> = &self.items;
+        for item in items {
+            insert_mark(&mut marks, hash_of(item.0.as_slice()))?;
+        }
+        Ok(marks)
     }
 
     /// The names, for quick look-ups.

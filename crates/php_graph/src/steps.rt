@@ -131,13 +131,7 @@ fn note_key(
     if kind.is_array() && !is_array_key(key) {
         return Err(BuildFault::IntegerText);
     }
-    if container.has(kind, key) {
-        return Err(BuildFault::RepeatedKey);
-    }
-    match container.note(alloc, kind, key) {
-        Ok(()) => Ok(()),
-        Err(_) => Err(BuildFault::Memory),
-    }
+    container.note(alloc, kind, key)
 }
 
 /// Whether an array may have this key.

@@ -184,6 +184,109 @@ fn refusals(rt: HostRuntime) -> Result<(), Fail> {
     Ok(())
 }
 
+/// Names of one hash, to which `Ez` and `FY` add the same.
+const ONE_HASH: [[u8; 4]; 4] = [*b"EzEz", *b"FYFY", *b"EzFY", *b"FYEz"];
+
+fn name(alloc: Global, text: &[u8]) -> Result<Item, BuildFault>
+    requires { length text.now < 2 ^ 32 }
+{
+    Ok(Item::Key(Key::Str(bytes(alloc, text)?)))
+}
+
+fn put_null(rt: &impl Abort, builder: &mut Builder, key: Item) -> Result<(), BuildFault> {
+    put(rt, builder, key)?;
+    put(rt, builder, Item::Null)
+}
+
+/// Twelve names whose hashes fall, and four of one hash.
+fn put_names(rt: &impl Abort, alloc: Global, builder: &mut Builder) -> Result<(), BuildFault> {
+    for i in 0..12u8 {
+        put_null(rt, builder, name(alloc, &[b'z' - i])?)?;
+    }
+    for text in &ONE_HASH {
+        put_null(rt, builder, name(alloc, text)?)?;
+    }
+    Ok(())
+}
+
+/// Each of the names is refused, and one more is not.
+fn has_names(rt: &impl Abort, alloc: Global, builder: &mut Builder) -> Result<(), BuildFault> {
+    let repeated = Err(BuildFault::RepeatedKey);
+    for text in &ONE_HASH {
+        assert_eq!(rt; put(rt, builder, name(alloc, text)?), repeated);
+    }
+    assert_eq!(rt; put(rt, builder, name(alloc, b"z")?), repeated);
+    assert_eq!(rt; put(rt, builder, name(alloc, b"o")?), repeated);
+    put_null(rt, builder, name(alloc, b"n")?)
+}
+
+#[test]
+fn one_hash(rt: HostRuntime) -> Result<(), Fail> {
+    let alloc = rt.alloc();
+    let mut array = Builder::new(alloc);
+    put(&rt, &mut array, Item::OpenArray)?;
+    put_names(&rt, alloc, &mut array)?;
+    has_names(&rt, alloc, &mut array)?;
+    put(&rt, &mut array, Item::Close)?;
+    assert_eq!(rt; sealed(&rt, array).places(), 18);
+    let mut object = Builder::new(alloc);
+    put(&rt, &mut object, Item::OpenObject(bytes(alloc, b"A")?))?;
+    put_names(&rt, alloc, &mut object)?;
+    has_names(&rt, alloc, &mut object)?;
+    put(&rt, &mut object, Item::Close)?;
+    assert_eq!(rt; sealed(&rt, object).places(), 18);
+    Ok(())
+}
+
+/// Integers that rise and then fall, between names. The integer 177670 has the mark of `a`.
+#[test]
+fn mixed_keys(rt: HostRuntime) -> Result<(), Fail> {
+    let alloc = rt.alloc();
+    let repeated = Err(BuildFault::RepeatedKey);
+    let mut builder = Builder::new(alloc);
+    put(&rt, &mut builder, Item::OpenArray)?;
+    for i in 0..12u8 {
+        put_null(&rt, &mut builder, int_key(i64::from(i)))?;
+    }
+    for i in 0..12u8 {
+        put_null(&rt, &mut builder, int_key(-1 - i64::from(i)))?;
+    }
+    put_null(&rt, &mut builder, name(alloc, b"b")?)?;
+    put_null(&rt, &mut builder, name(alloc, b"a")?)?;
+    put_null(&rt, &mut builder, int_key(177670))?;
+    put_null(&rt, &mut builder, int_key(i64::MIN))?;
+    put_null(&rt, &mut builder, int_key(i64::MAX))?;
+    assert_eq!(rt; put(&rt, &mut builder, int_key(11)), repeated);
+    assert_eq!(rt; put(&rt, &mut builder, int_key(-11)), repeated);
+    assert_eq!(rt; put(&rt, &mut builder, int_key(177670)), repeated);
+    assert_eq!(rt; put(&rt, &mut builder, name(alloc, b"a")?), repeated);
+    put_null(&rt, &mut builder, int_key(12))?;
+    put(&rt, &mut builder, Item::Close)?;
+    assert_eq!(rt; sealed(&rt, builder).places(), 31);
+    Ok(())
+}
+
+/// A key that was refused with many others there is refused again, and others are taken.
+#[test]
+fn rising_keys(rt: HostRuntime) -> Result<(), Fail> {
+    let alloc = rt.alloc();
+    let repeated = Err(BuildFault::RepeatedKey);
+    let mut builder = Builder::new(alloc);
+    put(&rt, &mut builder, Item::OpenArray)?;
+    for i in 0..20u8 {
+        put_null(&rt, &mut builder, int_key(3 * i64::from(i)))?;
+    }
+    assert_eq!(rt; put(&rt, &mut builder, int_key(0)), repeated);
+    assert_eq!(rt; put(&rt, &mut builder, int_key(57)), repeated);
+    put_null(&rt, &mut builder, int_key(1))?;
+    put_null(&rt, &mut builder, int_key(60))?;
+    assert_eq!(rt; put(&rt, &mut builder, int_key(60)), repeated);
+    assert_eq!(rt; put(&rt, &mut builder, int_key(1)), repeated);
+    put(&rt, &mut builder, Item::Close)?;
+    assert_eq!(rt; sealed(&rt, builder).places(), 23);
+    Ok(())
+}
+
 /// A value of an array takes its place, its offset and its member.
 #[test]
 fn small(rt: HostRuntime) {
