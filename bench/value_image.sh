@@ -1,5 +1,6 @@
 #!/bin/sh
-# Nanoseconds a word of writing images, of reading graphs back, and of a plain copy of as many words.
+# Nanoseconds a word of writing images, of reading graphs back, of copying the graph itself (which is what the
+# memory of a graph costs that a reader gets for its own), and of a plain copy of as many words.
 # Usage: bench/value_image.sh PROGRAM, where PROGRAM is the built image_bench.
 set -eu
 program=$1
@@ -10,15 +11,15 @@ spent() {
         awk '{ printf "%.0f\n", ($1 + $2) * 1e9 }'
 }
 
-echo "graph       words   persist   unpersist   copy"
+echo "graph       words   persist   unpersist   graph   copy"
 for row in "string100 14 20000000" "string10k 1251 200000" "string1m 125001 2000" \
     "integers 5001 40000" "nested 1997 20000"; do
     set -- $row
     line=$1
-    for work in persist unpersist copy; do
+    for work in persist unpersist graph copy; do
         base=$(spent "$program" "$work" "$1" 0)
         full=$(spent "$program" "$work" "$1" "$3")
         line="$line $(echo "$full $base $2 $3" | awk '{ printf "%.2f", ($1 - $2) / $3 / $4 }')"
     done
-    echo "$line" | awk -v words="$2" '{ printf "%-10s %6d %9s %11s %6s\n", $1, words, $2, $3, $4 }'
+    echo "$line" | awk -v words="$2" '{ printf "%-10s %6d %9s %11s %7s %6s\n", $1, words, $2, $3, $4, $5 }'
 done

@@ -1,11 +1,11 @@
-//! Work for measurements: `image_bench WORK GRAPH ROUNDS` writes an image, reads a graph back, or copies
-//! as many words, so many times. It prints nothing. Without arguments it does each once.
+//! Work for measurements: `image_bench WORK GRAPH ROUNDS` writes an image, reads a graph back, copies the graph, or
+//! copies as many words, so many times. It prints nothing. Without arguments it reads one graph back.
 #![tactic(auto)]
 
 mod graphs;
 mod often;
 
-use crate::often::{copy_often, persist_often, unpersist_often};
+use crate::often::{copy_often, graph_often, persist_often, unpersist_often};
 use php_graph::Graph;
 use seg_words::VecWords;
 use std::alloc::Global;
@@ -35,6 +35,9 @@ fn do_work(alloc: Global, work: &str, name: &str, rounds: u32) -> Option<()> {
         "persist" => persist_often(&mut row, &g, rounds),
         "unpersist" => {
             let _places = unpersist_often(alloc, &mut row, &g, rounds)?;
+        }
+        "graph" => {
+            let _places = graph_often(alloc, &g, rounds)?;
         }
         _ => {
             let from = Vec::from_elem(alloc, 7u64, words as usize).ok()?;

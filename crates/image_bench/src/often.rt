@@ -32,6 +32,16 @@ pub fn unpersist_often(alloc: Global, row: &mut VecWords, g: &Graph, rounds: u32
     Some(places)
 }
 
+/// Copies the graph so many times: what the memory of an owned graph costs.
+pub fn graph_often(alloc: Global, g: &Graph, rounds: u32) -> Option<u32> {
+    let mut places = 0;
+    'rounds: for _ in 0..rounds {
+        let copy = g.try_copy(alloc).ok()?;
+        places = copy.places();
+    }
+    Some(places)
+}
+
 /// Copies the words, one by one.
 fn copy_words(row: &mut VecWords, from: &[u64])
     requires { length from.now ≤ length row.old.items.items }

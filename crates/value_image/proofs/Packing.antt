@@ -1,8 +1,9 @@
 -- Bytes packed into words, and words into bytes.
-use Rattle.std.proofs.Common.{◌≡◌, ℕ, zero, suc, ◌+◌, ◌*◌, ◌-◌, ◌/◌, ◌%◌, ◌<◌, ◌≤◌, List, [], ◌∷◌, ◌++◌, length, take, drop, replicate, slice_index, slice_set, get_or, refl, sym, ap, ap₂, ◌∙◌, arith, inl, inr, length-append}
+use Rattle.std.proofs.Common.{◌≡◌, ℕ, zero, suc, ◌+◌, ◌*◌, ◌^◌, ◌-◌, ◌/◌, ◌%◌, ◌<◌, ◌≤◌, List, [], ◌∷◌, ◌++◌, length, take, drop, replicate, slice_index, slice_set, get_or, refl, sym, subst, ap, ap₂, ◌∙◌, arith, inl, inr, length-append}
 use Rattle.std.proofs.Math.Seq.{take-append-add, take-add}
 use Rattle.std.proofs.lemmas.Bool.{cases_lt}
-use Rattle.std.proofs.lemmas.Nat.{le_bytes_8}
+use Rattle.std.proofs.lemmas.Nat.{le_bytes_8, div-mul-add}
+use Rattle.std.proofs.Math.Nat.{mul_assoc, mul_comm}
 use Rattle.std.proofs.lemmas.List.{take-append-le, take_at, take_all, take_more, take-append-drop, get_or_past, get_or-drop, get_or-take, drop_all, append-nil, length-drop, length-take, length-take-le, length-replicate}
 use Rattle.std.proofs.lemmas.List.FromFn.{get_or-map-range_with_len, length-map-range_with_len}
 use Rattle.std.proofs.lemmas.Grind.{flat_map-append}
@@ -10,8 +11,8 @@ use Rattle.std.specs.Int.{w64, from_le_bytes}
 use Rattle.std.specs.List.{AllByRecursion}
 use borrow.Rule.Slice.PartMut.{put_mid, post_of}
 use Rattle.byteorder.specs.Endian.{little_bytes, little_number, little_from}
-use Rattle.byteorder.specs.Numbers.{length-bytes_low_first, little_from-take}
-use Rattle.byteorder.proofs.Bytes.{little_from-zeros_after}
+use Rattle.byteorder.specs.Numbers.{length-bytes_low_first, little_from-take, little_from-lt}
+use Rattle.byteorder.proofs.Bytes.{little_from-zeros_after, pow256}
 use Rattle.byteorder.proofs.Slices.{write_step}
 use Rattle.php_graph.specs.ByteStrings.{AreBytes}
 use Rattle.php_graph.specs.Size.{words_in}
@@ -44,6 +45,49 @@ pub word_at-last : (bs : List ℕ) (full left x : ℕ) → full ≡ length bs / 
 word_at-last bs full left x ef el e =
     let len = length-drop (8 * full) bs in
     e ∙ sym (little-short 0 left 8 (drop (8 * full) bs) (omega arith) (omega (arith, len)))
+
+-- a number is its lowest k bytes and those above them
+little-split : (k i m : ℕ) (xs : List ℕ) → little_from i (k + m) xs ≡ 256 ^ k * little_from (i + k) m xs + little_from i k xs
+little-split zero i m xs = let same : i + 0 ≡ i = omega arith in let none : 0 + m ≡ m = omega arith in rw (same, none) (omega arith)
+little-split (suc k) i m xs =
+    let same : suc i + k ≡ i + suc k = omega arith in
+    let ih = subst (λ (j : ℕ). little_from (suc i) (k + m) xs ≡ 256 ^ k * little_from j m xs + little_from (suc i) k xs) same (little-split k (suc i) m xs) in
+    let more = mul_assoc 256 (256 ^ k) (little_from (i + suc k) m xs) in
+    let long : suc k + m ≡ suc (k + m) = omega arith in
+    let size : 256 ^ suc k ≡ 256 * 256 ^ k = omega arith in
+    rw (long, size) (omega (arith, ih, more))
+
+-- the bytes of a number above its lowest k bytes
+little-shifted : (k i m : ℕ) (xs : List ℕ) → ((j : ℕ) → slice_index xs j < 256) → little_from i (k + m) xs / 2 ^ (8 * k) ≡ little_from (i + k) m xs
+little-shifted k i m xs small =
+    let commuted : 256 ^ k * little_from (i + k) m xs + little_from i k xs ≡ little_from (i + k) m xs * 256 ^ k + little_from i k xs = omega (arith, mul_comm (256 ^ k) (little_from (i + k) m xs)) in
+    ap (λ (n : ℕ). little_from i (k + m) xs / n) (sym (pow256 k))
+    ∙ (ap (λ (n : ℕ). n / 256 ^ k) (little-split k i m xs ∙ commuted)
+    ∙ div-mul-add (little_from (i + k) m xs) (256 ^ k) (little_from i k xs) (little_from-lt i k xs small))
+
+little-drop : (n i m : ℕ) (xs : List ℕ) → little_from i m (drop n xs) ≡ little_from (n + i) m xs
+little-drop n i zero xs = refl
+little-drop n i (suc m) xs =
+    let at : n + suc i ≡ suc (n + i) = omega arith in
+    let ih = subst (λ (j : ℕ). little_from (suc i) m (drop n xs) ≡ little_from j m xs) at (little-drop n (suc i) m xs) in
+    let byte = get_or-drop n xs i 0 in
+    omega (arith, ih, byte)
+
+-- the last word of a byte string that has eight bytes or more, from its last eight bytes
+pub word_at-shifted : (bs : List ℕ) (left x : ℕ) → 8 ≤ length bs → left ≡ length bs % 8 → ((j : ℕ) → slice_index bs j < 256) → x ≡ little_number 8 (drop (length bs - 8) bs)
+    → x / 2 ^ (64 - 8 * left) ≡ word_at bs (length bs / 8)
+word_at-shifted bs left x long el small e =
+    let bits : 64 - 8 * left ≡ 8 * (8 - left) = omega arith in
+    let all : 8 ≡ (8 - left) + left = omega arith in
+    let start : length bs - 8 + (8 - left) ≡ 8 * (length bs / 8) = omega arith in
+    let none : length bs - 8 + 0 ≡ length bs - 8 = omega arith in
+    let here : 8 * (length bs / 8) + 0 ≡ 8 * (length bs / 8) = omega arith in
+    let whole : x ≡ little_from (length bs - 8) ((8 - left) + left) bs = e ∙ (little-drop (length bs - 8) 0 8 bs ∙ ap₂ (λ (i n : ℕ). little_from i n bs) none all) in
+    let cut = little-shifted (8 - left) (length bs - 8) left bs small in
+    let last : little_from (8 * (length bs / 8)) 8 bs ≡ little_from (8 * (length bs / 8)) left bs = little-short (8 * (length bs / 8)) left 8 bs (omega arith) (omega arith) in
+    ap₂ (λ (y n : ℕ). y / 2 ^ n) whole bits
+    ∙ (cut ∙ (ap (λ (i : ℕ). little_from i left bs) start
+    ∙ (sym last ∙ (ap (λ (i : ℕ). little_from i 8 bs) (sym here) ∙ sym (little-drop (8 * (length bs / 8)) 0 8 bs)))))
 
 -- the row with one word more of a byte string
 pub written-more : (row : List ℕ) (at : ℕ) (bs : List ℕ) (i x : ℕ) → i < words_in (length bs) → x ≡ word_at bs i

@@ -1,9 +1,9 @@
 //! Byte strings as words.
 
-ghost use Rattle.std.specs.Prelude.{◌≡◌, ◌+◌, ℕ, ◌≤◌, ◌<◌, length, take, drop};
+ghost use Rattle.std.specs.Prelude.{◌≡◌, ◌+◌, ◌/◌, ◌%◌, ℕ, ◌≤◌, ◌<◌, length, take, drop};
 ghost use Rattle.php_graph.specs.Size.{words_in};
 ghost use Rattle.seg_words.specs.Blocks.{IsTold};
-ghost use Rattle.value_image.specs.Packed.{words_of, bytes_of};
+ghost use Rattle.value_image.specs.Packed.{words_of, bytes_of, word_at};
 ghost use Rattle.value_image.specs.Rows.{written, MayWrite};
 
 use byteorder::{ByteOrder, LittleEndian};
@@ -22,9 +22,22 @@ pub fn put_bytes<S: Segment>(seg: &mut S, at: u32, bytes: &[u8])
     }
     let left = bytes.len() % 8;
     if left != 0 {
-        let last = LittleEndian::read_uint(&bytes[8 * full..], left);
+        let last = last_word(bytes);
         seg.store(at + full as u32, last);
     }
+}
+
+/// The word of the bytes behind all whole words. Where there is a whole word, the last eight bytes are read at
+/// once and those before shifted out, which is quicker than to gather so few bytes.
+fn last_word(bytes: &[u8]) -> u64
+    requires { 0 < length bytes.now % 8 }
+    ensures { result ≡ word_at bytes.now (length bytes.now / 8) }
+{
+    let left = bytes.len() % 8;
+    if bytes.len() < 8 {
+        return LittleEndian::read_uint(bytes, left);
+    }
+    LittleEndian::read_u64(&bytes[bytes.len() - 8..]) >> (64 - 8 * left)
 }
 
 /// Fills the buffer with the bytes of the words from place `at` on. It takes no memory.

@@ -5,7 +5,7 @@ use Rattle.php_graph.specs.Size.{words_in}
 use Rattle.value_image.specs.Packed.{words_of}
 use Rattle.value_image.specs.Rows.{written, MayWrite}
 use Rattle.value_image.proofs.Runs.{may_store-next}
-use Rattle.value_image.proofs.Packing.{length-words_of, written-more, written-all, word_at-last}
+use Rattle.value_image.proofs.Packing.{length-words_of, written-more, written-all}
 use Rattle.value_image.proofs.bytes.put_bytes.Goals as goal
 
 -- what is written of the bytes is so long
@@ -51,12 +51,11 @@ pub returns-then-left-ne0-clause-words : goal.returns-then-left-ne0-clause-words
 returns-then-left-ne0-clause-words g c =
     let at : c.loop-i.i ≡ length c.args.bytes.now / 8 = omega arith in
     let room : length c.args.bytes.now / 8 < words_in (length c.args.bytes.now) = omega arith in
-    let x = rw (take_rest c.args.bytes.now (8 * (length c.args.bytes.now / 8))) at c.read_uint-last.ensures in
-    let w = word_at-last c.args.bytes.now (length c.args.bytes.now / 8) (length c.args.bytes.now % 8) c.read_uint-last.result refl refl x in
+    let w = c.last_word-last.ensures in
     let before = c.loop-i.invariant.words ∙ ap (λ (k : ℕ). written (g.S.WordsIn.words c.args.seg.now) c.args.at (take k (words_of c.args.bytes.now))) at in
     c.store-then-left-ne0.ensures.words
-    ∙ (ap (λ (r : List ℕ). slice_set r (c.args.at + length c.args.bytes.now / 8) c.read_uint-last.result) before
-    ∙ (written-more (g.S.WordsIn.words c.args.seg.now) c.args.at c.args.bytes.now (length c.args.bytes.now / 8) c.read_uint-last.result room w
+    ∙ (ap (λ (r : List ℕ). slice_set r (c.args.at + length c.args.bytes.now / 8) c.last_word-last.result) before
+    ∙ (written-more (g.S.WordsIn.words c.args.seg.now) c.args.at c.args.bytes.now (length c.args.bytes.now / 8) c.last_word-last.result room w
     ∙ written-all (g.S.WordsIn.words c.args.seg.now) c.args.at c.args.bytes.now (length c.args.bytes.now / 8 + 1) (omega arith)))
 
 pub returns-else-left-ne0-clause-words : goal.returns-else-left-ne0-clause-words
