@@ -1,11 +1,14 @@
-ghost use Rattle.std.specs.Prelude.{◌≡◌, [], IfOk, OnOk, OnErr};
+ghost use Rattle.std.specs.Prelude.{◌≡◌, [], MatchOption, IfOk, OnOk, OnErr};
 ghost use Rattle.apcu_model.specs.Cache.{empty_cache};
 ghost use Rattle.apcu_model.specs.Conf.{IsGood};
 ghost use Rattle.apcu_model.specs.Sequential.{cache_after, reply_to};
+ghost use Rattle.apcu_model.specs.declared.request.Request.TheVariants.{Store, Fetch};
+ghost use Rattle.apcu_model.specs.declared.request.Reply.TheVariants.{Flag, Found, Absent};
 
 use crate::conf::Conf;
 use crate::request::{Reply, Request};
 use crate::state::State;
+use php_graph::{Bytes, Graph};
 use std::alloc::{AllocError, Global};
 use std::marker::Model;
 
@@ -49,7 +52,8 @@ impl Plain {
 
     /// Answers a request at the moment `t`, in seconds. Where memory is missing, nothing changed.
     ///
-    /// Nobody copies a value meanwhile, so the blocks of rows that are dropped are free at once.
+    /// It copies the key and the value that it stores, and the value that it answers. `store`, `live_value`
+    /// and `note_fetch` copy none.
     pub fn ask(&mut self, request: &Request, t: u64) -> Result<Reply, AllocError>
         ensures reply { IfOk result (λ r. r ≡ reply_to [] t request.now self.old) }
         ensures after { OnOk result (self.new ≡ cache_after [] t request.now self.old) }
@@ -61,12 +65,55 @@ impl Plain {
                 value,
                 ttl,
                 exclusive,
-            } => Ok(Reply::Flag(
-                self.state
-                    .store(key.as_slice(), value, *ttl, *exclusive, t)?,
-            )),
-            Request::Fetch(key) => self.state.fetch(key.as_slice(), t),
+            } => {
+                let key = Bytes::of(self.state.alloc, key.as_slice())?;
+                let value = value.try_copy(self.state.alloc)?;
+                Ok(Reply::Flag(self.store(key, value, *ttl, *exclusive, t)?))
+            }
+            Request::Fetch(key) => {
+                let reply = match self.live_value(key.as_slice(), t) {
+                    Some(value) => Reply::Found(value.try_copy(self.state.alloc)?),
+                    None => Reply::Absent,
+                };
+                self.note_fetch(key.as_slice(), t);
+                Ok(reply)
+            }
             Request::Retire => Ok(Reply::Ended),
         }
+    }
+
+    /// Stores a value at the moment `t`, and answers whether it then stands in the cache. `ttl` is in seconds,
+    /// 0 is no limit; an `exclusive` store leaves a live row as it is. Where memory is missing, nothing changed.
+    ///
+    /// It takes key and value over instead of copying them. Nobody copies a value meanwhile, so the blocks of
+    /// rows that are dropped are free at once.
+    pub fn store(
+        &mut self,
+        key: Bytes,
+        value: Graph,
+        ttl: u32,
+        exclusive: bool,
+        t: u64,
+    ) -> Result<bool, AllocError>
+        ensures reply { IfOk result (λ done. Flag done ≡ reply_to [] t (Store key value ttl exclusive) self.old) }
+        ensures after { OnOk result (self.new ≡ cache_after [] t (Store key value ttl exclusive) self.old) }
+        ensures err { OnErr result (self.new ≡ self.old) }
+    {
+        self.state.store(key, value, ttl, exclusive, t)
+    }
+
+    /// The value that a fetch of the key at the moment `t` finds, lent and not copied; `None` where it finds
+    /// none. It takes no memory and counts nothing: `note_fetch` does.
+    pub fn live_value(&self, key: &[u8], t: u64) -> Option<&Graph>
+        ensures { MatchOption result (reply_to [] t (Fetch key.now) self.now ≡ Absent) (λ g. reply_to [] t (Fetch key.now) self.now ≡ Found g.now) }
+    {
+        self.state.live_value(key, t)
+    }
+
+    /// Notes a fetch of the key at the moment `t`: a hit and the row's use, or a miss. It takes no memory.
+    pub fn note_fetch(&mut self, key: &[u8], t: u64)
+        ensures { self.new ≡ cache_after [] t (Fetch key.now) self.old }
+    {
+        self.state.note_fetch(key, t);
     }
 }

@@ -1,4 +1,5 @@
-ghost use Rattle.std.specs.Prelude.{◌≡◌, ℕ, ◌+◌, ◌<◌, ◌≤◌, ◌^◌, [], true, length, is_some, vec_len, vec_capacity, IfOk, OnOk, OnErr};
+ghost use Rattle.std.specs.Prelude.{◌≡◌, ℕ, ◌<◌, ◌≤◌, [], is_some, vec_len, vec_capacity, MatchOption, IfOk, OnOk, OnErr};
+ghost use Rattle.apcu_model.specs.declared.request.Reply.TheVariants.{Absent, Found};
 ghost use Rattle.apcu_model.specs.Cache.{gap_of};
 ghost use Rattle.apcu_model.specs.Change.{expired_dropped, expunged, inserted, placed, put_in, with_room};
 ghost use Rattle.apcu_model.specs.Expiry.{live_row};
@@ -7,7 +8,6 @@ ghost use Rattle.apcu_model.specs.Sequential.{found_in, is_stored, looked_up};
 
 use crate::conf::Conf;
 use crate::entry::Entry;
-use crate::request::Reply;
 use crate::rows::{drop_expired, drop_expired_in, list_extents, live_in, put_row, touch_in};
 use php_graph::{Bytes, Graph, block_words, hash_of};
 use seg_words::{Extent, first_fit};
@@ -152,54 +152,55 @@ impl State {
     // Stores a value, and answers whether it stands in the cache.
     pub(crate) fn store(
         &mut self,
-        key: &[u8],
-        value: &Graph,
+        key: Bytes,
+        value: Graph,
         ttl: u32,
         exclusive: bool,
         t: u64,
     ) -> Result<bool, AllocError>
-        requires sound { IsSound self.old }
-        requires short { length key.now < 2 ^ 32 }
-        ensures reply { IfOk result (λ done. done ≡ is_stored (inserted [] key.now value.now ttl exclusive t (cache_of self.old)).answer) }
-        ensures after { OnOk result (cache_of self.new ≡ (inserted [] key.now value.now ttl exclusive t (cache_of self.old)).cache) }
+        requires { IsSound self.old }
+        ensures reply { IfOk result (λ done. done ≡ is_stored (inserted [] key value ttl exclusive t (cache_of self.old)).answer) }
+        ensures after { OnOk result (cache_of self.new ≡ (inserted [] key value ttl exclusive t (cache_of self.old)).cache) }
         ensures err { OnErr result (cache_of self.new ≡ cache_of self.old) }
         ensures sound { IsSound self.new }
     {
-        let size = block_words(key.len() as u64, value);
+        let size = block_words(key.as_slice().len() as u64, &value);
         if u64::from(self.conf.words - self.conf.slots) < size {
             return Ok(false);
         }
-        if exclusive && self.is_live(key, t) {
+        if exclusive && self.is_live(key.as_slice(), t) {
             return Ok(false);
         }
         let draft = Draft {
-            key: Bytes::of(self.alloc, key)?,
-            graph: value.try_copy(self.alloc)?,
+            key,
+            graph: value,
             ttl,
             size: size as u32,
         };
         self.insert(draft, t)
     }
 
-    // Looks a key up and answers a copy of its value.
-    pub(crate) fn fetch(&mut self, key: &[u8], t: u64) -> Result<Reply, AllocError>
-        requires { IsSound self.old }
-        ensures reply { IfOk result (λ r. r ≡ found_in (live_row key.now t (cache_of self.old))) }
-        ensures after { OnOk result (cache_of self.new ≡ looked_up key.now t (live_row key.now t (cache_of self.old)) (cache_of self.old)) }
-        ensures err { OnErr result (cache_of self.new ≡ cache_of self.old) }
-        ensures sound { IsSound self.new }
+    // The value that a look-up of the key finds.
+    pub(crate) fn live_value(&self, key: &[u8], t: u64) -> Option<&Graph>
+        ensures { MatchOption result (found_in (live_row key.now t (cache_of self.now)) ≡ Absent) (λ g. found_in (live_row key.now t (cache_of self.now)) ≡ Found g.now) }
     {
         match live_in(&self.rows, key, t) {
-            Some(row) => {
-                let graph = row.graph.try_copy(self.alloc)?;
-                touch_in(&mut self.rows, key, t);
-                self.hits = self.hits.saturating_add(1);
-                Ok(Reply::Found(graph))
-            }
-            None => {
-                self.misses = self.misses.saturating_add(1);
-                Ok(Reply::Absent)
-            }
+            Some(row) => Some(&row.graph),
+            None => None,
+        }
+    }
+
+    // Notes a look-up: a hit and the row's use, or a miss.
+    pub(crate) fn note_fetch(&mut self, key: &[u8], t: u64)
+        requires { IsSound self.old }
+        ensures cache { cache_of self.new ≡ looked_up key.now t (live_row key.now t (cache_of self.old)) (cache_of self.old) }
+        ensures sound { IsSound self.new }
+    {
+        if self.is_live(key, t) {
+            touch_in(&mut self.rows, key, t);
+            self.hits = self.hits.saturating_add(1);
+        } else {
+            self.misses = self.misses.saturating_add(1);
         }
     }
 }

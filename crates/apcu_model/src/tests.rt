@@ -23,33 +23,73 @@ fn text(rt: &impl Abort, alloc: Global, len: usize) -> Result<Graph, Fail>
     graph(rt, alloc, Item::Str(Bytes::of(alloc, &bytes)?))
 }
 
+// One cache that is asked, and one that takes over and lends: both answer the same.
+#[derive(Drop)]
+struct Pair {
+    alloc: Global,
+    asked: Plain,
+    lending: Plain,
+}
+
+impl Pair {
+    fn new(alloc: Global, conf: &Conf) -> Pair
+        requires { IsGood conf.now }
+    {
+        Pair {
+            alloc,
+            asked: Plain::new(alloc, conf),
+            lending: Plain::new(alloc, conf),
+        }
+    }
+}
+
 fn store(
     rt: &impl Abort,
-    plain: &mut Plain,
+    pair: &mut Pair,
     key: Bytes,
     value: Graph,
     ttl: u32,
     t: u64,
 ) -> Result<bool, Fail> {
+    store_as(rt, pair, key, value, ttl, false, t)
+}
+
+fn store_as(
+    rt: &impl Abort,
+    pair: &mut Pair,
+    key: Bytes,
+    value: Graph,
+    ttl: u32,
+    exclusive: bool,
+    t: u64,
+) -> Result<bool, Fail> {
     let request = Request::Store {
-        key,
-        value,
+        key: Bytes::of(pair.alloc, key.as_slice())?,
+        value: value.try_copy(pair.alloc)?,
         ttl,
-        exclusive: false,
+        exclusive,
     };
-    match plain.ask(&request, t)? {
-        Reply::Flag(done) => Ok(done),
+    let stored = pair.lending.store(key, value, ttl, exclusive, t)?;
+    match pair.asked.ask(&request, t)? {
+        Reply::Flag(done) => assert_eq!(rt; done, stored),
         _ => panic!(rt; "a store is answered by a flag"),
     }
+    Ok(stored)
 }
 
 // The number under the key; `None` where it is absent, and -1 for another value.
-fn found(rt: &impl Abort, plain: &mut Plain, key: Bytes, t: u64) -> Result<Option<i64>, Fail> {
-    match plain.ask(&Request::Fetch(key), t)? {
-        Reply::Found(value) => Ok(Some(number_of(&value))),
-        Reply::Absent => Ok(None),
+fn found(rt: &impl Abort, pair: &mut Pair, key: Bytes, t: u64) -> Result<Option<i64>, Fail> {
+    let lent = match pair.lending.live_value(key.as_slice(), t) {
+        Some(value) => Some(number_of(value)),
+        None => None,
+    };
+    pair.lending.note_fetch(key.as_slice(), t);
+    match pair.asked.ask(&Request::Fetch(key), t)? {
+        Reply::Found(value) => assert_eq!(rt; Some(number_of(&value)), lent),
+        Reply::Absent => assert_eq!(rt; None, lent),
         _ => panic!(rt; "a fetch is answered by a value or its absence"),
     }
+    Ok(lent)
 }
 
 fn number_of(value: &Graph) -> i64 {
@@ -77,10 +117,10 @@ fn small(ttl: u32) -> Conf
 }
 
 // The keys 1 to 30 with the number 1, at one moment: they fill 480 words. The first has a ttl.
-fn filled(rt: &impl Abort, alloc: Global, conf: &Conf, ttl: u32, t: u64) -> Result<Plain, Fail>
+fn filled(rt: &impl Abort, alloc: Global, conf: &Conf, ttl: u32, t: u64) -> Result<Pair, Fail>
     requires { IsGood conf.now }
 {
-    let mut plain = Plain::new(alloc, conf);
+    let mut plain = Pair::new(alloc, conf);
     for name in 1..31 {
         let ttl = if name == 1 { ttl } else { 0 };
         assert!(rt;
@@ -100,7 +140,7 @@ fn filled(rt: &impl Abort, alloc: Global, conf: &Conf, ttl: u32, t: u64) -> Resu
 #[test]
 fn stores_and_fetches(rt: HostRuntime) -> Result<(), Fail> {
     let alloc = rt.alloc();
-    let mut plain = Plain::new(alloc, &small(0));
+    let mut plain = Pair::new(alloc, &small(0));
     assert_eq!(rt; found(&rt, &mut plain, key(alloc, 1)?, 100)?, None);
     for n in [5, 7] {
         assert!(rt;
@@ -115,22 +155,26 @@ fn stores_and_fetches(rt: HostRuntime) -> Result<(), Fail> {
         );
         assert_eq!(rt; found(&rt, &mut plain, key(alloc, 1)?, 100)?, Some(n));
     }
-    let again = Request::Store {
-        key: key(alloc, 1)?,
-        value: graph(&rt, alloc, Item::Int(9))?,
-        ttl: 0,
-        exclusive: true,
-    };
-    assert!(rt; matches!(plain.ask(&again, 100)?, Reply::Flag(false)));
+    assert!(rt;
+        !store_as(
+            &rt,
+            &mut plain,
+            key(alloc, 1)?,
+            graph(&rt, alloc, Item::Int(9))?,
+            0,
+            true,
+            100
+        )?
+    );
     assert_eq!(rt; found(&rt, &mut plain, key(alloc, 1)?, 100)?, Some(7));
-    assert!(rt; matches!(plain.ask(&Request::Retire, 0)?, Reply::Ended));
+    assert!(rt; matches!(plain.asked.ask(&Request::Retire, 0)?, Reply::Ended));
     Ok(())
 }
 
 #[test]
 fn fits_what_an_empty_segment_takes(rt: HostRuntime) -> Result<(), Fail> {
     let alloc = rt.alloc();
-    let mut plain = Plain::new(alloc, &small(0));
+    let mut plain = Pair::new(alloc, &small(0));
     assert!(rt;
         store(
             &rt,
@@ -201,7 +245,7 @@ fn makes_room(rt: HostRuntime) -> Result<(), Fail> {
 #[test]
 fn expires(rt: HostRuntime) -> Result<(), Fail> {
     let alloc = rt.alloc();
-    let mut plain = Plain::new(alloc, &small(0));
+    let mut plain = Pair::new(alloc, &small(0));
     assert!(rt;
         store(
             &rt,

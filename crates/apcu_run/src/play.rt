@@ -1,13 +1,13 @@
 ghost use Rattle.std.specs.Prelude.{◌≡◌, ◌+◌, ◌-◌, ◌<◌, ◌≤◌, ◌^◌, [], ◌∷◌, ◌++◌, length, IfOk, OnOk};
 ghost use Rattle.std.specs.List.{AllByRecursion};
 ghost use Rattle.apcu_model.specs.Conf.{IsGood};
-ghost use Rattle.apcu_run.specs.Alone.{request_of, step_reply, after_step, own_mark, lines_of, marks_for};
+ghost use Rattle.apcu_run.specs.Alone.{step_reply, after_step, own_mark, lines_of, marks_for};
 ghost use Rattle.apcu_run.specs.Grammar.{ends_line};
 ghost use Rattle.apcu_run.specs.Output.{reply_text, journal_lines, IsOutput};
 
-use crate::output::{write_mark, write_reply, write_worker};
+use crate::output::{write_absent, write_found, write_mark, write_stored, write_worker};
 use crate::script::{Call, Script, Scripts, Step};
-use apcu_model::{Conf, Journal, Mark, Plain, Request};
+use apcu_model::{Conf, Journal, Mark, Plain};
 use notation::ByteOut;
 use std::alloc::{AllocError, Global};
 
@@ -71,34 +71,30 @@ fn mark_of_own() -> Mark
     Mark { worker: 0, mask: 0 }
 }
 
-// One call: its event, and the line of its reply.
+// One call: its event, and the line of its reply. No value is copied.
 fn play_step(plain: &mut Plain, step: Step, out: &mut ByteOut) -> Result<(), AllocError>
     ensures plain { OnOk result (plain.new ≡ after_step plain.old step) }
     ensures line { OnOk result (out.new ≡ out.old ++ (reply_text (step_reply plain.old step) ++ ends_line)) }
 {
     let Step { t, call } = step;
-    let request = asked_by(call);
-    let reply = plain.ask(&request, t)?;
-    write_reply(out, &reply)
-}
-
-// What a call on one key asks.
-fn asked_by(call: Call) -> Request
-    ensures { result ≡ request_of call }
-{
     match call {
         Call::StoreOne {
             key,
             value,
             ttl,
             exclusive,
-        } => Request::Store {
-            key,
-            value,
-            ttl,
-            exclusive,
-        },
-        Call::FetchOne(key) => Request::Fetch(key),
+        } => {
+            let stored = plain.store(key, value, ttl, exclusive, t)?;
+            write_stored(out, stored)
+        }
+        Call::FetchOne(key) => {
+            match plain.live_value(key.as_slice(), t) {
+                Some(value) => write_found(out, value)?,
+                None => write_absent(out)?,
+            }
+            plain.note_fetch(key.as_slice(), t);
+            Ok(())
+        }
     }
 }
 

@@ -32,8 +32,23 @@ fn expect<R: Threads + Wait + Sync + Abort>(
     printed: &[u8],
     told: &[u8],
 ) -> Result<(), Fail> {
-    let mut source = MemSource::new(input, 7, &[]);
-    let mut out = MemSink::new(alloc, 16384, 5, &[])?;
+    let none = [].as_slice();
+    expect_with(rt, alloc, input, [none, none], status, [printed, told])
+}
+
+// The same, where the reads and the writes of these numbers, from 0, fail.
+fn expect_with<R: Threads + Wait + Sync + Abort>(
+    rt: &R,
+    alloc: Global,
+    input: &[u8],
+    fails: [&[u64]; 2],
+    status: Status,
+    texts: [&[u8]; 2],
+) -> Result<(), Fail> {
+    let [reads, writes] = fails;
+    let [printed, told] = texts;
+    let mut source = MemSource::new(input, 7, reads);
+    let mut out = MemSink::new(alloc, 16384, 5, writes)?;
     let mut err = MemSink::new(alloc, 64, 64, &[])?;
     assert_eq!(rt;
         run_over(rt, alloc, &mut source, &mut out, &mut err)?,
@@ -267,6 +282,23 @@ fn faults_in_turn(rt: HostRuntime) -> Result<(), Fail> {
         assert_eq!(rt; out.as_slice(), &PRINTED[..at]);
         assert_eq!(rt; err.as_slice(), b"apcu_run: write fault\n".as_slice());
     }
+    Ok(())
+}
+
+// The second read of 7 bytes fails, or the second write of 5. There is no read or write of number 9.
+#[test]
+fn faults_in_mid_stream(rt: HostRuntime) -> Result<(), Fail> {
+    for (read, write, status, printed, told) in [
+        (1, 9, Status::ReadFault, "", "apcu_run: read fault\n"),
+        (9, 1, Status::WriteFault, "worke", "apcu_run: write fault\n"),
+    ] {
+        let fails = [[read], [write]];
+        let fails = [fails[0].as_slice(), fails[1].as_slice()];
+        let texts = [printed.as_bytes(), told.as_bytes()];
+        expect_with(&rt, rt.alloc(), STORE_AND_FETCH, fails, status, texts)?;
+    }
+    assert_eq!(rt; Status::ReadFault.code(), 3);
+    assert_eq!(rt; Status::WriteFault.code(), 4);
     Ok(())
 }
 

@@ -2,10 +2,10 @@ use Rattle.std.proofs.Common.{◌≡◌, true, ◌++◌, length, take, drop, ap,
 use Rattle.std.proofs.lemmas.Grind.{common_steps}
 use Rattle.apcu_model.specs.Rows.{are_apart, touched_at}
 use Rattle.apcu_model.proofs.Apart.{are_apart-map, touched_key}
-use Rattle.apcu_model.proofs.state.State.fetch.Goals as goal
+use Rattle.apcu_model.proofs.state.State.note_fetch.Goals as goal
 
-pub returns-in_ok-graph-in-Some-clause-sound : goal.returns-in_ok-graph-in-Some-clause-sound
-returns-in_ok-graph-in-Some-clause-sound c =
+pub returns-then-is_live-clause-sound : goal.returns-then-is_live-clause-sound
+returns-then-is_live-clause-sound c =
     let key = c.args.key.now in
     let old = c.args.self.now.rows.items in
     let new = c.touch_in.new.rows in
