@@ -11,10 +11,10 @@ use Rattle.value_image.specs.Rows.{StandsAt}
 use Rattle.value_image.specs.Image.{IsImageOf, image_of}
 use Rattle.value_image.proofs.Packing.{length-words_of}
 use Rattle.value_image.proofs.Images.{length-image_of, image-stands, stands-image}
-use Rattle.sma_blocks.proofs.Lives.{Contains-first, Contains-later}
 use Rattle.apcu_model.specs.Cache.{Row, extent_of}
 use Rattle.entry_slots.specs.declared.slots.EntrySlots.{EntrySlots}
 use Rattle.entry_slots.specs.Standing.{IsChain, IsEntry}
+use Rattle.entry_slots.proofs.Members.{Contains-first, Contains-later}
 use Rattle.entry_slots.proofs.Blocks.{Apart, live_apart}
 use Rattle.entry_slots.proofs.Homes.{IsHome}
 

@@ -5,7 +5,6 @@ use Rattle.std.proofs.lemmas.List.Elements.{Contains-append_cases}
 use Rattle.std.specs.List.{Contains, filter, count_by}
 use Rattle.seg_words.specs.declared.extents.Extent.{Extent}
 use Rattle.seg_words.specs.Windows.{Aside}
-use Rattle.sma_blocks.proofs.Lives.{Contains-cases}
 use Rattle.php_graph.specs.declared.kind.Kind.{Kind}
 use Rattle.apcu_model.specs.Cache.{Row, has_key, extent_of, risen}
 use Rattle.apcu_model.specs.Change.{with_row}
@@ -16,9 +15,9 @@ use Rattle.entry_slots.specs.Lists.{is_at}
 use Rattle.entry_slots.specs.Entries.{Entries, chain_of, blocks_of, fresh_row, linked}
 use Rattle.entry_slots.specs.Standing.{IsChain, IsEntry, Stands}
 use Rattle.entry_slots.specs.Links.{link_after}
-use Rattle.entry_slots.proofs.Members.{count-append, counted, Contains-filter}
+use Rattle.entry_slots.proofs.Members.{Contains-cases, count-append, counted, Contains-filter}
 use Rattle.entry_slots.proofs.Homes.{IsHome, home_row, home_removed, home_unlinked}
-use Rattle.entry_slots.proofs.Changes.{change_ready, change_live}
+use Rattle.entry_slots.proofs.Changes.{KeepsBlocks}
 use Rattle.entry_slots.proofs.Places.{once, at_place, at_itself, count_blocks}
 use Rattle.entry_slots.proofs.Cutting.{Spot, set_change, set_entry}
 use Rattle.entry_slots.proofs.Rejoining.{in_front, cut_spot, not_word, back_other, rejoined, other_chain, removed_kept}
@@ -66,9 +65,9 @@ module _ {e : EntrySlots} {ws : List ℕ} {aside : Aside} (s : Entries) (h : Sta
         only_passes test (at_place at) s.taken (extent_of row) taken (eq-eqb at at refl) (omega (arith, once h at)),
       )
 
-  pub linked_stands : (number count : ℕ) → number ≡ risen s.next_number → count ≡ length (with_row (fresh_row key g ttl t at s.next_number) s.rows)
+  pub linked_stands : KeepsBlocks → (number count : ℕ) → number ≡ risen s.next_number → count ≡ length (with_row (fresh_row key g ttl t at s.next_number) s.rows)
       → Stands (record e { next_number = number; count = count }) (slice_set ws m at) aside (linked at key g ttl t s)
-  linked_stands number count en ec =
+  linked_stands law number count en ec =
       let row : Row = fresh_row key g ttl t at s.next_number in
       record {
         chains = λ two low. elim (cases_eq two slot) [
@@ -95,8 +94,8 @@ module _ {e : EntrySlots} {ws : List ℕ} {aside : Aside} (s : Entries) (h : Sta
           | inr r ↦ set_entry h m at spot x (home_unlinked x h r)
         ];
         taken = λ b c. h.taken b (Contains-filter (λ block. not (eqb block.place at)) s.taken b c).0;
-        ready = change_ready h.ready (set_change h m at spot);
-        blocks = record { count = λ test. ap (count_by test) (change_live h.ready (set_change h m at spot)) ∙ (h.blocks.count test ∙ linked_blocks test) };
+        ready = (law e.sma ws (slice_set ws m at) aside h.ready (set_change h m at spot)).ready;
+        blocks = record { count = λ test. ap (count_by test) (law e.sma ws (slice_set ws m at) aside h.ready (set_change h m at spot)).blocks ∙ (h.blocks.count test ∙ linked_blocks test) };
         apart = are_apart-with_row row s.rows h.apart;
         number = en;
         count = ec;

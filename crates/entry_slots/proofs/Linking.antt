@@ -5,14 +5,13 @@ use Rattle.std.proofs.lemmas.List.{append-nil}
 use Rattle.std.proofs.lemmas.List.Folds.{list_any-append}
 use Rattle.std.proofs.lemmas.List.Elements.{Contains-append_cases, filter-append}
 use Rattle.std.specs.List.{Contains, filter, count_by, list_any}
-use Rattle.sma_blocks.proofs.Lives.{Contains-cases, Contains-first, Contains-later}
 use Rattle.apcu_model.specs.Cache.{Row, has_key}
 use Rattle.apcu_model.specs.Change.{with_row}
 use Rattle.apcu_model.specs.Rows.{are_apart}
 use Rattle.apcu_model.specs.Walk.{is_in_slot, slot_of}
 use Rattle.apcu_model.proofs.Apart.{key_is, key_other, are_apart-filter, replaced, replaced_key, replaced_none}
 use Rattle.entry_slots.specs.Entries.{Entries, chain_of}
-use Rattle.entry_slots.proofs.Members.{none_in_nil, count-cons, count-append, counted}
+use Rattle.entry_slots.proofs.Members.{Contains-cases, Contains-first, Contains-later, none_in_nil, count-cons, count-append, counted}
 
 -- ---- lists
 

@@ -23,7 +23,7 @@ use Rattle.entry_slots.specs.Lists.{is_at}
 use Rattle.entry_slots.specs.Entries.{Entries, number_row, with_number}
 use Rattle.entry_slots.specs.Standing.{IsEntry, Stands}
 use Rattle.entry_slots.proofs.Homes.{room, home_row}
-use Rattle.entry_slots.proofs.Changes.{OnlyIn, only_none, only_set}
+use Rattle.entry_slots.proofs.Changes.{KeepsBlocks, OnlyIn, only_none, only_set}
 use Rattle.entry_slots.proofs.Frames.{run_same}
 use Rattle.entry_slots.proofs.Rewriting.{Keeps, rewritten}
 use Rattle.entry_slots.proofs.Places.{rows_removed, rows_unlinked, rows_one}
@@ -134,9 +134,9 @@ number_keeps at n t h = record {
   size = λ row. elim (is_at at row) as (λ b. (cond b (record row { graph = kinds.Int n ∷ []; mtime = t }) row).size ≡ row.size) [ true ↦ refl | false ↦ refl ];
 }
 
-pub number_stands : {e : EntrySlots} {ws : List ℕ} {aside : Aside} (s : Entries) (h : Stands e ws aside s) (at i t : ℕ) (n v : ℤ) (own : Row) → Contains s.rows own → own.place ≡ at → kind_at own.graph 1 ≡ Some (kinds.Int v) → FitsSigned w64 n → i ≡ at + 13 + words_in (length own.key)
+pub number_stands : KeepsBlocks → {e : EntrySlots} {ws : List ℕ} {aside : Aside} (s : Entries) (h : Stands e ws aside s) (at i t : ℕ) (n v : ℤ) (own : Row) → Contains s.rows own → own.place ≡ at → kind_at own.graph 1 ≡ Some (kinds.Int v) → FitsSigned w64 n → i ≡ at + 13 + words_in (length own.key)
     → Stands e (number_words ws at i (cast_unsigned w64 n) t) aside (with_number at n t s)
-number_stands {e} {ws} {aside} s h at i t n v own there place int fits ei =
+number_stands law {e} {ws} {aside} s h at i t n v own there place int fits ei =
     let home = home_row own h there in
     let w = room home in
     let graph : own.graph ≡ kinds.Int v ∷ [] = graph_one own.graph v home.entry.image.graph int in
@@ -144,7 +144,7 @@ number_stands {e} {ws} {aside} s h at i t n v own there place int fits ei =
     let ws' : List ℕ = number_words ws at i (cast_unsigned w64 n) t in
     let only : OnlyIn ws ws' (own.place + 4) (own.place + own.size) =
     only_set ws (slice_set ws i (cast_unsigned w64 n)) (own.place + 4) (own.place + own.size) (at + 6) t (only_set ws ws (own.place + 4) (own.place + own.size) i (cast_unsigned w64 n) (only_none ws (own.place + 4) (own.place + own.size)) (omega arith) (omega (arith, w.enough, two))) (omega arith) (omega (arith, w.enough)) in
-    rewritten h ws' own there only (number_row at n t) (number_keeps at n t (λ row y. refl))
+    rewritten h ws' own there only law (number_row at n t) (number_keeps at n t (λ row y. refl))
     (λ row other. let no' : is_at at row ≡ false = ne_eqb row.place at (λ q. other (q ∙ sym place)) in rw no' refl)
     (λ row c same.
     let here : is_at at row ≡ true = eq-eqb row.place at (same ∙ place) in

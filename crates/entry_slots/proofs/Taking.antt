@@ -9,13 +9,12 @@ use Rattle.seg_words.specs.Windows.{Aside, is_named}
 use Rattle.seg_words.specs.Gaps.{first_fit}
 use Rattle.sma_blocks.specs.Live.{live_blocks, with_block, SameBlocks}
 use Rattle.sma_blocks.specs.Ready.{IsReady}
-use Rattle.sma_blocks.proofs.Lives.{Contains-cases}
 use Rattle.apcu_model.specs.Cache.{Row, extent_of}
 use Rattle.apcu_model.specs.Walk.{is_in_slot}
 use Rattle.entry_slots.specs.declared.slots.EntrySlots.{EntrySlots}
 use Rattle.entry_slots.specs.Entries.{Entries, chain_of, blocks_of, with_taken}
 use Rattle.entry_slots.specs.Standing.{Stands, IsChain, IsEntry}
-use Rattle.entry_slots.proofs.Members.{Contains-filter, count-cons}
+use Rattle.entry_slots.proofs.Members.{Contains-cases, Contains-filter, count-cons}
 use Rattle.entry_slots.proofs.Blocks.{live_bounds}
 use Rattle.entry_slots.proofs.Homes.{IsHome, room, home_row, home_removed, home_unlinked}
 use Rattle.entry_slots.proofs.Frames.{SameRow, entry_kept, chain_kept}

@@ -12,7 +12,7 @@ use Rattle.entry_slots.specs.Standing.{IsEntry, Stands}
 use Rattle.entry_slots.specs.Reading.{HasRowAt}
 use Rattle.entry_slots.proofs.Members.{any_there}
 use Rattle.entry_slots.proofs.Homes.{IsHome, room, home_row}
-use Rattle.entry_slots.proofs.Changes.{OnlyIn, only_none, only_set}
+use Rattle.entry_slots.proofs.Changes.{KeepsBlocks, OnlyIn, only_none, only_set}
 use Rattle.entry_slots.proofs.Frames.{SameBut, entry_noted}
 use Rattle.entry_slots.proofs.Rewriting.{Keeps, rewritten}
 use Rattle.entry_slots.proofs.Places.{rows_removed, rows_unlinked}
@@ -53,8 +53,8 @@ touch_entry ws row at t h e inside =
     (other (row.place + 8) (omega arith) (omega arith) ∙ h.dtime)
     (ap (slice_index ws') nine ∙ (get_or-set_other once (at + 7) (at + 9) t 0 (omega arith) ∙ get_or-set_same ws (at + 9) (risen row.hits) 0 (omega arith)))
 
-pub touch_stands : {e : EntrySlots} {ws : List ℕ} {aside : Aside} (s : Entries) (at hits t : ℕ) → Stands e ws aside s → has_place at s.rows ≡ true → hits ≡ risen (slice_index ws (at + 9)) → Stands e (touched_words ws at hits t) aside (touched_in at t s)
-touch_stands {e} {ws} {aside} s at hits t h there eh =
+pub touch_stands : KeepsBlocks → {e : EntrySlots} {ws : List ℕ} {aside : Aside} (s : Entries) (at hits t : ℕ) → Stands e ws aside s → has_place at s.rows ≡ true → hits ≡ risen (slice_index ws (at + 9)) → Stands e (touched_words ws at hits t) aside (touched_in at t s)
+touch_stands law {e} {ws} {aside} s at hits t h there eh =
     let r = any_there (is_at at) s.rows there in
     let own : Row = r.0 in
     let place : own.place ≡ at = eqb-true own.place at r.2 in
@@ -62,7 +62,7 @@ touch_stands {e} {ws} {aside} s at hits t h there eh =
     let w = room home in
     let only : OnlyIn ws (touched_words ws at hits t) (own.place + 4) (own.place + own.size) =
     only_set ws (slice_set ws (at + 9) hits) (own.place + 4) (own.place + own.size) (at + 7) t (only_set ws ws (own.place + 4) (own.place + own.size) (at + 9) hits (only_none ws (own.place + 4) (own.place + own.size)) (omega arith) (omega (arith, w.enough))) (omega arith) (omega (arith, w.enough)) in
-    rewritten h (touched_words ws at hits t) own r.1 only (touched_row at t) (touched_keeps at t)
+    rewritten h (touched_words ws at hits t) own r.1 only law (touched_row at t) (touched_keeps at t)
     (λ row other. let no : is_at at row ≡ false = ne_eqb row.place at (λ q. other (q ∙ sym place)) in rw no refl)
     (λ row c same.
     let here : is_at at row ≡ true = eq-eqb row.place at (same ∙ place) in

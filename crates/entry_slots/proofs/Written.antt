@@ -8,6 +8,7 @@ use Rattle.seg_words.specs.declared.extents.Extent.{Extent}
 use Rattle.seg_words.specs.Windows.{Aside, is_named}
 use Rattle.seg_words.specs.Blocks.{MayStore, image_place}
 use Rattle.sma_blocks.specs.Live.{live_blocks}
+use Rattle.sma_blocks.specs.Ready.{ChangesInner}
 use Rattle.php_graph.specs.declared.kind.Kind.{Kind}
 use Rattle.php_graph.specs.Graph.{IsGraph}
 use Rattle.php_graph.specs.ByteStrings.{AreBytes}
@@ -29,7 +30,7 @@ use Rattle.entry_slots.specs.Written.{first_words, entry_words}
 use Rattle.entry_slots.proofs.Members.{same_there, counted, Contains-filter}
 use Rattle.entry_slots.proofs.Blocks.{Apart, live_apart, live_bounds}
 use Rattle.entry_slots.proofs.Homes.{IsHome, room, home_row, home_removed, home_unlinked}
-use Rattle.entry_slots.proofs.Changes.{Change, OnlyIn, change_ready, change_live}
+use Rattle.entry_slots.proofs.Changes.{KeepsBlocks, OnlyIn}
 use Rattle.entry_slots.proofs.Frames.{SameRow, entry_kept, chain_kept}
 use Rattle.entry_slots.proofs.Storing.{may_store_in}
 use Rattle.entry_slots.proofs.Places.{once, at_place, at_itself}
@@ -75,7 +76,7 @@ module _ {e : EntrySlots} {ws : List ℕ} {aside : Aside} {s : Entries} (h : Sta
   pub link_kept : (row : Row) → IsHome e ws aside row → row.place ≢ b.place → slice_index ws' (row.place + 1) ≡ slice_index ws (row.place + 1)
   link_kept row home other = let w = room home in row_whole row home other (row.place + 1) (omega arith) (omega (arith, w.enough))
 
-  taken_change : Change e.sma ws aside ws'
+  taken_change : ChangesInner e.sma ws ws' aside
   unfolding Apart
   taken_change = record {
     count = only.count;
@@ -107,8 +108,8 @@ module _ {e : EntrySlots} {ws : List ℕ} {aside : Aside} {s : Entries} (h : Sta
   unlinked_not : (row : Row) → Contains s.unlinked row → row.place ≢ b.place
   unlinked_not row c same = omega (arith, once h b.place, counted (is_at b.place) s.unlinked row c (at_itself row b.place same), counted (at_place b.place) s.taken b there (eq-eqb b.place b.place refl))
 
-  pub taken_stands : Stands e ws' aside s
-  taken_stands = record {
+  pub taken_stands : KeepsBlocks → Stands e ws' aside s
+  taken_stands law = record {
     chains = λ slot lt.
         let chain = chain_kept ws ws' (slice_index ws slot) (chain_of s slot) (λ row c. let at = (Contains-filter (is_in_slot s.conf slot) s.rows row c).0 in link_kept row (home_row row h at) (rows_not row at)) (h.chains slot lt) in
         let bounds = live_bounds e.sma ws aside b h.ready (taken_live b h there) in
@@ -118,8 +119,8 @@ module _ {e : EntrySlots} {ws : List ℕ} {aside : Aside} {s : Entries} (h : Sta
     removed = λ row c. entry_kept ws ws' row (h.removed row c) (row_kept row (home_removed row h c) (removed_not row c));
     unlinked = λ row c. entry_kept ws ws' row (h.unlinked row c) (row_kept row (home_unlinked row h c) (unlinked_not row c));
     taken = h.taken;
-    ready = change_ready h.ready taken_change;
-    blocks = record { count = λ test. ap (count_by test) (change_live h.ready taken_change) ∙ h.blocks.count test };
+    ready = (law e.sma ws ws' aside h.ready taken_change).ready;
+    blocks = record { count = λ test. ap (count_by test) (law e.sma ws ws' aside h.ready taken_change).blocks ∙ h.blocks.count test };
     apart = h.apart;
     number = h.number;
     count = h.count;

@@ -10,6 +10,7 @@ ghost use Rattle.entry_slots.specs.Reading.{AreStanding, HasUnlinkedAt, HasLoose
 use crate::reading::next_of;
 use crate::slots::EntrySlots;
 use seg_words::{Segment, WordsIn};
+use sma_blocks::block_laws;
 
 impl EntrySlots {
     // Puts the unlinked row, which names no other, at the end of the removed ones.
@@ -20,6 +21,7 @@ impl EntrySlots {
         ensures aside { S.aside seg.new ≡ S.aside seg.old }
         ensures rest { S.rest seg.new ≡ S.rest seg.old }
     {
+        block_laws();
         let Some(link) = self.removed_link(seg, 0) else {
             return;
         };
@@ -34,6 +36,7 @@ impl EntrySlots {
         ensures aside { S.aside seg.new ≡ S.aside seg.old }
         ensures rest { S.rest seg.new ≡ S.rest seg.old }
     {
+        block_laws();
         let Some(link) = self.removed_link(seg, at) else {
             return;
         };

@@ -21,7 +21,7 @@ use crate::writing::{Note, put_entry};
 use apcu_model::Conf;
 use php_graph::{Graph, hash_of};
 use seg_words::{Segment, WordsIn};
-use sma_blocks::Sma;
+use sma_blocks::{Sma, block_laws};
 
 /// Entries in hash chains: each of the words before the first block begins the chain of one slot, and a
 /// list of removed entries begins beside them. An entry is a block of twelve words, its key and its value.
@@ -167,6 +167,7 @@ impl EntrySlots {
         ensures aside { S.aside seg.new ≡ S.aside seg.old }
         ensures rest { S.rest seg.new ≡ S.rest seg.old }
     {
+        block_laws();
         let hits = seg.load(at + 9);
         seg.store(at + 9, hits.saturating_add(1));
         seg.store(at + 7, t);
@@ -182,6 +183,7 @@ impl EntrySlots {
         ensures aside { S.aside seg.new ≡ S.aside seg.old }
         ensures rest { S.rest seg.new ≡ S.rest seg.old }
     {
+        block_laws();
         let len = seg.load(at + 2) as u32;
         seg.store(at + 13 + len.div_ceil(8), n.cast_unsigned());
         seg.store(at + 6, t);
@@ -232,6 +234,7 @@ impl EntrySlots {
         ensures aside { S.aside seg.new ≡ S.aside seg.old }
         ensures rest { S.rest seg.new ≡ S.rest seg.old }
     {
+        block_laws();
         g.is_sealed();
         let slot = self.slot_for(key);
         let link = self.link_to(seg, slot, replaced);
@@ -263,6 +266,7 @@ impl EntrySlots {
         ensures aside { S.aside seg.new ≡ S.aside seg.old }
         ensures rest { S.rest seg.new ≡ S.rest seg.old }
     {
+        block_laws();
         let slot = self.slot_at(seg, at);
         let link = self.link_to(seg, slot, at);
         let next = self.behind(seg, at);
@@ -277,6 +281,7 @@ impl EntrySlots {
         ensures aside { S.aside seg.new ≡ S.aside seg.old }
         ensures rest { S.rest seg.new ≡ S.rest seg.old }
     {
+        block_laws();
         seg.store(at + 1, 0);
         seg.store(at + 8, t);
         self.append(seg, at);

@@ -14,7 +14,7 @@ use Rattle.sma_blocks.specs.Ready.{NameLive, IsReady}
 use Rattle.sma_blocks.specs.Walk.{IsEdge, ends_in_gap, cut_words}
 use Rattle.sma_blocks.proofs.Filling.{Fill-le, edge_whole}
 use Rattle.sma_blocks.proofs.Lives.{with_block_between}
-use Rattle.sma_blocks.proofs.Naming.{between, may_store, names_more}
+use Rattle.sma_blocks.proofs.Naming.{between, may_store, names_more, ready_from}
 use Rattle.sma_blocks.proofs.Merging.{merged_front, merged_back, merged_after, merged_join, merged_gap}
 use Rattle.sma_blocks.proofs.Places.{blocks_at, piece_seen, fits_in_gap}
 use Rattle.sma_blocks.proofs.Changes.{Change, change_blocks, change_same, change_names, change_formatted}
@@ -167,11 +167,8 @@ take_ready {sma} {ws} {aside} {at} {size} {n} h =
     let names : NameLive ws aside.windows (lives h.edge.passed ++ lives (pieces ws (at + size))) = subst (λ es. NameLive ws aside.windows es) (room_blocks h) h.ready.windows in
     let kept = change_names aside.windows (take_change h) names in
     let more = names_more (cut_words ws at size n) aside.windows (lives h.edge.passed) (record { place = at; size = n }) (lives (pieces ws (at + size))) kept in
-    record {
-      end = h.ready.end ∙ sym (cut_count ws at size n);
-      formatted = change_formatted (take_change h) h.ready.formatted.even (take_merged h);
-      windows = subst (λ es. NameLive (cut_words ws at size n) aside.windows es) (sym (take_blocks h)) more;
-    }
+    ready_from sma (cut_words ws at size n) aside (h.ready.end ∙ sym (cut_count ws at size n)) (change_formatted (take_change h) h.ready.formatted.even (take_merged h))
+    (subst (λ es. NameLive (cut_words ws at size n) aside.windows es) (sym (take_blocks h)) more)
 
 pub room_seen : (sma : Sma) (ws : List ℕ) (aside : Aside) (at size n : ℕ) (now : List ℕ) (is_gap : Bool) → IsReady sma ws aside → IsEdge ws sma.from at → now ≡ ws → is_gap ≡ true → pieces now at ≡ record { place = at; size = size; live = not is_gap } ∷ pieces now (at + size) → n % 2 ≡ 0 → 2 ≤ n → n ≤ size → Room sma ws aside at size n
 room_seen sma ws aside at size n now is_gap ready edge same gap is even some enough =

@@ -100,5 +100,5 @@ returns-clause-set g c = λ s row v h there place int.
     c.store-2.ensures.words ∙ (ap (λ (u : List ℕ). slice_set u (c.args.at + 6) c.args.t) (c.store.ensures.words ∙ ap (λ (u : List ℕ). slice_set u i c.cast_unsigned.result) c.load-len.ensures.words)
     ∙ ap (λ (n : ℕ). slice_set (slice_set ws i n) (c.args.at + 6) c.args.t) cast) in
     stands_along (g.S.WordsIn.words c.store-2.new.self) (g.S.WordsIn.aside c.store-2.new.self)
-    (number_stands s h c.args.at i c.args.t c.args.n v row there place int c.ranges.n (omega (arith, c.div_ceil.ensures, long)))
+    (number_stands c.block_laws.ensures.inner s h c.args.at i c.args.t c.args.n v row there place int c.ranges.n (omega (arith, c.div_ceil.ensures, long)))
     words (c.store-2.ensures.aside ∙ (c.store.ensures.aside ∙ c.load-len.ensures.aside))

@@ -49,5 +49,5 @@ returns-clause-touched g c = λ s h there.
     let words : g.S.WordsIn.words c.store-2.new.self ≡ touched_words ws c.args.at c.saturating_add.result c.args.t =
     c.store-2.ensures.words ∙ ap (λ (v : List ℕ). slice_set v (c.args.at + 7) c.args.t) (c.store.ensures.words ∙ ap (λ (v : List ℕ). slice_set v (c.args.at + 9) c.saturating_add.result) c.load-hits.ensures.words) in
     stands_along (g.S.WordsIn.words c.store-2.new.self) (g.S.WordsIn.aside c.store-2.new.self)
-    (touch_stands s c.args.at c.saturating_add.result c.args.t h there (omega (arith, read, c.saturating_add.ensures)))
+    (touch_stands c.block_laws.ensures.inner s c.args.at c.saturating_add.result c.args.t h there (omega (arith, read, c.saturating_add.ensures)))
     words (c.store-2.ensures.aside ∙ (c.store.ensures.aside ∙ c.load-hits.ensures.aside))
