@@ -6,12 +6,8 @@ use Rattle.seg_words.specs.declared.extents.Extent.{Extent}
 use Rattle.seg_words.specs.Windows.{Aside, is_named}
 use Rattle.sma_blocks.specs.declared.sma.Sma.{Sma}
 use Rattle.sma_blocks.specs.Live.{live_blocks}
-use Rattle.sma_blocks.specs.Ready.{IsReady, ChangesInner, Stays}
+use Rattle.sma_blocks.specs.Ready.{IsReady}
 use Rattle.entry_slots.proofs.Blocks.{Apart, live_apart}
-
--- what the allocator promises: changes inside blocks leave all blocks as they are
-abbrev pub KeepsBlocks : Type 0
-KeepsBlocks = (sma : Sma) (old new : List ℕ) (aside : Aside) → IsReady sma old aside → ChangesInner sma old new aside → Stays sma old new aside
 
 -- only words from `low` up to `high` changed
 pub record OnlyIn (ws ws' : List ℕ) (low high : ℕ) : Type 0 where

@@ -14,6 +14,7 @@ use Rattle.entry_slots.specs.Lists.{is_at}
 use Rattle.entry_slots.specs.Entries.{Entries, chain_of}
 use Rattle.entry_slots.specs.Standing.{IsChain, Stands, IsEntry}
 use Rattle.entry_slots.specs.Links.{link_after}
+use Rattle.entry_slots.specs.Laws.{Laws}
 use Rattle.entry_slots.proofs.Members.{Contains-cases, Contains-first, Contains-later, none_in_nil, count-cons, counted}
 use Rattle.entry_slots.proofs.Blocks.{told_slot}
 use Rattle.entry_slots.proofs.Homes.{IsHome, room, told_at}
@@ -153,8 +154,8 @@ module _ {e : EntrySlots} {ws : List ℕ} {aside : Aside} {s : Entries} (h : Sta
     ]);
   }
 
-  pub set_entry : (row : Row) → IsHome e ws aside row → IsEntry (slice_set ws m v) row
-  set_entry row home = entry_kept ws (slice_set ws m v) row home.entry (set_row row home)
+  pub set_entry : Laws → (row : Row) → IsHome e ws aside row → IsEntry (slice_set ws m v) row
+  set_entry law row home = entry_kept law ws (slice_set ws m v) row home.entry (set_row row home)
 
   pub set_link : (row : Row) → row.place + 1 ≢ m → slice_index (slice_set ws m v) (row.place + 1) ≡ slice_index ws (row.place + 1)
   set_link row other = get_or-set_other ws m (row.place + 1) v 0 other

@@ -7,10 +7,10 @@ ghost use Rattle.entry_slots.specs.Standing.{Stands};
 ghost use Rattle.entry_slots.specs.Links.{IsRemovedLink};
 ghost use Rattle.entry_slots.specs.Reading.{AreStanding, HasUnlinkedAt, HasLooseAt, IsStorable};
 
+use crate::lower::lower_laws;
 use crate::reading::next_of;
 use crate::slots::EntrySlots;
 use seg_words::{Segment, WordsIn};
-use sma_blocks::block_laws;
 
 impl EntrySlots {
     // Puts the unlinked row, which names no other, at the end of the removed ones.
@@ -21,7 +21,7 @@ impl EntrySlots {
         ensures aside { S.aside seg.new ≡ S.aside seg.old }
         ensures rest { S.rest seg.new ≡ S.rest seg.old }
     {
-        block_laws();
+        lower_laws();
         let Some(link) = self.removed_link(seg, 0) else {
             return;
         };
@@ -36,7 +36,7 @@ impl EntrySlots {
         ensures aside { S.aside seg.new ≡ S.aside seg.old }
         ensures rest { S.rest seg.new ≡ S.rest seg.old }
     {
-        block_laws();
+        lower_laws();
         let Some(link) = self.removed_link(seg, at) else {
             return;
         };
