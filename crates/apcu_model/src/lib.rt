@@ -12,7 +12,7 @@ mod state;
 
 pub use conf::Conf;
 pub use journal::{Journal, Mark};
-pub use laws::works_alone;
+pub use laws::{rows_stay_apart, works_alone};
 pub use plain::Plain;
 pub use request::{Reply, Request, StoreAnswer};
 

@@ -4,7 +4,6 @@ use Rattle.std.proofs.lemmas.Bool.{eqb-true, eq-eqb, cases_Bool, or_cases, false
 use Rattle.std.specs.List.{Contains}
 use Rattle.std.proofs.lemmas.List.Folds.{list_any-append}
 use Rattle.seg_words.specs.Windows.{Aside}
-use Rattle.sma_blocks.proofs.Lives.{Contains-first, Contains-later}
 use Rattle.php_graph.specs.Numbers.{hash_of}
 use Rattle.apcu_model.specs.Cache.{Row}
 use Rattle.apcu_model.specs.Walk.{is_in_slot, slot_of}
@@ -13,7 +12,7 @@ use Rattle.entry_slots.specs.Lists.{is_at, has_place, first_place, next_place}
 use Rattle.entry_slots.specs.Entries.{Entries, chain_of}
 use Rattle.entry_slots.specs.Standing.{IsChain, Stands}
 use Rattle.entry_slots.specs.Reading.{HasEntryAt, AreStanding}
-use Rattle.entry_slots.proofs.Members.{Contains-filter, Contains-kept, any_there, any_from}
+use Rattle.entry_slots.proofs.Members.{Contains-first, Contains-later, Contains-filter, Contains-kept, any_there, any_from}
 use Rattle.entry_slots.proofs.Homes.{IsHome, room, home_row, home_removed}
 
 pub chain_first : (ws : List ℕ) (at : ℕ) (rows : List Row) → IsChain ws at rows → at ≡ first_place rows

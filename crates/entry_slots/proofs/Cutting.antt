@@ -6,7 +6,7 @@ use Rattle.std.proofs.lemmas.List.Elements.{Contains-append_left, Contains-appen
 use Rattle.std.specs.List.{Contains, filter, count_by}
 use Rattle.seg_words.specs.Windows.{Aside, is_named}
 use Rattle.seg_words.specs.Blocks.{IsTold, MayStore}
-use Rattle.sma_blocks.proofs.Lives.{Contains-cases, Contains-first, Contains-later}
+use Rattle.sma_blocks.specs.Ready.{ChangesInner}
 use Rattle.apcu_model.specs.Cache.{Row, extent_of}
 use Rattle.apcu_model.specs.Walk.{is_in_slot}
 use Rattle.entry_slots.specs.declared.slots.EntrySlots.{EntrySlots}
@@ -14,11 +14,11 @@ use Rattle.entry_slots.specs.Lists.{is_at}
 use Rattle.entry_slots.specs.Entries.{Entries, chain_of}
 use Rattle.entry_slots.specs.Standing.{IsChain, Stands, IsEntry}
 use Rattle.entry_slots.specs.Links.{link_after}
-use Rattle.entry_slots.proofs.Members.{none_in_nil, count-cons, counted}
+use Rattle.entry_slots.specs.Laws.{Laws}
+use Rattle.entry_slots.proofs.Members.{Contains-cases, Contains-first, Contains-later, none_in_nil, count-cons, counted}
 use Rattle.entry_slots.proofs.Blocks.{told_slot}
 use Rattle.entry_slots.proofs.Homes.{IsHome, room, told_at}
 use Rattle.entry_slots.proofs.Chains.{AreHome}
-use Rattle.entry_slots.proofs.Changes.{Change}
 use Rattle.entry_slots.proofs.Frames.{SameRow, entry_kept, rows_apart}
 use Rattle.entry_slots.proofs.Storing.{may_note, may_slot}
 use Rattle.entry_slots.proofs.Places.{once, at_itself}
@@ -122,7 +122,7 @@ chain_rest ws first (row ∷ rows) back h = chain_rest ws (row.place + 1) rows b
 -- ---- one such word stored
 
 module _ {e : EntrySlots} {ws : List ℕ} {aside : Aside} {s : Entries} (h : Stands e ws aside s) (m v : ℕ) (spot : Spot e ws aside m) where
-  pub set_change : Change e.sma ws aside (slice_set ws m v)
+  pub set_change : ChangesInner e.sma ws (slice_set ws m v) aside
   set_change = record {
     count = length-set ws m v;
     inner = λ i low. elim (cases_eq i m) [
@@ -154,8 +154,8 @@ module _ {e : EntrySlots} {ws : List ℕ} {aside : Aside} {s : Entries} (h : Sta
     ]);
   }
 
-  pub set_entry : (row : Row) → IsHome e ws aside row → IsEntry (slice_set ws m v) row
-  set_entry row home = entry_kept ws (slice_set ws m v) row home.entry (set_row row home)
+  pub set_entry : Laws → (row : Row) → IsHome e ws aside row → IsEntry (slice_set ws m v) row
+  set_entry law row home = entry_kept law ws (slice_set ws m v) row home.entry (set_row row home)
 
   pub set_link : (row : Row) → row.place + 1 ≢ m → slice_index (slice_set ws m v) (row.place + 1) ≡ slice_index ws (row.place + 1)
   set_link row other = get_or-set_other ws m (row.place + 1) v 0 other

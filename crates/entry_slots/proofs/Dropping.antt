@@ -5,15 +5,16 @@ use Rattle.std.proofs.lemmas.List.{length-set, get_or-set_same, get_or-set_other
 use Rattle.std.specs.List.{Contains, count_by}
 use Rattle.seg_words.specs.declared.extents.Extent.{Extent}
 use Rattle.seg_words.specs.Windows.{Aside}
+use Rattle.sma_blocks.specs.Ready.{ChangesInner}
 use Rattle.apcu_model.specs.Cache.{Row, extent_of}
 use Rattle.apcu_model.specs.Walk.{is_in_slot}
 use Rattle.entry_slots.specs.declared.slots.EntrySlots.{EntrySlots}
 use Rattle.entry_slots.specs.Lists.{is_at, has_place, only_at, without_place}
 use Rattle.entry_slots.specs.Entries.{Entries, chain_of, removed_at}
 use Rattle.entry_slots.specs.Standing.{IsChain, IsEntry, Stands}
+use Rattle.entry_slots.specs.Laws.{Laws}
 use Rattle.entry_slots.proofs.Members.{Contains-filter, count-cons}
 use Rattle.entry_slots.proofs.Homes.{IsHome, room, home_row, home_removed, home_unlinked}
-use Rattle.entry_slots.proofs.Changes.{Change, change_ready, change_live}
 use Rattle.entry_slots.proofs.Frames.{SameRow, SameBut, entry_kept, entry_noted, chain_kept, rows_apart}
 use Rattle.entry_slots.proofs.Rewriting.{map_there}
 use Rattle.entry_slots.proofs.Storing.{may_note}
@@ -22,10 +23,10 @@ use Rattle.entry_slots.proofs.Cutting.{Spot, set_change, set_entry, set_link}
 use Rattle.entry_slots.proofs.Relisting.{relisted, moved}
 
 -- an unlinked row names no other
-pub cleared_stands : {e : EntrySlots} {ws : List ℕ} {aside : Aside} (s : Entries) (h : Stands e ws aside s) (at v : ℕ) (q : Row) → Contains s.unlinked q → q.place ≡ at → Stands e (slice_set ws (at + 1) v) aside s
-cleared_stands {e} {ws} {aside} s h at v q there place =
+pub cleared_stands : Laws → {e : EntrySlots} {ws : List ℕ} {aside : Aside} (s : Entries) (h : Stands e ws aside s) (at v : ℕ) (q : Row) → Contains s.unlinked q → q.place ≡ at → Stands e (slice_set ws (at + 1) v) aside s
+cleared_stands law {e} {ws} {aside} s h at v q there place =
     let spot : Spot e ws aside (at + 1) = inr (q, home_unlinked q h there, ap (λ n. n + 1) (sym place)) in
-    relisted s h (slice_set ws (at + 1) v) (set_change h (at + 1) v spot) (set_entry h (at + 1) v spot)
+    relisted law s h (slice_set ws (at + 1) v) (set_change h (at + 1) v spot) (set_entry h (at + 1) v spot law)
     (λ slot lt.
     let word : slice_index (slice_set ws (at + 1) v) slot ≡ slice_index ws slot = get_or-set_other ws (at + 1) slot v 0 (let w = room (home_unlinked q h there) in λ same. omega (arith, w.low, h.from)) in
     subst (λ n. IsChain (slice_set ws (at + 1) v) n (chain_of s slot)) (sym word)
@@ -70,7 +71,7 @@ module _ {e : EntrySlots} {ws : List ℕ} {aside : Aside} (s : Entries) (h : Sta
     ]);
   }
 
-  noted_change : Change e.sma ws aside (slice_set ws (at + 8) t)
+  noted_change : ChangesInner e.sma ws (slice_set ws (at + 8) t) aside
   noted_change = record {
     count = length-set ws (at + 8) t;
     inner = λ i low. elim (cases_eq i (at + 8)) [
@@ -82,15 +83,15 @@ module _ {e : EntrySlots} {ws : List ℕ} {aside : Aside} (s : Entries) (h : Sta
         (other_word (x + 2) (λ same. may.key_length (sym same)), other_word (x + 3) (λ same. may.image_length (sym same)));
   }
 
-  noted_entry : (row : Row) → IsHome e ws aside row → row.place ≡ at → IsEntry (slice_set ws (at + 8) t) (record row { dtime = t })
-  noted_entry row home same =
+  noted_entry : Laws → (row : Row) → IsHome e ws aside row → row.place ≡ at → IsEntry (slice_set ws (at + 8) t) (record row { dtime = t })
+  noted_entry law row home same =
       let w = room home in
       let but : SameBut ws (slice_set ws (at + 8) t) row = record {
         count = length-set ws (at + 8) t;
         first = λ k few o. other_word (row.place + k) (omega arith);
         later = λ i low high. other_word i (omega arith);
       } in
-      entry_noted ws (slice_set ws (at + 8) t) row row.mtime row.atime t row.hits home.entry but
+      entry_noted law ws (slice_set ws (at + 8) t) row row.mtime row.atime t row.hits home.entry but
       (other_word (row.place + 6) (omega arith) ∙ home.entry.mtime) (other_word (row.place + 7) (omega arith) ∙ home.entry.atime)
       (ap (slice_index (slice_set ws (at + 8) t)) (ap (λ n. n + 8) same) ∙ get_or-set_same ws (at + 8) t 0 (omega (arith, w.high, w.enough)))
       (other_word (row.place + 9) (omega arith) ∙ home.entry.hits)
@@ -103,30 +104,30 @@ module _ {e : EntrySlots} {ws : List ℕ} {aside : Aside} (s : Entries) (h : Sta
       let p : Row → Bool = λ r. test (extent_of r) in
       omega (arith, one, count-cons p (dropped_row at t row) (map (dropped_row at t) rows), count-cons p row rows, extents_same test rows)
 
-  pub noted_stands : Stands e (slice_set ws (at + 8) t) aside (noted at t s)
-  noted_stands = record {
+  pub noted_stands : Laws → Stands e (slice_set ws (at + 8) t) aside (noted at t s)
+  noted_stands law = record {
     chains = λ slot lt.
         let w = room own in
         let word : slice_index (slice_set ws (at + 8) t) slot ≡ slice_index ws slot = other_word slot (λ same. omega (arith, w.low, h.from)) in
         subst (λ n. IsChain (slice_set ws (at + 8) t) n (chain_of s slot)) (sym word)
         (chain_kept ws (slice_set ws (at + 8) t) (slice_index ws slot) (chain_of s slot) (λ row c. link_other row (home_row row h (Contains-filter (is_in_slot s.conf slot) s.rows row c).0)) (h.chains slot lt));
     removed_chain = chain_kept ws (slice_set ws (at + 8) t) e.removed s.removed (λ row c. link_other row (home_removed row h c)) h.removed_chain;
-    rows = λ row c. entry_kept ws (slice_set ws (at + 8) t) row (h.rows row c) (row_other row (home_row row h c) (λ same. rows_unlinked h row q c there (sym same)));
-    removed = λ row c. entry_kept ws (slice_set ws (at + 8) t) row (h.removed row c) (row_other row (home_removed row h c) (λ same. removed_unlinked h row q c there (sym same)));
+    rows = λ row c. entry_kept law ws (slice_set ws (at + 8) t) row (h.rows row c) (row_other row (home_row row h c) (λ same. rows_unlinked h row q c there (sym same)));
+    removed = λ row c. entry_kept law ws (slice_set ws (at + 8) t) row (h.removed row c) (row_other row (home_removed row h c) (λ same. removed_unlinked h row q c there (sym same)));
     unlinked = λ x c.
         let r = map_there (dropped_row at t) s.unlinked x c in
         let home = home_unlinked r.0 h r.1 in
         elim (cases_eq r.0.place at) [
           | inl same ↦
               let here : dropped_row at t r.0 ≡ record r.0 { dtime = t } = ap (λ (b : Bool). let y : Row = cond b (record r.0 { dtime = t }) r.0 in y) (eq-eqb r.0.place at same) in
-              subst (λ y. IsEntry (slice_set ws (at + 8) t) y) (sym here ∙ r.2) (noted_entry r.0 home same)
+              subst (λ y. IsEntry (slice_set ws (at + 8) t) y) (sym here ∙ r.2) (noted_entry law r.0 home same)
           | inr other ↦
               let here : dropped_row at t r.0 ≡ r.0 = ap (λ (b : Bool). let y : Row = cond b (record r.0 { dtime = t }) r.0 in y) (ne_eqb r.0.place at other) in
-              subst (λ y. IsEntry (slice_set ws (at + 8) t) y) (sym here ∙ r.2) (entry_kept ws (slice_set ws (at + 8) t) r.0 home.entry (row_other r.0 home (λ same. other (same ∙ place))))
+              subst (λ y. IsEntry (slice_set ws (at + 8) t) y) (sym here ∙ r.2) (entry_kept law ws (slice_set ws (at + 8) t) r.0 home.entry (row_other r.0 home (λ same. other (same ∙ place))))
         ];
     taken = h.taken;
-    ready = change_ready h.ready noted_change;
-    blocks = record { count = λ test. ap (count_by test) (change_live h.ready noted_change) ∙ omega (arith, h.blocks.count test, count_blocks test s, count_blocks test (noted at t s), extents_same test s.unlinked) };
+    ready = (law.blocks e.sma ws (slice_set ws (at + 8) t) aside h.ready noted_change).ready;
+    blocks = record { count = λ test. ap (count_by test) (law.blocks e.sma ws (slice_set ws (at + 8) t) aside h.ready noted_change).blocks ∙ omega (arith, h.blocks.count test, count_blocks test s, count_blocks test (noted at t s), extents_same test s.unlinked) };
     apart = h.apart;
     number = h.number;
     count = h.count;

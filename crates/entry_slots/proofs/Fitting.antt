@@ -1,13 +1,12 @@
 -- What is free depends on the blocks alone, and not on their order.
-use Rattle.std.proofs.Common.{◌≡◌, inl, inr, ℕ, ◌+◌, ◌%◌, ◌<◌, ◌≤◌, Bool, true, false, not, cond, eqb, leb, ltb, ◌&&◌, List, [], ◌∷◌, Option, Some, refl, sym, ap, ◌∙◌, subst, arith}
-use Rattle.std.proofs.lemmas.Bool.{cases_Bool, and_parts, and_from, false≢true, false_from_ne_true, not-true}
+use Rattle.std.proofs.Common.{◌≡◌, inl, inr, ℕ, ◌+◌, ◌%◌, ◌<◌, ◌≤◌, Bool, true, false, not, cond, eqb, leb, ltb, ◌&&◌, List, [], ◌∷◌, max, min, Option, Some, refl, sym, ap, ◌∙◌, subst, arith}
+use Rattle.std.proofs.lemmas.Bool.{cases_Bool, and_parts, and_from, false≢true, false_from_ne_true, not-true, lt-ltb}
 use Rattle.std.specs.List.{Contains, count_by, list_all, find, range_with_len}
 use Rattle.seg_words.specs.declared.extents.Extent.{Extent}
 use Rattle.seg_words.specs.Gaps.{meets, is_free, fits, first_fit}
 use Rattle.sma_blocks.specs.Live.{with_block}
-use Rattle.sma_blocks.proofs.Lives.{meets_at, Contains-cases, Contains-first, Contains-later}
 use Rattle.entry_slots.specs.Lists.{HaveSame}
-use Rattle.entry_slots.proofs.Members.{same_there, count-cons, none_in_nil}
+use Rattle.entry_slots.proofs.Members.{Contains-cases, Contains-first, Contains-later, same_there, count-cons, none_in_nil}
 
 all_there : {X : Type 0} (p : X → Bool) (xs : List X) (x : X) → list_all p xs ≡ true → Contains xs x → p x ≡ true
 all_there p [] x h c = absurd (none_in_nil x c)
@@ -62,7 +61,7 @@ pub not_free : (i n : ℕ) (xs : List Extent) (e : Extent) → Contains xs e →
 not_free i n xs e c some low high =
     false_from_ne_true (is_free i n xs) (λ t.
     let apart = not-true (meets i n e) (all_there (λ x. not (meets i n x)) xs e t c) in
-    false≢true (sym apart ∙ meets_at i n e (omega arith)))
+    false≢true (sym apart ∙ lt-ltb (max i e.place) (min (i + n) (e.place + e.size)) (omega arith)))
 
 pub count-with_block : (p : Extent → Bool) (e : Extent) (xs : List Extent) → count_by p (with_block e xs) ≡ cond (p e) 1 0 + count_by p xs
 count-with_block p e [] = count-cons p e []

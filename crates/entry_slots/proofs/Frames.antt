@@ -9,12 +9,12 @@ use Rattle.php_graph.specs.Size.{words_in, image_length}
 use Rattle.value_image.specs.Packed.{words_of}
 use Rattle.value_image.specs.Rows.{StandsAt}
 use Rattle.value_image.specs.Image.{IsImageOf, image_of}
-use Rattle.value_image.proofs.Packing.{length-words_of}
-use Rattle.value_image.proofs.Images.{length-image_of, image-stands, stands-image}
-use Rattle.sma_blocks.proofs.Lives.{Contains-first, Contains-later}
 use Rattle.apcu_model.specs.Cache.{Row, extent_of}
 use Rattle.entry_slots.specs.declared.slots.EntrySlots.{EntrySlots}
 use Rattle.entry_slots.specs.Standing.{IsChain, IsEntry}
+use Rattle.entry_slots.specs.Laws.{Laws}
+use Rattle.entry_slots.proofs.Runs.{words_long}
+use Rattle.entry_slots.proofs.Members.{Contains-first, Contains-later}
 use Rattle.entry_slots.proofs.Blocks.{Apart, live_apart}
 use Rattle.entry_slots.proofs.Homes.{IsHome}
 
@@ -42,18 +42,18 @@ pub record SameBut (ws ws' : List ℕ) (row : Row) : Type 0 where
   pub first : (k : ℕ) → k < 6 → k ≢ 1 → slice_index ws' (row.place + k) ≡ slice_index ws (row.place + k)
   pub later : (i : ℕ) → row.place + 10 ≤ i → i < row.place + row.size → slice_index ws' i ≡ slice_index ws i
 
-pub entry_noted : (ws ws' : List ℕ) (row : Row) (mtime atime dtime hits : ℕ) → IsEntry ws row → SameBut ws ws' row
+pub entry_noted : Laws → (ws ws' : List ℕ) (row : Row) (mtime atime dtime hits : ℕ) → IsEntry ws row → SameBut ws ws' row
     → slice_index ws' (row.place + 6) ≡ mtime → slice_index ws' (row.place + 7) ≡ atime → slice_index ws' (row.place + 8) ≡ dtime → slice_index ws' (row.place + 9) ≡ hits
     → IsEntry ws' (record row { mtime = mtime; atime = atime; dtime = dtime; hits = hits })
-entry_noted ws ws' row mtime atime dtime hits h s em ea ed eh =
+entry_noted law ws ws' row mtime atime dtime hits h s em ea ed eh =
     let enough : 12 + words_in (length row.key) + image_length row.graph ≤ row.size = enough_is (12 + words_in (length row.key) + image_length row.graph) row.size h.whole in
     let zero : row.place + 0 ≡ row.place = omega arith in
-    let klen = length-words_of row.key in
-    let glen = length-image_of row.graph in
+    let klen = words_long row.key in
+    let glen = law.image_long row.graph in
     let start : image_place ws row.place ≡ row.place + 12 + words_in (length row.key) = ap (λ n. row.place + 12 + (n + 7) / 8) h.key_length in
     let start' : image_place ws' row.place ≡ row.place + 12 + words_in (length row.key) = ap (λ n. row.place + 12 + (n + 7) / 8) (s.first 2 (omega arith) (omega arith) ∙ h.key_length) in
     let image : StandsAt ws (row.place + 12 + words_in (length row.key)) (image_of row.graph) =
-    image-stands ws (row.place + 12 + words_in (length row.key)) (image_length row.graph) row.graph (subst (λ n. IsImageOf ws n (image_length row.graph) row.graph) start h.image) in
+    law.run ws (row.place + 12 + words_in (length row.key)) (image_length row.graph) row.graph (subst (λ n. IsImageOf ws n (image_length row.graph) row.graph) start h.image) in
     let image' : StandsAt ws' (row.place + 12 + words_in (length row.key)) (image_of row.graph) =
     run_same ws ws' (row.place + 12 + words_in (length row.key)) (image_of row.graph) s.count (λ i low high. s.later i (omega arith) (omega arith)) image in
     record {
@@ -69,14 +69,14 @@ entry_noted ws ws' row mtime atime dtime hits h s em ea ed eh =
       number = s.later (row.place + 10) (omega arith) (omega arith) ∙ h.number;
       pin_count = s.later (row.place + 11) (omega arith) (omega arith) ∙ h.pin_count;
       key = run_same ws ws' (row.place + 12) (words_of row.key) s.count (λ i low high. s.later i (omega arith) (omega arith)) h.key;
-      image = subst (λ n. IsImageOf ws' n (image_length row.graph) row.graph) (sym start') (stands-image ws' (row.place + 12 + words_in (length row.key)) (image_length row.graph) row.graph h.image.graph h.image.length_is image');
+      image = subst (λ n. IsImageOf ws' n (image_length row.graph) row.graph) (sym start') (law.image ws' (row.place + 12 + words_in (length row.key)) row.graph h.image.graph image');
       whole = h.whole;
       bytes = h.bytes;
       short_ttl = h.short_ttl;
     }
 
-pub entry_kept : (ws ws' : List ℕ) (row : Row) → IsEntry ws row → SameRow ws ws' row → IsEntry ws' row
-entry_kept ws ws' row h s =
+pub entry_kept : Laws → (ws ws' : List ℕ) (row : Row) → IsEntry ws row → SameRow ws ws' row → IsEntry ws' row
+entry_kept law ws ws' row h s =
     let enough : 12 + words_in (length row.key) + image_length row.graph ≤ row.size = enough_is (12 + words_in (length row.key) + image_length row.graph) row.size h.whole in
     let at : (k : ℕ) → k < 12 → k ≢ 1 → slice_index ws' (row.place + k) ≡ slice_index ws (row.place + k) = λ k few other. s.same (row.place + k) (omega arith) (omega arith) (λ q. other (omega arith)) in
     let but : SameBut ws ws' row = record {
@@ -84,7 +84,7 @@ entry_kept ws ws' row h s =
       first = λ k few other. at k (omega arith) other;
       later = λ i low high. s.same i (omega arith) high (omega arith);
     } in
-    entry_noted ws ws' row row.mtime row.atime row.dtime row.hits h but (at 6 (omega arith) (omega arith) ∙ h.mtime) (at 7 (omega arith) (omega arith) ∙ h.atime) (at 8 (omega arith) (omega arith) ∙ h.dtime) (at 9 (omega arith) (omega arith) ∙ h.hits)
+    entry_noted law ws ws' row row.mtime row.atime row.dtime row.hits h but (at 6 (omega arith) (omega arith) ∙ h.mtime) (at 7 (omega arith) (omega arith) ∙ h.atime) (at 8 (omega arith) (omega arith) ∙ h.dtime) (at 9 (omega arith) (omega arith) ∙ h.hits)
 
 -- a chain is kept where word 1 of each of its blocks is
 pub chain_kept : (ws ws' : List ℕ) (first : ℕ) (rows : List Row) → ((row : Row) → Contains rows row → slice_index ws' (row.place + 1) ≡ slice_index ws (row.place + 1)) → IsChain ws first rows → IsChain ws' first rows

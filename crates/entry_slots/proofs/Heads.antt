@@ -4,10 +4,10 @@ use Rattle.seg_words.specs.Windows.{Aside}
 use Rattle.seg_words.specs.Blocks.{image_place}
 use Rattle.php_graph.specs.Size.{words_in, image_length}
 use Rattle.value_image.specs.Image.{IsImageOf}
-use Rattle.value_image.proofs.Packing.{length-words_of}
 use Rattle.apcu_model.specs.Cache.{Row}
 use Rattle.entry_slots.specs.declared.slots.EntrySlots.{EntrySlots}
 use Rattle.entry_slots.specs.Reading.{IsHeadOf}
+use Rattle.entry_slots.proofs.Runs.{words_long}
 use Rattle.entry_slots.proofs.Homes.{IsHome, room}
 
 -- the numbers that are kept in 32 bits
@@ -59,7 +59,7 @@ head_is {ws = ws} {aside = aside} row h at first image e each ei =
     let value : slice_index first 3 ≡ image_length row.graph = each 3 (omega arith) ∙ (ap (λ n. slice_index ws (n + 3)) (sym e) ∙ h.entry.value_length) in
     let start : image ≡ row.place + 12 + words_in (length row.key) = ei ∙ (ap (λ n. n + 12 + (slice_index first 2 + 7) / 8) (sym e) ∙ ap (λ n. row.place + 12 + (n + 7) / 8) key) in
     let place : image_place ws row.place ≡ image = ap (λ n. row.place + 12 + (n + 7) / 8) h.entry.key_length ∙ sym start in
-    let len = length-words_of row.key in
+    let len = words_long row.key in
     record {
       key_len = key;
       image = start;

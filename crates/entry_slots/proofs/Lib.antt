@@ -26,3 +26,4 @@ pub mod Removing
 pub mod Relisting
 pub mod Dropping
 pub mod Numbering
+pub mod Runs

@@ -5,20 +5,18 @@ use Rattle.std.proofs.lemmas.List.Elements.{Contains-append_cases}
 use Rattle.std.specs.List.{Contains, filter, count_by}
 use Rattle.seg_words.specs.declared.extents.Extent.{Extent}
 use Rattle.seg_words.specs.Windows.{Aside}
-use Rattle.sma_blocks.proofs.Lives.{Contains-cases}
 use Rattle.php_graph.specs.declared.kind.Kind.{Kind}
 use Rattle.apcu_model.specs.Cache.{Row, has_key, extent_of, risen}
 use Rattle.apcu_model.specs.Change.{with_row}
 use Rattle.apcu_model.specs.Walk.{is_in_slot, slot_of}
-use Rattle.apcu_model.proofs.Apart.{are_apart-with_row}
 use Rattle.entry_slots.specs.declared.slots.EntrySlots.{EntrySlots}
 use Rattle.entry_slots.specs.Lists.{is_at}
 use Rattle.entry_slots.specs.Entries.{Entries, chain_of, blocks_of, fresh_row, linked}
 use Rattle.entry_slots.specs.Standing.{IsChain, IsEntry, Stands}
 use Rattle.entry_slots.specs.Links.{link_after}
-use Rattle.entry_slots.proofs.Members.{count-append, counted, Contains-filter}
+use Rattle.entry_slots.specs.Laws.{Laws}
+use Rattle.entry_slots.proofs.Members.{Contains-cases, count-append, counted, Contains-filter}
 use Rattle.entry_slots.proofs.Homes.{IsHome, home_row, home_removed, home_unlinked}
-use Rattle.entry_slots.proofs.Changes.{change_ready, change_live}
 use Rattle.entry_slots.proofs.Places.{once, at_place, at_itself, count_blocks}
 use Rattle.entry_slots.proofs.Cutting.{Spot, set_change, set_entry}
 use Rattle.entry_slots.proofs.Rejoining.{in_front, cut_spot, not_word, back_other, rejoined, other_chain, removed_kept}
@@ -66,9 +64,9 @@ module _ {e : EntrySlots} {ws : List ℕ} {aside : Aside} (s : Entries) (h : Sta
         only_passes test (at_place at) s.taken (extent_of row) taken (eq-eqb at at refl) (omega (arith, once h at)),
       )
 
-  pub linked_stands : (number count : ℕ) → number ≡ risen s.next_number → count ≡ length (with_row (fresh_row key g ttl t at s.next_number) s.rows)
+  pub linked_stands : Laws → (number count : ℕ) → number ≡ risen s.next_number → count ≡ length (with_row (fresh_row key g ttl t at s.next_number) s.rows)
       → Stands (record e { next_number = number; count = count }) (slice_set ws m at) aside (linked at key g ttl t s)
-  linked_stands number count en ec =
+  linked_stands law number count en ec =
       let row : Row = fresh_row key g ttl t at s.next_number in
       record {
         chains = λ two low. elim (cases_eq two slot) [
@@ -86,18 +84,18 @@ module _ {e : EntrySlots} {ws : List ℕ} {aside : Aside} (s : Entries) (h : Sta
         ];
         removed_chain = removed_kept h slot lt m at front back split follows;
         rows = λ x c. elim (with_row_there row s.rows x c) [
-          | inl here ↦ subst (λ r. IsEntry (slice_set ws m at) r) (sym here) (set_entry h m at spot row new_home)
-          | inr old ↦ set_entry h m at spot x (home_row x h old)
+          | inl here ↦ subst (λ r. IsEntry (slice_set ws m at) r) (sym here) (set_entry h m at spot law row new_home)
+          | inr old ↦ set_entry h m at spot law x (home_row x h old)
         ];
-        removed = λ x c. set_entry h m at spot x (home_removed x h c);
+        removed = λ x c. set_entry h m at spot law x (home_removed x h c);
         unlinked = λ x c. elim (Contains-append_cases (filter (has_key key) s.rows) s.unlinked x c) [
-          | inl l ↦ set_entry h m at spot x (home_row x h (Contains-filter (has_key key) s.rows x l).0)
-          | inr r ↦ set_entry h m at spot x (home_unlinked x h r)
+          | inl l ↦ set_entry h m at spot law x (home_row x h (Contains-filter (has_key key) s.rows x l).0)
+          | inr r ↦ set_entry h m at spot law x (home_unlinked x h r)
         ];
         taken = λ b c. h.taken b (Contains-filter (λ block. not (eqb block.place at)) s.taken b c).0;
-        ready = change_ready h.ready (set_change h m at spot);
-        blocks = record { count = λ test. ap (count_by test) (change_live h.ready (set_change h m at spot)) ∙ (h.blocks.count test ∙ linked_blocks test) };
-        apart = are_apart-with_row row s.rows h.apart;
+        ready = (law.blocks e.sma ws (slice_set ws m at) aside h.ready (set_change h m at spot)).ready;
+        blocks = record { count = λ test. ap (count_by test) (law.blocks e.sma ws (slice_set ws m at) aside h.ready (set_change h m at spot)).blocks ∙ (h.blocks.count test ∙ linked_blocks test) };
+        apart = law.more row s.rows h.apart;
         number = en;
         count = ec;
         good = h.good;

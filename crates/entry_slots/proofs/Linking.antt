@@ -4,15 +4,15 @@ use Rattle.std.proofs.lemmas.Bool.{cases_Bool, and_parts, not-true, eqb-true, eq
 use Rattle.std.proofs.lemmas.List.{append-nil}
 use Rattle.std.proofs.lemmas.List.Folds.{list_any-append}
 use Rattle.std.proofs.lemmas.List.Elements.{Contains-append_cases, filter-append}
+use Rattle.std.proofs.lemmas.Slice.Eq.{bytes_eq-Decides}
 use Rattle.std.specs.List.{Contains, filter, count_by, list_any}
-use Rattle.sma_blocks.proofs.Lives.{Contains-cases, Contains-first, Contains-later}
 use Rattle.apcu_model.specs.Cache.{Row, has_key}
 use Rattle.apcu_model.specs.Change.{with_row}
 use Rattle.apcu_model.specs.Rows.{are_apart}
 use Rattle.apcu_model.specs.Walk.{is_in_slot, slot_of}
-use Rattle.apcu_model.proofs.Apart.{key_is, key_other, are_apart-filter, replaced, replaced_key, replaced_none}
 use Rattle.entry_slots.specs.Entries.{Entries, chain_of}
-use Rattle.entry_slots.proofs.Members.{none_in_nil, count-cons, count-append, counted}
+use Rattle.entry_slots.specs.Laws.{Laws}
+use Rattle.entry_slots.proofs.Members.{Contains-cases, Contains-first, Contains-later, none_in_nil, count-cons, count-append, counted}
 
 -- ---- lists
 
@@ -54,6 +54,29 @@ only_passes t p (z ∷ zs) x c y few = elim (Contains-cases z zs x c) [
     ]
 
 -- ---- one row of a key
+
+pub key_is : (key : List ℕ) (row : Row) → has_key key row ≡ true → row.key ≡ key
+key_is key row h = (bytes_eq-Decides row.key key).0 h
+
+key_other : (row other : Row) → has_key row.key other ≡ false → has_key other.key row ≡ false
+key_other row other h =
+    false_from_ne_true (has_key other.key row) (λ e. false≢true (sym h ∙ (bytes_eq-Decides other.key row.key).1 (sym (key_is other.key row e))))
+
+-- what comes in the place of each row
+abbrev replaced : Row → Row → Row
+replaced new row = cond (has_key new.key row) new row
+
+replaced_key : (new row : Row) → (replaced new row).key ≡ row.key
+replaced_key new row = elim (cases_Bool (has_key new.key row)) [
+  | inl y ↦ rw y (sym (key_is new.key row y))
+  | inr n ↦ rw n refl
+]
+
+replaced_none : (new : Row) (rows : List Row) → list_any (has_key new.key) rows ≡ false → map (replaced new) rows ≡ rows
+replaced_none new [] h = refl
+replaced_none new (row ∷ rows) h =
+    let parts = or_parts (has_key new.key row) (list_any (has_key new.key) rows) h in
+    rw (parts.0, replaced_none new rows parts.1) refl
 
 -- rows apart from one of them have another key
 pub apart_split : (front : List Row) (row : Row) (back : List Row) → are_apart (front ++ row ∷ back) ≡ true → (list_any (has_key row.key) front ≡ false) × (list_any (has_key row.key) back ≡ false)
@@ -110,9 +133,6 @@ with_row_there new rows x = elim (list_any (has_key new.key) rows) as (λ b. Con
 
 -- ---- chains
 
-pub none_mapped : (new : Row) (rows : List Row) → list_any (has_key new.key) rows ≡ false → map (replaced new) rows ≡ rows
-none_mapped new rows h = replaced_none new rows h
-
 slot_replaced : (s : Entries) (slot : ℕ) (new : Row) (rows : List Row) → filter (is_in_slot s.conf slot) (map (replaced new) rows) ≡ map (replaced new) (filter (is_in_slot s.conf slot) rows)
 slot_replaced s slot new [] = refl
 slot_replaced s slot new (row ∷ rows) =
@@ -153,10 +173,10 @@ map_middle new (x ∷ front) old more nf y nm =
     rw parts.0 (ap (λ rs. x ∷ rs) (map_middle new front old more parts.1 y nm))
 
 -- in the place of the old row
-pub own_slot_over : (s : Entries) (slot : ℕ) (new : Row) (front : List Row) (old : Row) (more : List Row) → are_apart s.rows ≡ true → list_any (has_key new.key) s.rows ≡ true → chain_of s slot ≡ front ++ old ∷ more → has_key new.key old ≡ true
+pub own_slot_over : Laws → (s : Entries) (slot : ℕ) (new : Row) (front : List Row) (old : Row) (more : List Row) → are_apart s.rows ≡ true → list_any (has_key new.key) s.rows ≡ true → chain_of s slot ≡ front ++ old ∷ more → has_key new.key old ≡ true
     → filter (is_in_slot s.conf slot) (with_row new s.rows) ≡ front ++ new ∷ more
-own_slot_over s slot new front old more apart some split y =
-    let chain : are_apart (front ++ old ∷ more) ≡ true = ap are_apart (sym split) ∙ are_apart-filter (is_in_slot s.conf slot) s.rows apart in
+own_slot_over law s slot new front old more apart some split y =
+    let chain : are_apart (front ++ old ∷ more) ≡ true = ap are_apart (sym split) ∙ law.picked (is_in_slot s.conf slot) s.rows apart in
     let same : old.key ≡ new.key = key_is new.key old y in
     let none = apart_split front old more chain in
     rw some (slot_replaced s slot new s.rows ∙ (ap (map (replaced new)) split

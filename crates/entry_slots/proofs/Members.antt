@@ -1,11 +1,22 @@
 -- What a list has, and how often.
-use Rattle.std.proofs.Common.{◌≡◌, inl, inr, ℕ, ◌+◌, ◌≤◌, Bool, true, eqb, cond, ◌&&◌, List, [], ◌∷◌, ◌++◌, map, refl, sym, ap, ◌∙◌, subst, arith}
+use Rattle.std.proofs.Common.{◌≡◌, ◌⊎◌, inl, inr, ℕ, zero, suc, ◌+◌, ◌≤◌, Bool, true, eqb, cond, ◌&&◌, List, [], ◌∷◌, ◌++◌, map, refl, sym, ap, ◌∙◌, subst, arith}
 use Rattle.std.proofs.lemmas.Bool.{and_parts, and_from, or_left, or_right, or_cases, eqb-true, eq-eqb, cases_Bool, false≢true}
 use Rattle.std.specs.List.{Contains, count_by, filter, list_any}
+use Rattle.std.proofs.lemmas.List.Elements.{Contains-append_right}
 use Rattle.std.proofs.lemmas.List.Sums.{sum_by-cons, sum_by-append}
 use Rattle.seg_words.specs.declared.extents.Extent.{Extent}
-use Rattle.sma_blocks.proofs.Lives.{Contains-cases, Contains-first, Contains-later}
 use Rattle.entry_slots.specs.Lists.{HaveSame}
+
+-- a member is the first one, or a later one
+pub Contains-cases : {X : Type 0} (y : X) (ys : List X) (x : X) → Contains (y ∷ ys) x → (y ≡ x) ⊎ Contains ys x
+Contains-cases y ys x (zero, h, e) = inl e
+Contains-cases y ys x (suc k, h, e) = inr (k, omega arith, e)
+
+pub Contains-first : {X : Type 0} (y : X) (ys : List X) → Contains (y ∷ ys) y
+Contains-first y ys = (0, omega arith, refl)
+
+pub Contains-later : {X : Type 0} (y : X) (ys : List X) (x : X) → Contains ys x → Contains (y ∷ ys) x
+Contains-later y ys x c = Contains-append_right (y ∷ []) ys x c
 
 pub count-cons : {X : Type 0} (p : X → Bool) (x : X) (xs : List X) → count_by p (x ∷ xs) ≡ cond (p x) 1 0 + count_by p xs
 count-cons p x xs = sum_by-cons (λ y. cond (p y) 1 0) x xs

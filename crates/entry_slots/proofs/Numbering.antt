@@ -14,14 +14,13 @@ use Rattle.php_graph.specs.Size.{words_in, image_length, block_size}
 use Rattle.value_image.specs.Packed.{words_of}
 use Rattle.value_image.specs.Rows.{StandsAt}
 use Rattle.value_image.specs.Image.{IsImageOf, image_of}
-use Rattle.value_image.proofs.Runs.{stands-at}
-use Rattle.value_image.proofs.Packing.{length-words_of}
-use Rattle.value_image.proofs.Images.{image-stands, stands-image}
 use Rattle.apcu_model.specs.Cache.{Row}
 use Rattle.entry_slots.specs.declared.slots.EntrySlots.{EntrySlots}
 use Rattle.entry_slots.specs.Lists.{is_at}
 use Rattle.entry_slots.specs.Entries.{Entries, number_row, with_number}
 use Rattle.entry_slots.specs.Standing.{IsEntry, Stands}
+use Rattle.entry_slots.specs.Laws.{Laws}
+use Rattle.entry_slots.proofs.Runs.{words_long}
 use Rattle.entry_slots.proofs.Homes.{room, home_row}
 use Rattle.entry_slots.proofs.Changes.{OnlyIn, only_none, only_set}
 use Rattle.entry_slots.proofs.Frames.{run_same}
@@ -82,9 +81,9 @@ two_words ws at a b inside ea eb = run_from ws at (a ∷ b ∷ []) inside each
 abbrev pub number_words : List ℕ → ℕ → ℕ → ℕ → ℕ → List ℕ
 number_words ws at i word t = slice_set (slice_set ws i word) (at + 6) t
 
-pub number_entry : (ws : List ℕ) (row : Row) (at i t : ℕ) (n v : ℤ) → IsEntry ws row → row.graph ≡ kinds.Int v ∷ [] → FitsSigned w64 n → row.place ≡ at → at + row.size ≤ length ws → i ≡ at + 13 + words_in (length row.key)
+pub number_entry : Laws → (ws : List ℕ) (row : Row) (at i t : ℕ) (n v : ℤ) → IsEntry ws row → row.graph ≡ kinds.Int v ∷ [] → FitsSigned w64 n → row.place ≡ at → at + row.size ≤ length ws → i ≡ at + 13 + words_in (length row.key)
     → IsEntry (number_words ws at i (cast_unsigned w64 n) t) (record row { graph = kinds.Int n ∷ []; mtime = t })
-number_entry ws row at i t n v h graph fits e inside ei =
+number_entry law ws row at i t n v h graph fits e inside ei =
     let once : List ℕ = slice_set ws i (cast_unsigned w64 n) in
     let ws' : List ℕ = number_words ws at i (cast_unsigned w64 n) t in
     let long : length once ≡ length ws = length-set ws i (cast_unsigned w64 n) in
@@ -95,13 +94,13 @@ number_entry ws row at i t n v h graph fits e inside ei =
     let other : (j : ℕ) → j ≢ i → j ≢ at + 6 → slice_index ws' j ≡ slice_index ws j = λ j p q. get_or-set_other once (at + 6) j t 0 q ∙ get_or-set_other ws i j (cast_unsigned w64 n) 0 p in
     let word : (k : ℕ) → k < 12 → k ≢ 6 → slice_index ws' (row.place + k) ≡ slice_index ws (row.place + k) = λ k few o. other (row.place + k) (omega arith) (λ q. o (omega arith)) in
     let zero' : row.place + 0 ≡ row.place = omega arith in
-    let klen = length-words_of row.key in
+    let klen = words_long row.key in
     let start : image_place ws row.place ≡ row.place + 12 + words_in (length row.key) = ap (λ m. row.place + 12 + (m + 7) / 8) h.key_length in
     let key_length : slice_index ws' (row.place + 2) ≡ length row.key = word 2 (omega arith) (omega arith) ∙ h.key_length in
     let start' : image_place ws' row.place ≡ row.place + 12 + words_in (length row.key) = ap (λ m. row.place + 12 + (m + 7) / 8) key_length in
     let old : IsImageOf ws (row.place + 12 + words_in (length row.key)) (image_length row.graph) row.graph = subst (λ m. IsImageOf ws m (image_length row.graph) row.graph) start h.image in
-    let run : StandsAt ws (row.place + 12 + words_in (length row.key)) (2 ∷ cast_unsigned w64 v ∷ []) = subst (λ r. StandsAt ws (row.place + 12 + words_in (length row.key)) r) (ap image_of graph ∙ int_words v) (image-stands ws (row.place + 12 + words_in (length row.key)) (image_length row.graph) row.graph old) in
-    let tag : slice_index ws' (row.place + 12 + words_in (length row.key)) ≡ 2 = other (row.place + 12 + words_in (length row.key)) (omega arith) (omega arith) ∙ (ap (slice_index ws) (omega arith) ∙ stands-at ws (row.place + 12 + words_in (length row.key)) (2 ∷ cast_unsigned w64 v ∷ []) 0 run (omega arith)) in
+    let run : StandsAt ws (row.place + 12 + words_in (length row.key)) (2 ∷ cast_unsigned w64 v ∷ []) = subst (λ r. StandsAt ws (row.place + 12 + words_in (length row.key)) r) (ap image_of graph ∙ int_words v) (law.run ws (row.place + 12 + words_in (length row.key)) (image_length row.graph) row.graph old) in
+    let tag : slice_index ws' (row.place + 12 + words_in (length row.key)) ≡ 2 = other (row.place + 12 + words_in (length row.key)) (omega arith) (omega arith) ∙ (ap (slice_index ws) (omega arith) ∙ law.words ws (row.place + 12 + words_in (length row.key)) (2 ∷ cast_unsigned w64 v ∷ []) 0 run (omega arith)) in
     let value : slice_index ws' (row.place + 12 + words_in (length row.key) + 1) ≡ cast_unsigned w64 n =
     ap (slice_index ws') (omega arith) ∙ (get_or-set_other once (at + 6) i t 0 (omega arith) ∙ get_or-set_same ws i (cast_unsigned w64 n) 0 (omega arith)) in
     let image : StandsAt ws' (row.place + 12 + words_in (length row.key)) (image_of (kinds.Int n ∷ [])) = subst (λ r. StandsAt ws' (row.place + 12 + words_in (length row.key)) r) (sym (int_words n)) (two_words ws' (row.place + 12 + words_in (length row.key)) 2 (cast_unsigned w64 n) (omega (arith, count)) tag value) in
@@ -118,7 +117,7 @@ number_entry ws row at i t n v h graph fits e inside ei =
       number = word 10 (omega arith) (omega arith) ∙ h.number;
       pin_count = word 11 (omega arith) (omega arith) ∙ h.pin_count;
       key = run_same ws ws' (row.place + 12) (words_of row.key) count (λ j low high. other j (omega arith) (omega arith)) h.key;
-      image = subst (λ m. IsImageOf ws' m 2 (kinds.Int n ∷ [])) (sym start') (stands-image ws' (row.place + 12 + words_in (length row.key)) 2 (kinds.Int n ∷ []) (int_graph n fits) refl image);
+      image = subst (λ m. IsImageOf ws' m 2 (kinds.Int n ∷ [])) (sym start') (law.image ws' (row.place + 12 + words_in (length row.key)) (kinds.Int n ∷ []) (int_graph n fits) image);
       whole = size;
       bytes = h.bytes;
       short_ttl = h.short_ttl;
@@ -134,9 +133,9 @@ number_keeps at n t h = record {
   size = λ row. elim (is_at at row) as (λ b. (cond b (record row { graph = kinds.Int n ∷ []; mtime = t }) row).size ≡ row.size) [ true ↦ refl | false ↦ refl ];
 }
 
-pub number_stands : {e : EntrySlots} {ws : List ℕ} {aside : Aside} (s : Entries) (h : Stands e ws aside s) (at i t : ℕ) (n v : ℤ) (own : Row) → Contains s.rows own → own.place ≡ at → kind_at own.graph 1 ≡ Some (kinds.Int v) → FitsSigned w64 n → i ≡ at + 13 + words_in (length own.key)
+pub number_stands : Laws → {e : EntrySlots} {ws : List ℕ} {aside : Aside} (s : Entries) (h : Stands e ws aside s) (at i t : ℕ) (n v : ℤ) (own : Row) → Contains s.rows own → own.place ≡ at → kind_at own.graph 1 ≡ Some (kinds.Int v) → FitsSigned w64 n → i ≡ at + 13 + words_in (length own.key)
     → Stands e (number_words ws at i (cast_unsigned w64 n) t) aside (with_number at n t s)
-number_stands {e} {ws} {aside} s h at i t n v own there place int fits ei =
+number_stands law {e} {ws} {aside} s h at i t n v own there place int fits ei =
     let home = home_row own h there in
     let w = room home in
     let graph : own.graph ≡ kinds.Int v ∷ [] = graph_one own.graph v home.entry.image.graph int in
@@ -144,12 +143,12 @@ number_stands {e} {ws} {aside} s h at i t n v own there place int fits ei =
     let ws' : List ℕ = number_words ws at i (cast_unsigned w64 n) t in
     let only : OnlyIn ws ws' (own.place + 4) (own.place + own.size) =
     only_set ws (slice_set ws i (cast_unsigned w64 n)) (own.place + 4) (own.place + own.size) (at + 6) t (only_set ws ws (own.place + 4) (own.place + own.size) i (cast_unsigned w64 n) (only_none ws (own.place + 4) (own.place + own.size)) (omega arith) (omega (arith, w.enough, two))) (omega arith) (omega (arith, w.enough)) in
-    rewritten h ws' own there only (number_row at n t) (number_keeps at n t (λ row y. refl))
+    rewritten h ws' own there only law (number_row at n t) (number_keeps at n t (λ row y. refl))
     (λ row other. let no' : is_at at row ≡ false = ne_eqb row.place at (λ q. other (q ∙ sym place)) in rw no' refl)
     (λ row c same.
     let here : is_at at row ≡ true = eq-eqb row.place at (same ∙ place) in
     let is : own ≡ row = rows_one h own row there c (sym same) in
-    let entry : IsEntry ws' (record own { graph = kinds.Int n ∷ []; mtime = t }) = number_entry ws own at i t n v home.entry graph fits place (omega (arith, w.high, place)) ei in
+    let entry : IsEntry ws' (record own { graph = kinds.Int n ∷ []; mtime = t }) = number_entry law ws own at i t n v home.entry graph fits place (omega (arith, w.high, place)) ei in
     rw here (subst (λ (r : Row). IsEntry ws' (record r { graph = kinds.Int n ∷ []; mtime = t })) is entry))
     (λ row c. rows_removed h own row there c)
     (λ row c. rows_unlinked h own row there c)

@@ -4,40 +4,39 @@ use Rattle.std.proofs.lemmas.Bool.{cases_lt, eqb-true, eq-eqb}
 use Rattle.std.specs.List.{Contains, count_by}
 use Rattle.seg_words.specs.declared.extents.Extent.{Extent}
 use Rattle.seg_words.specs.Windows.{Aside}
-use Rattle.sma_blocks.specs.Pieces.{Piece, pieces, Fill}
-use Rattle.sma_blocks.specs.Live.{lives}
-use Rattle.sma_blocks.proofs.Lives.{extent_of, lives_between, Contains-cases}
+use Rattle.sma_blocks.specs.Live.{live_blocks}
+use Rattle.sma_blocks.specs.Ready.{AreBlocks}
 use Rattle.apcu_model.specs.Cache.{Row}
 use Rattle.apcu_model.specs.Cache as cache
 use Rattle.entry_slots.specs.declared.slots.EntrySlots.{EntrySlots}
 use Rattle.entry_slots.specs.Lists.{is_at}
 use Rattle.entry_slots.specs.Entries.{Entries, blocks_of}
 use Rattle.entry_slots.specs.Standing.{Stands}
-use Rattle.entry_slots.proofs.Members.{count-cons, count-append, counted, there, none_in_nil}
+use Rattle.entry_slots.proofs.Blocks.{blocks_between}
+use Rattle.entry_slots.proofs.Members.{Contains-cases, count-cons, count-append, counted, there, none_in_nil}
 
 abbrev pub at_place : ℕ → Extent → Bool
 at_place p e = eqb e.place p
 
-pub lives_once : (ws : List ℕ) (a : ℕ) (ps : List Piece) (b x : ℕ) → Fill ws a ps b → count_by (at_place x) (lives ps) ≤ 1
-lives_once ws a [] b x h = omega arith
-lives_once ws a (p ∷ ps) b x h =
-    go p.live (eqb p.place x) refl (lives_once ws (a + p.size) ps b x h.1)
+pub blocks_once : (ws : List ℕ) (low : ℕ) (es : List Extent) (high x : ℕ) → AreBlocks ws low es high → count_by (at_place x) es ≤ 1
+blocks_once ws low [] high x h = omega arith
+blocks_once ws low (e ∷ es) high x h =
+    go (eqb e.place x) refl (blocks_once ws (e.place + e.size) es high x h.3)
   where
-    none_later : p.place ≡ x → count_by (at_place x) (lives ps) < 1
-    none_later e = elim (cases_lt (count_by (at_place x) (lives ps)) 1) [
+    none_later : e.place ≡ x → count_by (at_place x) es < 1
+    none_later is = elim (cases_lt (count_by (at_place x) es) 1) [
       | inl few ↦ few
-      | inr some ↦ let r = there (at_place x) (lives ps) some in
-          absurd (omega (arith, (lives_between ws (a + p.size) ps b r.0 h.1 r.1).0, eqb-true r.0.place x r.2, h.0.place, h.0.enough))
+      | inr some ↦ let r = there (at_place x) es some in
+          absurd (omega (arith, (blocks_between ws (e.place + e.size) es high r.0 h.3 r.1).0, eqb-true r.0.place x r.2, h.1))
     ]
 
-    go : (live here : Bool) → eqb p.place x ≡ here → count_by (at_place x) (lives ps) ≤ 1 → count_by (at_place x) (cond live (extent_of p ∷ lives ps) (lives ps)) ≤ 1
-    go true true e rest =
-        let one : cond {A = ℕ} (at_place x (extent_of p)) 1 0 ≡ 1 = ap (λ v. cond {A = ℕ} v 1 0) e in
-        omega (arith, count-cons (at_place x) (extent_of p) (lives ps), none_later (eqb-true p.place x e))
-    go true false e rest =
-        let none : cond {A = ℕ} (at_place x (extent_of p)) 1 0 ≡ 0 = ap (λ v. cond {A = ℕ} v 1 0) e in
-        omega (arith, count-cons (at_place x) (extent_of p) (lives ps))
-    go false here e rest = rest
+    go : (here : Bool) → eqb e.place x ≡ here → count_by (at_place x) es ≤ 1 → count_by (at_place x) (e ∷ es) ≤ 1
+    go true is rest =
+        let one : cond {A = ℕ} (at_place x e) 1 0 ≡ 1 = ap (λ v. cond {A = ℕ} v 1 0) is in
+        omega (arith, count-cons (at_place x) e es, none_later (eqb-true e.place x is))
+    go false is rest =
+        let none : cond {A = ℕ} (at_place x e) 1 0 ≡ 0 = ap (λ v. cond {A = ℕ} v 1 0) is in
+        omega (arith, count-cons (at_place x) e es)
 
 pub count-map : {X Y : Type 0} (p : Y → Bool) (f : X → Y) (xs : List X) → count_by p (map f xs) ≡ count_by (λ x. p (f x)) xs
 count-map p f [] = refl
@@ -64,7 +63,7 @@ count_blocks test s =
 pub once : {e : EntrySlots} {ws : List ℕ} {aside : Aside} {s : Entries} → Stands e ws aside s → (x : ℕ)
     → count_by (is_at x) s.rows + (count_by (is_at x) s.removed + (count_by (is_at x) s.unlinked + count_by (at_place x) s.taken)) ≤ 1
 once {e} {ws} {aside} {s} h x =
-    omega (arith, count_blocks (at_place x) s, h.blocks.count (at_place x), lives_once ws e.sma.from (pieces ws e.sma.from) (length ws) x h.ready.formatted.full)
+    omega (arith, count_blocks (at_place x) s, h.blocks.count (at_place x), blocks_once ws e.sma.from (live_blocks ws e.sma.from) e.sma.to x h.ready.blocks)
 
 pub at_itself : (row : Row) (x : ℕ) → row.place ≡ x → is_at x row ≡ true
 at_itself row x e = eq-eqb row.place x e
@@ -82,13 +81,9 @@ removed_unlinked {s = s} h p q cp cq same =
     omega (arith, once h p.place, counted (is_at p.place) s.removed p cp (at_itself p p.place refl), counted (is_at p.place) s.unlinked q cq (at_itself q p.place same))
 
 -- how many blocks fit
-lives_few : (ws : List ℕ) (a : ℕ) (ps : List Piece) (b : ℕ) → Fill ws a ps b → a + count_by (λ (e : Extent). true) (lives ps) ≤ b
-lives_few ws a [] b h = omega (arith, h)
-lives_few ws a (p ∷ ps) b h = go p.live (lives_few ws (a + p.size) ps b h.1)
-  where
-    go : (live : Bool) → a + p.size + count_by (λ (e : Extent). true) (lives ps) ≤ b → a + count_by (λ (e : Extent). true) (cond live (extent_of p ∷ lives ps) (lives ps)) ≤ b
-    go true rest = omega (arith, count-cons (λ (e : Extent). true) (extent_of p) (lives ps), h.0.enough)
-    go false rest = omega arith
+blocks_few : (ws : List ℕ) (low : ℕ) (es : List Extent) (high : ℕ) → AreBlocks ws low es high → low + count_by (λ (e : Extent). true) es ≤ high
+blocks_few ws low [] high h = omega (arith, h)
+blocks_few ws low (e ∷ es) high h = omega (arith, count-cons (λ (x : Extent). true) e es, h.0, h.1, blocks_few ws (e.place + e.size) es high h.3)
 
 count_all : {X : Type 0} (xs : List X) → count_by (λ x. true) xs ≡ length xs
 count_all [] = refl
@@ -96,11 +91,11 @@ count_all (x ∷ xs) = omega (arith, count-cons (λ y. true) x xs, count_all xs)
 
 pub rows_few : {e : EntrySlots} {ws : List ℕ} {aside : Aside} {s : Entries} → Stands e ws aside s → e.count ≤ length ws
 rows_few {e} {ws} {aside} {s} h =
-    omega (arith, h.count, count_all s.rows, count_blocks (λ (x : Extent). true) s, h.blocks.count (λ (x : Extent). true), lives_few ws e.sma.from (pieces ws e.sma.from) (length ws) h.ready.formatted.full)
+    omega (arith, h.count, count_all s.rows, count_blocks (λ (x : Extent). true) s, h.blocks.count (λ (x : Extent). true), h.ready.end, blocks_few ws e.sma.from (live_blocks ws e.sma.from) e.sma.to h.ready.blocks)
 
 pub removed_few : {e : EntrySlots} {ws : List ℕ} {aside : Aside} {s : Entries} → Stands e ws aside s → e.sma.from + length s.removed ≤ length ws
 removed_few {e} {ws} {aside} {s} h =
-    omega (arith, count_all s.removed, count_blocks (λ (x : Extent). true) s, h.blocks.count (λ (x : Extent). true), lives_few ws e.sma.from (pieces ws e.sma.from) (length ws) h.ready.formatted.full)
+    omega (arith, count_all s.removed, count_blocks (λ (x : Extent). true) s, h.blocks.count (λ (x : Extent). true), h.ready.end, blocks_few ws e.sma.from (live_blocks ws e.sma.from) e.sma.to h.ready.blocks)
 
 one_of : (x : ℕ) (rows : List Row) (p q : Row) → count_by (is_at x) rows ≤ 1 → Contains rows p → Contains rows q → p.place ≡ x → q.place ≡ x → p ≡ q
 one_of x [] p q few cp cq ep eq' = absurd (none_in_nil p cp)

@@ -6,9 +6,6 @@ use Rattle.std.proofs.lemmas.List.{length-map, append-nil}
 use Rattle.std.specs.List.{Contains, find, list_any}
 use Rattle.seg_words.specs.declared.extents.Extent.{Extent}
 use Rattle.seg_words.specs.Windows.{Aside}
-use Rattle.sma_blocks.specs.Pieces.{Piece, pieces, Fill}
-use Rattle.sma_blocks.specs.Live.{lives}
-use Rattle.sma_blocks.proofs.Lives.{extent_of, Contains-cases, Contains-first, Contains-later}
 use Rattle.php_graph.specs.declared.kind.Kind.{Kind}
 use Rattle.php_graph.specs.Graph.{IsGraph}
 use Rattle.php_graph.specs.ByteStrings.{AreBytes}
@@ -16,12 +13,9 @@ use Rattle.php_graph.specs.Size.{words_in, image_length, block_size}
 use Rattle.value_image.specs.Packed.{words_of}
 use Rattle.value_image.specs.Rows.{written, MayWrite}
 use Rattle.value_image.specs.Image.{image_of}
-use Rattle.value_image.proofs.Packing.{length-words_of}
-use Rattle.value_image.proofs.Images.{length-image_of}
 use Rattle.apcu_model.specs.Cache.{Row, has_key, risen}
 use Rattle.apcu_model.specs.Change.{with_row}
 use Rattle.apcu_model.specs.Walk.{is_in_slot, slot_of}
-use Rattle.apcu_model.proofs.Apart.{key_is}
 use Rattle.entry_slots.specs.declared.slots.EntrySlots.{EntrySlots}
 use Rattle.entry_slots.specs.declared.writing.Note.{Note}
 use Rattle.entry_slots.specs.Lists.{is_at, has_place}
@@ -29,31 +23,17 @@ use Rattle.entry_slots.specs.Entries.{Entries, chain_of, fresh_row, linked, foun
 use Rattle.entry_slots.specs.Standing.{IsChain, IsEntry, Stands}
 use Rattle.entry_slots.specs.Links.{link_after, IsLinkTo, IsTarget}
 use Rattle.entry_slots.specs.Written.{first_words, entry_words}
-use Rattle.entry_slots.proofs.Members.{any_from, Contains-kept, none_in_nil}
-use Rattle.entry_slots.proofs.Blocks.{live_bounds}
+use Rattle.entry_slots.specs.Laws.{Laws}
+use Rattle.entry_slots.proofs.Runs.{words_long}
+use Rattle.entry_slots.proofs.Members.{Contains-cases, Contains-first, Contains-later, any_from, Contains-kept, none_in_nil}
+use Rattle.entry_slots.proofs.Blocks.{live_bounds, live_word}
 use Rattle.entry_slots.proofs.Homes.{room, home_row}
 use Rattle.entry_slots.proofs.Chains.{home_chain}
 use Rattle.entry_slots.proofs.Changes.{OnlyIn}
 use Rattle.entry_slots.proofs.Cutting.{AreDistinct, chain_distinct, chain_rest}
 use Rattle.entry_slots.proofs.Written.{written_only, written_entry, taken_live, taken_may, taken_stands, link_kept, rows_not}
-use Rattle.entry_slots.proofs.Linking.{own_slot_last, own_slot_over}
+use Rattle.entry_slots.proofs.Linking.{key_is, own_slot_last, own_slot_over}
 use Rattle.entry_slots.proofs.Linked.{linked_stands}
-
--- the first word of a live block is its size
-pub live_word : (ws : List ℕ) (a : ℕ) (ps : List Piece) (b : ℕ) (e : Extent) → Fill ws a ps b → Contains (lives ps) e → slice_index ws e.place ≡ e.size
-live_word ws a [] b e h c = absurd (none_in_nil e c)
-live_word ws a (p ∷ ps) b e h c = go p.live refl (λ d. live_word ws (a + p.size) ps b e h.1 d) c
-  where
-    go : (live : Bool) → p.live ≡ live → (Contains (lives ps) e → slice_index ws e.place ≡ e.size) → Contains (cond live (extent_of p ∷ lives ps) (lives ps)) e → slice_index ws e.place ≡ e.size
-    go true is rest c = elim (Contains-cases (extent_of p) (lives ps) e c) [
-      | inl here ↦
-          let place : p.place ≡ e.place = ap (λ (x : Extent). x.place) here in
-          let size : p.size ≡ e.size = ap (λ (x : Extent). x.size) here in
-          let zero' : cond {A = ℕ} p.live 0 1 ≡ 0 = ap (λ (b : Bool). cond {A = ℕ} b 0 1) is in
-          ap (slice_index ws) (sym place ∙ h.0.place) ∙ (h.0.word ∙ omega arith)
-      | inr later ↦ rest later
-    ]
-    go false is rest c = rest c
 
 find_cases : (p : Row → Bool) (rows : List Row) → ((find p rows ≡ None) × (list_any p rows ≡ false)) ⊎ ((row : Row) × (find p rows ≡ Some row) × Contains rows row × (p row ≡ true))
 find_cases p [] = inl (refl, refl)
@@ -124,28 +104,28 @@ module _ {e : EntrySlots} {ws : List ℕ} {aside : Aside} (s : Entries) (h : Sta
     apart = λ i low high. taken_may (record { place = at; size = block_size (length key) g }) h taken i (omega arith) (omega (arith, r.2));
   }
 
-  entry_long : (note : Note) → length (entry_words key g note) ≡ 11 + words_in (length key) + image_length g
-  entry_long note = omega (arith, length-append (first_words key g note) (words_of key ++ image_of g), length-append (words_of key) (image_of g), length-words_of key, length-image_of g)
+  entry_long : Laws → (note : Note) → length (entry_words key g note) ≡ 11 + words_in (length key) + image_length g
+  entry_long law note = omega (arith, length-append (first_words key g note) (words_of key ++ image_of g), length-append (words_of key) (image_of g), words_long key, law.image_long g)
 
-  entry_only : (note : Note) → OnlyIn ws (written ws (at + 1) (entry_words key g note)) (at + 1) (at + block_size (length key) g)
-  entry_only note = only_wider ws (written ws (at + 1) (entry_words key g note)) (at + 1) (at + 1 + length (entry_words key g note)) (at + block_size (length key) g) (written_only ws (at + 1) (entry_words key g note)) (let r = taken_room in omega (arith, r.2, entry_long note))
+  entry_only : Laws → (note : Note) → OnlyIn ws (written ws (at + 1) (entry_words key g note)) (at + 1) (at + block_size (length key) g)
+  entry_only law note = only_wider ws (written ws (at + 1) (entry_words key g note)) (at + 1) (at + 1 + length (entry_words key g note)) (at + block_size (length key) g) (written_only law ws (at + 1) (entry_words key g note)) (let r = taken_room in omega (arith, r.2, entry_long law note))
 
-  pub entry_stands : (note : Note) → Stands e (written ws (at + 1) (entry_words key g note)) aside s
-  entry_stands note = taken_stands h (record { place = at; size = block_size (length key) g }) taken (written ws (at + 1) (entry_words key g note)) (entry_only note)
+  pub entry_stands : Laws → (note : Note) → Stands e (written ws (at + 1) (entry_words key g note)) aside s
+  entry_stands law note = taken_stands h (record { place = at; size = block_size (length key) g }) taken (written ws (at + 1) (entry_words key g note)) (entry_only law note) law
 
   -- all of it, and the chain's word
-  pub link_stands : (note : Note) → IsGraph g → AreBytes key → note.ttl < 2 ^ 32 → note.number ≡ e.next_number → (replaced slot m : ℕ) → replaced ≡ found_place (find (has_key key) s.rows) → slot ≡ slot_of s.conf key → slot < e.sma.from
+  pub link_stands : Laws → (note : Note) → IsGraph g → AreBytes key → note.ttl < 2 ^ 32 → note.number ≡ e.next_number → (replaced slot m : ℕ) → replaced ≡ found_place (find (has_key key) s.rows) → slot ≡ slot_of s.conf key → slot < e.sma.from
       → IsLinkTo ws slot (chain_of s slot) replaced m → (replaced ≢ 0 → note.next ≡ slice_index ws (replaced + 1)) → (replaced ≡ 0 → note.next ≡ 0)
       → (number count : ℕ) → number ≡ risen e.next_number → count ≡ cond (eqb replaced 0) (e.count + 1) e.count
       → Stands (record e { next_number = number; count = count }) (slice_set (written ws (at + 1) (entry_words key g note)) m at) aside (linked at key g note.ttl note.now s)
   unfolding Old
-  link_stands note graph bytes ttl number_is replaced slot m er es lt link over none number count en ec =
+  link_stands law note graph bytes ttl number_is replaced slot m er es lt link over none number count en ec =
       let b : Extent = record { place = at; size = block_size (length key) g } in
       let ws1 : List ℕ = written ws (at + 1) (entry_words key g note) in
-      let h1 : Stands e ws1 aside s = entry_stands note in
+      let h1 : Stands e ws1 aside s = entry_stands law note in
       let r = taken_room in
-      let size : slice_index ws at ≡ block_size (length key) g = live_word ws e.sma.from (pieces ws e.sma.from) (length ws) b h.ready.formatted.full (taken_live b h taken) in
-      let made = written_entry ws at key g note graph bytes ttl size r.0 in
+      let size : slice_index ws at ≡ block_size (length key) g = live_word e.sma ws aside b h.ready (taken_live b h taken) in
+      let made = written_entry law ws at key g note graph bytes ttl size r.0 in
       let numbered : note.number ≡ s.next_number = number_is ∙ h.number in
       let entry : IsEntry ws1 (fresh_row key g note.ttl note.now at s.next_number) = subst (λ n. IsEntry ws1 (fresh_row key g note.ttl note.now at n)) numbered made.0 in
       let new : Row = fresh_row key g note.ttl note.now at s.next_number in
@@ -156,7 +136,7 @@ module _ {e : EntrySlots} {ws : List ℕ} {aside : Aside} (s : Entries) (h : Sta
             let split : chain_of s slot ≡ link.front ++ [] = link.split ∙ ap (λ rs. link.front ++ rs) empty in
             linked_stands s h1 at key g note.ttl note.now taken entry slot lt (sym es) m link.front [] [] split link.follows (λ q c. c) (made.1 ∙ none fresh.0)
             (own_slot_last s slot new (sym es) fresh.1 ∙ ap (λ rs. rs ++ new ∷ []) (split ∙ append-nil link.front))
-            number count risen_is (ec ∙ (ap (λ (b : Bool). cond {A = ℕ} b (e.count + 1) e.count) (eq-eqb replaced 0 fresh.0) ∙ count_last new fresh.1))
+            law number count risen_is (ec ∙ (ap (λ (b : Bool). cond {A = ℕ} b (e.count + 1) e.count) (eq-eqb replaced 0 fresh.0) ∙ count_last new fresh.1))
         | inr old ↦
             let first = back_some old link.back link.split link.rest in
             let row : Row = first.0 in
@@ -167,12 +147,12 @@ module _ {e : EntrySlots} {ws : List ℕ} {aside : Aside} (s : Entries) (h : Sta
             let home = home_row old.0 h old.2 in
             let some : replaced ≢ 0 = (let w = room home in λ q. omega (arith, w.some, old.1)) in
             let in_rows : Contains s.rows row = subst (λ z. Contains s.rows z) (sym first.4) old.2 in
-            let word : slice_index ws1 (row.place + 1) ≡ slice_index ws (row.place + 1) = link_kept h b taken ws1 (entry_only note) row (home_row row h in_rows) (rows_not h b taken ws1 (entry_only note) row in_rows) in
+            let word : slice_index ws1 (row.place + 1) ≡ slice_index ws (row.place + 1) = link_kept h b taken ws1 (entry_only law note) row (home_row row h in_rows) (rows_not h b taken ws1 (entry_only law note) row in_rows) in
             let next : slice_index ws1 (at + 1) ≡ slice_index ws1 (row.place + 1) = made.1 ∙ (over some ∙ (ap (λ n. slice_index ws (n + 1)) (sym at_row) ∙ sym word)) in
             let has : has_key key row ≡ true = ap (has_key key) first.4 ∙ old.3 in
             linked_stands s h1 at key g note.ttl note.now taken entry slot lt (sym es) m link.front (row ∷ more) more split link.follows (λ q c. Contains-later row more q c) (subst (λ n. IsChain ws1 n more) (sym next) chain1.1)
-            (own_slot_over s slot new link.front row more h.apart (any_from (has_key key) s.rows old.0 old.2 old.3) split has)
-            number count risen_is (ec ∙ (ap (λ (b : Bool). cond {A = ℕ} b (e.count + 1) e.count) (ne_eqb replaced 0 some) ∙ count_over new (any_from (has_key key) s.rows old.0 old.2 old.3)))
+            (own_slot_over law s slot new link.front row more h.apart (any_from (has_key key) s.rows old.0 old.2 old.3) split has)
+            law number count risen_is (ec ∙ (ap (λ (b : Bool). cond {A = ℕ} b (e.count + 1) e.count) (ne_eqb replaced 0 some) ∙ count_over new (any_from (has_key key) s.rows old.0 old.2 old.3)))
       ]
     where
       back_none : (back : List Row) → chain_of s slot ≡ link.front ++ back → IsChain ws replaced back → replaced ≡ 0 → back ≡ []

@@ -1,5 +1,5 @@
 -- Rows that go from one list to another, and blocks that are given back.
-use Rattle.std.proofs.Common.{◌≡◌, ◌≢◌, ◌⊎◌, inl, inr, ℕ, ◌+◌, ◌<◌, ◌≤◌, ◌^◌, Bool, true, false, not, cond, eqb, List, [], ◌∷◌, ◌++◌, length, slice_index, slice_set, refl, sym, ap, ap₂, ◌∙◌, subst, arith}
+use Rattle.std.proofs.Common.{◌≡◌, ◌≢◌, ◌⊎◌, inl, inr, ℕ, ◌+◌, ◌<◌, ◌≤◌, ◌^◌, Bool, true, false, not, cond, eqb, List, [], ◌∷◌, ◌++◌, slice_index, slice_set, refl, sym, ap, ap₂, ◌∙◌, subst, arith}
 use Rattle.std.proofs.lemmas.Bool.{cases_eq, cases_Bool, eq-eqb, eqb-true, ne_eqb, not_from_false, not-true, false_from_ne_true, false≢true}
 use Rattle.std.proofs.lemmas.List.{append-nil}
 use Rattle.std.proofs.lemmas.List.Elements.{Contains-append_cases, Contains-append_left, Contains-append_right, filter-append}
@@ -7,9 +7,7 @@ use Rattle.std.specs.List.{Contains, filter, count_by}
 use Rattle.seg_words.specs.declared.extents.Extent.{Extent}
 use Rattle.seg_words.specs.Windows.{Aside}
 use Rattle.sma_blocks.specs.Live.{live_blocks, without_block, SameBlocks}
-use Rattle.sma_blocks.specs.Pieces.{pieces}
-use Rattle.sma_blocks.specs.Ready.{IsReady}
-use Rattle.sma_blocks.proofs.Lives.{Contains-cases, Contains-first, Contains-later}
+use Rattle.sma_blocks.specs.Ready.{IsReady, ChangesInner}
 use Rattle.apcu_model.specs.Cache.{Row, extent_of}
 use Rattle.apcu_model.specs.Walk.{is_in_slot}
 use Rattle.entry_slots.specs.declared.slots.EntrySlots.{EntrySlots}
@@ -17,37 +15,37 @@ use Rattle.entry_slots.specs.Lists.{is_at, has_place, only_at, without_place}
 use Rattle.entry_slots.specs.Entries.{Entries, chain_of, moved_at, off_at}
 use Rattle.entry_slots.specs.Standing.{IsChain, IsEntry, Stands}
 use Rattle.entry_slots.specs.Links.{IsRemovedLink}
-use Rattle.entry_slots.proofs.Members.{any_there, any_from, count-append, count-cons, counted, none_in_nil, Contains-filter, Contains-kept}
+use Rattle.entry_slots.specs.Laws.{Laws}
+use Rattle.entry_slots.proofs.Members.{Contains-cases, Contains-first, Contains-later, any_there, any_from, count-append, count-cons, counted, none_in_nil, Contains-filter, Contains-kept}
 use Rattle.entry_slots.proofs.Homes.{IsHome, room, home_row, home_removed, home_unlinked}
-use Rattle.entry_slots.proofs.Changes.{Change, change_ready, change_live}
 use Rattle.entry_slots.proofs.Frames.{entry_kept, chain_kept}
 use Rattle.entry_slots.proofs.Chains.{chain_first, small_first}
 use Rattle.entry_slots.proofs.Taking.{row_same, link_same}
-use Rattle.entry_slots.proofs.Places.{once, at_place, at_itself, count_blocks, lives_once, rows_unlinked, removed_unlinked}
+use Rattle.entry_slots.proofs.Places.{once, at_place, at_itself, count_blocks, blocks_once, rows_unlinked, removed_unlinked}
 use Rattle.entry_slots.proofs.Cutting.{AreDistinct, distinct_both, Spot, set_change, set_entry, set_link}
 use Rattle.entry_slots.proofs.Linking.{count_split, only_passes, filter_none}
 use Rattle.entry_slots.proofs.Unlinking.{without_none, without_middle}
 use Rattle.entry_slots.proofs.Removing.{removed_distinct, link_spot, in_front, in_back, link_home, removed_by_word, removed_by_head, chains_kept}
 
 -- the removed and the unlinked rows are other lists of the same rows
-pub relisted : {e : EntrySlots} {ws : List ℕ} {aside : Aside} (s : Entries) (h : Stands e ws aside s) (ws' : List ℕ) → Change e.sma ws aside ws' → ((row : Row) → IsHome e ws aside row → IsEntry ws' row)
+pub relisted : Laws → {e : EntrySlots} {ws : List ℕ} {aside : Aside} (s : Entries) (h : Stands e ws aside s) (ws' : List ℕ) → ChangesInner e.sma ws ws' aside → ((row : Row) → IsHome e ws aside row → IsEntry ws' row)
     → ((slot : ℕ) → slot < s.conf.slots → IsChain ws' (slice_index ws' slot) (chain_of s slot))
     → (first : ℕ) (removed unlinked : List Row) → IsChain ws' first removed → ((row : Row) → Contains removed row → IsHome e ws aside row) → ((row : Row) → Contains unlinked row → IsHome e ws aside row)
     → ((p : Row → Bool) → count_by p s.removed + count_by p s.unlinked ≡ count_by p removed + count_by p unlinked)
     → Stands (record e { removed = first }) ws' aside (record s { removed = removed; unlinked = unlinked })
-relisted {e} {ws} {aside} s h ws' change entry chains first removed unlinked chain homes others same = record {
+relisted law {e} {ws} {aside} s h ws' change entry chains first removed unlinked chain homes others same = record {
   chains = chains;
   removed_chain = chain;
   rows = λ row c. entry row (home_row row h c);
   removed = λ row c. entry row (homes row c);
   unlinked = λ row c. entry row (others row c);
   taken = h.taken;
-  ready = change_ready h.ready change;
+  ready = (law.blocks e.sma ws ws' aside h.ready change).ready;
   blocks = record {
     count = λ test.
         let p : Row → Bool = λ row. test (extent_of row) in
         let after : Entries = record s { removed = removed; unlinked = unlinked } in
-        ap (count_by test) (change_live h.ready change) ∙ omega (arith, h.blocks.count test, count_blocks test s, count_blocks test after, same p);
+        ap (count_by test) (law.blocks e.sma ws ws' aside h.ready change).blocks ∙ omega (arith, h.blocks.count test, count_blocks test s, count_blocks test after, same p);
   };
   apart = h.apart;
   number = h.number;
@@ -57,7 +55,7 @@ relisted {e} {ws} {aside} s h ws' change entry chains first removed unlinked cha
   to = h.to;
 }
 
-no_change : (e : EntrySlots) (ws : List ℕ) (aside : Aside) → Change e.sma ws aside ws
+no_change : (e : EntrySlots) (ws : List ℕ) (aside : Aside) → ChangesInner e.sma ws ws aside
 no_change e ws aside = record { count = refl; inner = λ i low. inl refl; named = λ x named. (refl, refl) }
 
 -- exactly one passes
@@ -120,16 +118,16 @@ module _ {e : EntrySlots} {ws : List ℕ} {aside : Aside} (s : Entries) (h : Sta
   whole_front : (link : ℕ) (L : IsRemovedLink ws s.removed 0 link) → s.removed ≡ L.front
   whole_front link L = L.split ∙ (ap (λ rs. L.front ++ rs) (end_back link L) ∙ append-nil L.front)
 
-  pub moved_head : (q : Row) → Contains s.unlinked q → q.place ≡ at → slice_index ws (at + 1) ≡ 0 → (link : ℕ) → IsRemovedLink ws s.removed 0 link → link ≡ 0 → Stands (record e { removed = at }) ws aside (moved at s)
-  moved_head q c place word link L none =
+  pub moved_head : Laws → (q : Row) → Contains s.unlinked q → q.place ≡ at → slice_index ws (at + 1) ≡ 0 → (link : ℕ) → IsRemovedLink ws s.removed 0 link → link ≡ 0 → Stands (record e { removed = at }) ws aside (moved at s)
+  moved_head law q c place word link L none =
       let one = only_unlinked q c place in
       let empty : s.removed ≡ [] = whole_front link L ∙ removed_by_head s h 0 link L none in
       let list : s.removed ++ only_at at s.unlinked ≡ q ∷ [] = ap₂ (λ (a b : List Row). a ++ b) empty one in
       let chain : IsChain ws at (q ∷ []) = (sym place, ap (λ n. slice_index ws (n + 1)) place ∙ word) in
-      relisted s h ws (no_change e ws aside) (λ row home. home.entry) h.chains at (s.removed ++ only_at at s.unlinked) (without_place at s.unlinked) (subst (λ rs. IsChain ws at rs) (sym list) chain) moved_removed moved_unlinked moved_same
+      relisted law s h ws (no_change e ws aside) (λ row home. home.entry) h.chains at (s.removed ++ only_at at s.unlinked) (without_place at s.unlinked) (subst (λ rs. IsChain ws at rs) (sym list) chain) moved_removed moved_unlinked moved_same
 
-  pub moved_word : (q : Row) → Contains s.unlinked q → q.place ≡ at → slice_index ws (at + 1) ≡ 0 → (link : ℕ) → IsRemovedLink ws s.removed 0 link → link ≢ 0 → Stands e (slice_set ws link at) aside (moved at s)
-  moved_word q c place word link L some =
+  pub moved_word : Laws → (q : Row) → Contains s.unlinked q → q.place ≡ at → slice_index ws (at + 1) ≡ 0 → (link : ℕ) → IsRemovedLink ws s.removed 0 link → link ≢ 0 → Stands e (slice_set ws link at) aside (moved at s)
+  moved_word law q c place word link L some =
       let one = only_unlinked q c place in
       let list : s.removed ++ only_at at s.unlinked ≡ L.front ++ q ∷ [] = ap₂ (λ (a b : List Row). a ++ b) (whole_front link L) one in
       let spot : Spot e ws aside link = link_home s h 0 link L some in
@@ -137,7 +135,7 @@ module _ {e : EntrySlots} {ws : List ℕ} {aside : Aside} (s : Entries) (h : Sta
       let kept : slice_index (slice_set ws link at) (q.place + 1) ≡ slice_index ws (q.place + 1) = set_link h link at spot q (λ same.
       removed_unlinked h own.0 q (in_front s h 0 link L own.0 own.1) c (omega (arith, own.2))) in
       let chain : IsChain (slice_set ws link at) at (q ∷ []) = (sym place, kept ∙ (ap (λ n. slice_index ws (n + 1)) place ∙ word)) in
-      relisted s h (slice_set ws link at) (set_change h link at spot) (set_entry h link at spot) (λ slot lt. chains_kept s h 0 link L some at slot (omega (arith, lt, h.from)))
+      relisted law s h (slice_set ws link at) (set_change h link at spot) (set_entry h link at spot law) (λ slot lt. chains_kept s h 0 link L some at slot (omega (arith, lt, h.from)))
       e.removed (s.removed ++ only_at at s.unlinked) (without_place at s.unlinked) (subst (λ rs. IsChain (slice_set ws link at) e.removed rs) (sym list) (removed_by_word s h 0 link L some at (q ∷ []) chain)) moved_removed moved_unlinked moved_same
 
   off_removed : (row : Row) → Contains (without_place at s.removed) row → IsHome e ws aside row
@@ -165,15 +163,15 @@ module _ {e : EntrySlots} {ws : List ℕ} {aside : Aside} (s : Entries) (h : Sta
       let split : s.removed ≡ L.front ++ row ∷ more = L.split ∙ ap (λ rs. L.front ++ rs) eb in
       ap (without_place at) split ∙ without_middle at L.front row more (subst AreDistinct split (removed_distinct h)) place
 
-  pub off_head : at ≢ 0 → (link : ℕ) → IsRemovedLink ws s.removed at link → link ≡ 0 → (next : ℕ) → next ≡ slice_index ws (at + 1) → Stands (record e { removed = next }) ws aside (off at s)
-  off_head some link L none next en =
+  pub off_head : Laws → at ≢ 0 → (link : ℕ) → IsRemovedLink ws s.removed at link → link ≡ 0 → (next : ℕ) → next ≡ slice_index ws (at + 1) → Stands (record e { removed = next }) ws aside (off at s)
+  off_head law some link L none next en =
       let b = off_back some link L in
       let list : without_place at s.removed ≡ b.1 = off_list some link L b.0 b.1 b.2 b.3 ∙ ap (λ rs. rs ++ b.1) (removed_by_head s h at link L none) in
-      relisted s h ws (no_change e ws aside) (λ row home. home.entry) h.chains next (without_place at s.removed) (only_at at s.removed ++ s.unlinked)
+      relisted law s h ws (no_change e ws aside) (λ row home. home.entry) h.chains next (without_place at s.removed) (only_at at s.removed ++ s.unlinked)
       (subst (λ rs. IsChain ws next rs) (sym list) (subst (λ n. IsChain ws n b.1) (sym en) b.4)) off_removed off_unlinked off_same
 
-  pub off_word : at ≢ 0 → (link : ℕ) → IsRemovedLink ws s.removed at link → link ≢ 0 → (next : ℕ) → next ≡ slice_index ws (at + 1) → Stands e (slice_set ws link next) aside (off at s)
-  off_word some link L word next en =
+  pub off_word : Laws → at ≢ 0 → (link : ℕ) → IsRemovedLink ws s.removed at link → link ≢ 0 → (next : ℕ) → next ≡ slice_index ws (at + 1) → Stands e (slice_set ws link next) aside (off at s)
+  off_word law some link L word next en =
       let b = off_back some link L in
       let list : without_place at s.removed ≡ L.front ++ b.1 = off_list some link L b.0 b.1 b.2 b.3 in
       let split : s.removed ≡ L.front ++ b.0 ∷ b.1 = L.split ∙ ap (λ rs. L.front ++ rs) b.2 in
@@ -182,19 +180,19 @@ module _ {e : EntrySlots} {ws : List ℕ} {aside : Aside} (s : Entries) (h : Sta
       let own = link_spot s h at link L word in
       let chain : IsChain (slice_set ws link next) next b.1 = chain_kept ws (slice_set ws link next) next b.1 (λ row c. set_link h link next spot row (λ same.
       distinct_both L.front (b.0 ∷ b.1) own.0 row distinct own.1 (Contains-later b.0 b.1 row c) (omega (arith, own.2)))) (subst (λ n. IsChain ws n b.1) (sym en) b.4) in
-      relisted s h (slice_set ws link next) (set_change h link next spot) (set_entry h link next spot) (λ slot lt. chains_kept s h at link L word next slot (omega (arith, lt, h.from)))
+      relisted law s h (slice_set ws link next) (set_change h link next spot) (set_entry h link next spot law) (λ slot lt. chains_kept s h at link L word next slot (omega (arith, lt, h.from)))
       e.removed (without_place at s.removed) (only_at at s.removed ++ s.unlinked) (subst (λ rs. IsChain (slice_set ws link next) e.removed rs) (sym list) (removed_by_word s h at link L word next b.1 chain)) off_removed off_unlinked off_same
 
 -- ---- a block is given back
 
-pub given_stands : {e : EntrySlots} {ws : List ℕ} {aside : Aside} (s : Entries) (h : Stands e ws aside s) (at : ℕ) (q : Row) → Contains s.unlinked q → q.place ≡ at → (ws' : List ℕ)
+pub given_stands : Laws → {e : EntrySlots} {ws : List ℕ} {aside : Aside} (s : Entries) (h : Stands e ws aside s) (at : ℕ) (q : Row) → Contains s.unlinked q → q.place ≡ at → (ws' : List ℕ)
     → live_blocks ws' e.sma.from ≡ without_block at (live_blocks ws e.sma.from) → SameBlocks ws ws' e.sma.from (without_block at (live_blocks ws e.sma.from)) → IsReady e.sma ws' aside
     → Stands e ws' aside (record s { unlinked = without_place at s.unlinked })
-given_stands {e} {ws} {aside} s h at q there place ws' live same ready =
+given_stands law {e} {ws} {aside} s h at q there place ws' live same ready =
     let blocks : List Extent = live_blocks ws e.sma.from in
     let left : List Extent = without_block at blocks in
     let stays : (row : Row) → IsHome e ws aside row → row.place ≢ at → Contains left (extent_of row) = λ row home other. Contains-kept (λ b. not (eqb b.place at)) blocks (extent_of row) home.live (not_from_false (eqb row.place at) (ne_eqb row.place at other)) in
-    let entry : (row : Row) → IsHome e ws aside row → row.place ≢ at → IsEntry ws' row = λ row home other. entry_kept ws ws' row home.entry (row_same e ws ws' left row same (stays row home other)) in
+    let entry : (row : Row) → IsHome e ws aside row → row.place ≢ at → IsEntry ws' row = λ row home other. entry_kept law ws ws' row home.entry (row_same e ws ws' left row same (stays row home other)) in
     let link : (row : Row) → IsHome e ws aside row → row.place ≢ at → slice_index ws' (row.place + 1) ≡ slice_index ws (row.place + 1) = λ row home other. link_same ws' left row home same (stays row home other) in
     let not_row : (row : Row) → Contains s.rows row → row.place ≢ at = λ row c e. rows_unlinked h row q c there (place ∙ sym e) in
     let not_removed : (row : Row) → Contains s.removed row → row.place ≢ at = λ row c e. removed_unlinked h row q c there (place ∙ sym e) in
@@ -212,7 +210,7 @@ given_stands {e} {ws} {aside} s h at q there place ws' live same ready =
         count = λ test.
             let p : Row → Bool = λ row. test (extent_of row) in
             let home = home_unlinked q h there in
-            let few : count_by (at_place at) blocks ≤ 1 = lives_once ws e.sma.from (pieces ws e.sma.from) (length ws) at h.ready.formatted.full in
+            let few : count_by (at_place at) blocks ≤ 1 = blocks_once ws e.sma.from (live_blocks ws e.sma.from) e.sma.to at h.ready.blocks in
             let one : count_by test (filter (at_place at) blocks) ≡ cond (test (extent_of q)) 1 0 = only_passes test (at_place at) blocks (extent_of q) home.live (eq-eqb q.place at place) few in
             let two : count_by p (only_at at s.unlinked) ≡ cond (p q) 1 0 = only_passes p (is_at at) s.unlinked q there (at_itself q at place) (omega (arith, once h at)) in
             let after : Entries = record s { unlinked = without_place at s.unlinked } in

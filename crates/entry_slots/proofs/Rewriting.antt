@@ -5,16 +5,16 @@ use Rattle.std.proofs.lemmas.Bool.{cases_eq, cases_lt, cases_Bool}
 use Rattle.std.specs.List.{Contains, filter, count_by}
 use Rattle.seg_words.specs.declared.extents.Extent.{Extent}
 use Rattle.seg_words.specs.Windows.{Aside}
-use Rattle.sma_blocks.proofs.Lives.{Contains-cases, Contains-first, Contains-later}
+use Rattle.sma_blocks.specs.Ready.{ChangesInner}
 use Rattle.apcu_model.specs.Cache.{Row, extent_of}
 use Rattle.apcu_model.specs.Walk.{is_in_slot, slot_of}
-use Rattle.apcu_model.proofs.Apart.{are_apart-map}
 use Rattle.entry_slots.specs.declared.slots.EntrySlots.{EntrySlots}
 use Rattle.entry_slots.specs.Entries.{Entries, chain_of}
 use Rattle.entry_slots.specs.Standing.{IsChain, IsEntry, Stands}
-use Rattle.entry_slots.proofs.Members.{none_in_nil, Contains-filter}
+use Rattle.entry_slots.specs.Laws.{Laws}
+use Rattle.entry_slots.proofs.Members.{Contains-cases, Contains-first, Contains-later, none_in_nil, Contains-filter}
 use Rattle.entry_slots.proofs.Homes.{IsHome, room, home_row, home_removed, home_unlinked}
-use Rattle.entry_slots.proofs.Changes.{Change, OnlyIn, change_ready, change_live, named_same}
+use Rattle.entry_slots.proofs.Changes.{OnlyIn, named_same}
 use Rattle.entry_slots.proofs.Frames.{SameRow, entry_kept, chain_kept, rows_apart}
 
 -- key, place and size stay
@@ -73,7 +73,7 @@ module _ {e : EntrySlots} {ws : List ℕ} {aside : Aside} {s : Entries} (h : Sta
     ]
   ]
 
-  rewriting : Change e.sma ws aside ws'
+  rewriting : ChangesInner e.sma ws ws' aside
   rewriting = record {
     count = only.count;
     inner = λ i low. elim (cases_lt i (own.place + 4)) [
@@ -90,10 +90,10 @@ module _ {e : EntrySlots} {ws : List ℕ} {aside : Aside} {s : Entries} (h : Sta
   rewritten_chain first rows homes chain = chain_kept ws ws' first rows (λ row c. links_kept row (homes row c)) chain
 
   -- the entries after the change, where f says what became of each row
-  pub rewritten : (f : Row → Row) → Keeps f → ((row : Row) → row.place ≢ own.place → f row ≡ row) → ((row : Row) → Contains s.rows row → row.place ≡ own.place → IsEntry ws' (f row))
+  pub rewritten : Laws → (f : Row → Row) → Keeps f → ((row : Row) → row.place ≢ own.place → f row ≡ row) → ((row : Row) → Contains s.rows row → row.place ≡ own.place → IsEntry ws' (f row))
       → ((row : Row) → Contains s.removed row → row.place ≢ own.place) → ((row : Row) → Contains s.unlinked row → row.place ≢ own.place)
       → Stands e ws' aside (record s { rows = map f s.rows })
-  rewritten f keeps stays entry removed unlinked =
+  rewritten law f keeps stays entry removed unlinked =
       let home : (row : Row) → Contains s.rows row → IsHome e ws aside row = λ row c. home_row row h c in
       record {
         chains = λ slot lt.
@@ -106,14 +106,14 @@ module _ {e : EntrySlots} {ws : List ℕ} {aside : Aside} {s : Entries} (h : Sta
             let r = map_there f s.rows x c in
             elim (cases_eq r.0.place own.place) [
               | inl same ↦ subst (λ y. IsEntry ws' y) r.2 (entry r.0 r.1 same)
-              | inr other ↦ subst (λ y. IsEntry ws' y) (sym (stays r.0 other) ∙ r.2) (entry_kept ws ws' r.0 (h.rows r.0 r.1) (others_kept r.0 (home r.0 r.1) other))
+              | inr other ↦ subst (λ y. IsEntry ws' y) (sym (stays r.0 other) ∙ r.2) (entry_kept law ws ws' r.0 (h.rows r.0 r.1) (others_kept r.0 (home r.0 r.1) other))
             ];
-        removed = λ row c. entry_kept ws ws' row (h.removed row c) (others_kept row (home_removed row h c) (removed row c));
-        unlinked = λ row c. entry_kept ws ws' row (h.unlinked row c) (others_kept row (home_unlinked row h c) (unlinked row c));
+        removed = λ row c. entry_kept law ws ws' row (h.removed row c) (others_kept row (home_removed row h c) (removed row c));
+        unlinked = λ row c. entry_kept law ws ws' row (h.unlinked row c) (others_kept row (home_unlinked row h c) (unlinked row c));
         taken = h.taken;
-        ready = change_ready h.ready rewriting;
-        blocks = record { count = λ test. ap (count_by test) (change_live h.ready rewriting) ∙ (h.blocks.count test ∙ ap (λ es. count_by test (es ++ (map extent_of s.removed ++ (map extent_of s.unlinked ++ s.taken)))) (sym (extents_map f keeps s.rows))) };
-        apart = are_apart-map f keeps.key s.rows ∙ h.apart;
+        ready = (law.blocks e.sma ws ws' aside h.ready rewriting).ready;
+        blocks = record { count = λ test. ap (count_by test) (law.blocks e.sma ws ws' aside h.ready rewriting).blocks ∙ (h.blocks.count test ∙ ap (λ es. count_by test (es ++ (map extent_of s.removed ++ (map extent_of s.unlinked ++ s.taken)))) (sym (extents_map f keeps s.rows))) };
+        apart = law.changed f s.rows keeps.key ∙ h.apart;
         number = h.number;
         count = h.count ∙ sym (length-map s.rows f);
         good = h.good;

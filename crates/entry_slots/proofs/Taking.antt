@@ -9,13 +9,13 @@ use Rattle.seg_words.specs.Windows.{Aside, is_named}
 use Rattle.seg_words.specs.Gaps.{first_fit}
 use Rattle.sma_blocks.specs.Live.{live_blocks, with_block, SameBlocks}
 use Rattle.sma_blocks.specs.Ready.{IsReady}
-use Rattle.sma_blocks.proofs.Lives.{Contains-cases}
 use Rattle.apcu_model.specs.Cache.{Row, extent_of}
 use Rattle.apcu_model.specs.Walk.{is_in_slot}
 use Rattle.entry_slots.specs.declared.slots.EntrySlots.{EntrySlots}
 use Rattle.entry_slots.specs.Entries.{Entries, chain_of, blocks_of, with_taken}
 use Rattle.entry_slots.specs.Standing.{Stands, IsChain, IsEntry}
-use Rattle.entry_slots.proofs.Members.{Contains-filter, count-cons}
+use Rattle.entry_slots.specs.Laws.{Laws}
+use Rattle.entry_slots.proofs.Members.{Contains-cases, Contains-filter, count-cons}
 use Rattle.entry_slots.proofs.Blocks.{live_bounds}
 use Rattle.entry_slots.proofs.Homes.{IsHome, room, home_row, home_removed, home_unlinked}
 use Rattle.entry_slots.proofs.Frames.{SameRow, entry_kept, chain_kept}
@@ -43,16 +43,16 @@ take_unnamed e ws aside at n ready some fit =
     let bounds = live_bounds e.sma ws aside f ready block.live in
     false≢true (sym (not_free at n (live_blocks ws e.sma.from) f block.live (omega arith) (omega arith) (omega (arith, bounds.2))) ∙ fit_free e.sma.from e.sma.to n at (live_blocks ws e.sma.from) fit))
 
-pub taken_stands : {e : EntrySlots} {ws : List ℕ} {aside : Aside} (s : Entries) (at n : ℕ) (ws' : List ℕ) → Stands e ws aside s → 2 ≤ n
+pub taken_stands : Laws → {e : EntrySlots} {ws : List ℕ} {aside : Aside} (s : Entries) (at n : ℕ) (ws' : List ℕ) → Stands e ws aside s → 2 ≤ n
     → first_fit e.sma.from e.sma.to n (live_blocks ws e.sma.from) ≡ Some at
     → live_blocks ws' e.sma.from ≡ with_block (record { place = at; size = n }) (live_blocks ws e.sma.from)
     → SameBlocks ws ws' e.sma.from (live_blocks ws e.sma.from)
     → IsReady e.sma ws' aside → Stands e ws' aside (with_taken at n s)
-taken_stands {e} {ws} {aside} s at n ws' h some fit live same ready =
+taken_stands law {e} {ws} {aside} s at n ws' h some fit live same ready =
     let blocks : List Extent = live_blocks ws e.sma.from in
     let new : Extent = record { place = at; size = n } in
     let link : (row : Row) → IsHome e ws aside row → slice_index ws' (row.place + 1) ≡ slice_index ws (row.place + 1) = λ row home. link_same ws' blocks row home same home.live in
-    let kept : (row : Row) → IsHome e ws aside row → IsEntry ws' row = λ row home. entry_kept ws ws' row home.entry (row_same e ws ws' blocks row same home.live) in
+    let kept : (row : Row) → IsHome e ws aside row → IsEntry ws' row = λ row home. entry_kept law ws ws' row home.entry (row_same e ws ws' blocks row same home.live) in
     record {
       chains = λ slot lt.
           let chain = chain_kept ws ws' (slice_index ws slot) (chain_of s slot) (λ row c. link row (home_row row h (Contains-filter (is_in_slot s.conf slot) s.rows row c).0)) (h.chains slot lt) in
@@ -76,14 +76,14 @@ taken_stands {e} {ws} {aside} s at n ws' h some fit live same ready =
     }
 
 -- what a call of the allocator tells
-pub take_some : (e : EntrySlots) (ws : List ℕ) (aside : Aside) (n : ℕ) (sma' : Sma) (ws' : List ℕ) (aside' : Aside) (r : Option ℕ) → 2 ≤ n
+pub take_some : Laws → (e : EntrySlots) (ws : List ℕ) (aside : Aside) (n : ℕ) (sma' : Sma) (ws' : List ℕ) (aside' : Aside) (r : Option ℕ) → 2 ≤ n
     → r ≡ first_fit e.sma.from e.sma.to n (live_blocks ws e.sma.from)
     → IfSome r (λ at. live_blocks ws' e.sma.from ≡ with_block (record { place = at; size = n }) (live_blocks ws e.sma.from))
     → SameBlocks ws ws' e.sma.from (live_blocks ws e.sma.from) → sma' ≡ e.sma → aside' ≡ aside → IsReady sma' ws' aside'
     → IfSome r (λ at. (s : Entries) → Stands e ws aside s → Stands (record e { sma = sma' }) ws' aside' (with_taken at n s))
-take_some e ws aside n sma' ws' aside' None some fit live same es ea ready = tt
-take_some e ws aside n sma' ws' aside' (Some at) some fit live same es ea ready = λ s h.
+take_some law e ws aside n sma' ws' aside' None some fit live same es ea ready = tt
+take_some law e ws aside n sma' ws' aside' (Some at) some fit live same es ea ready = λ s h.
     let old : IsReady e.sma ws' aside = subst (λ a. IsReady e.sma ws' a) ea (subst (λ m. IsReady m ws' aside') es ready) in
-    let done = taken_stands s at n ws' h some (sym fit) live same old in
+    let done = taken_stands law s at n ws' h some (sym fit) live same old in
     subst (λ a. Stands (record e { sma = sma' }) ws' a (with_taken at n s)) (sym ea)
     (subst (λ m. Stands (record e { sma = m }) ws' aside (with_taken at n s)) (sym es) done)

@@ -10,6 +10,7 @@ use Rattle.entry_slots.specs.Lists.{is_at, has_place}
 use Rattle.entry_slots.specs.Entries.{Entries, touched_row, touched_in}
 use Rattle.entry_slots.specs.Standing.{IsEntry, Stands}
 use Rattle.entry_slots.specs.Reading.{HasRowAt}
+use Rattle.entry_slots.specs.Laws.{Laws}
 use Rattle.entry_slots.proofs.Members.{any_there}
 use Rattle.entry_slots.proofs.Homes.{IsHome, room, home_row}
 use Rattle.entry_slots.proofs.Changes.{OnlyIn, only_none, only_set}
@@ -33,8 +34,8 @@ touched_keeps at t = record {
 abbrev pub touched_words : List ℕ → ℕ → ℕ → ℕ → List ℕ
 touched_words ws at hits t = slice_set (slice_set ws (at + 9) hits) (at + 7) t
 
-touch_entry : (ws : List ℕ) (row : Row) (at t : ℕ) → IsEntry ws row → row.place ≡ at → at + 12 ≤ length ws → IsEntry (touched_words ws at (risen row.hits) t) (touched t row)
-touch_entry ws row at t h e inside =
+touch_entry : Laws → (ws : List ℕ) (row : Row) (at t : ℕ) → IsEntry ws row → row.place ≡ at → at + 12 ≤ length ws → IsEntry (touched_words ws at (risen row.hits) t) (touched t row)
+touch_entry law ws row at t h e inside =
     let once : List ℕ = slice_set ws (at + 9) (risen row.hits) in
     let ws' : List ℕ = touched_words ws at (risen row.hits) t in
     let long : length once ≡ length ws = length-set ws (at + 9) (risen row.hits) in
@@ -47,14 +48,14 @@ touch_entry ws row at t h e inside =
     } in
     let nine : row.place + 9 ≡ at + 9 = omega arith in
     let seven : row.place + 7 ≡ at + 7 = omega arith in
-    entry_noted ws ws' row row.mtime t row.dtime (risen row.hits) h but
+    entry_noted law ws ws' row row.mtime t row.dtime (risen row.hits) h but
     (other (row.place + 6) (omega arith) (omega arith) ∙ h.mtime)
     (ap (slice_index ws') seven ∙ get_or-set_same once (at + 7) t 0 (omega (arith, long)))
     (other (row.place + 8) (omega arith) (omega arith) ∙ h.dtime)
     (ap (slice_index ws') nine ∙ (get_or-set_other once (at + 7) (at + 9) t 0 (omega arith) ∙ get_or-set_same ws (at + 9) (risen row.hits) 0 (omega arith)))
 
-pub touch_stands : {e : EntrySlots} {ws : List ℕ} {aside : Aside} (s : Entries) (at hits t : ℕ) → Stands e ws aside s → has_place at s.rows ≡ true → hits ≡ risen (slice_index ws (at + 9)) → Stands e (touched_words ws at hits t) aside (touched_in at t s)
-touch_stands {e} {ws} {aside} s at hits t h there eh =
+pub touch_stands : Laws → {e : EntrySlots} {ws : List ℕ} {aside : Aside} (s : Entries) (at hits t : ℕ) → Stands e ws aside s → has_place at s.rows ≡ true → hits ≡ risen (slice_index ws (at + 9)) → Stands e (touched_words ws at hits t) aside (touched_in at t s)
+touch_stands law {e} {ws} {aside} s at hits t h there eh =
     let r = any_there (is_at at) s.rows there in
     let own : Row = r.0 in
     let place : own.place ≡ at = eqb-true own.place at r.2 in
@@ -62,12 +63,12 @@ touch_stands {e} {ws} {aside} s at hits t h there eh =
     let w = room home in
     let only : OnlyIn ws (touched_words ws at hits t) (own.place + 4) (own.place + own.size) =
     only_set ws (slice_set ws (at + 9) hits) (own.place + 4) (own.place + own.size) (at + 7) t (only_set ws ws (own.place + 4) (own.place + own.size) (at + 9) hits (only_none ws (own.place + 4) (own.place + own.size)) (omega arith) (omega (arith, w.enough))) (omega arith) (omega (arith, w.enough)) in
-    rewritten h (touched_words ws at hits t) own r.1 only (touched_row at t) (touched_keeps at t)
+    rewritten h (touched_words ws at hits t) own r.1 only law (touched_row at t) (touched_keeps at t)
     (λ row other. let no : is_at at row ≡ false = ne_eqb row.place at (λ q. other (q ∙ sym place)) in rw no refl)
     (λ row c same.
     let here : is_at at row ≡ true = eq-eqb row.place at (same ∙ place) in
     let words : hits ≡ risen row.hits = eh ∙ ap risen (ap (λ n. slice_index ws (n + 9)) (sym (same ∙ place)) ∙ (h.rows row c).hits) in
-    let entry : IsEntry (touched_words ws at (risen row.hits) t) (touched t row) = touch_entry ws row at t (h.rows row c) (same ∙ place) (omega (arith, w.high, w.enough)) in
+    let entry : IsEntry (touched_words ws at (risen row.hits) t) (touched t row) = touch_entry law ws row at t (h.rows row c) (same ∙ place) (omega (arith, w.high, w.enough)) in
     rw here (subst (λ n. IsEntry (touched_words ws at n t) (touched t row)) (sym words) entry))
     (λ row c. rows_removed h own row r.1 c)
     (λ row c. rows_unlinked h own row r.1 c)

@@ -6,19 +6,17 @@ use Rattle.std.proofs.lemmas.List.Sums.{length-filter}
 use Rattle.std.specs.List.{Contains, filter, count_by}
 use Rattle.seg_words.specs.declared.extents.Extent.{Extent}
 use Rattle.seg_words.specs.Windows.{Aside}
-use Rattle.sma_blocks.proofs.Lives.{Contains-first, Contains-later}
 use Rattle.apcu_model.specs.Cache.{Row, extent_of}
 use Rattle.apcu_model.specs.Walk.{is_in_slot, slot_of}
-use Rattle.apcu_model.proofs.Apart.{are_apart-filter}
 use Rattle.entry_slots.specs.declared.slots.EntrySlots.{EntrySlots}
 use Rattle.entry_slots.specs.Lists.{is_at, has_place, only_at, without_place}
 use Rattle.entry_slots.specs.Entries.{Entries, chain_of, blocks_of, unlinked_at}
 use Rattle.entry_slots.specs.Standing.{IsChain, Stands}
 use Rattle.entry_slots.specs.Links.{IsLinkTo}
-use Rattle.entry_slots.proofs.Members.{any_there, any_from, count-cons, count-append, counted, Contains-filter, Contains-kept}
+use Rattle.entry_slots.specs.Laws.{Laws}
+use Rattle.entry_slots.proofs.Members.{Contains-first, Contains-later, any_there, any_from, count-cons, count-append, counted, Contains-filter, Contains-kept}
 use Rattle.entry_slots.proofs.Homes.{room, home_row, home_removed, home_unlinked}
 use Rattle.entry_slots.proofs.Chains.{home_chain}
-use Rattle.entry_slots.proofs.Changes.{change_ready, change_live}
 use Rattle.entry_slots.proofs.Places.{at_itself, count_blocks}
 use Rattle.entry_slots.proofs.Cutting.{AreDistinct, chain_distinct, distinct_both, rows_once, Spot, set_change, set_entry}
 use Rattle.entry_slots.proofs.Rejoining.{slots_apart, cut_spot, back_other, rejoined, other_chain, removed_kept}
@@ -61,9 +59,9 @@ link_back {e} {ws} s h slot at m some link = go link.back link.rest
     go [] rest = absurd (some rest)
     go (row ∷ more) rest = (row, more, refl, sym rest.0)
 
-pub unlink_stands : {e : EntrySlots} {ws : List ℕ} {aside : Aside} (s : Entries) (h : Stands e ws aside s) (at slot m next : ℕ) → slot < e.sma.from → has_place at (chain_of s slot) ≡ true → IsLinkTo ws slot (chain_of s slot) at m → next ≡ slice_index ws (at + 1)
+pub unlink_stands : Laws → {e : EntrySlots} {ws : List ℕ} {aside : Aside} (s : Entries) (h : Stands e ws aside s) (at slot m next : ℕ) → slot < e.sma.from → has_place at (chain_of s slot) ≡ true → IsLinkTo ws slot (chain_of s slot) at m → next ≡ slice_index ws (at + 1)
     → (count : ℕ) → count + 1 ≡ e.count → Stands (record e { count = count }) (slice_set ws m next) aside (unlinked_at at s)
-unlink_stands {e} {ws} {aside} s h at slot m next lt there link en count ec =
+unlink_stands law {e} {ws} {aside} s h at slot m next lt there link en count ec =
     let own = any_there (is_at at) (chain_of s slot) there in
     let place : own.0.place ≡ at = eqb-true own.0.place at own.2 in
     let w = room (home_chain slot h own.0 own.1) in
@@ -88,16 +86,16 @@ unlink_stands {e} {ws} {aside} s h at slot m next lt there link en count ec =
             subst (λ rs. IsChain (slice_set ws m next) (slice_index (slice_set ws m next) two) rs) (sym is) (other_chain h slot lt m next link.front (row ∷ more) split link.follows two (omega (arith, h.from)) other)
       ];
       removed_chain = removed_kept h slot lt m next link.front (row ∷ more) split link.follows;
-      rows = λ x c. set_entry h m next spot x (home_row x h (Contains-filter (λ r. not (is_at at r)) s.rows x c).0);
-      removed = λ x c. set_entry h m next spot x (home_removed x h c);
+      rows = λ x c. set_entry h m next spot law x (home_row x h (Contains-filter (λ r. not (is_at at r)) s.rows x c).0);
+      removed = λ x c. set_entry h m next spot law x (home_removed x h c);
       unlinked = λ x c. elim (Contains-append_cases (only_at at s.rows) s.unlinked x c) [
-        | inl l ↦ set_entry h m next spot x (home_row x h (Contains-filter (is_at at) s.rows x l).0)
-        | inr r ↦ set_entry h m next spot x (home_unlinked x h r)
+        | inl l ↦ set_entry h m next spot law x (home_row x h (Contains-filter (is_at at) s.rows x l).0)
+        | inr r ↦ set_entry h m next spot law x (home_unlinked x h r)
       ];
       taken = h.taken;
-      ready = change_ready h.ready (set_change h m next spot);
-      blocks = record { count = λ test. ap (count_by test) (change_live h.ready (set_change h m next spot)) ∙ (h.blocks.count test ∙ moved test) };
-      apart = are_apart-filter (λ r. not (is_at at r)) s.rows h.apart;
+      ready = (law.blocks e.sma ws (slice_set ws m next) aside h.ready (set_change h m next spot)).ready;
+      blocks = record { count = λ test. ap (count_by test) (law.blocks e.sma ws (slice_set ws m next) aside h.ready (set_change h m next spot)).blocks ∙ (h.blocks.count test ∙ moved test) };
+      apart = law.picked (λ r. not (is_at at r)) s.rows h.apart;
       number = h.number;
       count = omega (arith, ec, h.count, fewer own.0 in_rows place);
       good = h.good;

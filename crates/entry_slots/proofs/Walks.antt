@@ -7,7 +7,6 @@ use Rattle.std.proofs.lemmas.List.{append_assoc, append-nil}
 use Rattle.std.proofs.lemmas.List.Folds.{find-append, list_any-append}
 use Rattle.std.proofs.lemmas.List.Elements.{Contains-append_left, Contains-append_right}
 use Rattle.seg_words.specs.Windows.{Aside}
-use Rattle.sma_blocks.proofs.Lives.{Contains-first}
 use Rattle.apcu_model.specs.Cache.{Row, has_key}
 use Rattle.apcu_model.specs.Walk.{is_in_slot, slot_of}
 use Rattle.entry_slots.specs.declared.slots.EntrySlots.{EntrySlots}
@@ -15,7 +14,7 @@ use Rattle.entry_slots.specs.Lists.{is_at, first_place}
 use Rattle.entry_slots.specs.Reading.{HasEntryAt}
 use Rattle.entry_slots.specs.Entries.{Entries, chain_of}
 use Rattle.entry_slots.specs.Standing.{IsChain, Stands}
-use Rattle.entry_slots.proofs.Members.{Contains-filter, any_from}
+use Rattle.entry_slots.proofs.Members.{Contains-first, Contains-filter, any_from}
 use Rattle.entry_slots.proofs.Homes.{room}
 use Rattle.entry_slots.proofs.Chains.{chain_first, home_chain}
 use Rattle.entry_slots.proofs.KeyWords.{key_of}

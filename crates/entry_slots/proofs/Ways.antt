@@ -6,12 +6,12 @@ use Rattle.std.proofs.lemmas.List.Folds.{list_any-append}
 use Rattle.std.proofs.lemmas.List.Elements.{Contains-append_left, Contains-append_right}
 use Rattle.std.specs.List.{Contains}
 use Rattle.seg_words.specs.Windows.{Aside}
-use Rattle.sma_blocks.proofs.Lives.{Contains-first}
 use Rattle.apcu_model.specs.Cache.{Row}
 use Rattle.entry_slots.specs.declared.slots.EntrySlots.{EntrySlots}
 use Rattle.entry_slots.specs.Lists.{is_at, has_place}
 use Rattle.entry_slots.specs.Standing.{IsChain}
 use Rattle.entry_slots.specs.Links.{link_after, IsLinkTo}
+use Rattle.entry_slots.proofs.Members.{Contains-first}
 use Rattle.entry_slots.proofs.Homes.{room}
 use Rattle.entry_slots.proofs.Chains.{AreHome}
 use Rattle.entry_slots.proofs.Cutting.{Spot, spot_after}

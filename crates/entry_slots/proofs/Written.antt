@@ -8,6 +8,7 @@ use Rattle.seg_words.specs.declared.extents.Extent.{Extent}
 use Rattle.seg_words.specs.Windows.{Aside, is_named}
 use Rattle.seg_words.specs.Blocks.{MayStore, image_place}
 use Rattle.sma_blocks.specs.Live.{live_blocks}
+use Rattle.sma_blocks.specs.Ready.{ChangesInner}
 use Rattle.php_graph.specs.declared.kind.Kind.{Kind}
 use Rattle.php_graph.specs.Graph.{IsGraph}
 use Rattle.php_graph.specs.ByteStrings.{AreBytes}
@@ -15,9 +16,6 @@ use Rattle.php_graph.specs.Size.{words_in, image_length, block_size}
 use Rattle.value_image.specs.Packed.{words_of}
 use Rattle.value_image.specs.Rows.{written, StandsAt}
 use Rattle.value_image.specs.Image.{IsImageOf, image_of}
-use Rattle.value_image.proofs.Runs.{length-written, stands-written, stands-front, stands-back, stands-at}
-use Rattle.value_image.proofs.Packing.{length-words_of}
-use Rattle.value_image.proofs.Images.{length-image_of, stands-image}
 use Rattle.apcu_model.specs.Cache.{Row, extent_of}
 use Rattle.apcu_model.specs.Walk.{is_in_slot}
 use Rattle.entry_slots.specs.declared.slots.EntrySlots.{EntrySlots}
@@ -26,17 +24,19 @@ use Rattle.entry_slots.specs.Lists.{is_at}
 use Rattle.entry_slots.specs.Entries.{Entries, chain_of, blocks_of, fresh_row}
 use Rattle.entry_slots.specs.Standing.{IsChain, IsEntry, Stands}
 use Rattle.entry_slots.specs.Written.{first_words, entry_words}
+use Rattle.entry_slots.specs.Laws.{Laws}
+use Rattle.entry_slots.proofs.Runs.{words_long}
 use Rattle.entry_slots.proofs.Members.{same_there, counted, Contains-filter}
 use Rattle.entry_slots.proofs.Blocks.{Apart, live_apart, live_bounds}
 use Rattle.entry_slots.proofs.Homes.{IsHome, room, home_row, home_removed, home_unlinked}
-use Rattle.entry_slots.proofs.Changes.{Change, OnlyIn, change_ready, change_live}
+use Rattle.entry_slots.proofs.Changes.{OnlyIn}
 use Rattle.entry_slots.proofs.Frames.{SameRow, entry_kept, chain_kept}
 use Rattle.entry_slots.proofs.Storing.{may_store_in}
 use Rattle.entry_slots.proofs.Places.{once, at_place, at_itself}
 
 -- only the run's words changed
-pub written_only : (ws : List ℕ) (at : ℕ) (run : List ℕ) → OnlyIn ws (written ws at run) at (at + length run)
-written_only ws at run = record { count = length-written ws at run; same = outside ws at run }
+pub written_only : Laws → (ws : List ℕ) (at : ℕ) (run : List ℕ) → OnlyIn ws (written ws at run) at (at + length run)
+written_only law ws at run = record { count = law.long ws at run; same = outside ws at run }
   where
     outside : (ws : List ℕ) (at : ℕ) (run : List ℕ) (i : ℕ) → (i < at) ⊎ (at + length run ≤ i) → slice_index (written ws at run) i ≡ slice_index ws i
     outside ws at [] i out = refl
@@ -75,7 +75,7 @@ module _ {e : EntrySlots} {ws : List ℕ} {aside : Aside} {s : Entries} (h : Sta
   pub link_kept : (row : Row) → IsHome e ws aside row → row.place ≢ b.place → slice_index ws' (row.place + 1) ≡ slice_index ws (row.place + 1)
   link_kept row home other = let w = room home in row_whole row home other (row.place + 1) (omega arith) (omega (arith, w.enough))
 
-  taken_change : Change e.sma ws aside ws'
+  taken_change : ChangesInner e.sma ws ws' aside
   unfolding Apart
   taken_change = record {
     count = only.count;
@@ -107,19 +107,19 @@ module _ {e : EntrySlots} {ws : List ℕ} {aside : Aside} {s : Entries} (h : Sta
   unlinked_not : (row : Row) → Contains s.unlinked row → row.place ≢ b.place
   unlinked_not row c same = omega (arith, once h b.place, counted (is_at b.place) s.unlinked row c (at_itself row b.place same), counted (at_place b.place) s.taken b there (eq-eqb b.place b.place refl))
 
-  pub taken_stands : Stands e ws' aside s
-  taken_stands = record {
+  pub taken_stands : Laws → Stands e ws' aside s
+  taken_stands law = record {
     chains = λ slot lt.
         let chain = chain_kept ws ws' (slice_index ws slot) (chain_of s slot) (λ row c. let at = (Contains-filter (is_in_slot s.conf slot) s.rows row c).0 in link_kept row (home_row row h at) (rows_not row at)) (h.chains slot lt) in
         let bounds = live_bounds e.sma ws aside b h.ready (taken_live b h there) in
         subst (λ a. IsChain ws' a (chain_of s slot)) (sym (only.same slot (inl (omega (arith, bounds.0, h.from, lt))))) chain;
     removed_chain = chain_kept ws ws' e.removed s.removed (λ row c. link_kept row (home_removed row h c) (removed_not row c)) h.removed_chain;
-    rows = λ row c. entry_kept ws ws' row (h.rows row c) (row_kept row (home_row row h c) (rows_not row c));
-    removed = λ row c. entry_kept ws ws' row (h.removed row c) (row_kept row (home_removed row h c) (removed_not row c));
-    unlinked = λ row c. entry_kept ws ws' row (h.unlinked row c) (row_kept row (home_unlinked row h c) (unlinked_not row c));
+    rows = λ row c. entry_kept law ws ws' row (h.rows row c) (row_kept row (home_row row h c) (rows_not row c));
+    removed = λ row c. entry_kept law ws ws' row (h.removed row c) (row_kept row (home_removed row h c) (removed_not row c));
+    unlinked = λ row c. entry_kept law ws ws' row (h.unlinked row c) (row_kept row (home_unlinked row h c) (unlinked_not row c));
     taken = h.taken;
-    ready = change_ready h.ready taken_change;
-    blocks = record { count = λ test. ap (count_by test) (change_live h.ready taken_change) ∙ h.blocks.count test };
+    ready = (law.blocks e.sma ws ws' aside h.ready taken_change).ready;
+    blocks = record { count = λ test. ap (count_by test) (law.blocks e.sma ws ws' aside h.ready taken_change).blocks ∙ h.blocks.count test };
     apart = h.apart;
     number = h.number;
     count = h.count;
@@ -129,26 +129,26 @@ module _ {e : EntrySlots} {ws : List ℕ} {aside : Aside} {s : Entries} (h : Sta
   }
 
 -- the words of a new entry are that entry's
-pub written_entry : (ws : List ℕ) (at : ℕ) (key : List ℕ) (g : List Kind) (note : Note) → IsGraph g → AreBytes key → note.ttl < 2 ^ 32 → slice_index ws at ≡ block_size (length key) g → at + (12 + words_in (length key) + image_length g) ≤ length ws
+pub written_entry : Laws → (ws : List ℕ) (at : ℕ) (key : List ℕ) (g : List Kind) (note : Note) → IsGraph g → AreBytes key → note.ttl < 2 ^ 32 → slice_index ws at ≡ block_size (length key) g → at + (12 + words_in (length key) + image_length g) ≤ length ws
     → IsEntry (written ws (at + 1) (entry_words key g note)) (fresh_row key g note.ttl note.now at note.number) × (slice_index (written ws (at + 1) (entry_words key g note)) (at + 1) ≡ note.next)
-written_entry ws at key g note graph bytes ttl size inside =
+written_entry law ws at key g note graph bytes ttl size inside =
     let ws' : List ℕ = written ws (at + 1) (entry_words key g note) in
-    let klen = length-words_of key in
-    let glen = length-image_of g in
+    let klen = words_long key in
+    let glen = law.image_long g in
     let first : List ℕ = first_words key g note in
     let tail : List ℕ = words_of key ++ image_of g in
     let long : length (entry_words key g note) ≡ 11 + words_in (length key) + image_length g = omega (arith, length-append first tail, length-append (words_of key) (image_of g)) in
-    let all : StandsAt ws' (at + 1) (first ++ tail) = stands-written ws (at + 1) (entry_words key g note) (omega (arith, long)) in
-    let head : StandsAt ws' (at + 1) first = stands-front ws' (at + 1) first tail all in
-    let rest : StandsAt ws' (at + 12) tail = stands-back ws' (at + 1) first tail (at + 12) all (omega arith) in
-    let keys : StandsAt ws' (at + 12) (words_of key) = stands-front ws' (at + 12) (words_of key) (image_of g) rest in
-    let image : StandsAt ws' (at + 12 + words_in (length key)) (image_of g) = stands-back ws' (at + 12) (words_of key) (image_of g) (at + 12 + words_in (length key)) rest (omega (arith, klen)) in
+    let all : StandsAt ws' (at + 1) (first ++ tail) = law.there ws (at + 1) (entry_words key g note) (omega (arith, long)) in
+    let head : StandsAt ws' (at + 1) first = law.front ws' (at + 1) first tail all in
+    let rest : StandsAt ws' (at + 12) tail = (let e : at + 1 + length first ≡ at + 12 = omega arith in subst (λ (n : ℕ). StandsAt ws' n tail) e (law.back ws' (at + 1) first tail all)) in
+    let keys : StandsAt ws' (at + 12) (words_of key) = law.front ws' (at + 12) (words_of key) (image_of g) rest in
+    let image : StandsAt ws' (at + 12 + words_in (length key)) (image_of g) = subst (λ (n : ℕ). StandsAt ws' (at + 12 + n) (image_of g)) klen (law.back ws' (at + 12) (words_of key) (image_of g) rest) in
     let word : (k n : ℕ) → k < 11 → n ≡ k + 1 → slice_index ws' (at + n) ≡ slice_index first k = λ k n few e.
-    ap (λ (i : ℕ). slice_index ws' i) (omega arith) ∙ stands-at ws' (at + 1) first k head few in
+    ap (λ (i : ℕ). slice_index ws' i) (omega arith) ∙ law.words ws' (at + 1) first k head few in
     let key_len : slice_index ws' (at + 2) ≡ length key = word 1 2 (omega arith) (omega arith) in
     let start : image_place ws' at ≡ at + 12 + words_in (length key) = ap (λ n. at + 12 + (n + 7) / 8) key_len in (
       record {
-        size = (written_only ws (at + 1) (entry_words key g note)).same at (inl (omega arith)) ∙ size;
+        size = (written_only law ws (at + 1) (entry_words key g note)).same at (inl (omega arith)) ∙ size;
         key_length = key_len;
         value_length = word 2 3 (omega arith) (omega arith);
         ttl = word 3 4 (omega arith) (omega arith);
@@ -160,7 +160,7 @@ written_entry ws at key g note graph bytes ttl size inside =
         number = word 9 10 (omega arith) (omega arith);
         pin_count = word 10 11 (omega arith) (omega arith);
         key = keys;
-        image = subst (λ n. IsImageOf ws' n (image_length g) g) (sym start) (stands-image ws' (at + 12 + words_in (length key)) (image_length g) g graph refl image);
+        image = subst (λ n. IsImageOf ws' n (image_length g) g) (sym start) (law.image ws' (at + 12 + words_in (length key)) g graph image);
         whole = refl;
         bytes = bytes;
         short_ttl = ttl;

@@ -4,3 +4,4 @@ pub mod Standing
 pub mod Reading
 pub mod Written
 pub mod Links
+pub mod Laws

@@ -7,6 +7,7 @@ ghost use Rattle.entry_slots.specs.Written.{IsKeyAt};
 ghost use Rattle.php_graph.specs.Size.{words_in};
 ghost use Rattle.value_image.specs.Packed.{word_at};
 
+use crate::lower::lower_laws;
 use byteorder::{ByteOrder, LittleEndian};
 use seg_words::{Segment, WordsIn};
 
@@ -37,6 +38,7 @@ pub(crate) fn hash_at<S: Segment>(seg: &mut S, at: u32, len: u32) -> u64
     ensures aside { S.aside seg.new ≡ S.aside seg.old }
     ensures rest { S.rest seg.new ≡ S.rest seg.old }
 {
+    lower_laws();
     let mut hash = HASH_START;
     for i in 0..len {
         let word = seg.load(at + i / 8);

@@ -3,6 +3,7 @@
 
 mod head;
 mod keys;
+mod lower;
 mod reading;
 mod removed;
 mod slots;

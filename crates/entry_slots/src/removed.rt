@@ -7,6 +7,7 @@ ghost use Rattle.entry_slots.specs.Standing.{Stands};
 ghost use Rattle.entry_slots.specs.Links.{IsRemovedLink};
 ghost use Rattle.entry_slots.specs.Reading.{AreStanding, HasUnlinkedAt, HasLooseAt, IsStorable};
 
+use crate::lower::lower_laws;
 use crate::reading::next_of;
 use crate::slots::EntrySlots;
 use seg_words::{Segment, WordsIn};
@@ -20,6 +21,7 @@ impl EntrySlots {
         ensures aside { S.aside seg.new ≡ S.aside seg.old }
         ensures rest { S.rest seg.new ≡ S.rest seg.old }
     {
+        lower_laws();
         let Some(link) = self.removed_link(seg, 0) else {
             return;
         };
@@ -34,6 +36,7 @@ impl EntrySlots {
         ensures aside { S.aside seg.new ≡ S.aside seg.old }
         ensures rest { S.rest seg.new ≡ S.rest seg.old }
     {
+        lower_laws();
         let Some(link) = self.removed_link(seg, at) else {
             return;
         };

@@ -16,6 +16,7 @@ ghost use Rattle.entry_slots.specs.Reading.{AreStanding, HasEntryAt, HasRowAt, I
 
 use crate::head::Head;
 use crate::keys::{hash_at, key_word};
+use crate::lower::lower_laws;
 use crate::reading::{count_after, first_words, next_of};
 use crate::writing::{Note, put_entry};
 use apcu_model::Conf;
@@ -78,6 +79,7 @@ impl EntrySlots {
         ensures aside { S.aside seg.new ≡ S.aside seg.old }
         ensures rest { S.rest seg.new ≡ S.rest seg.old }
     {
+        lower_laws();
         self.sma.take(seg, n)
     }
 
@@ -125,6 +127,7 @@ impl EntrySlots {
         ensures aside { S.aside seg.new ≡ S.aside seg.old }
         ensures rest { S.rest seg.new ≡ S.rest seg.old }
     {
+        lower_laws();
         if seg.load(at + 2) != key.len() as u64 {
             return false;
         }
@@ -167,6 +170,7 @@ impl EntrySlots {
         ensures aside { S.aside seg.new ≡ S.aside seg.old }
         ensures rest { S.rest seg.new ≡ S.rest seg.old }
     {
+        lower_laws();
         let hits = seg.load(at + 9);
         seg.store(at + 9, hits.saturating_add(1));
         seg.store(at + 7, t);
@@ -182,6 +186,7 @@ impl EntrySlots {
         ensures aside { S.aside seg.new ≡ S.aside seg.old }
         ensures rest { S.rest seg.new ≡ S.rest seg.old }
     {
+        lower_laws();
         let len = seg.load(at + 2) as u32;
         seg.store(at + 13 + len.div_ceil(8), n.cast_unsigned());
         seg.store(at + 6, t);
@@ -232,6 +237,7 @@ impl EntrySlots {
         ensures aside { S.aside seg.new ≡ S.aside seg.old }
         ensures rest { S.rest seg.new ≡ S.rest seg.old }
     {
+        lower_laws();
         g.is_sealed();
         let slot = self.slot_for(key);
         let link = self.link_to(seg, slot, replaced);
@@ -263,6 +269,7 @@ impl EntrySlots {
         ensures aside { S.aside seg.new ≡ S.aside seg.old }
         ensures rest { S.rest seg.new ≡ S.rest seg.old }
     {
+        lower_laws();
         let slot = self.slot_at(seg, at);
         let link = self.link_to(seg, slot, at);
         let next = self.behind(seg, at);
@@ -277,6 +284,7 @@ impl EntrySlots {
         ensures aside { S.aside seg.new ≡ S.aside seg.old }
         ensures rest { S.rest seg.new ≡ S.rest seg.old }
     {
+        lower_laws();
         seg.store(at + 1, 0);
         seg.store(at + 8, t);
         self.append(seg, at);
@@ -290,6 +298,7 @@ impl EntrySlots {
         ensures aside { S.aside seg.new ≡ S.aside seg.old }
         ensures rest { S.rest seg.new ≡ S.rest seg.old }
     {
+        lower_laws();
         self.take_off(seg, at);
         self.sma.give(seg, at);
     }

@@ -7,6 +7,7 @@ ghost use Rattle.value_image.specs.Rows.{written, MayWrite};
 ghost use Rattle.entry_slots.specs.Written.{entry_words};
 
 use crate::keys::key_word;
+use crate::lower::lower_laws;
 use php_graph::Graph;
 use seg_words::Segment;
 use value_image::persist;
@@ -31,6 +32,7 @@ pub(crate) fn put_entry<S: Segment>(seg: &mut S, at: u32, key: &[u8], g: &Graph,
     ensures aside { S.aside seg.new ≡ S.aside seg.old }
     ensures rest { S.rest seg.new ≡ S.rest seg.old }
 {
+    lower_laws();
     let first = [
         u64::from(note.next),
         key.len() as u64,
@@ -56,6 +58,7 @@ fn put_words<S: Segment>(seg: &mut S, at: u32, run: &[u64])
     ensures aside { S.aside seg.new ≡ S.aside seg.old }
     ensures rest { S.rest seg.new ≡ S.rest seg.old }
 {
+    lower_laws();
     for i in 0..run.len() {
         seg.store(at + i as u32, run[i]);
     }
@@ -69,6 +72,7 @@ fn put_key<S: Segment>(seg: &mut S, at: u32, key: &[u8])
     ensures aside { S.aside seg.new ≡ S.aside seg.old }
     ensures rest { S.rest seg.new ≡ S.rest seg.old }
 {
+    lower_laws();
     for i in 0..(key.len() as u32).div_ceil(8) {
         seg.store(at + i, key_word(key, i));
     }

@@ -14,7 +14,7 @@ use Rattle.sma_blocks.specs.Ready.{NameLive, IsReady}
 use Rattle.sma_blocks.specs.Walk.{IsEdge, ends_in_gap, IsFreeBefore, IsFreeAfter}
 use Rattle.sma_blocks.proofs.Filling.{Fill-le, Fill-append, pieces-filled, edge_whole}
 use Rattle.sma_blocks.proofs.Lives.{extent_of, lives-append, lives_between, Contains-cases, without_block_between}
-use Rattle.sma_blocks.proofs.Naming.{between, may_store, names_less}
+use Rattle.sma_blocks.proofs.Naming.{between, may_store, names_less, ready_from}
 use Rattle.sma_blocks.proofs.Merging.{merged_front, merged_back, merged_after, merged_join, merged_gap, merged_live, ends_in_gap-append}
 use Rattle.sma_blocks.proofs.Places.{blocks_at, Fill-even, piece_seen}
 use Rattle.sma_blocks.proofs.Changes.{Change, change_blocks, change_same, change_names, change_formatted}
@@ -205,11 +205,8 @@ give_merged {sma} {ws} {aside} {at} {size} {first} {last} h =
 
 pub give_ready : {sma : Sma} {ws : List ℕ} {aside : Aside} {at size first last : ℕ} (h : Around sma ws aside at size first last) → IsReady sma (merged_words ws first last) aside
 give_ready {sma} {ws} {aside} {at} {size} {first} {last} h =
-    record {
-      end = h.ready.end ∙ sym (length-set ws first ((last - first) + 1));
-      formatted = change_formatted (give_change h) h.ready.formatted.even (give_merged h);
-      windows = subst (λ es. NameLive (merged_words ws first last) aside.windows es) (sym (change_blocks (give_change h))) (change_names aside.windows (give_change h) (give_names h));
-    }
+    ready_from sma (merged_words ws first last) aside (h.ready.end ∙ sym (length-set ws first ((last - first) + 1))) (change_formatted (give_change h) h.ready.formatted.even (give_merged h))
+    (subst (λ es. NameLive (merged_words ws first last) aside.windows es) (sym (change_blocks (give_change h))) (change_names aside.windows (give_change h) (give_names h)))
 
 -- a walk towards a live block does not pass it
 pub live_past : (ws now : List ℕ) (from place at size : ℕ) (is_gap : Bool) → IsEdge ws from place → now ≡ ws → pieces now place ≡ record { place = place; size = size; live = not is_gap } ∷ pieces now (place + size) → IsLive (live_blocks ws from) at → place < at → place + size ≤ at

@@ -4,14 +4,15 @@ ghost use Rattle.seg_words.specs.Windows.{Aside, is_named};
 ghost use Rattle.sma_blocks.specs.declared.sma.Sma.{Sma};
 ghost use Rattle.sma_blocks.specs.Live.{live_blocks, with_block, without_block};
 ghost use Rattle.sma_blocks.specs.Calls.{Call, answers_to, after_calls, AllMade};
-ghost use Rattle.sma_blocks.specs.Ready.{IsReady, ChangesInside, ChangesBefore, KeepsLengths, Stays};
+ghost use Rattle.sma_blocks.specs.Ready.{IsReady, ChangesInside, ChangesBefore, ChangesInner, KeepsLengths, Stays};
 
 /// What may change and leave all blocks as they are: words inside a live block, past its first, where
-/// a named block keeps the lengths of its key and its image; words before the first block; windows
-/// that close. And two live blocks are one, or have no word in common.
+/// a named block keeps the lengths of its key and its image; words before the first block; such words
+/// of several blocks at once; windows that close. And two live blocks are one, or have no word in common.
 pub fn block_laws()
     ensures inside { (sma : Sma) (old new : List ℕ) (aside : Aside) (block : Extent) → IsReady sma old aside → Contains (live_blocks old sma.from) block → ChangesInside old new block → KeepsLengths aside.windows old new block.place → Stays sma old new aside }
     ensures before { (sma : Sma) (old new : List ℕ) (aside : Aside) → IsReady sma old aside → ChangesBefore old new sma.from → Stays sma old new aside }
+    ensures inner { (sma : Sma) (old new : List ℕ) (aside : Aside) → IsReady sma old aside → ChangesInner sma old new aside → Stays sma old new aside }
     ensures closed { (sma : Sma) (words : List ℕ) (old new : Aside) → IsReady sma words old → ((at : ℕ) → is_named new.windows at ≡ true → is_named old.windows at ≡ true) → IsReady sma words new }
     ensures apart { (sma : Sma) (words : List ℕ) (aside : Aside) (one other : Extent) → IsReady sma words aside → Contains (live_blocks words sma.from) one → Contains (live_blocks words sma.from) other → (one ≡ other) ⊎ ((one.place + one.size ≤ other.place) ⊎ (other.place + other.size ≤ one.place)) }
 {}

@@ -7,7 +7,7 @@ ghost use Rattle.sma_blocks.specs.Pieces.{pieces};
 ghost use Rattle.sma_blocks.specs.Ready.{IsReady};
 ghost use Rattle.sma_blocks.specs.Walk.{IsEdge, IsFreeBefore, IsFreeAfter, cut_words};
 
-use seg_words::Segment;
+use seg_words::{Segment, fit_laws};
 
 // What begins at a place: a live block or a gap.
 #[derive(Clone, Copy)]
@@ -60,6 +60,7 @@ impl Sma {
         ensures aside { S.aside seg.new ≡ S.aside seg.old }
         ensures rest { S.rest seg.new ≡ S.rest seg.old }
     {
+        fit_laws();
         let mut at = self.from;
         while at < self.to {
             let part = self.part_at(seg, at);

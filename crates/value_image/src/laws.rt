@@ -43,6 +43,15 @@ pub fn runs_are_written()
         → MayStore (written row at run) windows i }
 {}
 
+/// A run stands there word by word, and its parts stand one behind the other.
+pub fn runs_stand()
+    ensures words { (row : List ℕ) (at : ℕ) (run : List ℕ) (i : ℕ) → StandsAt row at run → i < length run
+        → slice_index row (at + i) ≡ slice_index run i }
+    ensures front { (row : List ℕ) (at : ℕ) (xs ys : List ℕ) → StandsAt row at (xs ++ ys) → StandsAt row at xs }
+    ensures back { (row : List ℕ) (at : ℕ) (xs ys : List ℕ) → StandsAt row at (xs ++ ys)
+        → StandsAt row (at + length xs) ys }
+{}
+
 /// Byte strings of one length have the same words only where they are the same, and come back from them.
 pub fn bytes_are_packed()
     ensures length { (bytes : List ℕ) → length (words_of bytes) ≡ words_in (length bytes) }

@@ -4,9 +4,9 @@ use Rattle.std.proofs.lemmas.List.{take_all}
 use Rattle.php_graph.specs.Numbers.{hash_step, hash_of}
 use Rattle.php_graph.specs.Size.{words_in}
 use Rattle.value_image.specs.Packed.{words_of, word_at}
-use Rattle.value_image.proofs.Runs.{stands-at}
-use Rattle.value_image.proofs.Packing.{length-words_of, get_or-words_of}
 use Rattle.entry_slots.specs.Written.{IsKeyAt}
+use Rattle.entry_slots.specs.Laws.{Laws}
+use Rattle.entry_slots.proofs.Runs.{words_long, word_there}
 use Rattle.entry_slots.proofs.Blocks.{read_along}
 use Rattle.entry_slots.proofs.Digits.{key_byte, hash_more}
 use Rattle.entry_slots.proofs.keys.hash_at.Goals as goal
@@ -14,11 +14,11 @@ use Rattle.entry_slots.proofs.keys.hash_at.Goals as goal
 word_in : (i len : ℕ) → i < len → i / 8 < words_in len
 word_in i len lt = omega arith
 
-key_word_at : (ws : List ℕ) (at len : ℕ) (key : List ℕ) (i : ℕ) → IsKeyAt ws at len key → i < len → slice_index ws (at + i / 8) ≡ word_at key (i / 8)
-key_word_at ws at len key i h lt =
-    let n = length-words_of key in
+key_word_at : Laws → (ws : List ℕ) (at len : ℕ) (key : List ℕ) (i : ℕ) → IsKeyAt ws at len key → i < len → slice_index ws (at + i / 8) ≡ word_at key (i / 8)
+key_word_at law ws at len key i h lt =
+    let n = words_long key in
     let few : i / 8 < words_in (length key) = subst (λ (k : ℕ). i / 8 < words_in k) (sym h.count) (word_in i len lt) in
-    stands-at ws at (words_of key) (i / 8) h.stands (omega (arith, n)) ∙ get_or-words_of key (i / 8) few
+    law.words ws at (words_of key) (i / 8) h.stands (omega (arith, n)) ∙ word_there key (i / 8) few
 
 wrapped : (h b : ℕ) → (h * 33 % 2 ^ 64 + b) % 2 ^ 64 ≡ (h * 33 + b) % 2 ^ 64
 wrapped h b = omega arith
@@ -34,7 +34,7 @@ loop-i-preserved g c = record {
   hashed = λ key h.
       let lt = word_in c.loop-i.i c.args.len c.loop-i-test.true in
       let read = read_along (g.S.WordsIn.words c.args.seg.now) (g.S.WordsIn.words c.loop-i.seg) (g.S.WordsIn.aside c.args.seg.now) (g.S.WordsIn.aside c.loop-i.seg) (c.args.at + c.loop-i.i / 8) c.load-word.result c.loop-i.invariant.words c.loop-i.invariant.aside (c.requires.told (c.args.at + c.loop-i.i / 8) (omega arith) (omega (arith, lt))) c.load-word.ensures.word in
-      let byte = key_byte key c.loop-i.i c.load-word.result h.bytes.1 (read ∙ key_word_at (g.S.WordsIn.words c.args.seg.now) c.args.at c.args.len key c.loop-i.i h c.loop-i-test.true) in
+      let byte = key_byte key c.loop-i.i c.load-word.result h.bytes.1 (read ∙ key_word_at c.lower_laws.ensures (g.S.WordsIn.words c.args.seg.now) c.args.at c.args.len key c.loop-i.i h c.loop-i-test.true) in
       wrapped c.loop-i.hash (c.load-word.result / 2 ^ (8 * (c.loop-i.i % 8)) % 256) ∙ hash_more key c.loop-i.i c.loop-i.hash (c.load-word.result / 2 ^ (8 * (c.loop-i.i % 8)) % 256) (omega (arith, h.count, c.loop-i-test.true)) (c.loop-i.invariant.hashed key h) byte;
   words = c.load-word.ensures.words ∙ c.loop-i.invariant.words;
   aside = c.load-word.ensures.aside ∙ c.loop-i.invariant.aside;

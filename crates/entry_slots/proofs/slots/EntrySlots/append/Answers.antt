@@ -26,6 +26,6 @@ returns-clause-moved g c = λ s h there.
     let alone : slice_index ws (c.args.at + 1) ≡ 0 = ap (λ (w : List ℕ). slice_index w (c.args.at + 1)) c.removed_link.ensures.words ∙ c.requires.alone in
     stands_along (g.S.WordsIn.words c.name.new.seg) (g.S.WordsIn.aside c.name.new.seg)
     (named_stands c.args.self.now c.name.new.self ws (g.S.WordsIn.words c.name.new.seg) (g.S.WordsIn.aside c.removed_link.new.seg) c.in-Some.link c.args.at (moved_at c.args.at s) c.name.ensures.head c.name.ensures.word
-    (λ none. moved_head s h1 c.args.at q.0 q.1 q.2 alone c.in-Some.link link none)
-    (λ some. moved_word s h1 c.args.at q.0 q.1 q.2 alone c.in-Some.link link some))
+    (λ none. moved_head s h1 c.args.at c.lower_laws.ensures q.0 q.1 q.2 alone c.in-Some.link link none)
+    (λ some. moved_word s h1 c.args.at c.lower_laws.ensures q.0 q.1 q.2 alone c.in-Some.link link some))
     refl c.name.ensures.aside

@@ -37,7 +37,7 @@ returns-clause-freed g c = λ s h there.
     let r = off_there s h c.args.at there in
     let ready : IsReady c.take_off.new.self.sma (g.S.WordsIn.words c.give.new.seg) (g.S.WordsIn.aside c.take_off.new.seg) =
     subst (λ (a : Aside). IsReady c.take_off.new.self.sma (g.S.WordsIn.words c.give.new.seg) a) c.give.ensures.aside (subst (λ (m : Sma). IsReady m (g.S.WordsIn.words c.give.new.seg) (g.S.WordsIn.aside c.give.new.seg)) c.give.ensures.same c.give.ensures.ready) in
-    let done = given_stands (off_at c.args.at s) off c.args.at r.0 r.1 r.2 (g.S.WordsIn.words c.give.new.seg) c.give.ensures.given c.give.ensures.others ready in
+    let done = given_stands c.lower_laws.ensures (off_at c.args.at s) off c.args.at r.0 r.1 r.2 (g.S.WordsIn.words c.give.new.seg) c.give.ensures.given c.give.ensures.others ready in
     let is : ◌≡◌ {A = Entries} (record (off_at c.args.at s) { unlinked = without_place c.args.at (off_at c.args.at s).unlinked }) (freed_at c.args.at s) =
     ap (λ (rows : List Row). let x : Entries = record (off_at c.args.at s) { unlinked = rows } in x) (freed_list c.args.at s) in
     give_along c.take_off.new.self c.give.new.self (g.S.WordsIn.words c.give.new.seg) (g.S.WordsIn.aside c.give.new.seg) (freed_at c.args.at s) c.give.ensures.same

@@ -59,7 +59,7 @@ returns-then-load-key_word-clause-is g c = λ s row h there place.
     let lt : c.loop-i.i < words_in (length c.args.key.now) = omega (arith, c.div_ceil-i-end.ensures, c.loop-i-test.true) in
     let k = told_key row home c.args.at c.loop-i.i (length c.args.key.now) place (sym c.if-load-key.false ∙ (read ∙ key_length_at home c.args.at place)) lt in
     let word = read_along (g.S.WordsIn.words c.args.seg.now) (g.S.WordsIn.words c.loop-i.seg) (g.S.WordsIn.aside c.args.seg.now) (g.S.WordsIn.aside c.loop-i.seg) (c.args.at + 12 + c.loop-i.i) c.load-in-loop-i.result c.loop-i.invariant.words c.loop-i.invariant.aside k.1 c.load-in-loop-i.ensures.word in
-    differs_at row c.args.key.now home c.args.at c.loop-i.i c.key_word.result place lt (λ same. c.if-load-key_word.true (word ∙ (same ∙ sym c.key_word.ensures)))
+    differs_at c.lower_laws.ensures row c.args.key.now home c.args.at c.loop-i.i c.key_word.result place lt (λ same. c.if-load-key_word.true (word ∙ (same ∙ sym c.key_word.ensures)))
 
 pub loop-i-preserved : goal.loop-i-preserved
 loop-i-preserved g c =
@@ -78,4 +78,4 @@ pub returns-clause-is : goal.returns-clause-is
 returns-clause-is g c = λ s row h there place.
     let home = home_listed row h there in
     let read = c.load.ensures.word (told_at home c.args.at 2 place (omega arith) (omega arith)) in
-    equal_at row c.args.key.now home c.args.at place (sym read ∙ c.if-load-key.false) (recursion_from_All (λ b. b < 256) c.args.key.now (All-from_get_or (λ b. b < 256) c.args.key.now 0 (λ i lt. omega (arith, c.type_inv.key i)))) (λ j lt. c.loop-i.invariant.same j (omega (arith, c.div_ceil-i-end.ensures, lt)))
+    equal_at c.lower_laws.ensures row c.args.key.now home c.args.at place (sym read ∙ c.if-load-key.false) (c.requires.short, recursion_from_All (λ b. b < 256) c.args.key.now (All-from_get_or (λ b. b < 256) c.args.key.now 0 (λ i lt. omega (arith, c.type_inv.key i)))) (λ j lt. c.loop-i.invariant.same j (omega (arith, c.div_ceil-i-end.ensures, lt)))

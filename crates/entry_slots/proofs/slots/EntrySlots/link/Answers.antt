@@ -75,7 +75,7 @@ store-requires g c =
     let ws1 : List ℕ = written ws (c.args.at + 1) (entry_words c.args.key.now c.args.g.now note) in
     let target = old_target m.entries c.args.key.now c.slot_for-slot.result c.args.replaced (slot_is c.args.self.now m.entries c.args.key.now c.slot_for-slot.result m.stand.from c.slot_for-slot.ensures.slot) (old_row m.entries c.args.key.now c.args.replaced m.replaces) in
     let link = c.link_to-link.ensures.link m.entries m.stand target in
-    let h1 = entry_stands m.entries m.stand c.args.at c.args.key.now c.args.g.now m.taken note in
+    let h1 = entry_stands m.entries m.stand c.args.at c.args.key.now c.args.g.now m.taken c.lower_laws.ensures note in
     let w = link_word m.entries m.stand c.slot_for-slot.result c.link_to-link.result c.args.replaced ws1 h1 c.slot_for-slot.ensures.low link in
     let words : g.S.WordsIn.words c.put_entry.new.seg ≡ ws1 = c.put_entry.ensures.words ∙ ap (λ (v : List ℕ). written v (c.args.at + 1) (entry_words c.args.key.now c.args.g.now note)) (c.behind.ensures.words ∙ c.link_to-link.ensures.words) in
     record {
@@ -104,7 +104,7 @@ returns-clause-linked g c = λ s h taken replaces.
     let words : g.S.WordsIn.words c.store.new.self ≡ slice_set ws1 c.link_to-link.result c.args.at = c.store.ensures.words ∙ (ap (λ (v : List ℕ). slice_set v c.link_to-link.result c.from.result) words1 ∙ ap (λ (n : ℕ). slice_set ws1 c.link_to-link.result n) c.from.ensures) in
     let bytes : AllByRecursion (λ b. b < 256) c.args.key.now = recursion_from_All (λ b. b < 256) c.args.key.now (All-from_get_or (λ b. b < 256) c.args.key.now 0 (λ i lt. omega (arith, c.type_inv.key i))) in
     stands_along (g.S.WordsIn.words c.store.new.self) (g.S.WordsIn.aside c.store.new.self)
-    (link_stands s h c.args.at c.args.key.now c.args.g.now taken note c.is_sealed.ensures (c.requires.short, bytes) (omega (arith, c.ranges.ttl)) refl c.args.replaced slot c.link_to-link.result replaces is c.slot_for-slot.ensures.low link
+    (link_stands s h c.args.at c.args.key.now c.args.g.now taken c.lower_laws.ensures note c.is_sealed.ensures (c.requires.short, bytes) (omega (arith, c.ranges.ttl)) refl c.args.replaced slot c.link_to-link.result replaces is c.slot_for-slot.ensures.low link
     (λ some. c.behind.ensures.next some ∙ ap (λ (v : List ℕ). slice_index v (c.args.replaced + 1)) read) c.behind.ensures.none
     c.saturating_add-self.result c.count_after-self.result (omega (arith, c.saturating_add-self.ensures)) c.count_after-self.ensures)
     words (c.store.ensures.aside ∙ (c.put_entry.ensures.aside ∙ (c.behind.ensures.aside ∙ c.link_to-link.ensures.aside)))

@@ -5,12 +5,12 @@ use Rattle.std.proofs.lemmas.Bool.{false≢true}
 use Rattle.std.proofs.lemmas.List.{length-set}
 use Rattle.seg_words.specs.Windows.{Aside, is_named}
 use Rattle.seg_words.specs.Blocks.{MayStore}
-use Rattle.value_image.proofs.Runs.{may_store-set}
 use Rattle.php_graph.specs.declared.kind.Kind.TheVariants as kinds
 use Rattle.php_graph.specs.Graph.{kind_at}
 use Rattle.php_graph.specs.Size.{words_in, image_length}
 use Rattle.apcu_model.specs.Cache.{Row, extent_of}
 use Rattle.entry_slots.specs.declared.slots.EntrySlots.{EntrySlots}
+use Rattle.entry_slots.proofs.Runs.{may_store_set}
 use Rattle.entry_slots.proofs.Homes.{IsHome, room, told_at, home_row}
 use Rattle.entry_slots.proofs.Walks.{stands_along}
 use Rattle.entry_slots.proofs.KeyWords.{key_length_at}
@@ -84,7 +84,7 @@ store-requires-2 g c =
     record {
       place = omega (arith, w.high, w.enough, m.place, ap length words, length-set ws i c.cast_unsigned.result);
       apart = may_along (slice_set ws i c.cast_unsigned.result) (g.S.WordsIn.words c.store.new.self) (g.S.WordsIn.aside c.args.seg.now) (g.S.WordsIn.aside c.store.new.self) (c.args.at + 6) words (c.store.ensures.aside ∙ c.load-len.ensures.aside)
-          (may_store-set ws (g.S.WordsIn.aside c.args.seg.now).windows i (c.args.at + 6) c.cast_unsigned.result (value_may m.row home c.args.at i m.place c.requires.unnamed (omega arith) v.0) (may_note m.row home c.args.at 6 m.place (omega arith) (omega arith) (omega arith)));
+          (may_store_set c.lower_laws.ensures ws (g.S.WordsIn.aside c.args.seg.now).windows i (c.args.at + 6) c.cast_unsigned.result (omega (arith, v.0, v.1)) (value_may m.row home c.args.at i m.place c.requires.unnamed (omega arith) v.0) (may_note m.row home c.args.at 6 m.place (omega arith) (omega arith) (omega arith)));
     }
 
 pub returns-clause-set : goal.returns-clause-set
@@ -100,5 +100,5 @@ returns-clause-set g c = λ s row v h there place int.
     c.store-2.ensures.words ∙ (ap (λ (u : List ℕ). slice_set u (c.args.at + 6) c.args.t) (c.store.ensures.words ∙ ap (λ (u : List ℕ). slice_set u i c.cast_unsigned.result) c.load-len.ensures.words)
     ∙ ap (λ (n : ℕ). slice_set (slice_set ws i n) (c.args.at + 6) c.args.t) cast) in
     stands_along (g.S.WordsIn.words c.store-2.new.self) (g.S.WordsIn.aside c.store-2.new.self)
-    (number_stands s h c.args.at i c.args.t c.args.n v row there place int c.ranges.n (omega (arith, c.div_ceil.ensures, long)))
+    (number_stands c.lower_laws.ensures s h c.args.at i c.args.t c.args.n v row there place int c.ranges.n (omega (arith, c.div_ceil.ensures, long)))
     words (c.store-2.ensures.aside ∙ (c.store.ensures.aside ∙ c.load-len.ensures.aside))

@@ -53,6 +53,6 @@ returns-clause-off g c = λ s h there.
     let next : c.next_of-next.result ≡ slice_index ws (c.args.at + 1) = c.next_of-next.ensures.next ∙ ap (λ (v : List ℕ). slice_index v (c.args.at + 1)) (sym c.next_of-next.ensures.words) in
     stands_along (g.S.WordsIn.words c.name.new.seg) (g.S.WordsIn.aside c.name.new.seg)
     (named_stands c.args.self.now c.name.new.self ws (g.S.WordsIn.words c.name.new.seg) (g.S.WordsIn.aside c.next_of-next.new.seg) c.in-Some.link c.next_of-next.result (off_at c.args.at s) c.name.ensures.head c.name.ensures.word
-    (λ none. off_head s h1 c.args.at some c.in-Some.link link none c.next_of-next.result next)
-    (λ word. off_word s h1 c.args.at some c.in-Some.link link word c.next_of-next.result next))
+    (λ none. off_head s h1 c.args.at c.lower_laws.ensures some c.in-Some.link link none c.next_of-next.result next)
+    (λ word. off_word s h1 c.args.at c.lower_laws.ensures some c.in-Some.link link word c.next_of-next.result next))
     refl c.name.ensures.aside

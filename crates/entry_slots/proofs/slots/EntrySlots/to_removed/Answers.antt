@@ -1,11 +1,12 @@
 use Rattle.std.proofs.Common.{◌≡◌, ℕ, ◌+◌, List, true, ap, ◌∙◌, subst, slice_index, slice_set, arith, length}
 use Rattle.std.proofs.lemmas.List.{length-set, get_or-set_same, get_or-set_other}
 use Rattle.seg_words.specs.Windows.{Aside}
-use Rattle.value_image.proofs.Runs.{may_store-set}
 use Rattle.entry_slots.specs.declared.slots.EntrySlots.{EntrySlots}
 use Rattle.entry_slots.specs.Lists.{has_place}
 use Rattle.entry_slots.specs.Entries.{Entries}
 use Rattle.entry_slots.specs.Standing.{Stands}
+use Rattle.entry_slots.specs.Laws.{Laws}
+use Rattle.entry_slots.proofs.Runs.{may_store_set}
 use Rattle.entry_slots.proofs.Homes.{room, home_unlinked}
 use Rattle.entry_slots.proofs.Walks.{stands_along}
 use Rattle.entry_slots.proofs.Storing.{may_note, may_along}
@@ -17,12 +18,12 @@ use Rattle.entry_slots.proofs.slots.EntrySlots.to_removed.Goals as goal
 abbrev both : List ℕ → ℕ → ℕ → List ℕ
 both ws at t = slice_set (slice_set ws (at + 1) 0) (at + 8) t
 
-both_stand : {e : EntrySlots} {ws : List ℕ} {aside : Aside} (s : Entries) → Stands e ws aside s → (at t : ℕ) → has_place at s.unlinked ≡ true → Stands e (both ws at t) aside (noted at t s) × (has_place at (noted at t s).unlinked ≡ true) × (slice_index (both ws at t) (at + 1) ≡ 0)
-both_stand {e} {ws} {aside} s h at t there =
+both_stand : Laws → {e : EntrySlots} {ws : List ℕ} {aside : Aside} (s : Entries) → Stands e ws aside s → (at t : ℕ) → has_place at s.unlinked ≡ true → Stands e (both ws at t) aside (noted at t s) × (has_place at (noted at t s).unlinked ≡ true) × (slice_index (both ws at t) (at + 1) ≡ 0)
+both_stand law {e} {ws} {aside} s h at t there =
     let q = unlinked_there s h at there in
     let w = room (home_unlinked q.0 h q.1) in
-    let h1 = cleared_stands s h at 0 q.0 q.1 q.2 in
-    (noted_stands s h1 at t q.0 q.1 q.2, noted_there at t s.unlinked there, get_or-set_other (slice_set ws (at + 1) 0) (at + 8) (at + 1) t 0 (omega arith) ∙ get_or-set_same ws (at + 1) 0 0 (omega (arith, w.high, w.enough, q.2)))
+    let h1 = cleared_stands law s h at 0 q.0 q.1 q.2 in
+    (noted_stands s h1 at t q.0 q.1 q.2 law, noted_there at t s.unlinked there, get_or-set_other (slice_set ws (at + 1) 0) (at + 8) (at + 1) t 0 (omega arith) ∙ get_or-set_same ws (at + 1) 0 0 (omega (arith, w.high, w.enough, q.2)))
 
 pub overflow_add-at : goal.overflow_add-at
 overflow_add-at g c =
@@ -59,13 +60,13 @@ store-requires-2 g c =
     record {
       place = omega (arith, w.high, w.enough, q.2, ap length c.store.ensures.words, length-set ws (c.args.at + 1) 0);
       apart = may_along (slice_set ws (c.args.at + 1) 0) (g.S.WordsIn.words c.store.new.self) (g.S.WordsIn.aside c.args.seg.now) (g.S.WordsIn.aside c.store.new.self) (c.args.at + 8) c.store.ensures.words c.store.ensures.aside
-          (may_store-set ws (g.S.WordsIn.aside c.args.seg.now).windows (c.args.at + 1) (c.args.at + 8) 0 (may_note q.0 home c.args.at 1 q.2 (omega arith) (omega arith) (omega arith)) (may_note q.0 home c.args.at 8 q.2 (omega arith) (omega arith) (omega arith)));
+          (may_store_set c.lower_laws.ensures ws (g.S.WordsIn.aside c.args.seg.now).windows (c.args.at + 1) (c.args.at + 8) 0 (omega (arith, w.high, w.enough, q.2)) (may_note q.0 home c.args.at 1 q.2 (omega arith) (omega arith) (omega arith)) (may_note q.0 home c.args.at 8 q.2 (omega arith) (omega arith) (omega arith)));
     }
 
 pub append-requires : goal.append-requires
 append-requires g c =
     let t = c.requires.there in
-    let b = both_stand t.entries t.stand c.args.at c.args.t t.there in
+    let b = both_stand c.lower_laws.ensures t.entries t.stand c.args.at c.args.t t.there in
     let words : g.S.WordsIn.words c.store-2.new.self ≡ both (g.S.WordsIn.words c.args.seg.now) c.args.at c.args.t = c.store-2.ensures.words ∙ ap (λ (v : List ℕ). slice_set v (c.args.at + 8) c.args.t) c.store.ensures.words in
     record {
       there = record {
@@ -78,7 +79,7 @@ append-requires g c =
 
 pub returns-clause-removed : goal.returns-clause-removed
 returns-clause-removed g c = λ s h there.
-    let b = both_stand s h c.args.at c.args.t there in
+    let b = both_stand c.lower_laws.ensures s h c.args.at c.args.t there in
     let words : g.S.WordsIn.words c.store-2.new.self ≡ both (g.S.WordsIn.words c.args.seg.now) c.args.at c.args.t = c.store-2.ensures.words ∙ ap (λ (v : List ℕ). slice_set v (c.args.at + 8) c.args.t) c.store.ensures.words in
     let h2 = stands_along (g.S.WordsIn.words c.store-2.new.self) (g.S.WordsIn.aside c.store-2.new.self) b.0 words (c.store-2.ensures.aside ∙ c.store.ensures.aside) in
     subst (λ (x : Entries). Stands c.append.new.self (g.S.WordsIn.words c.append.new.seg) (g.S.WordsIn.aside c.append.new.seg) x) (moved_noted c.args.at c.args.t s) (c.append.ensures.moved (noted c.args.at c.args.t s) h2 b.1)

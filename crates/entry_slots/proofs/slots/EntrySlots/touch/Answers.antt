@@ -1,6 +1,6 @@
 use Rattle.std.proofs.Common.{◌≡◌, ℕ, ◌+◌, List, ap, ◌∙◌, arith, length, slice_set}
-use Rattle.value_image.proofs.Runs.{may_store-set}
 use Rattle.std.proofs.lemmas.List.{length-set}
+use Rattle.entry_slots.proofs.Runs.{may_store_set}
 use Rattle.entry_slots.proofs.Homes.{room, told_at}
 use Rattle.entry_slots.proofs.Storing.{may_note, may_along}
 use Rattle.entry_slots.proofs.Touching.{row_at, touched_words, touch_stands}
@@ -38,7 +38,7 @@ store-requires-2 g c =
     record {
       place = omega (arith, w.high, w.enough, r.2, ap length words, length-set ws (c.args.at + 9) c.saturating_add.result);
       apart = may_along (slice_set ws (c.args.at + 9) c.saturating_add.result) (g.S.WordsIn.words c.store.new.self) (g.S.WordsIn.aside c.args.seg.now) (g.S.WordsIn.aside c.store.new.self) (c.args.at + 7) words (c.store.ensures.aside ∙ c.load-hits.ensures.aside)
-          (may_store-set ws (g.S.WordsIn.aside c.args.seg.now).windows (c.args.at + 9) (c.args.at + 7) c.saturating_add.result (may_note r.0 r.1 c.args.at 9 r.2 (omega arith) (omega arith) (omega arith)) (may_note r.0 r.1 c.args.at 7 r.2 (omega arith) (omega arith) (omega arith)));
+          (may_store_set c.lower_laws.ensures ws (g.S.WordsIn.aside c.args.seg.now).windows (c.args.at + 9) (c.args.at + 7) c.saturating_add.result (omega (arith, w.high, w.enough, r.2)) (may_note r.0 r.1 c.args.at 9 r.2 (omega arith) (omega arith) (omega arith)) (may_note r.0 r.1 c.args.at 7 r.2 (omega arith) (omega arith) (omega arith)));
     }
 
 pub returns-clause-touched : goal.returns-clause-touched
@@ -49,5 +49,5 @@ returns-clause-touched g c = λ s h there.
     let words : g.S.WordsIn.words c.store-2.new.self ≡ touched_words ws c.args.at c.saturating_add.result c.args.t =
     c.store-2.ensures.words ∙ ap (λ (v : List ℕ). slice_set v (c.args.at + 7) c.args.t) (c.store.ensures.words ∙ ap (λ (v : List ℕ). slice_set v (c.args.at + 9) c.saturating_add.result) c.load-hits.ensures.words) in
     stands_along (g.S.WordsIn.words c.store-2.new.self) (g.S.WordsIn.aside c.store-2.new.self)
-    (touch_stands s c.args.at c.saturating_add.result c.args.t h there (omega (arith, read, c.saturating_add.ensures)))
+    (touch_stands c.lower_laws.ensures s c.args.at c.saturating_add.result c.args.t h there (omega (arith, read, c.saturating_add.ensures)))
     words (c.store-2.ensures.aside ∙ (c.store.ensures.aside ∙ c.load-hits.ensures.aside))

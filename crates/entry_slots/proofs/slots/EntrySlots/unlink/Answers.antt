@@ -72,5 +72,5 @@ returns-clause-unlinked g c = λ s h there.
     let words : g.S.WordsIn.words c.store.new.self ≡ slice_set (g.S.WordsIn.words c.slot_at-slot.new.seg) c.link_to-link.result c.behind-next.result =
     c.store.ensures.words ∙ (ap (λ (v : List ℕ). slice_set v c.link_to-link.result c.from.result) (c.behind-next.ensures.words ∙ c.link_to-link.ensures.words) ∙ ap (λ (n : ℕ). slice_set (g.S.WordsIn.words c.slot_at-slot.new.seg) c.link_to-link.result n) c.from.ensures) in
     stands_along (g.S.WordsIn.words c.store.new.self) (g.S.WordsIn.aside c.store.new.self)
-    (unlink_stands s h1 c.args.at slot c.link_to-link.result c.behind-next.result c.slot_at-slot.ensures.low chain link next (c.args.self.now.count - 1) (omega (arith, h.count, r.1.1)))
+    (unlink_stands c.lower_laws.ensures s h1 c.args.at slot c.link_to-link.result c.behind-next.result c.slot_at-slot.ensures.low chain link next (c.args.self.now.count - 1) (omega (arith, h.count, r.1.1)))
     words (c.store.ensures.aside ∙ (c.behind-next.ensures.aside ∙ c.link_to-link.ensures.aside))
