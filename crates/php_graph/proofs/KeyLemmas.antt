@@ -1,5 +1,5 @@
 -- Keys and names.
-use Rattle.std.proofs.Common.{◌≡◌, ◌⊎◌, inl, inr, ℕ, ◌<◌, ◌≤◌, Bool, true, false, cond, List, [], ◌∷◌, ◌++◌, map, Option, Some, None, refl, sym, ap, subst, ◌∙◌, arith}
+use Rattle.std.proofs.Common.{◌≡◌, ◌⊎◌, inl, inr, ℕ, Bool, true, false, cond, List, [], ◌∷◌, ◌++◌, map, Option, Some, None, refl, sym, ap, ◌∙◌, arith}
 use Rattle.std.specs.Prelude.{ℤ, ◌||◌, nat_lt, Result, Ok, Err, OnOk, OnErr}
 use Rattle.std.specs.Cmp.Lexicographic.{bytes_decides}
 use Rattle.std.specs.List.{list_any}
@@ -13,7 +13,7 @@ use Rattle.php_graph.specs.declared.key.Key.{Key}
 use Rattle.php_graph.specs.declared.key.Key.TheVariants.{Int, Str}
 use Rattle.php_graph.specs.declared.item.BuildFault.TheVariants.{RepeatedKey}
 use Rattle.php_graph.specs.Graph.{key_eq, has_key}
-use Rattle.php_graph.specs.Keys.{key_cmp, mark_of, is_above, raised, repeat_fault, BoundsKeys, HasMarks, HasKeys}
+use Rattle.php_graph.specs.Keys.{key_cmp, mark_of, raised, repeat_fault, BoundsKeys, HasMarks, HasKeys}
 use Rattle.php_graph.specs.contracts.key.KeyOrd.TheImpl as key_ord
 use Rattle.php_graph.specs.contracts.key.KeyOrd.TheImpl.Laws.{matches_eq-law}
 use Rattle.php_graph.specs.contracts.key.KeyEq.TheImpl.Laws.{laws-law}
