@@ -1,6 +1,6 @@
 //! Keys as words.
 
-ghost use Rattle.std.specs.Prelude.{◌≡◌, ℕ, ◌+◌, ◌<◌, ◌≤◌, List, length};
+ghost use Rattle.std.specs.Prelude.{◌≡◌, ℕ, ◌+◌, ◌/◌, ◌%◌, ◌<◌, ◌≤◌, List, length, slice_index};
 ghost use Rattle.seg_words.specs.Blocks.{IsTold};
 ghost use Rattle.php_graph.specs.Numbers.{hash_of};
 ghost use Rattle.entry_slots.specs.Written.{IsKeyAt};
@@ -29,6 +29,24 @@ pub(crate) fn key_word(key: &[u8], i: u32) -> u64
     }
 }
 
+// The word that has byte `i` of those that stand from a place on. Where that byte is not its first, it is the
+// word of the byte before, and is not loaded again.
+fn word_of_byte<S: Segment>(seg: &mut S, at: u32, i: u32, word: u64) -> u64
+    requires inside { at + i / 8 < length (S.words seg.old) }
+    requires told { IsTold (S.aside seg.old).windows (at + i / 8) }
+    requires held { 0 < i % 8 → word ≡ slice_index (S.words seg.old) (at + i / 8) }
+    ensures word { result ≡ slice_index (S.words seg.old) (at + i / 8) }
+    ensures words { S.words seg.new ≡ S.words seg.old }
+    ensures aside { S.aside seg.new ≡ S.aside seg.old }
+    ensures rest { S.rest seg.new ≡ S.rest seg.old }
+{
+    if i % 8 == 0 {
+        seg.load(at + i / 8)
+    } else {
+        word
+    }
+}
+
 // PHP's string hash of the key of so many bytes that stands from a place on.
 pub(crate) fn hash_at<S: Segment>(seg: &mut S, at: u32, len: u32) -> u64
     requires inside { at + words_in len ≤ length (S.words seg.old) }
@@ -40,8 +58,9 @@ pub(crate) fn hash_at<S: Segment>(seg: &mut S, at: u32, len: u32) -> u64
 {
     lower_laws();
     let mut hash = HASH_START;
+    let mut word = 0;
     for i in 0..len {
-        let word = seg.load(at + i / 8);
+        word = word_of_byte(seg, at, i, word);
         let byte = (word >> (8 * (i % 8))) % 256;
         hash = hash.wrapping_mul(33).wrapping_add(byte);
     }

@@ -7,7 +7,6 @@ use Rattle.value_image.specs.Packed.{words_of, word_at}
 use Rattle.entry_slots.specs.Written.{IsKeyAt}
 use Rattle.entry_slots.specs.Laws.{Laws}
 use Rattle.entry_slots.proofs.Runs.{words_long, word_there}
-use Rattle.entry_slots.proofs.Blocks.{read_along}
 use Rattle.entry_slots.proofs.Digits.{key_byte, hash_more}
 use Rattle.entry_slots.proofs.keys.hash_at.Goals as goal
 
@@ -23,23 +22,31 @@ key_word_at law ws at len key i h lt =
 wrapped : (h b : ℕ) → (h * 33 % 2 ^ 64 + b) % 2 ^ 64 ≡ (h * 33 + b) % 2 ^ 64
 wrapped h b = omega arith
 
-pub overflow_add-at : goal.overflow_add-at
-overflow_add-at g c = let short = g.met.S.WordsIn.short c.args.seg.now in let lt = word_in c.loop-i.i c.args.len c.loop-i-test.true in omega (arith, short, c.requires.inside, lt)
+pub word_of_byte-word-requires-clause-inside : goal.word_of_byte-word-requires-clause-inside
+word_of_byte-word-requires-clause-inside g c = let lt = word_in c.loop-i.i c.args.len c.loop-i-test.true in rw c.loop-i.invariant.words (omega (arith, c.requires.inside, lt))
 
-pub load-word-requires : goal.load-word-requires
-load-word-requires g c = let lt = word_in c.loop-i.i c.args.len c.loop-i-test.true in rw c.loop-i.invariant.words (omega (arith, c.requires.inside, lt))
+pub word_of_byte-word-requires-clause-told : goal.word_of_byte-word-requires-clause-told
+word_of_byte-word-requires-clause-told g c = let lt = word_in c.loop-i.i c.args.len c.loop-i-test.true in rw c.loop-i.invariant.aside (c.requires.told (c.args.at + c.loop-i.i / 8) (omega arith) (omega (arith, lt)))
+
+pub word_of_byte-word-requires-clause-held : goal.word_of_byte-word-requires-clause-held
+word_of_byte-word-requires-clause-held g c = λ some. c.loop-i.invariant.held some ∙ ap (λ (r : List ℕ). slice_index r (c.args.at + c.loop-i.i / 8)) (sym c.loop-i.invariant.words)
+
+-- the next byte is in the same word, where it is not its first
+same_word : (i : ℕ) → 0 < (i + 1) % 8 → i / 8 ≡ (i + 1) / 8
+same_word i some = omega arith
 
 pub loop-i-preserved : goal.loop-i-preserved
-loop-i-preserved g c = record {
-  hashed = λ key h.
-      let lt = word_in c.loop-i.i c.args.len c.loop-i-test.true in
-      let read = read_along (g.S.WordsIn.words c.args.seg.now) (g.S.WordsIn.words c.loop-i.seg) (g.S.WordsIn.aside c.args.seg.now) (g.S.WordsIn.aside c.loop-i.seg) (c.args.at + c.loop-i.i / 8) c.load-word.result c.loop-i.invariant.words c.loop-i.invariant.aside (c.requires.told (c.args.at + c.loop-i.i / 8) (omega arith) (omega (arith, lt))) c.load-word.ensures.word in
-      let byte = key_byte key c.loop-i.i c.load-word.result h.bytes.1 (read ∙ key_word_at c.lower_laws.ensures (g.S.WordsIn.words c.args.seg.now) c.args.at c.args.len key c.loop-i.i h c.loop-i-test.true) in
-      wrapped c.loop-i.hash (c.load-word.result / 2 ^ (8 * (c.loop-i.i % 8)) % 256) ∙ hash_more key c.loop-i.i c.loop-i.hash (c.load-word.result / 2 ^ (8 * (c.loop-i.i % 8)) % 256) (omega (arith, h.count, c.loop-i-test.true)) (c.loop-i.invariant.hashed key h) byte;
-  words = c.load-word.ensures.words ∙ c.loop-i.invariant.words;
-  aside = c.load-word.ensures.aside ∙ c.loop-i.invariant.aside;
-  rest = c.load-word.ensures.rest ∙ c.loop-i.invariant.rest;
-}
+loop-i-preserved g c =
+    let read = c.word_of_byte-word.ensures.word ∙ ap (λ (r : List ℕ). slice_index r (c.args.at + c.loop-i.i / 8)) c.loop-i.invariant.words in
+    record {
+      hashed = λ key h.
+          let byte = key_byte key c.loop-i.i c.word_of_byte-word.result h.bytes.1 (read ∙ key_word_at c.lower_laws.ensures (g.S.WordsIn.words c.args.seg.now) c.args.at c.args.len key c.loop-i.i h c.loop-i-test.true) in
+          wrapped c.loop-i.hash (c.word_of_byte-word.result / 2 ^ (8 * (c.loop-i.i % 8)) % 256) ∙ hash_more key c.loop-i.i c.loop-i.hash (c.word_of_byte-word.result / 2 ^ (8 * (c.loop-i.i % 8)) % 256) (omega (arith, h.count, c.loop-i-test.true)) (c.loop-i.invariant.hashed key h) byte;
+      held = λ some. read ∙ ap (λ (k : ℕ). slice_index (g.S.WordsIn.words c.args.seg.now) (c.args.at + k)) (same_word c.loop-i.i some);
+      words = c.word_of_byte-word.ensures.words ∙ c.loop-i.invariant.words;
+      aside = c.word_of_byte-word.ensures.aside ∙ c.loop-i.invariant.aside;
+      rest = c.word_of_byte-word.ensures.rest ∙ c.loop-i.invariant.rest;
+    }
 
 pub returns-clause-hash : goal.returns-clause-hash
 unfolding hash_of

@@ -1,4 +1,4 @@
-use Rattle.std.proofs.Common.{◌≡◌, ℕ, List, take, fold}
+use Rattle.std.proofs.Common.{◌≡◌, ℕ, ◌+◌, ◌/◌, ◌%◌, ◌<◌, List, take, fold, slice_index}
 use Rattle.php_graph.specs.Numbers.{hash_step}
 use Rattle.entry_slots.specs.Written.{IsKeyAt}
 use Rattle.entry_slots.proofs.keys.hash_at.Given as goal
@@ -6,6 +6,7 @@ use Rattle.entry_slots.proofs.keys.hash_at.Given as goal
 abbrev pub invariant-loop-i : goal.invariant-loop-i
 invariant-loop-i g l = record {
   hashed : (key : List ℕ) → IsKeyAt (g.S.WordsIn.words l.fn.seg) l.at l.len key → l.hash ≡ fold hash_step 5381 (take l.i key);
+  held : 0 < l.i % 8 → l.word ≡ slice_index (g.S.WordsIn.words l.fn.seg) (l.at + l.i / 8);
   words : g.S.WordsIn.words l.seg ≡ g.S.WordsIn.words l.fn.seg;
   aside : g.S.WordsIn.aside l.seg ≡ g.S.WordsIn.aside l.fn.seg;
   rest : g.S.WordsIn.rest l.seg ≡ g.S.WordsIn.rest l.fn.seg;
