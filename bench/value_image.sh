@@ -5,14 +5,15 @@
 set -eu
 program=$1
 
-# The processor time of a run in nanoseconds.
+# The least processor time of five runs in nanoseconds.
 spent() {
-    { /usr/bin/env bash -c 'TIMEFORMAT="%3U %3S"; time "$@" >/dev/null' sh "$@"; } 2>&1 |
-        awk '{ printf "%.0f\n", ($1 + $2) * 1e9 }'
+    for _ in 1 2 3 4 5; do
+        { /usr/bin/env bash -c 'TIMEFORMAT="%3U %3S"; time "$@" >/dev/null' sh "$@"; } 2>&1
+    done | awk '{ t = ($1 + $2) * 1e9; if (NR == 1 || t < best) best = t } END { printf "%.0f\n", best }'
 }
 
 echo "graph       words   persist   unpersist   graph   copy"
-for row in "string100 14 20000000" "string10k 1251 200000" "string1m 125001 2000" \
+for row in "string100 14 10000000" "string10k 1251 200000" "string1m 125001 2000" \
     "integers 5001 40000" "nested 1997 20000"; do
     set -- $row
     line=$1
