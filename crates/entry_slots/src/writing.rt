@@ -2,15 +2,13 @@
 
 ghost use Rattle.std.specs.Prelude.{◌≡◌, ◌+◌, ◌<◌, ◌^◌, length};
 ghost use Rattle.php_graph.specs.Size.{words_in, image_length};
-ghost use Rattle.value_image.specs.Packed.{words_of};
 ghost use Rattle.value_image.specs.Rows.{written, MayWrite};
 ghost use Rattle.entry_slots.specs.Written.{entry_words};
 
-use crate::keys::key_word;
 use crate::lower::lower_laws;
 use php_graph::Graph;
 use seg_words::Segment;
-use value_image::persist;
+use value_image::{persist, put_bytes};
 
 /// What is noted of a new entry, beside its key and its value.
 #[derive(Clone, Copy)]
@@ -47,7 +45,7 @@ pub(crate) fn put_entry<S: Segment>(seg: &mut S, at: u32, key: &[u8], g: &Graph,
         0,
     ];
     put_words(seg, at + 1, &first);
-    put_key(seg, at + 12, key);
+    put_bytes(seg, at + 12, key);
     persist(seg, at + 12 + (key.len() as u32).div_ceil(8), g);
 }
 
@@ -61,19 +59,5 @@ fn put_words<S: Segment>(seg: &mut S, at: u32, run: &[u64])
     lower_laws();
     for i in 0..run.len() {
         seg.store(at + i as u32, run[i]);
-    }
-}
-
-// Writes a key, eight bytes a word.
-fn put_key<S: Segment>(seg: &mut S, at: u32, key: &[u8])
-    requires short { length key.now < 2 ^ 32 }
-    requires apart { MayWrite (S.words seg.old) (S.aside seg.old).windows at (words_in (length key.now)) }
-    ensures words { S.words seg.new ≡ written (S.words seg.old) at (words_of key.now) }
-    ensures aside { S.aside seg.new ≡ S.aside seg.old }
-    ensures rest { S.rest seg.new ≡ S.rest seg.old }
-{
-    lower_laws();
-    for i in 0..(key.len() as u32).div_ceil(8) {
-        seg.store(at + i, key_word(key, i));
     }
 }

@@ -19,23 +19,21 @@ same_run row at next next' key image image' ttl ttl' now number en ei et =
 pub put_words-requires : goal.put_words-requires
 put_words-requires g c = may_write_fewer (g.S.WordsIn.words c.args.seg.now) (g.S.WordsIn.aside c.args.seg.now).windows (c.args.at + 1) (11 + words_in (length c.args.key.now) + image_length c.args.g.now) 11 c.requires.apart (omega arith)
 
-pub put_key-requires : goal.put_key-requires
-put_key-requires g c = record {
-  short = c.requires.short;
-  apart = may_write_along c.lower_laws.ensures (g.S.WordsIn.words c.args.seg.now) (g.S.WordsIn.aside c.args.seg.now) (c.args.at + 1) (11 + words_in (length c.args.key.now) + image_length c.args.g.now)
-      (run c.from.result (length c.args.key.now) c.words.result c.from-2.result c.args.note.now c.args.note.number)
-      (g.S.WordsIn.words c.put_words.new.seg) (g.S.WordsIn.aside c.put_words.new.seg) (c.args.at + 12) (words_in (length c.args.key.now)) c.requires.apart c.put_words.ensures.words c.put_words.ensures.aside (omega arith) (omega arith);
-}
+pub put_bytes-requires : goal.put_bytes-requires
+put_bytes-requires g c =
+    may_write_along c.lower_laws.ensures (g.S.WordsIn.words c.args.seg.now) (g.S.WordsIn.aside c.args.seg.now) (c.args.at + 1) (11 + words_in (length c.args.key.now) + image_length c.args.g.now)
+    (run c.from.result (length c.args.key.now) c.words.result c.from-2.result c.args.note.now c.args.note.number)
+    (g.S.WordsIn.words c.put_words.new.seg) (g.S.WordsIn.aside c.put_words.new.seg) (c.args.at + 12) (words_in (length c.args.key.now)) c.requires.apart c.put_words.ensures.words c.put_words.ensures.aside (omega arith) (omega arith)
 
 pub persist-requires : goal.persist-requires
 persist-requires g c =
     let ws : List ℕ = g.S.WordsIn.words c.args.seg.now in
     let first : List ℕ = run c.from.result (length c.args.key.now) c.words.result c.from-2.result c.args.note.now c.args.note.number in
     let key : List ℕ = words_of c.args.key.now in
-    let both = written_along c.lower_laws.ensures ws (c.args.at + 1) first key (g.S.WordsIn.words c.put_words.new.seg) (g.S.WordsIn.words c.put_key.new.seg) (c.args.at + 12) c.put_words.ensures.words c.put_key.ensures.words (omega arith) in
+    let both = written_along c.lower_laws.ensures ws (c.args.at + 1) first key (g.S.WordsIn.words c.put_words.new.seg) (g.S.WordsIn.words c.put_bytes.new.seg) (c.args.at + 12) c.put_words.ensures.words c.put_bytes.ensures.words (omega arith) in
     let long : length (first ++ key) ≡ 11 + words_in (length c.args.key.now) = length-append first key ∙ ap (λ (n : ℕ). 11 + n) (words_long c.args.key.now) in
     may_write_along c.lower_laws.ensures ws (g.S.WordsIn.aside c.args.seg.now) (c.args.at + 1) (11 + words_in (length c.args.key.now) + image_length c.args.g.now) (first ++ key)
-    (g.S.WordsIn.words c.put_key.new.seg) (g.S.WordsIn.aside c.put_key.new.seg) (c.args.at + 12 + c.div_ceil.result) (image_length c.args.g.now) c.requires.apart both (c.put_key.ensures.aside ∙ c.put_words.ensures.aside) (omega (arith, c.div_ceil.ensures, long)) (omega (arith, long))
+    (g.S.WordsIn.words c.put_bytes.new.seg) (g.S.WordsIn.aside c.put_bytes.new.seg) (c.args.at + 12 + c.div_ceil.result) (image_length c.args.g.now) c.requires.apart both (c.put_bytes.ensures.aside ∙ c.put_words.ensures.aside) (omega (arith, c.div_ceil.ensures, long)) (omega (arith, long))
 
 pub returns-clause-words : goal.returns-clause-words
 returns-clause-words g c =
@@ -44,7 +42,7 @@ returns-clause-words g c =
     let key : List ℕ = words_of c.args.key.now in
     let head : g.S.WordsIn.words c.put_words.new.seg ≡ written ws (c.args.at + 1) first =
     c.put_words.ensures.words ∙ same_run ws (c.args.at + 1) c.from.result c.args.note.next (length c.args.key.now) c.words.result (image_length c.args.g.now) c.from-2.result c.args.note.ttl c.args.note.now c.args.note.number c.from.ensures c.words.ensures.words c.from-2.ensures in
-    let both = written_along c.lower_laws.ensures ws (c.args.at + 1) first key (g.S.WordsIn.words c.put_words.new.seg) (g.S.WordsIn.words c.put_key.new.seg) (c.args.at + 12) head c.put_key.ensures.words (omega arith) in
+    let both = written_along c.lower_laws.ensures ws (c.args.at + 1) first key (g.S.WordsIn.words c.put_words.new.seg) (g.S.WordsIn.words c.put_bytes.new.seg) (c.args.at + 12) head c.put_bytes.ensures.words (omega arith) in
     let long : length (first ++ key) ≡ 11 + words_in (length c.args.key.now) = length-append first key ∙ ap (λ (n : ℕ). 11 + n) (words_long c.args.key.now) in
-    written_along c.lower_laws.ensures ws (c.args.at + 1) (first ++ key) (image_of c.args.g.now) (g.S.WordsIn.words c.put_key.new.seg) (g.S.WordsIn.words c.persist.new.seg) (c.args.at + 12 + c.div_ceil.result) both c.persist.ensures.words (omega (arith, c.div_ceil.ensures, long))
+    written_along c.lower_laws.ensures ws (c.args.at + 1) (first ++ key) (image_of c.args.g.now) (g.S.WordsIn.words c.put_bytes.new.seg) (g.S.WordsIn.words c.persist.new.seg) (c.args.at + 12 + c.div_ceil.result) both c.persist.ensures.words (omega (arith, c.div_ceil.ensures, long))
     ∙ ap (λ (r : List ℕ). written ws (c.args.at + 1) r) (append_assoc first key (image_of c.args.g.now))
