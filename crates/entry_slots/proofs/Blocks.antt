@@ -71,7 +71,7 @@ has_there x (y ∷ ys) c = elim (Contains-cases y ys x c) [
 ]
 
 -- a word that is word 11 of no named block is told
-told_from : (windows : List ℕ) (i : ℕ) → ((x : ℕ) → is_named windows x ≡ true → i ≢ x + 11) → IsTold windows i
+pub told_from : (windows : List ℕ) (i : ℕ) → ((x : ℕ) → is_named windows x ≡ true → i ≢ x + 11) → IsTold windows i
 told_from windows i other =
     let pins : ℕ → Bool = λ at. ltb 0 at && eqb i (at + 11) in
     false_from_ne_true (list_any pins windows) (λ t.

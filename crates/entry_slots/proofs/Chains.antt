@@ -11,7 +11,7 @@ use Rattle.entry_slots.specs.declared.slots.EntrySlots.{EntrySlots}
 use Rattle.entry_slots.specs.Lists.{is_at, has_place, first_place, next_place}
 use Rattle.entry_slots.specs.Entries.{Entries, chain_of}
 use Rattle.entry_slots.specs.Standing.{IsChain, Stands}
-use Rattle.entry_slots.specs.Reading.{HasEntryAt, AreStanding}
+use Rattle.entry_slots.proofs.There.{HasEntryAt}
 use Rattle.entry_slots.proofs.Members.{Contains-first, Contains-later, Contains-filter, Contains-kept, any_there, any_from}
 use Rattle.entry_slots.proofs.Homes.{IsHome, room, home_row, home_removed}
 
@@ -85,7 +85,7 @@ small_after {e = e} {ws = ws} {aside = aside} {at = at} h =
     any-append at xs ys = list_any-append (is_at at) xs ys
 
 -- the first of a chain
-pub small_slot : {e : EntrySlots} {ws : List ℕ} {aside : Aside} (slot : ℕ) → AreStanding e ws aside → slot < e.sma.from → slice_index ws slot < 2 ^ 32
+pub small_slot : {e : EntrySlots} {ws : List ℕ} {aside : Aside} (slot : ℕ) → (s : Entries) × Stands e ws aside s → slot < e.sma.from → slice_index ws slot < 2 ^ 32
 small_slot {e = e} {ws = ws} {aside = aside} slot h lt =
     let small = small_first e ws aside (chain_of h.0 slot) (home_chain slot h.1) in
     omega (arith, chain_first ws (slice_index ws slot) (chain_of h.0 slot) (h.1.chains slot (omega (arith, h.1.from))), small)

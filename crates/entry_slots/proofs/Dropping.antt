@@ -10,7 +10,7 @@ use Rattle.apcu_model.specs.Cache.{Row, extent_of}
 use Rattle.apcu_model.specs.Walk.{is_in_slot}
 use Rattle.entry_slots.specs.declared.slots.EntrySlots.{EntrySlots}
 use Rattle.entry_slots.specs.Lists.{is_at, has_place, only_at, without_place}
-use Rattle.entry_slots.specs.Entries.{Entries, chain_of, removed_at}
+use Rattle.entry_slots.specs.Entries.{Entries, chain_of, removed_at, noted_row, noted_at}
 use Rattle.entry_slots.specs.Standing.{IsChain, IsEntry, Stands}
 use Rattle.entry_slots.specs.Laws.{Laws}
 use Rattle.entry_slots.proofs.Members.{Contains-filter, count-cons}
@@ -35,13 +35,6 @@ cleared_stands law {e} {ws} {aside} s h at v q there place =
     e.removed s.removed s.unlinked
     (chain_kept ws (slice_set ws (at + 1) v) e.removed s.removed (λ row c. set_link h (at + 1) v spot row (λ same. removed_unlinked h row q c there (omega arith))) h.removed_chain)
     (λ row c. home_removed row h c) (λ row c. home_unlinked row h c) (λ p. refl)
-
--- the moment at which it was dropped
-abbrev pub dropped_row : ℕ → ℕ → Row → Row
-dropped_row at t row = cond (is_at at row) (record row { dtime = t }) row
-
-abbrev pub noted : ℕ → ℕ → Entries → Entries
-noted at t s = record s { unlinked = map {A = Row} {B = Row} (dropped_row at t) s.unlinked }
 
 module _ {e : EntrySlots} {ws : List ℕ} {aside : Aside} (s : Entries) (h : Stands e ws aside s) (at t : ℕ) (q : Row) (there : Contains s.unlinked q) (place : q.place ≡ at) where
   ws' : List ℕ
@@ -96,15 +89,15 @@ module _ {e : EntrySlots} {ws : List ℕ} {aside : Aside} (s : Entries) (h : Sta
       (ap (slice_index (slice_set ws (at + 8) t)) (ap (λ n. n + 8) same) ∙ get_or-set_same ws (at + 8) t 0 (omega (arith, w.high, w.enough)))
       (other_word (row.place + 9) (omega arith) ∙ home.entry.hits)
 
-  extents_same : (test : Extent → Bool) (rows : List Row) → count_by (λ row. test (extent_of row)) (map (dropped_row at t) rows) ≡ count_by (λ row. test (extent_of row)) rows
+  extents_same : (test : Extent → Bool) (rows : List Row) → count_by (λ row. test (extent_of row)) (map (noted_row at t) rows) ≡ count_by (λ row. test (extent_of row)) rows
   extents_same test [] = refl
   extents_same test (row ∷ rows) =
-      let same : extent_of (dropped_row at t row) ≡ extent_of row = elim (is_at at row) as (λ b. extent_of (cond b (record row { dtime = t }) row) ≡ extent_of row) [ true ↦ refl | false ↦ refl ] in
-      let one : cond {A = ℕ} (test (extent_of (dropped_row at t row))) 1 0 ≡ cond (test (extent_of row)) 1 0 = ap (λ x. cond {A = ℕ} (test x) 1 0) same in
+      let same : extent_of (noted_row at t row) ≡ extent_of row = elim (is_at at row) as (λ b. extent_of (cond b (record row { dtime = t }) row) ≡ extent_of row) [ true ↦ refl | false ↦ refl ] in
+      let one : cond {A = ℕ} (test (extent_of (noted_row at t row))) 1 0 ≡ cond (test (extent_of row)) 1 0 = ap (λ x. cond {A = ℕ} (test x) 1 0) same in
       let p : Row → Bool = λ r. test (extent_of r) in
-      omega (arith, one, count-cons p (dropped_row at t row) (map (dropped_row at t) rows), count-cons p row rows, extents_same test rows)
+      omega (arith, one, count-cons p (noted_row at t row) (map (noted_row at t) rows), count-cons p row rows, extents_same test rows)
 
-  pub noted_stands : Laws → Stands e (slice_set ws (at + 8) t) aside (noted at t s)
+  pub noted_stands : Laws → Stands e (slice_set ws (at + 8) t) aside (noted_at at t s)
   noted_stands law = record {
     chains = λ slot lt.
         let w = room own in
@@ -115,19 +108,19 @@ module _ {e : EntrySlots} {ws : List ℕ} {aside : Aside} (s : Entries) (h : Sta
     rows = λ row c. entry_kept law ws (slice_set ws (at + 8) t) row (h.rows row c) (row_other row (home_row row h c) (λ same. rows_unlinked h row q c there (sym same)));
     removed = λ row c. entry_kept law ws (slice_set ws (at + 8) t) row (h.removed row c) (row_other row (home_removed row h c) (λ same. removed_unlinked h row q c there (sym same)));
     unlinked = λ x c.
-        let r = map_there (dropped_row at t) s.unlinked x c in
+        let r = map_there (noted_row at t) s.unlinked x c in
         let home = home_unlinked r.0 h r.1 in
         elim (cases_eq r.0.place at) [
           | inl same ↦
-              let here : dropped_row at t r.0 ≡ record r.0 { dtime = t } = ap (λ (b : Bool). let y : Row = cond b (record r.0 { dtime = t }) r.0 in y) (eq-eqb r.0.place at same) in
+              let here : noted_row at t r.0 ≡ record r.0 { dtime = t } = ap (λ (b : Bool). let y : Row = cond b (record r.0 { dtime = t }) r.0 in y) (eq-eqb r.0.place at same) in
               subst (λ y. IsEntry (slice_set ws (at + 8) t) y) (sym here ∙ r.2) (noted_entry law r.0 home same)
           | inr other ↦
-              let here : dropped_row at t r.0 ≡ r.0 = ap (λ (b : Bool). let y : Row = cond b (record r.0 { dtime = t }) r.0 in y) (ne_eqb r.0.place at other) in
+              let here : noted_row at t r.0 ≡ r.0 = ap (λ (b : Bool). let y : Row = cond b (record r.0 { dtime = t }) r.0 in y) (ne_eqb r.0.place at other) in
               subst (λ y. IsEntry (slice_set ws (at + 8) t) y) (sym here ∙ r.2) (entry_kept law ws (slice_set ws (at + 8) t) r.0 home.entry (row_other r.0 home (λ same. other (same ∙ place))))
         ];
     taken = h.taken;
     ready = (law.blocks e.sma ws (slice_set ws (at + 8) t) aside h.ready noted_change).ready;
-    blocks = record { count = λ test. ap (count_by test) (law.blocks e.sma ws (slice_set ws (at + 8) t) aside h.ready noted_change).blocks ∙ omega (arith, h.blocks.count test, count_blocks test s, count_blocks test (noted at t s), extents_same test s.unlinked) };
+    blocks = record { count = λ test. ap (count_by test) (law.blocks e.sma ws (slice_set ws (at + 8) t) aside h.ready noted_change).blocks ∙ omega (arith, h.blocks.count test, count_blocks test s, count_blocks test (noted_at at t s), extents_same test s.unlinked) };
     apart = h.apart;
     number = h.number;
     count = h.count;
@@ -137,37 +130,37 @@ module _ {e : EntrySlots} {ws : List ℕ} {aside : Aside} (s : Entries) (h : Sta
   }
 
 -- the list after both
-dropped_place : (at t : ℕ) (row : Row) → is_at at (dropped_row at t row) ≡ is_at at row
+dropped_place : (at t : ℕ) (row : Row) → is_at at (noted_row at t row) ≡ is_at at row
 dropped_place at t row = elim (is_at at row) as (λ b. is_at at (cond b (record row { dtime = t }) row) ≡ is_at at row) [ true ↦ refl | false ↦ refl ]
 
-pub only_dropped : (at t : ℕ) (rows : List Row) → only_at at (map (dropped_row at t) rows) ≡ map {A = Row} (λ row. record row { dtime = t }) (only_at at rows)
+pub only_dropped : (at t : ℕ) (rows : List Row) → only_at at (map (noted_row at t) rows) ≡ map {A = Row} (λ row. record row { dtime = t }) (only_at at rows)
 only_dropped at t [] = refl
 only_dropped at t (row ∷ rows) = go (is_at at row) refl (only_dropped at t rows)
   where
-    go : (b : Bool) → is_at at row ≡ b → only_at at (map (dropped_row at t) rows) ≡ map {A = Row} (λ r. record r { dtime = t }) (only_at at rows)
-        → only_at at (dropped_row at t row ∷ map (dropped_row at t) rows) ≡ map {A = Row} (λ r. record r { dtime = t }) (only_at at (row ∷ rows))
+    go : (b : Bool) → is_at at row ≡ b → only_at at (map (noted_row at t) rows) ≡ map {A = Row} (λ r. record r { dtime = t }) (only_at at rows)
+        → only_at at (noted_row at t row ∷ map (noted_row at t) rows) ≡ map {A = Row} (λ r. record r { dtime = t }) (only_at at (row ∷ rows))
     go true y rest =
-        let one : dropped_row at t row ≡ record row { dtime = t } = ap (λ (b : Bool). let z : Row = cond b (record row { dtime = t }) row in z) y in
+        let one : noted_row at t row ≡ record row { dtime = t } = ap (λ (b : Bool). let z : Row = cond b (record row { dtime = t }) row in z) y in
         rw (dropped_place at t row ∙ y, y) (ap (λ (b : List Row). let z : Row = record row { dtime = t } in z ∷ b) rest)
     go false y rest = rw (dropped_place at t row ∙ y, y) rest
 
-pub without_dropped : (at t : ℕ) (rows : List Row) → without_place at (map (dropped_row at t) rows) ≡ without_place at rows
+pub without_dropped : (at t : ℕ) (rows : List Row) → without_place at (map (noted_row at t) rows) ≡ without_place at rows
 without_dropped at t [] = refl
 without_dropped at t (row ∷ rows) = go (is_at at row) refl (without_dropped at t rows)
   where
-    go : (b : Bool) → is_at at row ≡ b → without_place at (map (dropped_row at t) rows) ≡ without_place at rows → without_place at (dropped_row at t row ∷ map (dropped_row at t) rows) ≡ without_place at (row ∷ rows)
+    go : (b : Bool) → is_at at row ≡ b → without_place at (map (noted_row at t) rows) ≡ without_place at rows → without_place at (noted_row at t row ∷ map (noted_row at t) rows) ≡ without_place at (row ∷ rows)
     go true y rest = rw (dropped_place at t row ∙ y, y) rest
     go false y rest =
-        let one : dropped_row at t row ≡ row = ap (λ (b : Bool). let z : Row = cond b (record row { dtime = t }) row in z) y in
+        let one : noted_row at t row ≡ row = ap (λ (b : Bool). let z : Row = cond b (record row { dtime = t }) row in z) y in
         rw (dropped_place at t row ∙ y, y) (ap (λ (b : List Row). row ∷ b) rest)
 
-pub moved_noted : (at t : ℕ) (s : Entries) → moved at (noted at t s) ≡ removed_at at t s
+pub moved_noted : (at t : ℕ) (s : Entries) → moved at (noted_at at t s) ≡ removed_at at t s
 moved_noted at t s =
     ap₂ (λ (a b : List Row). let x : Entries = record s { removed = s.removed ++ a; unlinked = b } in x) (only_dropped at t s.unlinked) (without_dropped at t s.unlinked)
 
-pub noted_there : (at t : ℕ) (rows : List Row) → has_place at rows ≡ true → has_place at (map (dropped_row at t) rows) ≡ true
+pub noted_there : (at t : ℕ) (rows : List Row) → has_place at rows ≡ true → has_place at (map (noted_row at t) rows) ≡ true
 noted_there at t rows h = same rows ∙ h
   where
-    same : (rows : List Row) → has_place at (map (dropped_row at t) rows) ≡ has_place at rows
+    same : (rows : List Row) → has_place at (map (noted_row at t) rows) ≡ has_place at rows
     same [] = refl
     same (row ∷ rows) = ap₂ (λ (a b : Bool). a || b) (dropped_place at t row) (same rows)

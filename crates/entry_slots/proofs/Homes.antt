@@ -13,7 +13,7 @@ use Rattle.entry_slots.specs.declared.slots.EntrySlots.{EntrySlots}
 use Rattle.entry_slots.specs.Lists.{is_at}
 use Rattle.entry_slots.specs.Entries.{Entries, blocks_of}
 use Rattle.entry_slots.specs.Standing.{IsEntry, Stands}
-use Rattle.entry_slots.specs.Reading.{HasEntryAt}
+use Rattle.entry_slots.proofs.There.{HasEntryAt}
 use Rattle.entry_slots.proofs.Members.{Contains-map, same_there, any_there}
 use Rattle.entry_slots.proofs.Blocks.{live_bounds, told_in}
 

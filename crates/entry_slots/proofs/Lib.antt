@@ -27,3 +27,10 @@ pub mod Relisting
 pub mod Dropping
 pub mod Numbering
 pub mod Runs
+pub mod Made
+pub mod Now
+pub mod Opening
+pub mod Finding
+pub mod Walking
+pub mod There
+pub mod Leaving

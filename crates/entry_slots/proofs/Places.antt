@@ -10,7 +10,7 @@ use Rattle.apcu_model.specs.Cache.{Row}
 use Rattle.apcu_model.specs.Cache as cache
 use Rattle.entry_slots.specs.declared.slots.EntrySlots.{EntrySlots}
 use Rattle.entry_slots.specs.Lists.{is_at}
-use Rattle.entry_slots.specs.Entries.{Entries, blocks_of}
+use Rattle.entry_slots.specs.Entries.{Entries, listed, blocks_of}
 use Rattle.entry_slots.specs.Standing.{Stands}
 use Rattle.entry_slots.proofs.Blocks.{blocks_between}
 use Rattle.entry_slots.proofs.Members.{Contains-cases, count-cons, count-append, counted, there, none_in_nil}
@@ -117,3 +117,8 @@ one_of x (row ∷ rows) p q few cp cq ep eq' = elim (Contains-cases row rows p c
 -- two rows at one place are one
 pub rows_one : {e : EntrySlots} {ws : List ℕ} {aside : Aside} {s : Entries} → Stands e ws aside s → (p q : Row) → Contains s.rows p → Contains s.rows q → p.place ≡ q.place → p ≡ q
 rows_one {s = s} h p q cp cq e = one_of q.place s.rows p q (omega (arith, once h q.place)) cp cq e refl
+
+-- also of rows and removed rows
+pub listed_one : (e : EntrySlots) (ws : List ℕ) (aside : Aside) (s : Entries) (p q : Row) → Stands e ws aside s → Contains (listed s) p → Contains (listed s) q → p.place ≡ q.place → p ≡ q
+listed_one e ws aside s p q h cp cq same =
+    one_of q.place (listed s) p q (omega (arith, once h q.place, count-append (is_at q.place) s.rows s.removed)) cp cq same refl

@@ -7,6 +7,7 @@ use Rattle.std.specs.List.{Contains, filter, count_by}
 use Rattle.seg_words.specs.declared.extents.Extent.{Extent}
 use Rattle.seg_words.specs.Windows.{Aside}
 use Rattle.sma_blocks.specs.Live.{live_blocks, without_block, SameBlocks}
+use Rattle.sma_blocks.specs.declared.sma.Sma.{Sma}
 use Rattle.sma_blocks.specs.Ready.{IsReady, ChangesInner}
 use Rattle.apcu_model.specs.Cache.{Row, extent_of}
 use Rattle.apcu_model.specs.Walk.{is_in_slot}
@@ -185,10 +186,10 @@ module _ {e : EntrySlots} {ws : List ℕ} {aside : Aside} (s : Entries) (h : Sta
 
 -- ---- a block is given back
 
-pub given_stands : Laws → {e : EntrySlots} {ws : List ℕ} {aside : Aside} (s : Entries) (h : Stands e ws aside s) (at : ℕ) (q : Row) → Contains s.unlinked q → q.place ≡ at → (ws' : List ℕ)
-    → live_blocks ws' e.sma.from ≡ without_block at (live_blocks ws e.sma.from) → SameBlocks ws ws' e.sma.from (without_block at (live_blocks ws e.sma.from)) → IsReady e.sma ws' aside
-    → Stands e ws' aside (record s { unlinked = without_place at s.unlinked })
-given_stands law {e} {ws} {aside} s h at q there place ws' live same ready =
+pub given_stands : Laws → {e : EntrySlots} {ws : List ℕ} {aside : Aside} (s : Entries) (h : Stands e ws aside s) (at : ℕ) (q : Row) → Contains s.unlinked q → q.place ≡ at → (sma' : Sma) (ws' : List ℕ)
+    → live_blocks ws' e.sma.from ≡ without_block at (live_blocks ws e.sma.from) → SameBlocks ws ws' e.sma.from (without_block at (live_blocks ws e.sma.from)) → sma'.from ≡ e.sma.from → sma'.to ≡ e.sma.to → IsReady sma' ws' aside
+    → Stands (record e { sma = sma' }) ws' aside (record s { unlinked = without_place at s.unlinked })
+given_stands law {e} {ws} {aside} s h at q there place sma' ws' live same ef et ready =
     let blocks : List Extent = live_blocks ws e.sma.from in
     let left : List Extent = without_block at blocks in
     let stays : (row : Row) → IsHome e ws aside row → row.place ≢ at → Contains left (extent_of row) = λ row home other. Contains-kept (λ b. not (eqb b.place at)) blocks (extent_of row) home.live (not_from_false (eqb row.place at) (ne_eqb row.place at other)) in
@@ -214,14 +215,15 @@ given_stands law {e} {ws} {aside} s h at q there place ws' live same ready =
             let one : count_by test (filter (at_place at) blocks) ≡ cond (test (extent_of q)) 1 0 = only_passes test (at_place at) blocks (extent_of q) home.live (eq-eqb q.place at place) few in
             let two : count_by p (only_at at s.unlinked) ≡ cond (p q) 1 0 = only_passes p (is_at at) s.unlinked q there (at_itself q at place) (omega (arith, once h at)) in
             let after : Entries = record s { unlinked = without_place at s.unlinked } in
-            ap (count_by test) live ∙ omega (arith, count_split test (at_place at) blocks, one, two, count_split p (is_at at) s.unlinked, h.blocks.count test, count_blocks test s, count_blocks test after);
+            ap (λ from. count_by test (live_blocks ws' from)) ef
+            ∙ (ap (count_by test) live ∙ omega (arith, count_split test (at_place at) blocks, one, two, count_split p (is_at at) s.unlinked, h.blocks.count test, count_blocks test s, count_blocks test after));
       };
       apart = h.apart;
       number = h.number;
       count = h.count;
       good = h.good;
-      from = h.from;
-      to = h.to;
+      from = ef ∙ h.from;
+      to = et ∙ h.to;
     }
 
 -- ---- what the calls need
@@ -267,7 +269,7 @@ off_there s h at there =
       | inr k ↦ (r.0, Contains-append_left (only_at at s.removed) s.unlinked r.0 (Contains-kept (is_at at) s.removed r.0 k (at_itself r.0 at r.2)), r.2)
     ]
 
-only_gone : (at : ℕ) (rows : List Row) → without_place at (only_at at rows) ≡ []
+pub only_gone : (at : ℕ) (rows : List Row) → without_place at (only_at at rows) ≡ []
 only_gone at [] = refl
 only_gone at (row ∷ rows) = go (is_at at row) refl (only_gone at rows)
   where

@@ -21,6 +21,7 @@ use Rattle.entry_slots.proofs.Homes.{IsHome, room, home_row, home_removed, home_
 use Rattle.entry_slots.proofs.Frames.{SameRow, entry_kept, chain_kept}
 use Rattle.entry_slots.proofs.Fitting.{same_fit, fit_free, not_free, count-with_block}
 use Rattle.entry_slots.proofs.Places.{count_blocks}
+use Rattle.entry_slots.proofs.Walks.{stands_along}
 
 -- the place is the one for all blocks
 pub take_place : {e : EntrySlots} {ws : List ℕ} {aside : Aside} (s : Entries) (n : ℕ) → Stands e ws aside s → first_fit e.sma.from e.sma.to n (live_blocks ws e.sma.from) ≡ first_fit s.conf.slots s.conf.words n (blocks_of s)
@@ -43,12 +44,12 @@ take_unnamed e ws aside at n ready some fit =
     let bounds = live_bounds e.sma ws aside f ready block.live in
     false≢true (sym (not_free at n (live_blocks ws e.sma.from) f block.live (omega arith) (omega arith) (omega (arith, bounds.2))) ∙ fit_free e.sma.from e.sma.to n at (live_blocks ws e.sma.from) fit))
 
-pub taken_stands : Laws → {e : EntrySlots} {ws : List ℕ} {aside : Aside} (s : Entries) (at n : ℕ) (ws' : List ℕ) → Stands e ws aside s → 2 ≤ n
+pub taken_stands : Laws → {e : EntrySlots} {ws : List ℕ} {aside : Aside} (s : Entries) (at n : ℕ) (sma' : Sma) (ws' : List ℕ) → Stands e ws aside s → 2 ≤ n
     → first_fit e.sma.from e.sma.to n (live_blocks ws e.sma.from) ≡ Some at
     → live_blocks ws' e.sma.from ≡ with_block (record { place = at; size = n }) (live_blocks ws e.sma.from)
     → SameBlocks ws ws' e.sma.from (live_blocks ws e.sma.from)
-    → IsReady e.sma ws' aside → Stands e ws' aside (with_taken at n s)
-taken_stands law {e} {ws} {aside} s at n ws' h some fit live same ready =
+    → sma'.from ≡ e.sma.from → sma'.to ≡ e.sma.to → IsReady sma' ws' aside → Stands (record e { sma = sma' }) ws' aside (with_taken at n s)
+taken_stands law {e} {ws} {aside} s at n sma' ws' h some fit live same ef et ready =
     let blocks : List Extent = live_blocks ws e.sma.from in
     let new : Extent = record { place = at; size = n } in
     let link : (row : Row) → IsHome e ws aside row → slice_index ws' (row.place + 1) ≡ slice_index ws (row.place + 1) = λ row home. link_same ws' blocks row home same home.live in
@@ -66,24 +67,44 @@ taken_stands law {e} {ws} {aside} s at n ws' h some fit live same ready =
         | inr later ↦ h.taken block later
       ];
       ready = ready;
-      blocks = record { count = λ test. ap (count_by test) live ∙ omega (arith, count-with_block test new blocks, count_blocks test (with_taken at n s), count_blocks test s, h.blocks.count test, count-cons test new s.taken) };
+      blocks = record { count = λ test. ap (λ from. count_by test (live_blocks ws' from)) ef ∙ (ap (count_by test) live ∙ omega (arith, count-with_block test new blocks, count_blocks test (with_taken at n s), count_blocks test s, h.blocks.count test, count-cons test new s.taken)) };
       apart = h.apart;
       number = h.number;
       count = h.count;
       good = h.good;
-      from = h.from;
-      to = h.to;
+      from = ef ∙ h.from;
+      to = et ∙ h.to;
     }
 
 -- what a call of the allocator tells
 pub take_some : Laws → (e : EntrySlots) (ws : List ℕ) (aside : Aside) (n : ℕ) (sma' : Sma) (ws' : List ℕ) (aside' : Aside) (r : Option ℕ) → 2 ≤ n
     → r ≡ first_fit e.sma.from e.sma.to n (live_blocks ws e.sma.from)
     → IfSome r (λ at. live_blocks ws' e.sma.from ≡ with_block (record { place = at; size = n }) (live_blocks ws e.sma.from))
-    → SameBlocks ws ws' e.sma.from (live_blocks ws e.sma.from) → sma' ≡ e.sma → aside' ≡ aside → IsReady sma' ws' aside'
+    → SameBlocks ws ws' e.sma.from (live_blocks ws e.sma.from) → sma'.from ≡ e.sma.from → sma'.to ≡ e.sma.to → aside' ≡ aside → IsReady sma' ws' aside'
     → IfSome r (λ at. (s : Entries) → Stands e ws aside s → Stands (record e { sma = sma' }) ws' aside' (with_taken at n s))
-take_some law e ws aside n sma' ws' aside' None some fit live same es ea ready = tt
-take_some law e ws aside n sma' ws' aside' (Some at) some fit live same es ea ready = λ s h.
-    let old : IsReady e.sma ws' aside = subst (λ a. IsReady e.sma ws' a) ea (subst (λ m. IsReady m ws' aside') es ready) in
-    let done = taken_stands law s at n ws' h some (sym fit) live same old in
+take_some law e ws aside n sma' ws' aside' None some fit live same ef et ea ready = tt
+take_some law e ws aside n sma' ws' aside' (Some at) some fit live same ef et ea ready = λ s h.
     subst (λ a. Stands (record e { sma = sma' }) ws' a (with_taken at n s)) (sym ea)
-    (subst (λ m. Stands (record e { sma = m }) ws' aside (with_taken at n s)) (sym es) done)
+    (taken_stands law s at n sma' ws' h some (sym fit) live same ef et (subst (λ a. IsReady sma' ws' a) ea ready))
+
+-- where nothing was taken
+pub take_none : {e : EntrySlots} {ws : List ℕ} {aside : Aside} {s : Entries} (sma' : Sma) (ws' : List ℕ) (aside' : Aside) → Stands e ws aside s → sma'.from ≡ e.sma.from → sma'.to ≡ e.sma.to → IsReady sma' ws' aside' → ws' ≡ ws → aside' ≡ aside
+    → Stands (record e { sma = sma' }) ws' aside' s
+take_none {e} {ws} {aside} {s} sma' ws' aside' h ef et ready ew ea =
+    let k = stands_along ws' aside' h ew ea in
+    record {
+      chains = k.chains;
+      removed_chain = k.removed_chain;
+      rows = k.rows;
+      removed = k.removed;
+      unlinked = k.unlinked;
+      taken = k.taken;
+      ready = ready;
+      blocks = record { count = λ test. ap (λ from. count_by test (live_blocks ws' from)) ef ∙ k.blocks.count test };
+      apart = k.apart;
+      number = k.number;
+      count = k.count;
+      good = k.good;
+      from = ef ∙ k.from;
+      to = et ∙ k.to;
+    }

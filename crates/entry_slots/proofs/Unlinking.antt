@@ -28,7 +28,7 @@ without_none at (row ∷ rows) h =
     let no' : is_at at row ≡ false = ne_eqb row.place at (h row (Contains-first row rows)) in
     rw no' (ap (λ rs. row ∷ rs) (without_none at rows (λ q c. h q (Contains-later row rows q c))))
 
-filter_swap : (p q : Row → Bool) (rows : List Row) → filter p (filter q rows) ≡ filter q (filter p rows)
+pub filter_swap : (p q : Row → Bool) (rows : List Row) → filter p (filter q rows) ≡ filter q (filter p rows)
 filter_swap p q [] = refl
 filter_swap p q (row ∷ rows) = go (p row) (q row) refl refl (filter_swap p q rows)
   where

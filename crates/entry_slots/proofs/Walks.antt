@@ -10,9 +10,9 @@ use Rattle.seg_words.specs.Windows.{Aside}
 use Rattle.apcu_model.specs.Cache.{Row, has_key}
 use Rattle.apcu_model.specs.Walk.{is_in_slot, slot_of}
 use Rattle.entry_slots.specs.declared.slots.EntrySlots.{EntrySlots}
-use Rattle.entry_slots.specs.Lists.{is_at, first_place}
-use Rattle.entry_slots.specs.Reading.{HasEntryAt}
-use Rattle.entry_slots.specs.Entries.{Entries, chain_of}
+use Rattle.entry_slots.specs.Lists.{is_at, has_place, first_place}
+use Rattle.entry_slots.proofs.There.{HasEntryAt}
+use Rattle.entry_slots.specs.Entries.{Entries, chain_of, listed}
 use Rattle.entry_slots.specs.Standing.{IsChain, Stands}
 use Rattle.entry_slots.proofs.Members.{Contains-first, Contains-filter, any_from}
 use Rattle.entry_slots.proofs.Homes.{room}
@@ -134,14 +134,14 @@ here_row s slot at passed h = (Contains-filter (is_in_slot s.conf slot) s.rows h
 pub here_listed : {ws key : List ℕ} (s : Entries) (slot at passed : ℕ) (h : Here ws key (chain_of s slot) at passed) → Contains (s.rows ++ s.removed) h.row
 here_listed s slot at passed h = Contains-append_left s.rows s.removed h.row (here_row s slot at passed h)
 
+pub walk_there : {ws key : List ℕ} (s : Entries) (slot at passed : ℕ) → Walk ws key (chain_of s slot) at passed → at ≢ 0 → has_place at (listed s) ≡ true
+walk_there s slot at passed walk some =
+    let here = walk_here walk some in
+    any_from (is_at at) (listed s) here.row (here_listed s slot at passed here) (eq-eqb here.row.place at (sym here.place))
+
 pub walk_entry : {e : EntrySlots} {ws key : List ℕ} {aside : Aside} (s : Entries) (slot at passed : ℕ) (ws' : List ℕ) (aside' : Aside) → Stands e ws aside s → Walk ws key (chain_of s slot) at passed → at ≢ 0 → ws' ≡ ws → aside' ≡ aside → HasEntryAt e ws' aside' at
 walk_entry s slot at passed ws' aside' h walk some ew ea =
-    let here = walk_here walk some in
-    record {
-      entries = s;
-      stand = stands_along ws' aside' h ew ea;
-      there = any_from (is_at at) (s.rows ++ s.removed) here.row (here_listed s slot at passed here) (eq-eqb here.row.place at (sym here.place));
-    }
+    record { entries = s; stand = stands_along ws' aside' h ew ea; there = walk_there s slot at passed walk some }
 
 -- no row stands at 0
 pub chain_places : {e : EntrySlots} {ws : List ℕ} {aside : Aside} (s : Entries) (slot : ℕ) → Stands e ws aside s → (row : Row) → Contains (chain_of s slot) row → row.place ≢ 0

@@ -1,16 +1,18 @@
 -- What entries in hash chains stand for: the rows and removed rows of a cache, and the blocks that are in
 -- no list for a while; and how the calls change them.
-use Rattle.std.specs.Prelude.{ℕ, ◌==◌, not, if◌then◌else◌, List, [], ◌∷◌, ◌++◌, length, map, filter, ℤ, Option, Some, None}
+use Rattle.std.specs.Prelude.{◌≡◌, ℕ, ◌<◌, ◌==◌, not, if◌then◌else◌, List, [], ◌∷◌, ◌++◌, length, map, filter, find, Contains, ℤ, Option, Some, None, option_map}
 use Rattle.seg_words.specs.declared.extents.Extent.{Extent}
+use Rattle.seg_words.specs.Gaps.{first_fit}
 use Rattle.php_graph.specs.declared.kind.Kind.{Kind}
 use Rattle.php_graph.specs.declared.kind.Kind.TheVariants as kinds
+use Rattle.php_graph.specs.Graph.{kind_at}
 use Rattle.php_graph.specs.Size.{block_size}
 use Rattle.apcu_model.specs.declared.conf.Conf.{Conf}
 use Rattle.apcu_model.specs.Cache.{Row, Cache, risen, has_key, extent_of}
 use Rattle.apcu_model.specs.Change.{with_row}
 use Rattle.apcu_model.specs.Sequential.{touched}
 use Rattle.apcu_model.specs.Walk.{is_in_slot}
-use Rattle.entry_slots.specs.Lists.{is_at, only_at, without_place}
+use Rattle.entry_slots.specs.Lists.{is_at, only_at, without_place, FollowsIn}
 
 pub record Entries : Type 0 where
   pub conf : Conf
@@ -35,9 +37,42 @@ entries_of c = record { conf = c.conf; rows = c.rows; removed = c.removed; next_
 abbrev pub chain_of : Entries → ℕ → List Row
 chain_of s slot = filter (is_in_slot s.conf slot) s.rows
 
+-- the rows and the removed rows
+abbrev pub listed : Entries → List Row
+listed s = s.rows ++ s.removed
+
+-- the rows that are in no chain any more
+abbrev pub loose : Entries → List Row
+loose s = s.unlinked ++ s.removed
+
 -- all blocks
 abbrev pub blocks_of : Entries → List Extent
 blocks_of s = map extent_of s.rows ++ (map extent_of s.removed ++ (map extent_of s.unlinked ++ s.taken))
+
+-- the least place at which n words fit beside all blocks
+abbrev pub place_for : ℕ → Entries → Option ℕ
+place_for n s = first_fit s.conf.slots s.conf.words n (blocks_of s)
+
+-- the block at `at` for a key and a value
+abbrev pub block_for : ℕ → List ℕ → List Kind → Extent
+block_for at key g = record { place = at; size = block_size (length key) g }
+
+-- one of the rows or removed rows, and its block is at this place
+pub record IsListed (s : Entries) (at : ℕ) (row : Row) : Type 0 where
+  pub there : Contains (listed s) row
+  pub place : row.place ≡ at
+
+-- the row at this place holds an integer
+pub record HoldsInt (s : Entries) (at : ℕ) : Type 0 where
+  pub row : Row
+  pub there : Contains s.rows row
+  pub place : row.place ≡ at
+  pub number : ℤ
+  pub int : kind_at row.graph 1 ≡ Some (kinds.Int number)
+
+-- `next` is the place that follows `at` in the chain of its slot, or 0
+abbrev pub FollowsInChain : Entries → ℕ → ℕ → Type 0
+FollowsInChain s at next = (slot : ℕ) → slot < s.conf.slots → FollowsIn (chain_of s slot) at next
 
 -- a block more that is no row's
 abbrev pub with_taken : ℕ → ℕ → Entries → Entries
@@ -64,6 +99,14 @@ abbrev pub found_place : Option Row → ℕ
 found_place None = 0
 found_place (Some row) = row.place
 
+-- the place of the row of a key, if there is one
+abbrev pub place_of : List ℕ → Entries → Option ℕ
+place_of key s = option_map (λ (row : Row). row.place) (find (has_key key) s.rows)
+
+-- the same, or 0 where there is none
+abbrev pub old_place : List ℕ → Entries → ℕ
+old_place key s = found_place (find (has_key key) s.rows)
+
 -- A new row in the block at `at`, which was taken: it stands in the place of the row of its key, whose block
 -- is loose now, or last where there is none.
 abbrev pub linked : ℕ → List ℕ → List Kind → ℕ → ℕ → Entries → Entries
@@ -77,6 +120,14 @@ linked at key graph ttl t s = record s {
 -- the row at this place is in no chain any more
 abbrev pub unlinked_at : ℕ → Entries → Entries
 unlinked_at at s = record s { rows = without_place at s.rows; unlinked = only_at at s.rows ++ s.unlinked }
+
+-- the row at this place was dropped at the moment t
+abbrev pub noted_row : ℕ → ℕ → Row → Row
+noted_row at t row = if is_at at row then (record row { dtime = t }) else row
+
+-- it is noted of the unlinked row at this place
+abbrev pub noted_at : ℕ → ℕ → Entries → Entries
+noted_at at t s = record s { unlinked = map {A = Row} {B = Row} (noted_row at t) s.unlinked }
 
 -- the unlinked row at this place is the last of the removed rows, dropped at the moment t
 abbrev pub removed_at : ℕ → ℕ → Entries → Entries
@@ -93,9 +144,24 @@ moved_at at s = record s { removed = s.removed ++ only_at at s.unlinked; unlinke
 abbrev pub off_at : ℕ → Entries → Entries
 off_at at s = record s { removed = without_place at s.removed; unlinked = only_at at s.removed ++ s.unlinked }
 
+-- the unlinked row at this place is gone, and so is its block
+abbrev pub given_at : ℕ → Entries → Entries
+given_at at s = record s { unlinked = without_place at s.unlinked }
+
 -- the unlinked or removed row at this place is gone, and so is its block
 abbrev pub freed_at : ℕ → Entries → Entries
 freed_at at s = record s { removed = without_place at s.removed; unlinked = without_place at s.unlinked }
+
+-- the row at this place leaves the rows, and is the last of the removed ones
+abbrev pub dropped_at : ℕ → ℕ → Entries → Entries
+dropped_at at t s = record s {
+  rows = without_place at s.rows;
+  removed = s.removed ++ map {A = Row} (λ row. record row { dtime = t }) (only_at at s.rows);
+}
+
+-- the row at this place is gone, and so is its block
+abbrev pub gone_at : ℕ → Entries → Entries
+gone_at at s = record s { rows = without_place at s.rows }
 
 -- the row at this place was used
 abbrev pub touched_row : ℕ → ℕ → Row → Row

@@ -4,4 +4,6 @@ pub mod Standing
 pub mod Reading
 pub mod Written
 pub mod Links
+pub mod Facts
 pub mod Laws
+pub mod Changes

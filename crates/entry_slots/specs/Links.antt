@@ -1,11 +1,9 @@
 -- The words by which a chain is held together.
 use Rattle.std.specs.Prelude.{◌≡◌, ◌⊎◌, ℕ, ◌+◌, true, List, [], ◌∷◌, ◌++◌, slice_index}
-use Rattle.seg_words.specs.Windows.{Aside}
 use Rattle.apcu_model.specs.Cache.{Row}
-use Rattle.entry_slots.specs.declared.slots.EntrySlots.{EntrySlots}
 use Rattle.entry_slots.specs.Lists.{has_place}
 use Rattle.entry_slots.specs.Entries.{Entries, chain_of}
-use Rattle.entry_slots.specs.Standing.{IsChain, Stands}
+use Rattle.entry_slots.specs.Standing.{IsChain}
 
 -- the word that names what follows these rows, in a chain that begins at the word `first`
 abbrev pub link_after : ℕ → List Row → ℕ
@@ -25,11 +23,6 @@ pub record IsLinkTo (words : List ℕ) (first : ℕ) (chain : List Row) (target 
 -- the chain has a row at this place, or the place is 0
 abbrev pub IsTarget : Entries → ℕ → ℕ → Type 0
 IsTarget s slot target = (target ≡ 0) ⊎ (has_place target (chain_of s slot) ≡ true)
-
-pub record HasTarget (e : EntrySlots) (words : List ℕ) (aside : Aside) (slot target : ℕ) : Type 0 where
-  pub entries : Entries
-  pub stand : Stands e words aside entries
-  pub there : IsTarget entries slot target
 
 -- The list of removed rows begins beside the words. The word `link` of it names the row at `target`, or where
 -- that is 0 it is the list's last word; link 0 is what begins the list.

@@ -1,6 +1,7 @@
 -- When words stand for entries.
 use Rattle.std.specs.Prelude.{◌≡◌, ℕ, ◌+◌, ◌<◌, ◌^◌, true, false, List, [], ◌∷◌, length, slice_index, Contains}
 use Rattle.seg_words.specs.declared.extents.Extent.{Extent}
+use Rattle.seg_words.specs.declared.segment.WordsIn.{Ghosts}
 use Rattle.seg_words.specs.Windows.{Aside, is_named}
 use Rattle.seg_words.specs.Blocks.{image_place}
 use Rattle.sma_blocks.specs.Live.{live_blocks}
@@ -72,3 +73,17 @@ pub record Stands (e : EntrySlots) (words : List ℕ) (aside : Aside) (s : Entri
   pub good : IsGood s.conf
   pub from : e.sma.from ≡ s.conf.slots
   pub to : e.sma.to ≡ s.conf.words
+
+-- the entries that are kept beside the words
+abbrev pub entries : EntrySlots → Entries
+entries e = e.standing.entries
+
+-- the words stand for them
+abbrev pub Stand : {X R : Type 0} → Ghosts X R → EntrySlots → X → Type 0
+Stand g e seg = Stands e (g.words seg) (g.aside seg) (entries e)
+
+-- some words stand for them
+pub record IsStanding (e : EntrySlots) : Type 0 where
+  pub words : List ℕ
+  pub aside : Aside
+  pub stand : Stands e words aside (entries e)

@@ -1,6 +1,7 @@
 //! Keys as words.
 
 ghost use Rattle.std.specs.Prelude.{◌≡◌, ℕ, ◌+◌, ◌/◌, ◌%◌, ◌<◌, ◌≤◌, List, length, slice_index};
+ghost use Rattle.seg_words.specs.Kept.{Kept};
 ghost use Rattle.seg_words.specs.Blocks.{IsTold};
 ghost use Rattle.php_graph.specs.Numbers.{hash_of};
 ghost use Rattle.entry_slots.specs.Written.{IsKeyAt};
@@ -36,9 +37,7 @@ fn word_of_byte<S: Segment>(seg: &mut S, at: u32, i: u32, word: u64) -> u64
     requires told { IsTold (S.aside seg.old).windows (at + i / 8) }
     requires held { 0 < i % 8 → word ≡ slice_index (S.words seg.old) (at + i / 8) }
     ensures word { result ≡ slice_index (S.words seg.old) (at + i / 8) }
-    ensures words { S.words seg.new ≡ S.words seg.old }
-    ensures aside { S.aside seg.new ≡ S.aside seg.old }
-    ensures rest { S.rest seg.new ≡ S.rest seg.old }
+    ensures kept { Kept S.WordsIn seg.old seg.new }
 {
     if i % 8 == 0 {
         seg.load(at + i / 8)
@@ -52,9 +51,7 @@ pub(crate) fn hash_at<S: Segment>(seg: &mut S, at: u32, len: u32) -> u64
     requires inside { at + words_in len ≤ length (S.words seg.old) }
     requires told { (i : ℕ) → at ≤ i → i < at + words_in len → IsTold (S.aside seg.old).windows i }
     ensures hash { (key : List ℕ) → IsKeyAt (S.words seg.old) at len key → result ≡ hash_of key }
-    ensures words { S.words seg.new ≡ S.words seg.old }
-    ensures aside { S.aside seg.new ≡ S.aside seg.old }
-    ensures rest { S.rest seg.new ≡ S.rest seg.old }
+    ensures kept { Kept S.WordsIn seg.old seg.new }
 {
     lower_laws();
     let mut hash = HASH_START;

@@ -3,13 +3,16 @@
 
 mod head;
 mod keys;
+mod laws;
 mod lower;
 mod reading;
 mod removed;
 mod slots;
+mod standing;
 mod writing;
 
 pub use head::Head;
+pub use laws::{leaving_laws, place_laws, standing_laws, window_laws};
 pub use slots::EntrySlots;
 
 #[cfg(test)]

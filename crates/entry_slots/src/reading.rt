@@ -1,6 +1,7 @@
 //! Reading the words of a block.
 
 ghost use Rattle.std.specs.Prelude.{◌≡◌, ℕ, ◌+◌, ◌<◌, ◌≤◌, ◌^◌, ◌==◌, if◌then◌else◌, length, slice_index};
+ghost use Rattle.seg_words.specs.Kept.{Kept};
 ghost use Rattle.seg_words.specs.Blocks.{IsTold};
 
 use seg_words::{Segment, WordsIn};
@@ -9,10 +10,9 @@ use seg_words::{Segment, WordsIn};
 pub(crate) fn first_words<S: Segment>(seg: &mut S, at: u32) -> [u64; 11]
     requires inside { at + 12 ≤ length (S.words seg.old) }
     requires told { (k : ℕ) → k < 11 → IsTold (S.aside seg.old).windows (at + k) }
-    ensures each { (k : ℕ) → k < 11 → slice_index result k ≡ slice_index (S.words seg.old) (at + k) }
-    ensures words { S.words seg.new ≡ S.words seg.old }
-    ensures aside { S.aside seg.new ≡ S.aside seg.old }
-    ensures rest { S.rest seg.new ≡ S.rest seg.old }
+    ensures each { (k : ℕ) → k < 11
+        → slice_index result k ≡ slice_index (S.words seg.old) (at + k) }
+    ensures kept { Kept S.WordsIn seg.old seg.new }
 {
     let mut words = [0; 11];
     for k in 0..11 {
@@ -27,9 +27,7 @@ pub(crate) fn next_of<S: Segment>(seg: &mut S, at: u32) -> u32
     requires told { IsTold (S.aside seg.old).windows (at + 1) }
     requires place { slice_index (S.words seg.old) (at + 1) < 2 ^ 32 }
     ensures next { result ≡ slice_index (S.words seg.old) (at + 1) }
-    ensures words { S.words seg.new ≡ S.words seg.old }
-    ensures aside { S.aside seg.new ≡ S.aside seg.old }
-    ensures rest { S.rest seg.new ≡ S.rest seg.old }
+    ensures kept { Kept S.WordsIn seg.old seg.new }
 {
     seg.load(at + 1) as u32
 }

@@ -1,23 +1,22 @@
-ghost use Rattle.std.specs.Prelude.{◌≡◌, ◌≢◌, ℕ, ◌+◌, ◌%◌, ◌<◌, ◌≤◌, ◌^◌, true, false, ◌++◌, length, slice_index, Contains, option_map, find, ◌==◌, IfSome, IfNone, List, ℤ, Some};
-ghost use Rattle.seg_words.specs.Windows.{Aside, is_named};
-ghost use Rattle.seg_words.specs.Gaps.{first_fit};
-ghost use Rattle.php_graph.specs.Size.{block_size};
+ghost use Rattle.std.specs.Prelude.{◌≡◌, ◌≢◌, ◌⊎◌, ℕ, ◌+◌, ◌%◌, ◌<◌, ◌≤◌, ◌^◌, true, false, length, slice_index, Contains, IfSome, IfNone};
+ghost use Rattle.seg_words.specs.Kept.{Kept, KeptBeside};
+ghost use Rattle.seg_words.specs.Windows.{is_named};
 ghost use Rattle.php_graph.specs.Numbers.{hash_of};
-ghost use Rattle.php_graph.specs.Graph.{kind_at};
-ghost use Rattle.php_graph.specs.declared.kind.Kind.TheVariants as kinds;
 ghost use Rattle.apcu_model.specs.Cache.{Row, has_key};
 ghost use Rattle.apcu_model.specs.Conf.{IsGood};
 ghost use Rattle.apcu_model.specs.Walk.{slot_of};
-ghost use Rattle.entry_slots.specs.Lists.{has_place, first_place, next_place};
-ghost use Rattle.entry_slots.specs.Entries.{Entries, no_entries, chain_of, blocks_of, with_taken, touched_in, with_number, linked, found_place, unlinked_at, removed_at, freed_at};
-ghost use Rattle.entry_slots.specs.Standing.{Stands};
-ghost use Rattle.entry_slots.specs.Links.{IsLinkTo, IsTarget, HasTarget};
-ghost use Rattle.entry_slots.specs.Reading.{AreStanding, HasEntryAt, HasRowAt, IsHeadOf, MayLink, MayFollow, HasUnlinkedAt, HasLooseAt, HasIntAt};
+ghost use Rattle.entry_slots.specs.Lists.{has_place, first_place, FollowsIn};
+ghost use Rattle.entry_slots.specs.Entries.{no_entries, chain_of, listed, loose, place_for, block_for, place_of, old_place, IsListed, HoldsInt, FollowsInChain};
+ghost use Rattle.entry_slots.specs.Entries.{with_taken, touched_in, with_number, linked, unlinked_at, removed_at, freed_at};
+ghost use Rattle.entry_slots.specs.Standing.{Stand, IsStanding, entries};
+ghost use Rattle.entry_slots.specs.Links.{IsLinkTo, IsTarget};
+ghost use Rattle.entry_slots.specs.Reading.{HeadIn};
 
 use crate::head::Head;
 use crate::keys::{hash_at, key_word};
 use crate::lower::lower_laws;
 use crate::reading::{count_after, first_words, next_of};
+use crate::standing::{Change, Standing};
 use crate::writing::{Note, put_entry};
 use apcu_model::Conf;
 use php_graph::{Graph, hash_of};
@@ -28,7 +27,7 @@ use sma_blocks::Sma;
 /// list of removed entries begins beside them. An entry is a block of twelve words, its key and its value.
 ///
 /// It keeps what stands beside the words of a segment. No call takes memory.
-#[derive(Debug, Drop)]
+#[derive(Drop)]
 pub struct EntrySlots {
     pub(crate) sma: Sma,
     /// The place of the first removed entry, or 0.
@@ -37,6 +36,7 @@ pub struct EntrySlots {
     next_number: u64,
     /// The number of rows.
     count: u32,
+    pub(crate) standing: Standing,
 }
 
 impl EntrySlots {
@@ -45,9 +45,9 @@ impl EntrySlots {
         requires good { IsGood conf.now }
         requires all { length (S.words seg.old) ≡ conf.now.words }
         requires closed { (at : ℕ) → is_named (S.aside seg.old).windows at ≡ false }
-        ensures stand { Stands result (S.words seg.new) (S.aside seg.new) (no_entries conf.now) }
-        ensures aside { S.aside seg.new ≡ S.aside seg.old }
-        ensures rest { S.rest seg.new ≡ S.rest seg.old }
+        ensures made { entries result ≡ no_entries conf.now }
+        ensures stand { Stand S.WordsIn result seg.new }
+        ensures beside { KeptBeside S.WordsIn seg.old seg.new }
     {
         for slot in 0..conf.slots {
             seg.store(slot, 0);
@@ -57,12 +57,14 @@ impl EntrySlots {
             removed: 0,
             next_number: 1,
             count: 0,
+            standing: Standing::new(conf),
         }
     }
 
     /// How many rows there are.
     pub fn rows(&self) -> u32
-        ensures { (words : List ℕ) (aside : Aside) (s : Entries) → Stands self.now words aside s → result ≡ length s.rows }
+        requires stand { IsStanding self.now }
+        ensures rows { result ≡ length (entries self.now).rows }
     {
         self.count
     }
@@ -71,61 +73,60 @@ impl EntrySlots {
     /// they fit nowhere, and then nothing changed. The block is loose until it is linked.
     pub fn take<S: Segment>(&mut self, seg: &mut S, n: u32) -> Option<u32>
         requires size { (n % 2 ≡ 0) × (2 ≤ n) }
-        requires stand { AreStanding self.old (S.words seg.old) (S.aside seg.old) }
-        ensures place { (s : Entries) → Stands self.old (S.words seg.old) (S.aside seg.old) s → result ≡ first_fit s.conf.slots s.conf.words n (blocks_of s) }
-        ensures taken { IfSome result (λ at. (s : Entries) → Stands self.old (S.words seg.old) (S.aside seg.old) s → Stands self.new (S.words seg.new) (S.aside seg.new) (with_taken at n s)) }
-        ensures none { IfNone result (S.words seg.new ≡ S.words seg.old) }
-        ensures same { self.new ≡ self.old }
-        ensures aside { S.aside seg.new ≡ S.aside seg.old }
-        ensures rest { S.rest seg.new ≡ S.rest seg.old }
+        requires stand { Stand S.WordsIn self.old seg.old }
+        ensures place { result ≡ place_for n (entries self.old) }
+        ensures taken { IfSome result (λ at.
+            entries self.new ≡ with_taken at n (entries self.old)) }
+        ensures none { IfNone result (entries self.new ≡ entries self.old) }
+        ensures same { IfNone result (S.words seg.new ≡ S.words seg.old) }
+        ensures stand { Stand S.WordsIn self.new seg.new }
+        ensures beside { KeptBeside S.WordsIn seg.old seg.new }
     {
         lower_laws();
-        self.sma.take(seg, n)
+        let Some(at) = self.sma.take(seg, n) else {
+            return None;
+        };
+        self.standing = self.standing.then(&Change::Take(at, n));
+        Some(at)
     }
 
     /// The first entry of a slot's chain, or 0 where the chain is empty.
     pub fn first_in<S: Segment>(&self, seg: &mut S, slot: u32) -> u32
-        requires stand { AreStanding self.now (S.words seg.old) (S.aside seg.old) }
-        requires slot { slot < self.now.sma.from }
-        ensures first { (s : Entries) → Stands self.now (S.words seg.old) (S.aside seg.old) s → result ≡ first_place (chain_of s slot) }
-        ensures words { S.words seg.new ≡ S.words seg.old }
-        ensures aside { S.aside seg.new ≡ S.aside seg.old }
-        ensures rest { S.rest seg.new ≡ S.rest seg.old }
+        requires stand { Stand S.WordsIn self.now seg.old }
+        requires slot { slot < (entries self.now).conf.slots }
+        ensures first { result ≡ first_place (chain_of (entries self.now) slot) }
+        ensures kept { Kept S.WordsIn seg.old seg.new }
     {
         seg.load(slot) as u32
     }
 
     /// The first removed entry, or 0 where there is none.
-    pub fn first_removed<S: Segment>(&self, seg: &mut S) -> u32
-        ensures first { (s : Entries) → Stands self.now (S.words seg.old) (S.aside seg.old) s → result ≡ first_place s.removed }
-        ensures words { S.words seg.new ≡ S.words seg.old }
-        ensures aside { S.aside seg.new ≡ S.aside seg.old }
-        ensures rest { S.rest seg.new ≡ S.rest seg.old }
+    pub fn first_removed(&self) -> u32
+        requires stand { IsStanding self.now }
+        ensures first { result ≡ first_place (entries self.now).removed }
     {
-        let _words = seg.len();
         self.removed
     }
 
     /// The entry that follows one in its chain, or among the removed ones; 0 at the end.
     pub fn after<S: Segment>(&self, seg: &mut S, at: u32) -> u32
-        requires there { HasEntryAt self.now (S.words seg.old) (S.aside seg.old) at }
-        ensures row { (s : Entries) (slot : ℕ) → Stands self.now (S.words seg.old) (S.aside seg.old) s → slot < self.now.sma.from → has_place at (chain_of s slot) ≡ true → result ≡ next_place at (chain_of s slot) }
-        ensures removed { (s : Entries) → Stands self.now (S.words seg.old) (S.aside seg.old) s → has_place at s.removed ≡ true → result ≡ next_place at s.removed }
-        ensures words { S.words seg.new ≡ S.words seg.old }
-        ensures aside { S.aside seg.new ≡ S.aside seg.old }
-        ensures rest { S.rest seg.new ≡ S.rest seg.old }
+        requires stand { Stand S.WordsIn self.now seg.old }
+        requires there { has_place at (listed (entries self.now)) ≡ true }
+        ensures row { FollowsInChain (entries self.now) at result }
+        ensures removed { FollowsIn (entries self.now).removed at result }
+        ensures kept { Kept S.WordsIn seg.old seg.new }
     {
         next_of(seg, at)
     }
 
     /// Whether the entry has this key.
     pub fn key_is<S: Segment>(&self, seg: &mut S, at: u32, key: &[u8]) -> bool
-        requires there { HasEntryAt self.now (S.words seg.old) (S.aside seg.old) at }
+        requires stand { Stand S.WordsIn self.now seg.old }
+        requires there { has_place at (listed (entries self.now)) ≡ true }
         requires short { length key.now < 2 ^ 32 }
-        ensures is { (s : Entries) (row : Row) → Stands self.now (S.words seg.old) (S.aside seg.old) s → Contains (s.rows ++ s.removed) row → row.place ≡ at → result ≡ has_key key.now row }
-        ensures words { S.words seg.new ≡ S.words seg.old }
-        ensures aside { S.aside seg.new ≡ S.aside seg.old }
-        ensures rest { S.rest seg.new ≡ S.rest seg.old }
+        ensures is { (row : Row) → IsListed (entries self.now) at row
+            → result ≡ has_key key.now row }
+        ensures kept { Kept S.WordsIn seg.old seg.new }
     {
         lower_laws();
         if seg.load(at + 2) != key.len() as u64 {
@@ -141,12 +142,10 @@ impl EntrySlots {
 
     /// The block of the row of this key, `None` exactly where no row has it.
     pub fn find<S: Segment>(&self, seg: &mut S, key: &[u8]) -> Option<u32>
-        requires stand { AreStanding self.now (S.words seg.old) (S.aside seg.old) }
+        requires stand { Stand S.WordsIn self.now seg.old }
         requires short { length key.now < 2 ^ 32 }
-        ensures row { (s : Entries) → Stands self.now (S.words seg.old) (S.aside seg.old) s → result ≡ option_map (λ row. row.place) (find (has_key key.now) s.rows) }
-        ensures words { S.words seg.new ≡ S.words seg.old }
-        ensures aside { S.aside seg.new ≡ S.aside seg.old }
-        ensures rest { S.rest seg.new ≡ S.rest seg.old }
+        ensures row { result ≡ place_of key.now (entries self.now) }
+        ensures kept { Kept S.WordsIn seg.old seg.new }
     {
         let slot = (hash_of(key) % u64::from(self.sma.from)) as u32;
         let mut at = self.first_in(seg, slot);
@@ -164,41 +163,43 @@ impl EntrySlots {
 
     /// Notes that the entry was used at the moment `t`: one hit more, but a count stays at the last number.
     pub fn touch<S: Segment>(&mut self, seg: &mut S, at: u32, t: u64)
-        requires there { HasRowAt self.old (S.words seg.old) (S.aside seg.old) at }
-        ensures touched { (s : Entries) → Stands self.old (S.words seg.old) (S.aside seg.old) s → has_place at s.rows ≡ true → Stands self.new (S.words seg.new) (S.aside seg.new) (touched_in at t s) }
-        ensures same { self.new ≡ self.old }
-        ensures aside { S.aside seg.new ≡ S.aside seg.old }
-        ensures rest { S.rest seg.new ≡ S.rest seg.old }
+        requires stand { Stand S.WordsIn self.old seg.old }
+        requires there { has_place at (entries self.old).rows ≡ true }
+        ensures touched { entries self.new ≡ touched_in at t (entries self.old) }
+        ensures stand { Stand S.WordsIn self.new seg.new }
+        ensures beside { KeptBeside S.WordsIn seg.old seg.new }
     {
         lower_laws();
         let hits = seg.load(at + 9);
         seg.store(at + 9, hits.saturating_add(1));
         seg.store(at + 7, t);
+        self.standing = self.standing.then(&Change::Touch(at, t));
     }
 
     /// Makes `n` the value of a row that holds an integer, changed at the moment `t`. No window may name
     /// its block.
     pub fn set_int<S: Segment>(&mut self, seg: &mut S, at: u32, n: i64, t: u64)
-        requires there { HasIntAt self.old (S.words seg.old) (S.aside seg.old) at }
+        requires stand { Stand S.WordsIn self.old seg.old }
+        requires int { HoldsInt (entries self.old) at }
         requires unnamed { is_named (S.aside seg.old).windows at ≡ false }
-        ensures set { (s : Entries) (row : Row) (v : ℤ) → Stands self.old (S.words seg.old) (S.aside seg.old) s → Contains s.rows row → row.place ≡ at → kind_at row.graph 1 ≡ Some (kinds.Int v) → Stands self.new (S.words seg.new) (S.aside seg.new) (with_number at n t s) }
-        ensures same { self.new ≡ self.old }
-        ensures aside { S.aside seg.new ≡ S.aside seg.old }
-        ensures rest { S.rest seg.new ≡ S.rest seg.old }
+        ensures set { entries self.new ≡ with_number at n t (entries self.old) }
+        ensures stand { Stand S.WordsIn self.new seg.new }
+        ensures beside { KeptBeside S.WordsIn seg.old seg.new }
     {
         lower_laws();
         let len = seg.load(at + 2) as u32;
         seg.store(at + 13 + len.div_ceil(8), n.cast_unsigned());
         seg.store(at + 6, t);
+        self.standing = self.standing.then(&Change::SetInt(at, n, t));
     }
 
     /// What the entry's first words say.
     pub fn head<S: Segment>(&self, seg: &mut S, at: u32) -> Head
-        requires there { HasEntryAt self.now (S.words seg.old) (S.aside seg.old) at }
-        ensures head { (s : Entries) (row : Row) → Stands self.now (S.words seg.old) (S.aside seg.old) s → Contains (s.rows ++ s.removed) row → row.place ≡ at → IsHeadOf (S.words seg.old) (S.aside seg.old).windows result row }
-        ensures words { S.words seg.new ≡ S.words seg.old }
-        ensures aside { S.aside seg.new ≡ S.aside seg.old }
-        ensures rest { S.rest seg.new ≡ S.rest seg.old }
+        requires stand { Stand S.WordsIn self.now seg.old }
+        requires there { has_place at (listed (entries self.now)) ≡ true }
+        ensures head { (row : Row) → IsListed (entries self.now) at row
+            → HeadIn S.WordsIn seg.old result row }
+        ensures kept { Kept S.WordsIn seg.old seg.new }
     {
         let words = first_words(seg, at);
         let key_len = words[2] as u32;
@@ -231,11 +232,12 @@ impl EntrySlots {
         replaced: u32,
     )
         requires short { length key.now < 2 ^ 32 }
-        requires may { MayLink self.old (S.words seg.old) (S.aside seg.old) at key.now g.now replaced }
-        ensures linked { (s : Entries) → Stands self.old (S.words seg.old) (S.aside seg.old) s → Contains s.taken (record { place = at; size = block_size (length key.now) g.now }) → replaced ≡ found_place (find (has_key key.now) s.rows)
-            → Stands self.new (S.words seg.new) (S.aside seg.new) (linked at key.now g.now ttl t s) }
-        ensures aside { S.aside seg.new ≡ S.aside seg.old }
-        ensures rest { S.rest seg.new ≡ S.rest seg.old }
+        requires stand { Stand S.WordsIn self.old seg.old }
+        requires taken { Contains (entries self.old).taken (block_for at key.now g.now) }
+        requires replaces { replaced ≡ old_place key.now (entries self.old) }
+        ensures linked { entries self.new ≡ linked at key.now g.now ttl t (entries self.old) }
+        ensures stand { Stand S.WordsIn self.new seg.new }
+        ensures beside { KeptBeside S.WordsIn seg.old seg.new }
     {
         lower_laws();
         g.is_sealed();
@@ -251,6 +253,7 @@ impl EntrySlots {
         seg.store(link, u64::from(at));
         self.next_number = self.next_number.saturating_add(1);
         self.count = count_after(self.count, replaced);
+        self.standing = self.standing.then(&Change::Link(at, key, g, ttl, t));
     }
 
     // The slot of a key.
@@ -264,10 +267,11 @@ impl EntrySlots {
 
     /// Takes the row out of its chain. Its block is loose from now on.
     pub fn unlink<S: Segment>(&mut self, seg: &mut S, at: u32)
-        requires there { HasRowAt self.old (S.words seg.old) (S.aside seg.old) at }
-        ensures unlinked { (s : Entries) → Stands self.old (S.words seg.old) (S.aside seg.old) s → has_place at s.rows ≡ true → Stands self.new (S.words seg.new) (S.aside seg.new) (unlinked_at at s) }
-        ensures aside { S.aside seg.new ≡ S.aside seg.old }
-        ensures rest { S.rest seg.new ≡ S.rest seg.old }
+        requires stand { Stand S.WordsIn self.old seg.old }
+        requires there { has_place at (entries self.old).rows ≡ true }
+        ensures unlinked { entries self.new ≡ unlinked_at at (entries self.old) }
+        ensures stand { Stand S.WordsIn self.new seg.new }
+        ensures beside { KeptBeside S.WordsIn seg.old seg.new }
     {
         lower_laws();
         let slot = self.slot_at(seg, at);
@@ -275,42 +279,47 @@ impl EntrySlots {
         let next = self.behind(seg, at);
         seg.store(link, u64::from(next));
         self.count -= 1;
+        self.standing = self.standing.then(&Change::Unlink(at));
     }
 
     /// Puts the unlinked row at the end of the removed ones, dropped at the moment `t`.
     pub fn to_removed<S: Segment>(&mut self, seg: &mut S, at: u32, t: u64)
-        requires there { HasUnlinkedAt self.old (S.words seg.old) (S.aside seg.old) at }
-        ensures removed { (s : Entries) → Stands self.old (S.words seg.old) (S.aside seg.old) s → has_place at s.unlinked ≡ true → Stands self.new (S.words seg.new) (S.aside seg.new) (removed_at at t s) }
-        ensures aside { S.aside seg.new ≡ S.aside seg.old }
-        ensures rest { S.rest seg.new ≡ S.rest seg.old }
+        requires stand { Stand S.WordsIn self.old seg.old }
+        requires there { has_place at (entries self.old).unlinked ≡ true }
+        ensures removed { entries self.new ≡ removed_at at t (entries self.old) }
+        ensures stand { Stand S.WordsIn self.new seg.new }
+        ensures beside { KeptBeside S.WordsIn seg.old seg.new }
     {
         lower_laws();
         seg.store(at + 1, 0);
         seg.store(at + 8, t);
+        self.standing = self.standing.then(&Change::Note(at, t));
         self.append(seg, at);
     }
 
     /// Gives the block of the unlinked or removed row back. No window may name it.
     pub fn free<S: Segment>(&mut self, seg: &mut S, at: u32)
-        requires there { HasLooseAt self.old (S.words seg.old) (S.aside seg.old) at }
+        requires stand { Stand S.WordsIn self.old seg.old }
+        requires there { has_place at (loose (entries self.old)) ≡ true }
         requires unnamed { is_named (S.aside seg.old).windows at ≡ false }
-        ensures freed { (s : Entries) → Stands self.old (S.words seg.old) (S.aside seg.old) s → has_place at (s.unlinked ++ s.removed) ≡ true → Stands self.new (S.words seg.new) (S.aside seg.new) (freed_at at s) }
-        ensures aside { S.aside seg.new ≡ S.aside seg.old }
-        ensures rest { S.rest seg.new ≡ S.rest seg.old }
+        ensures freed { entries self.new ≡ freed_at at (entries self.old) }
+        ensures stand { Stand S.WordsIn self.new seg.new }
+        ensures beside { KeptBeside S.WordsIn seg.old seg.new }
     {
         lower_laws();
         self.take_off(seg, at);
         self.sma.give(seg, at);
+        self.standing = self.standing.then(&Change::Give(at));
     }
 
     // The slot of the row at a place.
     fn slot_at<S: Segment>(&self, seg: &mut S, at: u32) -> u32
-        requires there { HasRowAt self.now (S.words seg.old) (S.aside seg.old) at }
-        ensures slot { (s : Entries) (row : Row) → Stands self.now (S.words seg.old) (S.aside seg.old) s → Contains s.rows row → row.place ≡ at → result ≡ slot_of s.conf row.key }
+        requires stand { Stand S.WordsIn self.now seg.old }
+        requires there { has_place at (entries self.now).rows ≡ true }
+        ensures slot { (row : Row) → Contains (entries self.now).rows row → row.place ≡ at
+            → result ≡ slot_of (entries self.now).conf row.key }
         ensures low { result < self.now.sma.from }
-        ensures words { S.words seg.new ≡ S.words seg.old }
-        ensures aside { S.aside seg.new ≡ S.aside seg.old }
-        ensures rest { S.rest seg.new ≡ S.rest seg.old }
+        ensures kept { Kept S.WordsIn seg.old seg.new }
     {
         let len = seg.load(at + 2) as u32;
         (hash_at(seg, at + 12, len) % u64::from(self.sma.from)) as u32
@@ -318,12 +327,11 @@ impl EntrySlots {
 
     // What follows the row at a place; nothing follows the place 0.
     fn behind<S: Segment>(&self, seg: &mut S, at: u32) -> u32
-        requires there { MayFollow self.now (S.words seg.old) (S.aside seg.old) at }
+        requires stand { Stand S.WordsIn self.now seg.old }
+        requires there { (at ≡ 0) ⊎ (has_place at (entries self.now).rows ≡ true) }
         ensures next { at ≢ 0 → result ≡ slice_index (S.words seg.old) (at + 1) }
         ensures none { at ≡ 0 → result ≡ 0 }
-        ensures words { S.words seg.new ≡ S.words seg.old }
-        ensures aside { S.aside seg.new ≡ S.aside seg.old }
-        ensures rest { S.rest seg.new ≡ S.rest seg.old }
+        ensures kept { Kept S.WordsIn seg.old seg.new }
     {
         if at == 0 {
             return 0;
@@ -333,12 +341,12 @@ impl EntrySlots {
 
     // The word that names the entry at `target` in the chain of the slot; with 0 the last word of the chain.
     fn link_to<S: Segment>(&self, seg: &mut S, slot: u32, target: u32) -> u32
-        requires there { HasTarget self.now (S.words seg.old) (S.aside seg.old) slot target }
+        requires stand { Stand S.WordsIn self.now seg.old }
+        requires there { IsTarget (entries self.now) slot target }
         requires slot { slot < self.now.sma.from }
-        ensures link { (s : Entries) → Stands self.now (S.words seg.old) (S.aside seg.old) s → IsTarget s slot target → IsLinkTo (S.words seg.old) slot (chain_of s slot) target result }
-        ensures words { S.words seg.new ≡ S.words seg.old }
-        ensures aside { S.aside seg.new ≡ S.aside seg.old }
-        ensures rest { S.rest seg.new ≡ S.rest seg.old }
+        ensures link { IsLinkTo (S.words seg.old) slot
+            (chain_of (entries self.now) slot) target result }
+        ensures kept { Kept S.WordsIn seg.old seg.new }
     {
         let mut link = slot;
         for _passed in 0..self.count {

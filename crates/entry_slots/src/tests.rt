@@ -1,13 +1,14 @@
-ghost use Rattle.std.specs.Prelude.{◌≡◌, ℕ, ◌<◌, ◌≤◌, ◌^◌, false, length, find, IfSome};
+ghost use Rattle.std.specs.Prelude.{◌≡◌, ℕ, ◌<◌, ◌≤◌, ◌^◌, true, false, length, IfSome};
+ghost use Rattle.seg_words.specs.Kept.{Kept, KeptBeside};
 ghost use Rattle.seg_words.specs.Windows.{is_named};
 ghost use Rattle.php_graph.specs.Size.{block_size};
-ghost use Rattle.apcu_model.specs.Cache.{has_key};
 ghost use Rattle.apcu_model.specs.Conf.{IsGood};
-ghost use Rattle.entry_slots.specs.Entries.{Entries, no_entries, with_taken, linked, found_place};
-ghost use Rattle.entry_slots.specs.Standing.{Stands};
-ghost use Rattle.entry_slots.specs.Reading.{AreStanding, HasEntryAt};
+ghost use Rattle.entry_slots.specs.Lists.{has_place};
+ghost use Rattle.entry_slots.specs.Entries.{no_entries, listed, with_taken, linked, old_place};
+ghost use Rattle.entry_slots.specs.Standing.{Stand, entries};
 
 use crate::head::Head;
+use crate::laws::place_laws;
 use crate::slots::EntrySlots;
 use apcu_model::Conf;
 use php_graph::{Builder, Graph, Item, Kind, block_words};
@@ -43,11 +44,13 @@ fn insert<S: Segment>(
 ) -> Option<u32>
     requires short { length key.now < 2 ^ 32 }
     requires small { block_size (length key.now) g.now < 2 ^ 32 }
-    requires stand { AreStanding slots.old (S.words seg.old) (S.aside seg.old) }
-    requires replaced { (s : Entries) → Stands slots.old (S.words seg.old) (S.aside seg.old) s → replaced ≡ found_place (find (has_key key.now) s.rows) }
-    ensures linked { IfSome result (λ at. (s : Entries) → Stands slots.old (S.words seg.old) (S.aside seg.old) s → Stands slots.new (S.words seg.new) (S.aside seg.new) (linked at key.now g.now 0 t (with_taken at (block_size (length key.now) g.now) s))) }
-    ensures stand { AreStanding slots.new (S.words seg.new) (S.aside seg.new) }
-    ensures aside { S.aside seg.new ≡ S.aside seg.old }
+    requires stand { Stand S.WordsIn slots.old seg.old }
+    requires replaces { replaced ≡ old_place key.now (entries slots.old) }
+    ensures linked { IfSome result (λ at.
+        let size = block_size (length key.now) g.now in
+        entries slots.new ≡ linked at key.now g.now 0 t (with_taken at size (entries slots.old))) }
+    ensures stand { Stand S.WordsIn slots.new seg.new }
+    ensures beside { KeptBeside S.WordsIn seg.old seg.new }
 {
     let n = block_words(key.len() as u64, g) as u32;
     let Some(at) = slots.take(seg, n) else {
@@ -66,9 +69,9 @@ fn insert_new<S: Segment>(
     t: u64,
 ) -> Option<u32>
     requires short { length key.now < 2 ^ 32 }
-    requires stand { AreStanding slots.old (S.words seg.old) (S.aside seg.old) }
-    ensures stand { AreStanding slots.new (S.words seg.new) (S.aside seg.new) }
-    ensures aside { S.aside seg.new ≡ S.aside seg.old }
+    requires stand { Stand S.WordsIn slots.old seg.old }
+    ensures stand { Stand S.WordsIn slots.new seg.new }
+    ensures beside { KeptBeside S.WordsIn seg.old seg.new }
 {
     if block_words(key.len() as u64, g) > u64::from(u32::MAX) {
         return None;
@@ -80,13 +83,14 @@ fn insert_new<S: Segment>(
 // The row of the key leaves the rows and becomes a removed one; whether there was one.
 fn drop_key<S: Segment>(slots: &mut EntrySlots, seg: &mut S, key: &[u8], t: u64) -> bool
     requires short { length key.now < 2 ^ 32 }
-    requires stand { AreStanding slots.old (S.words seg.old) (S.aside seg.old) }
-    ensures stand { AreStanding slots.new (S.words seg.new) (S.aside seg.new) }
-    ensures aside { S.aside seg.new ≡ S.aside seg.old }
+    requires stand { Stand S.WordsIn slots.old seg.old }
+    ensures stand { Stand S.WordsIn slots.new seg.new }
+    ensures beside { KeptBeside S.WordsIn seg.old seg.new }
 {
     let Some(at) = slots.find(seg, key) else {
         return false;
     };
+    place_laws();
     slots.unlink(seg, at);
     slots.to_removed(seg, at, t);
     true
@@ -94,15 +98,16 @@ fn drop_key<S: Segment>(slots: &mut EntrySlots, seg: &mut S, key: &[u8], t: u64)
 
 // Frees the first of the removed rows; whether there was one.
 fn sweep_one<S: Segment>(slots: &mut EntrySlots, seg: &mut S) -> bool
-    requires stand { AreStanding slots.old (S.words seg.old) (S.aside seg.old) }
+    requires stand { Stand S.WordsIn slots.old seg.old }
     requires closed { (at : ℕ) → is_named (S.aside seg.old).windows at ≡ false }
-    ensures stand { AreStanding slots.new (S.words seg.new) (S.aside seg.new) }
-    ensures aside { S.aside seg.new ≡ S.aside seg.old }
+    ensures stand { Stand S.WordsIn slots.new seg.new }
+    ensures beside { KeptBeside S.WordsIn seg.old seg.new }
 {
-    let at = slots.first_removed(seg);
+    let at = slots.first_removed();
     if at == 0 {
         return false;
     }
+    place_laws();
     slots.free(seg, at);
     true
 }
@@ -126,9 +131,9 @@ fn writes_the_words_of_an_entry(rt: HostRuntime) -> Result<(), Fail> {
 
 // Three keys of one slot, the one in the middle replaced: where each was put.
 fn fill<S: Segment>(slots: &mut EntrySlots, seg: &mut S, one: &Graph) -> [Option<u32>; 4]
-    requires stand { AreStanding slots.old (S.words seg.old) (S.aside seg.old) }
-    ensures stand { AreStanding slots.new (S.words seg.new) (S.aside seg.new) }
-    ensures aside { S.aside seg.new ≡ S.aside seg.old }
+    requires stand { Stand S.WordsIn slots.old seg.old }
+    ensures stand { Stand S.WordsIn slots.new seg.new }
+    ensures beside { KeptBeside S.WordsIn seg.old seg.new }
 {
     let first = insert_new(slots, seg, b"!", one, 1);
     let second = insert_new(slots, seg, b"A", one, 2);
@@ -162,7 +167,7 @@ fn removes_in_another_order(rt: HostRuntime) -> Result<(), Fail> {
     assert!(rt; drop_key(&mut slots, &mut words, b"a", 5));
     assert!(rt; drop_key(&mut slots, &mut words, b"!", 6));
     assert!(rt; !drop_key(&mut slots, &mut words, b"!", 7));
-    assert_eq!(rt; (slots.rows(), slots.first_removed(&mut words)), (1, 64));
+    assert_eq!(rt; (slots.rows(), slots.first_removed()), (1, 64));
     // one is left in the chain; the removed ones stand by their moments
     let items = words.into_words();
     for (place, word) in [
@@ -263,7 +268,8 @@ fn update<S: Segment>(
 ) -> Option<Read>
     requires short { length key.now < 2 ^ 32 }
     requires small { block_size (length key.now) g.now < 2 ^ 32 }
-    requires fresh { Stands slots.old (S.words seg.old) (S.aside seg.old) (no_entries conf.now) }
+    requires stand { Stand S.WordsIn slots.old seg.old }
+    requires fresh { entries slots.old ≡ no_entries conf.now }
     requires closed { (at : ℕ) → is_named (S.aside seg.old).windows at ≡ false }
     requires ints { 1 ≤ length g.now }
 {
@@ -278,7 +284,8 @@ fn update<S: Segment>(
 
 fn read_at<S: Segment>(slots: &EntrySlots, seg: &mut S, at: u32, key: &[u8]) -> Read
     requires short { length key.now < 2 ^ 32 }
-    requires there { HasEntryAt slots.now (S.words seg.old) (S.aside seg.old) at }
+    requires stand { Stand S.WordsIn slots.now seg.old }
+    requires there { has_place at (listed (entries slots.now)) ≡ true }
 {
     let head = slots.head(seg, at);
     let has_key = slots.key_is(seg, at, key);
@@ -292,10 +299,9 @@ fn read_at<S: Segment>(slots: &EntrySlots, seg: &mut S, at: u32, key: &[u8]) -> 
 
 // Whether the chain of the slot is empty.
 fn is_empty_in<S: Segment>(slots: &EntrySlots, seg: &mut S, slot: u32) -> bool
-    requires stand { AreStanding slots.now (S.words seg.old) (S.aside seg.old) }
-    requires slot { slot < slots.now.sma.from }
-    ensures words { S.words seg.new ≡ S.words seg.old }
-    ensures aside { S.aside seg.new ≡ S.aside seg.old }
+    requires stand { Stand S.WordsIn slots.now seg.old }
+    requires slot { slot < (entries slots.now).conf.slots }
+    ensures kept { Kept S.WordsIn seg.old seg.new }
 {
     slots.first_in(seg, slot) == 0
 }

@@ -1,6 +1,7 @@
 //! Writing the block of an entry.
 
 ghost use Rattle.std.specs.Prelude.{◌≡◌, ◌+◌, ◌<◌, ◌^◌, length};
+ghost use Rattle.seg_words.specs.Kept.{KeptBeside};
 ghost use Rattle.php_graph.specs.Size.{words_in, image_length};
 ghost use Rattle.value_image.specs.Rows.{written, MayWrite};
 ghost use Rattle.entry_slots.specs.Written.{entry_words};
@@ -25,10 +26,11 @@ pub(crate) struct Note {
 pub(crate) fn put_entry<S: Segment>(seg: &mut S, at: u32, key: &[u8], g: &Graph, note: Note)
     requires short { length key.now < 2 ^ 32 }
     requires small { image_length g.now < 2 ^ 32 }
-    requires apart { MayWrite (S.words seg.old) (S.aside seg.old).windows (at + 1) (11 + words_in (length key.now) + image_length g.now) }
-    ensures words { S.words seg.new ≡ written (S.words seg.old) (at + 1) (entry_words key.now g.now note) }
-    ensures aside { S.aside seg.new ≡ S.aside seg.old }
-    ensures rest { S.rest seg.new ≡ S.rest seg.old }
+    requires apart { MayWrite (S.words seg.old) (S.aside seg.old).windows (at + 1)
+        (11 + words_in (length key.now) + image_length g.now) }
+    ensures words { S.words seg.new
+        ≡ written (S.words seg.old) (at + 1) (entry_words key.now g.now note) }
+    ensures beside { KeptBeside S.WordsIn seg.old seg.new }
 {
     lower_laws();
     let first = [
@@ -53,8 +55,7 @@ pub(crate) fn put_entry<S: Segment>(seg: &mut S, at: u32, key: &[u8], g: &Graph,
 fn put_words<S: Segment>(seg: &mut S, at: u32, run: &[u64])
     requires { MayWrite (S.words seg.old) (S.aside seg.old).windows at (length run.now) }
     ensures words { S.words seg.new ≡ written (S.words seg.old) at run.now }
-    ensures aside { S.aside seg.new ≡ S.aside seg.old }
-    ensures rest { S.rest seg.new ≡ S.rest seg.old }
+    ensures beside { KeptBeside S.WordsIn seg.old seg.new }
 {
     lower_laws();
     for i in 0..run.len() {

@@ -1,4 +1,5 @@
 ghost use Rattle.std.specs.Prelude.{◌≡◌, ℕ, ◌+◌, ◌%◌, ◌<◌, ◌≤◌, true, false, not, [], ◌∷◌, length, slice_index, IfSome, IfNone, option_map, find, sum_by, nat_le};
+ghost use Rattle.seg_words.specs.Kept.{Kept, KeptBeside};
 ghost use Rattle.seg_words.specs.Windows.{is_named};
 ghost use Rattle.seg_words.specs.Blocks.{MayStore};
 ghost use Rattle.seg_words.specs.Gaps.{first_fit, free_runs};
@@ -37,8 +38,7 @@ impl Sma {
         ensures ready { IsReady result (S.words seg.new) (S.aside seg.new) }
         ensures empty { live_blocks (S.words seg.new) from ≡ [] }
         ensures before { SameBlocks (S.words seg.old) (S.words seg.new) from [] }
-        ensures aside { S.aside seg.new ≡ S.aside seg.old }
-        ensures rest { S.rest seg.new ≡ S.rest seg.old }
+        ensures beside { KeptBeside S.WordsIn seg.old seg.new }
     {
         let to = seg.len();
         seg.store(from, u64::from(to - from) + 1);
@@ -55,10 +55,10 @@ impl Sma {
         ensures word { IfSome result (λ at. slice_index (S.words seg.new) at ≡ n) }
         ensures others { SameBlocks (S.words seg.old) (S.words seg.new) self.old.from (live_blocks (S.words seg.old) self.old.from) }
         ensures none { IfNone result (S.words seg.new ≡ S.words seg.old) }
-        ensures same { self.new ≡ self.old }
+        ensures from { self.new.from ≡ self.old.from }
+        ensures to { self.new.to ≡ self.old.to }
         ensures ready { IsReady self.new (S.words seg.new) (S.aside seg.new) }
-        ensures aside { S.aside seg.new ≡ S.aside seg.old }
-        ensures rest { S.rest seg.new ≡ S.rest seg.old }
+        ensures beside { KeptBeside S.WordsIn seg.old seg.new }
     {
         fit_laws();
         let mut at = self.from;
@@ -81,10 +81,10 @@ impl Sma {
         requires ready { IsReady self.old (S.words seg.old) (S.aside seg.old) }
         ensures given { live_blocks (S.words seg.new) self.old.from ≡ without_block at (live_blocks (S.words seg.old) self.old.from) }
         ensures others { SameBlocks (S.words seg.old) (S.words seg.new) self.old.from (without_block at (live_blocks (S.words seg.old) self.old.from)) }
-        ensures same { self.new ≡ self.old }
+        ensures from { self.new.from ≡ self.old.from }
+        ensures to { self.new.to ≡ self.old.to }
         ensures ready { IsReady self.new (S.words seg.new) (S.aside seg.new) }
-        ensures aside { S.aside seg.new ≡ S.aside seg.old }
-        ensures rest { S.rest seg.new ≡ S.rest seg.old }
+        ensures beside { KeptBeside S.WordsIn seg.old seg.new }
     {
         let first = self.free_before(seg, at);
         let given = self.part_at(seg, at);
@@ -96,9 +96,7 @@ impl Sma {
     pub fn free_words<S: Segment>(&self, seg: &mut S) -> u32
         requires { IsReady self.now (S.words seg.old) (S.aside seg.old) }
         ensures value { result ≡ sum_by (λ run. run.size) (free_runs self.now.from self.now.to (live_blocks (S.words seg.old) self.now.from)) }
-        ensures words { S.words seg.new ≡ S.words seg.old }
-        ensures aside { S.aside seg.new ≡ S.aside seg.old }
-        ensures rest { S.rest seg.new ≡ S.rest seg.old }
+        ensures kept { Kept S.WordsIn seg.old seg.new }
     {
         let mut free = 0;
         let mut at = self.from;
@@ -116,9 +114,7 @@ impl Sma {
     pub fn largest<S: Segment>(&self, seg: &mut S) -> u32
         requires { IsReady self.now (S.words seg.old) (S.aside seg.old) }
         ensures value { result ≡ largest_of (free_runs self.now.from self.now.to (live_blocks (S.words seg.old) self.now.from)) }
-        ensures words { S.words seg.new ≡ S.words seg.old }
-        ensures aside { S.aside seg.new ≡ S.aside seg.old }
-        ensures rest { S.rest seg.new ≡ S.rest seg.old }
+        ensures kept { Kept S.WordsIn seg.old seg.new }
     {
         let mut largest = 0;
         let mut at = self.from;
@@ -136,9 +132,7 @@ impl Sma {
     pub fn gap_from<S: Segment>(&self, seg: &mut S, at: u32) -> Option<(u32, u32)>
         requires { IsReady self.now (S.words seg.old) (S.aside seg.old) }
         ensures value { result ≡ option_map (λ run. (run.place, run.size)) (find (λ run. nat_le at run.place) (free_runs self.now.from self.now.to (live_blocks (S.words seg.old) self.now.from))) }
-        ensures words { S.words seg.new ≡ S.words seg.old }
-        ensures aside { S.aside seg.new ≡ S.aside seg.old }
-        ensures rest { S.rest seg.new ≡ S.rest seg.old }
+        ensures kept { Kept S.WordsIn seg.old seg.new }
     {
         let mut place = self.from;
         while place < self.to {
@@ -156,9 +150,7 @@ impl Sma {
         requires ready { IsReady self.now (S.words seg.old) (S.aside seg.old) }
         requires live { IsLive (live_blocks (S.words seg.old) self.now.from) at }
         ensures free { IsFreeBefore (S.words seg.old) self.now.from result at }
-        ensures words { S.words seg.new ≡ S.words seg.old }
-        ensures aside { S.aside seg.new ≡ S.aside seg.old }
-        ensures rest { S.rest seg.new ≡ S.rest seg.old }
+        ensures kept { Kept S.WordsIn seg.old seg.new }
     {
         let mut first = self.from;
         let mut place = self.from;
@@ -179,9 +171,7 @@ impl Sma {
         requires inside { end ≤ self.now.to }
         ensures free { IsFreeAfter (S.words seg.old) end result }
         ensures within { result ≤ self.now.to }
-        ensures words { S.words seg.new ≡ S.words seg.old }
-        ensures aside { S.aside seg.new ≡ S.aside seg.old }
-        ensures rest { S.rest seg.new ≡ S.rest seg.old }
+        ensures kept { Kept S.WordsIn seg.old seg.new }
     {
         if end < self.to {
             let next = self.part_at(seg, end);
@@ -200,9 +190,7 @@ impl Sma {
         ensures is { pieces (S.words seg.old) at ≡ record { place = at; size = result.size; live = not result.is_gap } ∷ pieces (S.words seg.old) (at + result.size) }
         ensures edge { IsEdge (S.words seg.old) self.now.from (at + result.size) }
         ensures size { (2 ≤ result.size) × (result.size % 2 ≡ 0) × (at + result.size ≤ self.now.to) }
-        ensures words { S.words seg.new ≡ S.words seg.old }
-        ensures aside { S.aside seg.new ≡ S.aside seg.old }
-        ensures rest { S.rest seg.new ≡ S.rest seg.old }
+        ensures kept { Kept S.WordsIn seg.old seg.new }
     {
         let word = seg.load(at);
         Part {
@@ -218,8 +206,7 @@ fn cut<S: Segment>(seg: &mut S, at: u32, size: u32, n: u32)
     requires size { (1 ≤ n) × (n ≤ size) }
     requires apart { (i : ℕ) → at ≤ i → i < at + size → MayStore (S.words seg.old) (S.aside seg.old).windows i }
     ensures words { S.words seg.new ≡ cut_words (S.words seg.old) at size n }
-    ensures aside { S.aside seg.new ≡ S.aside seg.old }
-    ensures rest { S.rest seg.new ≡ S.rest seg.old }
+    ensures beside { KeptBeside S.WordsIn seg.old seg.new }
 {
     if n < size {
         seg.store(at + n, u64::from(size - n) + 1);

@@ -1,6 +1,7 @@
 //! Byte strings as words.
 
 ghost use Rattle.std.specs.Prelude.{◌≡◌, ◌+◌, ◌/◌, ◌%◌, ℕ, ◌≤◌, ◌<◌, length, take, drop};
+ghost use Rattle.seg_words.specs.Kept.{Kept, KeptBeside};
 ghost use Rattle.php_graph.specs.Size.{words_in};
 ghost use Rattle.seg_words.specs.Blocks.{IsTold};
 ghost use Rattle.value_image.specs.Packed.{words_of, bytes_of, word_at};
@@ -13,8 +14,7 @@ use seg_words::{Segment, WordsIn};
 pub fn put_bytes<S: Segment>(seg: &mut S, at: u32, bytes: &[u8])
     requires { MayWrite (S.words seg.old) (S.aside seg.old).windows at (words_in (length bytes.now)) }
     ensures words { S.words seg.new ≡ written (S.words seg.old) at (words_of bytes.now) }
-    ensures aside { S.aside seg.new ≡ S.aside seg.old }
-    ensures rest { S.rest seg.new ≡ S.rest seg.old }
+    ensures beside { KeptBeside S.WordsIn seg.old seg.new }
 {
     let full = bytes.len() / 8;
     for i in 0..full {
@@ -46,9 +46,7 @@ pub fn get_bytes<W: WordsIn>(from: &mut W, at: u32, out: &mut [u8])
     requires told { (i : ℕ) → at ≤ i → i < at + words_in (length out.old)
         → IsTold (W.aside from.old).windows i }
     ensures bytes { out.new ≡ take (length out.old) (bytes_of (drop at (W.words from.old))) }
-    ensures words { W.words from.new ≡ W.words from.old }
-    ensures aside { W.aside from.new ≡ W.aside from.old }
-    ensures rest { W.rest from.new ≡ W.rest from.old }
+    ensures kept { Kept W.WordsIn from.old from.new }
 {
     let full = out.len() / 8;
     for i in 0..full {

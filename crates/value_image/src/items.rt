@@ -1,6 +1,7 @@
 //! What containers hold, from words.
 
 ghost use Rattle.std.specs.Prelude.{◌≡◌, ℕ, ◌+◌, ◌*◌, ◌<◌, ◌^◌, ◌≤◌, List, length, take, drop, sum_by, IfOk};
+ghost use Rattle.seg_words.specs.Kept.{Kept};
 ghost use Rattle.php_graph.specs.declared.key.Key.{Key};
 ghost use Rattle.php_graph.specs.declared.child.Child.{Child};
 ghost use Rattle.php_graph.specs.Size.{words_in, key_cells};
@@ -25,9 +26,7 @@ fn read_bytes<W: WordsIn>(
     requires inside { at + words_in len ≤ length (W.words from.old) }
     requires told { (i : ℕ) → at ≤ i → i < at + words_in len → IsTold (W.aside from.old).windows i }
     ensures bytes { IfOk result (λ bytes. bytes ≡ take len (bytes_of (drop at (W.words from.old)))) }
-    ensures words { W.words from.new ≡ W.words from.old }
-    ensures aside { W.aside from.new ≡ W.aside from.old }
-    ensures rest { W.rest from.new ≡ W.rest from.old }
+    ensures kept { Kept W.WordsIn from.old from.new }
 {
     let mut bytes = Vec::from_elem(alloc, 0u8, len as usize)?;
     get_bytes(from, at, bytes.as_mut_slice());
@@ -47,9 +46,7 @@ pub(crate) fn read_text<W: WordsIn>(
         → IsStringAt (W.words from.old) (W.aside from.old).windows at bytes
         → tag ≡ 3 + 8 * length bytes
         → IfOk result (λ r. (r.0 ≡ bytes) × (r.1 ≡ at + (1 + words_in (length bytes)))) }
-    ensures words { W.words from.new ≡ W.words from.old }
-    ensures aside { W.aside from.new ≡ W.aside from.old }
-    ensures rest { W.rest from.new ≡ W.rest from.old }
+    ensures kept { Kept W.WordsIn from.old from.new }
 {
     let len = (tag / 8) as u32;
     let bytes = read_bytes(alloc, from, at + 1, len)?;
@@ -66,9 +63,7 @@ pub(crate) fn read_string<W: WordsIn>(
     ensures string { (bytes : List ℕ)
         → IsStringAt (W.words from.old) (W.aside from.old).windows at bytes
         → IfOk result (λ r. (r.0 ≡ bytes) × (r.1 ≡ at + (1 + words_in (length bytes)))) }
-    ensures words { W.words from.new ≡ W.words from.old }
-    ensures aside { W.aside from.new ≡ W.aside from.old }
-    ensures rest { W.rest from.new ≡ W.rest from.old }
+    ensures kept { Kept W.WordsIn from.old from.new }
 {
     let tag = from.load(at);
     read_text(alloc, from, at, tag)
@@ -83,9 +78,7 @@ pub(crate) fn read_key<W: WordsIn>(
     requires { (key : Key) × IsKeyAt (W.words from.old) (W.aside from.old).windows at key }
     ensures key { (key : Key) → IsKeyAt (W.words from.old) (W.aside from.old).windows at key
         → IfOk result (λ r. (r.0 ≡ key) × (r.1 ≡ at + key_cells key)) }
-    ensures words { W.words from.new ≡ W.words from.old }
-    ensures aside { W.aside from.new ≡ W.aside from.old }
-    ensures rest { W.rest from.new ≡ W.rest from.old }
+    ensures kept { Kept W.WordsIn from.old from.new }
 {
     let tag = from.load(at);
     if tag == INT {
@@ -119,9 +112,7 @@ fn read_member<W: WordsIn>(
     ensures member { (m : Key × Child)
         → IsMemberAt (W.words from.old) (W.aside from.old).windows at m
         → IfOk result (λ r. ((r.0, r.1) ≡ m) × (r.2 ≡ at + (1 + key_cells m.0))) }
-    ensures words { W.words from.new ≡ W.words from.old }
-    ensures aside { W.aside from.new ≡ W.aside from.old }
-    ensures rest { W.rest from.new ≡ W.rest from.old }
+    ensures kept { Kept W.WordsIn from.old from.new }
 {
     let child = child_in(from.load(at));
     let (key, next) = read_key(alloc, from, at + 1)?;
@@ -140,9 +131,7 @@ pub(crate) fn read_members<W: WordsIn>(
     ensures members { (ms : List (Key × Child))
         → AreMembersAt (W.words from.old) (W.aside from.old).windows at count ms
         → IfOk result (λ r. (r.0 ≡ ms) × (r.1 ≡ at + sum_by (λ m. 1 + key_cells m.0) ms)) }
-    ensures words { W.words from.new ≡ W.words from.old }
-    ensures aside { W.aside from.new ≡ W.aside from.old }
-    ensures rest { W.rest from.new ≡ W.rest from.old }
+    ensures kept { Kept W.WordsIn from.old from.new }
 {
     let mut items = Vec::with_capacity(alloc, count as usize)?;
     let mut next = at;
@@ -165,9 +154,7 @@ fn read_property<W: WordsIn>(
     ensures property { (p : List ℕ × Child)
         → IsPropertyAt (W.words from.old) (W.aside from.old).windows at p
         → IfOk result (λ r. ((r.0, r.1) ≡ p) × (r.2 ≡ at + (2 + words_in (length p.0)))) }
-    ensures words { W.words from.new ≡ W.words from.old }
-    ensures aside { W.aside from.new ≡ W.aside from.old }
-    ensures rest { W.rest from.new ≡ W.rest from.old }
+    ensures kept { Kept W.WordsIn from.old from.new }
 {
     let child = child_in(from.load(at));
     let (name, next) = read_string(alloc, from, at + 1)?;
@@ -186,9 +173,7 @@ pub(crate) fn read_properties<W: WordsIn>(
     ensures properties { (ps : List (List ℕ × Child))
         → ArePropertiesAt (W.words from.old) (W.aside from.old).windows at count ps
         → IfOk result (λ r. (r.0 ≡ ps) × (r.1 ≡ at + sum_by (λ p. 2 + words_in (length p.0)) ps)) }
-    ensures words { W.words from.new ≡ W.words from.old }
-    ensures aside { W.aside from.new ≡ W.aside from.old }
-    ensures rest { W.rest from.new ≡ W.rest from.old }
+    ensures kept { Kept W.WordsIn from.old from.new }
 {
     let mut items = Vec::with_capacity(alloc, count as usize)?;
     let mut next = at;

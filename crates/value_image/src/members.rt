@@ -1,6 +1,7 @@
 //! What containers hold, as words.
 
 ghost use Rattle.std.specs.Prelude.{◌≡◌, ◌+◌, ◌*◌, ◌<◌, ◌^◌, ◌≤◌, [], ◌∷◌, length, sum_by};
+ghost use Rattle.seg_words.specs.Kept.{KeptBeside};
 ghost use Rattle.std.specs.List.{flat_map};
 ghost use Rattle.php_graph.specs.Size.{words_in, key_cells, image_length, offset_of};
 ghost use Rattle.value_image.specs.Rows.{written, MayWrite};
@@ -21,8 +22,7 @@ pub(crate) fn put_one<S: Segment>(seg: &mut S, at: u32, word: u64) -> u32
     requires { MayWrite (S.words seg.old) (S.aside seg.old).windows at 1 }
     ensures words { S.words seg.new ≡ written (S.words seg.old) at (word ∷ []) }
     ensures end { result ≡ at + 1 }
-    ensures aside { S.aside seg.new ≡ S.aside seg.old }
-    ensures rest { S.rest seg.new ≡ S.rest seg.old }
+    ensures beside { KeptBeside S.WordsIn seg.old seg.new }
 {
     seg.store(at, word);
     at + 1
@@ -33,8 +33,7 @@ pub(crate) fn put_two<S: Segment>(seg: &mut S, at: u32, first: u64, second: u64)
     requires { MayWrite (S.words seg.old) (S.aside seg.old).windows at 2 }
     ensures words { S.words seg.new ≡ written (S.words seg.old) at (first ∷ second ∷ []) }
     ensures end { result ≡ at + 2 }
-    ensures aside { S.aside seg.new ≡ S.aside seg.old }
-    ensures rest { S.rest seg.new ≡ S.rest seg.old }
+    ensures beside { KeptBeside S.WordsIn seg.old seg.new }
 {
     let next = put_one(seg, at, first);
     put_one(seg, next, second)
@@ -46,8 +45,7 @@ pub(crate) fn put_string<S: Segment>(seg: &mut S, at: u32, bytes: &Bytes) -> u32
         (1 + words_in (length bytes.now)) }
     ensures words { S.words seg.new ≡ written (S.words seg.old) at (string_words bytes.now) }
     ensures end { result ≡ at + (1 + words_in (length bytes.now)) }
-    ensures aside { S.aside seg.new ≡ S.aside seg.old }
-    ensures rest { S.rest seg.new ≡ S.rest seg.old }
+    ensures beside { KeptBeside S.WordsIn seg.old seg.new }
 {
     let bytes = bytes.as_slice();
     let next = put_one(seg, at, STR + 8 * bytes.len() as u64);
@@ -60,8 +58,7 @@ pub(crate) fn put_key<S: Segment>(seg: &mut S, at: u32, key: &Key) -> u32
     requires { MayWrite (S.words seg.old) (S.aside seg.old).windows at (key_cells key.now) }
     ensures words { S.words seg.new ≡ written (S.words seg.old) at (key_words key.now) }
     ensures end { result ≡ at + key_cells key.now }
-    ensures aside { S.aside seg.new ≡ S.aside seg.old }
-    ensures rest { S.rest seg.new ≡ S.rest seg.old }
+    ensures beside { KeptBeside S.WordsIn seg.old seg.new }
 {
     match key {
         Key::Int(number) => put_two(seg, at, INT, number.cast_unsigned()),
@@ -90,8 +87,7 @@ fn put_member<S: Segment>(seg: &mut S, at: u32, g: &Graph, key: &Key, child: Chi
     ensures words { S.words seg.new
         ≡ written (S.words seg.old) at (member_words (offset_of g.now) (key.now, child)) }
     ensures end { result ≡ at + (1 + key_cells key.now) }
-    ensures aside { S.aside seg.new ≡ S.aside seg.old }
-    ensures rest { S.rest seg.new ≡ S.rest seg.old }
+    ensures beside { KeptBeside S.WordsIn seg.old seg.new }
 {
     let next = put_one(seg, at, child_word(g, child));
     put_key(seg, next, key)
@@ -106,8 +102,7 @@ pub(crate) fn put_members<S: Segment>(seg: &mut S, at: u32, g: &Graph, members: 
     ensures words { S.words seg.new
         ≡ written (S.words seg.old) at (flat_map (member_words (offset_of g.now)) members.now) }
     ensures end { result ≡ at + sum_by (λ m. 1 + key_cells m.0) members.now }
-    ensures aside { S.aside seg.new ≡ S.aside seg.old }
-    ensures rest { S.rest seg.new ≡ S.rest seg.old }
+    ensures beside { KeptBeside S.WordsIn seg.old seg.new }
 {
     let mut next = at;
     for i in 0..members.len() {
@@ -126,8 +121,7 @@ fn put_property<S: Segment>(seg: &mut S, at: u32, g: &Graph, name: &Bytes, child
     ensures words { S.words seg.new
         ≡ written (S.words seg.old) at (property_words (offset_of g.now) (name.now, child)) }
     ensures end { result ≡ at + (2 + words_in (length name.now)) }
-    ensures aside { S.aside seg.new ≡ S.aside seg.old }
-    ensures rest { S.rest seg.new ≡ S.rest seg.old }
+    ensures beside { KeptBeside S.WordsIn seg.old seg.new }
 {
     let next = put_one(seg, at, child_word(g, child));
     put_string(seg, next, name)
@@ -142,8 +136,7 @@ pub(crate) fn put_properties<S: Segment>(seg: &mut S, at: u32, g: &Graph, props:
     ensures words { S.words seg.new
         ≡ written (S.words seg.old) at (flat_map (property_words (offset_of g.now)) props.now) }
     ensures end { result ≡ at + sum_by (λ p. 2 + words_in (length p.0)) props.now }
-    ensures aside { S.aside seg.new ≡ S.aside seg.old }
-    ensures rest { S.rest seg.new ≡ S.rest seg.old }
+    ensures beside { KeptBeside S.WordsIn seg.old seg.new }
 {
     let mut next = at;
     for i in 0..props.len() {

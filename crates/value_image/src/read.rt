@@ -1,6 +1,7 @@
 //! The graph of an image.
 
 ghost use Rattle.std.specs.Prelude.{◌≡◌, ◌+◌, ℕ, ◌≤◌, ◌<◌, List, IfOk, length, sum_by};
+ghost use Rattle.seg_words.specs.Kept.{Kept};
 ghost use Rattle.php_graph.specs.declared.child.Child.{Child};
 ghost use Rattle.php_graph.specs.declared.kind.Kind.{Kind};
 ghost use Rattle.php_graph.specs.Size.{words_in, cells_of};
@@ -30,9 +31,7 @@ fn read_object<W: WordsIn>(
         → IfOk result (λ r. (r.0 ≡ class) × (r.1 ≡ ps)
         × (r.2 ≡ at + (1 + words_in (length class)
         + sum_by (λ p. 2 + words_in (length p.0)) ps))) }
-    ensures words { W.words from.new ≡ W.words from.old }
-    ensures aside { W.aside from.new ≡ W.aside from.old }
-    ensures rest { W.rest from.new ≡ W.rest from.old }
+    ensures kept { Kept W.WordsIn from.old from.new }
 {
     let (class, behind) = read_string(alloc, from, at)?;
     let (props, next) = read_properties(alloc, from, behind, count)?;
@@ -44,9 +43,7 @@ fn read_place<W: WordsIn>(alloc: Global, from: &mut W, at: u32) -> Result<(Kind,
     requires { (kind : Kind) × IsKindAt (W.words from.old) (W.aside from.old).windows at kind }
     ensures place { (kind : Kind) → IsKindAt (W.words from.old) (W.aside from.old).windows at kind
         → IfOk result (λ r. (r.0 ≡ kind) × (r.1 ≡ at + cells_of kind)) }
-    ensures words { W.words from.new ≡ W.words from.old }
-    ensures aside { W.aside from.new ≡ W.aside from.old }
-    ensures rest { W.rest from.new ≡ W.rest from.old }
+    ensures kept { Kept W.WordsIn from.old from.new }
 {
     let tag = from.load(at);
     match tag % 8 {
@@ -87,9 +84,7 @@ fn read_places<W: WordsIn>(
     requires told { (i : ℕ) → at ≤ i → i < at + len → IsTold (W.aside from.old).windows i }
     ensures places { (g : List Kind) → IsImageOf (W.words from.old) at len g
         → IfOk result (λ r. IsReadOf r.0.items r.1.items len g) }
-    ensures words { W.words from.new ≡ W.words from.old }
-    ensures aside { W.aside from.new ≡ W.aside from.old }
-    ensures rest { W.rest from.new ≡ W.rest from.old }
+    ensures kept { Kept W.WordsIn from.old from.new }
 {
     let mut places = Vec::new(alloc);
     let mut offsets = Vec::new(alloc);
@@ -114,9 +109,7 @@ pub fn unpersist<W: WordsIn>(
     requires told { (i : ℕ) → at ≤ i → i < at + len → IsTold (W.aside from.old).windows i }
     ensures graph { (g : List Kind) → IsImageOf (W.words from.old) at len g
         → IfOk result (λ answer. answer ≡ g) }
-    ensures words { W.words from.new ≡ W.words from.old }
-    ensures aside { W.aside from.new ≡ W.aside from.old }
-    ensures rest { W.rest from.new ≡ W.rest from.old }
+    ensures kept { Kept W.WordsIn from.old from.new }
 {
     let (mut places, offsets) = read_places(alloc, from, at, len)?;
     number(alloc, &mut places, offsets.as_slice(), len)?;

@@ -1,6 +1,7 @@
 //! The image of a graph.
 
 ghost use Rattle.std.specs.Prelude.{◌≡◌, ◌+◌, ◌*◌, ◌<◌, ◌^◌, ◌∷◌, ◌++◌, length, sum_by};
+ghost use Rattle.seg_words.specs.Kept.{KeptBeside};
 ghost use Rattle.std.specs.List.{flat_map};
 ghost use Rattle.php_graph.specs.Size.{words_in, key_cells, cells_of, image_length, offset_of};
 ghost use Rattle.value_image.specs.Rows.{written, MayWrite};
@@ -31,8 +32,7 @@ fn put_array<S: Segment>(seg: &mut S, at: u32, g: &Graph, members: &Members) -> 
     ensures words { S.words seg.new ≡ written (S.words seg.old) at
         ((4 + 8 * length members.now) ∷ flat_map (member_words (offset_of g.now)) members.now) }
     ensures end { result ≡ at + (1 + sum_by (λ m. 1 + key_cells m.0) members.now) }
-    ensures aside { S.aside seg.new ≡ S.aside seg.old }
-    ensures rest { S.rest seg.new ≡ S.rest seg.old }
+    ensures beside { KeptBeside S.WordsIn seg.old seg.new }
 {
     let next = put_one(seg, at, ARRAY + 8 * u64::from(members.len()));
     put_members(seg, next, g, members)
@@ -49,8 +49,7 @@ fn put_object<S: Segment>(seg: &mut S, at: u32, g: &Graph, class: &Bytes, props:
         ++ flat_map (property_words (offset_of g.now)) props.now) }
     ensures end { result ≡ at + (2 + words_in (length class.now)
         + sum_by (λ p. 2 + words_in (length p.0)) props.now) }
-    ensures aside { S.aside seg.new ≡ S.aside seg.old }
-    ensures rest { S.rest seg.new ≡ S.rest seg.old }
+    ensures beside { KeptBeside S.WordsIn seg.old seg.new }
 {
     let first = put_one(seg, at, OBJECT + 8 * u64::from(props.len()));
     let second = put_string(seg, first, class);
@@ -65,8 +64,7 @@ fn put_place<S: Segment>(seg: &mut S, at: u32, g: &Graph, kind: &Kind) -> u32
     ensures words { S.words seg.new
         ≡ written (S.words seg.old) at (place_words g.now kind.now) }
     ensures end { result ≡ at + cells_of kind.now }
-    ensures aside { S.aside seg.new ≡ S.aside seg.old }
-    ensures rest { S.rest seg.new ≡ S.rest seg.old }
+    ensures beside { KeptBeside S.WordsIn seg.old seg.new }
 {
     match kind {
         Kind::Null => put_one(seg, at, NULL),
@@ -84,8 +82,7 @@ pub fn persist<S: Segment>(seg: &mut S, at: u32, g: &Graph)
     requires { MayWrite (S.words seg.old) (S.aside seg.old).windows at (image_length g.now) }
     ensures words { S.words seg.new ≡ written (S.words seg.old) at (image_of g.now) }
     ensures image { IsImageOf (S.words seg.new) at (image_length g.now) g.now }
-    ensures aside { S.aside seg.new ≡ S.aside seg.old }
-    ensures rest { S.rest seg.new ≡ S.rest seg.old }
+    ensures beside { KeptBeside S.WordsIn seg.old seg.new }
 {
     g.is_sealed();
     let mut next = at;

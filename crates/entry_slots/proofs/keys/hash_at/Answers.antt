@@ -23,13 +23,13 @@ wrapped : (h b : ℕ) → (h * 33 % 2 ^ 64 + b) % 2 ^ 64 ≡ (h * 33 + b) % 2 ^ 
 wrapped h b = omega arith
 
 pub word_of_byte-word-requires-clause-inside : goal.word_of_byte-word-requires-clause-inside
-word_of_byte-word-requires-clause-inside g c = let lt = word_in c.loop-i.i c.args.len c.loop-i-test.true in rw c.loop-i.invariant.words (omega (arith, c.requires.inside, lt))
+word_of_byte-word-requires-clause-inside g c = let lt = word_in c.loop-i.i c.args.len c.loop-i-test.true in rw c.loop-i.invariant.kept.words (omega (arith, c.requires.inside, lt))
 
 pub word_of_byte-word-requires-clause-told : goal.word_of_byte-word-requires-clause-told
-word_of_byte-word-requires-clause-told g c = let lt = word_in c.loop-i.i c.args.len c.loop-i-test.true in rw c.loop-i.invariant.aside (c.requires.told (c.args.at + c.loop-i.i / 8) (omega arith) (omega (arith, lt)))
+word_of_byte-word-requires-clause-told g c = let lt = word_in c.loop-i.i c.args.len c.loop-i-test.true in rw c.loop-i.invariant.kept.aside (c.requires.told (c.args.at + c.loop-i.i / 8) (omega arith) (omega (arith, lt)))
 
 pub word_of_byte-word-requires-clause-held : goal.word_of_byte-word-requires-clause-held
-word_of_byte-word-requires-clause-held g c = λ some. c.loop-i.invariant.held some ∙ ap (λ (r : List ℕ). slice_index r (c.args.at + c.loop-i.i / 8)) (sym c.loop-i.invariant.words)
+word_of_byte-word-requires-clause-held g c = λ some. c.loop-i.invariant.held some ∙ ap (λ (r : List ℕ). slice_index r (c.args.at + c.loop-i.i / 8)) (sym c.loop-i.invariant.kept.words)
 
 -- the next byte is in the same word, where it is not its first
 same_word : (i : ℕ) → 0 < (i + 1) % 8 → i / 8 ≡ (i + 1) / 8
@@ -37,15 +37,13 @@ same_word i some = omega arith
 
 pub loop-i-preserved : goal.loop-i-preserved
 loop-i-preserved g c =
-    let read = c.word_of_byte-word.ensures.word ∙ ap (λ (r : List ℕ). slice_index r (c.args.at + c.loop-i.i / 8)) c.loop-i.invariant.words in
+    let read = c.word_of_byte-word.ensures.word ∙ ap (λ (r : List ℕ). slice_index r (c.args.at + c.loop-i.i / 8)) c.loop-i.invariant.kept.words in
     record {
       hashed = λ key h.
           let byte = key_byte key c.loop-i.i c.word_of_byte-word.result h.bytes.1 (read ∙ key_word_at c.lower_laws.ensures (g.S.WordsIn.words c.args.seg.now) c.args.at c.args.len key c.loop-i.i h c.loop-i-test.true) in
           wrapped c.loop-i.hash (c.word_of_byte-word.result / 2 ^ (8 * (c.loop-i.i % 8)) % 256) ∙ hash_more key c.loop-i.i c.loop-i.hash (c.word_of_byte-word.result / 2 ^ (8 * (c.loop-i.i % 8)) % 256) (omega (arith, h.count, c.loop-i-test.true)) (c.loop-i.invariant.hashed key h) byte;
       held = λ some. read ∙ ap (λ (k : ℕ). slice_index (g.S.WordsIn.words c.args.seg.now) (c.args.at + k)) (same_word c.loop-i.i some);
-      words = c.word_of_byte-word.ensures.words ∙ c.loop-i.invariant.words;
-      aside = c.word_of_byte-word.ensures.aside ∙ c.loop-i.invariant.aside;
-      rest = c.word_of_byte-word.ensures.rest ∙ c.loop-i.invariant.rest;
+      kept = record { words = c.word_of_byte-word.ensures.kept.words ∙ c.loop-i.invariant.kept.words; aside = c.word_of_byte-word.ensures.kept.aside ∙ c.loop-i.invariant.kept.aside; rest = c.word_of_byte-word.ensures.kept.rest ∙ c.loop-i.invariant.kept.rest };
     }
 
 pub returns-clause-hash : goal.returns-clause-hash

@@ -23,7 +23,7 @@ pub put_bytes-requires : goal.put_bytes-requires
 put_bytes-requires g c =
     may_write_along c.lower_laws.ensures (g.S.WordsIn.words c.args.seg.now) (g.S.WordsIn.aside c.args.seg.now) (c.args.at + 1) (11 + words_in (length c.args.key.now) + image_length c.args.g.now)
     (run c.from.result (length c.args.key.now) c.words.result c.from-2.result c.args.note.now c.args.note.number)
-    (g.S.WordsIn.words c.put_words.new.seg) (g.S.WordsIn.aside c.put_words.new.seg) (c.args.at + 12) (words_in (length c.args.key.now)) c.requires.apart c.put_words.ensures.words c.put_words.ensures.aside (omega arith) (omega arith)
+    (g.S.WordsIn.words c.put_words.new.seg) (g.S.WordsIn.aside c.put_words.new.seg) (c.args.at + 12) (words_in (length c.args.key.now)) c.requires.apart c.put_words.ensures.words c.put_words.ensures.beside.aside (omega arith) (omega arith)
 
 pub persist-requires : goal.persist-requires
 persist-requires g c =
@@ -33,7 +33,7 @@ persist-requires g c =
     let both = written_along c.lower_laws.ensures ws (c.args.at + 1) first key (g.S.WordsIn.words c.put_words.new.seg) (g.S.WordsIn.words c.put_bytes.new.seg) (c.args.at + 12) c.put_words.ensures.words c.put_bytes.ensures.words (omega arith) in
     let long : length (first ++ key) ≡ 11 + words_in (length c.args.key.now) = length-append first key ∙ ap (λ (n : ℕ). 11 + n) (words_long c.args.key.now) in
     may_write_along c.lower_laws.ensures ws (g.S.WordsIn.aside c.args.seg.now) (c.args.at + 1) (11 + words_in (length c.args.key.now) + image_length c.args.g.now) (first ++ key)
-    (g.S.WordsIn.words c.put_bytes.new.seg) (g.S.WordsIn.aside c.put_bytes.new.seg) (c.args.at + 12 + c.div_ceil.result) (image_length c.args.g.now) c.requires.apart both (c.put_bytes.ensures.aside ∙ c.put_words.ensures.aside) (omega (arith, c.div_ceil.ensures, long)) (omega (arith, long))
+    (g.S.WordsIn.words c.put_bytes.new.seg) (g.S.WordsIn.aside c.put_bytes.new.seg) (c.args.at + 12 + c.div_ceil.result) (image_length c.args.g.now) c.requires.apart both (c.put_bytes.ensures.beside.aside ∙ c.put_words.ensures.beside.aside) (omega (arith, c.div_ceil.ensures, long)) (omega (arith, long))
 
 pub returns-clause-words : goal.returns-clause-words
 returns-clause-words g c =

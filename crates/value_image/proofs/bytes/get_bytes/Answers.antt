@@ -10,13 +10,11 @@ pub loop-i-preserved : goal.loop-i-preserved
 loop-i-preserved g c =
     let rest = length-drop c.args.at (g.W.WordsIn.words c.args.from.now) in
     let len = c.loop-i.auto.out in
-    let told : IsTold (g.W.WordsIn.aside c.loop-i.from).windows (c.args.at + c.loop-i.i) = rw c.loop-i.invariant.aside (c.requires.told (c.args.at + c.loop-i.i) (omega arith) (omega arith)) in
-    let w = c.load-word.ensures.word told ∙ (ap (λ (r : List ℕ). get_or r (c.args.at + c.loop-i.i) 0) c.loop-i.invariant.words ∙ sym (get_or-drop c.args.at (g.W.WordsIn.words c.args.from.now) c.loop-i.i 0)) in
+    let told : IsTold (g.W.WordsIn.aside c.loop-i.from).windows (c.args.at + c.loop-i.i) = rw c.loop-i.invariant.kept.aside (c.requires.told (c.args.at + c.loop-i.i) (omega arith) (omega arith)) in
+    let w = c.load-word.ensures.word told ∙ (ap (λ (r : List ℕ). get_or r (c.args.at + c.loop-i.i) 0) c.loop-i.invariant.kept.words ∙ sym (get_or-drop c.args.at (g.W.WordsIn.words c.args.from.now) c.loop-i.i 0)) in
     record {
       bytes = bytes-more c.loop-i.out (drop c.args.at (g.W.WordsIn.words c.args.from.now)) c.write_u64.new.buf _ c.loop-i.i c.load-word.result (omega arith) (omega (arith, c.requires.inside, rest)) w c.write_u64.ensures c.loop-i.invariant.bytes;
-      words = c.load-word.ensures.words ∙ c.loop-i.invariant.words;
-      aside = c.load-word.ensures.aside ∙ c.loop-i.invariant.aside;
-      rest = c.load-word.ensures.rest ∙ c.loop-i.invariant.rest;
+      kept = record { words = c.load-word.ensures.words ∙ c.loop-i.invariant.kept.words; aside = c.load-word.ensures.aside ∙ c.loop-i.invariant.kept.aside; rest = c.load-word.ensures.rest ∙ c.loop-i.invariant.kept.rest };
     }
 
 pub returns-then-left-ne0-clause-bytes : goal.returns-then-left-ne0-clause-bytes
@@ -25,8 +23,8 @@ returns-then-left-ne0-clause-bytes g c =
     let full : c.loop-i.i ≡ length c.args.out.now / 8 = omega arith in
     let len = c.loop-i.auto.out in
     let whole : length c.loop-i.out ≡ 8 * (length c.args.out.now / 8) + length c.loop-i.out % 8 = omega arith in
-    let told : IsTold (g.W.WordsIn.aside c.loop-i.from).windows (c.args.at + length c.args.out.now / 8) = rw c.loop-i.invariant.aside (c.requires.told (c.args.at + length c.args.out.now / 8) (omega arith) (omega arith)) in
-    let w = c.load-word-then-left-ne0.ensures.word told ∙ (ap (λ (r : List ℕ). get_or r (c.args.at + length c.args.out.now / 8) 0) c.loop-i.invariant.words ∙ sym (get_or-drop c.args.at (g.W.WordsIn.words c.args.from.now) (length c.args.out.now / 8) 0)) in
+    let told : IsTold (g.W.WordsIn.aside c.loop-i.from).windows (c.args.at + length c.args.out.now / 8) = rw c.loop-i.invariant.kept.aside (c.requires.told (c.args.at + length c.args.out.now / 8) (omega arith) (omega arith)) in
+    let w = c.load-word-then-left-ne0.ensures.word told ∙ (ap (λ (r : List ℕ). get_or r (c.args.at + length c.args.out.now / 8) 0) c.loop-i.invariant.kept.words ∙ sym (get_or-drop c.args.at (g.W.WordsIn.words c.args.from.now) (length c.args.out.now / 8) 0)) in
     let before = subst (λ (k : ℕ). take (8 * k) c.loop-i.out ≡ bytes_of (take k (drop c.args.at (g.W.WordsIn.words c.args.from.now)))) full c.loop-i.invariant.bytes in
     let part = c.copy_from_slice.ensures.after ∙ ap (take (length c.loop-i.out % 8)) (c.to_le_bytes.ensures ∙ ap (little_bytes 8) w) in
     bytes-last c.loop-i.out (drop c.args.at (g.W.WordsIn.words c.args.from.now)) c.copy_from_slice.new.self (length c.args.out.now / 8) (length c.loop-i.out % 8) whole (omega (arith, c.requires.inside, rest)) (omega arith) before part

@@ -1,4 +1,4 @@
-use Rattle.std.proofs.Common.{◌≡◌, ℕ, ◌*◌, ◌/◌, ◌%◌, ◌-◌, ◌<◌, ◌∙◌, ap, arith, refl, length, drop, slice_index}
+use Rattle.std.proofs.Common.{◌≡◌, ◌*◌, ◌/◌, ◌%◌, ◌-◌, arith, refl, length}
 use Rattle.std.proofs.lemmas.List.{take_rest}
 use Rattle.value_image.proofs.Packing.{word_at-last, word_at-shifted}
 use Rattle.value_image.proofs.bytes.last_word.Goals as goal

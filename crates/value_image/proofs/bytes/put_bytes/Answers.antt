@@ -1,4 +1,4 @@
-use Rattle.std.proofs.Common.{◌≡◌, ℕ, ◌+◌, ◌*◌, ◌/◌, ◌%◌, ◌<◌, ◌≤◌, List, ap, sym, refl, ◌∙◌, arith, length, take, slice_set}
+use Rattle.std.proofs.Common.{◌≡◌, ℕ, ◌+◌, ◌*◌, ◌/◌, ◌<◌, ◌≤◌, List, ap, sym, ◌∙◌, arith, length, take, slice_set}
 use Rattle.std.proofs.lemmas.List.{take_rest, length-take-le}
 use Rattle.seg_words.specs.Blocks.{MayStore}
 use Rattle.php_graph.specs.Size.{words_in}
@@ -24,7 +24,7 @@ store-requires-clause-place g c =
 
 pub store-requires-clause-apart : goal.store-requires-clause-apart
 store-requires-clause-apart g c =
-    rw (c.loop-i.invariant.words, c.loop-i.invariant.aside) (next _ _ _ c.loop-i.i c.args.bytes.now c.requires (omega arith)).1
+    rw (c.loop-i.invariant.words, c.loop-i.invariant.beside.aside) (next _ _ _ c.loop-i.i c.args.bytes.now c.requires (omega arith)).1
 
 pub loop-i-preserved : goal.loop-i-preserved
 loop-i-preserved g c =
@@ -33,8 +33,7 @@ loop-i-preserved g c =
     record {
       words = c.store.ensures.words ∙ (ap (λ (r : List ℕ). slice_set r (c.args.at + c.loop-i.i) c.read_u64.result) c.loop-i.invariant.words
           ∙ written-more (g.S.WordsIn.words c.args.seg.now) c.args.at c.args.bytes.now c.loop-i.i c.read_u64.result room x);
-      aside = c.store.ensures.aside ∙ c.loop-i.invariant.aside;
-      rest = c.store.ensures.rest ∙ c.loop-i.invariant.rest;
+      beside = record { aside = c.store.ensures.aside ∙ c.loop-i.invariant.beside.aside; rest = c.store.ensures.rest ∙ c.loop-i.invariant.beside.rest };
     }
 
 pub store-requires-then-left-ne0-clause-place : goal.store-requires-then-left-ne0-clause-place
@@ -45,7 +44,7 @@ store-requires-then-left-ne0-clause-place g c =
 pub store-requires-then-left-ne0-clause-apart : goal.store-requires-then-left-ne0-clause-apart
 store-requires-then-left-ne0-clause-apart g c =
     let at : c.loop-i.i ≡ length c.args.bytes.now / 8 = omega arith in
-    rw (c.loop-i.invariant.words, c.loop-i.invariant.aside, at) (next _ _ _ (length c.args.bytes.now / 8) c.args.bytes.now c.requires (omega arith)).1
+    rw (c.loop-i.invariant.words, c.loop-i.invariant.beside.aside, at) (next _ _ _ (length c.args.bytes.now / 8) c.args.bytes.now c.requires (omega arith)).1
 
 pub returns-then-left-ne0-clause-words : goal.returns-then-left-ne0-clause-words
 returns-then-left-ne0-clause-words g c =

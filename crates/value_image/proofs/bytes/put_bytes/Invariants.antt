@@ -1,4 +1,5 @@
 use Rattle.std.proofs.Common.{◌≡◌, take}
+use Rattle.seg_words.specs.Kept.{KeptBeside}
 use Rattle.value_image.specs.Packed.{words_of}
 use Rattle.value_image.specs.Rows.{written}
 use Rattle.value_image.proofs.bytes.put_bytes.Given as goal
@@ -6,6 +7,5 @@ use Rattle.value_image.proofs.bytes.put_bytes.Given as goal
 abbrev pub invariant-loop-i : goal.invariant-loop-i
 invariant-loop-i g l = record {
   words : g.S.WordsIn.words l.seg ≡ written (g.S.WordsIn.words l.initial.seg) l.at (take l.i (words_of l.bytes));
-  aside : g.S.WordsIn.aside l.seg ≡ g.S.WordsIn.aside l.initial.seg;
-  rest : g.S.WordsIn.rest l.seg ≡ g.S.WordsIn.rest l.initial.seg;
+  beside : KeptBeside g.S.WordsIn l.initial.seg l.seg;
 }

@@ -2,6 +2,7 @@ use Rattle.std.proofs.Common.{◌≡◌, ◌+◌, List, take, sum_by}
 use Rattle.php_graph.specs.declared.key.Key.{Key}
 use Rattle.php_graph.specs.declared.child.Child.{Child}
 use Rattle.php_graph.specs.Size.{key_cells}
+use Rattle.seg_words.specs.Kept.{Kept}
 use Rattle.value_image.specs.Reading.{AreMembersAt}
 use Rattle.value_image.proofs.items.read_members.Given as goal
 
@@ -9,7 +10,5 @@ abbrev pub invariant-loop-i : goal.invariant-loop-i
 invariant-loop-i g l = record {
   items : (ms : List (Key × Child)) → AreMembersAt (g.W.WordsIn.words l.initial.from) (g.W.WordsIn.aside l.initial.from).windows l.at l.count ms
       → (l.items.items ≡ take l._i ms) × (l.next ≡ l.at + sum_by (λ m. 1 + key_cells m.0) (take l._i ms));
-  words : g.W.WordsIn.words l.from ≡ g.W.WordsIn.words l.initial.from;
-  aside : g.W.WordsIn.aside l.from ≡ g.W.WordsIn.aside l.initial.from;
-  rest : g.W.WordsIn.rest l.from ≡ g.W.WordsIn.rest l.initial.from;
+  kept : Kept g.W.WordsIn l.initial.from l.from;
 }

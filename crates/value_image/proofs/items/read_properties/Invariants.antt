@@ -1,6 +1,7 @@
 use Rattle.std.proofs.Common.{◌≡◌, ◌+◌, List, take, sum_by, length, ℕ}
 use Rattle.php_graph.specs.declared.child.Child.{Child}
 use Rattle.php_graph.specs.Size.{words_in}
+use Rattle.seg_words.specs.Kept.{Kept}
 use Rattle.value_image.specs.Reading.{ArePropertiesAt}
 use Rattle.value_image.proofs.items.read_properties.Given as goal
 
@@ -8,7 +9,5 @@ abbrev pub invariant-loop-i : goal.invariant-loop-i
 invariant-loop-i g l = record {
   items : (ms : List (List ℕ × Child)) → ArePropertiesAt (g.W.WordsIn.words l.initial.from) (g.W.WordsIn.aside l.initial.from).windows l.at l.count ms
       → (l.items.items ≡ take l._i ms) × (l.next ≡ l.at + sum_by (λ p. 2 + words_in (length p.0)) (take l._i ms));
-  words : g.W.WordsIn.words l.from ≡ g.W.WordsIn.words l.initial.from;
-  aside : g.W.WordsIn.aside l.from ≡ g.W.WordsIn.aside l.initial.from;
-  rest : g.W.WordsIn.rest l.from ≡ g.W.WordsIn.rest l.initial.from;
+  kept : Kept g.W.WordsIn l.initial.from l.from;
 }

@@ -10,12 +10,11 @@ put_member-next-requires-clause-place g c = c.requires.places c.loop-i.i _ c.at-
 
 pub put_member-next-requires-clause-apart : goal.put_member-next-requires-clause-apart
 put_member-next-requires-clause-apart g c =
-    item_may_write (member_words (offset_of c.args.g.now)) (λ m. 1 + key_cells m.0) (length-member_words (offset_of c.args.g.now)) _ _ _ c.args.members.now c.loop-i.i _ _ _ _ c.requires.apart c.at-child.ensures c.loop-i.invariant.words c.loop-i.invariant.aside c.loop-i.invariant.next
+    item_may_write (member_words (offset_of c.args.g.now)) (λ m. 1 + key_cells m.0) (length-member_words (offset_of c.args.g.now)) _ _ _ c.args.members.now c.loop-i.i _ _ _ _ c.requires.apart c.at-child.ensures c.loop-i.invariant.words c.loop-i.invariant.beside.aside c.loop-i.invariant.next
 
 pub loop-i-preserved : goal.loop-i-preserved
 loop-i-preserved g c = record {
   words = item_written (member_words (offset_of c.args.g.now)) (λ m. 1 + key_cells m.0) (length-member_words (offset_of c.args.g.now)) _ _ c.args.members.now c.loop-i.i _ _ _ _ c.at-child.ensures c.loop-i.invariant.words c.put_member-next.ensures.words c.loop-i.invariant.next;
   next = omega (arith, cells-more (λ m. 1 + key_cells m.0) c.args.members.now c.loop-i.i _ c.at-child.ensures);
-  aside = c.put_member-next.ensures.aside ∙ c.loop-i.invariant.aside;
-  rest = c.put_member-next.ensures.rest ∙ c.loop-i.invariant.rest;
+  beside = record { aside = c.put_member-next.ensures.beside.aside ∙ c.loop-i.invariant.beside.aside; rest = c.put_member-next.ensures.beside.rest ∙ c.loop-i.invariant.beside.rest };
 }

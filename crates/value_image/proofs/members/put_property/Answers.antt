@@ -7,4 +7,4 @@ put_one-next-requires g c = may_write-fewer _ _ _ _ 1 c.requires.apart (omega ar
 
 pub put_string-requires : goal.put_string-requires
 put_string-requires g c =
-    may_write-along _ _ _ _ (c.child_word.result ∷ []) _ _ _ _ c.requires.apart c.put_one-next.ensures.words c.put_one-next.ensures.aside c.put_one-next.ensures.end (omega arith)
+    may_write-along _ _ _ _ (c.child_word.result ∷ []) _ _ _ _ c.requires.apart c.put_one-next.ensures.words c.put_one-next.ensures.beside.aside c.put_one-next.ensures.end (omega arith)

@@ -8,4 +8,4 @@ put_one-next-requires g c = may_write-fewer _ _ _ _ 1 c.requires (omega arith)
 pub put_bytes-requires : goal.put_bytes-requires
 put_bytes-requires g c =
     let same : c.as_slice-bytes.result.now ≡ c.args.bytes.now = cc in
-    rw same (may_write-along _ _ _ _ ((3 + 8 * length c.as_slice-bytes.result.now) ∷ []) _ _ _ _ c.requires c.put_one-next.ensures.words c.put_one-next.ensures.aside c.put_one-next.ensures.end (omega arith))
+    rw same (may_write-along _ _ _ _ ((3 + 8 * length c.as_slice-bytes.result.now) ∷ []) _ _ _ _ c.requires c.put_one-next.ensures.words c.put_one-next.ensures.beside.aside c.put_one-next.ensures.end (omega arith))

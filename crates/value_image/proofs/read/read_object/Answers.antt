@@ -8,10 +8,10 @@ read_string-requires g c = (c.requires.0, object-class _ _ _ _ _ c.requires.1 c.
 pub read_properties-requires : goal.read_properties-requires
 read_properties-requires g c =
     let class = c.in_ok-class.ensures.string c.requires.0 (object-class _ _ _ _ _ c.requires.1 c.requires.2) in
-    (c.requires.1, object-properties _ _ _ _ c.requires.0 c.requires.1 _ _ _ c.requires.2 class.1 c.in_ok-class.ensures.words c.in_ok-class.ensures.aside)
+    (c.requires.1, object-properties _ _ _ _ c.requires.0 c.requires.1 _ _ _ c.requires.2 class.1 c.in_ok-class.ensures.kept.words c.in_ok-class.ensures.kept.aside)
 
 pub returns-clause-object : goal.returns-clause-object
 returns-clause-object g c = λ class ps h.
     let first = c.in_ok-class.ensures.string class (object-class _ _ _ _ _ ps h) in
-    let second = c.in_ok-props.ensures.properties ps (object-properties _ _ _ _ class ps _ _ _ h first.1 c.in_ok-class.ensures.words c.in_ok-class.ensures.aside) in
+    let second = c.in_ok-props.ensures.properties ps (object-properties _ _ _ _ class ps _ _ _ h first.1 c.in_ok-class.ensures.kept.words c.in_ok-class.ensures.kept.aside) in
     (first.0, second.0, omega (arith, first.1, second.1))

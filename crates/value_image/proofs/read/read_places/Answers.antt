@@ -9,7 +9,7 @@ use Rattle.value_image.proofs.read.read_places.Goals as goal
 pub read_place-requires : goal.read_place-requires
 read_place-requires g c =
     let short : c.args.len < 2 ^ 32 = omega arith in
-    let step = walk-next _ _ c.args.at c.args.len c.requires.image.0 _ _ c.loop-offset.offset _ _ c.requires.image.1 short c.requires.told (c.loop-offset.invariant.places c.requires.image.0 c.requires.image.1) c.loop-offset-test.true c.loop-offset.invariant.words c.loop-offset.invariant.aside in
+    let step = walk-next _ _ c.args.at c.args.len c.requires.image.0 _ _ c.loop-offset.offset _ _ c.requires.image.1 short c.requires.told (c.loop-offset.invariant.places c.requires.image.0 c.requires.image.1) c.loop-offset-test.true c.loop-offset.invariant.kept.words c.loop-offset.invariant.kept.aside in
     (renumbered_kind (offset_of c.requires.image.0) step.0, step.2)
 
 pub overflow_add-at : goal.overflow_add-at
@@ -20,14 +20,14 @@ overflow_add-at g c =
 pub overflow_sub-offset : goal.overflow_sub-offset
 overflow_sub-offset g c =
     let short : c.args.len < 2 ^ 32 = omega arith in
-    let step = walk-next _ _ c.args.at c.args.len c.requires.image.0 _ _ c.loop-offset.offset _ _ c.requires.image.1 short c.requires.told (c.loop-offset.invariant.places c.requires.image.0 c.requires.image.1) c.loop-offset-test.true c.loop-offset.invariant.words c.loop-offset.invariant.aside in
+    let step = walk-next _ _ c.args.at c.args.len c.requires.image.0 _ _ c.loop-offset.offset _ _ c.requires.image.1 short c.requires.told (c.loop-offset.invariant.places c.requires.image.0 c.requires.image.1) c.loop-offset-test.true c.loop-offset.invariant.kept.words c.loop-offset.invariant.kept.aside in
     let got = c.in_ok-kind.ensures.place (renumbered_kind (offset_of c.requires.image.0) step.0) step.2 in
     omega (arith, got.1)
 
 pub loop-offset-smaller : goal.loop-offset-smaller
 loop-offset-smaller g c =
     let short : c.args.len < 2 ^ 32 = omega arith in
-    let step = walk-next _ _ c.args.at c.args.len c.requires.image.0 _ _ c.loop-offset.offset _ _ c.requires.image.1 short c.requires.told (c.loop-offset.invariant.places c.requires.image.0 c.requires.image.1) c.loop-offset-test.true c.loop-offset.invariant.words c.loop-offset.invariant.aside in
+    let step = walk-next _ _ c.args.at c.args.len c.requires.image.0 _ _ c.loop-offset.offset _ _ c.requires.image.1 short c.requires.told (c.loop-offset.invariant.places c.requires.image.0 c.requires.image.1) c.loop-offset-test.true c.loop-offset.invariant.kept.words c.loop-offset.invariant.kept.aside in
     let got = c.in_ok-kind.ensures.place (renumbered_kind (offset_of c.requires.image.0) step.0) step.2 in
     omega (arith, got.1, cells_of-one (renumbered_kind (offset_of c.requires.image.0) step.0))
 
@@ -36,14 +36,12 @@ loop-offset-preserved g c = record {
   places = λ graph h.
       let short : c.args.len < 2 ^ 32 = omega arith in
       let walk = c.loop-offset.invariant.places graph h in
-      let step = walk-next _ _ c.args.at c.args.len graph _ _ c.loop-offset.offset _ _ h short c.requires.told walk c.loop-offset-test.true c.loop-offset.invariant.words c.loop-offset.invariant.aside in
+      let step = walk-next _ _ c.args.at c.args.len graph _ _ c.loop-offset.offset _ _ h short c.requires.told walk c.loop-offset-test.true c.loop-offset.invariant.kept.words c.loop-offset.invariant.kept.aside in
       let got = c.in_ok-kind.ensures.place (renumbered_kind (offset_of graph) step.0) step.2 in
       let same = kind-cells (offset_of graph) step.0 in
       let offset = ap (λ (o : ℕ). c.loop-offset.offsets.items ++ o ∷ []) c.from.ensures in
       walk-more graph c.loop-offset.places.items c.loop-offset.offsets.items c.loop-offset.offset step.0 c.in_ok-kind.kind _ _ _ walk step.1 got.0 c.in_ok-push.ensures.items (c.in_ok-push-2.ensures.items ∙ offset) (omega (arith, got.1));
-  words = c.in_ok-kind.ensures.words ∙ c.loop-offset.invariant.words;
-  aside = c.in_ok-kind.ensures.aside ∙ c.loop-offset.invariant.aside;
-  rest = c.in_ok-kind.ensures.rest ∙ c.loop-offset.invariant.rest;
+  kept = record { words = c.in_ok-kind.ensures.kept.words ∙ c.loop-offset.invariant.kept.words; aside = c.in_ok-kind.ensures.kept.aside ∙ c.loop-offset.invariant.kept.aside; rest = c.in_ok-kind.ensures.kept.rest ∙ c.loop-offset.invariant.kept.rest };
 }
 
 pub returns-clause-places : goal.returns-clause-places

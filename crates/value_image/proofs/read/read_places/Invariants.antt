@@ -1,5 +1,6 @@
-use Rattle.std.proofs.Common.{◌≡◌, ◌-◌, List}
+use Rattle.std.proofs.Common.{◌-◌, List}
 use Rattle.php_graph.specs.declared.kind.Kind.{Kind}
+use Rattle.seg_words.specs.Kept.{Kept}
 use Rattle.value_image.specs.Image.{IsImageOf}
 use Rattle.value_image.proofs.Walk.{IsWalkTo}
 use Rattle.value_image.proofs.read.read_places.Given as goal
@@ -7,9 +8,7 @@ use Rattle.value_image.proofs.read.read_places.Given as goal
 abbrev pub invariant-loop-offset : goal.invariant-loop-offset
 invariant-loop-offset g l = record {
   places : (graph : List Kind) → IsImageOf (g.W.WordsIn.words l.initial.from) l.at l.len graph → IsWalkTo l.places.items l.offsets.items l.offset graph;
-  words : g.W.WordsIn.words l.from ≡ g.W.WordsIn.words l.initial.from;
-  aside : g.W.WordsIn.aside l.from ≡ g.W.WordsIn.aside l.initial.from;
-  rest : g.W.WordsIn.rest l.from ≡ g.W.WordsIn.rest l.initial.from;
+  kept : Kept g.W.WordsIn l.initial.from l.from;
 }
 
 abbrev pub decreases-loop-offset : goal.decreases-loop-offset

@@ -26,7 +26,7 @@ put_place-next-requires-clause-places g c = names_places _ c.is_sealed.ensures _
 
 pub put_place-next-requires-clause-apart : goal.put_place-next-requires-clause-apart
 put_place-next-requires-clause-apart g c =
-    item_may_write (place_words c.args.g.now) cells_of (length-kind_words (offset_of c.args.g.now)) _ _ _ c.args.g.now c.loop-i.i _ _ _ _ c.requires (item c.args.g.now c.loop-i.i _ c.kind.ensures) c.loop-i.invariant.words c.loop-i.invariant.aside c.loop-i.invariant.next
+    item_may_write (place_words c.args.g.now) cells_of (length-kind_words (offset_of c.args.g.now)) _ _ _ c.args.g.now c.loop-i.i _ _ _ _ c.requires (item c.args.g.now c.loop-i.i _ c.kind.ensures) c.loop-i.invariant.words c.loop-i.invariant.beside.aside c.loop-i.invariant.next
 
 pub loop-i-preserved : goal.loop-i-preserved
 loop-i-preserved g c =
@@ -34,8 +34,7 @@ loop-i-preserved g c =
     record {
       words = item_written (place_words c.args.g.now) cells_of (length-kind_words (offset_of c.args.g.now)) _ _ c.args.g.now c.loop-i.i _ _ _ _ get c.loop-i.invariant.words c.put_place-next.ensures.words c.loop-i.invariant.next;
       next = omega (arith, cells-more cells_of c.args.g.now c.loop-i.i _ get);
-      aside = c.put_place-next.ensures.aside ∙ c.loop-i.invariant.aside;
-      rest = c.put_place-next.ensures.rest ∙ c.loop-i.invariant.rest;
+      beside = record { aside = c.put_place-next.ensures.beside.aside ∙ c.loop-i.invariant.beside.aside; rest = c.put_place-next.ensures.beside.rest ∙ c.loop-i.invariant.beside.rest };
     }
 
 pub returns-clause-words : goal.returns-clause-words

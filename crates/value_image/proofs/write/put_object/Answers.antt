@@ -12,13 +12,13 @@ put_one-first-requires g c = may_write-fewer _ _ _ _ 1 c.requires.apart (omega a
 
 pub put_string-second-requires : goal.put_string-second-requires
 put_string-second-requires g c =
-    may_write-along _ _ _ _ ((5 + 8 * c.from.result) ∷ []) _ _ _ _ c.requires.apart c.put_one-first.ensures.words c.put_one-first.ensures.aside c.put_one-first.ensures.end (omega arith)
+    may_write-along _ _ _ _ ((5 + 8 * c.from.result) ∷ []) _ _ _ _ c.requires.apart c.put_one-first.ensures.words c.put_one-first.ensures.beside.aside c.put_one-first.ensures.end (omega arith)
 
 pub put_properties-requires-clause-apart : goal.put_properties-requires-clause-apart
 put_properties-requires-clause-apart g c =
     let words = written-along _ _ ((5 + 8 * c.from.result) ∷ []) (string_words c.args.class.now) _ _ _ c.put_one-first.ensures.words c.put_string-second.ensures.words c.put_one-first.ensures.end in
     let len = length-string_words c.args.class.now in
-    may_write-along _ _ _ _ ((5 + 8 * c.from.result) ∷ string_words c.args.class.now) _ _ _ _ c.requires.apart words (c.put_string-second.ensures.aside ∙ c.put_one-first.ensures.aside) (omega arith) (omega arith)
+    may_write-along _ _ _ _ ((5 + 8 * c.from.result) ∷ string_words c.args.class.now) _ _ _ _ c.requires.apart words (c.put_string-second.ensures.beside.aside ∙ c.put_one-first.ensures.beside.aside) (omega arith) (omega arith)
 
 pub returns-clause-words : goal.returns-clause-words
 returns-clause-words g c =

@@ -1,10 +1,11 @@
 use Rattle.std.proofs.Common.{◌≡◌, ℕ, ◌+◌, ◌%◌, ◌≤◌, List, sym, ap, ◌∙◌, arith, length, slice_index}
 use Rattle.std.proofs.lemmas.List.Sums.{length-filter, count_by-le-length}
 use Rattle.apcu_model.specs.Walk.{slot_of, is_in_slot}
+use Rattle.entry_slots.specs.Standing.{entries}
 use Rattle.entry_slots.specs.Entries.{Entries, chain_of}
 use Rattle.entry_slots.proofs.Homes.{row_there, room, told_at}
 use Rattle.entry_slots.proofs.Chains.{small_after, slot_small}
-use Rattle.entry_slots.proofs.Walks.{walk_start, walk_here, walk_end, walk_whole, walk_next, find_none, find_here, stands_along, here_listed, walk_entry, chain_places}
+use Rattle.entry_slots.proofs.Walks.{walk_start, walk_here, walk_end, walk_whole, walk_next, find_none, find_here, stands_along, here_listed, walk_there, walk_entry, chain_places}
 use Rattle.entry_slots.proofs.slots.EntrySlots.find.Goals as goal
 
 slot_is : (n m from slots : ℕ) → m ≡ from → from ≡ slots → n % m ≡ n % slots
@@ -15,54 +16,51 @@ chain_short : (s : Entries) (slot count passed : ℕ) → count ≡ length s.row
 chain_short s slot count passed e le = omega (arith, length-filter (is_in_slot s.conf slot) s.rows, count_by-le-length (is_in_slot s.conf slot) s.rows)
 
 pub nonzero_rem-slot : goal.nonzero_rem-slot
-nonzero_rem-slot g c = omega (arith, c.from.ensures, c.requires.stand.1.from, c.requires.stand.1.good.slots_least)
+nonzero_rem-slot g c = omega (arith, c.from.ensures, c.requires.stand.from, c.requires.stand.good.slots_least)
 
 pub overflow_cast-slot : goal.overflow_cast-slot
 overflow_cast-slot g c =
-    let lt = slot_small c.hash_of.result c.from.result (omega (arith, c.from.ensures, c.requires.stand.1.from, c.requires.stand.1.good.slots_least)) in
-    omega (arith, lt, c.from.ensures, c.requires.stand.1.from, c.requires.stand.1.good.slots_most)
+    let lt = slot_small c.hash_of.result c.from.result (omega (arith, c.from.ensures, c.requires.stand.from, c.requires.stand.good.slots_least)) in
+    omega (arith, lt, c.from.ensures, c.requires.stand.from, c.requires.stand.good.slots_most)
 
 pub first_in-at-requires : goal.first_in-at-requires
 first_in-at-requires g c =
-    let lt = slot_small c.hash_of.result c.from.result (omega (arith, c.from.ensures, c.requires.stand.1.from, c.requires.stand.1.good.slots_least)) in
-    record { stand = c.requires.stand; slot = omega (arith, lt, c.from.ensures) }
+    let lt = slot_small c.hash_of.result c.from.result (omega (arith, c.from.ensures, c.requires.stand.from, c.requires.stand.good.slots_least)) in
+    record { stand = c.requires.stand; slot = omega (arith, lt, c.from.ensures, c.requires.stand.from) }
 
 pub loop-passed-init : goal.loop-passed-init
 loop-passed-init g c =
-    let lt = slot_small c.hash_of.result c.from.result (omega (arith, c.from.ensures, c.requires.stand.1.from, c.requires.stand.1.good.slots_least)) in
+    let lt = slot_small c.hash_of.result c.from.result (omega (arith, c.from.ensures, c.requires.stand.from, c.requires.stand.good.slots_least)) in
     record {
-      walk = λ s h. walk_start c.args.key.now s (c.hash_of.result % c.from.result) c.first_in-at.result h (omega (arith, lt, c.from.ensures)) (c.first_in-at.ensures.first s h);
-      words = c.first_in-at.ensures.words;
-      aside = c.first_in-at.ensures.aside;
-      rest = c.first_in-at.ensures.rest;
+      walk = walk_start c.args.key.now (entries c.args.self.now) (c.hash_of.result % c.from.result) c.first_in-at.result c.requires.stand (omega (arith, lt, c.from.ensures)) c.first_in-at.ensures.first;
+      kept = record { words = c.first_in-at.ensures.kept.words; aside = c.first_in-at.ensures.kept.aside; rest = c.first_in-at.ensures.kept.rest };
     }
 
 pub loop-passed-preserved : goal.loop-passed-preserved
 loop-passed-preserved g c =
-    let words = c.key_is.ensures.words ∙ c.loop-passed.invariant.words in
+    let words = c.key_is.ensures.kept.words ∙ c.loop-passed.invariant.kept.words in
     let slot : ℕ = c.hash_of.result % c.from.result in
     record {
-      walk = λ s h.
-          let here = walk_here (c.loop-passed.invariant.walk s h) c.if-at-eq0.false in
-          let is = c.key_is.ensures.is s here.row (stands_along (g.S.WordsIn.words c.loop-passed.seg) (g.S.WordsIn.aside c.loop-passed.seg) h c.loop-passed.invariant.words c.loop-passed.invariant.aside) (here_listed s slot c.loop-passed.at c.loop-passed._passed here) (sym here.place) in
+      walk =
+          let s = entries c.args.self.now in
+          let h = c.requires.stand in
+          let here = walk_here c.loop-passed.invariant.walk c.if-at-eq0.false in
+          let is = c.key_is.ensures.is here.row (record { there = here_listed s slot c.loop-passed.at c.loop-passed._passed here; place = sym here.place }) in
           walk_next c.next_of-at.result here (sym c.if-key_is.false ∙ is) (c.next_of-at.ensures.next ∙ ap (λ (w : List ℕ). slice_index w (c.loop-passed.at + 1)) words);
-      words = c.next_of-at.ensures.words ∙ words;
-      aside = c.next_of-at.ensures.aside ∙ (c.key_is.ensures.aside ∙ c.loop-passed.invariant.aside);
-      rest = c.next_of-at.ensures.rest ∙ (c.key_is.ensures.rest ∙ c.loop-passed.invariant.rest);
+      kept = record { words = c.next_of-at.ensures.kept.words ∙ words; aside = c.next_of-at.ensures.kept.aside ∙ (c.key_is.ensures.kept.aside ∙ c.loop-passed.invariant.kept.aside); rest = c.next_of-at.ensures.kept.rest ∙ (c.key_is.ensures.kept.rest ∙ c.loop-passed.invariant.kept.rest) };
     }
 
 pub key_is-requires : goal.key_is-requires
-key_is-requires g c =
-    let s = c.requires.stand.0 in
-    record {
-      there = walk_entry s (c.hash_of.result % c.from.result) c.loop-passed.at c.loop-passed._passed (g.S.WordsIn.words c.loop-passed.seg) (g.S.WordsIn.aside c.loop-passed.seg) c.requires.stand.1 (c.loop-passed.invariant.walk s c.requires.stand.1) c.if-at-eq0.false c.loop-passed.invariant.words c.loop-passed.invariant.aside;
-      short = c.requires.short;
-    }
+key_is-requires g c = record {
+  stand = stands_along (g.S.WordsIn.words c.loop-passed.seg) (g.S.WordsIn.aside c.loop-passed.seg) c.requires.stand c.loop-passed.invariant.kept.words c.loop-passed.invariant.kept.aside;
+  there = walk_there (entries c.args.self.now) (c.hash_of.result % c.from.result) c.loop-passed.at c.loop-passed._passed c.loop-passed.invariant.walk c.if-at-eq0.false;
+  short = c.requires.short;
+}
 
 pub next_of-at-requires : goal.next_of-at-requires
 next_of-at-requires g c =
-    let s = c.requires.stand.0 in
-    let entry = walk_entry s (c.hash_of.result % c.from.result) c.loop-passed.at c.loop-passed._passed (g.S.WordsIn.words c.key_is.new.seg) (g.S.WordsIn.aside c.key_is.new.seg) c.requires.stand.1 (c.loop-passed.invariant.walk s c.requires.stand.1) c.if-at-eq0.false (c.key_is.ensures.words ∙ c.loop-passed.invariant.words) (c.key_is.ensures.aside ∙ c.loop-passed.invariant.aside) in
+    let s = entries c.args.self.now in
+    let entry = walk_entry s (c.hash_of.result % c.from.result) c.loop-passed.at c.loop-passed._passed (g.S.WordsIn.words c.key_is.new.seg) (g.S.WordsIn.aside c.key_is.new.seg) c.requires.stand c.loop-passed.invariant.walk c.if-at-eq0.false (c.key_is.ensures.kept.words ∙ c.loop-passed.invariant.kept.words) (c.key_is.ensures.kept.aside ∙ c.loop-passed.invariant.kept.aside) in
     let r = row_there entry in
     let w = room r.1 in
     record {
@@ -72,21 +70,27 @@ next_of-at-requires g c =
     }
 
 pub returns-then-at-eq0-clause-row : goal.returns-then-at-eq0-clause-row
-returns-then-at-eq0-clause-row g c = λ s h.
+returns-then-at-eq0-clause-row g c =
+    let s = entries c.args.self.now in
+    let h = c.requires.stand in
     let slot : ℕ = c.hash_of.result % c.from.result in
     let is : slot ≡ slot_of s.conf c.args.key.now = slot_is c.hash_of.result c.from.result c.args.self.now.sma.from s.conf.slots c.from.ensures h.from ∙ ap (λ n. n % s.conf.slots) c.hash_of.ensures in
-    find_none s c.args.key.now slot is (walk_end (c.loop-passed.invariant.walk s h) c.if-at-eq0.true (chain_places s slot h))
+    find_none s c.args.key.now slot is (walk_end c.loop-passed.invariant.walk c.if-at-eq0.true (chain_places s slot h))
 
 pub returns-then-key_is-clause-row : goal.returns-then-key_is-clause-row
-returns-then-key_is-clause-row g c = λ s h.
+returns-then-key_is-clause-row g c =
+    let s = entries c.args.self.now in
+    let h = c.requires.stand in
     let slot : ℕ = c.hash_of.result % c.from.result in
     let is : slot ≡ slot_of s.conf c.args.key.now = slot_is c.hash_of.result c.from.result c.args.self.now.sma.from s.conf.slots c.from.ensures h.from ∙ ap (λ n. n % s.conf.slots) c.hash_of.ensures in
-    let here = walk_here (c.loop-passed.invariant.walk s h) c.if-at-eq0.false in
-    let same = c.key_is.ensures.is s here.row (stands_along (g.S.WordsIn.words c.loop-passed.seg) (g.S.WordsIn.aside c.loop-passed.seg) h c.loop-passed.invariant.words c.loop-passed.invariant.aside) (here_listed s slot c.loop-passed.at c.loop-passed._passed here) (sym here.place) in
+    let here = walk_here c.loop-passed.invariant.walk c.if-at-eq0.false in
+    let same = c.key_is.ensures.is here.row (record { there = here_listed s slot c.loop-passed.at c.loop-passed._passed here; place = sym here.place }) in
     find_here s c.args.key.now slot c.loop-passed.at c.loop-passed._passed is here (sym c.if-key_is.true ∙ same)
 
 pub returns-clause-row : goal.returns-clause-row
-returns-clause-row g c = λ s h.
+returns-clause-row g c =
+    let s = entries c.args.self.now in
+    let h = c.requires.stand in
     let slot : ℕ = c.hash_of.result % c.from.result in
     let is : slot ≡ slot_of s.conf c.args.key.now = slot_is c.hash_of.result c.from.result c.args.self.now.sma.from s.conf.slots c.from.ensures h.from ∙ ap (λ n. n % s.conf.slots) c.hash_of.ensures in
-    find_none s c.args.key.now slot is (walk_whole (c.loop-passed.invariant.walk s h) (chain_short s slot c.args.self.now.count c.loop-passed._passed h.count c.loop-passed-test.false))
+    find_none s c.args.key.now slot is (walk_whole c.loop-passed.invariant.walk (chain_short s slot c.args.self.now.count c.loop-passed._passed h.count c.loop-passed-test.false))

@@ -1,13 +1,11 @@
-use Rattle.std.proofs.Common.{◌≡◌}
-use Rattle.entry_slots.specs.Entries.{Entries, chain_of}
-use Rattle.entry_slots.specs.Standing.{Stands}
+use Rattle.seg_words.specs.Kept.{Kept}
+use Rattle.entry_slots.specs.Entries.{chain_of}
+use Rattle.entry_slots.specs.Standing.{entries}
 use Rattle.entry_slots.proofs.Walks.{Walk}
 use Rattle.entry_slots.proofs.slots.EntrySlots.find.Given as goal
 
 abbrev pub invariant-loop-passed : goal.invariant-loop-passed
 invariant-loop-passed g l = record {
-  walk : (s : Entries) → Stands l.self (g.S.WordsIn.words l.fn.seg) (g.S.WordsIn.aside l.fn.seg) s → Walk (g.S.WordsIn.words l.fn.seg) l.key (chain_of s l.slot) l.at l._passed;
-  words : g.S.WordsIn.words l.seg ≡ g.S.WordsIn.words l.fn.seg;
-  aside : g.S.WordsIn.aside l.seg ≡ g.S.WordsIn.aside l.fn.seg;
-  rest : g.S.WordsIn.rest l.seg ≡ g.S.WordsIn.rest l.fn.seg;
+  walk : Walk (g.S.WordsIn.words l.fn.seg) l.key (chain_of (entries l.self) l.slot) l.at l._passed;
+  kept : Kept g.S.WordsIn l.fn.seg l.seg;
 }

@@ -3,6 +3,8 @@ use Rattle.std.proofs.lemmas.Bool.{false≢true}
 use Rattle.std.specs.List.{count_by}
 use Rattle.seg_words.specs.Windows.{Aside, is_named}
 use Rattle.sma_blocks.specs.Live.{live_blocks}
+use Rattle.entry_slots.specs.declared.slots.EntrySlots.{EntrySlots}
+use Rattle.entry_slots.specs.Standing.{Stands}
 use Rattle.entry_slots.proofs.Members.{none_in_nil}
 use Rattle.entry_slots.proofs.slots.EntrySlots.format.Goals as goal
 
@@ -13,15 +15,17 @@ pub store-requires-clause-place : goal.store-requires-clause-place
 store-requires-clause-place g c = omega (arith, c.loop-slot.invariant.count, c.requires.all, c.requires.good.room)
 
 pub store-requires-clause-apart : goal.store-requires-clause-apart
-store-requires-clause-apart g c = λ at named. absurd (false≢true (sym (closed_along (g.S.WordsIn.aside c.args.seg.now) (g.S.WordsIn.aside c.loop-slot.seg) at c.loop-slot.invariant.aside (c.requires.closed at)) ∙ named))
+store-requires-clause-apart g c = λ at named. absurd (false≢true (sym (closed_along (g.S.WordsIn.aside c.args.seg.now) (g.S.WordsIn.aside c.loop-slot.seg) at c.loop-slot.invariant.beside.aside (c.requires.closed at)) ∙ named))
 
 pub returns : goal.returns
 returns g c =
     let ws : List ℕ = g.S.WordsIn.words c.format.new.seg in
     let slots : ℕ = c.args.conf.now.slots in
-    let aside = c.format.ensures.aside ∙ c.loop-slot.invariant.aside in
+    let aside = c.format.ensures.beside.aside ∙ c.loop-slot.invariant.beside.aside in
+    let e' : EntrySlots = record { sma = c.format.result; removed = 0; next_number = 1; count = 0; standing = c.new.result } in
     record {
-      stand = record {
+      made = c.new.ensures;
+      stand = subst (λ x. Stands e' ws (g.S.WordsIn.aside c.format.new.seg) x) (sym c.new.ensures) (record {
         chains = λ slot lt. c.format.ensures.before.before slot lt ∙ c.loop-slot.invariant.empty slot (omega (arith, lt, c.loop-slot.auto.slot-end));
         removed_chain = refl;
         rows = λ row x. absurd (none_in_nil row x);
@@ -36,7 +40,6 @@ returns g c =
         good = c.requires.good;
         from = c.format.ensures.from;
         to = c.format.ensures.ready.end ∙ (c.format.ensures.before.count ∙ (c.loop-slot.invariant.count ∙ c.requires.all));
-      };
-      aside = aside;
-      rest = c.format.ensures.rest ∙ c.loop-slot.invariant.rest;
+      });
+      beside = record { aside = aside; rest = c.format.ensures.beside.rest ∙ c.loop-slot.invariant.beside.rest };
     }

@@ -1,10 +1,10 @@
 use Rattle.std.proofs.Common.{◌≡◌, ℕ, ◌<◌, slice_index, length}
+use Rattle.seg_words.specs.Kept.{KeptBeside}
 use Rattle.entry_slots.proofs.slots.EntrySlots.format.Given as goal
 
 abbrev pub invariant-loop-slot : goal.invariant-loop-slot
 invariant-loop-slot g l = record {
   count : length (g.S.WordsIn.words l.seg) ≡ length (g.S.WordsIn.words l.initial.seg);
   empty : (j : ℕ) → j < l.slot → slice_index (g.S.WordsIn.words l.seg) j ≡ 0;
-  aside : g.S.WordsIn.aside l.seg ≡ g.S.WordsIn.aside l.initial.seg;
-  rest : g.S.WordsIn.rest l.seg ≡ g.S.WordsIn.rest l.initial.seg;
+  beside : KeptBeside g.S.WordsIn l.initial.seg l.seg;
 }

@@ -1,32 +1,33 @@
 use Rattle.std.proofs.Common.{◌+◌, arith}
 use Rattle.entry_slots.proofs.Homes.{row_there, room, told_at, home_listed}
 use Rattle.entry_slots.proofs.Heads.{short_words, head_is}
+use Rattle.entry_slots.proofs.Now.{entry_now}
 use Rattle.entry_slots.proofs.slots.EntrySlots.head.Goals as goal
 
 pub first_words-words-requires-clause-inside : goal.first_words-words-requires-clause-inside
-first_words-words-requires-clause-inside g c = let r = row_there c.requires.there in let w = room r.1 in omega (arith, w.high, w.enough, r.2)
+first_words-words-requires-clause-inside g c = let r = row_there (entry_now c.requires.stand c.requires.there) in let w = room r.1 in omega (arith, w.high, w.enough, r.2)
 
 pub first_words-words-requires-clause-told : goal.first_words-words-requires-clause-told
-first_words-words-requires-clause-told g c = λ k few. let r = row_there c.requires.there in told_at r.1 c.args.at k r.2 (omega arith) (omega arith)
+first_words-words-requires-clause-told g c = λ k few. let r = row_there (entry_now c.requires.stand c.requires.there) in told_at r.1 c.args.at k r.2 (omega arith) (omega arith)
 
 pub overflow_cast-key_len : goal.overflow_cast-key_len
-overflow_cast-key_len g c = let r = row_there c.requires.there in let w = short_words r.1 c.args.at c.first_words-words.result r.2 c.first_words-words.ensures.each in omega (arith, w.key)
+overflow_cast-key_len g c = let r = row_there (entry_now c.requires.stand c.requires.there) in let w = short_words r.1 c.args.at c.first_words-words.result r.2 c.first_words-words.ensures.each in omega (arith, w.key)
 
 pub overflow_add-result : goal.overflow_add-result
-overflow_add-result g c = let r = row_there c.requires.there in let w = room r.1 in omega (arith, w.high, w.enough, w.short, r.2)
+overflow_add-result g c = let r = row_there (entry_now c.requires.stand c.requires.there) in let w = room r.1 in omega (arith, w.high, w.enough, w.short, r.2)
 
 pub overflow_add-result-2 : goal.overflow_add-result-2
-overflow_add-result-2 g c = let r = row_there c.requires.there in let w = short_words r.1 c.args.at c.first_words-words.result r.2 c.first_words-words.ensures.each in omega (arith, w.image, c.div_ceil.ensures)
+overflow_add-result-2 g c = let r = row_there (entry_now c.requires.stand c.requires.there) in let w = short_words r.1 c.args.at c.first_words-words.result r.2 c.first_words-words.ensures.each in omega (arith, w.image, c.div_ceil.ensures)
 
 pub overflow_cast-result : goal.overflow_cast-result
-overflow_cast-result g c = let r = row_there c.requires.there in let w = short_words r.1 c.args.at c.first_words-words.result r.2 c.first_words-words.ensures.each in omega (arith, w.value)
+overflow_cast-result g c = let r = row_there (entry_now c.requires.stand c.requires.there) in let w = short_words r.1 c.args.at c.first_words-words.result r.2 c.first_words-words.ensures.each in omega (arith, w.value)
 
 pub overflow_cast-result-2 : goal.overflow_cast-result-2
-overflow_cast-result-2 g c = let r = row_there c.requires.there in let w = short_words r.1 c.args.at c.first_words-words.result r.2 c.first_words-words.ensures.each in omega (arith, w.ttl)
+overflow_cast-result-2 g c = let r = row_there (entry_now c.requires.stand c.requires.there) in let w = short_words r.1 c.args.at c.first_words-words.result r.2 c.first_words-words.ensures.each in omega (arith, w.ttl)
 
 pub overflow_cast-result-3 : goal.overflow_cast-result-3
-overflow_cast-result-3 g c = let r = row_there c.requires.there in let w = short_words r.1 c.args.at c.first_words-words.result r.2 c.first_words-words.ensures.each in omega (arith, w.size)
+overflow_cast-result-3 g c = let r = row_there (entry_now c.requires.stand c.requires.there) in let w = short_words r.1 c.args.at c.first_words-words.result r.2 c.first_words-words.ensures.each in omega (arith, w.size)
 
 pub returns-clause-head : goal.returns-clause-head
-returns-clause-head g c = λ s row h there place.
-    head_is row (home_listed row h there) c.args.at c.first_words-words.result (c.args.at + 12 + c.div_ceil.result) place c.first_words-words.ensures.each (omega (arith, c.div_ceil.ensures))
+returns-clause-head g c = λ row is.
+    head_is row (home_listed row c.requires.stand is.there) c.args.at c.first_words-words.result (c.args.at + 12 + c.div_ceil.result) is.place c.first_words-words.ensures.each (omega (arith, c.div_ceil.ensures))

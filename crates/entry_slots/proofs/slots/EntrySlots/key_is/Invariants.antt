@@ -1,11 +1,10 @@
 use Rattle.std.proofs.Common.{◌≡◌, ℕ, ◌+◌, ◌<◌, slice_index}
 use Rattle.value_image.specs.Packed.{word_at}
+use Rattle.seg_words.specs.Kept.{Kept}
 use Rattle.entry_slots.proofs.slots.EntrySlots.key_is.Given as goal
 
 abbrev pub invariant-loop-i : goal.invariant-loop-i
 invariant-loop-i g l = record {
   same : (j : ℕ) → j < l.i → slice_index (g.S.WordsIn.words l.fn.seg) (l.at + 12 + j) ≡ word_at l.key j;
-  words : g.S.WordsIn.words l.seg ≡ g.S.WordsIn.words l.fn.seg;
-  aside : g.S.WordsIn.aside l.seg ≡ g.S.WordsIn.aside l.fn.seg;
-  rest : g.S.WordsIn.rest l.seg ≡ g.S.WordsIn.rest l.fn.seg;
+  kept : Kept g.S.WordsIn l.fn.seg l.seg;
 }

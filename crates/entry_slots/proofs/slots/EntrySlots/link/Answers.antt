@@ -1,4 +1,4 @@
-use Rattle.std.proofs.Common.{◌≡◌, ◌⊎◌, inl, inr, ℕ, ◌+◌, ◌<◌, ◌%◌, List, sym, ap, ◌∙◌, arith, length, slice_index, slice_set, subst, refl, true}
+use Rattle.std.proofs.Common.{◌≡◌, ℕ, ◌+◌, ◌<◌, ◌%◌, List, sym, ap, ◌∙◌, arith, length, slice_index, slice_set, subst, refl}
 use Rattle.std.specs.List.{AllByRecursion}
 use Rattle.std.proofs.lemmas.List.Elements.{recursion_from_All, All-from_get_or}
 use Rattle.seg_words.specs.Windows.{Aside}
@@ -8,11 +8,10 @@ use Rattle.value_image.specs.Rows.{written, MayWrite}
 use Rattle.apcu_model.specs.Walk.{slot_of}
 use Rattle.entry_slots.specs.declared.slots.EntrySlots.{EntrySlots}
 use Rattle.entry_slots.specs.declared.writing.Note.{Note}
-use Rattle.entry_slots.specs.Lists.{has_place}
 use Rattle.entry_slots.specs.Entries.{Entries, chain_of}
-use Rattle.entry_slots.specs.Standing.{Stands}
+use Rattle.entry_slots.specs.Standing.{Stands, entries}
+use Rattle.entry_slots.proofs.Now.{restand}
 use Rattle.entry_slots.specs.Links.{IsLinkTo}
-use Rattle.entry_slots.specs.Reading.{MayFollow}
 use Rattle.entry_slots.specs.Written.{entry_words}
 use Rattle.entry_slots.proofs.Walks.{stands_along}
 use Rattle.entry_slots.proofs.Storing.{may_along}
@@ -28,83 +27,88 @@ slot_is e s key slot from is = is ∙ ap (λ (n : ℕ). hash_of key % n) from
 write_along : (ws ws' : List ℕ) (aside aside' : Aside) (at n : ℕ) → ws' ≡ ws → aside' ≡ aside → MayWrite ws aside.windows at n → MayWrite ws' aside'.windows at n
 write_along ws ws' aside aside' at n ew ea may = subst (λ a. MayWrite ws' a.windows at n) (sym ea) (subst (λ w. MayWrite w aside.windows at n) (sym ew) may)
 
-follow_along : (e : EntrySlots) (ws ws' : List ℕ) (aside aside' : Aside) (s : Entries) (at : ℕ) → ws' ≡ ws → aside' ≡ aside → Stands e ws aside s → (at ≡ 0) ⊎ (has_place at s.rows ≡ true) → MayFollow e ws' aside' at
-follow_along e ws ws' aside aside' s at ew ea h (inl none) = inl none
-follow_along e ws ws' aside aside' s at ew ea h (inr there) = inr (record { entries = s; stand = stands_along ws' aside' h ew ea; there = there })
-
 -- the word of the chain, after the block was written
 link_word : {e : EntrySlots} {ws : List ℕ} {aside : Aside} (s : Entries) (h : Stands e ws aside s) (slot m target : ℕ) (ws' : List ℕ) → Stands e ws' aside s → slot < e.sma.from → IsLinkTo ws slot (chain_of s slot) target m → IsLinkWord ws' aside.windows m
 link_word s h slot m target ws' h' lt link = spot_word m h' (cut_spot h' slot lt m 0 link.front link.back link.split link.follows)
 
 pub slot_for-slot-requires : goal.slot_for-slot-requires
-slot_for-slot-requires g c = let h = c.requires.may.stand in (omega (arith, h.from, h.good.slots_least), omega (arith, h.from, h.good.slots_most))
+slot_for-slot-requires g c = let h = c.requires.stand in (omega (arith, h.from, h.good.slots_least), omega (arith, h.from, h.good.slots_most))
 
 pub link_to-link-requires : goal.link_to-link-requires
 link_to-link-requires g c =
-    let m = c.requires.may in
+    let s = entries c.args.self.now in
+    let h = c.requires.stand in
     record {
-      there = record {
-        entries = m.entries;
-        stand = m.stand;
-        there = old_target m.entries c.args.key.now c.slot_for-slot.result c.args.replaced (slot_is c.args.self.now m.entries c.args.key.now c.slot_for-slot.result m.stand.from c.slot_for-slot.ensures.slot) (old_row m.entries c.args.key.now c.args.replaced m.replaces);
-      };
+      stand = h;
+      there = old_target s c.args.key.now c.slot_for-slot.result c.args.replaced (slot_is c.args.self.now s c.args.key.now c.slot_for-slot.result h.from c.slot_for-slot.ensures.slot) (old_row s c.args.key.now c.args.replaced c.requires.replaces);
       slot = c.slot_for-slot.ensures.low;
     }
 
 pub behind-requires : goal.behind-requires
 behind-requires g c =
-    let m = c.requires.may in
-    record { there = follow_along c.args.self.now (g.S.WordsIn.words c.args.seg.now) (g.S.WordsIn.words c.link_to-link.new.seg) (g.S.WordsIn.aside c.args.seg.now) (g.S.WordsIn.aside c.link_to-link.new.seg) m.entries c.args.replaced c.link_to-link.ensures.words c.link_to-link.ensures.aside m.stand (old_place m.entries c.args.key.now c.args.replaced m.stand (old_row m.entries c.args.key.now c.args.replaced m.replaces)) }
+    let s = entries c.args.self.now in
+    let h = c.requires.stand in
+    record {
+      stand = stands_along (g.S.WordsIn.words c.link_to-link.new.seg) (g.S.WordsIn.aside c.link_to-link.new.seg) h c.link_to-link.ensures.kept.words c.link_to-link.ensures.kept.aside;
+      there = old_place s c.args.key.now c.args.replaced h (old_row s c.args.key.now c.args.replaced c.requires.replaces);
+    }
 
 pub put_entry-requires : goal.put_entry-requires
 put_entry-requires g c =
-    let m = c.requires.may in
-    let r = taken_room m.entries m.stand c.args.at c.args.key.now c.args.g.now m.taken in
+    let s = entries c.args.self.now in
+    let h = c.requires.stand in
+    let r = taken_room s h c.args.at c.args.key.now c.args.g.now c.requires.taken in
     record {
       short = c.requires.short;
       small = omega (arith, r.0, r.1);
       apart = write_along (g.S.WordsIn.words c.args.seg.now) (g.S.WordsIn.words c.behind.new.seg) (g.S.WordsIn.aside c.args.seg.now) (g.S.WordsIn.aside c.behind.new.seg) (c.args.at + 1) (11 + words_in (length c.args.key.now) + image_length c.args.g.now)
-          (c.behind.ensures.words ∙ c.link_to-link.ensures.words) (c.behind.ensures.aside ∙ c.link_to-link.ensures.aside) (taken_write m.entries m.stand c.args.at c.args.key.now c.args.g.now m.taken);
+          (c.behind.ensures.kept.words ∙ c.link_to-link.ensures.kept.words) (c.behind.ensures.kept.aside ∙ c.link_to-link.ensures.kept.aside) (taken_write s h c.args.at c.args.key.now c.args.g.now c.requires.taken);
     }
 
 pub store-requires : goal.store-requires
 store-requires g c =
-    let m = c.requires.may in
+    let s = entries c.args.self.now in
+    let h = c.requires.stand in
     let note : Note = record { next = c.behind.result; ttl = c.args.ttl; now = c.args.t; number = c.args.self.now.next_number } in
     let ws : List ℕ = g.S.WordsIn.words c.args.seg.now in
     let ws1 : List ℕ = written ws (c.args.at + 1) (entry_words c.args.key.now c.args.g.now note) in
-    let target = old_target m.entries c.args.key.now c.slot_for-slot.result c.args.replaced (slot_is c.args.self.now m.entries c.args.key.now c.slot_for-slot.result m.stand.from c.slot_for-slot.ensures.slot) (old_row m.entries c.args.key.now c.args.replaced m.replaces) in
-    let link = c.link_to-link.ensures.link m.entries m.stand target in
-    let h1 = entry_stands m.entries m.stand c.args.at c.args.key.now c.args.g.now m.taken c.lower_laws.ensures note in
-    let w = link_word m.entries m.stand c.slot_for-slot.result c.link_to-link.result c.args.replaced ws1 h1 c.slot_for-slot.ensures.low link in
-    let words : g.S.WordsIn.words c.put_entry.new.seg ≡ ws1 = c.put_entry.ensures.words ∙ ap (λ (v : List ℕ). written v (c.args.at + 1) (entry_words c.args.key.now c.args.g.now note)) (c.behind.ensures.words ∙ c.link_to-link.ensures.words) in
+    let link = c.link_to-link.ensures.link in
+    let h1 = entry_stands s h c.args.at c.args.key.now c.args.g.now c.requires.taken c.lower_laws.ensures note in
+    let w = link_word s h c.slot_for-slot.result c.link_to-link.result c.args.replaced ws1 h1 c.slot_for-slot.ensures.low link in
+    let words : g.S.WordsIn.words c.put_entry.new.seg ≡ ws1 = c.put_entry.ensures.words ∙ ap (λ (v : List ℕ). written v (c.args.at + 1) (entry_words c.args.key.now c.args.g.now note)) (c.behind.ensures.kept.words ∙ c.link_to-link.ensures.kept.words) in
     record {
       place = subst (λ (v : List ℕ). c.link_to-link.result < length v) (sym words) w.inside;
-      apart = may_along ws1 (g.S.WordsIn.words c.put_entry.new.seg) (g.S.WordsIn.aside c.args.seg.now) (g.S.WordsIn.aside c.put_entry.new.seg) c.link_to-link.result words (c.put_entry.ensures.aside ∙ (c.behind.ensures.aside ∙ c.link_to-link.ensures.aside)) w.may;
+      apart = may_along ws1 (g.S.WordsIn.words c.put_entry.new.seg) (g.S.WordsIn.aside c.args.seg.now) (g.S.WordsIn.aside c.put_entry.new.seg) c.link_to-link.result words (c.put_entry.ensures.beside.aside ∙ (c.behind.ensures.kept.aside ∙ c.link_to-link.ensures.kept.aside)) w.may;
     }
 
 pub count_after-self-requires : goal.count_after-self-requires
 count_after-self-requires g c =
-    let m = c.requires.may in
-    let r = taken_room m.entries m.stand c.args.at c.args.key.now c.args.g.now m.taken in
-    let few = rows_few m.stand in
+    let s = entries c.args.self.now in
+    let h = c.requires.stand in
+    let r = taken_room s h c.args.at c.args.key.now c.args.g.now c.requires.taken in
+    let few = rows_few h in
     omega (arith, r.1, few)
 
-pub returns-clause-linked : goal.returns-clause-linked
-returns-clause-linked g c = λ s h taken replaces.
+pub returns-clause-stand : goal.returns-clause-stand
+returns-clause-stand g c =
+    let s = entries c.args.self.now in
+    let h = c.requires.stand in
+    let taken = c.requires.taken in
+    let replaces = c.requires.replaces in
     let note : Note = record { next = c.behind.result; ttl = c.args.ttl; now = c.args.t; number = c.args.self.now.next_number } in
     let ws : List ℕ = g.S.WordsIn.words c.args.seg.now in
     let slot : ℕ = c.slot_for-slot.result in
     let ws1 : List ℕ = written ws (c.args.at + 1) (entry_words c.args.key.now c.args.g.now note) in
     let is : slot ≡ slot_of s.conf c.args.key.now = slot_is c.args.self.now s c.args.key.now slot h.from c.slot_for-slot.ensures.slot in
-    let target = old_target s c.args.key.now slot c.args.replaced is (old_row s c.args.key.now c.args.replaced replaces) in
-    let link = c.link_to-link.ensures.link s h target in
-    let read : g.S.WordsIn.words c.link_to-link.new.seg ≡ ws = c.link_to-link.ensures.words in
-    let words1 : g.S.WordsIn.words c.put_entry.new.seg ≡ ws1 = c.put_entry.ensures.words ∙ ap (λ (v : List ℕ). written v (c.args.at + 1) (entry_words c.args.key.now c.args.g.now note)) (c.behind.ensures.words ∙ read) in
+    let link = c.link_to-link.ensures.link in
+    let read : g.S.WordsIn.words c.link_to-link.new.seg ≡ ws = c.link_to-link.ensures.kept.words in
+    let words1 : g.S.WordsIn.words c.put_entry.new.seg ≡ ws1 = c.put_entry.ensures.words ∙ ap (λ (v : List ℕ). written v (c.args.at + 1) (entry_words c.args.key.now c.args.g.now note)) (c.behind.ensures.kept.words ∙ read) in
     let words : g.S.WordsIn.words c.store.new.self ≡ slice_set ws1 c.link_to-link.result c.args.at = c.store.ensures.words ∙ (ap (λ (v : List ℕ). slice_set v c.link_to-link.result c.from.result) words1 ∙ ap (λ (n : ℕ). slice_set ws1 c.link_to-link.result n) c.from.ensures) in
     let bytes : AllByRecursion (λ b. b < 256) c.args.key.now = recursion_from_All (λ b. b < 256) c.args.key.now (All-from_get_or (λ b. b < 256) c.args.key.now 0 (λ i lt. omega (arith, c.type_inv.key i))) in
-    stands_along (g.S.WordsIn.words c.store.new.self) (g.S.WordsIn.aside c.store.new.self)
+    let e' = record c.args.self.now { next_number = c.saturating_add-self.result; count = c.count_after-self.result; standing = c.then-self.result } in
+    subst (λ x. Stands e' (g.S.WordsIn.words c.store.new.self) (g.S.WordsIn.aside c.store.new.self) x) (sym c.then-self.ensures)
+    (restand {e' = e'} (stands_along (g.S.WordsIn.words c.store.new.self) (g.S.WordsIn.aside c.store.new.self)
     (link_stands s h c.args.at c.args.key.now c.args.g.now taken c.lower_laws.ensures note c.is_sealed.ensures (c.requires.short, bytes) (omega (arith, c.ranges.ttl)) refl c.args.replaced slot c.link_to-link.result replaces is c.slot_for-slot.ensures.low link
     (λ some. c.behind.ensures.next some ∙ ap (λ (v : List ℕ). slice_index v (c.args.replaced + 1)) read) c.behind.ensures.none
     c.saturating_add-self.result c.count_after-self.result (omega (arith, c.saturating_add-self.ensures)) c.count_after-self.ensures)
-    words (c.store.ensures.aside ∙ (c.put_entry.ensures.aside ∙ (c.behind.ensures.aside ∙ c.link_to-link.ensures.aside)))
+    words (c.store.ensures.aside ∙ (c.put_entry.ensures.beside.aside ∙ (c.behind.ensures.kept.aside ∙ c.link_to-link.ensures.kept.aside)))) refl refl refl refl)

@@ -2,6 +2,7 @@ use Rattle.std.proofs.Common.{◌≡◌, inl, ℕ, ◌+◌, ◌≤◌, sym, ap, 
 use Rattle.std.proofs.lemmas.List.Sums.{length-filter, count_by-le-length}
 use Rattle.apcu_model.specs.Walk.{is_in_slot}
 use Rattle.entry_slots.specs.Entries.{Entries, chain_of}
+use Rattle.entry_slots.specs.Standing.{entries}
 use Rattle.entry_slots.proofs.Blocks.{read_along}
 use Rattle.entry_slots.proofs.Chains.{home_chain}
 use Rattle.entry_slots.proofs.Cutting.{spot_word}
@@ -14,62 +15,58 @@ chain_short s slot count passed e le = omega (arith, length-filter (is_in_slot s
 
 pub loop-passed-init : goal.loop-passed-init
 loop-passed-init g c = record {
-  way = λ s h t. record { front = []; back = chain_of s c.args.slot; split = refl; many = refl; none = refl; link_is = refl; rest = h.chains c.args.slot (omega (arith, h.from, c.requires.slot)) };
-  words = refl;
-  aside = refl;
-  rest = refl;
+  way = record { front = []; back = chain_of (entries c.args.self.now) c.args.slot; split = refl; many = refl; none = refl; link_is = refl; rest = c.requires.stand.chains c.args.slot (omega (arith, c.requires.stand.from, c.requires.slot)) };
+  kept = record { words = refl; aside = refl; rest = refl };
 }
 
 pub load-named-requires : goal.load-named-requires
 load-named-requires g c =
-    let s = c.requires.there.entries in
-    let h = c.requires.there.stand in
-    let way = c.loop-passed.invariant.way s h c.requires.there.there in
+    let h = c.requires.stand in
+    let way = c.loop-passed.invariant.way in
     let w = spot_word c.loop-passed.link h (way_spot way (inl c.requires.slot) (home_chain c.args.slot h)) in
-    rw c.loop-passed.invariant.words w.inside
+    rw c.loop-passed.invariant.kept.words w.inside
 
 pub overflow_cast-named : goal.overflow_cast-named
 overflow_cast-named g c =
-    let s = c.requires.there.entries in
-    let h = c.requires.there.stand in
-    let way = c.loop-passed.invariant.way s h c.requires.there.there in
+    let h = c.requires.stand in
+    let way = c.loop-passed.invariant.way in
     let w = spot_word c.loop-passed.link h (way_spot way (inl c.requires.slot) (home_chain c.args.slot h)) in
-    let read = read_along (g.S.WordsIn.words c.args.seg.now) (g.S.WordsIn.words c.loop-passed.seg) (g.S.WordsIn.aside c.args.seg.now) (g.S.WordsIn.aside c.loop-passed.seg) c.loop-passed.link c.load-named.result c.loop-passed.invariant.words c.loop-passed.invariant.aside w.told c.load-named.ensures.word in
+    let read = read_along (g.S.WordsIn.words c.args.seg.now) (g.S.WordsIn.words c.loop-passed.seg) (g.S.WordsIn.aside c.args.seg.now) (g.S.WordsIn.aside c.loop-passed.seg) c.loop-passed.link c.load-named.result c.loop-passed.invariant.kept.words c.loop-passed.invariant.kept.aside w.told c.load-named.ensures.word in
     let small = way_small way (home_chain c.args.slot h) in
     omega (arith, read, small)
 
 pub overflow_add-link : goal.overflow_add-link
 overflow_add-link g c =
-    let s = c.requires.there.entries in
-    let h = c.requires.there.stand in
-    let way = c.loop-passed.invariant.way s h c.requires.there.there in
+    let h = c.requires.stand in
+    let way = c.loop-passed.invariant.way in
     let w = spot_word c.loop-passed.link h (way_spot way (inl c.requires.slot) (home_chain c.args.slot h)) in
-    let read = read_along (g.S.WordsIn.words c.args.seg.now) (g.S.WordsIn.words c.loop-passed.seg) (g.S.WordsIn.aside c.args.seg.now) (g.S.WordsIn.aside c.loop-passed.seg) c.loop-passed.link c.load-named.result c.loop-passed.invariant.words c.loop-passed.invariant.aside w.told c.load-named.ensures.word in
+    let read = read_along (g.S.WordsIn.words c.args.seg.now) (g.S.WordsIn.words c.loop-passed.seg) (g.S.WordsIn.aside c.args.seg.now) (g.S.WordsIn.aside c.loop-passed.seg) c.loop-passed.link c.load-named.result c.loop-passed.invariant.kept.words c.loop-passed.invariant.kept.aside w.told c.load-named.ensures.word in
     let small = way_small way (home_chain c.args.slot h) in
     omega (arith, read, small)
 
 pub loop-passed-preserved : goal.loop-passed-preserved
 loop-passed-preserved g c =
-    let h0 = c.requires.there.stand in
-    let way0 = c.loop-passed.invariant.way c.requires.there.entries h0 c.requires.there.there in
+    let s = entries c.args.self.now in
+    let h0 = c.requires.stand in
+    let way0 = c.loop-passed.invariant.way in
     let w = spot_word c.loop-passed.link h0 (way_spot way0 (inl c.requires.slot) (home_chain c.args.slot h0)) in
-    let read = read_along (g.S.WordsIn.words c.args.seg.now) (g.S.WordsIn.words c.loop-passed.seg) (g.S.WordsIn.aside c.args.seg.now) (g.S.WordsIn.aside c.loop-passed.seg) c.loop-passed.link c.load-named.result c.loop-passed.invariant.words c.loop-passed.invariant.aside w.told c.load-named.ensures.word in
+    let read = read_along (g.S.WordsIn.words c.args.seg.now) (g.S.WordsIn.words c.loop-passed.seg) (g.S.WordsIn.aside c.args.seg.now) (g.S.WordsIn.aside c.loop-passed.seg) c.loop-passed.link c.load-named.result c.loop-passed.invariant.kept.words c.loop-passed.invariant.kept.aside w.told c.load-named.ensures.word in
     record {
-      way = λ s h t.
-          let next = way_next (c.loop-passed.invariant.way s h t) t (λ q. c.if-named-target.false (read ∙ q)) in
+      way =
+          let next = way_next way0 c.requires.there (λ q. c.if-named-target.false (read ∙ q)) in
           subst (λ (n : ℕ). Way (g.S.WordsIn.words c.args.seg.now) c.args.slot (chain_of s c.args.slot) c.args.target n (c.loop-passed._passed + 1)) (ap (λ (n : ℕ). n + 1) (sym read)) next;
-      words = c.load-named.ensures.words ∙ c.loop-passed.invariant.words;
-      aside = c.load-named.ensures.aside ∙ c.loop-passed.invariant.aside;
-      rest = c.load-named.ensures.rest ∙ c.loop-passed.invariant.rest;
+      kept = record { words = c.load-named.ensures.words ∙ c.loop-passed.invariant.kept.words; aside = c.load-named.ensures.aside ∙ c.loop-passed.invariant.kept.aside; rest = c.load-named.ensures.rest ∙ c.loop-passed.invariant.kept.rest };
     }
 
 pub returns-then-named-target-clause-link : goal.returns-then-named-target-clause-link
-returns-then-named-target-clause-link g c = λ s h t.
-    let way = c.loop-passed.invariant.way s h t in
+returns-then-named-target-clause-link g c =
+    let h = c.requires.stand in
+    let way = c.loop-passed.invariant.way in
     let w = spot_word c.loop-passed.link h (way_spot way (inl c.requires.slot) (home_chain c.args.slot h)) in
-    let read = read_along (g.S.WordsIn.words c.args.seg.now) (g.S.WordsIn.words c.loop-passed.seg) (g.S.WordsIn.aside c.args.seg.now) (g.S.WordsIn.aside c.loop-passed.seg) c.loop-passed.link c.load-named.result c.loop-passed.invariant.words c.loop-passed.invariant.aside w.told c.load-named.ensures.word in
+    let read = read_along (g.S.WordsIn.words c.args.seg.now) (g.S.WordsIn.words c.loop-passed.seg) (g.S.WordsIn.aside c.args.seg.now) (g.S.WordsIn.aside c.loop-passed.seg) c.loop-passed.link c.load-named.result c.loop-passed.invariant.kept.words c.loop-passed.invariant.kept.aside w.told c.load-named.ensures.word in
     way_found way (sym read ∙ c.if-named-target.true)
 
 pub returns-clause-link : goal.returns-clause-link
-returns-clause-link g c = λ s h t.
-    way_end (c.loop-passed.invariant.way s h t) t (chain_short s c.args.slot c.args.self.now.count c.loop-passed._passed h.count c.loop-passed-test.false)
+returns-clause-link g c =
+    let h = c.requires.stand in
+    way_end c.loop-passed.invariant.way c.requires.there (chain_short (entries c.args.self.now) c.args.slot c.args.self.now.count c.loop-passed._passed h.count c.loop-passed-test.false)

@@ -1,7 +1,8 @@
-use Rattle.std.proofs.Common.{◌≡◌, ℕ, ◌+◌, ◌/◌, ◌<◌, ◌≤◌, List, false, sym, ap, ◌∙◌, subst, slice_set, arith, rules, length, Some}
+use Rattle.std.proofs.Common.{◌≡◌, ℕ, ◌+◌, ◌/◌, ◌<◌, ◌≤◌, List, false, sym, ap, ◌∙◌, subst, slice_set, arith, rules, length, Some, refl}
 use Rattle.std.specs.Prelude.{ℤ}
 use Rattle.std.specs.Int.{w64, cast_unsigned}
 use Rattle.std.proofs.lemmas.Bool.{false≢true}
+use Rattle.std.proofs.lemmas.Int.{to_z-of_z}
 use Rattle.std.proofs.lemmas.List.{length-set}
 use Rattle.seg_words.specs.Windows.{Aside, is_named}
 use Rattle.seg_words.specs.Blocks.{MayStore}
@@ -10,6 +11,9 @@ use Rattle.php_graph.specs.Graph.{kind_at}
 use Rattle.php_graph.specs.Size.{words_in, image_length}
 use Rattle.apcu_model.specs.Cache.{Row, extent_of}
 use Rattle.entry_slots.specs.declared.slots.EntrySlots.{EntrySlots}
+use Rattle.entry_slots.specs.Entries.{with_number}
+use Rattle.entry_slots.specs.Standing.{Stands, entries}
+use Rattle.entry_slots.proofs.Now.{restand}
 use Rattle.entry_slots.proofs.Runs.{may_store_set}
 use Rattle.entry_slots.proofs.Homes.{IsHome, room, told_at, home_row}
 use Rattle.entry_slots.proofs.Walks.{stands_along}
@@ -33,36 +37,36 @@ value_may {e} {ws} {aside} row h at i place free low high =
     may_store_in e.sma ws aside (extent_of row) i h.ready h.live (omega arith) (omega arith) (λ named. absurd (false≢true (sym (subst (λ (n : ℕ). is_named aside.windows n ≡ false) (sym place) free) ∙ named)))
 
 pub overflow_add-at : goal.overflow_add-at
-overflow_add-at g c = let m = c.requires.there in let w = room (home_row m.row m.stand m.there) in omega (arith, w.high, w.enough, w.short, m.place)
+overflow_add-at g c = let m = c.requires.int in let w = room (home_row m.row c.requires.stand m.there) in omega (arith, w.high, w.enough, w.short, m.place)
 
 pub load-len-requires : goal.load-len-requires
-load-len-requires g c = let m = c.requires.there in let w = room (home_row m.row m.stand m.there) in omega (arith, w.high, w.enough, w.short, m.place)
+load-len-requires g c = let m = c.requires.int in let w = room (home_row m.row c.requires.stand m.there) in omega (arith, w.high, w.enough, w.short, m.place)
 
 pub overflow_cast-len : goal.overflow_cast-len
 overflow_cast-len g c =
-    let m = c.requires.there in
-    let home = home_row m.row m.stand m.there in
+    let m = c.requires.int in
+    let home = home_row m.row c.requires.stand m.there in
     let read = c.load-len.ensures.word (told_at home c.args.at 2 m.place (omega arith) (omega arith)) in
     omega (arith, read, key_length_at home c.args.at m.place, home.entry.bytes.0)
 
 pub overflow_add-at-2 : goal.overflow_add-at-2
-overflow_add-at-2 g c = let m = c.requires.there in let w = room (home_row m.row m.stand m.there) in omega (arith, w.high, w.enough, w.short, m.place)
+overflow_add-at-2 g c = let m = c.requires.int in let w = room (home_row m.row c.requires.stand m.there) in omega (arith, w.high, w.enough, w.short, m.place)
 
 pub overflow_add-at-3 : goal.overflow_add-at-3
 overflow_add-at-3 g c =
-    let m = c.requires.there in
-    let home = home_row m.row m.stand m.there in
+    let m = c.requires.int in
+    let home = home_row m.row c.requires.stand m.there in
     let read = c.load-len.ensures.word (told_at home c.args.at 2 m.place (omega arith) (omega arith)) in
     let v = value_in m.row m.number home m.int c.args.at c.load-len.result (c.args.at + 13 + c.div_ceil.result) m.place (read ∙ key_length_at home c.args.at m.place) (omega (arith, c.div_ceil.ensures)) in
     omega (arith, v.0, v.1, v.2)
 
 pub overflow_add-at-4 : goal.overflow_add-at-4
-overflow_add-at-4 g c = let m = c.requires.there in let w = room (home_row m.row m.stand m.there) in omega (arith, w.high, w.enough, w.short, m.place)
+overflow_add-at-4 g c = let m = c.requires.int in let w = room (home_row m.row c.requires.stand m.there) in omega (arith, w.high, w.enough, w.short, m.place)
 
 pub store-requires : goal.store-requires
 store-requires g c =
-    let m = c.requires.there in
-    let home = home_row m.row m.stand m.there in
+    let m = c.requires.int in
+    let home = home_row m.row c.requires.stand m.there in
     let read = c.load-len.ensures.word (told_at home c.args.at 2 m.place (omega arith) (omega arith)) in
     let v = value_in m.row m.number home m.int c.args.at c.load-len.result (c.args.at + 13 + c.div_ceil.result) m.place (read ∙ key_length_at home c.args.at m.place) (omega (arith, c.div_ceil.ensures)) in
     record {
@@ -73,8 +77,8 @@ store-requires g c =
 
 pub store-requires-2 : goal.store-requires-2
 store-requires-2 g c =
-    let m = c.requires.there in
-    let home = home_row m.row m.stand m.there in
+    let m = c.requires.int in
+    let home = home_row m.row c.requires.stand m.there in
     let w = room home in
     let ws : List ℕ = g.S.WordsIn.words c.args.seg.now in
     let i : ℕ = c.args.at + 13 + c.div_ceil.result in
@@ -87,8 +91,14 @@ store-requires-2 g c =
           (may_store_set c.lower_laws.ensures ws (g.S.WordsIn.aside c.args.seg.now).windows i (c.args.at + 6) c.cast_unsigned.result (omega (arith, v.0, v.1)) (value_may m.row home c.args.at i m.place c.requires.unnamed (omega arith) v.0) (may_note m.row home c.args.at 6 m.place (omega arith) (omega arith) (omega arith)));
     }
 
-pub returns-clause-set : goal.returns-clause-set
-returns-clause-set g c = λ s row v h there place int.
+pub returns-clause-stand : goal.returns-clause-stand
+returns-clause-stand g c =
+    let s = entries c.args.self.now in
+    let h = c.requires.stand in
+    let m = c.requires.int in
+    let row = m.row in
+    let there = m.there in
+    let place = m.place in
     let home = home_row row h there in
     let ws : List ℕ = g.S.WordsIn.words c.args.seg.now in
     let i : ℕ = c.args.at + 13 + c.div_ceil.result in
@@ -99,6 +109,9 @@ returns-clause-set g c = λ s row v h there place int.
     let words : g.S.WordsIn.words c.store-2.new.self ≡ number_words ws c.args.at i (cast_unsigned w64 c.args.n) c.args.t =
     c.store-2.ensures.words ∙ (ap (λ (u : List ℕ). slice_set u (c.args.at + 6) c.args.t) (c.store.ensures.words ∙ ap (λ (u : List ℕ). slice_set u i c.cast_unsigned.result) c.load-len.ensures.words)
     ∙ ap (λ (n : ℕ). slice_set (slice_set ws i n) (c.args.at + 6) c.args.t) cast) in
-    stands_along (g.S.WordsIn.words c.store-2.new.self) (g.S.WordsIn.aside c.store-2.new.self)
-    (number_stands c.lower_laws.ensures s h c.args.at i c.args.t c.args.n v row there place int c.ranges.n (omega (arith, c.div_ceil.ensures, long)))
-    words (c.store-2.ensures.aside ∙ (c.store.ensures.aside ∙ c.load-len.ensures.aside))
+    let e' = record c.args.self.now { standing = c.then-self.result } in
+    let is : c.then-self.result.entries ≡ with_number c.args.at c.args.n c.args.t s = c.then-self.ensures ∙ ap (λ z. with_number c.args.at z c.args.t s) (to_z-of_z w64 c.args.n c.ranges.n) in
+    subst (λ x. Stands e' (g.S.WordsIn.words c.store-2.new.self) (g.S.WordsIn.aside c.store-2.new.self) x) (sym is)
+    (restand {e' = e'} (stands_along (g.S.WordsIn.words c.store-2.new.self) (g.S.WordsIn.aside c.store-2.new.self)
+    (number_stands c.lower_laws.ensures s h c.args.at i c.args.t c.args.n m.number row there place m.int c.ranges.n (omega (arith, c.div_ceil.ensures, long)))
+    words (c.store-2.ensures.aside ∙ (c.store.ensures.aside ∙ c.load-len.ensures.aside))) refl refl refl refl)

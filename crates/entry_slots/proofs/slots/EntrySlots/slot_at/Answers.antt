@@ -11,6 +11,7 @@ use Rattle.entry_slots.specs.Written.{IsKeyAt}
 use Rattle.entry_slots.proofs.Homes.{IsHome, room, told_at, home_row}
 use Rattle.entry_slots.proofs.KeyWords.{key_length_at}
 use Rattle.entry_slots.proofs.Touching.{row_at}
+use Rattle.entry_slots.proofs.Now.{row_now}
 use Rattle.entry_slots.proofs.slots.EntrySlots.slot_at.Goals as goal
 
 -- the key stands behind the first words
@@ -29,23 +30,23 @@ key_told row h at len i aside' e el ea low high =
     subst (λ a. IsTold a.windows i) (sym ea) (w.told i (omega arith) (omega (arith, w.enough, long)) (omega arith))
 
 pub overflow_add-at : goal.overflow_add-at
-overflow_add-at g c = let r = row_at c.requires.there in let w = room r.1 in omega (arith, w.high, w.enough, w.short, r.2)
+overflow_add-at g c = let r = row_at (row_now c.requires.stand c.requires.there) in let w = room r.1 in omega (arith, w.high, w.enough, w.short, r.2)
 
 pub load-len-requires : goal.load-len-requires
-load-len-requires g c = let r = row_at c.requires.there in let w = room r.1 in omega (arith, w.high, w.enough, w.short, r.2)
+load-len-requires g c = let r = row_at (row_now c.requires.stand c.requires.there) in let w = room r.1 in omega (arith, w.high, w.enough, w.short, r.2)
 
 pub overflow_cast-len : goal.overflow_cast-len
 overflow_cast-len g c =
-    let r = row_at c.requires.there in
+    let r = row_at (row_now c.requires.stand c.requires.there) in
     let read = c.load-len.ensures.word (told_at r.1 c.args.at 2 r.2 (omega arith) (omega arith)) in
     omega (arith, read, key_length_at r.1 c.args.at r.2, r.1.entry.bytes.0)
 
 pub overflow_add-at-2 : goal.overflow_add-at-2
-overflow_add-at-2 g c = let r = row_at c.requires.there in let w = room r.1 in omega (arith, w.high, w.enough, w.short, r.2)
+overflow_add-at-2 g c = let r = row_at (row_now c.requires.stand c.requires.there) in let w = room r.1 in omega (arith, w.high, w.enough, w.short, r.2)
 
 pub hash_at-requires-clause-inside : goal.hash_at-requires-clause-inside
 hash_at-requires-clause-inside g c =
-    let r = row_at c.requires.there in
+    let r = row_at (row_now c.requires.stand c.requires.there) in
     let w = room r.1 in
     let read = c.load-len.ensures.word (told_at r.1 c.args.at 2 r.2 (omega arith) (omega arith)) in
     let len : c.load-len.result ≡ length r.0.key = read ∙ key_length_at r.1 c.args.at r.2 in
@@ -54,12 +55,13 @@ hash_at-requires-clause-inside g c =
 
 pub hash_at-requires-clause-told : goal.hash_at-requires-clause-told
 hash_at-requires-clause-told g c = λ i low high.
-    let r = row_at c.requires.there in
+    let r = row_at (row_now c.requires.stand c.requires.there) in
     let read = c.load-len.ensures.word (told_at r.1 c.args.at 2 r.2 (omega arith) (omega arith)) in
     key_told r.0 r.1 c.args.at c.load-len.result i (g.S.WordsIn.aside c.load-len.new.self) r.2 (read ∙ key_length_at r.1 c.args.at r.2) c.load-len.ensures.aside low high
 
 pub returns-clause-slot : goal.returns-clause-slot
-returns-clause-slot g c = λ s row h there place.
+returns-clause-slot g c = λ row there place.
+    let h = c.requires.stand in
     let home = home_row row h there in
     let read = c.load-len.ensures.word (told_at home c.args.at 2 place (omega arith) (omega arith)) in
     let hash = c.hash_at.ensures.hash row.key (key_stands row home c.args.at c.load-len.result (g.S.WordsIn.words c.load-len.new.self) place (read ∙ key_length_at home c.args.at place) c.load-len.ensures.words) in

@@ -1,24 +1,25 @@
-use Rattle.std.proofs.Common.{◌≡◌, ℕ, ◌+◌, List, true, ap, ◌∙◌, subst, slice_index, slice_set, arith, length}
+use Rattle.std.proofs.Common.{◌≡◌, ℕ, ◌+◌, List, true, ap, ◌∙◌, subst, slice_index, slice_set, arith, length, sym, refl}
 use Rattle.std.proofs.lemmas.List.{length-set, get_or-set_same, get_or-set_other}
 use Rattle.seg_words.specs.Windows.{Aside}
 use Rattle.entry_slots.specs.declared.slots.EntrySlots.{EntrySlots}
 use Rattle.entry_slots.specs.Lists.{has_place}
-use Rattle.entry_slots.specs.Entries.{Entries}
-use Rattle.entry_slots.specs.Standing.{Stands}
+use Rattle.entry_slots.specs.Entries.{Entries, noted_at, moved_at}
+use Rattle.entry_slots.specs.Standing.{Stands, entries}
+use Rattle.entry_slots.proofs.Now.{restand}
 use Rattle.entry_slots.specs.Laws.{Laws}
 use Rattle.entry_slots.proofs.Runs.{may_store_set}
 use Rattle.entry_slots.proofs.Homes.{room, home_unlinked}
 use Rattle.entry_slots.proofs.Walks.{stands_along}
 use Rattle.entry_slots.proofs.Storing.{may_note, may_along}
 use Rattle.entry_slots.proofs.Relisting.{unlinked_there}
-use Rattle.entry_slots.proofs.Dropping.{cleared_stands, noted, noted_stands, noted_there, moved_noted}
+use Rattle.entry_slots.proofs.Dropping.{cleared_stands, noted_stands, noted_there, moved_noted}
 use Rattle.entry_slots.proofs.slots.EntrySlots.to_removed.Goals as goal
 
 -- what stands after the two stores
 abbrev both : List ℕ → ℕ → ℕ → List ℕ
 both ws at t = slice_set (slice_set ws (at + 1) 0) (at + 8) t
 
-both_stand : Laws → {e : EntrySlots} {ws : List ℕ} {aside : Aside} (s : Entries) → Stands e ws aside s → (at t : ℕ) → has_place at s.unlinked ≡ true → Stands e (both ws at t) aside (noted at t s) × (has_place at (noted at t s).unlinked ≡ true) × (slice_index (both ws at t) (at + 1) ≡ 0)
+both_stand : Laws → {e : EntrySlots} {ws : List ℕ} {aside : Aside} (s : Entries) → Stands e ws aside s → (at t : ℕ) → has_place at s.unlinked ≡ true → Stands e (both ws at t) aside (noted_at at t s) × (has_place at (noted_at at t s).unlinked ≡ true) × (slice_index (both ws at t) (at + 1) ≡ 0)
 both_stand law {e} {ws} {aside} s h at t there =
     let q = unlinked_there s h at there in
     let w = room (home_unlinked q.0 h q.1) in
@@ -27,23 +28,23 @@ both_stand law {e} {ws} {aside} s h at t there =
 
 pub overflow_add-at : goal.overflow_add-at
 overflow_add-at g c =
-    let t = c.requires.there in
-    let q = unlinked_there t.entries t.stand c.args.at t.there in
-    let w = room (home_unlinked q.0 t.stand q.1) in
+    let s = entries c.args.self.now in
+    let q = unlinked_there s c.requires.stand c.args.at c.requires.there in
+    let w = room (home_unlinked q.0 c.requires.stand q.1) in
     omega (arith, w.high, w.enough, w.short, q.2)
 
 pub overflow_add-at-2 : goal.overflow_add-at-2
 overflow_add-at-2 g c =
-    let t = c.requires.there in
-    let q = unlinked_there t.entries t.stand c.args.at t.there in
-    let w = room (home_unlinked q.0 t.stand q.1) in
+    let s = entries c.args.self.now in
+    let q = unlinked_there s c.requires.stand c.args.at c.requires.there in
+    let w = room (home_unlinked q.0 c.requires.stand q.1) in
     omega (arith, w.high, w.enough, w.short, q.2)
 
 pub store-requires : goal.store-requires
 store-requires g c =
-    let t = c.requires.there in
-    let q = unlinked_there t.entries t.stand c.args.at t.there in
-    let home = home_unlinked q.0 t.stand q.1 in
+    let s = entries c.args.self.now in
+    let q = unlinked_there s c.requires.stand c.args.at c.requires.there in
+    let home = home_unlinked q.0 c.requires.stand q.1 in
     let w = room home in
     record {
       place = omega (arith, w.high, w.enough, q.2);
@@ -52,9 +53,9 @@ store-requires g c =
 
 pub store-requires-2 : goal.store-requires-2
 store-requires-2 g c =
-    let t = c.requires.there in
-    let q = unlinked_there t.entries t.stand c.args.at t.there in
-    let home = home_unlinked q.0 t.stand q.1 in
+    let s = entries c.args.self.now in
+    let q = unlinked_there s c.requires.stand c.args.at c.requires.there in
+    let home = home_unlinked q.0 c.requires.stand q.1 in
     let w = room home in
     let ws : List ℕ = g.S.WordsIn.words c.args.seg.now in
     record {
@@ -65,21 +66,16 @@ store-requires-2 g c =
 
 pub append-requires : goal.append-requires
 append-requires g c =
-    let t = c.requires.there in
-    let b = both_stand c.lower_laws.ensures t.entries t.stand c.args.at c.args.t t.there in
+    let s = entries c.args.self.now in
+    let b = both_stand c.lower_laws.ensures s c.requires.stand c.args.at c.args.t c.requires.there in
     let words : g.S.WordsIn.words c.store-2.new.self ≡ both (g.S.WordsIn.words c.args.seg.now) c.args.at c.args.t = c.store-2.ensures.words ∙ ap (λ (v : List ℕ). slice_set v (c.args.at + 8) c.args.t) c.store.ensures.words in
+    let e' = record c.args.self.now { standing = c.then-self.result } in
     record {
-      there = record {
-        entries = noted c.args.at c.args.t t.entries;
-        stand = stands_along (g.S.WordsIn.words c.store-2.new.self) (g.S.WordsIn.aside c.store-2.new.self) b.0 words (c.store-2.ensures.aside ∙ c.store.ensures.aside);
-        there = b.1;
-      };
+      stand = subst (λ x. Stands e' (g.S.WordsIn.words c.store-2.new.self) (g.S.WordsIn.aside c.store-2.new.self) x) (sym c.then-self.ensures)
+          (restand {e' = e'} (stands_along (g.S.WordsIn.words c.store-2.new.self) (g.S.WordsIn.aside c.store-2.new.self) b.0 words (c.store-2.ensures.aside ∙ c.store.ensures.aside)) refl refl refl refl);
+      there = rw c.then-self.ensures b.1;
       alone = ap (λ (v : List ℕ). slice_index v (c.args.at + 1)) words ∙ b.2;
     }
 
 pub returns-clause-removed : goal.returns-clause-removed
-returns-clause-removed g c = λ s h there.
-    let b = both_stand c.lower_laws.ensures s h c.args.at c.args.t there in
-    let words : g.S.WordsIn.words c.store-2.new.self ≡ both (g.S.WordsIn.words c.args.seg.now) c.args.at c.args.t = c.store-2.ensures.words ∙ ap (λ (v : List ℕ). slice_set v (c.args.at + 8) c.args.t) c.store.ensures.words in
-    let h2 = stands_along (g.S.WordsIn.words c.store-2.new.self) (g.S.WordsIn.aside c.store-2.new.self) b.0 words (c.store-2.ensures.aside ∙ c.store.ensures.aside) in
-    subst (λ (x : Entries). Stands c.append.new.self (g.S.WordsIn.words c.append.new.seg) (g.S.WordsIn.aside c.append.new.seg) x) (moved_noted c.args.at c.args.t s) (c.append.ensures.moved (noted c.args.at c.args.t s) h2 b.1)
+returns-clause-removed g c = c.append.ensures.moved ∙ (ap (moved_at c.args.at) c.then-self.ensures ∙ moved_noted c.args.at c.args.t (entries c.args.self.now))

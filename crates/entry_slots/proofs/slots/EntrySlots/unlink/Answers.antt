@@ -1,8 +1,10 @@
-use Rattle.std.proofs.Common.{◌≡◌, ◌≢◌, inr, ℕ, ◌+◌, ◌-◌, List, sym, ap, ◌∙◌, arith, length, slice_index, slice_set, subst, true}
+use Rattle.std.proofs.Common.{◌≡◌, ◌≢◌, inr, ℕ, ◌+◌, ◌-◌, List, sym, ap, ◌∙◌, arith, length, slice_index, slice_set, subst, refl, true}
 use Rattle.apcu_model.specs.Walk.{slot_of}
 use Rattle.entry_slots.specs.Lists.{has_place}
 use Rattle.entry_slots.specs.Entries.{Entries, chain_of}
 use Rattle.entry_slots.proofs.Homes.{room, home_row}
+use Rattle.entry_slots.specs.Standing.{Stands, entries}
+use Rattle.entry_slots.proofs.Now.{restand}
 use Rattle.entry_slots.proofs.Walks.{stands_along}
 use Rattle.entry_slots.proofs.Storing.{may_along}
 use Rattle.entry_slots.proofs.Cutting.{spot_word}
@@ -16,61 +18,64 @@ chain_there s at slot own e h = subst (λ (n : ℕ). has_place at (chain_of s n)
 
 pub link_to-link-requires : goal.link_to-link-requires
 link_to-link-requires g c =
-    let m = c.requires.there in
-    let r = own_slot m.entries c.args.at m.there in
+    let s = entries c.args.self.now in
+    let h = c.requires.stand in
+    let r = own_slot s c.args.at c.requires.there in
     record {
-      there = record {
-        entries = m.entries;
-        stand = stands_along (g.S.WordsIn.words c.slot_at-slot.new.seg) (g.S.WordsIn.aside c.slot_at-slot.new.seg) m.stand c.slot_at-slot.ensures.words c.slot_at-slot.ensures.aside;
-        there = inr (chain_there m.entries c.args.at c.slot_at-slot.result (slot_of m.entries.conf r.0.key) (c.slot_at-slot.ensures.slot m.entries r.0 m.stand r.1 r.2) r.3);
-      };
+      stand = stands_along (g.S.WordsIn.words c.slot_at-slot.new.seg) (g.S.WordsIn.aside c.slot_at-slot.new.seg) h c.slot_at-slot.ensures.kept.words c.slot_at-slot.ensures.kept.aside;
+      there = inr (chain_there s c.args.at c.slot_at-slot.result (slot_of s.conf r.0.key) (c.slot_at-slot.ensures.slot r.0 r.1 r.2) r.3);
       slot = c.slot_at-slot.ensures.low;
     }
 
 pub behind-next-requires : goal.behind-next-requires
 behind-next-requires g c =
-    let m = c.requires.there in
+    let s = entries c.args.self.now in
+    let h = c.requires.stand in
     record {
-      there = inr (record {
-        entries = m.entries;
-        stand = stands_along (g.S.WordsIn.words c.link_to-link.new.seg) (g.S.WordsIn.aside c.link_to-link.new.seg) m.stand (c.link_to-link.ensures.words ∙ c.slot_at-slot.ensures.words) (c.link_to-link.ensures.aside ∙ c.slot_at-slot.ensures.aside);
-        there = m.there;
-      });
+      stand = stands_along (g.S.WordsIn.words c.link_to-link.new.seg) (g.S.WordsIn.aside c.link_to-link.new.seg) h (c.link_to-link.ensures.kept.words ∙ c.slot_at-slot.ensures.kept.words) (c.link_to-link.ensures.kept.aside ∙ c.slot_at-slot.ensures.kept.aside);
+      there = inr c.requires.there;
     }
 
 pub store-requires : goal.store-requires
 store-requires g c =
-    let m = c.requires.there in
-    let r = own_slot m.entries c.args.at m.there in
-    let chain = chain_there m.entries c.args.at c.slot_at-slot.result (slot_of m.entries.conf r.0.key) (c.slot_at-slot.ensures.slot m.entries r.0 m.stand r.1 r.2) r.3 in
-    let h1 = stands_along (g.S.WordsIn.words c.slot_at-slot.new.seg) (g.S.WordsIn.aside c.slot_at-slot.new.seg) m.stand c.slot_at-slot.ensures.words c.slot_at-slot.ensures.aside in
-    let link = c.link_to-link.ensures.link m.entries h1 (inr chain) in
+    let s = entries c.args.self.now in
+    let h = c.requires.stand in
+    let r = own_slot s c.args.at c.requires.there in
+    let chain = chain_there s c.args.at c.slot_at-slot.result (slot_of s.conf r.0.key) (c.slot_at-slot.ensures.slot r.0 r.1 r.2) r.3 in
+    let h1 = stands_along (g.S.WordsIn.words c.slot_at-slot.new.seg) (g.S.WordsIn.aside c.slot_at-slot.new.seg) h c.slot_at-slot.ensures.kept.words c.slot_at-slot.ensures.kept.aside in
+    let link = c.link_to-link.ensures.link in
     let w = spot_word c.link_to-link.result h1 (cut_spot h1 c.slot_at-slot.result c.slot_at-slot.ensures.low c.link_to-link.result 0 link.front link.back link.split link.follows) in
     record {
-      place = omega (arith, w.inside, ap length (c.behind-next.ensures.words ∙ c.link_to-link.ensures.words));
-      apart = may_along (g.S.WordsIn.words c.slot_at-slot.new.seg) (g.S.WordsIn.words c.behind-next.new.seg) (g.S.WordsIn.aside c.slot_at-slot.new.seg) (g.S.WordsIn.aside c.behind-next.new.seg) c.link_to-link.result (c.behind-next.ensures.words ∙ c.link_to-link.ensures.words) (c.behind-next.ensures.aside ∙ c.link_to-link.ensures.aside) w.may;
+      place = omega (arith, w.inside, ap length (c.behind-next.ensures.kept.words ∙ c.link_to-link.ensures.kept.words));
+      apart = may_along (g.S.WordsIn.words c.slot_at-slot.new.seg) (g.S.WordsIn.words c.behind-next.new.seg) (g.S.WordsIn.aside c.slot_at-slot.new.seg) (g.S.WordsIn.aside c.behind-next.new.seg) c.link_to-link.result (c.behind-next.ensures.kept.words ∙ c.link_to-link.ensures.kept.words) (c.behind-next.ensures.kept.aside ∙ c.link_to-link.ensures.kept.aside) w.may;
     }
 
 pub overflow_sub-self : goal.overflow_sub-self
 overflow_sub-self g c =
-    let m = c.requires.there in
-    let r = own_slot m.entries c.args.at m.there in
-    omega (arith, m.stand.count, r.1.1)
+    let s = entries c.args.self.now in
+    let h = c.requires.stand in
+    let r = own_slot s c.args.at c.requires.there in
+    omega (arith, h.count, r.1.1)
 
-pub returns-clause-unlinked : goal.returns-clause-unlinked
-returns-clause-unlinked g c = λ s h there.
+pub returns-clause-stand : goal.returns-clause-stand
+returns-clause-stand g c =
+    let s = entries c.args.self.now in
+    let h = c.requires.stand in
+    let there = c.requires.there in
     let r = own_slot s c.args.at there in
     let ws : List ℕ = g.S.WordsIn.words c.args.seg.now in
     let slot : ℕ = c.slot_at-slot.result in
-    let chain = chain_there s c.args.at slot (slot_of s.conf r.0.key) (c.slot_at-slot.ensures.slot s r.0 h r.1 r.2) r.3 in
-    let w0 : g.S.WordsIn.words c.slot_at-slot.new.seg ≡ ws = c.slot_at-slot.ensures.words in
-    let h1 = stands_along (g.S.WordsIn.words c.slot_at-slot.new.seg) (g.S.WordsIn.aside c.slot_at-slot.new.seg) h w0 c.slot_at-slot.ensures.aside in
-    let link = c.link_to-link.ensures.link s h1 (inr chain) in
+    let chain = chain_there s c.args.at slot (slot_of s.conf r.0.key) (c.slot_at-slot.ensures.slot r.0 r.1 r.2) r.3 in
+    let w0 : g.S.WordsIn.words c.slot_at-slot.new.seg ≡ ws = c.slot_at-slot.ensures.kept.words in
+    let h1 = stands_along (g.S.WordsIn.words c.slot_at-slot.new.seg) (g.S.WordsIn.aside c.slot_at-slot.new.seg) h w0 c.slot_at-slot.ensures.kept.aside in
+    let link = c.link_to-link.ensures.link in
     let home = room (home_row r.0 h r.1) in
     let some : c.args.at ≢ 0 = λ q. omega (arith, home.some, r.2) in
-    let next : c.behind-next.result ≡ slice_index (g.S.WordsIn.words c.slot_at-slot.new.seg) (c.args.at + 1) = c.behind-next.ensures.next some ∙ ap (λ (v : List ℕ). slice_index v (c.args.at + 1)) c.link_to-link.ensures.words in
+    let next : c.behind-next.result ≡ slice_index (g.S.WordsIn.words c.slot_at-slot.new.seg) (c.args.at + 1) = c.behind-next.ensures.next some ∙ ap (λ (v : List ℕ). slice_index v (c.args.at + 1)) c.link_to-link.ensures.kept.words in
     let words : g.S.WordsIn.words c.store.new.self ≡ slice_set (g.S.WordsIn.words c.slot_at-slot.new.seg) c.link_to-link.result c.behind-next.result =
-    c.store.ensures.words ∙ (ap (λ (v : List ℕ). slice_set v c.link_to-link.result c.from.result) (c.behind-next.ensures.words ∙ c.link_to-link.ensures.words) ∙ ap (λ (n : ℕ). slice_set (g.S.WordsIn.words c.slot_at-slot.new.seg) c.link_to-link.result n) c.from.ensures) in
-    stands_along (g.S.WordsIn.words c.store.new.self) (g.S.WordsIn.aside c.store.new.self)
+    c.store.ensures.words ∙ (ap (λ (v : List ℕ). slice_set v c.link_to-link.result c.from.result) (c.behind-next.ensures.kept.words ∙ c.link_to-link.ensures.kept.words) ∙ ap (λ (n : ℕ). slice_set (g.S.WordsIn.words c.slot_at-slot.new.seg) c.link_to-link.result n) c.from.ensures) in
+    let e' = record c.args.self.now { count = c.args.self.now.count - 1; standing = c.then-self.result } in
+    subst (λ x. Stands e' (g.S.WordsIn.words c.store.new.self) (g.S.WordsIn.aside c.store.new.self) x) (sym c.then-self.ensures)
+    (restand {e' = e'} (stands_along (g.S.WordsIn.words c.store.new.self) (g.S.WordsIn.aside c.store.new.self)
     (unlink_stands c.lower_laws.ensures s h1 c.args.at slot c.link_to-link.result c.behind-next.result c.slot_at-slot.ensures.low chain link next (c.args.self.now.count - 1) (omega (arith, h.count, r.1.1)))
-    words (c.store.ensures.aside ∙ (c.behind-next.ensures.aside ∙ c.link_to-link.ensures.aside))
+    words (c.store.ensures.aside ∙ (c.behind-next.ensures.kept.aside ∙ c.link_to-link.ensures.kept.aside))) refl refl refl refl)

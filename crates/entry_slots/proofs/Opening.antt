@@ -1,0 +1,163 @@
+-- Windows on the blocks of rows and removed rows.
+use Rattle.std.proofs.Common.{◌≡◌, ◌⊎◌, inl, inr, ℕ, ◌+◌, ◌/◌, ◌<◌, ◌≤◌, Bool, true, false, cond, eqb, ltb, List, [], ◌∷◌, length, slice_index, sym, ap, ◌∙◌, subst, refl, arith}
+use Rattle.std.specs.List.{Contains}
+use Rattle.std.proofs.lemmas.Bool.{eqb-true, ltb-true, and_parts, and_from, or_cases, or_left, or_right, false≢true, false_from_ne_true}
+use Rattle.std.proofs.lemmas.List.Elements.{Contains-append_cases}
+use Rattle.seg_words.specs.declared.extents.Extent.{Extent}
+use Rattle.seg_words.specs.Windows.{Aside, has, is_named, closed_on, Frees, Refuses}
+use Rattle.seg_words.specs.Blocks.{IsTold, MayProbe, image_place, image_end}
+use Rattle.sma_blocks.specs.Live.{live_blocks}
+use Rattle.sma_blocks.specs.Ready.{Holds}
+use Rattle.apcu_model.specs.Cache.{Row, extent_of}
+use Rattle.entry_slots.specs.declared.slots.EntrySlots.{EntrySlots}
+use Rattle.entry_slots.specs.Lists.{is_at, has_place}
+use Rattle.entry_slots.specs.Entries.{Entries, listed, blocks_of}
+use Rattle.entry_slots.specs.Standing.{Stands}
+use Rattle.entry_slots.specs.Facts.{OnlyClose, OnlyOpensAt, AreApart, AreOnce, IsCopyable}
+use Rattle.entry_slots.proofs.Members.{any_there, counted, same_there}
+use Rattle.entry_slots.proofs.Blocks.{Apart, live_apart, live_bounds, told_from}
+use Rattle.entry_slots.proofs.Homes.{IsHome, room, home_listed}
+use Rattle.entry_slots.proofs.Places.{at_place, at_itself, once, blocks_once}
+
+-- the row that is listed at a place
+listed_at : {e : EntrySlots} {ws : List ℕ} {aside : Aside} (s : Entries) (at : ℕ) → Stands e ws aside s → has_place at (listed s) ≡ true → (row : Row) × Contains (listed s) row × (row.place ≡ at) × IsHome e ws aside row
+listed_at s at h there = let r = any_there (is_at at) (listed s) there in (r.0, r.1, eqb-true r.0.place at r.2, home_listed r.0 h r.1)
+
+-- its image ends in its block
+image_inside : {e : EntrySlots} {ws : List ℕ} {aside : Aside} (row : Row) → IsHome e ws aside row → image_end ws row.place ≤ row.place + row.size
+image_inside {ws = ws} row h =
+    let r = room h in
+    let p : image_place ws row.place ≡ row.place + 12 + (length row.key + 7) / 8 = ap (λ n. row.place + 12 + (n + 7) / 8) h.entry.key_length in
+    omega (arith, p, h.entry.value_length, r.enough)
+
+-- a block that was taken is elsewhere
+not_taken : {e : EntrySlots} {ws : List ℕ} {aside : Aside} (s : Entries) → Stands e ws aside s → (row : Row) → Contains (listed s) row → (block : Extent) → Contains s.taken block → block.place ≡ row.place → ⊥
+not_taken s h row c block t same =
+    let taken = counted (at_place row.place) s.taken block t (at_itself (record row { place = block.place }) row.place same) in
+    let self = at_itself row row.place refl in
+    elim (Contains-append_cases s.rows s.removed row c) [
+      | inl l ↦ omega (arith, once h row.place, counted (is_at row.place) s.rows row l self, taken)
+      | inr r ↦ omega (arith, once h row.place, counted (is_at row.place) s.removed row r self, taken)
+    ]
+
+-- windows close
+pub closed_stands : (e : EntrySlots) (ws : List ℕ) (old new : Aside) (s : Entries) → OnlyClose old new → Stands e ws old s → Stands e ws new s
+closed_stands e ws old new s fewer h = record {
+  chains = h.chains;
+  removed_chain = h.removed_chain;
+  rows = h.rows;
+  removed = h.removed;
+  unlinked = h.unlinked;
+  taken = λ block there. false_from_ne_true (is_named new.windows block.place) (λ named. false≢true (sym (h.taken block there) ∙ fewer block.place named));
+  ready = record { end = h.ready.end; formatted = h.ready.formatted; blocks = h.ready.blocks; windows = λ at named. h.ready.windows at (fewer at named) };
+  blocks = h.blocks;
+  apart = h.apart;
+  number = h.number;
+  count = h.count;
+  good = h.good;
+  from = h.from;
+  to = h.to;
+}
+
+-- a window opens
+pub opened_stands : (e : EntrySlots) (ws : List ℕ) (old new : Aside) (s : Entries) (at : ℕ) → has_place at (listed s) ≡ true → OnlyOpensAt at old new → Stands e ws old s → Stands e ws new s
+opened_stands e ws old new s at there more h =
+    let own = listed_at s at h there in
+    record {
+      chains = h.chains;
+      removed_chain = h.removed_chain;
+      rows = h.rows;
+      removed = h.removed;
+      unlinked = h.unlinked;
+      taken = λ block t. false_from_ne_true (is_named new.windows block.place) (λ named. elim (more block.place named) [
+        | inl same ↦ not_taken s h own.0 own.1 block t (same ∙ sym own.2)
+        | inr before ↦ false≢true (sym (h.taken block t) ∙ before)
+      ]);
+      ready = record {
+        end = h.ready.end;
+        formatted = h.ready.formatted;
+        blocks = h.ready.blocks;
+        windows = λ x named. elim (more x named) [
+          | inl same ↦ subst (Holds ws (live_blocks ws e.sma.from)) (own.2 ∙ sym same) (record { size = own.0.size; live = own.3.live; inside = image_inside own.0 own.3 })
+          | inr before ↦ h.ready.windows x before
+        ];
+      };
+      blocks = h.blocks;
+      apart = h.apart;
+      number = h.number;
+      count = h.count;
+      good = h.good;
+      from = h.from;
+      to = h.to;
+    }
+
+-- the pin count of a block that no window names is told
+told_unnamed : (windows : List ℕ) (at : ℕ) → is_named windows at ≡ false → IsTold windows (at + 11)
+told_unnamed windows at none = told_from windows (at + 11) (λ x named e. false≢true (sym none ∙ subst (λ n. is_named windows n ≡ true) (omega arith) named))
+
+pub listed_probed : (e : EntrySlots) (ws : List ℕ) (aside : Aside) (s : Entries) (at : ℕ) → Stands e ws aside s → has_place at (listed s) ≡ true → (windows : List ℕ) → MayProbe ws windows at
+listed_probed e ws aside s at h there windows =
+    let own = listed_at s at h there in
+    let w = room own.3 in
+    record {
+      inside = omega (arith, w.high, w.enough, own.2);
+      count = λ none. (told_unnamed windows at none, ap (λ n. slice_index ws (n + 11)) (sym own.2) ∙ own.3.entry.pin_count);
+    }
+
+row_copied : {e : EntrySlots} {ws : List ℕ} {aside : Aside} (row : Row) → IsHome e ws aside row → IsCopyable ws aside.windows row.place
+unfolding Apart
+row_copied {e} {ws} {aside} row h =
+    let w = room h in
+    let end = image_inside row h in
+    record {
+      positive = omega (arith, w.some);
+      zero_count = h.entry.pin_count;
+      inside = omega (arith, end, w.high);
+      clear = λ b named.
+          let held = h.ready.windows b named in
+          let other : Extent = record { place = b; size = held.size } in
+          elim (live_apart e.sma ws aside (extent_of row) other h.ready h.live held.live) [
+            | inl one ↦ inl (ap (λ (x : Extent). x.place) one)
+            | inr apart ↦ inr (elim apart [
+              | inl before ↦ inl (omega (arith, before, end))
+              | inr after ↦ inr (omega (arith, after, held.inside))
+            ])
+          ];
+      told = λ i low high. w.told i (omega (arith, low)) (omega (arith, high, end)) (λ q. omega (arith, q, low));
+    }
+
+pub listed_copied : (e : EntrySlots) (ws : List ℕ) (aside : Aside) (s : Entries) (at : ℕ) → Stands e ws aside s → has_place at (listed s) ≡ true → IsCopyable ws aside.windows at
+listed_copied e ws aside s at h there =
+    let own = listed_at s at h there in
+    subst (IsCopyable ws aside.windows) own.2 (row_copied own.0 own.3)
+
+pub block_inside : (e : EntrySlots) (ws : List ℕ) (aside : Aside) (s : Entries) (block : Extent) → Stands e ws aside s → Contains (blocks_of s) block → (0 < block.place) × (block.place + block.size ≤ length ws)
+block_inside e ws aside s block h c =
+    let b = live_bounds e.sma ws aside block h.ready (same_there (live_blocks ws e.sma.from) (blocks_of s) block h.blocks c) in
+    (omega (arith, b.0, h.from, h.good.slots_least), b.1)
+
+pub blocks_lie_apart : (e : EntrySlots) (ws : List ℕ) (aside : Aside) (s : Entries) (one other : Extent) → Stands e ws aside s → Contains (blocks_of s) one → Contains (blocks_of s) other → AreApart one other
+unfolding Apart
+blocks_lie_apart e ws aside s one other h c d =
+    let live : List Extent = live_blocks ws e.sma.from in
+    live_apart e.sma ws aside one other h.ready (same_there live (blocks_of s) one h.blocks c) (same_there live (blocks_of s) other h.blocks d)
+
+pub blocks_are_once : (e : EntrySlots) (ws : List ℕ) (aside : Aside) (s : Entries) → Stands e ws aside s → AreOnce (blocks_of s)
+blocks_are_once e ws aside s h at = omega (arith, h.blocks.count (at_place at), blocks_once ws e.sma.from (live_blocks ws e.sma.from) e.sma.to at h.ready.blocks)
+
+-- closing the windows on a block opens none
+closed_on-named : (ws : List ℕ) (at x : ℕ) → has x (closed_on at ws) ≡ true → 0 < x → has x ws ≡ true
+closed_on-named [] at x h some = h
+closed_on-named (w ∷ ws) at x h some = go (eqb w at) (or_cases (eqb x (cond (eqb w at) 0 w)) (has x (closed_on at ws)) h) (λ k. closed_on-named ws at x k some)
+  where
+    go : (b : Bool) → (eqb x (cond b 0 w) ≡ true) ⊎ (has x (closed_on at ws) ≡ true) → (has x (closed_on at ws) ≡ true → has x ws ≡ true) → has x (w ∷ ws) ≡ true
+    go b (inr later) rest = or_right (eqb x w) (has x ws) (rest later)
+    go true (inl here) rest = absurd (omega (arith, eqb-true x 0 here))
+    go false (inl here) rest = or_left (eqb x w) (has x ws) here
+
+pub probe_closes : (old new : Aside) (at : ℕ) (free : Bool) → (free ≡ true → Frees old new at) → (free ≡ false → Refuses old new at) → OnlyClose old new
+probe_closes old new at true frees refuses = λ x named.
+    let windows = (frees refl).windows in
+    let p = and_parts (ltb 0 x) (has x new.windows) named in
+    and_from (ltb 0 x) (has x old.windows) p.0 (closed_on-named old.windows at x (subst (λ l. has x l ≡ true) windows p.1) (ltb-true 0 x p.0))
+probe_closes old new at false frees refuses = λ x named. subst (λ l. is_named l x ≡ true) (refuses refl).windows named

@@ -1,0 +1,15 @@
+-- What a step of a call does to the entries.
+use Rattle.entry_slots.specs.Entries.{Entries, with_taken, touched_in, with_number, unlinked_at, noted_at, moved_at, off_at, given_at, linked}
+use Rattle.entry_slots.specs.declared.standing.Change.{Change}
+use Rattle.entry_slots.specs.declared.standing.Change.TheVariants as change
+
+abbrev pub changed : Change → Entries → Entries
+changed (change.Take at n) s = with_taken at n s
+changed (change.Touch at t) s = touched_in at t s
+changed (change.SetInt at n t) s = with_number at n t s
+changed (change.Unlink at) s = unlinked_at at s
+changed (change.Note at t) s = noted_at at t s
+changed (change.Move at) s = moved_at at s
+changed (change.TakeOff at) s = off_at at s
+changed (change.Give at) s = given_at at s
+changed (change.Link at key g ttl t) s = linked at key.now g.now ttl t s
