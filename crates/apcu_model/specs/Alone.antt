@@ -8,7 +8,7 @@ use Rattle.std.proofs.lemmas.List.FromFn.{get_or-range_with_len, length-range_wi
 use Rattle.std.proofs.lemmas.List.Recursion.{and_at}
 use Rattle.std.proofs.lemmas.Nat.Bits.{bit_at-zero, bit_at-lt, same_from_bits_below}
 use Rattle.apcu_model.specs.Cache.{Row}
-use Rattle.apcu_model.specs.History.{Moment, window_of, is_in_mask, is_copied, held_places, is_legal_mask}
+use Rattle.apcu_model.specs.History.{Stage, window_of, is_in_mask, is_copied, held_places, is_legal_mask}
 
 -- the mask 0 names no worker
 pub none_in_mask : (worker : ℕ) → is_in_mask 0 worker ≡ false
@@ -28,12 +28,12 @@ all_pass p passes [] = refl
 all_pass p passes (n ∷ ns) = ap (λ b. b && list_all p ns) (passes n) ∙ all_pass p passes ns
 
 -- under the mask 0 no block is held
-pub held_places-none : (m : Moment) → held_places m 0 ≡ []
+pub held_places-none : (m : Stage) → held_places m 0 ≡ []
 held_places-none m =
     ap (map {A = Row} {B = ℕ} (λ row. row.place)) (none_kept (λ row. is_copied 0 m row.number) (λ row. none_copies row.number m.windows) (m.cache.rows ++ m.cache.removed))
 
 -- the mask 0 is legal in every event
-pub is_legal_mask-none : (workers worker : ℕ) (m : Moment) → is_legal_mask workers worker m 0 ≡ true
+pub is_legal_mask-none : (workers worker : ℕ) (m : Stage) → is_legal_mask workers worker m 0 ≡ true
 is_legal_mask-none workers worker m =
     all_pass
     (λ v. not (is_in_mask 0 v) || (not (v == worker) && nat_lt v workers && is_some (window_of m v)))
@@ -59,7 +59,7 @@ not_copying mask v opened h =
     ]
 
 -- and the only one for the only worker
-pub is_legal_mask-alone : (m : Moment) (mask : ℕ) → is_legal_mask 1 0 m mask ≡ true → mask ≡ 0
+pub is_legal_mask-alone : (m : Stage) (mask : ℕ) → is_legal_mask 1 0 m mask ≡ true → mask ≡ 0
 is_legal_mask-alone m mask h =
     let named : ℕ → Bool = λ v. not (is_in_mask mask v) || (not (v == 0) && nat_lt v 1 && is_some (window_of m v)) in
     let parts = and_parts (nat_lt mask (2 ^ 64)) (list_all named (range_with_len 0 64)) h in

@@ -23,31 +23,31 @@ pub record Event : Type 0 where
 
 -- After some events: the cache, and for each worker whose last event fetched a value that is copied
 -- outside the lock, the number of that row.
-pub record Moment : Type 0 where
+pub record Stage : Type 0 where
   pub cache : Cache
   pub windows : List (ℕ × ℕ)
 
-abbrev pub start_of : Conf → Moment
+abbrev pub start_of : Conf → Stage
 start_of conf = record { cache = empty_cache conf; windows = [] }
 
 -- the number of the row that the worker's last event fetched
-abbrev pub window_of : Moment → ℕ → Option ℕ
+abbrev pub window_of : Stage → ℕ → Option ℕ
 window_of m worker = lookup (λ v. v == worker) m.windows
 
 abbrev pub is_in_mask : ℕ → ℕ → Bool
 is_in_mask mask worker = bit_at mask worker == 1
 
 -- a worker of the mask copies the row of this number
-abbrev pub is_copied : ℕ → Moment → ℕ → Bool
+abbrev pub is_copied : ℕ → Stage → ℕ → Bool
 is_copied mask m number = list_any (λ w. is_in_mask mask w.0 && w.1 == number) m.windows
 
 -- the places of the rows and removed rows that workers of the mask copy
-abbrev pub held_places : Moment → ℕ → List ℕ
+abbrev pub held_places : Stage → ℕ → List ℕ
 held_places m mask = map {A = Row} (λ row. row.place) (filter (λ row. is_copied mask m row.number) (m.cache.rows ++ m.cache.removed))
 
 -- Of `workers` workers, a mask is legal for an event of one where each of its workers is another one that
 -- has a window.
-abbrev pub is_legal_mask : ℕ → ℕ → Moment → ℕ → Bool
+abbrev pub is_legal_mask : ℕ → ℕ → Stage → ℕ → Bool
 is_legal_mask workers worker m mask =
     nat_lt mask (2 ^ 64)
     && list_all (λ v. not (is_in_mask mask v) || (not (v == worker) && nat_lt v workers && is_some (window_of m v))) (range_with_len 0 64)
@@ -75,16 +75,16 @@ opened worker t (Fetch key) c = opened_at worker (live_row key t c)
 opened worker t (Store key value ttl exclusive) c = []
 opened worker t Retire c = []
 
-abbrev pub reply_in : Moment → Event → Reply
+abbrev pub reply_in : Stage → Event → Reply
 reply_in m e = reply_to (held_places m e.mask) e.t e.request m.cache
 
 -- the next event of a worker closes its window and may open another
-abbrev pub after_event : Moment → Event → Moment
+abbrev pub after_event : Stage → Event → Stage
 after_event m e = record {
   cache = cache_after (held_places m e.mask) e.t e.request m.cache;
   windows = opened e.worker e.t e.request m.cache ++ filter (λ w. not (w.0 == e.worker)) m.windows;
 }
 
-abbrev pub after_events : Moment → List Event → Moment
+abbrev pub after_events : Stage → List Event → Stage
 after_events m [] = m
 after_events m (e ∷ events) = after_events (after_event m e) events

@@ -17,7 +17,7 @@ use Rattle.apcu_model.specs.declared.request.Reply.TheVariants.{Flag, Found, Abs
 use Rattle.apcu_model.specs.Cache.{Cache, Row, empty_cache}
 use Rattle.apcu_model.specs.Expiry.{live_row}
 use Rattle.apcu_model.specs.Sequential.{reply_to, cache_after, found_in}
-use Rattle.apcu_model.specs.History.{Moment, Event, held_places, is_legal_mask, is_copied, is_in_mask, after_event, reply_in, start_of, window_of}
+use Rattle.apcu_model.specs.History.{Stage, Event, held_places, is_legal_mask, is_copied, is_in_mask, after_event, reply_in, start_of, window_of}
 use Rattle.apcu_run.specs.declared.script.Call.{Call}
 use Rattle.apcu_run.specs.declared.script.Call.TheVariants.{StoreOne, FetchOne}
 use Rattle.apcu_run.specs.declared.script.Step.{Step}
@@ -55,15 +55,15 @@ filter_none pass [] none = refl
 filter_none pass (row ∷ rows) none = rw (none row) (filter_none pass rows none)
 
 -- so nothing is held in an event with that mask
-held_none : (m : Moment) → held_places m 0 ≡ []
+held_none : (m : Stage) → held_places m 0 ≡ []
 held_none m = ap (map (λ row. row.place)) (filter_none (λ row. is_copied 0 m row.number) (m.cache.rows ++ m.cache.removed) (λ row. copied_none m.windows row.number))
 
-legal_below : (workers worker : ℕ) (m : Moment) (vs : List ℕ) → list_all (λ v. not (is_in_mask 0 v) || (not (v == worker) && nat_lt v workers && is_some (window_of m v))) vs ≡ true
+legal_below : (workers worker : ℕ) (m : Stage) (vs : List ℕ) → list_all (λ v. not (is_in_mask 0 v) || (not (v == worker) && nat_lt v workers && is_some (window_of m v))) vs ≡ true
 legal_below workers worker m [] = refl
 legal_below workers worker m (v ∷ vs) = rw (in_none v) (legal_below workers worker m vs)
 
 -- and that mask is always legal
-legal_none : (workers worker : ℕ) (m : Moment) → is_legal_mask workers worker m 0 ≡ true
+legal_none : (workers worker : ℕ) (m : Stage) → is_legal_mask workers worker m 0 ≡ true
 legal_none workers worker m = legal_below workers worker m (range_with_len 0 64)
 
 pub left_by-next : (conf : Conf) (call : Call) (reply : Reply) (more : List Reply) → left_by (next_of conf call (reply ∷ more)) ≡ more
@@ -71,23 +71,23 @@ left_by-next conf (StoreOne key value ttl exclusive) reply more = refl
 left_by-next conf (FetchOne key) reply more = refl
 
 -- one worker's play
-abbrev pub alone : Moment → List Reply → Play
+abbrev pub alone : Stage → List Reply → Play
 alone m replies = record { moment = m; replies = replies ∷ [] }
 
-marked_alone : (conf : Conf) (steps : List Step) (m : Moment) (replies : List Reply) (wish : Wish) → wanted conf steps replies ≡ Some wish
+marked_alone : (conf : Conf) (steps : List Step) (m : Stage) (replies : List Reply) (wish : Wish) → wanted conf steps replies ≡ Some wish
     → marked conf (steps ∷ []) (alone m replies) own_mark ≡ Some (alone (after_event m (event_of own_mark wish)) (replies ++ reply_in m (event_of own_mark wish) ∷ []))
 marked_alone conf steps m replies wish e =
     ap (λ (b : Bool). if b then option_and_then (λ (w : Wish). Some (after_wish (alone m replies) own_mark w)) (wanted conf steps replies) else None) (legal_none 1 0 m)
     ∙ ap (option_and_then (λ (w : Wish). Some (after_wish (alone m replies) own_mark w))) e
 
 -- what comes of the steps that are left
-pub record Ends (conf : Conf) (steps rest : List Step) (m : Moment) (replies : List Reply) : Type 0 where
+pub record Ends (conf : Conf) (steps rest : List Step) (m : Stage) (replies : List Reply) : Type 0 where
   pub play : Play
   pub legal : played_from conf (steps ∷ []) (alone m replies) (marks_for rest) ≡ Some play
   pub answers : play.replies ≡ (replies ++ (replies_to m.cache rest ++ Ended ∷ [])) ∷ []
   pub done : wanted conf steps (replies ++ (replies_to m.cache rest ++ Ended ∷ [])) ≡ None
 
-pub ends_alone : (conf : Conf) (steps rest : List Step) (m : Moment) (replies : List Reply) → ((more : List Reply) → wanted conf steps (replies ++ more) ≡ wanted conf rest more)
+pub ends_alone : (conf : Conf) (steps rest : List Step) (m : Stage) (replies : List Reply) → ((more : List Reply) → wanted conf steps (replies ++ more) ≡ wanted conf rest more)
     → Ends conf steps rest m replies
 ends_alone conf steps [] m replies goes =
     let wish : Wish = record { request = Retire; t = 0 } in

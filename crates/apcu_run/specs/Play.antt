@@ -7,7 +7,7 @@ use Rattle.apcu_model.specs.declared.journal.Mark.{Mark}
 use Rattle.apcu_model.specs.declared.request.Request.{Request}
 use Rattle.apcu_model.specs.declared.request.Request.TheVariants.{Store, Fetch, Retire}
 use Rattle.apcu_model.specs.declared.request.Reply.{Reply}
-use Rattle.apcu_model.specs.History.{Event, Moment, start_of, is_legal_mask, reply_in, after_event}
+use Rattle.apcu_model.specs.History.{Event, Stage, start_of, is_legal_mask, reply_in, after_event}
 use Rattle.apcu_run.specs.declared.script.Call.{Call}
 use Rattle.apcu_run.specs.declared.script.Call.TheVariants.{StoreOne, FetchOne}
 use Rattle.apcu_run.specs.declared.script.Step.{Step}
@@ -46,12 +46,12 @@ wanted conf (step ∷ steps) replies = continued step.t (wanted conf steps) (nex
 
 -- After some events: what the cache is, and what each worker was answered.
 pub record Play : Type 0 where
-  pub moment : Moment
+  pub stage : Stage
   pub replies : List (List Reply)
 
 -- nothing was asked yet
 abbrev pub nothing_played : Conf → List (List Step) → Play
-nothing_played conf scripts = record { moment = start_of conf; replies = map (λ script. []) scripts }
+nothing_played conf scripts = record { stage = start_of conf; replies = map (λ script. []) scripts }
 
 abbrev pub script_of : List (List Step) → ℕ → Option (List Step)
 script_of scripts worker = slice_get scripts worker
@@ -71,14 +71,14 @@ event_of mark wish = record { worker = mark.worker; t = wish.t; request = wish.r
 -- the play after an event, which is answered by the cache of one thread
 abbrev pub after_wish : Play → Mark → Wish → Play
 after_wish p mark wish = record {
-  moment = after_event p.moment (event_of mark wish);
-  replies = slice_set p.replies mark.worker (replies_of p mark.worker ++ reply_in p.moment (event_of mark wish) ∷ []);
+  stage = after_event p.stage (event_of mark wish);
+  replies = slice_set p.replies mark.worker (replies_of p mark.worker ++ reply_in p.stage (event_of mark wish) ∷ []);
 }
 
 -- the play after one more mark: its worker wants something, and its mask is legal
 abbrev pub marked : Conf → List (List Step) → Play → Mark → Option Play
 marked conf scripts p mark =
-    if is_legal_mask (length scripts) mark.worker p.moment mark.mask
+    if is_legal_mask (length scripts) mark.worker p.stage mark.mask
     then option_and_then (λ wish. Some (after_wish p mark wish)) (wish_of conf scripts p mark.worker)
     else None
 
