@@ -72,7 +72,7 @@ left_by-next conf (FetchOne key) reply more = refl
 
 -- one worker's play
 abbrev pub alone : Stage → List Reply → Play
-alone m replies = record { moment = m; replies = replies ∷ [] }
+alone m replies = record { stage = m; replies = replies ∷ [] }
 
 marked_alone : (conf : Conf) (steps : List Step) (m : Stage) (replies : List Reply) (wish : Wish) → wanted conf steps replies ≡ Some wish
     → marked conf (steps ∷ []) (alone m replies) own_mark ≡ Some (alone (after_event m (event_of own_mark wish)) (replies ++ reply_in m (event_of own_mark wish) ∷ []))
