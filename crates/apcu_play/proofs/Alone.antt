@@ -17,8 +17,8 @@ use Rattle.apcu_model.specs.declared.request.Reply.TheVariants.{Flag, Found, Abs
 use Rattle.apcu_model.specs.Cache.{Cache, Row, empty_cache}
 use Rattle.apcu_model.specs.Expiry.{live_row}
 use Rattle.apcu_model.specs.Sequential.{reply_to, cache_after, found_in}
-<<<<<<< HEAD:crates/apcu_play/proofs/Alone.antt
-use Rattle.apcu_model.specs.History.{Stage, Event, held_places, is_legal_mask, is_copied, is_in_mask, after_event, reply_in, start_of, window_of}
+use Rattle.apcu_model.specs.declared.event.Event.{Event}
+use Rattle.apcu_model.specs.History.{Stage, held_places, is_legal_mask, is_copied, is_in_mask, after_event, reply_in, start_of, window_of}
 use Rattle.apcu_play.specs.declared.script.Call.{Call}
 use Rattle.apcu_play.specs.declared.script.Call.TheVariants.{StoreOne, FetchOne}
 use Rattle.apcu_play.specs.declared.script.Step.{Step}
@@ -26,17 +26,6 @@ use Rattle.apcu_play.specs.Play.{next_of, wanted, Wish, Play, nothing_played, ma
 use Rattle.apcu_play.specs.Alone.{request_of, step_reply, after_step, replies_to, lines_of, own_mark, marks_for, alone_text}
 use Rattle.apcu_play.specs.Grammar.{ends_line}
 use Rattle.apcu_play.specs.Output.{flag_text, reply_text, call_text, left_by, script_lines, worker_lines, journal_lines, play_text, output_of, IsOutput}
-=======
-use Rattle.apcu_model.specs.declared.event.Event.{Event}
-use Rattle.apcu_model.specs.History.{Stage, held_places, is_legal_mask, is_copied, is_in_mask, after_event, reply_in, start_of, window_of}
-use Rattle.apcu_run.specs.declared.script.Call.{Call}
-use Rattle.apcu_run.specs.declared.script.Call.TheVariants.{StoreOne, FetchOne}
-use Rattle.apcu_run.specs.declared.script.Step.{Step}
-use Rattle.apcu_run.specs.Play.{next_of, wanted, Wish, Play, nothing_played, marked, played_from, played, after_wish, event_of, are_done, is_complete_play, IsLegal, IsComplete}
-use Rattle.apcu_run.specs.Alone.{request_of, step_reply, after_step, replies_to, lines_of, own_mark, marks_for, alone_text}
-use Rattle.apcu_run.specs.Grammar.{ends_line}
-use Rattle.apcu_run.specs.Output.{flag_text, reply_text, call_text, left_by, script_lines, worker_lines, journal_lines, play_text, output_of, IsOutput}
->>>>>>> 7baa0aaa7797bb55b3a01013aad4f6cc36d9146a:crates/apcu_run/proofs/Alone.antt
 
 pub found_text : (found : Option Row) (key : List ℕ) (more : List Reply) → call_text (FetchOne key) (found_in found ∷ more) ≡ reply_text (found_in found)
 found_text (Some row) key more = refl

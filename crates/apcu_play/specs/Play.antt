@@ -7,18 +7,11 @@ use Rattle.apcu_model.specs.declared.journal.Mark.{Mark}
 use Rattle.apcu_model.specs.declared.request.Request.{Request}
 use Rattle.apcu_model.specs.declared.request.Request.TheVariants.{Store, Fetch, Retire}
 use Rattle.apcu_model.specs.declared.request.Reply.{Reply}
-<<<<<<< HEAD:crates/apcu_play/specs/Play.antt
-use Rattle.apcu_model.specs.History.{Event, Stage, start_of, is_legal_mask, reply_in, after_event}
+use Rattle.apcu_model.specs.declared.event.Event.{Event}
+use Rattle.apcu_model.specs.History.{Stage, start_of, is_legal_mask, reply_in, after_event}
 use Rattle.apcu_play.specs.declared.script.Call.{Call}
 use Rattle.apcu_play.specs.declared.script.Call.TheVariants.{StoreOne, FetchOne}
 use Rattle.apcu_play.specs.declared.script.Step.{Step}
-=======
-use Rattle.apcu_model.specs.declared.event.Event.{Event}
-use Rattle.apcu_model.specs.History.{Stage, start_of, is_legal_mask, reply_in, after_event}
-use Rattle.apcu_run.specs.declared.script.Call.{Call}
-use Rattle.apcu_run.specs.declared.script.Call.TheVariants.{StoreOne, FetchOne}
-use Rattle.apcu_run.specs.declared.script.Step.{Step}
->>>>>>> 7baa0aaa7797bb55b3a01013aad4f6cc36d9146a:crates/apcu_run/specs/Play.antt
 
 -- What a call does next, after it got some replies: it asks once more, or it is done and leaves the
 -- replies that belong to the calls after it.
