@@ -1,17 +1,16 @@
 -- A part that is read is the part that was written.
-use Rattle.std.proofs.Common.{◌≡◌, ℕ, zero, suc, ◌+◌, ◌-◌, ◌^◌, ◌<◌, ◌≤◌, Bool, true, false, cond, ◌&&◌, eqb, ltb, List, [], ◌∷◌, ◌++◌, length, get_or, take, drop, Option, Some, None, Result, Ok, Err, ℤ, pos, negsuc, FitsSigned, w64, refl, sym, ap, subst, ◌∙◌, append_assoc, arith}
+use Rattle.std.proofs.Common.{◌≡◌, ℕ, suc, ◌+◌, ◌^◌, ◌<◌, Bool, true, false, cond, ◌&&◌, eqb, ltb, List, [], ◌∷◌, ◌++◌, length, take, drop, Option, Some, None, Result, Ok, Err, ℤ, pos, negsuc, FitsSigned, w64, refl, sym, ap, subst, ◌∙◌, arith}
 use Rattle.std.specs.Prelude.{slice_index}
 use Rattle.std.specs.Fmt.{decimal, signed_decimal}
 use Rattle.std.proofs.lemmas.Fmt.{decimal_digit}
 use Rattle.std.proofs.lemmas.Bool.{eqb-true, ltb-true}
-use Rattle.std.proofs.lemmas.List.{take-append-drop, length-append, length-take}
+use Rattle.std.proofs.lemmas.List.{take-append-drop, length-take}
 use Rattle.std.proofs.Math.Seq.{drop-cons}
 use Rattle.std.specs.List.{AllByRecursion}
 use Rattle.php_graph.specs.ByteStrings.{AreBytes}
 use Rattle.php_graph.specs.Numbers.{int_of_text}
 use Rattle.notation.specs.declared.fault.Fault.{Fault}
-use Rattle.notation.specs.declared.fault.Reason.{Reason}
-use Rattle.notation.specs.Marks.{◌>>=◌, fail, mark_at, number_len, found, number_at, as_natural, as_truth, number_as, natural_at, quoted_at, sized_at, string_at, integer_at, count_at}
+use Rattle.notation.specs.Marks.{◌>>=◌, mark_at, number_len, found, number_at, as_natural, as_truth, number_as, natural_at, quoted_at, sized_at, string_at, integer_at, count_at}
 
 -- a text that gives an integer is what is written for it
 abbrev pub Written : Type 0

@@ -1,5 +1,5 @@
 -- What is read of bytes is a graph: its items are drafted one after the other.
-use Rattle.std.proofs.Common.{◌≡◌, ℕ, zero, suc, ◌<◌, Bool, true, false, cond, ◌&&◌, List, [], ◌∷◌, ◌++◌, length, drop, Option, Some, None, Result, Ok, Err, refl, sym, ap, subst, ◌∙◌, append_assoc, arith}
+use Rattle.std.proofs.Common.{◌≡◌, ℕ, zero, suc, ◌<◌, Bool, true, false, cond, ◌&&◌, List, [], ◌∷◌, ◌++◌, length, drop, Option, Some, None, Result, Ok, refl, sym, ap, subst, ◌∙◌, append_assoc, arith}
 use Rattle.std.specs.Option.{is_none}
 use Rattle.std.specs.List.{AllByRecursion}
 use Rattle.php_graph.specs.declared.key.Key.{Key}
@@ -10,11 +10,11 @@ use Rattle.php_graph.specs.declared.item.Wants.{Wants}
 use Rattle.php_graph.specs.declared.item.Wants.TheVariants as wants
 use Rattle.php_graph.specs.declared.item.BuildFault.{BuildFault}
 use Rattle.php_graph.specs.Graph.{levels, is_array_at, IsGraph}
-use Rattle.php_graph.specs.Building.{Draft, nothing_drafted, wants_of, wants_at_top, wants_by, is_value, is_name, item_fits, FitsItem, fault_of, pushed, drafted}
+use Rattle.php_graph.specs.Building.{Draft, nothing_drafted, wants_of, wants_at_top, wants_by, is_name, item_fits, FitsItem, fault_of, pushed, drafted}
 use Rattle.notation.specs.declared.fault.Fault.{Fault}
 use Rattle.notation.specs.declared.fault.Reason.TheVariants.{Depth}
 use Rattle.notation.specs.Marks.{◌>>=◌, fail, mark_at}
-use Rattle.notation.specs.Reading.{Begun, begun_at, takes_integers, key_at, members_at, closed_at, rest_of_value, value_with, value_at, reading_of}
+use Rattle.notation.specs.Reading.{begun_at, takes_integers, key_at, members_at, closed_at, rest_of_value, value_with, value_at, reading_of}
 use Rattle.notation.proofs.Fields.{Written, AreSomeBytes, bytes_behind, bind_ok, ok_is, mark_takes}
 use Rattle.notation.proofs.Steps.{value_step}
 use Rattle.notation.proofs.Takes.{item_text, Counted, begun_takes}

@@ -1,26 +1,16 @@
 -- What is read of a value is its text.
-use Rattle.std.proofs.Common.{◌≡◌, ℕ, zero, suc, ◌+◌, ◌-◌, ◌<◌, ◌≤◌, Bool, true, false, cond, ◌&&◌, ◌||◌, eqb, List, [], ◌∷◌, ◌++◌, length, map, take, drop, Option, Some, None, Result, Ok, Err, refl, sym, ap, subst, ◌∙◌, append_assoc, arith, codes, inl, inr, add-one, add-zero, length-append}
-use Rattle.std.specs.Prelude.{slice_set}
+use Rattle.std.proofs.Common.{◌≡◌, ℕ, Bool, true, false, cond, ◌||◌, eqb, List, [], ◌∷◌, ◌++◌, length, Option, Some, None, Result, Ok, Err, refl, sym, ap, subst, ◌∙◌, append_assoc, codes}
 use Rattle.std.specs.Fmt.{decimal, signed_decimal}
 use Rattle.std.proofs.lemmas.Bool.{eqb-true}
-use Rattle.std.proofs.lemmas.List.{append-nil}
-use Rattle.php_graph.specs.declared.key.Key.{Key}
-use Rattle.php_graph.specs.declared.key.Key.TheVariants as keys
-use Rattle.php_graph.specs.declared.child.Child.{Child}
-use Rattle.php_graph.specs.declared.child.Child.TheVariants.{Own, Back}
-use Rattle.php_graph.specs.declared.kind.Kind.{Kind}
-use Rattle.php_graph.specs.declared.kind.Kind.TheVariants as kinds
 use Rattle.php_graph.specs.declared.item.Item.{Item}
 use Rattle.php_graph.specs.declared.item.Item.TheVariants as items
 use Rattle.php_graph.specs.declared.item.BuildFault.{BuildFault}
-use Rattle.php_graph.specs.Graph.{kind_at, levels, is_array, is_array_at, passes, child_end, ends_after, children_of, end_of, IsGraph}
-use Rattle.php_graph.specs.Building.{Draft, nothing_drafted, FitsItem, wants_of, room_fault, fault_of, pushed, with_member, with_value, attached, changed_at, is_name, named}
+use Rattle.php_graph.specs.Building.{Draft, FitsItem, room_fault, fault_of, pushed}
 use Rattle.notation.specs.declared.fault.Fault.{Fault}
-use Rattle.notation.specs.Marks.{◌>>=◌, fail, mark_at, natural_at, number_as, as_truth, sized_at, string_at, integer_at, count_at}
-use Rattle.notation.specs.Notation.{integer_text, string_text, key_text, array_head, object_head, member_texts, kind_text, child_text, text_of, text_from}
-use Rattle.notation.specs.Reading.{put_unless, put_at, Begun, null_at, truth_at, int_at, str_at, same_at, back_at, array_at, object_at, tagged_at, is_tag, if_room, begun_at, takes_integers, key_tagged_at, key_at, members_at, closed_at, rest_of_value, value_with, value_at, reading_of}
-use Rattle.notation.proofs.Fields.{Written, AreSomeBytes, integer_fits, string_fits, sized_fits, bind_ok, ok_is, if_ok, mark_takes, natural_takes, truth_takes, sized_takes, string_takes, integer_takes, count_takes}
-use Rattle.notation.proofs.Steps.{attached_len}
+use Rattle.notation.specs.Marks.{◌>>=◌, mark_at, natural_at, number_as, as_truth, sized_at, string_at, integer_at, count_at}
+use Rattle.notation.specs.Notation.{integer_text, string_text, array_head, object_head}
+use Rattle.notation.specs.Reading.{put_unless, put_at, Begun, null_at, truth_at, int_at, str_at, same_at, back_at, array_at, object_at, tagged_at, is_tag, if_room, begun_at}
+use Rattle.notation.proofs.Fields.{Written, AreSomeBytes, integer_fits, string_fits, sized_fits, bind_ok, ok_is, mark_takes, natural_takes, truth_takes, sized_takes, string_takes, integer_takes, count_takes}
 
 -- ---- items
 

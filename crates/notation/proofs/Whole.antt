@@ -1,33 +1,26 @@
 -- What is read of a whole value is its text: inside containers, and at the top.
-use Rattle.std.proofs.Common.{◌≡◌, ℕ, zero, suc, ◌+◌, ◌-◌, ◌<◌, ◌≤◌, Bool, true, false, cond, ◌&&◌, eqb, List, [], ◌∷◌, ◌++◌, length, map, drop, Option, Some, None, Result, Ok, Err, refl, sym, ap, subst, ◌∙◌, append_assoc, arith, codes, add-one, add-zero, length-append}
+use Rattle.std.proofs.Common.{◌≡◌, ℕ, zero, suc, ◌+◌, ◌-◌, ◌<◌, Bool, true, false, cond, ◌&&◌, eqb, List, [], ◌∷◌, ◌++◌, length, map, Option, Some, None, Result, Ok, refl, sym, ap, subst, ◌∙◌, append_assoc, arith, length-append}
 use Rattle.std.specs.Prelude.{slice_set, slice_get}
-use Rattle.std.specs.Option.{option_and_then}
-use Rattle.std.specs.Fmt.{decimal}
 use Rattle.std.proofs.lemmas.Bool.{eqb-true}
 use Rattle.std.proofs.lemmas.List.{append-nil}
 use Rattle.php_graph.specs.declared.key.Key.{Key}
 use Rattle.php_graph.specs.declared.key.Key.TheVariants as keys
 use Rattle.php_graph.specs.declared.child.Child.{Child}
-use Rattle.php_graph.specs.declared.child.Child.TheVariants.{Own, Back}
+use Rattle.php_graph.specs.declared.child.Child.TheVariants.{Own}
 use Rattle.php_graph.specs.declared.kind.Kind.{Kind}
 use Rattle.php_graph.specs.declared.kind.Kind.TheVariants as kinds
-use Rattle.php_graph.specs.declared.item.Item.{Item}
 use Rattle.php_graph.specs.declared.item.Item.TheVariants as items
-use Rattle.php_graph.specs.declared.item.Wants.{Wants}
 use Rattle.php_graph.specs.declared.item.Wants.TheVariants as wants
-use Rattle.php_graph.specs.declared.item.BuildFault.{BuildFault}
-use Rattle.php_graph.specs.Graph.{kind_at, levels, is_array, is_array_at, passes, child_end, ends_after, children_of, end_of, IsGraph, FitsKey}
-use Rattle.php_graph.specs.Building.{Draft, nothing_drafted, wants_of, wants_by, wants_inside, fault_of, pushed, with_member, with_value, attached, changed_at, next_place, is_container, is_name, named}
+use Rattle.php_graph.specs.Graph.{kind_at, is_array, is_array_at, passes, FitsKey}
+use Rattle.php_graph.specs.Building.{Draft, wants_of, wants_by, fault_of, pushed, with_member, attached, changed_at, next_place, is_name, named}
 use Rattle.notation.specs.declared.fault.Fault.{Fault}
 use Rattle.notation.specs.declared.fault.Reason.TheVariants.{Tag}
-use Rattle.notation.specs.Marks.{◌>>=◌, fail, mark_at, string_at, integer_at}
-use Rattle.notation.specs.Notation.{integer_text, string_text, key_text, array_head, object_head, member_texts, kind_text, child_text, text_of, text_from}
-use Rattle.notation.specs.Parts.{members_of}
-use Rattle.notation.specs.Reading.{put_unless, put_at, Begun, begun_at, takes_integers, key_tagged_at, key_at, members_at, closed_at, rest_of_value, value_with, value_at, reading_of}
-use Rattle.notation.proofs.Fields.{Written, AreSomeBytes, integer_fits, string_fits, bind_ok, ok_is, mark_takes, string_takes, integer_takes}
+use Rattle.notation.specs.Marks.{◌>>=◌, fail, string_at, integer_at}
+use Rattle.notation.specs.Notation.{key_text, member_texts, child_text}
+use Rattle.notation.specs.Reading.{put_at, takes_integers, key_tagged_at, key_at, members_at}
+use Rattle.notation.proofs.Fields.{Written, AreSomeBytes, integer_fits, string_fits, bind_ok, ok_is, string_takes, integer_takes}
 use Rattle.notation.proofs.Steps.{attached_len}
-use Rattle.notation.proofs.Takes.{put_ok, put_sound, item_text, Counted, IsStart, begun_takes, int_text, str_text}
-use Rattle.notation.proofs.Texts.{held_by}
+use Rattle.notation.proofs.Takes.{put_ok, put_sound, int_text, str_text}
 
 -- ---- keys
 
