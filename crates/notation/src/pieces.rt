@@ -17,10 +17,10 @@ use itoa::Buffer;
 use php_graph::{Bytes, Child, Key, Kind, int_of_text};
 use std::alloc::AllocError;
 
-/// Appends a key's text: `i:n;` where the key is the canonical decimal of the 64-bit integer n, as PHP takes it
-/// for that integer, and else `s:len:"key";`. Without memory `out` stays as it was.
+/// Appends a key's text: `i:n;` where the key is the canonical decimal of the 64-bit integer n,
+/// as PHP takes it for that integer, and else `s:len:"key";`. Without memory `out` stays as it
+/// was.
 pub fn write_key(key: &[u8], out: &mut ByteOut) -> Result<(), AllocError>
-    requires { length key.now < 2 ^ 32 }
     ensures ok { OnOk result (out.new ≡ out.old ++ written_key (int_of_text key.now) key.now) }
     ensures err { OnErr result (out.new ≡ out.old) }
 {
@@ -41,7 +41,8 @@ pub fn write_key(key: &[u8], out: &mut ByteOut) -> Result<(), AllocError>
 // A place up to its members, and whether it has members to come.
 pub(crate) fn put_start(kind: &Kind, base: u64, out: &mut ByteOut) -> Result<bool, AllocError>
     requires { base < 2 ^ 56 }
-    ensures ok { IfOk result (λ opened. (out.new ≡ out.old ++ start_text base kind.now) × (opened ≡ is_container kind.now)) }
+    ensures ok { IfOk result (λ opened. (out.new ≡ out.old ++ start_text base kind.now)
+        × (opened ≡ is_container kind.now)) }
     ensures err { OnErr result (Extends out.old out.new) }
 {
     match kind {
@@ -63,13 +64,15 @@ pub(crate) fn put_start(kind: &Kind, base: u64, out: &mut ByteOut) -> Result<boo
     Ok(false)
 }
 
-// The key of the member with this number, and what the member holds; nothing behind the last member.
+// The key of the member with this number, and what the member holds; nothing behind the last
+// member.
 pub(crate) fn put_key_of(
     kind: &Kind,
     i: u32,
     out: &mut ByteOut,
 ) -> Result<Option<Child>, AllocError>
-    ensures ok { IfOk result (λ held. MemberStep (slice_get (members_of kind.now) i) held out.old out.new) }
+    ensures ok { IfOk result (λ held. MemberStep
+        (slice_get (members_of kind.now) i) held out.old out.new) }
     ensures next { IfOk result (λ held. IsSome held → i + 1 < 2 ^ 32) }
     ensures err { OnErr result (Extends out.old out.new) }
 {
