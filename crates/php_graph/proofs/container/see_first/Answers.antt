@@ -5,5 +5,5 @@ use Rattle.php_graph.proofs.container.see_first.Goals as goal
 pub returns-else-has_key-clause-answer : goal.returns-else-has_key-clause-answer
 returns-else-has_key-clause-answer c = grind (arith, common_steps)
 
-pub returns-clause-answer : goal.returns-clause-answer
-returns-clause-answer c = grind (arith, common_steps)
+pub returns-else-has_key-clause-ok : goal.returns-else-has_key-clause-ok
+returns-else-has_key-clause-ok c = grind (arith, common_steps)
