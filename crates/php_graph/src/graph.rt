@@ -68,9 +68,10 @@ impl Graph {
         }
     }
 
-    /// How many places there are.
+    /// How many places there are. Each graph is whole and well formed.
     pub fn places(&self) -> u32
-        ensures { result ≡ length self.now }
+        ensures count { result ≡ length self.now }
+        ensures graph { IsGraph self.now }
     {
         self.places.len() as u32
     }
@@ -101,7 +102,7 @@ impl Graph {
         self.words
     }
 
-    /// Each graph is whole and well formed.
+    /// What `places` says too: each graph is whole and well formed.
     pub fn is_sealed(&self)
         ensures { IsGraph self.now }
     {
