@@ -46,7 +46,8 @@ impl Pairs {
         self.pairs
     }
 
-    /// Adds a pair at the end. Without memory the pairs stay as they were, and the new one is dropped.
+    /// Adds a pair at the end. Without memory the pairs stay as they were, and the new one is
+    /// dropped.
     pub fn push(&mut self, key: Bytes, value: Graph) -> Result<(), AllocError>
         requires { length self.old < 2 ^ 32 - 1 }
         ensures { self.new ≡ (if is_ok result then self.old ++ (key, value) ∷ [] else self.old) }
