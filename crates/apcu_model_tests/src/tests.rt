@@ -89,7 +89,8 @@ fn store(
     let (ttl, exclusive, t) = how;
     let request = asked(pair.alloc, &key, &value, ttl, exclusive)?;
     let stored = pair.lending.store(key, value, ttl, exclusive, t)?;
-    assert_eq!(rt; flag(rt, pair.asked.ask(&request, t)?), stored);
+    let told = pair.asked.ask(&request, t)?;
+    assert_eq!(rt; flag(rt, told), stored);
     Ok(stored)
 }
 
@@ -130,19 +131,22 @@ fn found(rt: &impl Abort, pair: &mut Pair, key: Bytes, t: u64) -> Result<Option<
 
 fn exists(rt: &impl Abort, pair: &mut Pair, key: Bytes, t: u64) -> Result<bool, Fail> {
     let there = pair.lending.exists(key.as_slice(), t);
-    assert_eq!(rt; flag(rt, pair.asked.ask(&Request::Exists(key), t)?), there);
+    let told = pair.asked.ask(&Request::Exists(key), t)?;
+    assert_eq!(rt; flag(rt, told), there);
     Ok(there)
 }
 
 fn delete(rt: &impl Abort, pair: &mut Pair, key: Bytes, t: u64) -> Result<bool, Fail> {
     let done = pair.lending.delete(key.as_slice(), t);
-    assert_eq!(rt; flag(rt, pair.asked.ask(&Request::Delete(key), t)?), done);
+    let told = pair.asked.ask(&Request::Delete(key), t)?;
+    assert_eq!(rt; flag(rt, told), done);
     Ok(done)
 }
 
 fn clear(rt: &impl Abort, pair: &mut Pair, t: u64) -> Result<(), Fail> {
     pair.lending.clear();
-    assert!(rt; flag(rt, pair.asked.ask(&Request::Clear, t)?));
+    let told = pair.asked.ask(&Request::Clear, t)?;
+    assert!(rt; flag(rt, told));
     Ok(())
 }
 
@@ -162,16 +166,6 @@ enum Call {
     Counts(u64, u64, u64, u64, u64),
 }
 
-fn fill(rt: &impl Abort, pair: &mut Pair, first: u32, t: u64) -> Result<(), Fail> {
-    for name in 1..31u8 {
-        let ttl = if name == 1 { first } else { 0 };
-        let one = graph(rt, pair.alloc, Item::Int(1))?;
-        let name = key(pair.alloc, name)?;
-        assert!(rt; store(rt, pair, name, one, (ttl, false, t))?);
-    }
-    Ok(())
-}
-
 fn put(
     rt: &impl Abort,
     pair: &mut Pair,
@@ -184,41 +178,66 @@ fn put(
     store(rt, pair, key, value, how)
 }
 
+fn fill(rt: &impl Abort, pair: &mut Pair, first: u32, t: u64) -> Result<(), Fail> {
+    for name in 1..31u8 {
+        let ttl = if name == 1 { first } else { 0 };
+        let stored = put(rt, pair, name, Value::Int(1), (ttl, false, t))?;
+        assert!(rt; stored);
+    }
+    Ok(())
+}
+
 fn answer(rt: &impl Abort, pair: &mut Pair, name: u8, call: Call, t: u64) -> Result<(), Fail> {
     let key = key(pair.alloc, name)?;
     match call {
-        Call::Fetch(_, number) => assert_eq!(rt; found(rt, pair, key, t)?, number),
-        Call::Exists(_, there) => assert_eq!(rt; exists(rt, pair, key, t)?, there),
-        Call::Delete(_, done) => assert_eq!(rt; delete(rt, pair, key, t)?, done),
+        Call::Fetch(_, expected) => {
+            let number = found(rt, pair, key, t)?;
+            assert_eq!(rt; number, expected);
+        }
+        Call::Exists(_, expected) => {
+            let there = exists(rt, pair, key, t)?;
+            assert_eq!(rt; there, expected);
+        }
+        Call::Delete(_, expected) => {
+            let done = delete(rt, pair, key, t)?;
+            assert_eq!(rt; done, expected);
+        }
         _ => {}
     }
     Ok(())
 }
 
+fn count(rt: &impl Abort, pair: &Pair, counts: Counts) {
+    assert_eq!(rt; pair.asked.counts(), counts);
+    assert_eq!(rt; pair.lending.counts(), counts);
+}
+
 fn do_call(rt: &impl Abort, pair: &mut Pair, call: Call, t: u64) -> Result<(), Fail> {
     match call {
-        Call::Store(name, v, ttl, done) => {
-            assert_eq!(rt; put(rt, pair, name, v, (ttl, false, t))?, done);
+        Call::Store(name, v, ttl, expected) => {
+            let done = put(rt, pair, name, v, (ttl, false, t))?;
+            assert_eq!(rt; done, expected);
         }
-        Call::Add(name, v, done) => {
-            assert_eq!(rt; put(rt, pair, name, v, (0, true, t))?, done);
+        Call::Add(name, v, expected) => {
+            let done = put(rt, pair, name, v, (0, true, t))?;
+            assert_eq!(rt; done, expected);
         }
         Call::Fetch(name, _) | Call::Exists(name, _) | Call::Delete(name, _) => {
             answer(rt, pair, name, call, t)?;
         }
         Call::Clear => clear(rt, pair, t)?,
         Call::Fill(ttl) => fill(rt, pair, ttl, t)?,
-        Call::Counts(hits, misses, inserts, expunges, entries) => {
-            let counts = Counts {
+        Call::Counts(hits, misses, inserts, expunges, entries) => count(
+            rt,
+            pair,
+            Counts {
                 hits,
                 misses,
                 inserts,
                 expunges,
                 entries,
-            };
-            assert_eq!(rt; pair.asked.counts(), counts);
-            assert_eq!(rt; pair.lending.counts(), counts);
-        }
+            },
+        ),
     }
     Ok(())
 }
