@@ -69,6 +69,13 @@ impl Keys {
         self.keys.is_empty()
     }
 
+    /// The keys.
+    pub fn as_slice(&self) -> &[Bytes]
+        ensures { result.now ≡ self.now }
+    {
+        self.keys.as_slice()
+    }
+
     /// The key with this number, from 0.
     pub fn at(&self, i: u32) -> &Bytes
         requires { i < length self.now }

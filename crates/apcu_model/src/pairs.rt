@@ -70,6 +70,13 @@ impl Pairs {
         self.pairs.is_empty()
     }
 
+    /// The pairs.
+    pub fn as_slice(&self) -> &[(Bytes, Graph)]
+        ensures { result.now ≡ self.now }
+    {
+        self.pairs.as_slice()
+    }
+
     /// The key and the value with this number, from 0.
     pub fn at(&self, i: u32) -> (&Bytes, &Graph)
         requires { i < length self.now }
