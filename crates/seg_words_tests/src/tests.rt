@@ -153,7 +153,8 @@ fn serves_by_its_bound(rt: HostRuntime) -> Result<(), Fail> {
     Ok(())
 }
 
-// An event: what is held for one worker before it, the workers met, and two places with what is told of them.
+// An event: what is held for one worker before it, the workers met, and two places with what is
+// told of them.
 #[derive(Clone, Copy, Drop)]
 struct Event {
     worker: u32,

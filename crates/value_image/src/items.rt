@@ -4,7 +4,8 @@ ghost use Rattle.std.specs.Prelude.{◌≡◌, ℕ, ◌+◌, ◌*◌, ◌<◌, �
 ghost use Rattle.seg_words.specs.Kept.{Kept};
 ghost use Rattle.php_graph.specs.declared.key.Key.{Key};
 ghost use Rattle.php_graph.specs.declared.child.Child.{Child};
-ghost use Rattle.php_graph.specs.Size.{words_in, key_cells};
+ghost use Rattle.seg_words.specs.Layout.{words_in};
+ghost use Rattle.php_graph.specs.Size.{key_cells};
 ghost use Rattle.seg_words.specs.Blocks.{IsTold};
 ghost use Rattle.value_image.specs.Packed.{bytes_of};
 ghost use Rattle.value_image.specs.Image.{child_word};
@@ -13,7 +14,7 @@ ghost use Rattle.value_image.specs.Reading.{itself, IsStringAt, IsKeyAt, IsMembe
 use crate::bytes::get_bytes;
 use crate::members::INT;
 use php_graph::{Bytes, Child, Key, Members, Props};
-use seg_words::WordsIn;
+use seg_words::{WordsIn, words_in};
 use std::alloc::{AllocError, Global};
 
 /// So many bytes of the words from place `at` on.
@@ -25,7 +26,8 @@ fn read_bytes<W: WordsIn>(
 ) -> Result<Bytes, AllocError>
     requires inside { at + words_in len ≤ length (W.words from.old) }
     requires told { (i : ℕ) → at ≤ i → i < at + words_in len → IsTold (W.aside from.old).windows i }
-    ensures bytes { IfOk result (λ bytes. bytes ≡ take len (bytes_of (drop at (W.words from.old)))) }
+    ensures bytes { IfOk result (λ bytes.
+        bytes ≡ take len (bytes_of (drop at (W.words from.old)))) }
     ensures kept { Kept W.WordsIn from.old from.new }
 {
     let mut bytes = Vec::from_elem(alloc, 0u8, len as usize)?;
@@ -50,7 +52,7 @@ pub(crate) fn read_text<W: WordsIn>(
 {
     let len = (tag / 8) as u32;
     let bytes = read_bytes(alloc, from, at + 1, len)?;
-    Ok((bytes, at + 1 + ((len as u64 + 7) / 8) as u32))
+    Ok((bytes, at + 1 + words_in(len)))
 }
 
 /// The byte string at place `at`, and the place behind it.
@@ -59,7 +61,8 @@ pub(crate) fn read_string<W: WordsIn>(
     from: &mut W,
     at: u32,
 ) -> Result<(Bytes, u32), AllocError>
-    requires { (bytes : List ℕ) × IsStringAt (W.words from.old) (W.aside from.old).windows at bytes }
+    requires { (bytes : List ℕ)
+        × IsStringAt (W.words from.old) (W.aside from.old).windows at bytes }
     ensures string { (bytes : List ℕ)
         → IsStringAt (W.words from.old) (W.aside from.old).windows at bytes
         → IfOk result (λ r. (r.0 ≡ bytes) × (r.1 ≡ at + (1 + words_in (length bytes)))) }

@@ -3,14 +3,15 @@
 ghost use Rattle.std.specs.Prelude.{◌≡◌, ◌+◌, ◌*◌, ◌<◌, ◌^◌, ◌≤◌, [], ◌∷◌, length, sum_by};
 ghost use Rattle.seg_words.specs.Kept.{KeptBeside};
 ghost use Rattle.std.specs.List.{flat_map};
-ghost use Rattle.php_graph.specs.Size.{words_in, key_cells, image_length, offset_of};
+ghost use Rattle.seg_words.specs.Layout.{words_in};
+ghost use Rattle.php_graph.specs.Size.{key_cells, image_length, offset_of};
 ghost use Rattle.value_image.specs.Rows.{written, MayWrite};
 ghost use Rattle.value_image.specs.Places.{number_of, IsPlaceOf, AllNamePlaces};
 ghost use Rattle.value_image.specs.Image.{string_words, key_words, child_word, member_words, property_words};
 
 use crate::bytes::put_bytes;
 use php_graph::{Bytes, Child, Graph, Key, Members, Props};
-use seg_words::Segment;
+use seg_words::{Segment, words_in};
 
 /// The tag of an integer.
 pub(crate) const INT: u64 = 2;
@@ -50,7 +51,7 @@ pub(crate) fn put_string<S: Segment>(seg: &mut S, at: u32, bytes: &Bytes) -> u32
     let bytes = bytes.as_slice();
     let next = put_one(seg, at, STR + 8 * bytes.len() as u64);
     put_bytes(seg, next, bytes);
-    next + ((bytes.len() + 7) / 8) as u32
+    next + words_in(bytes.len() as u32)
 }
 
 /// Writes a key of an array, and gives the place behind it.

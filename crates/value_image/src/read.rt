@@ -4,7 +4,8 @@ ghost use Rattle.std.specs.Prelude.{◌≡◌, ◌+◌, ℕ, ◌≤◌, ◌<◌,
 ghost use Rattle.seg_words.specs.Kept.{Kept};
 ghost use Rattle.php_graph.specs.declared.child.Child.{Child};
 ghost use Rattle.php_graph.specs.declared.kind.Kind.{Kind};
-ghost use Rattle.php_graph.specs.Size.{words_in, cells_of};
+ghost use Rattle.seg_words.specs.Layout.{words_in};
+ghost use Rattle.php_graph.specs.Size.{cells_of};
 ghost use Rattle.seg_words.specs.Blocks.{IsTold};
 ghost use Rattle.value_image.specs.Image.{IsImageOf};
 ghost use Rattle.value_image.specs.Reading.{IsKindAt, IsObjectAt, IsReadOf};

@@ -3,7 +3,8 @@
 ghost use Rattle.std.specs.Prelude.{◌≡◌, ◌+◌, ◌*◌, ◌<◌, ◌^◌, ◌∷◌, ◌++◌, length, sum_by};
 ghost use Rattle.seg_words.specs.Kept.{KeptBeside};
 ghost use Rattle.std.specs.List.{flat_map};
-ghost use Rattle.php_graph.specs.Size.{words_in, key_cells, cells_of, image_length, offset_of};
+ghost use Rattle.seg_words.specs.Layout.{words_in};
+ghost use Rattle.php_graph.specs.Size.{key_cells, cells_of, image_length, offset_of};
 ghost use Rattle.value_image.specs.Rows.{written, MayWrite};
 ghost use Rattle.value_image.specs.Places.{AllNamePlaces, NamesPlaces};
 ghost use Rattle.value_image.specs.Image.{IsImageOf, image_of, place_words, string_words, member_words, property_words};

@@ -1,6 +1,6 @@
 use Rattle.std.proofs.Common.{◌+◌, List, [], ◌∷◌, ◌++◌, length, ℕ, arith, ap₂, sym, ◌∙◌}
 use Rattle.php_graph.specs.declared.child.Child.{Child}
-use Rattle.php_graph.specs.Size.{words_in}
+use Rattle.seg_words.specs.Layout.{words_in}
 use Rattle.value_image.proofs.ItemRuns.{take_more-get, cells-more}
 use Rattle.value_image.proofs.Parts.{properties-next}
 use Rattle.value_image.proofs.items.read_properties.Goals as goal

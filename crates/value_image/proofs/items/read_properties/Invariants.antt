@@ -1,6 +1,6 @@
 use Rattle.std.proofs.Common.{◌≡◌, ◌+◌, List, take, sum_by, length, ℕ}
 use Rattle.php_graph.specs.declared.child.Child.{Child}
-use Rattle.php_graph.specs.Size.{words_in}
+use Rattle.seg_words.specs.Layout.{words_in}
 use Rattle.seg_words.specs.Kept.{Kept}
 use Rattle.value_image.specs.Reading.{ArePropertiesAt}
 use Rattle.value_image.proofs.items.read_properties.Given as goal

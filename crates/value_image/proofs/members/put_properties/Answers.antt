@@ -1,5 +1,6 @@
 use Rattle.std.proofs.Common.{◌+◌, ◌∙◌, arith, length}
-use Rattle.php_graph.specs.Size.{words_in, offset_of}
+use Rattle.seg_words.specs.Layout.{words_in}
+use Rattle.php_graph.specs.Size.{offset_of}
 use Rattle.value_image.specs.Image.{property_words}
 use Rattle.value_image.proofs.ItemRuns.{item_may_write, item_written, cells-more}
 use Rattle.value_image.proofs.Lengths.{length-property_words}

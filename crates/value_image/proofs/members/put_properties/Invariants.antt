@@ -1,6 +1,7 @@
 use Rattle.std.proofs.Common.{◌≡◌, ◌+◌, take, sum_by, length}
 use Rattle.std.specs.List.{flat_map}
-use Rattle.php_graph.specs.Size.{words_in, offset_of}
+use Rattle.seg_words.specs.Layout.{words_in}
+use Rattle.php_graph.specs.Size.{offset_of}
 use Rattle.seg_words.specs.Kept.{KeptBeside}
 use Rattle.value_image.specs.Rows.{written}
 use Rattle.value_image.specs.Image.{property_words}

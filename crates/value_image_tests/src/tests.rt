@@ -4,11 +4,12 @@ ghost use Rattle.php_graph.specs.Size.{image_length};
 ghost use Rattle.seg_words.specs.Blocks.{IsTold};
 ghost use Rattle.value_image.specs.Rows.{MayWrite};
 
-use crate::{persist, unpersist};
 use php_graph::{Builder, Bytes, Graph, Item, Key, Wants};
 use seg_words::{Segment, VecWords};
 use std::alloc::{AllocError, Global};
 use std::test::Fail;
+use value_image::{bytes_are_packed, images_are_runs, images_differ, runs_are_written, runs_stand};
+use value_image::{get_bytes, persist, put_bytes, unpersist};
 
 // A step in writing a value.
 #[derive(Clone, Copy)]
@@ -84,34 +85,37 @@ fn round_trip<S: Segment>(
     g: &Graph,
 ) -> Result<Graph, AllocError>
     requires apart { MayWrite (S.words row.old) (S.aside row.old).windows at (image_length g.now) }
-    requires told { (i : ℕ) → at ≤ i → i < at + image_length g.now → IsTold (S.aside row.old).windows i }
+    requires told { (i : ℕ) → at ≤ i → i < at + image_length g.now
+        → IsTold (S.aside row.old).windows i }
     ensures { IfOk result (λ back. back ≡ g.now) }
 {
     persist(row, at, g);
     unpersist(alloc, row, at, g.words() as u32)
 }
 
-// A row with the graph's image at place 2.
-fn row_of(alloc: Global, g: &Graph) -> Result<Vec<u64>, AllocError> {
+// A row with the graph's image at place `at`, and a word behind it.
+fn row_of(alloc: Global, at: u32, g: &Graph) -> Result<Vec<u64>, AllocError> {
     let words = g.words();
-    if words > 1000 {
+    if words > 1000 || at > 2 {
         return Err(AllocError);
     }
     let mut row = VecWords::new(alloc, words as u32 + 3)?;
-    persist(&mut row, 2, g);
+    persist(&mut row, at, g);
     Ok(row.into_words())
+}
+
+// What the image of the graph that the steps write is, at place 2.
+fn image(alloc: Global, steps: &[Step]) -> Result<Vec<u64>, AllocError> {
+    match graph_of(alloc, steps) {
+        Some(g) => row_of(alloc, 2, &g),
+        None => Ok(Vec::new(alloc)),
+    }
 }
 
 #[test]
 fn writes_worked_images(rt: HostRuntime) -> Result<(), Fail> {
-    let itself = [Step::Array, Step::Number(0), Step::Back(1), Step::Close];
-    let Some(g) = graph_of(rt.alloc(), &itself) else {
-        panic!(rt; "no array");
-    };
-    let row = row_of(rt.alloc(), &g)?;
-    let words: &[u64] = &[0, 0, 12, 1, 2, 0, 0];
-    assert_eq!(rt; row.as_slice(), words);
-    let object = [
+    let itself: &[Step] = &[Step::Array, Step::Number(0), Step::Back(1), Step::Close];
+    let object: &[Step] = &[
         Step::Object(b"A"),
         Step::Name(b"x"),
         Step::Same(1),
@@ -119,40 +123,38 @@ fn writes_worked_images(rt: HostRuntime) -> Result<(), Fail> {
         Step::Back(1),
         Step::Close,
     ];
-    let Some(g) = graph_of(rt.alloc(), &object) else {
-        panic!(rt; "no object");
-    };
-    let row = row_of(rt.alloc(), &g)?;
-    let words: &[u64] = &[0, 0, 21, 11, 65, 18, 11, 120, 1, 11, 121, 6, 0, 0];
-    assert_eq!(rt; row.as_slice(), words);
+    let first: &[u64] = &[0, 0, 12, 1, 2, 0, 0];
+    let second: &[u64] = &[0, 0, 21, 11, 65, 18, 11, 120, 1, 11, 121, 6, 0, 0];
+    for (steps, words) in [(itself, first), (object, second)] {
+        let row = image(rt.alloc(), steps)?;
+        assert_eq!(rt; row.as_slice(), words);
+    }
     Ok(())
 }
 
-// Whether the steps write a graph that comes back from its image, so many places and words.
-fn comes_back(alloc: Global, steps: &[Step]) -> Result<Option<(u32, u64)>, AllocError> {
-    let Some(g) = graph_of(alloc, steps) else {
-        return Ok(None);
-    };
+// How many places and words the graph has that comes back from its image, if the two images are the same.
+fn back_from(alloc: Global, g: &Graph) -> Result<Option<(u32, u64)>, AllocError> {
     let words = g.words();
     if words > 1000 {
         return Ok(None);
     }
     let mut row = VecWords::new(alloc, words as u32)?;
-    let back = round_trip(alloc, &mut row, 0, &g)?;
-    let mut again = VecWords::new(alloc, words as u32)?;
-    if back.words() != words {
+    let back = round_trip(alloc, &mut row, 0, g)?;
+    if row_of(alloc, 0, &back)? != row_of(alloc, 0, g)? {
         return Ok(None);
     }
-    persist(&mut again, 0, &back);
-    if row.into_words() != again.into_words() {
-        return Ok(None);
+    Ok(Some((back.places(), back.words())))
+}
+
+fn comes_back(alloc: Global, steps: &[Step]) -> Result<Option<(u32, u64)>, AllocError> {
+    match graph_of(alloc, steps) {
+        Some(g) => back_from(alloc, &g),
+        None => Ok(None),
     }
-    Ok(Some((back.places(), words)))
 }
 
 #[test]
 fn brings_scalars_back(rt: HostRuntime) -> Result<(), Fail> {
-    let alloc = rt.alloc();
     let scalars = [
         (Step::Null, 1),
         (Step::Bool(false), 1),
@@ -167,19 +169,17 @@ fn brings_scalars_back(rt: HostRuntime) -> Result<(), Fail> {
         (Step::Str(b"\xff\0\0\0\0\0\0\xff\0"), 3),
     ];
     for (step, words) in scalars {
-        assert_eq!(rt; comes_back(alloc, &[step])?, Some((1, words)));
+        let back = comes_back(rt.alloc(), &[step])?;
+        assert_eq!(rt; back, Some((1, words)));
     }
     Ok(())
 }
 
 #[test]
 fn brings_containers_back(rt: HostRuntime) -> Result<(), Fail> {
-    let alloc = rt.alloc();
-    let empty = [Step::Array, Step::Close];
-    assert_eq!(rt; comes_back(alloc, &empty)?, Some((1, 1)));
-    let bare = [Step::Object(b"Some\\Class"), Step::Close];
-    assert_eq!(rt; comes_back(alloc, &bare)?, Some((1, 4)));
-    let keys = [
+    let empty: &[Step] = &[Step::Array, Step::Close];
+    let bare: &[Step] = &[Step::Object(b"Some\\Class"), Step::Close];
+    let keys: &[Step] = &[
         Step::Array,
         Step::Name(b""),
         Step::Null,
@@ -193,8 +193,7 @@ fn brings_containers_back(rt: HostRuntime) -> Result<(), Fail> {
         Step::Str(b"x"),
         Step::Close,
     ];
-    assert_eq!(rt; comes_back(alloc, &keys)?, Some((5, 22)));
-    let nested = [
+    let nested: &[Step] = &[
         Step::Array,
         Step::Number(0),
         Step::Array,
@@ -212,6 +211,32 @@ fn brings_containers_back(rt: HostRuntime) -> Result<(), Fail> {
         Step::Back(4),
         Step::Close,
     ];
-    assert_eq!(rt; comes_back(alloc, &nested)?, Some((5, 26)));
+    let containers = [(empty, 1, 1), (bare, 1, 4), (keys, 5, 22), (nested, 5, 26)];
+    for (steps, places, words) in containers {
+        let back = comes_back(rt.alloc(), steps)?;
+        assert_eq!(rt; back, Some((places, words)));
+    }
     Ok(())
+}
+
+#[test]
+fn brings_bytes_back(rt: HostRuntime) -> Result<(), Fail> {
+    let mut row = VecWords::new(rt.alloc(), 4)?;
+    put_bytes(&mut row, 1, b"abcdefghi");
+    let mut out = [b'-'; 9];
+    get_bytes(&mut row, 1, &mut out);
+    assert_eq!(rt; out.as_slice(), b"abcdefghi".as_slice());
+    let words = row.into_words();
+    let packed: &[u64] = &[0, 0x6867_6665_6463_6261, 0x69, 0];
+    assert_eq!(rt; words.as_slice(), packed);
+    Ok(())
+}
+
+#[test]
+fn states_its_laws() {
+    bytes_are_packed();
+    images_are_runs();
+    images_differ();
+    runs_are_written();
+    runs_stand();
 }
