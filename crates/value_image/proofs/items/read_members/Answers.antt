@@ -2,6 +2,7 @@ use Rattle.std.proofs.Common.{◌+◌, List, [], ◌∷◌, ◌++◌, arith, ap�
 use Rattle.php_graph.specs.declared.key.Key.{Key}
 use Rattle.php_graph.specs.declared.child.Child.{Child}
 use Rattle.php_graph.specs.Size.{key_cells}
+use Rattle.std.proofs.lemmas.Grind.{common_steps}
 use Rattle.value_image.proofs.ItemRuns.{take_more-get, cells-more}
 use Rattle.value_image.proofs.Parts.{members-next}
 use Rattle.value_image.proofs.items.read_members.Goals as goal
@@ -23,3 +24,6 @@ loop-i-preserved g c = record {
       );
   kept = record { words = c.in_ok-key.ensures.kept.words ∙ c.loop-i.invariant.kept.words; aside = c.in_ok-key.ensures.kept.aside ∙ c.loop-i.invariant.kept.aside; rest = c.in_ok-key.ensures.kept.rest ∙ c.loop-i.invariant.kept.rest };
 }
+
+pub returns-clause-members : goal.returns-clause-members
+returns-clause-members g c = grind (arith, common_steps)

@@ -1,6 +1,7 @@
 use Rattle.std.proofs.Common.{◌+◌, List, [], ◌∷◌, ◌++◌, length, ℕ, arith, ap₂, sym, ◌∙◌}
 use Rattle.php_graph.specs.declared.child.Child.{Child}
 use Rattle.seg_words.specs.Layout.{words_in}
+use Rattle.std.proofs.lemmas.Grind.{common_steps}
 use Rattle.value_image.proofs.ItemRuns.{take_more-get, cells-more}
 use Rattle.value_image.proofs.Parts.{properties-next}
 use Rattle.value_image.proofs.items.read_properties.Goals as goal
@@ -22,3 +23,6 @@ loop-i-preserved g c = record {
       );
   kept = record { words = c.in_ok-name.ensures.kept.words ∙ c.loop-i.invariant.kept.words; aside = c.in_ok-name.ensures.kept.aside ∙ c.loop-i.invariant.kept.aside; rest = c.in_ok-name.ensures.kept.rest ∙ c.loop-i.invariant.kept.rest };
 }
+
+pub returns-clause-properties : goal.returns-clause-properties
+returns-clause-properties g c = grind (arith, common_steps)

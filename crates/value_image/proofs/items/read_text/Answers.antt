@@ -1,4 +1,5 @@
 use Rattle.std.proofs.Common.{ℕ, ◌+◌, ap, ◌∙◌, arith}
+use Rattle.std.proofs.lemmas.Grind.{common_steps}
 use Rattle.value_image.proofs.Parts.{text-inside, text-told, text-bytes, text-end}
 use Rattle.value_image.proofs.items.read_text.Goals as goal
 
@@ -16,3 +17,12 @@ overflow_add-result-2 g c =
 pub returns-clause-string : goal.returns-clause-string
 returns-clause-string g c = λ bytes h e.
     (c.in_ok-bytes.ensures.bytes ∙ text-bytes _ _ _ _ bytes h e, ap (λ (n : ℕ). c.args.at + 1 + n) c.words_in.ensures ∙ text-end _ _ bytes e)
+
+pub overflow_cast-len : goal.overflow_cast-len
+overflow_cast-len g c = grind (arith, common_steps)
+
+pub overflow_add-at : goal.overflow_add-at
+overflow_add-at g c = grind (arith, common_steps)
+
+pub overflow_add-result : goal.overflow_add-result
+overflow_add-result g c = grind (arith, common_steps)
