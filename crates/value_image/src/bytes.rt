@@ -29,8 +29,8 @@ pub fn put_bytes<S: Segment>(seg: &mut S, at: u32, bytes: &[u8])
     }
 }
 
-/// The word of the bytes behind all whole words. Where there is a whole word, the last eight bytes
-/// are read at once and those before shifted out, which is quicker than to gather so few bytes.
+// The word of the bytes behind all whole words. Where there is a whole word, the last eight bytes
+// are read at once and those before shifted out, which is quicker than to gather so few bytes.
 fn last_word(bytes: &[u8]) -> u64
     requires { 0 < length bytes.now % 8 }
     ensures { result ≡ word_at bytes.now (length bytes.now / 8) }
