@@ -15,6 +15,3 @@ mod writing;
 pub use head::{ATIME, CTIME, DTIME, HITS, Head, MTIME, NEXT, NUMBER, TTL};
 pub use laws::{leaving_laws, place_laws, standing_laws, window_laws};
 pub use slots::EntrySlots;
-
-#[cfg(test)]
-mod tests;
