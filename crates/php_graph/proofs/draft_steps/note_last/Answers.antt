@@ -4,8 +4,8 @@ use Rattle.php_graph.specs.Building.{fault_in, IsAnswer}
 use Rattle.php_graph.specs.Drafted.{places_of}
 use Rattle.php_graph.proofs.DraftLemmas.{get_or-place}
 use Rattle.php_graph.proofs.DraftKnown.{IsLast, last_is, last_answer, last_places, last_ok, last_err}
-use Rattle.php_graph.proofs.steps.note_last.Goals as goal
-use Rattle.php_graph.proofs.steps.note_last.Goals.{After-index_mut-container, After-note_key}
+use Rattle.php_graph.proofs.draft_steps.note_last.Goals as goal
+use Rattle.php_graph.proofs.draft_steps.note_last.Goals.{After-index_mut-container, After-note_key}
 
 number : (c : After-index_mut-container) → c.len-last.result ≡ length c.args.containers.now.items
 number c = omega (arith, c.len-last.ensures, c.args.containers.now.ok.0)

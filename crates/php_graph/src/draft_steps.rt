@@ -16,7 +16,7 @@ use crate::kind::Kind;
 use crate::numbers::int_of_text;
 use std::alloc::{AllocError, Global};
 
-/// Puts a value at the end, where there is room for it.
+// Puts a value at the end, where there is room for it.
 pub(crate) fn put<T: Drop>(items: &mut Vec<T>, value: T)
     requires { vec_len items.old < vec_capacity items.old }
     ensures { items.new.items ≡ items.old.items ++ value ∷ [] }
@@ -26,7 +26,7 @@ pub(crate) fn put<T: Drop>(items: &mut Vec<T>, value: T)
     }
 }
 
-/// Notes a container that opens at this place, where there is room for it.
+// Notes a container that opens at this place, where there is room for it.
 pub(crate) fn open_container(containers: &mut Vec<Container>, place: u32, opens: bool)
     requires { vec_len containers.old < vec_capacity containers.old }
     ensures { Opens opens place containers.old.items containers.new.items }
@@ -36,7 +36,7 @@ pub(crate) fn open_container(containers: &mut Vec<Container>, place: u32, opens:
     }
 }
 
-/// Gives the innermost open container this member, under the key that waits.
+// Gives the innermost open container this member, under the key that waits.
 pub(crate) fn attach(
     places: &mut Vec<Kind>,
     containers: &[Container],
@@ -44,7 +44,8 @@ pub(crate) fn attach(
     child: Child,
 ) -> Result<(), AllocError>
     requires { CanAttach places.old.items (places_of containers.now) key.old }
-    ensures ok { OnOk result (places.new.items ≡ attached places.old.items (places_of containers.now) key.old child) }
+    ensures ok { OnOk result (places.new.items
+        ≡ attached places.old.items (places_of containers.now) key.old child) }
     ensures used { OnOk result (key.new ≡ None) }
     ensures err { OnErr result ((places.new.items ≡ places.old.items) × (key.new ≡ key.old)) }
 {
@@ -66,7 +67,7 @@ pub(crate) fn attach(
     }
 }
 
-/// Gives a value the next place, as a member of the innermost open container.
+// Gives a value the next place, as a member of the innermost open container.
 pub(crate) fn push_place(
     places: &mut Vec<Kind>,
     containers: &[Container],
@@ -75,7 +76,9 @@ pub(crate) fn push_place(
 ) -> Result<(), AllocError>
     requires can { CanAttach places.old.items (places_of containers.now) key.old }
     requires small { length places.old.items + 1 < 2 ^ 32 }
-    ensures ok { OnOk result (places.new.items ≡ attached places.old.items (places_of containers.now) key.old (Own (length places.old.items + 1)) ++ kind ∷ []) }
+    ensures ok { OnOk result (places.new.items
+        ≡ attached places.old.items (places_of containers.now) key.old
+        (Own (length places.old.items + 1)) ++ kind ∷ []) }
     ensures used { OnOk result (key.new ≡ None) }
     ensures err { OnErr result ((places.new.items ≡ places.old.items) × (key.new ≡ key.old)) }
 {
@@ -90,7 +93,7 @@ pub(crate) fn push_place(
     }
 }
 
-/// Notes a key of the innermost open container, unless it may not stand there.
+// Notes a key of the innermost open container, unless it may not stand there.
 pub(crate) fn note_last(
     alloc: Global,
     places: &[Kind],
@@ -98,9 +101,11 @@ pub(crate) fn note_last(
     key: &Key,
 ) -> Result<(), BuildFault>
     requires known { KnowsAll places.now (reverse containers.old.items) None }
-    requires opened { AllByRecursion (λ p. is_open_at places.now p ≡ true) (places_of containers.old.items) }
+    requires opened { AllByRecursion (λ p. is_open_at places.now p ≡ true)
+        (places_of containers.old.items) }
     ensures fits { FitsKey key.now }
-    ensures answer { IsAnswer (innermost_fault places.now (places_of containers.old.items) key.now) result }
+    ensures answer { IsAnswer
+        (innermost_fault places.now (places_of containers.old.items) key.now) result }
     ensures places { places_of containers.new.items ≡ places_of containers.old.items }
     ensures ok { OnOk result (KnowsAll places.now (reverse containers.new.items) (Some key.now)) }
     ensures err { OnErr result (KnowsAll places.now (reverse containers.new.items) None) }
@@ -115,7 +120,7 @@ pub(crate) fn note_last(
     note_key(alloc, kind, container, key)
 }
 
-/// Notes a key of an open container, unless it may not stand there.
+// Notes a key of an open container, unless it may not stand there.
 fn note_key(
     alloc: Global,
     kind: &Kind,
@@ -125,8 +130,10 @@ fn note_key(
     requires { KnowsKeys container.old.highest container.old.seen (keys_of kind.now) }
     ensures answer { IsAnswer (fault_in kind.now key.now) result }
     ensures place { container.new.place ≡ container.old.place }
-    ensures ok { OnOk result (KnowsKeys container.new.highest container.new.seen (keys_of kind.now ++ key.now ∷ [])) }
-    ensures err { OnErr result (KnowsKeys container.new.highest container.new.seen (keys_of kind.now)) }
+    ensures ok { OnOk result (KnowsKeys container.new.highest container.new.seen
+        (keys_of kind.now ++ key.now ∷ [])) }
+    ensures err { OnErr result (KnowsKeys container.new.highest container.new.seen
+        (keys_of kind.now)) }
 {
     if kind.is_array() && !is_array_key(key) {
         return Err(BuildFault::IntegerText);
@@ -134,7 +141,7 @@ fn note_key(
     container.note(alloc, kind, key)
 }
 
-/// Whether an array may have this key.
+// Whether an array may have this key.
 fn is_array_key(key: &Key) -> bool
     ensures { result ≡ is_array_key key.now }
 {

@@ -4,7 +4,7 @@ use Rattle.php_graph.specs.declared.child.Child.TheVariants.{Own}
 use Rattle.php_graph.specs.Building.{attached}
 use Rattle.php_graph.specs.Drafted.{places_of}
 use Rattle.php_graph.proofs.DraftKept.{attached-push}
-use Rattle.php_graph.proofs.steps.push_place.Goals as goal
+use Rattle.php_graph.proofs.draft_steps.push_place.Goals as goal
 
 pub returns-in-Ok-clause-ok : goal.returns-in-Ok-clause-ok
 returns-in-Ok-clause-ok c =

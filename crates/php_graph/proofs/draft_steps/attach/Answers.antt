@@ -6,8 +6,8 @@ use Rattle.php_graph.specs.Building.{with_member, attached}
 use Rattle.php_graph.specs.Drafted.{CanTake, CanAttach, places_of}
 use Rattle.php_graph.proofs.DraftLemmas.{place_is, get_or-place}
 use Rattle.php_graph.proofs.DraftKept.{can_take, attached_last}
-use Rattle.php_graph.proofs.steps.attach.Goals as goal
-use Rattle.php_graph.proofs.steps.attach.Goals.{In-Some-take, After-index_mut-kind}
+use Rattle.php_graph.proofs.draft_steps.attach.Goals as goal
+use Rattle.php_graph.proofs.draft_steps.attach.Goals.{In-Some-take, After-index_mut-kind}
 
 key_is : (c : In-Some-take) → c.args.key.now ≡ Some c.in-Some-take.name
 key_is c = sym c.take.ensures.value ∙ c.in-Some-take.is
