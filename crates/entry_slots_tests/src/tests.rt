@@ -8,7 +8,7 @@ ghost use Rattle.entry_slots.specs.Entries.{no_entries, chain_of, listed, with_t
 ghost use Rattle.entry_slots.specs.Standing.{Stand, entries};
 
 use apcu_model::Conf;
-use entry_slots::{EntrySlots, Head, place_laws, standing_laws};
+use entry_slots::{EntrySlots, Head, leaving_laws, place_laws, standing_laws};
 use php_graph::{Builder, Graph, Item, Kind, block_words};
 use seg_words::{Segment, VecWords, WordsIn};
 use std::alloc::Global;
@@ -364,6 +364,7 @@ fn drop_slot<S: Segment>(slots: &mut EntrySlots, seg: &mut S, slot: u32, t: u64)
     ensures stand { Stand S.WordsIn slots.new seg.new }
     ensures beside { KeptBeside S.WordsIn seg.old seg.new }
 {
+    leaving_laws();
     place_laws();
     standing_laws();
     let mut at = slots.first_in(seg, slot);
