@@ -58,9 +58,13 @@ pub fn leaving_laws()
         → length (chain_of (unlinked_at at s) slot) < length (chain_of s slot) }
 {}
 
-/// Which places rows have: the one that was found by its key, the first one, the next one, each of a chain,
-/// and the one that was unlinked.
+/// Which places rows have: those of the rows of a list and no others. So the one that was found by its key,
+/// the first one, the next one, each of a chain, and the one that was unlinked.
 pub fn place_laws()
+    ensures member { (rows : List Row) (row : Row) → Contains rows row
+        → has_place row.place rows ≡ true }
+    ensures some { (rows : List Row) (at : ℕ) → has_place at rows ≡ true
+        → (row : Row) × Contains rows row × (row.place ≡ at) }
     ensures found { (key : List ℕ) (s : Entries) (at : ℕ)
         → Some at ≡ place_of key s → has_place at s.rows ≡ true }
     ensures first { (rows : List Row) (at : ℕ)
