@@ -1,7 +1,7 @@
 use Rattle.std.proofs.Common.{◌≡◌, sym, ◌∙◌, subst, false}
 use Rattle.std.proofs.lemmas.Bool.{false≢true}
 use Rattle.seg_words.specs.Windows.{Aside, is_named}
-use Rattle.entry_slots.proofs.whole.end_chains.Goals as goal
+use Rattle.entry_slots.proofs.all_rows.end_chains.Goals as goal
 
 pub store-requires-clause-apart : goal.store-requires-clause-apart
 store-requires-clause-apart g c = λ at named.

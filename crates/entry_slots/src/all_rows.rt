@@ -1,4 +1,4 @@
-//! All slots at once: their shape, and caches without rows.
+//! All rows at once: the shape of the slots, how many rows there are, and caches without rows.
 
 ghost use Rattle.std.specs.Prelude.{◌≡◌, ℕ, ◌<◌, ◌≤◌, true, false, [], length, slice_index};
 ghost use Rattle.seg_words.specs.Kept.{KeptBeside};
