@@ -76,7 +76,7 @@ not_among (p ∷ ps) w (suc k) q h e = not_among ps w k q (grind (arith, nat_tes
 
 -- a new worker
 fits_newcomer : (b : Book) (p : Known) → Fits b p → Fits (with_newcomer b) p
-fits_newcomer b p f = record { made = omega (arith, f.made); seen = f.seen; own = f.own; budget = f.budget }
+fits_newcomer b p f = record { made = omega (arith, f.made); seen = f.seen; own = f.own; saw_own = f.saw_own; budget = f.budget }
 
 made_bounded : (b : Book) → BookInOrder b → (w : ℕ) → w ≤ b.made → Dec (suc w ≤ b.made) → length (events_of w b.history) ≤ slice_index b.budgets w
 made_bounded b ok w h (yes d) = ok.bounded w (omega arith)
@@ -107,7 +107,7 @@ closed_unmade b (p ∷ ps) f =
 
 pub makes_new : (b : Book) (place : ℕ → ℕ) (n : ℕ) → BookInOrder b → PassInOrder (with_newcomer b) (moved place b.made n) n (newcomer b)
 makes_new b place n ok = record {
-  fits = record { made = omega arith; seen = (b.history, refl); own = ok.none b.made (omega arith); budget = omega arith };
+  fits = record { made = omega arith; seen = (b.history, refl); own = ok.none b.made (omega arith); saw_own = refl; budget = omega arith };
   placed = moved_here place b.made n;
   away = hand_unmade b ok b.hand refl;
   open_yet = closed_unmade b b.closed ok.closed;
@@ -128,14 +128,14 @@ takes_book b place k p ok idle = record {
   count = ok.count;
   none = ok.none;
   bounded = ok.bounded;
-  hand = λ q e. let same : p ≡ q = cc e in subst (Fits (with_hand b (Some p))) same (record { made = idle.fits.made; seen = idle.fits.seen; own = idle.fits.own; budget = idle.fits.budget });
+  hand = λ q e. let same : p ≡ q = cc e in subst (Fits (with_hand b (Some p))) same (record { made = idle.fits.made; seen = idle.fits.seen; own = idle.fits.own; saw_own = idle.fits.saw_own; budget = idle.fits.budget });
   away = λ q e. let same : p ≡ q = cc e in subst (λ (r : Known). is_among r.worker b.closed ≡ false) same idle.open_yet;
-  closed = λ j q e. let f = ok.closed j q e in record { made = f.made; seen = f.seen; own = f.own; budget = f.budget };
+  closed = λ j q e. let f = ok.closed j q e in record { made = f.made; seen = f.seen; own = f.own; saw_own = f.saw_own; budget = f.budget };
 }
 
 pub takes_old : (b : Book) (place : ℕ → ℕ) (k j : ℕ) (p q : Known) → ¬ (j ≡ k) → PassInOrder b place k p → PassInOrder b place j q → PassInOrder (with_hand b (Some p)) place j q
 takes_old b place k j p q apart ok idle = record {
-  fits = record { made = idle.fits.made; seen = idle.fits.seen; own = idle.fits.own; budget = idle.fits.budget };
+  fits = record { made = idle.fits.made; seen = idle.fits.seen; own = idle.fits.own; saw_own = idle.fits.saw_own; budget = idle.fits.budget };
   placed = idle.placed;
   away = unlike p.worker q.worker (λ h. apart (sym idle.placed ∙ (ap place (sym h) ∙ ok.placed)));
   open_yet = idle.open_yet;
@@ -149,14 +149,14 @@ closes_book b place k p ok nobody idle = record {
   hand = λ q e. absurd (cc (e, nobody));
   away = λ q e. absurd (cc (e, nobody));
   closed = elim [
-    | zero ↦ λ q e. let same : p ≡ q = some-injective p q e in subst (Fits (with_closed b p)) same (record { made = idle.fits.made; seen = idle.fits.seen; own = idle.fits.own; budget = idle.fits.budget })
-    | suc j ↦ λ q e. let f = ok.closed j q e in record { made = f.made; seen = f.seen; own = f.own; budget = f.budget }
+    | zero ↦ λ q e. let same : p ≡ q = some-injective p q e in subst (Fits (with_closed b p)) same (record { made = idle.fits.made; seen = idle.fits.seen; own = idle.fits.own; saw_own = idle.fits.saw_own; budget = idle.fits.budget })
+    | suc j ↦ λ q e. let f = ok.closed j q e in record { made = f.made; seen = f.seen; own = f.own; saw_own = f.saw_own; budget = f.budget }
   ];
 }
 
 pub closes_old : (b : Book) (place : ℕ → ℕ) (k j : ℕ) (p q : Known) → ¬ (j ≡ k) → PassInOrder b place k p → PassInOrder b place j q → PassInOrder (with_closed b p) place j q
 closes_old b place k j p q apart ok idle = record {
-  fits = record { made = idle.fits.made; seen = idle.fits.seen; own = idle.fits.own; budget = idle.fits.budget };
+  fits = record { made = idle.fits.made; seen = idle.fits.seen; own = idle.fits.own; saw_own = idle.fits.saw_own; budget = idle.fits.budget };
   placed = idle.placed;
   away = idle.away;
   open_yet = rw (unlike p.worker q.worker (λ h. apart (sym idle.placed ∙ (ap place (sym h) ∙ ok.placed)))) idle.open_yet;
@@ -167,7 +167,7 @@ other_events : (w : ℕ) (es : List Event) (e : Event) → e.worker ≢ w → ev
 other_events w es e h = events_after w es e false (unlike e.worker w h)
 
 gives_fits : (b : Book) (e : Event) (q : Known) → q.worker ≢ e.worker → Fits b q → Fits (with_event b e) q
-gives_fits b e q apart f = record { made = f.made; seen = prefix_more q.seen b.history e f.seen; own = other_events q.worker b.history e (λ h. apart (sym h)) ∙ f.own; budget = f.budget }
+gives_fits b e q apart f = record { made = f.made; seen = prefix_more q.seen b.history e f.seen; own = other_events q.worker b.history e (λ h. apart (sym h)) ∙ f.own; saw_own = f.saw_own; budget = f.budget }
 
 gives_bounded : (b : Book) (e : Event) (p : Known) → BookInOrder b → b.hand ≡ Some p → e.worker ≡ p.worker → 0 < p.left
     → (w : ℕ) → w < b.made → (t : Bool) → (e.worker == w) ≡ t → length (events_of w (b.history ++ e ∷ [])) ≤ slice_index b.budgets w
@@ -214,6 +214,7 @@ gives_new b e p place n ok inhand same some_left =
         made = f.made;
         seen = prefix_self (b.history ++ e ∷ []);
         own = events_after p.worker b.history e true (alike e.worker p.worker same) ∙ ap (λ l. l ++ e ∷ []) f.own;
+        saw_own = events_after p.worker b.history e true (alike e.worker p.worker same) ∙ ap (λ l. l ++ e ∷ []) f.own;
         budget = omega (arith, length-append p.own (e ∷ []), f.budget);
       };
       placed = moved_here place p.worker n;
@@ -223,7 +224,7 @@ gives_new b e p place n ok inhand same some_left =
 
 -- the pass goes back as it was
 back_fits : (b : Book) (q : Known) → Fits b q → Fits (with_hand b None) q
-back_fits b q f = record { made = f.made; seen = f.seen; own = f.own; budget = f.budget }
+back_fits b q f = record { made = f.made; seen = f.seen; own = f.own; saw_own = f.saw_own; budget = f.budget }
 
 pub back_book : (b : Book) → BookInOrder b → BookInOrder (with_hand b None)
 back_book b ok = record {
@@ -356,7 +357,7 @@ seen_new b p place n ok inhand =
     let q : Known = record { worker = p.worker; left = p.left; seen = b.history; own = p.own } in
     let is : q ≡ seen_all b = ap (λ (x : Known). let r : Known = record { worker = x.worker; left = x.left; seen = b.history; own = x.own } in r) (sym (ap in_hand inhand)) in
     subst (PassInOrder (with_hand b None) (moved place p.worker n) n) is (record {
-      fits = record { made = f.made; seen = prefix_self b.history; own = f.own; budget = f.budget };
+      fits = record { made = f.made; seen = prefix_self b.history; own = f.own; saw_own = f.own; budget = f.budget };
       placed = moved_here place p.worker n;
       away = refl;
       open_yet = ok.away p inhand;

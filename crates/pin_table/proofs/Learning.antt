@@ -6,7 +6,7 @@ use mathlib.Core.List.{IsPrefix}
 use lib.ListN.{get_elem?}
 use Rattle.pin_table.specs.declared.views.Known.{Known}
 use Rattle.pin_table.specs.declared.views.Desk.{Desk}
-use Rattle.pin_table.specs.Events.{fetched_last}
+use Rattle.pin_table.specs.Events.{events_of, fetched_last}
 use Rattle.pin_table.specs.Views.{taken, rested, with_hand}
 use Rattle.pin_table.specs.Order.{DeskInOrder}
 use Rattle.pin_table.proofs.Books.{fetched_own}
@@ -32,3 +32,9 @@ left_alone d p c1 c2 before after nobody ended =
 
 pub was_seen : (d : Desk) (p : Known) (c : List ℕ) → DeskInOrder (taken d p) c → IsPrefix p.seen d.book.history
 was_seen d p c after = (after.book.hand p refl).seen
+
+pub was_own : (d : Desk) (p : Known) (c : List ℕ) → DeskInOrder (taken d p) c → events_of p.worker d.book.history ≡ p.own
+was_own d p c after = (after.book.hand p refl).own
+
+pub saw_own : (d : Desk) (p : Known) (c : List ℕ) → DeskInOrder (taken d p) c → events_of p.worker p.seen ≡ p.own
+saw_own d p c after = (after.book.hand p refl).saw_own

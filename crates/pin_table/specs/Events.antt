@@ -24,4 +24,5 @@ events_of w (e ∷ es) = cond (e.worker == w) (e ∷ events_of w es) (events_of 
 -- whether the last event of the worker w is a fetch; where it has none, the answer is `before`
 abbrev pub fetched_last : ℕ → List Event → Bool → Bool
 fetched_last w [] before = before
-fetched_last w (e ∷ es) before = fetched_last w es (cond (e.worker == w) (is_fetch e.request) before)
+fetched_last w (e ∷ es) before =
+    fetched_last w es (cond (e.worker == w) (is_fetch e.request) before)

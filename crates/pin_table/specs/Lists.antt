@@ -9,7 +9,13 @@ use Rattle.pin_table.specs.Values.{Bearer}
 
 -- the book after the first n workers were made, before any event
 abbrev pub fresh_book : List ℕ → ℕ → Book
-fresh_book budgets n = record { history = []; hand = None; made = n; budgets = budgets; closed = [] }
+fresh_book budgets n = record {
+  history = [];
+  hand = None;
+  made = n;
+  budgets = budgets;
+  closed = [];
+}
 
 -- the desk over these words when all workers were made: no window is open
 abbrev pub fresh_desk : List ℕ → List ℕ → Desk

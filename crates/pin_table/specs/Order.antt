@@ -17,11 +17,12 @@ use Rattle.pin_table.specs.Pins.{pins_on, IsBlock, AreApart, content_of, refused
 use Rattle.pin_table.specs.Views.{is_in_hand, is_among, named_blocks, carries, copied_blocks}
 
 -- What a worker knows fits the writer's book: it was made, it has seen a beginning of the history, its own
--- events are all of its events in the history, and these with those left are its budget.
+-- events are all of its events there and in the whole history, and with those left they are its budget.
 pub record Fits (b : Book) (p : Known) : Type 0 where
   pub made : p.worker < b.made
   pub seen : IsPrefix p.seen b.history
   pub own : events_of p.worker b.history ≡ p.own
+  pub saw_own : events_of p.worker p.seen ≡ p.own
   pub budget : length p.own + p.left ≡ slice_index b.budgets p.worker
 
 -- The book is in order: no event of a worker that was not made, none beyond a budget; the pass in the hand
@@ -52,15 +53,20 @@ pub record DeskInOrder (d : Desk) (copying : List ℕ) : Type 0 where
   pub pins : (v at : ℕ) → get_elem? copying v ≡ some at → 0 < at → get_elem? d.windows v ≡ some at
   -- a window is open from a fetch until its worker comes into the hand or is taken in
   pub fetched : (v at : ℕ) → get_elem? d.windows v ≡ some at → 0 < at
-      → (is_in_hand v d.book.hand ≡ false) × (is_among v d.book.closed ≡ false) × (fetched_last v d.book.history false ≡ true)
+      → (is_in_hand v d.book.hand ≡ false) × (is_among v d.book.closed ≡ false)
+      × (fetched_last v d.book.history false ≡ true)
   pub stand : (j at : ℕ) → get_elem? (named_blocks d) j ≡ some at → 0 < at → IsBlock d.words at
-  pub apart : (j k a b : ℕ) → get_elem? (named_blocks d) j ≡ some a → get_elem? (named_blocks d) k ≡ some b → 0 < a → 0 < b → AreApart d.words a b
+  pub apart : (j k a b : ℕ) → get_elem? (named_blocks d) j ≡ some a → get_elem? (named_blocks d) k ≡ some b
+      → 0 < a → 0 < b → AreApart d.words a b
   -- no window names a block at which this event found nobody
-  pub unread : (v at : ℕ) → get_elem? d.windows v ≡ some at → 0 < at → has at (freed_in d.readings) ≡ false
+  pub unread : (v at : ℕ) → get_elem? d.windows v ≡ some at → 0 < at
+      → has at (freed_in d.readings) ≡ false
   -- the workers met have their windows on blocks at which this event found somebody
-  pub masked : (v : ℕ) → bit_at d.mask v ≡ 1 → (at : ℕ) × (get_elem? d.windows v ≡ some at) × (0 < at) × (has at (refused_in d.readings) ≡ true)
+  pub masked : (v : ℕ) → bit_at d.mask v ≡ 1
+      → (at : ℕ) × (get_elem? d.windows v ≡ some at) × (0 < at) × (has at (refused_in d.readings) ≡ true)
   -- since the event began windows have only closed
-  pub shrunk : (p : Known) → d.book.hand ≡ Some p → (v at : ℕ) → get_elem? d.windows v ≡ some at → 0 < at → get_elem? d.begun v ≡ some at
+  pub shrunk : (p : Known) → d.book.hand ≡ Some p
+      → (v at : ℕ) → get_elem? d.windows v ≡ some at → 0 < at → get_elem? d.begun v ≡ some at
 
 -- what a worker knows that copies is in order
 pub record ReaderInOrder (d : Desk) (copying : List ℕ) (c : Reader) : Type 0 where
@@ -71,7 +77,8 @@ pub record ReaderInOrder (d : Desk) (copying : List ℕ) (c : Reader) : Type 0 w
 
 -- each worker that was made, is not in the hand and was not taken in has its pass at its place
 abbrev pub AllPlaced : Book → (ℕ → ℕ) → List View → Type 0
-AllPlaced b place views = (w : ℕ) → w < b.made → is_in_hand w b.hand ≡ false → is_among w b.closed ≡ false
+AllPlaced b place views = (w : ℕ) → w < b.made → is_in_hand w b.hand ≡ false
+    → is_among w b.closed ≡ false
     → (v : View) × (get_elem? views (place w) ≡ some v) × (carries w v ≡ true)
 
 -- What each step carries from one state of the table to the next, for some desk of the writer, some place
@@ -83,10 +90,13 @@ pub record Carried (words : List ℕ) (views : List View) : Type 0 where
   pub copying : List ℕ
   pub at : get_elem? views 0 ≡ some (Writer desk)
   pub count : length words ≡ length desk.words
-  pub each_word : (i : ℕ) → slice_index words i ≡ slice_index desk.words i + pins_on i (desk.pinning ∷ copying)
+  pub each_word : (i : ℕ)
+      → slice_index words i ≡ slice_index desk.words i + pins_on i (desk.pinning ∷ copying)
   pub desk_ok : DeskInOrder desk copying
-  pub idle : (k : ℕ) (p : Known) → get_elem? views k ≡ some (Idle p) → PassInOrder desk.book place k p × (get_elem? copying p.worker ≡ some 0)
-  pub copy : (k : ℕ) (c : Reader) → get_elem? views k ≡ some (Copying c) → PassInOrder desk.book place k c.known × ReaderInOrder desk copying c
+  pub idle : (k : ℕ) (p : Known) → get_elem? views k ≡ some (Idle p)
+      → PassInOrder desk.book place k p × (get_elem? copying p.worker ≡ some 0)
+  pub copy : (k : ℕ) (c : Reader) → get_elem? views k ≡ some (Copying c)
+      → PassInOrder desk.book place k c.known × ReaderInOrder desk copying c
   pub placed : AllPlaced desk.book place views
   -- who copies, by the workers and by the views
   pub copies : (i : ℕ) → pins_on i copying ≡ pins_on i (copied_blocks views)

@@ -15,7 +15,8 @@ pins_on i (at ∷ ats) = cond (is_count i at) 1 0 + pins_on i ats
 
 -- the words of the image in the block at `at`
 abbrev pub content_of : List ℕ → ℕ → List ℕ
-content_of words at = take (slice_index words (at + IMAGE_LENGTH)) (drop (image_place words at) words)
+content_of words at =
+    take (slice_index words (at + IMAGE_LENGTH)) (drop (image_place words at) words)
 
 -- a block stands at `at` and lies inside these words, and nobody copies from it so far
 pub record IsBlock (words : List ℕ) (at : ℕ) : Type 0 where

@@ -17,15 +17,20 @@ module _ {S : Type 0} where
 
   -- the writer's load of a word that is told
   abbrev pub Reads : Step S → Me S View → ℕ → Me S View → Type 0
-  Reads s v n w = (w ≡ v) × (IsTold (named_blocks (desk_of v.0)) s.word → slice_index (desk_of v.0).words s.word ≡ n)
+  Reads s v n w = (w ≡ v)
+      × (IsTold (named_blocks (desk_of v.0)) s.word → slice_index (desk_of v.0).words s.word ≡ n)
 
+  -- the writer's store of a word
   abbrev pub Writes : Step S → Me S View → ℕ → Me S View → Type 0
-  Writes s v n w = w ≡ (Writer (with_words (desk_of v.0) (slice_set (desk_of v.0).words s.word s.first)), v.1)
+  Writes s v n w = w
+      ≡ (Writer (with_words (desk_of v.0) (slice_set (desk_of v.0).words s.word s.first)), v.1)
 
   -- the writer's load of a pin count
   abbrev pub Probes : Step S → Me S View → ℕ → Me S View → Type 0
   Probes s v n w = (w ≡ (Writer (probed (desk_of v.0) (s.word - PIN_COUNT) n), v.1))
-      × MatchBool (n == 0) (has (s.word - PIN_COUNT) (held_by (desk_of v.0).mask (desk_of v.0).windows) ≡ false) (is_named (desk_of v.0).windows (s.word - PIN_COUNT) ≡ true)
+      × MatchBool (n == 0)
+      (has (s.word - PIN_COUNT) (held_by (desk_of v.0).mask (desk_of v.0).windows) ≡ false)
+      (is_named (desk_of v.0).windows (s.word - PIN_COUNT) ≡ true)
 
   -- one more pin
   abbrev pub Pins : Step S → Me S View → ℕ → Me S View → Type 0
@@ -33,7 +38,8 @@ module _ {S : Type 0} where
 
   -- a copying pass loads
   abbrev pub Copies : Step S → Me S View → ℕ → Me S View → Type 0
-  Copies s v n w = (w ≡ v) × (slice_index (reader_of v.0).content (s.word - (reader_of v.0).first) ≡ n)
+  Copies s v n w = (w ≡ v)
+      × (slice_index (reader_of v.0).content (s.word - (reader_of v.0).first) ≡ n)
 
   -- a copying pass releases its block
   abbrev pub Releases : Step S → Me S View → ℕ → Me S View → Type 0

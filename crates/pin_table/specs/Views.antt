@@ -17,7 +17,15 @@ abbrev pub nobody : Known
 nobody = record { worker = 0; left = 0; seen = []; own = [] }
 
 abbrev pub blank : Desk
-blank = record { words = []; book = record { history = []; hand = None; made = 0; budgets = []; closed = [] }; windows = []; begun = []; mask = 0; readings = []; pinning = 0 }
+blank = record {
+  words = [];
+  book = record { history = []; hand = None; made = 0; budgets = []; closed = [] };
+  windows = [];
+  begun = [];
+  mask = 0;
+  readings = [];
+  pinning = 0;
+}
 
 abbrev pub desk_of : View → Desk
 desk_of (Writer d) = d
@@ -74,29 +82,63 @@ abbrev pub newcomer : Book → Known
 newcomer b = record { worker = b.made; left = slice_index b.budgets b.made; seen = []; own = [] }
 
 abbrev pub with_newcomer : Book → Book
-with_newcomer b = record { history = b.history; hand = b.hand; made = b.made + 1; budgets = b.budgets; closed = b.closed }
+with_newcomer b = record {
+  history = b.history;
+  hand = b.hand;
+  made = b.made + 1;
+  budgets = b.budgets;
+  closed = b.closed;
+}
 
 -- a pass comes into the writer's hand, or leaves it
 abbrev pub with_hand : Book → Option Known → Book
-with_hand b h = record { history = b.history; hand = h; made = b.made; budgets = b.budgets; closed = b.closed }
+with_hand b h = record {
+  history = b.history;
+  hand = h;
+  made = b.made;
+  budgets = b.budgets;
+  closed = b.closed;
+}
 
 -- the event of the worker in the hand
 abbrev pub with_event : Book → Event → Book
-with_event b e = record { history = b.history ++ e ∷ []; hand = None; made = b.made; budgets = b.budgets; closed = b.closed }
+with_event b e = record {
+  history = b.history ++ e ∷ [];
+  hand = None;
+  made = b.made;
+  budgets = b.budgets;
+  closed = b.closed;
+}
 
 -- the pass after its event: it has seen the history with the event, and has one less left
 abbrev pub after_event : Book → Event → Known
-after_event b e = record { worker = (in_hand b.hand).worker; left = (in_hand b.hand).left - 1; seen = b.history ++ e ∷ []; own = (in_hand b.hand).own ++ e ∷ [] }
+after_event b e = record {
+  worker = (in_hand b.hand).worker;
+  left = (in_hand b.hand).left - 1;
+  seen = b.history ++ e ∷ [];
+  own = (in_hand b.hand).own ++ e ∷ [];
+}
 
 -- the pass of the worker in the hand, which has seen the whole history
 abbrev pub seen_all : Book → Known
-seen_all b = record { worker = (in_hand b.hand).worker; left = (in_hand b.hand).left; seen = b.history; own = (in_hand b.hand).own }
+seen_all b = record {
+  worker = (in_hand b.hand).worker;
+  left = (in_hand b.hand).left;
+  seen = b.history;
+  own = (in_hand b.hand).own;
+}
 
 -- a pass is taken in at the end
 abbrev pub with_closed : Book → Known → Book
-with_closed b p = record { history = b.history; hand = b.hand; made = b.made; budgets = b.budgets; closed = p ∷ b.closed }
+with_closed b p = record {
+  history = b.history;
+  hand = b.hand;
+  made = b.made;
+  budgets = b.budgets;
+  closed = p ∷ b.closed;
+}
 
--- all the blocks that are named_blocks, with the one that is being pinned
+-- the blocks that are named: by a window, or as the one that is being pinned
 abbrev pub named_blocks : Desk → List ℕ
 named_blocks d = d.pinning ∷ d.windows
 
@@ -105,43 +147,120 @@ abbrev pub aside_of : Desk → Aside
 aside_of d = record { windows = d.windows; mask = d.mask; refused = refused_in d.readings }
 
 abbrev pub with_words : Desk → List ℕ → Desk
-with_words d ws = record { words = ws; book = d.book; windows = d.windows; begun = d.begun; mask = d.mask; readings = d.readings; pinning = d.pinning }
+with_words d ws = record {
+  words = ws;
+  book = d.book;
+  windows = d.windows;
+  begun = d.begun;
+  mask = d.mask;
+  readings = d.readings;
+  pinning = d.pinning;
+}
 
 abbrev pub with_book : Desk → Book → Desk
-with_book d b = record { words = d.words; book = b; windows = d.windows; begun = d.begun; mask = d.mask; readings = d.readings; pinning = d.pinning }
+with_book d b = record {
+  words = d.words;
+  book = b;
+  windows = d.windows;
+  begun = d.begun;
+  mask = d.mask;
+  readings = d.readings;
+  pinning = d.pinning;
+}
 
 -- the worker in the hand leaves it, and what its event met is forgotten
 abbrev pub rested : Desk → Book → Desk
-rested d b = record { words = d.words; book = b; windows = d.windows; begun = []; mask = 0; readings = []; pinning = d.pinning }
+rested d b = record {
+  words = d.words;
+  book = b;
+  windows = d.windows;
+  begun = [];
+  mask = 0;
+  readings = [];
+  pinning = d.pinning;
+}
 
 -- a pass comes into the hand, and its window closes
 abbrev pub taken : Desk → Known → Desk
-taken d p = record { words = d.words; book = with_hand d.book (Some p); windows = slice_set d.windows p.worker 0; begun = slice_set d.windows p.worker 0; mask = 0; readings = []; pinning = d.pinning }
+taken d p = record {
+  words = d.words;
+  book = with_hand d.book (Some p);
+  windows = slice_set d.windows p.worker 0;
+  begun = slice_set d.windows p.worker 0;
+  mask = 0;
+  readings = [];
+  pinning = d.pinning;
+}
 
 -- a load found that nobody copies the block at `at`, or that n workers do
 abbrev pub freed : Desk → ℕ → Desk
-freed d at = record { words = d.words; book = d.book; windows = closed_on at d.windows; begun = d.begun; mask = d.mask; readings = (at, 0) ∷ d.readings; pinning = d.pinning }
+freed d at = record {
+  words = d.words;
+  book = d.book;
+  windows = closed_on at d.windows;
+  begun = d.begun;
+  mask = d.mask;
+  readings = (at, 0) ∷ d.readings;
+  pinning = d.pinning;
+}
 
 abbrev pub met : Desk → ℕ → ℕ → Desk
-met d at n = record { words = d.words; book = d.book; windows = d.windows; begun = d.begun; mask = bit_or d.mask (holders d.windows at); readings = (at, n) ∷ d.readings; pinning = d.pinning }
+met d at n = record {
+  words = d.words;
+  book = d.book;
+  windows = d.windows;
+  begun = d.begun;
+  mask = bit_or d.mask (holders d.windows at);
+  readings = (at, n) ∷ d.readings;
+  pinning = d.pinning;
+}
 
 -- a load found the pin count n in the block at `at`
 abbrev pub probed : Desk → ℕ → ℕ → Desk
 probed d at n = cond (n == 0) (freed d at) (met d at n)
 
 abbrev pub pinning_at : Desk → ℕ → Desk
-pinning_at d at = record { words = d.words; book = d.book; windows = d.windows; begun = d.begun; mask = d.mask; readings = d.readings; pinning = at }
+pinning_at d at = record {
+  words = d.words;
+  book = d.book;
+  windows = d.windows;
+  begun = d.begun;
+  mask = d.mask;
+  readings = d.readings;
+  pinning = at;
+}
 
 -- the worker in the hand makes its event, and copies the pinned block from then on
 abbrev pub copied : Desk → Event → Desk
-copied d e = record { words = d.words; book = with_event d.book e; windows = slice_set d.windows (in_hand d.book.hand).worker d.pinning; begun = []; mask = 0; readings = []; pinning = 0 }
+copied d e = record {
+  words = d.words;
+  book = with_event d.book e;
+  windows = slice_set d.windows (in_hand d.book.hand).worker d.pinning;
+  begun = [];
+  mask = 0;
+  readings = [];
+  pinning = 0;
+}
 
 abbrev pub reader_after : Desk → Event → Reader
-reader_after d e = record { known = after_event d.book e; block = d.pinning; first = image_place d.words d.pinning; content = content_of d.words d.pinning }
+reader_after d e = record {
+  known = after_event d.book e;
+  block = d.pinning;
+  first = image_place d.words d.pinning;
+  content = content_of d.words d.pinning;
+}
 
 -- a pass is taken in at the end
 abbrev pub shut : Desk → Known → Desk
-shut d p = record { words = d.words; book = with_closed d.book p; windows = slice_set d.windows p.worker 0; begun = []; mask = 0; readings = []; pinning = d.pinning }
+shut d p = record {
+  words = d.words;
+  book = with_closed d.book p;
+  windows = slice_set d.windows p.worker 0;
+  begun = [];
+  mask = 0;
+  readings = [];
+  pinning = d.pinning;
+}
 
 abbrev pub on_desk : (Desk → Desk) → View → View
 on_desk f (Writer d) = Writer (f d)
@@ -162,4 +281,12 @@ abbrev pub from_book : (Book → Known) → View → View
 from_book f v = Idle (f (desk_of v).book)
 
 abbrev pub first_view : Start → View
-first_view s = Writer (record { words = s.words.items; book = record { history = []; hand = None; made = 0; budgets = s.budgets.items; closed = [] }; windows = replicate (length s.budgets.items) 0; begun = []; mask = 0; readings = []; pinning = 0 })
+first_view s = Writer (record {
+  words = s.words.items;
+  book = record { history = []; hand = None; made = 0; budgets = s.budgets.items; closed = [] };
+  windows = replicate (length s.budgets.items) 0;
+  begun = [];
+  mask = 0;
+  readings = [];
+  pinning = 0;
+})

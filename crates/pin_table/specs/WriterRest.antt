@@ -8,5 +8,16 @@ beside w = record {
   name = w.seat.ghost_name;
   worker = w.worker;
   left = w.left;
-  seat = record { table = w.seat.now.table; desk = record { words = []; book = w.seat.now.desk.book; windows = []; begun = w.seat.now.desk.begun; mask = 0; readings = []; pinning = w.seat.now.desk.pinning } };
+  seat = record {
+    table = w.seat.now.table;
+    desk = record {
+      words = [];
+      book = w.seat.now.desk.book;
+      windows = [];
+      begun = w.seat.now.desk.begun;
+      mask = 0;
+      readings = [];
+      pinning = w.seat.now.desk.pinning;
+    };
+  };
 }

@@ -5,10 +5,11 @@ use crate::rule::{CopyRead, Release};
 use crate::table::PinTable;
 use crate::views::View;
 use atomic_table::Seat;
+use seg_words::PIN_COUNT;
 use std::marker::Model;
 
 /// What a worker has that copies from a pinned block. Nothing of the block's value changes until it is
-/// released.
+/// released; one that is dropped keeps its block for good.
 ///
 /// Contracts see the table and what the worker knows: what a pass knows, the block, and the words of the
 /// value's image as they were at the pin.
@@ -82,7 +83,7 @@ impl Copying {
         table
             .table
             .shared
-            .fetch_sub::<Release>(&mut seat, block as usize + 11, 1);
+            .fetch_sub::<Release>(&mut seat, block as usize + PIN_COUNT as usize, 1);
         Pass { seat, worker, left }
     }
 }

@@ -13,7 +13,8 @@ ghost use Rattle.pin_table.specs.Rule.{Rule};
 /// a worker's own events, and to whether its last event is a fetch.
 #[tactic(auto, using(crate::proofs::Parts::rule_of, crate::proofs::Lists::named_there, crate::proofs::Lists::there_named, crate::proofs::Books::events_after, crate::proofs::Books::fetched_after))]
 pub fn rule_laws()
-    ensures carried { (words : List ℕ) (views : List View) → Carried words views → Rule words views }
+    ensures carried { (words : List ℕ) (views : List View) → Carried words views
+        → Rule words views }
     ensures named { (windows : List ℕ) (v at : ℕ) → get_elem? windows v ≡ some at → 0 < at
         → is_named windows at ≡ true }
     ensures there { (windows : List ℕ) (at : ℕ) → is_named windows at ≡ true

@@ -50,7 +50,8 @@ impl Model for EndedList {
 
     ghost Value = { Gathered };
 
-    ghost view = { λ e. record { ended = e.list.items; room = vec_capacity e.list - vec_len e.list } };
+    ghost view = { λ e.
+        record { ended = e.list.items; room = vec_capacity e.list - vec_len e.list } };
 }
 
 impl EndedList {
@@ -124,7 +125,7 @@ impl PinTable {
 
     /// Tells that the writer's history begins with what a worker has seen that has ended. Nothing changes,
     /// since its window is closed and no event is under way.
-    #[tactic(auto, using(crate::proofs::Learning::left_alone, crate::proofs::Learning::was_seen))]
+    #[tactic(auto, using(crate::proofs::Learning::left_alone, crate::proofs::Learning::was_seen, crate::proofs::Learning::was_own, crate::proofs::Learning::saw_own))]
     pub fn learn(&self, seat: &mut WriterSeat, ended: Ended) -> Ended
         requires table { seat.old.table ≡ self.now }
         requires ended { ended.table ≡ self.now }
@@ -132,6 +133,8 @@ impl PinTable {
         ensures table { seat.new.table ≡ seat.old.table }
         ensures desk { seat.new.desk ≡ rested seat.old.desk seat.old.desk.book }
         ensures seen { IsPrefix ended.known.seen seat.old.desk.book.history }
+        ensures own { events_of ended.known.worker seat.old.desk.book.history ≡ ended.known.own }
+        ensures made { events_of ended.known.worker ended.known.seen ≡ ended.known.own }
         ensures same { result ≡ ended }
     {
         let Ended { pass } = ended;
@@ -156,6 +159,8 @@ impl PinTable {
             → IsPrefix b.known.seen seat.desk.book.history }
         ensures own { (k : ℕ) (b : Bearer) → slice_get ended.ended k ≡ Some b
             → events_of b.known.worker seat.desk.book.history ≡ b.known.own }
+        ensures made { (k : ℕ) (b : Bearer) → slice_get ended.ended k ≡ Some b
+            → events_of b.known.worker b.known.seen ≡ b.known.own }
         ensures others { (w : ℕ) → is_among w (known_list ended.ended) ≡ false
             → events_of w seat.desk.book.history ≡ [] }
     {
@@ -172,7 +177,8 @@ fn gather(table: &PinTable, seat: &mut WriterSeat, mut ended: EndedList)
     ensures words { seat.new.desk.words ≡ seat.old.desk.words }
     ensures history { seat.new.desk.book.history ≡ seat.old.desk.book.history }
     ensures made { seat.new.desk.book.made ≡ seat.old.desk.book.made }
-    ensures closed { seat.new.desk.book.closed ≡ known_list ended.ended ++ seat.old.desk.book.closed }
+    ensures closed { seat.new.desk.book.closed
+        ≡ known_list ended.ended ++ seat.old.desk.book.closed }
     ensures order { (copying : List ℕ) × DeskInOrder seat.new.desk copying }
 {
     while let Some(e) = ended.pop() {

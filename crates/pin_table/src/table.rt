@@ -17,6 +17,7 @@ use crate::rule::{
 };
 use crate::views::{Start, View};
 use atomic_table::{Closed, Seat, Table};
+use seg_words::PIN_COUNT;
 use std::alloc::{AllocError, Global};
 use std::marker::Model;
 
@@ -209,7 +210,8 @@ impl PinTable {
     pub(crate) fn load(&self, seat: &mut WriterSeat, word: u32) -> u64
         requires table { seat.old.table ≡ self.now }
         requires place { word < length seat.old.desk.words }
-        ensures word { IsTold seat.old.desk.windows word → result ≡ slice_index seat.old.desk.words word }
+        ensures word { IsTold seat.old.desk.windows word
+            → result ≡ slice_index seat.old.desk.words word }
         ensures seat { seat.new ≡ seat.old }
     {
         self.table
@@ -244,7 +246,7 @@ impl PinTable {
         let found = self
             .table
             .shared
-            .load::<Probe>(&mut seat.seat, at as usize + 11);
+            .load::<Probe>(&mut seat.seat, at as usize + PIN_COUNT as usize);
         if found == 0 {
             close_windows(&mut seat.windows, at);
         } else {
@@ -380,7 +382,7 @@ impl PinTable {
     {
         self.table
             .shared
-            .fetch_add::<Pin>(&mut seat.seat, block as usize + 11, 1);
+            .fetch_add::<Pin>(&mut seat.seat, block as usize + PIN_COUNT as usize, 1);
         let own = self.table.shared.split_seat::<CopyOut<Q>>(&mut seat.seat);
         set_window(&mut seat.windows, worker, block);
         seat.mask = 0;

@@ -15,7 +15,7 @@ use crate::pass::{Ended, Pass};
 use crate::rule::Saying;
 use crate::table::{PinTable, WriterSeat};
 use apcu_model::Ask;
-use seg_words::{Segment, WordsIn};
+use seg_words::{HEAD_WORDS, IMAGE_LENGTH, KEY_LENGTH, Segment, WordsIn};
 use std::marker::Brand;
 
 /// All that a writer has beside its words and what its event met. No value of it is made.
@@ -112,6 +112,7 @@ impl PinTable {
         ensures left { result.left ≡ pass.known.left }
         ensures seen { IsPrefix pass.known.seen seat.old.desk.book.history }
         ensures own { events_of pass.known.worker seat.old.desk.book.history ≡ pass.known.own }
+        ensures made { events_of pass.known.worker pass.known.seen ≡ pass.known.own }
         ensures room { length seat.old.desk.book.history + pass.known.left
             ≤ sum seat.old.desk.book.budgets }
         ensures order { (copying : List ℕ) × DeskInOrder result.seat.now.desk copying }
@@ -244,9 +245,9 @@ impl Writer<'_> {
         } = self;
         table.look(seat);
         let mask = seat.mask;
-        let bytes = table.load(seat, at + 2);
-        let len = table.load(seat, at + 3);
-        let first = u64::from(at) + 12 + (bytes + 7) / 8;
+        let bytes = table.load(seat, at + KEY_LENGTH);
+        let len = table.load(seat, at + IMAGE_LENGTH);
+        let first = u64::from(at) + HEAD_WORDS as u64 + (bytes + 7) / 8;
         copy_as::<Brand>(
             table,
             seat,

@@ -23,6 +23,14 @@ returns-clause-own c =
     let f = ok.hand c.args.pass.known refl in
     f.own
 
+pub returns-clause-made : goal.returns-clause-made
+returns-clause-made c =
+    let b : Book = with_hand c.args.seat.now.desk.book (Some c.args.pass.known) in
+    let o = c.look.ensures.desk in
+    let ok : BookInOrder b = subst (λ (d : Desk). BookInOrder d.book) (ap (λ (w : Writing). w.desk) c.look.ensures.seat ∙ c.take.ensures.desk) o.1.book in
+    let f = ok.hand c.args.pass.known refl in
+    f.saw_own
+
 pub returns-clause-room : goal.returns-clause-room
 returns-clause-room c =
     let b : Book = with_hand c.args.seat.now.desk.book (Some c.args.pass.known) in

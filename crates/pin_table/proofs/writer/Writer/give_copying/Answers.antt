@@ -62,8 +62,8 @@ overflow_add-first-2 c =
     (λ o. c.load-len.ensures.word (subst (λ (x : Desk). IsTold x.windows (c.args.at + 3)) (sym e2) o) ∙ ap (λ (x : Desk). slice_index x.words (c.args.at + 3)) e2) in
     omega (arith, s.inside)
 
-pub overflow_cast-first : goal.overflow_cast-first
-overflow_cast-first c =
+pub overflow_cast-first-2 : goal.overflow_cast-first-2
+overflow_cast-first-2 c =
     let d : Desk = c.args.self.seat.now.desk in
     let e1 : c.look.new.seat.desk ≡ d = ap (λ (w : Writing). w.desk) c.look.ensures.seat in
     let e2 : c.load-bytes.new.seat.desk ≡ d = ap (λ (w : Writing). w.desk) c.load-bytes.ensures.seat ∙ e1 in
