@@ -40,7 +40,8 @@ impl Keys {
 
     /// The list again. It takes no memory.
     pub fn into_vec(self) -> Vec<Bytes>
-        ensures { result.items ≡ self }
+        ensures items { result.items ≡ self }
+        ensures few { length result.items < 2 ^ 32 }
     {
         self.keys
     }

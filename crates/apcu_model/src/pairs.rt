@@ -41,7 +41,8 @@ impl Pairs {
 
     /// The list again. It takes no memory.
     pub fn into_vec(self) -> Vec<(Bytes, Graph)>
-        ensures { result.items ≡ self }
+        ensures items { result.items ≡ self }
+        ensures few { length result.items < 2 ^ 32 }
     {
         self.pairs
     }

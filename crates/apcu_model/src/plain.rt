@@ -101,9 +101,9 @@ impl Plain {
         t: u64,
     ) -> Result<Reply, AllocError>
         ensures reply { IfOk result (λ r. r
-          ≡ reply_to [] t (Store key.now value.now ttl exclusive) self.old) }
+            ≡ reply_to [] t (Store key.now value.now ttl exclusive) self.old) }
         ensures after { OnOk result (self.new
-          ≡ cache_after [] t (Store key.now value.now ttl exclusive) self.old) }
+            ≡ cache_after [] t (Store key.now value.now ttl exclusive) self.old) }
         ensures err { OnErr result (self.new ≡ self.old) }
     {
         let key = Bytes::of(self.state.alloc, key.as_slice())?;
