@@ -16,8 +16,9 @@ use Rattle.pin_table.specs.Events.{events_of, fetched_last}
 use Rattle.pin_table.specs.Pins.{pins_on, IsBlock, AreApart, content_of, refused_in, freed_in}
 use Rattle.pin_table.specs.Views.{is_in_hand, is_among, named_blocks, carries, copied_blocks}
 
--- What a worker knows fits the writer's book: it was made, it has seen a beginning of the history, its own
--- events are all of its events there and in the whole history, and with those left they are its budget.
+-- What a worker knows fits the writer's book: it was made, it has seen a beginning of the history,
+-- its own events are all of its events there and in the whole history, and with those left they are
+-- its budget.
 pub record Fits (b : Book) (p : Known) : Type 0 where
   pub made : p.worker < b.made
   pub seen : IsPrefix p.seen b.history
@@ -25,8 +26,8 @@ pub record Fits (b : Book) (p : Known) : Type 0 where
   pub saw_own : events_of p.worker p.seen ≡ p.own
   pub budget : length p.own + p.left ≡ slice_index b.budgets p.worker
 
--- The book is in order: no event of a worker that was not made, none beyond a budget; the pass in the hand
--- fits and was not taken in, and those taken in fit.
+-- The book is in order: no event of a worker that was not made, none beyond a budget; the pass in
+-- the hand fits and was not taken in, and those taken in fit.
 pub record BookInOrder (b : Book) : Type 0 where
   pub count : b.made ≤ length b.budgets
   pub none : (w : ℕ) → b.made ≤ w → events_of w b.history ≡ []
@@ -42,8 +43,8 @@ pub record PassInOrder (b : Book) (place : ℕ → ℕ) (k : ℕ) (p : Known) : 
   pub away : is_in_hand p.worker b.hand ≡ false
   pub open_yet : is_among p.worker b.closed ≡ false
 
--- The writer's desk is in order, where the worker v copies from the block (slice_index copying v) just now,
--- if it is not 0.
+-- The writer's desk is in order, where the worker v copies from the block (slice_index copying v)
+-- just now, if it is not 0.
 pub record DeskInOrder (d : Desk) (copying : List ℕ) : Type 0 where
   pub book : BookInOrder d.book
   pub few : length copying ≤ 64
@@ -56,14 +57,15 @@ pub record DeskInOrder (d : Desk) (copying : List ℕ) : Type 0 where
       → (is_in_hand v d.book.hand ≡ false) × (is_among v d.book.closed ≡ false)
       × (fetched_last v d.book.history false ≡ true)
   pub stand : (j at : ℕ) → get_elem? (named_blocks d) j ≡ some at → 0 < at → IsBlock d.words at
-  pub apart : (j k a b : ℕ) → get_elem? (named_blocks d) j ≡ some a → get_elem? (named_blocks d) k ≡ some b
-      → 0 < a → 0 < b → AreApart d.words a b
+  pub apart : (j k a b : ℕ) → get_elem? (named_blocks d) j ≡ some a
+      → get_elem? (named_blocks d) k ≡ some b → 0 < a → 0 < b → AreApart d.words a b
   -- no window names a block at which this event found nobody
   pub unread : (v at : ℕ) → get_elem? d.windows v ≡ some at → 0 < at
       → has at (freed_in d.readings) ≡ false
   -- the workers met have their windows on blocks at which this event found somebody
   pub masked : (v : ℕ) → bit_at d.mask v ≡ 1
-      → (at : ℕ) × (get_elem? d.windows v ≡ some at) × (0 < at) × (has at (refused_in d.readings) ≡ true)
+      → (at : ℕ) × (get_elem? d.windows v ≡ some at) × (0 < at)
+      × (has at (refused_in d.readings) ≡ true)
   -- since the event began windows have only closed
   pub shrunk : (p : Known) → d.book.hand ≡ Some p
       → (v at : ℕ) → get_elem? d.windows v ≡ some at → 0 < at → get_elem? d.begun v ≡ some at
@@ -81,9 +83,10 @@ AllPlaced b place views = (w : ℕ) → w < b.made → is_in_hand w b.hand ≡ f
     → is_among w b.closed ≡ false
     → (v : View) × (get_elem? views (place w) ≡ some v) × (carries w v ≡ true)
 
--- What each step carries from one state of the table to the next, for some desk of the writer, some place
--- for each worker's pass and some block from which each worker copies. One equation holds for every word:
--- it is the writer's, and one more for each worker that copies from the block whose pin count it is.
+-- What each step carries from one state of the table to the next, for some desk of the writer, some
+-- place for each worker's pass and some block from which each worker copies. One equation holds for
+-- every word: it is the writer's, and one more for each worker that copies from the block whose pin
+-- count it is.
 pub record Carried (words : List ℕ) (views : List View) : Type 0 where
   pub desk : Desk
   pub place : ℕ → ℕ

@@ -32,7 +32,8 @@ AreApart words a b = (a ≡ b) ⊎ ((image_end words a ≤ b) ⊎ (image_end wor
 abbrev pub MeetsNone : List ℕ → List ℕ → ℕ → Type 0
 MeetsNone words windows at = (b : ℕ) → is_named windows b ≡ true → AreApart words at b
 
--- The block at `at` may be pinned. Where a window names it, the writer has 0 as its pin count anyway.
+-- The block at `at` may be pinned. Where a window names it, the writer has 0 as its pin count
+-- anyway.
 pub record MayPin (words windows : List ℕ) (at : ℕ) : Type 0 where
   pub positive : 0 < at
   pub count : is_named windows at ≡ false → slice_index words (at + PIN_COUNT) ≡ 0

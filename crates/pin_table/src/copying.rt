@@ -8,11 +8,11 @@ use atomic_table::Seat;
 use seg_words::PIN_COUNT;
 use std::marker::Model;
 
-/// What a worker has that copies from a pinned block. Nothing of the block's value changes until it is
-/// released; one that is dropped keeps its block for good.
+/// What a worker has that copies from a pinned block. Nothing of the block's value changes until it
+/// is released; one that is dropped keeps its block for good.
 ///
-/// Contracts see the table and what the worker knows: what a pass knows, the block, and the words of the
-/// value's image as they were at the pin.
+/// Contracts see the table and what the worker knows: what a pass knows, the block, and the words
+/// of the value's image as they were at the pin.
 #[derive(Drop)]
 pub struct Copying {
     pub(crate) seat: Seat<u64, View>,

@@ -5,11 +5,11 @@ use crate::views::View;
 use atomic_table::Seat;
 use std::marker::Model;
 
-/// What a worker has that copies nothing: the right to its next events. Where one is dropped, the worker
-/// never ends, and the table is never closed.
+/// What a worker has that copies nothing: the right to its next events. Where one is dropped, the
+/// worker never ends, and the table is never closed.
 ///
-/// Contracts see the table, the worker, how many events are left, the history that the worker has seen
-/// and its own events in it.
+/// Contracts see the table, the worker, how many events are left, the history that the worker has
+/// seen and its own events in it.
 #[derive(Drop)]
 pub struct Pass {
     pub(crate) seat: Seat<u64, View>,

@@ -37,8 +37,8 @@ impl Passes {
     }
 }
 
-/// What the workers leave that have ended, with room for the others. Contracts see the list and how many
-/// more it has room for.
+/// What the workers leave that have ended, with room for the others. Contracts see the list and how
+/// many more it has room for.
 #[derive(Drop)]
 pub struct EndedList {
     list: Vec<Ended>,
@@ -93,9 +93,11 @@ fn fill(table: &PinTable, seat: &mut WriterSeat, budgets: &[u32], list: &mut Vec
 }
 
 impl PinTable {
-    /// Shares these words among as many workers as there are budgets: how many events each may make.
+    /// Shares these words among as many workers as there are budgets: how many events each may
+    /// make.
     ///
-    /// It takes all the memory that any call of this crate needs. After an `Err` the words are dropped.
+    /// It takes all the memory that any call of this crate needs. After an `Err` the words are
+    /// dropped.
     pub fn new(
         alloc: Global,
         words: VecWords,
@@ -123,8 +125,8 @@ impl PinTable {
         Ok((table, seat, Passes { list }, EndedList { list: ended }))
     }
 
-    /// Tells that the writer's history begins with what a worker has seen that has ended. Nothing changes,
-    /// since its window is closed and no event is under way.
+    /// Tells that the writer's history begins with what a worker has seen that has ended. Nothing
+    /// changes, since its window is closed and no event is under way.
     #[tactic(auto, using(crate::proofs::Learning::left_alone, crate::proofs::Learning::was_seen, crate::proofs::Learning::was_own, crate::proofs::Learning::saw_own))]
     pub fn learn(&self, seat: &mut WriterSeat, ended: Ended) -> Ended
         requires table { seat.old.table ≡ self.now }

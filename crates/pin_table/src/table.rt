@@ -50,8 +50,8 @@ impl Model for PinTable {
 
 /// The right to write: what stands behind the cache's lock.
 ///
-/// Contracts see the table and the desk: the words as the writer knows them, the history of events, the
-/// windows, and what the event under way has met.
+/// Contracts see the table and the desk: the words as the writer knows them, the history of events,
+/// the windows, and what the event under way has met.
 #[derive(Drop)]
 pub struct WriterSeat {
     seat: Seat<u64, View>,

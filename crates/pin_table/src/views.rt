@@ -3,8 +3,8 @@ use std::collections::LinkedList;
 
 // What the seats of the table know. No value of these types is made: they exist in proofs alone.
 
-/// What a worker's pass knows: the worker, how many events it has left, the history that it has seen, and
-/// its own events.
+/// What a worker's pass knows: the worker, how many events it has left, the history that it has
+/// seen, and its own events.
 pub struct Known {
     pub worker: u64,
     pub left: u64,
@@ -12,8 +12,9 @@ pub struct Known {
     pub own: LinkedList<Event>,
 }
 
-/// What the writer knows of the workers: all events so far, the pass that is in its hand during an event,
-/// how many workers were made, how many events each may make, and the passes taken in at the end.
+/// What the writer knows of the workers: all events so far, the pass that is in its hand during an
+/// event, how many workers were made, how many events each may make, and the passes taken in at the
+/// end.
 pub struct Book {
     pub history: LinkedList<Event>,
     pub hand: Option<Known>,
@@ -22,8 +23,8 @@ pub struct Book {
     pub closed: LinkedList<Known>,
 }
 
-/// What a worker knows that copies from a pinned block: the block's place, that of the value's image, and
-/// the words of the image as they were at the pin.
+/// What a worker knows that copies from a pinned block: the block's place, that of the value's
+/// image, and the words of the image as they were at the pin.
 pub struct Reader {
     pub known: Known,
     pub block: u64,

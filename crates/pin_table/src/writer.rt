@@ -98,8 +98,8 @@ impl Segment for Writer<'_> {
 }
 
 impl PinTable {
-    /// Begins an event: the pass comes into the writer's hand, its worker's window closes, and nothing is
-    /// met yet.
+    /// Begins an event: the pass comes into the writer's hand, its worker's window closes, and
+    /// nothing is met yet.
     pub fn writer<'a>(&'a self, seat: &'a mut WriterSeat, pass: Pass) -> Writer<'a>
         requires table { seat.old.table ≡ self.now }
         requires pass { pass.table ≡ self.now }
@@ -131,8 +131,8 @@ impl PinTable {
 }
 
 impl Writer<'_> {
-    /// Ends the event: it becomes the last of the history, with the mask that its probes gathered. The
-    /// pass that comes back has seen it, and has one event less left.
+    /// Ends the event: it becomes the last of the history, with the mask that its probes gathered.
+    /// The pass that comes back has seen it, and has one event less left.
     pub fn give_pass(self, ask: Ask<'_>, t: u64) -> Pass
         requires hand { self.seat.now.desk.book.hand ≡ Some (in_hand self.seat.now.desk.book.hand) }
         requires worker { (in_hand self.seat.now.desk.book.hand).worker ≡ self.worker }
@@ -198,7 +198,8 @@ impl Writer<'_> {
         table.give_back(seat, worker, left)
     }
 
-    /// There was no event, as with `give_back`, but the pass that comes back has seen the whole history.
+    /// There was no event, as with `give_back`, but the pass that comes back has seen the whole
+    /// history.
     pub fn give_seen(self) -> Pass
         requires hand { self.seat.now.desk.book.hand ≡ Some (in_hand self.seat.now.desk.book.hand) }
         requires worker { (in_hand self.seat.now.desk.book.hand).worker ≡ self.worker }
@@ -218,8 +219,8 @@ impl Writer<'_> {
         table.give_seen(seat, worker, left)
     }
 
-    /// Ends the event of a fetch, as `give_pass` does, and pins the block at `at`: the worker copies from
-    /// it from then on, until it releases it.
+    /// Ends the event of a fetch, as `give_pass` does, and pins the block at `at`: the worker
+    /// copies from it from then on, until it releases it.
     pub fn give_copying(self, ask: Ask<'_>, t: u64, at: u32) -> Copying
         requires hand { self.seat.now.desk.book.hand ≡ Some (in_hand self.seat.now.desk.book.hand) }
         requires worker { (in_hand self.seat.now.desk.book.hand).worker ≡ self.worker }
