@@ -4,3 +4,4 @@ pub mod Left
 pub mod Mending
 pub mod Largest
 pub mod Paging
+pub mod Halving

@@ -1,5 +1,5 @@
 -- Pages of numbers and their tops.
-use Rattle.std.proofs.Common.{◌≡◌, ◌≢◌, ℕ, ◌+◌, ◌-◌, ◌*◌, ◌/◌, ◌%◌, ◌<◌, ◌≤◌, min, Bool, false, ltb, true, List, length, get_or, set, take, drop, replicate, Option, Some, None, MatchOption, refl, sym, ap, ◌∙◌, subst, inl, inr, arith, get_or-drop, length-drop}
+use Rattle.std.proofs.Common.{◌≡◌, ◌≢◌, ℕ, ◌+◌, ◌-◌, ◌*◌, ◌/◌, ◌%◌, ◌^◌, ◌<◌, ◌≤◌, min, Bool, false, ltb, true, List, length, get_or, set, take, drop, replicate, Option, Some, None, MatchOption, refl, sym, ap, ◌∙◌, subst, inl, inr, arith, get_or-drop, length-drop}
 use Rattle.std.specs.Prelude.{nat_le}
 use Rattle.std.specs.List.{position, position_or_len}
 use Rattle.std.proofs.lemmas.Bool.{cases_lt, cases_eq, lt-ltb, leb-true, leb-false, le-leb, lt-leb}
@@ -67,23 +67,25 @@ page_range xs start len left inside is = elim (cases_lt (length xs - start) len)
 ]
 
 -- zeros are in pages of zeros
-pub none_paged : (xs tops : List ℕ) → length xs ≤ PAGE * length tops → ((i : ℕ) → get_or xs i 0 ≡ 0) → ((k : ℕ) → get_or tops k 0 ≡ 0) → IsPaged xs tops
-none_paged xs tops room none zeros = record {
+pub none_paged : (xs tops : List ℕ) → length xs < 2 ^ 32 → length xs ≤ PAGE * length tops → ((i : ℕ) → get_or xs i 0 ≡ 0) → ((k : ℕ) → get_or tops k 0 ≡ 0) → IsPaged xs tops
+none_paged xs tops short room none zeros = record {
+  short = short;
   room = room;
   tops_are = λ k.
       let low : largest (page xs k) ≤ 0 = largest_least (page xs k) 0 (λ j inside. omega (arith, page_at xs k j (omega (arith, page_length xs k)), none (PAGE * k + j))) in
       omega (arith, zeros k);
 }
 
-pub zeros_paged : (xs tops : List ℕ) (count : ℕ) → xs ≡ replicate count 0 → length xs ≤ PAGE * length tops → ((k : ℕ) → get_or tops k 0 ≡ 0) → IsPaged xs tops
-zeros_paged xs tops count are room zeros =
-    none_paged xs tops room (λ i. ap (λ (ys : List ℕ). get_or ys i 0) are ∙ zero_at count i) zeros
+pub zeros_paged : (xs tops : List ℕ) (count : ℕ) → xs ≡ replicate count 0 → length xs < 2 ^ 32 → length xs ≤ PAGE * length tops → ((k : ℕ) → get_or tops k 0 ≡ 0) → IsPaged xs tops
+zeros_paged xs tops count are short room zeros =
+    none_paged xs tops short room (λ i. ap (λ (ys : List ℕ). get_or ys i 0) are ∙ zero_at count i) zeros
 
 pub cleared_paged : (xs new tops tops' : List ℕ) → IsPaged xs tops → length new ≡ length xs → ((i : ℕ) → get_or new i 0 ≡ 0) → tops' ≡ replicate (length tops) 0 → IsPaged new tops'
 cleared_paged xs new tops tops' paged count none are =
     let room = paged.room in
+    let short = paged.short in
     let same : length tops' ≡ length tops = ap length are ∙ length-replicate (length tops) 0 in
-    none_paged new tops' (omega arith) none (λ k. ap (λ (ys : List ℕ). get_or ys k 0) are ∙ zero_at (length tops) k)
+    none_paged new tops' (omega arith) (omega arith) none (λ k. ap (λ (ys : List ℕ). get_or ys k 0) are ∙ zero_at (length tops) k)
 
 -- a page whose top is not 0 begins among the numbers
 pub page_some : (xs tops : List ℕ) (k : ℕ) → IsPaged xs tops → 0 < get_or tops k 0 → PAGE * k ≤ length xs
@@ -103,7 +105,9 @@ page_zero xs tops k i paged none low high =
 pub set_paged : (xs tops : List ℕ) (p v top : ℕ) → IsPaged xs tops → p < length xs → top ≡ largest (page (set xs p v) (p / PAGE)) → IsPaged (set xs p v) (set tops (p / PAGE) top)
 set_paged xs tops p v top paged inside is =
     let room = paged.room in
+    let short = paged.short in
     record {
+      short = omega (arith, length-set xs p v);
       room = omega (arith, length-set xs p v, length-set tops (p / PAGE) top);
       tops_are = λ k. elim (cases_eq k (p / PAGE)) [
         | inl same ↦
@@ -119,7 +123,7 @@ set_paged xs tops p v top paged inside is =
     }
 
 -- none passes where there is no position
-position_None : (p : ℕ → Bool) (xs : List ℕ) → position p xs ≡ None → (k : ℕ) → k < length xs → p (get_or xs k 0) ≡ false
+pub position_None : (p : ℕ → Bool) (xs : List ℕ) → position p xs ≡ None → (k : ℕ) → k < length xs → p (get_or xs k 0) ≡ false
 position_None p xs nowhere k inside = elim (cases_lt (position_or_len p xs) (length xs)) [
   | inl found ↦
       let t : ltb (position_or_len p xs) (length xs) ≡ true = lt-ltb _ _ found in

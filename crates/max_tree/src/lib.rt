@@ -4,7 +4,9 @@
 
 mod nodes;
 mod pages;
+mod pairs;
 mod row;
 mod tree;
 
+pub use pairs::PairRow;
 pub use row::MaxRow;

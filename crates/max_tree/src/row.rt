@@ -45,7 +45,8 @@ impl MaxRow {
 
     /// How many numbers there are.
     pub fn len(&self) -> usize
-        ensures { result ≡ length self.now }
+        ensures is { result ≡ length self.now }
+        ensures short { result < 2 ^ 32 }
     {
         self.numbers.len()
     }
