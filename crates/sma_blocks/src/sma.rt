@@ -1,4 +1,4 @@
-ghost use Rattle.std.specs.Prelude.{◌≡◌, ◌≢◌, ℕ, ◌+◌, ◌-◌, ◌*◌, ◌/◌, ◌%◌, ◌<◌, ◌≤◌, true, false, not, [], ◌∷◌, length, slice_index, slice_set, MatchOption, IfSome, IfNone, option_map, find, sum_by, nat_le, nat_lt, if◌then◌else◌, ◌⊎◌};
+ghost use Rattle.std.specs.Prelude.{◌≡◌, ◌≢◌, ℕ, ◌+◌, ◌-◌, ◌*◌, ◌/◌, ◌%◌, ◌^◌, ◌<◌, ◌≤◌, true, false, not, [], ◌∷◌, length, slice_index, slice_set, MatchOption, IfSome, IfNone, option_map, find, sum_by, nat_le, nat_lt, if◌then◌else◌, ◌⊎◌};
 ghost use Rattle.seg_words.specs.Kept.{Kept, KeptBeside};
 ghost use Rattle.seg_words.specs.Windows.{is_named};
 ghost use Rattle.seg_words.specs.Blocks.{IsTold, MayStore};
@@ -11,7 +11,7 @@ ghost use Rattle.sma_blocks.specs.Walk.{IsEdge, IsFreeBefore, IsFreeAfter};
 ghost use Rattle.max_tree.specs.Halves.{other_half};
 ghost use Rattle.sma_blocks.specs.Index.{IsShort, IsJoined};
 
-use crate::stores::{cut, link_of, merge, put, relink};
+use crate::stores::{cut, link_new, link_of, merge, next_of, relink, rest_of};
 use max_tree::{MaxRow, PairRow};
 use seg_words::{Segment, fit_laws};
 
@@ -59,8 +59,7 @@ impl Sma {
         ensures beside { KeptBeside S.WordsIn seg.old seg.new }
     {
         let to = seg.len();
-        put(seg, from, u64::from(to - from) + 1);
-        put(seg, from + 1, 0);
+        merge(seg, from, to, 0);
         let mut sizes = PairRow::new(gaps);
         sizes.put(from as usize / 2, to - from);
         Sma {
@@ -95,15 +94,11 @@ impl Sma {
         let size = self.sizes.get(index);
         let at = 2 * index as u32;
         let before = self.sizes.last_nonzero_before(index);
-        let rest = if n < size {
-            u64::from(at + n)
-        } else {
-            seg.load(at + 1)
-        };
+        let rest = rest_of(seg, at, size, n);
+        shorten(&mut self.sizes, index, size, n);
         cut(seg, at, size, n);
         relink(seg, &mut self.head, before, rest);
         self.free -= n;
-        shorten(&mut self.sizes, index, size, n);
         Some(at)
     }
 
@@ -126,19 +121,11 @@ impl Sma {
         let given = self.part_at(seg, at);
         let end = at + given.size;
         let last = self.free_after(seg, end);
-        let next = if end < last {
-            seg.load(end + 1)
-        } else if first < at {
-            seg.load(first + 1)
-        } else {
-            link_of(seg, self.head, before)
-        };
-        merge(seg, first, last, next);
-        if first == at {
-            relink(seg, &mut self.head, before, u64::from(at));
-        }
-        self.free += given.size;
+        let next = next_of(seg, self.head, before, at, first, end, last);
         join(&mut self.sizes, first, end, last);
+        self.free += given.size;
+        merge(seg, first, last, next);
+        link_new(seg, &mut self.head, before, first, at);
     }
 
     /// How many words are free: the words of all gaps.
@@ -244,6 +231,7 @@ impl Sma {
 // The gap begins after its first `n` words, or is no more.
 fn shorten(sizes: &mut PairRow, index: usize, size: u32, n: u32)
     requires inside { (index < length sizes.old) × (n < size → index + n / 2 < length sizes.old) }
+    requires short { index + n / 2 < 2 ^ 32 }
     requires even { (size % 2 ≡ 0) × (n % 2 ≡ 0) × (2 ≤ n) }
     requires some { slice_index sizes.old index ≢ 0 }
     requires alone { n < size → other_half (index + n / 2) ≢ index → slice_index sizes.old (other_half (index + n / 2)) ≡ 0 }
