@@ -36,7 +36,9 @@ impl MaxRow {
     /// A row of so many zeros. This call alone takes memory.
     pub fn new(alloc: Global, count: usize) -> Result<MaxRow, AllocError>
         requires { count < 2 ^ 32 }
-        ensures { IfOk result (λ row. row ≡ replicate count 0) }
+        ensures row { IfOk result (λ row. row ≡ replicate count 0) }
+        ensures count { IfOk result (λ row. length row ≡ count) }
+        ensures zeros { IfOk result (λ row. (i : ℕ) → slice_index row i ≡ 0) }
     {
         let numbers = zeros(alloc, count)?;
         let tops = MaxTree::new(alloc, count / PAGE + 1)?;

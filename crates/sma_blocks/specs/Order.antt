@@ -1,11 +1,12 @@
--- What is known of the live blocks where blocks may be taken and given: they stand one behind the other.
+-- What follows where blocks may be taken and given: the live blocks stand one behind the other, and the windows may become
+-- others that name live blocks.
 use Rattle.std.proofs.Common.{◌≡◌, ℕ, ◌+◌, ◌≤◌, Bool, true, false, cond, List, [], ◌∷◌, length, slice_index, refl, sym, ap, ◌∙◌, subst, arith}
 use Rattle.seg_words.specs.declared.extents.Extent.{Extent}
 use Rattle.seg_words.specs.Windows.{Aside}
 use Rattle.sma_blocks.specs.declared.sma.Sma.{Sma}
 use Rattle.sma_blocks.specs.Pieces.{Piece, pieces, Fill}
 use Rattle.sma_blocks.specs.Live.{lives, live_blocks}
-use Rattle.sma_blocks.specs.Ready.{AreBlocks, IsReady}
+use Rattle.sma_blocks.specs.Ready.{NameLive, AreBlocks, IsReady}
 
 abbrev extent_of : Piece → Extent
 extent_of p = record { place = p.place; size = p.size }
@@ -31,3 +32,6 @@ lives_stand ws a (p ∷ ps) b h = go p.live refl (lives_stand ws (a + p.size) ps
 pub ready_blocks : {sma : Sma} {words : List ℕ} {aside : Aside} → IsReady sma words aside → AreBlocks words sma.from (live_blocks words sma.from) sma.to
 ready_blocks {sma} {words} {aside} ready =
     subst (λ (n : ℕ). AreBlocks words sma.from (live_blocks words sma.from) n) (sym ready.end) (lives_stand words sma.from (pieces words sma.from) (length words) ready.formatted.full)
+
+pub ready_renamed : {sma : Sma} {words : List ℕ} {old new : Aside} → IsReady sma words old → NameLive words new.windows (live_blocks words sma.from) → IsReady sma words new
+ready_renamed h names = record { end = h.end; formatted = h.formatted; windows = names; indexed = h.indexed; linked = h.linked; counted = h.counted }

@@ -80,7 +80,8 @@ impl Sma {
         ensures taken { IfSome result (λ at. live_blocks (S.words seg.new) self.old.from ≡ with_block (record { place = at; size = n }) (live_blocks (S.words seg.old) self.old.from)) }
         ensures word { IfSome result (λ at. slice_index (S.words seg.new) at ≡ n) }
         ensures others { SameBlocks (S.words seg.old) (S.words seg.new) self.old.from (live_blocks (S.words seg.old) self.old.from) }
-        ensures none { IfNone result ((S.words seg.new ≡ S.words seg.old) × (self.new ≡ self.old)) }
+        ensures none { IfNone result (S.words seg.new ≡ S.words seg.old) }
+        ensures same { IfNone result (self.new ≡ self.old) }
         ensures from { self.new.from ≡ self.old.from }
         ensures to { self.new.to ≡ self.old.to }
         ensures ready { IsReady self.new (S.words seg.new) (S.aside seg.new) }
