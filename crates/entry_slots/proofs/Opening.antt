@@ -6,6 +6,7 @@ use Rattle.std.proofs.lemmas.List.Elements.{Contains-append_cases}
 use Rattle.seg_words.specs.declared.extents.Extent.{Extent}
 use Rattle.seg_words.specs.Windows.{Aside, has, is_named, closed_on, Frees, Refuses}
 use Rattle.seg_words.specs.Blocks.{IsTold, MayProbe, image_place, image_end}
+use Rattle.sma_blocks.specs.Order.{ready_blocks, ready_renamed}
 use Rattle.sma_blocks.specs.Live.{live_blocks}
 use Rattle.sma_blocks.specs.Ready.{Holds}
 use Rattle.apcu_model.specs.Cache.{Row, extent_of}
@@ -49,7 +50,7 @@ closed_stands e ws old new s fewer h = record {
   removed = h.removed;
   unlinked = h.unlinked;
   taken = λ block there. false_from_ne_true (is_named new.windows block.place) (λ named. false≢true (sym (h.taken block there) ∙ fewer block.place named));
-  ready = record { end = h.ready.end; formatted = h.ready.formatted; blocks = h.ready.blocks; windows = λ at named. h.ready.windows at (fewer at named) };
+  ready = ready_renamed h.ready (λ at named. h.ready.windows at (fewer at named));
   blocks = h.blocks;
   apart = h.apart;
   number = h.number;
@@ -73,15 +74,10 @@ opened_stands e ws old new s at there more h =
         | inl same ↦ not_taken s h own.0 own.1 block t (same ∙ sym own.2)
         | inr before ↦ false≢true (sym (h.taken block t) ∙ before)
       ]);
-      ready = record {
-        end = h.ready.end;
-        formatted = h.ready.formatted;
-        blocks = h.ready.blocks;
-        windows = λ x named. elim (more x named) [
-          | inl same ↦ subst (Holds ws (live_blocks ws e.sma.from)) (own.2 ∙ sym same) (record { size = own.0.size; live = own.3.live; inside = image_inside own.0 own.3 })
-          | inr before ↦ h.ready.windows x before
-        ];
-      };
+      ready = ready_renamed h.ready (λ x named. elim (more x named) [
+        | inl same ↦ subst (Holds ws (live_blocks ws e.sma.from)) (own.2 ∙ sym same) (record { size = own.0.size; live = own.3.live; inside = image_inside own.0 own.3 })
+        | inr before ↦ h.ready.windows x before
+      ]);
       blocks = h.blocks;
       apart = h.apart;
       number = h.number;
@@ -143,7 +139,7 @@ blocks_lie_apart e ws aside s one other h c d =
     live_apart e.sma ws aside one other h.ready (same_there live (blocks_of s) one h.blocks c) (same_there live (blocks_of s) other h.blocks d)
 
 pub blocks_are_once : (e : EntrySlots) (ws : List ℕ) (aside : Aside) (s : Entries) → Stands e ws aside s → AreOnce (blocks_of s)
-blocks_are_once e ws aside s h at = omega (arith, h.blocks.count (at_place at), blocks_once ws e.sma.from (live_blocks ws e.sma.from) e.sma.to at h.ready.blocks)
+blocks_are_once e ws aside s h at = omega (arith, h.blocks.count (at_place at), blocks_once ws e.sma.from (live_blocks ws e.sma.from) e.sma.to at (ready_blocks h.ready))
 
 -- closing the windows on a block opens none
 closed_on-named : (ws : List ℕ) (at x : ℕ) → has x (closed_on at ws) ≡ true → 0 < x → has x ws ≡ true

@@ -1,4 +1,4 @@
-ghost use Rattle.std.specs.Prelude.{◌≡◌, ◌≢◌, ◌⊎◌, ℕ, ◌+◌, ◌%◌, ◌<◌, ◌≤◌, ◌^◌, true, false, length, slice_index, Contains, IfSome, IfNone};
+ghost use Rattle.std.specs.Prelude.{◌≡◌, ◌≢◌, ◌⊎◌, ℕ, ◌+◌, ◌*◌, ◌%◌, ◌<◌, ◌≤◌, ◌^◌, true, false, length, slice_index, Contains, IfSome, IfNone};
 ghost use Rattle.seg_words.specs.Kept.{Kept, KeptBeside};
 ghost use Rattle.seg_words.specs.Windows.{is_named};
 ghost use Rattle.php_graph.specs.Numbers.{hash_of};
@@ -19,6 +19,7 @@ use crate::reading::{count_after, first_words, next_of};
 use crate::standing::{Change, Standing};
 use crate::writing::{Note, put_entry};
 use apcu_model::Conf;
+use max_tree::MaxRow;
 use php_graph::{Graph, hash_of};
 use seg_words::{Segment, WordsIn};
 use sma_blocks::Sma;
@@ -41,10 +42,14 @@ pub struct EntrySlots {
 
 impl EntrySlots {
     /// Makes a cache of this shape without rows. No window may be open.
-    pub fn format<S: Segment>(seg: &mut S, conf: &Conf) -> EntrySlots
+    ///
+    /// `gaps` is the memory of the index of gaps: zeros, one for every four words.
+    pub fn format<S: Segment>(seg: &mut S, conf: &Conf, gaps: MaxRow) -> EntrySlots
         requires good { IsGood conf.now }
         requires all { length (S.words seg.old) ≡ conf.now.words }
         requires closed { (at : ℕ) → is_named (S.aside seg.old).windows at ≡ false }
+        requires enough { length (S.words seg.old) ≤ 4 * length gaps }
+        requires zeros { (i : ℕ) → slice_index gaps i ≡ 0 }
         ensures made { entries result ≡ no_entries conf.now }
         ensures stand { Stand S.WordsIn result seg.new }
         ensures beside { KeptBeside S.WordsIn seg.old seg.new }
@@ -53,7 +58,7 @@ impl EntrySlots {
             seg.store(slot, 0);
         }
         EntrySlots {
-            sma: Sma::format(seg, conf.slots),
+            sma: Sma::format(seg, conf.slots, gaps),
             removed: 0,
             next_number: 1,
             count: 0,
