@@ -1,13 +1,13 @@
 ghost use Rattle.std.specs.Prelude.{◌≡◌, ◌≢◌, ℕ, ◌+◌, ◌-◌, ◌*◌, ◌/◌, ◌%◌, ◌^◌, ◌<◌, ◌≤◌, true, false, not, [], ◌∷◌, length, slice_index, slice_set, MatchOption, IfSome, IfNone, option_map, find, sum_by, nat_le, nat_lt, if◌then◌else◌, ◌⊎◌};
 ghost use Rattle.seg_words.specs.Kept.{Kept, KeptBeside};
-ghost use Rattle.seg_words.specs.Windows.{is_named};
+ghost use Rattle.seg_words.specs.Windows.{has, is_named};
 ghost use Rattle.seg_words.specs.Blocks.{IsTold, MayStore};
 ghost use Rattle.seg_words.specs.Gaps.{first_fit, free_runs};
-ghost use Rattle.sma_blocks.specs.Live.{IsLive, SameBlocks, live_blocks, with_block, without_block, largest_of};
+ghost use Rattle.sma_blocks.specs.Live.{IsLive, SameBlocks, live_blocks, with_block, without_block, kept_blocks, largest_of};
 ghost use Rattle.sma_blocks.specs.Pieces.{pieces};
 ghost use Rattle.sma_blocks.specs.Chain.{IsChain};
 ghost use Rattle.sma_blocks.specs.Ready.{IsReady};
-ghost use Rattle.sma_blocks.specs.Walk.{IsEdge, IsFreeBefore, IsFreeAfter};
+ghost use Rattle.sma_blocks.specs.Walk.{IsEdge, IsFreeBefore, IsFreeAfter, merged_words};
 ghost use Rattle.max_tree.specs.Halves.{other_half};
 ghost use Rattle.sma_blocks.specs.Index.{IsShort, IsJoined};
 
@@ -129,6 +129,37 @@ impl Sma {
         link_new(seg, &mut self.head, before, first, at);
     }
 
+    /// Keeps the blocks at these rising places live, and makes gaps of all other words. Every window
+    /// names one of these blocks.
+    pub fn keep<S: Segment>(&mut self, seg: &mut S, places: &[u32])
+        requires live { (i : ℕ) → i < length places.now → IsLive (live_blocks (S.words seg.old) self.old.from) (slice_index places.now i) }
+        requires rising { (i : ℕ) → i + 1 < length places.now → slice_index places.now i < slice_index places.now (i + 1) }
+        requires named { (at : ℕ) → is_named (S.aside seg.old).windows at ≡ true → has at places.now ≡ true }
+        requires ready { IsReady self.old (S.words seg.old) (S.aside seg.old) }
+        ensures left { live_blocks (S.words seg.new) self.old.from ≡ kept_blocks places.now (live_blocks (S.words seg.old) self.old.from) }
+        ensures others { SameBlocks (S.words seg.old) (S.words seg.new) self.old.from (kept_blocks places.now (live_blocks (S.words seg.old) self.old.from)) }
+        ensures from { self.new.from ≡ self.old.from }
+        ensures to { self.new.to ≡ self.old.to }
+        ensures ready { IsReady self.new (S.words seg.new) (S.aside seg.new) }
+        ensures chain { IsChain (S.words seg.new) self.new.head (free_runs self.new.from self.new.to (live_blocks (S.words seg.new) self.new.from)) }
+        ensures beside { KeptBeside S.WordsIn seg.old seg.new }
+    {
+        self.sizes.clear();
+        self.free = 0;
+        self.head = 0;
+        // From the last block on, so that the link of each gap is known when it is made.
+        let mut end = self.to;
+        let mut i = places.len();
+        while i > 0 {
+            i -= 1;
+            let at = places[i];
+            let size = seg.load(at) as u32;
+            self.lay(seg, at + size, end);
+            end = at;
+        }
+        self.lay(seg, self.from, end);
+    }
+
     /// How many words are free: the words of all gaps.
     pub fn free_words<S: Segment>(&self, seg: &mut S) -> u32
         requires { IsReady self.now (S.words seg.old) (S.aside seg.old) }
@@ -171,6 +202,30 @@ impl Sma {
         }
         let size = self.sizes.get(place as usize / 2);
         if size == 0 { None } else { Some((place, size)) }
+    }
+
+    // Makes a gap of the words from `first` up to `last`, if there are any, in front of all other gaps.
+    fn lay<S: Segment>(&mut self, seg: &mut S, first: u32, last: u32)
+        requires inside { last ≤ length (S.words seg.old) }
+        requires even { (first % 2 ≡ 0) × (last % 2 ≡ 0) }
+        requires apart { (i : ℕ) → first ≤ i → i < last → MayStore (S.words seg.old) (S.aside seg.old).windows i }
+        requires index { first < last → first / 2 < length self.old.sizes }
+        requires alone { first < last → slice_index self.old.sizes (other_half (first / 2)) ≡ 0 }
+        requires count { self.old.free + (last - first) < 2 ^ 32 }
+        ensures words { first < last → S.words seg.new ≡ merged_words (S.words seg.old) first last self.old.head }
+        ensures sizes { first < last → IsJoined self.old.sizes self.new.sizes first last last }
+        ensures head { first < last → (self.new.head ≡ first) × (self.new.free ≡ self.old.free + (last - first)) }
+        ensures none { last ≤ first → (S.words seg.new ≡ S.words seg.old) × (self.new ≡ self.old) }
+        ensures from { self.new.from ≡ self.old.from }
+        ensures to { self.new.to ≡ self.old.to }
+        ensures beside { KeptBeside S.WordsIn seg.old seg.new }
+    {
+        if first < last {
+            merge(seg, first, last, u64::from(self.head));
+            self.sizes.put(first as usize / 2, last - first);
+            self.free += last - first;
+            self.head = first;
+        }
     }
 
     // The place from which on the words right before the live block at `at` are free, where `before`
