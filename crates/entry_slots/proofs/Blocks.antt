@@ -5,6 +5,7 @@ use Rattle.std.specs.List.{Contains, list_any}
 use Rattle.seg_words.specs.declared.extents.Extent.{Extent}
 use Rattle.seg_words.specs.Windows.{Aside, has, is_named}
 use Rattle.seg_words.specs.Blocks.{IsTold}
+use Rattle.sma_blocks.specs.Order.{ready_blocks}
 use Rattle.sma_blocks.specs.declared.sma.Sma.{Sma}
 use Rattle.sma_blocks.specs.Live.{live_blocks}
 use Rattle.sma_blocks.specs.Ready.{AreBlocks, IsReady}
@@ -51,17 +52,17 @@ blocks_apart ws low (b ∷ es) high e f h x y = elim (Contains-cases b es e x) [
 ]
 
 pub live_apart : (sma : Sma) (ws : List ℕ) (aside : Aside) (e f : Extent) → IsReady sma ws aside → Contains (live_blocks ws sma.from) e → Contains (live_blocks ws sma.from) f → Apart e f
-live_apart sma ws aside e f ready x y = blocks_apart ws sma.from (live_blocks ws sma.from) sma.to e f ready.blocks x y
+live_apart sma ws aside e f ready x y = blocks_apart ws sma.from (live_blocks ws sma.from) sma.to e f (ready_blocks ready) x y
 
 -- a live block lies past the slots and before the end
 pub live_bounds : (sma : Sma) (ws : List ℕ) (aside : Aside) (e : Extent) → IsReady sma ws aside → Contains (live_blocks ws sma.from) e → (sma.from ≤ e.place) × (e.place + e.size ≤ length ws) × (2 ≤ e.size)
 live_bounds sma ws aside e ready x =
-    let r = blocks_between ws sma.from (live_blocks ws sma.from) sma.to e ready.blocks x in
+    let r = blocks_between ws sma.from (live_blocks ws sma.from) sma.to e (ready_blocks ready) x in
     (r.0, omega (arith, r.1, ready.end), r.2)
 
 -- and its first word is its size
 pub live_word : (sma : Sma) (ws : List ℕ) (aside : Aside) (e : Extent) → IsReady sma ws aside → Contains (live_blocks ws sma.from) e → slice_index ws e.place ≡ e.size
-live_word sma ws aside e ready x = (blocks_between ws sma.from (live_blocks ws sma.from) sma.to e ready.blocks x).3
+live_word sma ws aside e ready x = (blocks_between ws sma.from (live_blocks ws sma.from) sma.to e (ready_blocks ready) x).3
 
 has_there : (x : ℕ) (ws : List ℕ) → Contains ws x → has x ws ≡ true
 has_there x [] c = absurd (none_in_nil x c)

@@ -5,7 +5,7 @@ use Rattle.std.proofs.lemmas.Bool.{eq-eqb, false≢true, false_from_ne_true}
 use Rattle.std.proofs.lemmas.List.{append-nil}
 use Rattle.seg_words.specs.declared.extents.Extent.{Extent}
 use Rattle.seg_words.specs.Windows.{Aside, is_named}
-use Rattle.sma_blocks.specs.Live.{live_blocks}
+use Rattle.sma_blocks.specs.Live.{live_blocks, kept_blocks}
 use Rattle.sma_blocks.specs.Ready.{IsReady}
 use Rattle.apcu_model.specs.declared.conf.Conf.{Conf}
 use Rattle.apcu_model.specs.Conf.{IsGood}
@@ -38,6 +38,11 @@ bare_stands e ws aside conf good ended removed count ready live from to = record
   from = from;
   to = to;
 }
+
+-- of no places nothing is kept
+pub none_kept : (blocks : List Extent) → kept_blocks [] blocks ≡ []
+none_kept [] = refl
+none_kept (block ∷ blocks) = none_kept blocks
 
 -- what is left of whole entries without their rows, where none is removed
 pub left_bare : (s : Entries) → IsWhole s → s.removed ≡ [] → without_rows s ≡ bare s.conf s.next_number

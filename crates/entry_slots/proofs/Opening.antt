@@ -6,6 +6,7 @@ use Rattle.std.proofs.lemmas.List.Elements.{Contains-append_cases}
 use Rattle.seg_words.specs.declared.extents.Extent.{Extent}
 use Rattle.seg_words.specs.Windows.{Aside, is_named}
 use Rattle.seg_words.specs.Blocks.{MayProbe, image_place, image_end}
+use Rattle.sma_blocks.specs.Order.{ready_renamed}
 use Rattle.sma_blocks.specs.Live.{live_blocks}
 use Rattle.sma_blocks.specs.Ready.{Holds}
 use Rattle.apcu_model.specs.Cache.{Row, extent_of}
@@ -49,7 +50,7 @@ closed_stands e ws old new s fewer h = record {
   removed = h.removed;
   unlinked = h.unlinked;
   taken = λ block there. false_from_ne_true (is_named new.windows block.place) (λ named. false≢true (sym (h.taken block there) ∙ fewer block.place named));
-  ready = record { end = h.ready.end; formatted = h.ready.formatted; blocks = h.ready.blocks; windows = λ at named. h.ready.windows at (fewer at named) };
+  ready = ready_renamed h.ready (λ at named. h.ready.windows at (fewer at named));
   blocks = h.blocks;
   apart = h.apart;
   number = h.number;
@@ -73,15 +74,10 @@ opened_stands e ws old new s at there more h =
         | inl same ↦ not_taken s h own.0 own.1 block t (same ∙ sym own.2)
         | inr before ↦ false≢true (sym (h.taken block t) ∙ before)
       ]);
-      ready = record {
-        end = h.ready.end;
-        formatted = h.ready.formatted;
-        blocks = h.ready.blocks;
-        windows = λ x named. elim (more x named) [
-          | inl same ↦ subst (Holds ws (live_blocks ws e.sma.from)) (own.2 ∙ sym same) (record { size = own.0.size; live = own.3.live; inside = image_inside own.0 own.3 })
-          | inr before ↦ h.ready.windows x before
-        ];
-      };
+      ready = ready_renamed h.ready (λ x named. elim (more x named) [
+        | inl same ↦ subst (Holds ws (live_blocks ws e.sma.from)) (own.2 ∙ sym same) (record { size = own.0.size; live = own.3.live; inside = image_inside own.0 own.3 })
+        | inr before ↦ h.ready.windows x before
+      ]);
       blocks = h.blocks;
       apart = h.apart;
       number = h.number;

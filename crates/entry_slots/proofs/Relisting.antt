@@ -6,6 +6,7 @@ use Rattle.std.proofs.lemmas.List.Elements.{Contains-append_cases, Contains-appe
 use Rattle.std.specs.List.{Contains, filter, count_by}
 use Rattle.seg_words.specs.declared.extents.Extent.{Extent}
 use Rattle.seg_words.specs.Windows.{Aside}
+use Rattle.sma_blocks.specs.Order.{ready_blocks}
 use Rattle.sma_blocks.specs.Live.{live_blocks, IsLive, without_block, SameBlocks}
 use Rattle.sma_blocks.specs.declared.sma.Sma.{Sma}
 use Rattle.sma_blocks.specs.Ready.{IsReady, ChangesInner}
@@ -211,7 +212,7 @@ given_stands law {e} {ws} {aside} s h at q there place sma' ws' live same ef et 
         count = λ test.
             let p : Row → Bool = λ row. test (extent_of row) in
             let home = home_unlinked q h there in
-            let few : count_by (begins_at at) blocks ≤ 1 = blocks_once ws e.sma.from (live_blocks ws e.sma.from) e.sma.to at h.ready.blocks in
+            let few : count_by (begins_at at) blocks ≤ 1 = blocks_once ws e.sma.from (live_blocks ws e.sma.from) e.sma.to at (ready_blocks h.ready) in
             let one : count_by test (filter (begins_at at) blocks) ≡ cond (test (extent_of q)) 1 0 = only_passes test (begins_at at) blocks (extent_of q) home.live (eq-eqb q.place at place) few in
             let two : count_by p (only_at at s.unlinked) ≡ cond (p q) 1 0 = only_passes p (is_at at) s.unlinked q there (at_itself q at place) (omega (arith, once h at)) in
             let after : Entries = record s { unlinked = without_place at s.unlinked } in

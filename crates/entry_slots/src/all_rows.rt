@@ -1,8 +1,9 @@
 //! All rows at once: the shape of the slots, how many rows there are, and caches without rows.
 
-ghost use Rattle.std.specs.Prelude.{◌≡◌, ℕ, ◌<◌, ◌≤◌, true, false, [], length, slice_index};
+ghost use Rattle.std.specs.Prelude.{◌≡◌, ℕ, ◌<◌, ◌≤◌, ◌*◌, true, false, [], length, slice_index};
 ghost use Rattle.seg_words.specs.Kept.{KeptBeside};
 ghost use Rattle.seg_words.specs.Windows.{is_named};
+ghost use Rattle.sma_blocks.specs.Ready.{ChangesBefore};
 ghost use Rattle.apcu_model.specs.Conf.{IsGood};
 ghost use Rattle.entry_slots.specs.Lists.{has_place};
 ghost use Rattle.entry_slots.specs.Entries.{IsWhole, no_entries, without_rows};
@@ -11,22 +12,27 @@ ghost use Rattle.entry_slots.specs.Standing.{Stand, IsStanding, entries};
 use crate::slots::EntrySlots;
 use crate::standing::{Change, Standing};
 use apcu_model::Conf;
+use max_tree::MaxRow;
 use seg_words::{Segment, WordsIn};
-use sma_blocks::Sma;
+use sma_blocks::{Sma, block_laws};
 
 impl EntrySlots {
     /// Makes a cache of this shape without rows. No window may be open.
-    pub fn format<S: Segment>(seg: &mut S, conf: &Conf) -> EntrySlots
+    ///
+    /// `gaps` is the memory of the index of gaps: zeros, one for every four words.
+    pub fn format<S: Segment>(seg: &mut S, conf: &Conf, gaps: MaxRow) -> EntrySlots
         requires good { IsGood conf.now }
         requires all { length (S.words seg.old) ≡ conf.now.words }
         requires closed { (at : ℕ) → is_named (S.aside seg.old).windows at ≡ false }
+        requires enough { length (S.words seg.old) ≤ 4 * length gaps }
+        requires zeros { (i : ℕ) → slice_index gaps i ≡ 0 }
         ensures made { entries result ≡ no_entries conf.now }
         ensures stand { Stand S.WordsIn result seg.new }
         ensures beside { KeptBeside S.WordsIn seg.old seg.new }
     {
         end_chains(seg, conf.slots);
         EntrySlots {
-            sma: Sma::format(seg, conf.slots),
+            sma: Sma::format(seg, conf.slots, gaps),
             removed: 0,
             next_number: 1,
             count: 0,
@@ -70,9 +76,9 @@ impl EntrySlots {
         ensures stand { Stand S.WordsIn self.new seg.new }
         ensures beside { KeptBeside S.WordsIn seg.old seg.new }
     {
-        let slots = self.sma.from;
-        end_chains(seg, slots);
-        self.sma = Sma::format(seg, slots);
+        block_laws();
+        end_chains(seg, self.sma.from);
+        self.sma.keep(seg, &[]);
         self.count = 0;
         self.standing = self.standing.then(&Change::Clear);
     }
@@ -82,7 +88,7 @@ impl EntrySlots {
 fn end_chains<S: Segment>(seg: &mut S, slots: u32)
     requires inside { slots ≤ length (S.words seg.old) }
     requires closed { (at : ℕ) → is_named (S.aside seg.old).windows at ≡ false }
-    ensures count { length (S.words seg.new) ≡ length (S.words seg.old) }
+    ensures others { ChangesBefore (S.words seg.old) (S.words seg.new) slots }
     ensures ended { (slot : ℕ) → slot < slots → slice_index (S.words seg.new) slot ≡ 0 }
     ensures beside { KeptBeside S.WordsIn seg.old seg.new }
 {

@@ -1,17 +1,17 @@
 -- What giving a block back leaves.
-use Rattle.std.proofs.Common.{◌≡◌, ◌≢◌, ◌⊎◌, inl, inr, ℕ, ◌+◌, ◌-◌, ◌%◌, ◌<◌, ◌≤◌, Bool, true, false, not, cond, List, [], ◌∷◌, ◌++◌, length, slice_index, slice_set, refl, sym, ap, ◌∙◌, subst, arith}
+use Rattle.std.proofs.Common.{◌≡◌, ◌≢◌, ◌⊎◌, inl, inr, ℕ, ◌+◌, ◌-◌, ◌%◌, ◌<◌, ◌≤◌, Bool, true, false, not, cond, List, [], ◌∷◌, ◌++◌, length, slice_index, refl, sym, ap, ◌∙◌, subst, arith}
 use Rattle.std.proofs.lemmas.Bool.{not-true}
-use Rattle.std.proofs.lemmas.List.{get_or-set_same, get_or-set_other, length-set}
 use Rattle.std.specs.List.{Contains}
 use Rattle.std.proofs.lemmas.List.Elements.{Contains-append_cases}
 use Rattle.seg_words.specs.declared.extents.Extent.{Extent}
 use Rattle.seg_words.specs.Windows.{Aside, is_named}
 use Rattle.seg_words.specs.Blocks.{MayStore}
-use Rattle.sma_blocks.specs.declared.sma.Sma.{Sma}
+use Rattle.sma_blocks.proofs.Spans.{Span, IsFilled}
 use Rattle.sma_blocks.specs.Pieces.{Piece, pieces, Fill, gaps_touch, IsFormatted}
 use Rattle.sma_blocks.specs.Live.{lives, live_blocks, IsLive, without_block, SameBlocks}
-use Rattle.sma_blocks.specs.Ready.{NameLive, IsReady}
-use Rattle.sma_blocks.specs.Walk.{IsEdge, ends_in_gap, IsFreeBefore, IsFreeAfter}
+use Rattle.sma_blocks.specs.Ready.{NameLive}
+use Rattle.sma_blocks.specs.Walk.{IsEdge, ends_in_gap, IsFreeBefore, IsFreeAfter, merged_words}
+use Rattle.sma_blocks.proofs.Storing.{merged_count, merged_first, merged_other}
 use Rattle.sma_blocks.proofs.Filling.{Fill-le, Fill-append, pieces-filled, edge_whole}
 use Rattle.sma_blocks.proofs.Lives.{extent_of, lives-append, lives_between, Contains-cases, without_block_between}
 use Rattle.sma_blocks.proofs.Naming.{between, may_store, names_less, ready_from}
@@ -38,49 +38,13 @@ live_ahead ws from place at p rest h is live ahead =
     go false f c = inr (lives_between ws (place + p.size) rest (length ws) (record { place = at; size = live.0 }) f.1 c).0
 
 -- a live block lies before the end
-pub live_inside : (sma : Sma) (ws : List ℕ) (aside : Aside) (at : ℕ) → IsReady sma ws aside → IsLive (live_blocks ws sma.from) at → (sma.from ≤ at) × (at + 2 ≤ sma.to)
-live_inside sma ws aside at h live =
-    let b = lives_between ws sma.from (pieces ws sma.from) (length ws) (record { place = at; size = live.0 }) h.formatted.full live.1 in
+pub live_inside : (span : Span) (ws : List ℕ) (aside : Aside) (at : ℕ) → IsFilled span ws aside → IsLive (live_blocks ws span.from) at → (span.from ≤ at) × (at + 2 ≤ span.to)
+live_inside span ws aside at h live =
+    let b = lives_between ws span.from (pieces ws span.from) (length ws) (record { place = at; size = live.0 }) h.formatted.full live.1 in
     (b.0, omega (arith, b.1, b.2, h.end))
-
-pub before_start : (ws : List ℕ) (from : ℕ) → Fill ws from (pieces ws from) (length ws) → IsFreeBefore ws from from from
-before_start ws from h = record { front = []; tail = []; before = refl; between = refl; free = refl; ends_live = refl; after = h }
 
 pub before_edge : (ws : List ℕ) (from first place : ℕ) → IsFreeBefore ws from first place → IsEdge ws from place
 before_edge ws from first place h = record { passed = h.front ++ h.tail; before = Fill-append ws from h.front first h.tail place h.before h.between; after = h.after }
-
--- past a live block
-pub before_live : (ws : List ℕ) (from first place size : ℕ) (rest : List Piece) → IsFreeBefore ws from first place → pieces ws place ≡ record { place = place; size = size; live = true } ∷ rest → IsFreeBefore ws from (place + size) (place + size)
-before_live ws from first place size rest h is =
-    let p : Piece = record { place = place; size = size; live = true } in
-    let filled : Fill ws place (p ∷ rest) (length ws) = subst (λ ps. Fill ws place ps (length ws)) is h.after in
-    let found : pieces ws (place + size) ≡ rest = pieces-filled ws (place + size) rest filled.1 in
-    let here : Fill ws first (h.tail ++ p ∷ []) (place + size) = Fill-append ws first h.tail place (p ∷ []) (place + size) h.between (filled.0, refl) in
-    record {
-      front = h.front ++ (h.tail ++ p ∷ []);
-      tail = [];
-      before = Fill-append ws from h.front first (h.tail ++ p ∷ []) (place + size) h.before here;
-      between = refl;
-      free = refl;
-      ends_live = ends_in_gap-append false h.front (h.tail ++ p ∷ []) ∙ ends_in_gap-append (ends_in_gap false h.front) h.tail (p ∷ []);
-      after = subst (λ ps. Fill ws (place + size) ps (length ws)) (sym found) filled.1;
-    }
-
--- past a gap
-pub before_gap : (ws : List ℕ) (from first place size : ℕ) (rest : List Piece) → IsFreeBefore ws from first place → pieces ws place ≡ record { place = place; size = size; live = false } ∷ rest → IsFreeBefore ws from first (place + size)
-before_gap ws from first place size rest h is =
-    let p : Piece = record { place = place; size = size; live = false } in
-    let filled : Fill ws place (p ∷ rest) (length ws) = subst (λ ps. Fill ws place ps (length ws)) is h.after in
-    let found : pieces ws (place + size) ≡ rest = pieces-filled ws (place + size) rest filled.1 in
-    record {
-      front = h.front;
-      tail = h.tail ++ p ∷ [];
-      before = h.before;
-      between = Fill-append ws first h.tail place (p ∷ []) (place + size) h.between (filled.0, refl);
-      free = lives-append h.tail (p ∷ []) ∙ ap (λ es. es ++ []) h.free;
-      ends_live = h.ends_live;
-      after = subst (λ ps. Fill ws (place + size) ps (length ws)) (sym found) filled.1;
-    }
 
 -- the pieces from an edge on: no two gaps touch among them
 merged_at : (ws : List ℕ) (from at : ℕ) (h : IsEdge ws from at) → IsFormatted ws from → gaps_touch false (pieces ws at) ≡ false
@@ -108,118 +72,107 @@ after_gap ws from end size rest formatted h is =
     record { tail = p ∷ []; rest = rest; between = (filled.0, refl); after = filled.1; free = refl; begins_live = (merged_gap false p rest refl merged).1 }
 
 -- a live block with the free words round it
-pub record Around (sma : Sma) (ws : List ℕ) (aside : Aside) (at size first last : ℕ) : Type 0 where
-  pub ready : IsReady sma ws aside
-  pub before : IsFreeBefore ws sma.from first at
+pub record Around (span : Span) (ws : List ℕ) (aside : Aside) (at size first last : ℕ) : Type 0 where
+  pub ready : IsFilled span ws aside
+  pub before : IsFreeBefore ws span.from first at
   pub is : pieces ws at ≡ record { place = at; size = size; live = true } ∷ pieces ws (at + size)
   pub after : IsFreeAfter ws (at + size) last
   pub unnamed : is_named aside.windows at ≡ false
 
-abbrev pub merged_words : List ℕ → ℕ → ℕ → List ℕ
-merged_words ws first last = slice_set ws first ((last - first) + 1)
-
-abbrev block : ℕ → ℕ → Piece
+abbrev pub block : ℕ → ℕ → Piece
 block at size = record { place = at; size = size; live = true }
 
-abbrev given : ℕ → ℕ → Extent
+abbrev pub given : ℕ → ℕ → Extent
 given at size = record { place = at; size = size }
 
-abbrev gap : ℕ → ℕ → Piece
+abbrev pub gap : ℕ → ℕ → Piece
 gap first last = record { place = first; size = last - first; live = false }
 
-around_fill : {sma : Sma} {ws : List ℕ} {aside : Aside} {at size first last : ℕ} (h : Around sma ws aside at size first last) → Fill ws at (block at size ∷ pieces ws (at + size)) (length ws)
-around_fill {sma} {ws} {aside} {at} {size} {first} {last} h = subst (λ ps. Fill ws at ps (length ws)) h.is h.before.after
+pub around_fill : {span : Span} {ws : List ℕ} {aside : Aside} {at size first last : ℕ} (h : Around span ws aside at size first last) → Fill ws at (block at size ∷ pieces ws (at + size)) (length ws)
+around_fill {span} {ws} {aside} {at} {size} {first} {last} h = subst (λ ps. Fill ws at ps (length ws)) h.is h.before.after
 
-around_pieces : {sma : Sma} {ws : List ℕ} {aside : Aside} {at size first last : ℕ} (h : Around sma ws aside at size first last) → pieces ws sma.from ≡ h.before.front ++ (h.before.tail ++ (block at size ∷ (h.after.tail ++ h.after.rest)))
-around_pieces {sma} {ws} {aside} {at} {size} {first} {last} h =
+pub around_pieces : {span : Span} {ws : List ℕ} {aside : Aside} {at size first last : ℕ} (h : Around span ws aside at size first last) → pieces ws span.from ≡ h.before.front ++ (h.before.tail ++ (block at size ∷ (h.after.tail ++ h.after.rest)))
+around_pieces {span} {ws} {aside} {at} {size} {first} {last} h =
     let behind : Fill ws (at + size) (h.after.tail ++ h.after.rest) (length ws) = Fill-append ws (at + size) h.after.tail last h.after.rest (length ws) h.after.between h.after.after in
     let here : Fill ws at (block at size ∷ (h.after.tail ++ h.after.rest)) (length ws) = ((around_fill h).0, behind) in
-    pieces-filled ws sma.from (h.before.front ++ (h.before.tail ++ (block at size ∷ (h.after.tail ++ h.after.rest))))
-    (Fill-append ws sma.from h.before.front first (h.before.tail ++ (block at size ∷ (h.after.tail ++ h.after.rest))) (length ws) h.before.before
+    pieces-filled ws span.from (h.before.front ++ (h.before.tail ++ (block at size ∷ (h.after.tail ++ h.after.rest))))
+    (Fill-append ws span.from h.before.front first (h.before.tail ++ (block at size ∷ (h.after.tail ++ h.after.rest))) (length ws) h.before.before
     (Fill-append ws first h.before.tail at (block at size ∷ (h.after.tail ++ h.after.rest)) (length ws) h.before.between here))
 
-around_blocks : {sma : Sma} {ws : List ℕ} {aside : Aside} {at size first last : ℕ} (h : Around sma ws aside at size first last) → live_blocks ws sma.from ≡ lives h.before.front ++ given at size ∷ lives h.after.rest
-around_blocks {sma} {ws} {aside} {at} {size} {first} {last} h =
+pub around_blocks : {span : Span} {ws : List ℕ} {aside : Aside} {at size first last : ℕ} (h : Around span ws aside at size first last) → live_blocks ws span.from ≡ lives h.before.front ++ given at size ∷ lives h.after.rest
+around_blocks {span} {ws} {aside} {at} {size} {first} {last} h =
     let behind : lives (h.after.tail ++ h.after.rest) ≡ lives h.after.rest = lives-append h.after.tail h.after.rest ∙ ap (λ es. es ++ lives h.after.rest) h.after.free in
     let here : lives (h.before.tail ++ (block at size ∷ (h.after.tail ++ h.after.rest))) ≡ given at size ∷ lives (h.after.tail ++ h.after.rest) =
     lives-append h.before.tail (block at size ∷ (h.after.tail ++ h.after.rest)) ∙ ap (λ es. es ++ (given at size ∷ lives (h.after.tail ++ h.after.rest))) h.before.free in
     ap lives (around_pieces h) ∙ lives-append h.before.front (h.before.tail ++ (block at size ∷ (h.after.tail ++ h.after.rest))) ∙ ap (λ es. lives h.before.front ++ es) (here ∙ ap (λ es. given at size ∷ es) behind)
 
-pub around_order : {sma : Sma} {ws : List ℕ} {aside : Aside} {at size first last : ℕ} (h : Around sma ws aside at size first last) → (first ≤ at) × (at + size ≤ last) × (last ≤ length ws) × (2 ≤ size)
-around_order {sma} {ws} {aside} {at} {size} {first} {last} h =
+pub around_order : {span : Span} {ws : List ℕ} {aside : Aside} {at size first last : ℕ} (h : Around span ws aside at size first last) → (first ≤ at) × (at + size ≤ last) × (last ≤ length ws) × (2 ≤ size)
+around_order {span} {ws} {aside} {at} {size} {first} {last} h =
     (Fill-le ws first h.before.tail at h.before.between, Fill-le ws (at + size) h.after.tail last h.after.between, Fill-le ws last h.after.rest (length ws) h.after.after, (around_fill h).0.enough)
 
-give_middle : {sma : Sma} {ws : List ℕ} {aside : Aside} {at size first last : ℕ} (h : Around sma ws aside at size first last) → Fill (merged_words ws first last) first (gap first last ∷ []) last
-give_middle {sma} {ws} {aside} {at} {size} {first} {last} h =
+give_middle : {span : Span} {ws : List ℕ} {aside : Aside} {at size first last : ℕ} (h : Around span ws aside at size first last) (next : ℕ) → Fill (merged_words ws first last next) first (gap first last ∷ []) last
+give_middle {span} {ws} {aside} {at} {size} {first} {last} h next =
     let order = around_order h in
-    let low : first % 2 ≡ 0 = Fill-even ws sma.from h.before.front first h.before.before h.ready.formatted.even in
+    let low : first % 2 ≡ 0 = Fill-even ws span.from h.before.front first h.before.before h.ready.formatted.even in
     let here : at % 2 ≡ 0 = Fill-even ws first h.before.tail at h.before.between low in
     let end : (at + size) % 2 ≡ 0 = omega (arith, (around_fill h).0.even, here) in
     let high : last % 2 ≡ 0 = Fill-even ws (at + size) h.after.tail last h.after.between end in
-    let word : slice_index (merged_words ws first last) first ≡ (last - first) + 1 = get_or-set_same ws first ((last - first) + 1) 0 (omega (arith, order.0, order.1, order.2, order.3)) in
+    let word : slice_index (merged_words ws first last next) first ≡ (last - first) + 1 = merged_first ws first last next (omega (arith, order.0, order.1, order.2, order.3)) in
     (record { place = refl; word = word; even = omega (arith, low, high, order.0, order.1); enough = omega (arith, order.0, order.1, order.3) }, omega (arith, order.0, order.1))
 
-pub give_change : {sma : Sma} {ws : List ℕ} {aside : Aside} {at size first last : ℕ} (h : Around sma ws aside at size first last) → Change ws (merged_words ws first last) sma.from first last h.before.front (gap first last ∷ []) h.after.rest
-give_change {sma} {ws} {aside} {at} {size} {first} {last} h =
+pub give_change : {span : Span} {ws : List ℕ} {aside : Aside} {at size first last : ℕ} (h : Around span ws aside at size first last) (next : ℕ) → Change ws (merged_words ws first last next) span.from first last h.before.front (gap first last ∷ []) h.after.rest
+give_change {span} {ws} {aside} {at} {size} {first} {last} h next =
     let order = around_order h in
     record {
       before = h.before.before;
-      middle = give_middle h;
+      middle = give_middle h next;
       after = h.after.after;
       same = λ i out.
-          let other : i ≢ first = elim out [ inl l ↦ (λ q. omega arith) | inr r ↦ (λ q. omega (arith, order.0, order.1, order.3)) ] in
-          get_or-set_other ws first i ((last - first) + 1) 0 other;
-      count = length-set ws first ((last - first) + 1);
+          let one : i ≢ first = elim out [ inl l ↦ (λ q. omega arith) | inr r ↦ (λ q. omega (arith, order.0, order.1, order.3)) ] in
+          let two : i ≢ first + 1 = elim out [ inl l ↦ (λ q. omega arith) | inr r ↦ (λ q. omega (arith, order.0, order.1, order.3)) ] in
+          merged_other ws first last next i one two;
+      count = merged_count ws first last next;
     }
 
-give_without : {sma : Sma} {ws : List ℕ} {aside : Aside} {at size first last : ℕ} (h : Around sma ws aside at size first last) → without_block at (live_blocks ws sma.from) ≡ lives h.before.front ++ lives h.after.rest
-give_without {sma} {ws} {aside} {at} {size} {first} {last} h =
+give_without : {span : Span} {ws : List ℕ} {aside : Aside} {at size first last : ℕ} (h : Around span ws aside at size first last) → without_block at (live_blocks ws span.from) ≡ lives h.before.front ++ lives h.after.rest
+give_without {span} {ws} {aside} {at} {size} {first} {last} h =
     let order = around_order h in
-    ap (without_block at) (around_blocks h) ∙ without_block_between ws sma.from h.before.front first last h.after.rest (length ws) (given at size) h.before.before h.after.after order.0 (omega (arith, order.1, order.3))
+    ap (without_block at) (around_blocks h) ∙ without_block_between ws span.from h.before.front first last h.after.rest (length ws) (given at size) h.before.before h.after.after order.0 (omega (arith, order.1, order.3))
 
 -- the live blocks lose the one that is given
-pub give_less : {sma : Sma} {ws : List ℕ} {aside : Aside} {at size first last : ℕ} (h : Around sma ws aside at size first last) → live_blocks (merged_words ws first last) sma.from ≡ without_block at (live_blocks ws sma.from)
-give_less {sma} {ws} {aside} {at} {size} {first} {last} h = change_blocks (give_change h) ∙ sym (give_without h)
+pub give_less : {span : Span} {ws : List ℕ} {aside : Aside} {at size first last : ℕ} (h : Around span ws aside at size first last) (next : ℕ) → live_blocks (merged_words ws first last next) span.from ≡ without_block at (live_blocks ws span.from)
+give_less {span} {ws} {aside} {at} {size} {first} {last} h next = change_blocks (give_change h next) ∙ sym (give_without h)
 
-pub give_same : {sma : Sma} {ws : List ℕ} {aside : Aside} {at size first last : ℕ} (h : Around sma ws aside at size first last) → SameBlocks ws (merged_words ws first last) sma.from (without_block at (live_blocks ws sma.from))
-give_same {sma} {ws} {aside} {at} {size} {first} {last} h =
-    subst (λ es. SameBlocks ws (merged_words ws first last) sma.from es) (sym (give_without h)) (change_same (give_change h))
+pub give_same : {span : Span} {ws : List ℕ} {aside : Aside} {at size first last : ℕ} (h : Around span ws aside at size first last) (next : ℕ) → SameBlocks ws (merged_words ws first last next) span.from (without_block at (live_blocks ws span.from))
+give_same {span} {ws} {aside} {at} {size} {first} {last} h next =
+    subst (λ es. SameBlocks ws (merged_words ws first last next) span.from es) (sym (give_without h)) (change_same (give_change h next))
 
-give_names : {sma : Sma} {ws : List ℕ} {aside : Aside} {at size first last : ℕ} (h : Around sma ws aside at size first last) → NameLive ws aside.windows (lives h.before.front ++ lives h.after.rest)
-give_names {sma} {ws} {aside} {at} {size} {first} {last} h =
+give_names : {span : Span} {ws : List ℕ} {aside : Aside} {at size first last : ℕ} (h : Around span ws aside at size first last) → NameLive ws aside.windows (lives h.before.front ++ lives h.after.rest)
+give_names {span} {ws} {aside} {at} {size} {first} {last} h =
     names_less ws aside.windows (lives h.before.front) (given at size) (lives h.after.rest) (subst (λ es. NameLive ws aside.windows es) (around_blocks h) h.ready.windows) h.unnamed
 
--- the first free word may be stored
-pub give_apart : {sma : Sma} {ws : List ℕ} {aside : Aside} {at size first last : ℕ} (h : Around sma ws aside at size first last) → MayStore ws aside.windows first
-give_apart {sma} {ws} {aside} {at} {size} {first} {last} h =
-    let order = around_order h in
-    may_store ws aside.windows (lives h.before.front ++ lives h.after.rest) first last first (give_names h)
-    (between ws sma.from h.before.front first last h.after.rest (length ws) h.before.before h.after.after) (omega arith) (omega (arith, order.0, order.1, order.3))
+-- the words of the gap that is made may be stored
+pub give_apart : {span : Span} {ws : List ℕ} {aside : Aside} {at size first last : ℕ} (h : Around span ws aside at size first last) (i : ℕ) → first ≤ i → i < last → MayStore ws aside.windows i
+give_apart {span} {ws} {aside} {at} {size} {first} {last} h i low high =
+    may_store ws aside.windows (lives h.before.front ++ lives h.after.rest) first last i (give_names h)
+    (between ws span.from h.before.front first last h.after.rest (length ws) h.before.before h.after.after) low high
 
-give_merged : {sma : Sma} {ws : List ℕ} {aside : Aside} {at size first last : ℕ} (h : Around sma ws aside at size first last) → gaps_touch false (h.before.front ++ ((gap first last ∷ []) ++ h.after.rest)) ≡ false
-give_merged {sma} {ws} {aside} {at} {size} {first} {last} h =
+pub give_merged : {span : Span} {ws : List ℕ} {aside : Aside} {at size first last : ℕ} (h : Around span ws aside at size first last) → gaps_touch false (h.before.front ++ ((gap first last ∷ []) ++ h.after.rest)) ≡ false
+give_merged {span} {ws} {aside} {at} {size} {first} {last} h =
     let front = h.before.front in
     let whole : gaps_touch false (front ++ (h.before.tail ++ (block at size ∷ (h.after.tail ++ h.after.rest)))) ≡ false = sym (ap (gaps_touch false) (around_pieces h)) ∙ h.ready.formatted.merged in
     merged_join front (gap first last ∷ h.after.rest) (merged_front front (h.before.tail ++ (block at size ∷ (h.after.tail ++ h.after.rest))) whole)
     (ap (λ b. gaps_touch b (gap first last ∷ h.after.rest)) h.before.ends_live ∙ h.after.begins_live)
 
-pub give_ready : {sma : Sma} {ws : List ℕ} {aside : Aside} {at size first last : ℕ} (h : Around sma ws aside at size first last) → IsReady sma (merged_words ws first last) aside
-give_ready {sma} {ws} {aside} {at} {size} {first} {last} h =
-    ready_from sma (merged_words ws first last) aside (h.ready.end ∙ sym (length-set ws first ((last - first) + 1))) (change_formatted (give_change h) h.ready.formatted.even (give_merged h))
-    (subst (λ es. NameLive (merged_words ws first last) aside.windows es) (sym (change_blocks (give_change h))) (change_names aside.windows (give_change h) (give_names h)))
+pub give_ready : {span : Span} {ws : List ℕ} {aside : Aside} {at size first last : ℕ} (h : Around span ws aside at size first last) (next : ℕ) → IsFilled span (merged_words ws first last next) aside
+give_ready {span} {ws} {aside} {at} {size} {first} {last} h next =
+    ready_from span (merged_words ws first last next) aside (h.ready.end ∙ sym (merged_count ws first last next)) (change_formatted (give_change h next) h.ready.formatted.even (give_merged h))
+    (subst (λ es. NameLive (merged_words ws first last next) aside.windows es) (sym (change_blocks (give_change h next))) (change_names aside.windows (give_change h next) (give_names h)))
 
--- a walk towards a live block does not pass it
-pub live_past : (ws now : List ℕ) (from place at size : ℕ) (is_gap : Bool) → IsEdge ws from place → now ≡ ws → pieces now place ≡ record { place = place; size = size; live = not is_gap } ∷ pieces now (place + size) → IsLive (live_blocks ws from) at → place < at → place + size ≤ at
-live_past ws now from place at size is_gap h same is live ahead =
-    elim (live_ahead ws from place at (record { place = place; size = size; live = not is_gap }) (pieces ws (place + size)) h (piece_seen ws now place size is_gap is_gap same refl is) live (omega arith)) [
-      | inl here ↦ absurd (omega (arith, here.0))
-      | inr past ↦ past
-    ]
-
-pub around_seen : (sma : Sma) (ws : List ℕ) (aside : Aside) (at size first last : ℕ) (now later : List ℕ) (is_gap : Bool) → IsReady sma ws aside → IsLive (live_blocks ws sma.from) at → is_named aside.windows at ≡ false → IsFreeBefore ws sma.from first at → now ≡ ws → pieces now at ≡ record { place = at; size = size; live = not is_gap } ∷ pieces now (at + size) → 2 ≤ size → later ≡ ws → IsFreeAfter later (at + size) last → Around sma ws aside at size first last
-around_seen sma ws aside at size first last now later is_gap ready live unnamed before same is some same_later after =
+pub around_seen : (span : Span) (ws : List ℕ) (aside : Aside) (at size first last : ℕ) (now later : List ℕ) (is_gap : Bool) → IsFilled span ws aside → IsLive (live_blocks ws span.from) at → is_named aside.windows at ≡ false → IsFreeBefore ws span.from first at → now ≡ ws → pieces now at ≡ record { place = at; size = size; live = not is_gap } ∷ pieces now (at + size) → 2 ≤ size → later ≡ ws → IsFreeAfter later (at + size) last → Around span ws aside at size first last
+around_seen span ws aside at size first last now later is_gap ready live unnamed before same is some same_later after =
     let seen = piece_seen ws now at size is_gap is_gap same refl is in
-    let block : is_gap ≡ false = elim (live_ahead ws sma.from at at (record { place = at; size = size; live = not is_gap }) (pieces ws (at + size)) (before_edge ws sma.from first at before) seen live (omega arith)) [
+    let block : is_gap ≡ false = elim (live_ahead ws span.from at at (record { place = at; size = size; live = not is_gap }) (pieces ws (at + size)) (before_edge ws span.from first at before) seen live (omega arith)) [
       | inl here ↦ not-true is_gap here.1
       | inr past ↦ absurd (omega arith)
     ] in

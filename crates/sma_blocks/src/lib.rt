@@ -3,9 +3,7 @@
 
 mod laws;
 mod sma;
+mod stores;
 
 pub use laws::{block_laws, call_laws, list_laws};
 pub use sma::Sma;
-
-#[cfg(test)]
-mod tests;

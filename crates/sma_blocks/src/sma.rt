@@ -1,13 +1,18 @@
-ghost use Rattle.std.specs.Prelude.{◌≡◌, ℕ, ◌+◌, ◌%◌, ◌<◌, ◌≤◌, true, false, not, [], ◌∷◌, length, slice_index, IfSome, IfNone, option_map, find, sum_by, nat_le};
+ghost use Rattle.std.specs.Prelude.{◌≡◌, ◌≢◌, ℕ, ◌+◌, ◌-◌, ◌*◌, ◌/◌, ◌%◌, ◌^◌, ◌<◌, ◌≤◌, true, false, not, [], ◌∷◌, length, slice_index, slice_set, MatchOption, IfSome, IfNone, option_map, find, sum_by, nat_le, nat_lt, if◌then◌else◌, ◌⊎◌};
 ghost use Rattle.seg_words.specs.Kept.{Kept, KeptBeside};
-ghost use Rattle.seg_words.specs.Windows.{is_named};
-ghost use Rattle.seg_words.specs.Blocks.{MayStore};
+ghost use Rattle.seg_words.specs.Windows.{has, is_named};
+ghost use Rattle.seg_words.specs.Blocks.{IsTold, MayStore};
 ghost use Rattle.seg_words.specs.Gaps.{first_fit, free_runs};
-ghost use Rattle.sma_blocks.specs.Live.{IsLive, SameBlocks, live_blocks, with_block, without_block, largest_of};
+ghost use Rattle.sma_blocks.specs.Live.{IsLive, SameBlocks, live_blocks, with_block, without_block, kept_blocks, largest_of};
 ghost use Rattle.sma_blocks.specs.Pieces.{pieces};
+ghost use Rattle.sma_blocks.specs.Chain.{IsChain};
 ghost use Rattle.sma_blocks.specs.Ready.{IsReady};
-ghost use Rattle.sma_blocks.specs.Walk.{IsEdge, IsFreeBefore, IsFreeAfter, cut_words};
+ghost use Rattle.sma_blocks.specs.Walk.{IsEdge, IsFreeBefore, IsFreeAfter, merged_words};
+ghost use Rattle.max_tree.specs.Halves.{other_half};
+ghost use Rattle.sma_blocks.specs.Index.{IsShort, IsJoined};
 
+use crate::stores::{cut, link_new, link_of, merge, next_of, relink, rest_of};
+use max_tree::{MaxRow, PairRow};
 use seg_words::{Segment, fit_laws};
 
 // What begins at a place: a live block or a gap.
@@ -19,30 +24,51 @@ struct Part {
 
 /// The shared memory allocator: blocks and gaps that fill the words of a segment from a place on.
 ///
-/// All places and sizes are even numbers of words. No call takes memory.
-#[derive(Debug, Drop)]
+/// All places and sizes are even numbers of words. The second word of a gap is the place of the next
+/// one, or 0. An index in plain memory finds the gap that a call needs, so that no call walks; it is
+/// made from the row that `format` is handed, and no call takes memory.
+#[derive(Drop)]
 pub struct Sma {
     /// The place of the first block or gap.
     pub from: u32,
     /// The end of the last one, which is the number of words.
     pub to: u32,
+    // The place of the first gap, or 0.
+    head: u32,
+    // How many words all gaps have.
+    free: u32,
+    // The size of the gap that begins at each even place, or 0.
+    sizes: PairRow,
 }
 
 impl Sma {
     /// Makes one gap of all words from `from` on. No window may be open.
-    pub fn format<S: Segment>(seg: &mut S, from: u32) -> Sma
+    ///
+    /// `gaps` is the memory of the index: zeros, one for every four words.
+    pub fn format<S: Segment>(seg: &mut S, from: u32, gaps: MaxRow) -> Sma
         requires even { (from % 2 ≡ 0) × (length (S.words seg.old) % 2 ≡ 0) }
         requires room { from + 2 ≤ length (S.words seg.old) }
         requires closed { (at : ℕ) → is_named (S.aside seg.old).windows at ≡ false }
+        requires enough { length (S.words seg.old) ≤ 4 * length gaps }
+        requires zeros { (i : ℕ) → slice_index gaps i ≡ 0 }
         ensures from { result.from ≡ from }
         ensures ready { IsReady result (S.words seg.new) (S.aside seg.new) }
         ensures empty { live_blocks (S.words seg.new) from ≡ [] }
+        ensures chain { IsChain (S.words seg.new) result.head (free_runs from result.to []) }
         ensures before { SameBlocks (S.words seg.old) (S.words seg.new) from [] }
         ensures beside { KeptBeside S.WordsIn seg.old seg.new }
     {
         let to = seg.len();
-        seg.store(from, u64::from(to - from) + 1);
-        Sma { from, to }
+        merge(seg, from, to, 0);
+        let mut sizes = PairRow::new(gaps);
+        sizes.put(from as usize / 2, to - from);
+        Sma {
+            from,
+            to,
+            head: from,
+            free: to - from,
+            sizes,
+        }
     }
 
     /// Makes a live block of `n` words at the least place where they fit beside all live blocks;
@@ -55,22 +81,26 @@ impl Sma {
         ensures word { IfSome result (λ at. slice_index (S.words seg.new) at ≡ n) }
         ensures others { SameBlocks (S.words seg.old) (S.words seg.new) self.old.from (live_blocks (S.words seg.old) self.old.from) }
         ensures none { IfNone result (S.words seg.new ≡ S.words seg.old) }
+        ensures same { IfNone result (self.new ≡ self.old) }
         ensures from { self.new.from ≡ self.old.from }
         ensures to { self.new.to ≡ self.old.to }
         ensures ready { IsReady self.new (S.words seg.new) (S.aside seg.new) }
+        ensures chain { IsChain (S.words seg.new) self.new.head (free_runs self.new.from self.new.to (live_blocks (S.words seg.new) self.new.from)) }
         ensures beside { KeptBeside S.WordsIn seg.old seg.new }
     {
         fit_laws();
-        let mut at = self.from;
-        while at < self.to {
-            let part = self.part_at(seg, at);
-            if part.is_gap && n <= part.size {
-                cut(seg, at, part.size, n);
-                return Some(at);
-            }
-            at += part.size;
-        }
-        None
+        let Some(index) = self.sizes.first_at_least(n) else {
+            return None;
+        };
+        let size = self.sizes.get(index);
+        let at = 2 * index as u32;
+        let before = self.sizes.last_nonzero_before(index);
+        let rest = rest_of(seg, at, size, n);
+        shorten(&mut self.sizes, index, size, n);
+        cut(seg, at, size, n);
+        relink(seg, &mut self.head, before, rest);
+        self.free -= n;
+        Some(at)
     }
 
     /// Makes the block at `at` live no more, and one gap of it and the gaps beside it. No window may
@@ -84,12 +114,50 @@ impl Sma {
         ensures from { self.new.from ≡ self.old.from }
         ensures to { self.new.to ≡ self.old.to }
         ensures ready { IsReady self.new (S.words seg.new) (S.aside seg.new) }
+        ensures chain { IsChain (S.words seg.new) self.new.head (free_runs self.new.from self.new.to (live_blocks (S.words seg.new) self.new.from)) }
         ensures beside { KeptBeside S.WordsIn seg.old seg.new }
     {
-        let first = self.free_before(seg, at);
+        let before = self.sizes.last_nonzero_before(at as usize / 2);
+        let first = self.free_before(seg, before, at);
         let given = self.part_at(seg, at);
-        let last = self.free_after(seg, at + given.size);
-        seg.store(first, u64::from(last - first) + 1);
+        let end = at + given.size;
+        let last = self.free_after(seg, end);
+        let next = next_of(seg, self.head, before, at, first, end, last);
+        join(&mut self.sizes, first, end, last);
+        self.free += given.size;
+        merge(seg, first, last, next);
+        link_new(seg, &mut self.head, before, first, at);
+    }
+
+    /// Keeps the blocks at these rising places live, and makes gaps of all other words. Every window
+    /// names one of these blocks.
+    pub fn keep<S: Segment>(&mut self, seg: &mut S, places: &[u32])
+        requires live { (i : ℕ) → i < length places.now → IsLive (live_blocks (S.words seg.old) self.old.from) (slice_index places.now i) }
+        requires rising { (i : ℕ) → i + 1 < length places.now → slice_index places.now i < slice_index places.now (i + 1) }
+        requires named { (at : ℕ) → is_named (S.aside seg.old).windows at ≡ true → has at places.now ≡ true }
+        requires ready { IsReady self.old (S.words seg.old) (S.aside seg.old) }
+        ensures left { live_blocks (S.words seg.new) self.old.from ≡ kept_blocks places.now (live_blocks (S.words seg.old) self.old.from) }
+        ensures others { SameBlocks (S.words seg.old) (S.words seg.new) self.old.from (kept_blocks places.now (live_blocks (S.words seg.old) self.old.from)) }
+        ensures from { self.new.from ≡ self.old.from }
+        ensures to { self.new.to ≡ self.old.to }
+        ensures ready { IsReady self.new (S.words seg.new) (S.aside seg.new) }
+        ensures chain { IsChain (S.words seg.new) self.new.head (free_runs self.new.from self.new.to (live_blocks (S.words seg.new) self.new.from)) }
+        ensures beside { KeptBeside S.WordsIn seg.old seg.new }
+    {
+        self.sizes.clear();
+        self.free = 0;
+        self.head = 0;
+        // From the last block on, so that the link of each gap is known when it is made.
+        let mut end = self.to;
+        let mut i = places.len();
+        while i > 0 {
+            i -= 1;
+            let at = places[i];
+            let size = seg.load(at) as u32;
+            self.lay(seg, at + size, end);
+            end = at;
+        }
+        self.lay(seg, self.from, end);
     }
 
     /// How many words are free: the words of all gaps.
@@ -98,16 +166,7 @@ impl Sma {
         ensures value { result ≡ sum_by (λ run. run.size) (free_runs self.now.from self.now.to (live_blocks (S.words seg.old) self.now.from)) }
         ensures kept { Kept S.WordsIn seg.old seg.new }
     {
-        let mut free = 0;
-        let mut at = self.from;
-        while at < self.to {
-            let part = self.part_at(seg, at);
-            if part.is_gap {
-                free += part.size;
-            }
-            at += part.size;
-        }
-        free
+        self.free
     }
 
     /// The size of the largest gap, in words; 0 where there is none.
@@ -116,16 +175,14 @@ impl Sma {
         ensures value { result ≡ largest_of (free_runs self.now.from self.now.to (live_blocks (S.words seg.old) self.now.from)) }
         ensures kept { Kept S.WordsIn seg.old seg.new }
     {
-        let mut largest = 0;
-        let mut at = self.from;
-        while at < self.to {
-            let part = self.part_at(seg, at);
-            if part.is_gap {
-                largest = largest.max(part.size);
-            }
-            at += part.size;
-        }
-        largest
+        self.sizes.largest()
+    }
+
+    /// The place of the first gap; 0 where there is none.
+    pub fn first_gap(&self) -> u32
+        ensures { result ≡ self.now.head }
+    {
+        self.head
     }
 
     /// The first gap at or past `at`, as its place and its size; `None` exactly where there is none.
@@ -134,34 +191,61 @@ impl Sma {
         ensures value { result ≡ option_map (λ run. (run.place, run.size)) (find (λ run. nat_le at run.place) (free_runs self.now.from self.now.to (live_blocks (S.words seg.old) self.now.from))) }
         ensures kept { Kept S.WordsIn seg.old seg.new }
     {
-        let mut place = self.from;
-        while place < self.to {
-            let part = self.part_at(seg, place);
-            if part.is_gap && at <= place {
-                return Some((place, part.size));
-            }
-            place += part.size;
+        if self.to <= at || self.to - at < 2 {
+            return None;
         }
-        None
+        let index = at as usize / 2 + at as usize % 2;
+        let before = self.sizes.last_nonzero_before(index);
+        let place = link_of(seg, self.head, before) as u32;
+        if place < at {
+            return None;
+        }
+        let size = self.sizes.get(place as usize / 2);
+        if size == 0 { None } else { Some((place, size)) }
     }
 
-    // The place from which on the words right before the live block at `at` are free.
-    fn free_before<S: Segment>(&self, seg: &mut S, at: u32) -> u32
-        requires ready { IsReady self.now (S.words seg.old) (S.aside seg.old) }
-        requires live { IsLive (live_blocks (S.words seg.old) self.now.from) at }
-        ensures free { IsFreeBefore (S.words seg.old) self.now.from result at }
-        ensures kept { Kept S.WordsIn seg.old seg.new }
+    // Makes a gap of the words from `first` up to `last`, if there are any, in front of all other gaps.
+    fn lay<S: Segment>(&mut self, seg: &mut S, first: u32, last: u32)
+        requires inside { last ≤ length (S.words seg.old) }
+        requires even { (first % 2 ≡ 0) × (last % 2 ≡ 0) }
+        requires apart { (i : ℕ) → first ≤ i → i < last → MayStore (S.words seg.old) (S.aside seg.old).windows i }
+        requires index { first < last → first / 2 < length self.old.sizes }
+        requires alone { first < last → slice_index self.old.sizes (other_half (first / 2)) ≡ 0 }
+        requires count { self.old.free + (last - first) < 2 ^ 32 }
+        ensures words { first < last → S.words seg.new ≡ merged_words (S.words seg.old) first last self.old.head }
+        ensures sizes { first < last → IsJoined self.old.sizes self.new.sizes first last last }
+        ensures head { first < last → (self.new.head ≡ first) × (self.new.free ≡ self.old.free + (last - first)) }
+        ensures none { last ≤ first → (S.words seg.new ≡ S.words seg.old) × (self.new ≡ self.old) }
+        ensures from { self.new.from ≡ self.old.from }
+        ensures to { self.new.to ≡ self.old.to }
+        ensures beside { KeptBeside S.WordsIn seg.old seg.new }
     {
-        let mut first = self.from;
-        let mut place = self.from;
-        while place < at {
-            let part = self.part_at(seg, place);
-            place += part.size;
-            if !part.is_gap {
-                first = place;
-            }
+        if first < last {
+            merge(seg, first, last, u64::from(self.head));
+            self.sizes.put(first as usize / 2, last - first);
+            self.free += last - first;
+            self.head = first;
         }
-        first
+    }
+
+    // The place from which on the words right before the live block at `at` are free, where `before`
+    // is the last gap before it. It reads the index alone.
+    fn free_before<S: Segment>(&self, seg: &S, before: Option<usize>, at: u32) -> u32
+        requires ready { IsReady self.now (S.words seg.now) (S.aside seg.now) }
+        requires live { IsLive (live_blocks (S.words seg.now) self.now.from) at }
+        requires found { MatchOption before ((k : ℕ) → k < at / 2 → slice_index self.now.sizes k ≡ 0) (λ q. (q < at / 2) × (slice_index self.now.sizes q ≢ 0)) }
+        requires last { MatchOption before (Unit {0}) (λ q. (k : ℕ) → q < k → k < at / 2 → slice_index self.now.sizes k ≡ 0) }
+        ensures free { IsFreeBefore (S.words seg.now) self.now.from result at }
+        ensures place { MatchOption before (result ≡ at) (λ q. (result ≡ at) ⊎ (result ≡ 2 * q)) }
+    {
+        let Some(index) = before else {
+            return at;
+        };
+        let first = 2 * index as u32;
+        if first + self.sizes.get(index) == at {
+            return first;
+        }
+        at
     }
 
     // The place up to which the words from the edge `end` on are free.
@@ -200,16 +284,35 @@ impl Sma {
     }
 }
 
-// Makes a block of the first `n` words of the gap at `at`, and a gap of what is left of it.
-fn cut<S: Segment>(seg: &mut S, at: u32, size: u32, n: u32)
-    requires inside { at + size ≤ length (S.words seg.old) }
-    requires size { (1 ≤ n) × (n ≤ size) }
-    requires apart { (i : ℕ) → at ≤ i → i < at + size → MayStore (S.words seg.old) (S.aside seg.old).windows i }
-    ensures words { S.words seg.new ≡ cut_words (S.words seg.old) at size n }
-    ensures beside { KeptBeside S.WordsIn seg.old seg.new }
+// The gap begins after its first `n` words, or is no more.
+fn shorten(sizes: &mut PairRow, index: usize, size: u32, n: u32)
+    requires inside { (index < length sizes.old) × (n < size → index + n / 2 < length sizes.old) }
+    requires short { index + n / 2 < 2 ^ 32 }
+    requires even { (size % 2 ≡ 0) × (n % 2 ≡ 0) × (2 ≤ n) }
+    requires some { slice_index sizes.old index ≢ 0 }
+    requires alone { n < size → other_half (index + n / 2) ≢ index → slice_index sizes.old (other_half (index + n / 2)) ≡ 0 }
+    ensures { IsShort sizes.old sizes.new index size n }
 {
     if n < size {
-        seg.store(at + n, u64::from(size - n) + 1);
+        sizes.move_to(index, index + n as usize / 2, size - n);
+    } else {
+        sizes.clear_at(index);
     }
-    seg.store(at, u64::from(n));
+}
+
+// One gap from `first` up to `last` is there in place of the gaps among those words, where the block
+// that was given ended at `end`.
+fn join(sizes: &mut PairRow, first: u32, end: u32, last: u32)
+    requires inside { (first / 2 < length sizes.old) × (end < last → end / 2 < length sizes.old) }
+    requires order { (first + 2 ≤ end) × (end ≤ last) }
+    requires even { (first % 2 ≡ 0) × (end % 2 ≡ 0) × (last % 2 ≡ 0) }
+    requires some { end < last → slice_index sizes.old (end / 2) ≢ 0 }
+    requires alone { (end < last → other_half (first / 2) ≢ end / 2) → slice_index sizes.old (other_half (first / 2)) ≡ 0 }
+    ensures { IsJoined sizes.old sizes.new first end last }
+{
+    if end < last {
+        sizes.move_to(end as usize / 2, first as usize / 2, last - first);
+    } else {
+        sizes.put(first as usize / 2, last - first);
+    }
 }

@@ -17,4 +17,4 @@ returns-clause-stand g c =
     refl refl c.format.ensures.ready
     (ap (live_blocks ws) c.format.ensures.from ∙ c.format.ensures.empty)
     c.format.ensures.from
-    (c.format.ensures.ready.end ∙ (c.format.ensures.before.count ∙ (c.end_chains.ensures.count ∙ c.requires.all))))
+    (c.format.ensures.ready.end ∙ (c.format.ensures.before.count ∙ (c.end_chains.ensures.others.count ∙ c.requires.all))))

@@ -1,0 +1,5 @@
+use Rattle.max_tree.proofs.Paging.{Cleared}
+use Rattle.max_tree.proofs.pages.clear_pages.Given as goal
+
+abbrev pub invariant-loop-k : goal.invariant-loop-k
+invariant-loop-k l = Cleared l.initial.numbers l.numbers l.k

@@ -1,0 +1,7 @@
+use Rattle.std.proofs.Common.{◌≡◌, ◌≢◌, ℕ, ◌+◌, ◌*◌, ◌/◌, ◌%◌, ◌<◌, List, length, get_or, set, Option, Some, None, ap, ap₂, sym, ◌∙◌, subst, refl, arith}
+use Rattle.max_tree.specs.Pages.{largest}
+use Rattle.max_tree.proofs.Halving.{largest_halves}
+use Rattle.max_tree.proofs.pairs.PairRow.largest.Goals as goal
+
+pub returns : goal.returns
+returns c = omega (arith, c.largest-number.ensures, largest_halves c.self.inside.row, ap largest c.self.view_is)

@@ -1,0 +1,10 @@
+use Rattle.std.proofs.Common.{◌≡◌, ◌≢◌, ℕ, ◌+◌, ◌*◌, ◌/◌, ◌%◌, ◌<◌, List, length, get_or, set, Option, Some, ap, sym, ◌∙◌, subst, refl, arith}
+use Rattle.max_tree.specs.Halves.{halves_of}
+use Rattle.max_tree.proofs.Halving.{halves_length, zero_halves}
+use Rattle.max_tree.proofs.pairs.PairRow.new.Goals as goal
+
+pub returns-clause-count : goal.returns-clause-count
+returns-clause-count c = halves_length c.args.row
+
+pub returns-clause-zeros : goal.returns-clause-zeros
+returns-clause-zeros c = zero_halves c.args.row c.requires

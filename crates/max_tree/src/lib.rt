@@ -1,0 +1,12 @@
+//! A row of numbers that finds the first one that is large enough, the last one before a place that is
+//! not 0, and the largest, without looking at them all.
+#![tactic(auto)]
+
+mod nodes;
+mod pages;
+mod pairs;
+mod row;
+mod tree;
+
+pub use pairs::PairRow;
+pub use row::MaxRow;

@@ -1,0 +1,86 @@
+ghost use Rattle.std.specs.Prelude.{◌≡◌, ◌≢◌, ℕ, ◌+◌, ◌*◌, ◌<◌, ◌≤◌, length, slice_index, MatchOption, min};
+ghost use Rattle.max_tree.specs.Pages.{largest, page, IsPaged};
+
+use crate::row::PAGE;
+use crate::tree::MaxTree;
+
+// The largest of the numbers, or 0.
+pub fn largest_of(numbers: &[u32]) -> u32
+    ensures { result ≡ largest numbers.now }
+{
+    let mut top = 0;
+    for number in numbers {
+        top = top.max(*number);
+    }
+    top
+}
+
+// The largest number of the page, or 0.
+pub fn top_of(numbers: &[u32], k: usize) -> u32
+    requires { PAGE * k < length numbers.now }
+    ensures { result ≡ largest (page numbers.now k) }
+{
+    let start = PAGE * k;
+    let left = numbers.len() - start;
+    largest_of(&numbers[start..start + left.min(PAGE)])
+}
+
+// The first number of the page that is `n` or more.
+pub fn first_in_page(numbers: &[u32], k: usize, n: u32) -> Option<usize>
+    requires { PAGE * k ≤ length numbers.now }
+    ensures none { MatchOption result ((i : ℕ) → PAGE * k ≤ i → i < PAGE * k + PAGE → i < length numbers.now → slice_index numbers.now i < n) (λ at. (i : ℕ) → PAGE * k ≤ i → i < at → slice_index numbers.now i < n) }
+    ensures found { MatchOption result (Unit {0}) (λ at. (PAGE * k ≤ at) × (at < PAGE * k + PAGE) × (at < length numbers.now) × (n ≤ slice_index numbers.now at)) }
+{
+    let start = PAGE * k;
+    let left = numbers.len() - start;
+    for i in start..start + left.min(PAGE) {
+        if numbers[i] >= n {
+            return Some(i);
+        }
+    }
+    None
+}
+
+// The last number that is not 0, of those from `low` up to `high`.
+pub fn last_in(numbers: &[u32], low: usize, high: usize) -> Option<usize>
+    requires { (low ≤ high) × (high ≤ length numbers.now) }
+    ensures none { MatchOption result ((i : ℕ) → low ≤ i → i < high → slice_index numbers.now i ≡ 0) (λ at. (i : ℕ) → at < i → i < high → slice_index numbers.now i ≡ 0) }
+    ensures found { MatchOption result (Unit {0}) (λ at. (low ≤ at) × (at < high) × (slice_index numbers.now at ≢ 0)) }
+{
+    let mut i = high;
+    while i > low {
+        i -= 1;
+        if numbers[i] > 0 {
+            return Some(i);
+        }
+    }
+    None
+}
+
+// Makes the numbers of the page 0.
+fn clear_page(numbers: &mut [u32], k: usize)
+    requires { PAGE * k ≤ length numbers.old }
+    ensures count { length numbers.new ≡ length numbers.old }
+    ensures zeros { (i : ℕ) → PAGE * k ≤ i → i < PAGE * k + PAGE → slice_index numbers.new i ≡ 0 }
+    ensures before { (i : ℕ) → i < PAGE * k → slice_index numbers.new i ≡ slice_index numbers.old i }
+    ensures after { (i : ℕ) → PAGE * k + PAGE ≤ i → slice_index numbers.new i ≡ slice_index numbers.old i }
+{
+    let start = PAGE * k;
+    let left = numbers.len() - start;
+    for i in start..start + left.min(PAGE) {
+        numbers[i] = 0;
+    }
+}
+
+// Makes all numbers 0: those of each page whose top is not 0.
+pub fn clear_pages(numbers: &mut [u32], tops: &MaxTree)
+    requires { IsPaged numbers.old tops.now }
+    ensures count { length numbers.new ≡ length numbers.old }
+    ensures zeros { (i : ℕ) → slice_index numbers.new i ≡ 0 }
+{
+    for k in 0..tops.len() {
+        if tops.get(k) > 0 {
+            clear_page(numbers, k);
+        }
+    }
+}

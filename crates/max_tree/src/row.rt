@@ -1,0 +1,116 @@
+ghost use Rattle.std.specs.Prelude.{◌≡◌, ◌≢◌, ℕ, ◌+◌, ◌^◌, ◌<◌, ◌≤◌, nat_le, length, replicate, slice_index, slice_set, IfOk, MatchOption};
+ghost use Rattle.std.specs.List.{position};
+ghost use Rattle.max_tree.specs.Pages.{largest};
+
+use crate::pages;
+use crate::tree::{MaxTree, zeros};
+use std::alloc::{AllocError, Global};
+use std::marker::Model;
+
+// How many numbers a page has: two lines of the processor's cache.
+pub const PAGE: usize = 32;
+
+/// A row of numbers in pages, with the largest number of each page in a tree.
+///
+/// It takes memory for one number of 32 bits each, and at most an eighth more.
+#[derive(Drop)]
+pub struct MaxRow {
+    numbers: Vec<u32>,
+    // The largest number of each page.
+    tops: MaxTree,
+}
+
+// Clauses see the row.
+impl Model for MaxRow {
+    ghost use Rattle.std.specs.Prelude.{ℕ, List};
+    ghost use Rattle.max_tree.specs.Pages.{IsPaged};
+
+    ghost Value = { List ℕ };
+
+    ghost view = { λ row. row.numbers.items };
+
+    ghost invariant = { λ row. IsPaged row.numbers.items row.tops };
+}
+
+impl MaxRow {
+    /// A row of so many zeros. This call alone takes memory.
+    pub fn new(alloc: Global, count: usize) -> Result<MaxRow, AllocError>
+        requires { count < 2 ^ 32 }
+        ensures row { IfOk result (λ row. row ≡ replicate count 0) }
+        ensures count { IfOk result (λ row. length row ≡ count) }
+        ensures zeros { IfOk result (λ row. (i : ℕ) → slice_index row i ≡ 0) }
+    {
+        let numbers = zeros(alloc, count)?;
+        let tops = MaxTree::new(alloc, count / PAGE + 1)?;
+        Ok(MaxRow { numbers, tops })
+    }
+
+    /// How many numbers there are.
+    pub fn len(&self) -> usize
+        ensures is { result ≡ length self.now }
+        ensures short { result < 2 ^ 32 }
+    {
+        self.numbers.len()
+    }
+
+    /// The number at `p`.
+    pub fn get(&self, p: usize) -> u32
+        requires { p < length self.now }
+        ensures { result ≡ slice_index self.now p }
+    {
+        self.numbers[p]
+    }
+
+    /// Makes `value` the number at `p`.
+    pub fn set(&mut self, p: usize, value: u32)
+        requires { p < length self.old }
+        ensures { self.new ≡ slice_set self.old p value }
+    {
+        self.numbers[p] = value;
+        let top = pages::top_of(self.numbers.as_slice(), p / PAGE);
+        self.tops.set(p / PAGE, top);
+    }
+
+    /// Makes all numbers 0, in time of the pages and of the numbers that were not 0.
+    pub fn clear(&mut self)
+        ensures count { length self.new ≡ length self.old }
+        ensures zeros { (i : ℕ) → slice_index self.new i ≡ 0 }
+    {
+        pages::clear_pages(self.numbers.as_mut_slice(), &self.tops);
+        self.tops.clear();
+    }
+
+    /// The least place of a number that is `n` or more, if there is one.
+    pub fn first_at_least(&self, n: u32) -> Option<usize>
+        requires { 1 ≤ n }
+        ensures { result ≡ position (λ value. nat_le n value) self.now }
+    {
+        let Some(k) = self.tops.first_at_least(n) else {
+            return None;
+        };
+        pages::first_in_page(self.numbers.as_slice(), k, n)
+    }
+
+    /// The last place before `p` of a number that is not 0, if there is one.
+    pub fn last_nonzero_before(&self, p: usize) -> Option<usize>
+        requires { p < length self.now }
+        ensures found { MatchOption result ((k : ℕ) → k < p → slice_index self.now k ≡ 0) (λ q. (q < p) × (slice_index self.now q ≢ 0)) }
+        ensures last { MatchOption result (Unit {0}) (λ q. (k : ℕ) → q < k → k < p → slice_index self.now k ≡ 0) }
+    {
+        let start = p / PAGE * PAGE;
+        if let Some(q) = pages::last_in(self.numbers.as_slice(), start, p) {
+            return Some(q);
+        }
+        let Some(k) = self.tops.last_nonzero_before(p / PAGE) else {
+            return None;
+        };
+        pages::last_in(self.numbers.as_slice(), PAGE * k, PAGE * k + PAGE)
+    }
+
+    /// The largest number, or 0.
+    pub fn largest(&self) -> u32
+        ensures { result ≡ largest self.now }
+    {
+        self.tops.largest()
+    }
+}

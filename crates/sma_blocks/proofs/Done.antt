@@ -1,0 +1,140 @@
+-- What taking and giving leave, with the index, the chain and the count.
+use Rattle.std.proofs.Common.{◌≡◌, ◌≢◌, ◌⊎◌, inl, inr, ℕ, ◌+◌, ◌-◌, ◌*◌, ◌/◌, ◌%◌, ◌^◌, ◌<◌, ◌≤◌, true, false, List, length, get_or, set, slice_index, slice_set, Option, Some, None, [], ◌∷◌, zero, suc, MatchOption, refl, sym, ap, ◌∙◌, subst, arith}
+use Rattle.std.proofs.lemmas.Bool.{cases_lt, cases_eq}
+use Rattle.std.specs.Prelude.{nat_le}
+use Rattle.std.specs.List.{position}
+use Rattle.max_tree.specs.Halves.{other_half}
+use Rattle.seg_words.specs.declared.extents.Extent.{Extent}
+use Rattle.seg_words.specs.Windows.{Aside, is_named}
+use Rattle.seg_words.specs.Blocks.{IsTold, MayStore}
+use Rattle.seg_words.specs.Gaps.{fits, is_free}
+use Rattle.std.specs.List.{list_all}
+use Rattle.sma_blocks.specs.declared.sma.Sma.{Sma}
+use Rattle.sma_blocks.specs.Pieces.{pieces}
+use Rattle.sma_blocks.specs.Live.{lives, gap_words, live_blocks, with_block, without_block, SameBlocks}
+use Rattle.sma_blocks.specs.Index.{size_at, IsIndexed, IsShort, IsJoined}
+use Rattle.sma_blocks.specs.Chain.{AreLinked}
+use Rattle.sma_blocks.specs.Ready.{IsReady}
+use Rattle.sma_blocks.specs.Walk.{cut_words, merged_words, link_before, relinked_words, relinked_head}
+use Rattle.sma_blocks.proofs.Spans.{Span, IsFilled, span_of, filled_of}
+use Rattle.sma_blocks.proofs.Places.{FitParts}
+use Rattle.sma_blocks.proofs.Taking.{Room, take_ready, take_more, take_same, cut_count, cut_first, room_apart}
+use Rattle.sma_blocks.proofs.Finding.{take_found}
+use Rattle.sma_blocks.proofs.Relinking.{IsLastTold, Relinked, relinked, relinked_same, relinked_at, link_inside, link_apart, told_apart}
+use Rattle.sma_blocks.proofs.Cutting.{inside, size_even, index_inside, rest_inside, rest_alone, take_indexed, take_counted, next_small, take_linked}
+use Rattle.sma_blocks.proofs.Readying.{ready_by}
+
+-- a word that is right already is the same after a store
+pub set_own : (xs : List ℕ) (i v : ℕ) → i < length xs → get_or xs i 0 ≡ v → set xs i v ≡ xs
+set_own [] i v inside same = absurd (omega arith)
+set_own (x ∷ xs) zero v inside same = ap (λ (y : ℕ). y ∷ xs) (sym same)
+set_own (x ∷ xs) (suc i) v inside same = ap (λ (ys : List ℕ). x ∷ ys) (set_own xs i v (omega arith) same)
+
+pub may_store_seen : (ws ws' : List ℕ) (one two : Aside) (i : ℕ) → ws' ≡ ws → two ≡ one → MayStore ws one.windows i → MayStore ws' two.windows i
+may_store_seen ws ws' one two i words aside h =
+    subst (λ (a : Aside). MayStore ws' a.windows i) (sym aside) (subst (λ (xs : List ℕ). MayStore xs one.windows i) (sym words) h)
+
+-- an allocator with these fields
+pub same_sma : (s' : Sma) (words : List ℕ) (aside : Aside) (a b c d : ℕ) (e : List ℕ) → s'.from ≡ a → s'.to ≡ b → s'.head ≡ c → s'.free ≡ d → s'.sizes ≡ e → IsReady (record { from = a; to = b; head = c; free = d; sizes = e }) words aside → IsReady s' words aside
+same_sma s' words aside a b c d e ea eb ec ed ee h =
+    let h1 = subst (λ (x : ℕ). IsReady (record { from = x; to = b; head = c; free = d; sizes = e }) words aside) (sym ea) h in
+    let h2 = subst (λ (x : ℕ). IsReady (record { from = s'.from; to = x; head = c; free = d; sizes = e }) words aside) (sym eb) h1 in
+    let h3 = subst (λ (x : ℕ). IsReady (record { from = s'.from; to = s'.to; head = x; free = d; sizes = e }) words aside) (sym ec) h2 in
+    let h4 = subst (λ (x : ℕ). IsReady (record { from = s'.from; to = s'.to; head = s'.head; free = x; sizes = e }) words aside) (sym ed) h3 in
+    subst (λ (x : List ℕ). IsReady (record { from = s'.from; to = s'.to; head = s'.head; free = s'.free; sizes = x }) words aside) (sym ee) h4
+
+-- what is known where the index found a number
+pub record Seen (sma : Sma) (ws : List ℕ) (aside : Aside) (n index size : ℕ) : Type 0 where
+  pub room : Room (span_of sma) ws aside (2 * index) size n
+  pub none : (b : ℕ) → b < 2 * index → fits sma.from sma.to n (live_blocks ws sma.from) b ≡ false
+  pub inside_is : 2 * index + size ≤ length ws
+  pub even : size % 2 ≡ 0
+  pub there : index < length sma.sizes
+  pub rest_there : n < size → index + n / 2 < length sma.sizes
+  pub some : get_or sma.sizes index 0 ≢ 0
+  pub alone : n < size → other_half (index + n / 2) ≢ index → get_or sma.sizes (other_half (index + n / 2)) 0 ≡ 0
+  pub next : slice_index ws (2 * index + 1) ≤ length ws
+  pub left : n ≤ sma.free
+
+pub seen : FitParts → (sma : Sma) (ws : List ℕ) (aside : Aside) (n index size : ℕ) (found : Option ℕ) → IsReady sma ws aside → found ≡ position (λ value. nat_le n value) sma.sizes → found ≡ Some index → n % 2 ≡ 0 → 2 ≤ n → size ≡ get_or sma.sizes index 0 → Seen sma ws aside n index size
+seen parts sma ws aside n index size found ready first is even some same =
+    let twice : 2 * index ≡ index + index = omega arith in
+    let there = take_found parts (span_of sma) ws aside sma.sizes n index (2 * index) (filled_of ready) ready.indexed (sym first ∙ is) even some twice in
+    let room : Room (span_of sma) ws aside (2 * index) size n = subst (λ (x : ℕ). Room (span_of sma) ws aside (2 * index) x n) (sym same) there.0 in
+    let enough = room.enough in
+    record {
+      room = room;
+      none = there.1;
+      inside_is = inside room sma.sizes index ready.indexed twice;
+      even = size_even room sma.sizes index ready.indexed twice;
+      there = index_inside room sma.sizes index ready.indexed twice;
+      rest_there = rest_inside room sma.sizes index ready.indexed twice;
+      some = λ e. omega arith;
+      alone = rest_alone room sma.sizes index ready.indexed twice;
+      next = next_small room sma.sizes index ready.indexed twice sma.head ready.linked;
+      left = (take_counted room sma.sizes index ready.indexed twice sma.free ready.counted).0;
+    }
+
+pub small_rest : (v at size n : ℕ) (ws : List ℕ) → (n < size → v ≡ at + n) → (size ≤ n → v ≡ slice_index ws (at + 1)) → at + size ≤ length ws → slice_index ws (at + 1) ≤ length ws → length ws < 2 ^ 32 → v < 2 ^ 32
+small_rest v at size n ws cut whole inside next short = elim (cases_lt n size) [
+  | inl lt ↦ let is = cut lt in omega arith
+  | inr ge ↦ let is = whole ge in omega arith
+]
+
+last_short : (old new : List ℕ) (index size n : ℕ) (before : Option ℕ) → IsShort old new index size n → IsLastTold old index before → IsLastTold new index before
+last_short old new index size n None short l =
+    ((λ k low. short.others k (λ e. omega arith) (λ lt e. omega arith) ∙ l.0 k low), tt)
+last_short old new index size n (Some q) short l =
+    let low = l.0.0 in (
+      (low, λ e. l.0.1 (sym (short.others q (λ e. omega arith) (λ lt e. omega arith)) ∙ e)),
+      λ k past under. short.others k (λ e. omega arith) (λ lt e. omega arith) ∙ l.1 k past under,
+    )
+
+pub indexed_along : (one two : List ℕ) (from : ℕ) (numbers : List ℕ) → length two ≡ length one → pieces two from ≡ pieces one from → IsIndexed one from numbers → IsIndexed two from numbers
+indexed_along one two from numbers count same h =
+    let room = h.room in
+    record { room = omega (arith, count); told = λ i. h.told i ∙ ap (λ ps. size_at ps (i + i)) (sym same) }
+
+module _ {sma : Sma} {ws : List ℕ} {aside : Aside} {n index size : ℕ} (ready : IsReady sma ws aside) (s : Seen sma ws aside n index size) (before : Option ℕ) (last : IsLastTold sma.sizes index before) (new : List ℕ) (short : IsShort sma.sizes new index size n) where
+  twice : 2 * index ≡ index + index
+  twice = omega arith
+
+  abbrev mid : List ℕ
+  mid = cut_words ws (2 * index) size n
+
+  mid_indexed : IsIndexed mid sma.from new
+  mid_indexed = take_indexed s.room sma.sizes index ready.indexed twice new short
+
+  pub relink_inside : MatchOption before (Unit {0}) (λ q. 2 * q + 1 < length mid)
+  relink_inside = link_inside (span_of sma) mid aside new index before (take_ready s.room) mid_indexed (last_short sma.sizes new index size n before short last)
+
+  pub relink_apart : MatchOption before (Unit {0}) (λ q. MayStore mid aside.windows (2 * q + 1))
+  relink_apart = link_apart (span_of sma) mid aside new index before (take_ready s.room) mid_indexed (last_short sma.sizes new index size n before short last)
+
+  module _ (v : ℕ) where
+    abbrev after : List ℕ
+    after = relinked_words mid before v
+
+    moved : Relinked (span_of sma) mid after aside
+    moved = relinked (span_of sma) mid aside new index v before (take_ready s.room) mid_indexed (last_short sma.sizes new index size n before short last)
+
+    pub done_blocks : live_blocks after sma.from ≡ with_block (record { place = 2 * index; size = n }) (live_blocks ws sma.from)
+    done_blocks = ap lives moved.same ∙ take_more s.room
+
+    pub done_word : slice_index after (2 * index) ≡ n
+    done_word =
+        let most = s.inside_is in
+        let wide = s.room.some in
+        let enough = s.room.enough in
+        relinked_at mid index v (2 * index) before sma.sizes last (omega arith) ∙ cut_first ws (2 * index) size n (omega arith)
+
+    pub done_same : SameBlocks ws after sma.from (live_blocks ws sma.from)
+    done_same = relinked_same ws mid sma.from sma.sizes index v before (live_blocks ws sma.from) ready.formatted ready.indexed last (λ i t. t) (take_same s.room)
+
+    pub done_ready : (sma' : Sma) → sma'.from ≡ sma.from → sma'.to ≡ sma.to → sma'.head ≡ relinked_head sma.head before v → sma'.free ≡ sma.free - n → sma'.sizes ≡ new → (n < size → v ≡ 2 * index + n) → (size ≤ n → v ≡ slice_index ws (2 * index + 1)) → IsReady sma' after aside
+    done_ready sma' from to head free sizes cut whole =
+        let linked = take_linked s.room sma.sizes index ready.indexed twice sma.head ready.linked before v last cut whole in
+        let counted = (take_counted s.room sma.sizes index ready.indexed twice sma.free ready.counted).1 in
+        let indexed : IsIndexed after sma.from new = indexed_along mid after sma.from new moved.count moved.same mid_indexed in
+        let made : IsReady (record { from = sma.from; to = sma.to; head = relinked_head sma.head before v; free = sma.free - n; sizes = new }) after aside = ready_by (record { from = sma.from; to = sma.to; head = relinked_head sma.head before v; free = sma.free - n; sizes = new }) after aside moved.filled indexed (subst (λ ps. AreLinked after (relinked_head sma.head before v) ps 0) (sym moved.same) linked) (counted ∙ ap gap_words (sym moved.same)) in
+        same_sma sma' after aside sma.from sma.to (relinked_head sma.head before v) (sma.free - n) new from to head free sizes made
