@@ -1,0 +1,12 @@
+pub mod Rows
+pub mod Sounding
+pub mod Asides
+pub mod Sweeping
+pub mod Dropping
+pub mod Chaining
+pub mod Ordering
+pub mod Expired
+pub mod Open
+pub mod Making
+pub mod Moving
+pub mod Counting

@@ -1,0 +1,6 @@
+pub mod Lists
+pub mod Sound
+pub mod Dropping
+pub mod Held
+pub mod Which
+pub mod Room
