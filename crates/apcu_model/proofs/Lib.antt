@@ -1,1 +1,5 @@
+pub mod Members
 pub mod Apart
+pub mod Counting
+pub mod Ordering
+pub mod Held

@@ -6,20 +6,13 @@ use Rattle.std.specs.Map.{lookup}
 use Rattle.php_graph.specs.declared.kind.Kind.{Kind}
 use Rattle.php_graph.specs.declared.kind.Kind.TheVariants as kinds
 use Rattle.apcu_model.specs.declared.conf.Conf.{Conf}
+use Rattle.apcu_model.specs.declared.event.Event.{Event}
 use Rattle.apcu_model.specs.declared.request.Request.{Request}
-use Rattle.apcu_model.specs.declared.request.Request.TheVariants.{Store, Fetch, Retire}
+use Rattle.apcu_model.specs.declared.request.Request.TheVariants.{Store, Fetch, Exists, Delete, Clear, Retire}
 use Rattle.apcu_model.specs.declared.request.Reply.{Reply}
 use Rattle.apcu_model.specs.Cache.{Row, Cache, empty_cache}
 use Rattle.apcu_model.specs.Expiry.{live_row}
 use Rattle.apcu_model.specs.Sequential.{reply_to, cache_after}
-
--- A worker's request at a moment. The mask names the workers (one bit each) that the cache found still
--- copying a value.
-pub record Event : Type 0 where
-  pub worker : ℕ
-  pub t : ℕ
-  pub request : Request
-  pub mask : ℕ
 
 -- After some events: the cache, and for each worker whose last event fetched a value that is copied
 -- outside the lock, the number of that row.
@@ -73,6 +66,9 @@ opened_at worker (Some row) = if is_scalar row.graph then [] else (worker, row.n
 abbrev pub opened : ℕ → ℕ → Request → Cache → List (ℕ × ℕ)
 opened worker t (Fetch key) c = opened_at worker (live_row key t c)
 opened worker t (Store key value ttl exclusive) c = []
+opened worker t (Exists key) c = []
+opened worker t (Delete key) c = []
+opened worker t Clear c = []
 opened worker t Retire c = []
 
 abbrev pub reply_in : Stage → Event → Reply

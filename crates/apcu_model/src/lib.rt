@@ -3,6 +3,7 @@
 
 mod conf;
 mod entry;
+mod event;
 mod journal;
 mod laws;
 mod plain;
@@ -11,8 +12,9 @@ mod rows;
 mod state;
 
 pub use conf::Conf;
+pub use event::Event;
 pub use journal::{Journal, Mark};
-pub use laws::{rows_stay_apart, works_alone};
+pub use laws::{count_laws, held_alike, order_single, rows_stay_apart, works_alone};
 pub use plain::Plain;
 pub use request::{Reply, Request, StoreAnswer};
 

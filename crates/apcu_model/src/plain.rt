@@ -1,8 +1,8 @@
-ghost use Rattle.std.specs.Prelude.{◌≡◌, [], MatchOption, IfOk, OnOk, OnErr};
+ghost use Rattle.std.specs.Prelude.{◌≡◌, ℕ, [], MatchOption, IfOk, OnOk, OnErr};
 ghost use Rattle.apcu_model.specs.Cache.{empty_cache};
 ghost use Rattle.apcu_model.specs.Conf.{IsGood};
 ghost use Rattle.apcu_model.specs.Sequential.{cache_after, reply_to};
-ghost use Rattle.apcu_model.specs.declared.request.Request.TheVariants.{Store, Fetch};
+ghost use Rattle.apcu_model.specs.declared.request.Request.TheVariants.{Store, Fetch, Exists, Delete, Clear};
 ghost use Rattle.apcu_model.specs.declared.request.Reply.TheVariants.{Flag, Found, Absent};
 
 use crate::conf::Conf;
@@ -78,6 +78,12 @@ impl Plain {
                 self.note_fetch(key.as_slice(), t);
                 Ok(reply)
             }
+            Request::Exists(key) => Ok(Reply::Flag(self.exists(key.as_slice(), t))),
+            Request::Delete(key) => Ok(Reply::Flag(self.delete(key.as_slice(), t))),
+            Request::Clear => {
+                self.clear();
+                Ok(Reply::Flag(true))
+            }
             Request::Retire => Ok(Reply::Ended),
         }
     }
@@ -115,5 +121,28 @@ impl Plain {
         ensures { self.new ≡ cache_after [] t (Fetch key.now) self.old }
     {
         self.state.note_fetch(key, t);
+    }
+
+    /// Whether a look-up of the key at the time `t` finds a row. It changes and counts nothing.
+    pub fn exists(&self, key: &[u8], t: u64) -> bool
+        ensures { Flag result ≡ reply_to [] t (Exists key.now) self.now }
+    {
+        self.state.is_live(key, t)
+    }
+
+    /// Drops the row that a look-up of the key at the time `t` finds, and answers whether there is one. A row
+    /// whose own time is over is not found, and stays. It takes no memory.
+    pub fn delete(&mut self, key: &[u8], t: u64) -> bool
+        ensures reply { Flag result ≡ reply_to [] t (Delete key.now) self.old }
+        ensures after { self.new ≡ cache_after [] t (Delete key.now) self.old }
+    {
+        self.state.delete(key, t)
+    }
+
+    /// Drops all rows, and sets hits, misses, inserts and expunges to 0. It takes no memory.
+    pub fn clear(&mut self)
+        ensures { (t : ℕ) → self.new ≡ cache_after [] t Clear self.old }
+    {
+        self.state.clear();
     }
 }

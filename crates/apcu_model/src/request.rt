@@ -13,6 +13,12 @@ pub enum Request {
     },
     /// `apcu_fetch` of one key.
     Fetch(Bytes),
+    /// `apcu_exists` of one key.
+    Exists(Bytes),
+    /// `apcu_delete` of one key.
+    Delete(Bytes),
+    /// `apcu_clear_cache`.
+    Clear,
     /// The worker's last event: it asks nothing more.
     Retire,
 }

@@ -64,6 +64,13 @@ pub(crate) fn drop_expired(rows: &mut Vec<Entry>, conf: Conf, t: u64)
     rows.retain(|row| !row.is_expired(conf, t));
 }
 
+// The key's row goes.
+pub(crate) fn drop_key(rows: &mut Vec<Entry>, key: &[u8])
+    ensures { rows.new.items ≡ filter (λ row. not (has_key key.now row)) rows.old.items }
+{
+    rows.retain(|row| !row.has_key(key));
+}
+
 // The expired rows of one hash chain go.
 pub(crate) fn drop_expired_in(rows: &mut Vec<Entry>, conf: Conf, slot: u64, t: u64)
     requires { 0 < conf.slots }

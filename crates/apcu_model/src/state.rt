@@ -1,14 +1,16 @@
 ghost use Rattle.std.specs.Prelude.{◌≡◌, ℕ, ◌<◌, ◌≤◌, [], is_some, vec_len, vec_capacity, MatchOption, IfOk, OnOk, OnErr};
 ghost use Rattle.apcu_model.specs.declared.request.Reply.TheVariants.{Absent, Found};
 ghost use Rattle.apcu_model.specs.Cache.{gap_of};
-ghost use Rattle.apcu_model.specs.Change.{expired_dropped, expunged, inserted, placed, put_in, with_room};
+ghost use Rattle.apcu_model.specs.Change.{cleared, deleted, expired_dropped, expunged, inserted, placed, put_in, with_room};
 ghost use Rattle.apcu_model.specs.Expiry.{live_row};
 ghost use Rattle.apcu_model.specs.Rows.{IsSound, cache_of};
 ghost use Rattle.apcu_model.specs.Sequential.{found_in, is_stored, looked_up};
 
 use crate::conf::Conf;
 use crate::entry::Entry;
-use crate::rows::{drop_expired, drop_expired_in, list_extents, live_in, put_row, touch_in};
+use crate::rows::{
+    drop_expired, drop_expired_in, drop_key, list_extents, live_in, put_row, touch_in,
+};
 use php_graph::{Bytes, Graph, block_words, hash_of};
 use seg_words::{Extent, first_fit};
 use std::alloc::{AllocError, Global};
@@ -143,7 +145,7 @@ impl State {
     }
 
     // Whether a look-up finds the key.
-    fn is_live(&self, key: &[u8], t: u64) -> bool
+    pub(crate) fn is_live(&self, key: &[u8], t: u64) -> bool
         ensures { result ≡ is_some (live_row key.now t (cache_of self.now)) }
     {
         live_in(&self.rows, key, t).is_some()
@@ -202,5 +204,32 @@ impl State {
         } else {
             self.misses = self.misses.saturating_add(1);
         }
+    }
+
+    // The row that a look-up of the key finds goes. Whether there is one.
+    pub(crate) fn delete(&mut self, key: &[u8], t: u64) -> bool
+        requires { IsSound self.old }
+        ensures reply { result ≡ is_some (live_row key.now t (cache_of self.old)) }
+        ensures cache { cache_of self.new ≡ deleted [] key.now t (cache_of self.old) }
+        ensures sound { IsSound self.new }
+    {
+        if !self.is_live(key, t) {
+            return false;
+        }
+        drop_key(&mut self.rows, key);
+        true
+    }
+
+    // All rows go, and all that was counted.
+    pub(crate) fn clear(&mut self)
+        requires { IsSound self.old }
+        ensures cache { (t : ℕ) → cache_of self.new ≡ cleared [] t (cache_of self.old) }
+        ensures sound { IsSound self.new }
+    {
+        self.rows.clear();
+        self.hits = 0;
+        self.misses = 0;
+        self.inserts = 0;
+        self.expunges = 0;
     }
 }

@@ -17,7 +17,8 @@ use Rattle.apcu_model.specs.declared.request.Reply.TheVariants.{Flag, Found, Abs
 use Rattle.apcu_model.specs.Cache.{Cache, Row, empty_cache}
 use Rattle.apcu_model.specs.Expiry.{live_row}
 use Rattle.apcu_model.specs.Sequential.{reply_to, cache_after, found_in}
-use Rattle.apcu_model.specs.History.{Stage, Event, held_places, is_legal_mask, is_copied, is_in_mask, after_event, reply_in, start_of, window_of}
+use Rattle.apcu_model.specs.declared.event.Event.{Event}
+use Rattle.apcu_model.specs.History.{Stage, held_places, is_legal_mask, is_copied, is_in_mask, after_event, reply_in, start_of, window_of}
 use Rattle.apcu_run.specs.declared.script.Call.{Call}
 use Rattle.apcu_run.specs.declared.script.Call.TheVariants.{StoreOne, FetchOne}
 use Rattle.apcu_run.specs.declared.script.Step.{Step}
