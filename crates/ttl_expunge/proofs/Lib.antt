@@ -9,4 +9,3 @@ pub mod Expired
 pub mod Open
 pub mod Making
 pub mod Moving
-pub mod Counting

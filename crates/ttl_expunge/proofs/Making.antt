@@ -7,14 +7,14 @@ use Rattle.std.proofs.lemmas.Bool.{true≢false}
 use Rattle.seg_words.specs.Gaps.{first_fit}
 use Rattle.seg_words.specs.Windows.{Aside, held_blocks}
 use Rattle.apcu_model.specs.Cache.{Row, Cache, extent_of, gap_of}
-use Rattle.apcu_model.specs.Change.{is_held, dropped, swept, expired_dropped, expunged, has_gap, with_room}
+use Rattle.apcu_model.specs.Change.{is_held, dropped, swept, expired_dropped, expunged, has_gap, with_room, is_expunged}
 use Rattle.apcu_model.specs.Expiry.{is_expired}
 use Rattle.apcu_model.specs.Walk.{in_slot_order}
 use Rattle.entry_slots.specs.Entries.{Entries, entries_of, blocks_of, with_taken}
 use Rattle.ttl_expunge.specs.Sound.{IsSound}
 use Rattle.ttl_expunge.specs.Held.{Goes, AreRemoved, AreHeld, KeepsOpen, Sweeps, Drops}
 use Rattle.ttl_expunge.specs.Dropping.{swept_in, dropped_in, dropped_rows}
-use Rattle.ttl_expunge.specs.Room.{with_block, is_expunged, MakesRoom}
+use Rattle.ttl_expunge.specs.Room.{with_block, MakesRoom}
 use Rattle.ttl_expunge.proofs.Rows.{Contains-filter, Contains-first, filter_all}
 use Rattle.ttl_expunge.proofs.Asides.{same_held, goes_on}
 use Rattle.ttl_expunge.proofs.Dropping.{dated, made}

@@ -1,8 +1,8 @@
 -- Room for a block, in entries.
-use Rattle.std.specs.Prelude.{◌≡◌, ℕ, ◌&&◌, not, Bool, List, Option, Some, None, IfSome, Contains}
+use Rattle.std.specs.Prelude.{◌≡◌, ℕ, Bool, Option, Some, None, IfSome, Contains}
 use Rattle.seg_words.specs.Windows.{Aside, held_blocks}
-use Rattle.apcu_model.specs.Cache.{Cache, gap_of, risen}
-use Rattle.apcu_model.specs.Change.{swept, expired_dropped, has_gap, with_room}
+use Rattle.apcu_model.specs.Cache.{Cache, gap_of}
+use Rattle.apcu_model.specs.Change.{with_room, is_expunged}
 use Rattle.entry_slots.specs.Entries.{Entries, entries_of, with_taken}
 use Rattle.ttl_expunge.specs.Held.{Goes, AreRemoved, AreHeld, KeepsOpen}
 
@@ -10,10 +10,6 @@ use Rattle.ttl_expunge.specs.Held.{Goes, AreRemoved, AreHeld, KeepsOpen}
 abbrev pub with_block : Option ℕ → ℕ → Entries → Entries
 with_block None n s = s
 with_block (Some at) n s = with_taken at n s
-
--- room was not made but by the full expunge
-abbrev pub is_expunged : List ℕ → ℕ → ℕ → Cache → Bool
-is_expunged held n t c = not (has_gap n (swept held c)) && not (has_gap n (expired_dropped held t (swept held c)))
 
 -- Room was made and the block taken. The cache is the same by the blocks that are held now, and by those that
 -- are held after later probes of the event.
@@ -27,17 +23,3 @@ pub record MakesRoom (old new : Entries) (before after : Aside) (n t : ℕ) (pla
   pub keeps : KeepsOpen after.windows old new
   pub refused : AreRemoved after new.removed
   pub held : AreHeld after new.removed
-
--- the counts stay
-pub record KeepsCounts (old new : Cache) : Type 0 where
-  pub hits : new.hits ≡ old.hits
-  pub misses : new.misses ≡ old.misses
-  pub inserts : new.inserts ≡ old.inserts
-  pub expunges : new.expunges ≡ old.expunges
-
--- they are forgotten, but for one expunge more
-pub record ForgetsCounts (old new : Cache) : Type 0 where
-  pub hits : new.hits ≡ 0
-  pub misses : new.misses ≡ 0
-  pub inserts : new.inserts ≡ 0
-  pub expunges : new.expunges ≡ risen old.expunges

@@ -8,5 +8,4 @@ mod room;
 
 pub use chains::{expunge_all, expunge_expired, sweep_chain};
 pub use expunge::{drop_row, is_let_go, sweep_removed};
-pub use laws::count_laws;
 pub use room::{make_room, make_room_next};
