@@ -4,16 +4,17 @@ use Rattle.std.proofs.lemmas.Bool.{or_left, or_right, eq-eqb, false≢true, fals
 use Rattle.std.specs.List.{Contains, count_by}
 use Rattle.std.proofs.lemmas.List.{append-nil}
 use Rattle.std.proofs.lemmas.List.Elements.{Contains-append_cases, filter-append}
+use Rattle.seg_words.specs.Probing.{IsDecided, Met, goes_nowhere, goes_on}
 use Rattle.seg_words.specs.Windows.{Aside, has, held_blocks}
 use Rattle.apcu_model.specs.Cache.{Row}
 use Rattle.apcu_model.specs.Change.{is_held}
 use Rattle.entry_slots.specs.Lists.{is_at, has_place, only_at, without_place}
 use Rattle.entry_slots.specs.Entries.{Entries, unlinked_at, removed_at, freed_at}
 use Rattle.ttl_expunge.specs.Sound.{IsSound}
-use Rattle.ttl_expunge.specs.Held.{IsDecided, AreDecided, AreRemoved, Met, Drops}
+use Rattle.ttl_expunge.specs.Held.{AreDecided, AreRemoved, Drops}
 use Rattle.ttl_expunge.specs.Dropping.{left_of, dropped_rows}
 use Rattle.ttl_expunge.proofs.Rows.{any-append, none_counted, count-cons, counted, place_from, without_none, only_none, filter_alike, filter_all, Contains-cases}
-use Rattle.ttl_expunge.proofs.Asides.{all_stay, same_held, held_is, goes_on, goes_nowhere, flip}
+use Rattle.ttl_expunge.proofs.Asides.{all_stay, same_held, held_is, flip}
 
 -- with the moment at which they were dropped
 abbrev pub dated : ℕ → List Row → List Row

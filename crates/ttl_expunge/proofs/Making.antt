@@ -4,6 +4,7 @@ use Rattle.std.specs.Prelude.{nat_lt, is_some, if◌then◌else◌, IfSome, IfNo
 use Rattle.std.specs.List.{Contains}
 use Rattle.std.proofs.lemmas.List.{append-nil}
 use Rattle.std.proofs.lemmas.Bool.{true≢false}
+use Rattle.seg_words.specs.Probing.{Goes, goes_on}
 use Rattle.seg_words.specs.Gaps.{first_fit}
 use Rattle.seg_words.specs.Windows.{Aside, held_blocks}
 use Rattle.apcu_model.specs.Cache.{Row, Cache, extent_of, gap_of}
@@ -12,13 +13,13 @@ use Rattle.apcu_model.specs.Expiry.{is_expired}
 use Rattle.apcu_model.specs.Walk.{in_slot_order}
 use Rattle.entry_slots.specs.Entries.{Entries, entries_of, blocks_of, with_taken}
 use Rattle.ttl_expunge.specs.Sound.{IsSound}
-use Rattle.ttl_expunge.specs.Held.{Goes, AreRemoved, AreHeld, KeepsOpen, Sweeps, Drops}
+use Rattle.ttl_expunge.specs.Held.{AreRemoved, AreHeld, KeepsOpen, Sweeps, Drops}
 use Rattle.ttl_expunge.specs.Dropping.{swept_in, dropped_in, dropped_rows}
 use Rattle.ttl_expunge.specs.Room.{with_block, MakesRoom}
 use Rattle.ttl_expunge.proofs.Rows.{Contains-filter, Contains-first, filter_all}
-use Rattle.ttl_expunge.proofs.Asides.{same_held, goes_on}
+use Rattle.ttl_expunge.proofs.Asides.{same_held}
 use Rattle.ttl_expunge.proofs.Dropping.{dated, made}
-use Rattle.ttl_expunge.proofs.Open.{in_order, order_from, drops_open}
+use Rattle.ttl_expunge.proofs.Open.{in_order, order_from, drops_open, open_on}
 
 map_both : {X Y : Type 0} (f : X → Y) (xs ys : List X) → map f (xs ++ ys) ≡ map f xs ++ map f ys
 map_both f [] ys = refl
@@ -199,3 +200,31 @@ expired_rows_of t s = if nat_lt 0 s.conf.ttl then in_slot_order s.conf (filter (
 
 abbrev pub all_rows_of : Entries → List Row
 all_rows_of s = in_slot_order s.conf s.rows
+
+both : (held : List ℕ) (rows : List Row) → filter (is_held held) (filter (is_held held) rows) ≡ filter (is_held held) rows
+both held rows = filter_all (is_held held) (filter (is_held held) rows) (λ row c. (Contains-filter (is_held held) rows row c).1)
+
+-- sweeping first changes nothing of the room that is made
+swept_twice : (held : List ℕ) (c : Cache) → swept held (swept held c) ≡ swept held c
+swept_twice held c = ap (λ l. let x : Cache = record c { removed = l } in x) (both held c.removed)
+
+pub room_swept_first : (held : List ℕ) (n t : ℕ) (c : Cache) → with_room held n t (swept held c) ≡ with_room held n t c
+room_swept_first held n t c =
+    ap (λ first. if has_gap n first then first else if has_gap n (expired_dropped held t first) then expired_dropped held t first else expunged held t (expired_dropped held t first)) (swept_twice held c)
+
+-- room in an event in which the removed rows were swept
+pub room_on : {s0 s1 s2 : Entries} {a0 a1 a2 : Aside} {n t : ℕ} {place : Option ℕ} {full : Bool} → Sweeps s0 s1 a0 a1 → KeepsOpen a1.windows s0 s1 → MakesRoom s1 s2 a1 a2 n t place full → MakesRoom s0 s2 a0 a2 n t place full
+room_on {s0} {s1} {s2} {a0} {a1} {a2} {n} {t} {place} {full} sweeps keeps m = record {
+  room = λ c later e on. m.room (swept (held_blocks later) c) later (first c later e on) on ∙ ap (λ x. with_block place n (entries_of x)) (room_swept_first (held_blocks later) n t c);
+  place_is = λ c later e on. m.place_is (swept (held_blocks later) c) later (first c later e on) on ∙ ap (λ x. gap_of x n) (room_swept_first (held_blocks later) n t c);
+  full_is = λ c later e on. m.full_is (swept (held_blocks later) c) later (first c later e on) on ∙ ap (λ x. not (has_gap n x) && not (has_gap n (expired_dropped (held_blocks later) t x))) (swept_twice (held_blocks later) c);
+  taken = m.taken;
+  conf_is = m.conf_is ∙ ap (λ (x : Entries). x.conf) sweeps.swept;
+  goes = goes_on a0 a1 a2 sweeps.goes m.goes;
+  keeps = open_on s0 s1 s2 a1 a2 m.goes keeps m.keeps;
+  refused = m.refused;
+  held = m.held;
+}
+  where
+    first : (c : Cache) (later : Aside) → s0 ≡ entries_of c → Goes a2 later → s1 ≡ entries_of (swept (held_blocks later) c)
+    first c later e on = swept_later c sweeps e later (goes_on a1 a2 later m.goes on)

@@ -4,6 +4,7 @@ use Rattle.std.proofs.lemmas.Bool.{cases_eq, false≢true, false_from_ne_true, n
 use Rattle.std.specs.List.{Contains}
 use Rattle.std.proofs.lemmas.List.{append-nil}
 use Rattle.std.proofs.lemmas.List.Elements.{Contains-append_right, filter-append}
+use Rattle.seg_words.specs.Probing.{Goes, IsDecided, Met, goes_nowhere, goes_on, held_unnamed}
 use Rattle.seg_words.specs.Windows.{Aside, has, is_named, held_blocks}
 use Rattle.apcu_model.specs.Cache.{Row}
 use Rattle.apcu_model.specs.Change.{is_held}
@@ -14,8 +15,8 @@ use Rattle.ttl_expunge.specs.Sound.{IsSound}
 use Rattle.std.specs.List.{flat_map, range_with_len}
 use Rattle.apcu_model.specs.Walk.{in_slot_order}
 use Rattle.ttl_expunge.specs.Sound.{without_rows}
-use Rattle.ttl_expunge.specs.Held.{Goes, IsDecided, AreDecided, AreRemoved, Met, Drops, Moves}
-use Rattle.ttl_expunge.proofs.Asides.{same_held, all_stay, held_is, goes_nowhere, goes_on, held_unnamed}
+use Rattle.ttl_expunge.specs.Held.{AreDecided, AreRemoved, Drops, Moves}
+use Rattle.ttl_expunge.proofs.Asides.{same_held, all_stay, held_is}
 use Rattle.ttl_expunge.proofs.Chaining.{IsNext, next_from, chain_on, chain_left, none_at_zero}
 use Rattle.ttl_expunge.proofs.Ordering.{flat_last, chain_beside}
 use Rattle.ttl_expunge.proofs.Open.{order_there, order_from}

@@ -3,6 +3,7 @@ use Rattle.std.proofs.Common.{◌≡◌, ◌≢◌, inl, inr, ℕ, zero, suc, �
 use Rattle.std.proofs.lemmas.Bool.{eqb-true, eq-eqb, cases_Bool, false≢true, false_from_ne_true}
 use Rattle.std.specs.List.{Contains, flat_map, range_with_len}
 use Rattle.std.proofs.lemmas.List.Elements.{Contains-append_left, Contains-append_right, Contains-append_cases}
+use Rattle.seg_words.specs.Probing.{Goes, goes_nowhere, held_named}
 use Rattle.seg_words.specs.Windows.{Aside, has, is_named, held_blocks}
 use Rattle.php_graph.specs.Numbers.{hash_of}
 use Rattle.apcu_model.specs.declared.conf.Conf.{Conf}
@@ -12,10 +13,10 @@ use Rattle.apcu_model.specs.Walk.{slot_of, is_in_slot, in_slot_order}
 use Rattle.entry_slots.specs.Lists.{has_place}
 use Rattle.entry_slots.specs.Entries.{Entries}
 use Rattle.ttl_expunge.specs.Sound.{IsSound}
-use Rattle.ttl_expunge.specs.Held.{Goes, AreRemoved, AreHeld, KeepsOpen, Sweeps, Drops}
+use Rattle.ttl_expunge.specs.Held.{AreRemoved, AreHeld, KeepsOpen, Sweeps, Drops}
 use Rattle.ttl_expunge.specs.Dropping.{left_of, dropped_in, dropped_rows}
 use Rattle.ttl_expunge.proofs.Rows.{place_from, place_there, filter_alike, filter_all, Contains-first, Contains-later, Contains-cases, Contains-filter, Contains-kept, Contains-map}
-use Rattle.ttl_expunge.proofs.Asides.{held_is, held_named, goes_nowhere}
+use Rattle.ttl_expunge.proofs.Asides.{held_is}
 use Rattle.ttl_expunge.proofs.Dropping.{dated}
 use Rattle.ttl_expunge.proofs.Ordering.{same_row}
 

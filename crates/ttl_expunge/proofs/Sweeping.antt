@@ -4,6 +4,7 @@ use Rattle.std.proofs.lemmas.Bool.{or_parts, or_left, or_right, eq-eqb, cases_eq
 use Rattle.std.specs.List.{Contains, count_by}
 use Rattle.std.proofs.lemmas.List.{append-nil}
 use Rattle.std.proofs.lemmas.List.Elements.{Contains-append_right, Contains-append_cases, filter-append}
+use Rattle.seg_words.specs.Probing.{Goes, IsDecided, Met, goes_nowhere, goes_on}
 use Rattle.seg_words.specs.Windows.{Aside, has, held_blocks}
 use Rattle.apcu_model.specs.Cache.{Row}
 use Rattle.apcu_model.specs.Change.{is_held}
@@ -11,10 +12,10 @@ use Rattle.entry_slots.specs.Lists.{is_at, has_place, without_place, first_place
 use Rattle.ttl_expunge.specs.Lists.{rows_from}
 use Rattle.entry_slots.specs.Entries.{Entries, freed_at}
 use Rattle.ttl_expunge.specs.Sound.{IsSound}
-use Rattle.ttl_expunge.specs.Held.{Goes, IsDecided, AreDecided, AreRemoved, Met, Sweeps}
+use Rattle.ttl_expunge.specs.Held.{AreDecided, AreRemoved, Sweeps}
 use Rattle.ttl_expunge.specs.Dropping.{swept_in, swept_at}
 use Rattle.ttl_expunge.proofs.Rows.{any-append, none_counted, counted, place_there, without_none, without_middle, next_in, from_in, from_none, alone, Contains-first, Contains-cases}
-use Rattle.ttl_expunge.proofs.Asides.{all_stay, same_held, held_is, goes_on, goes_nowhere}
+use Rattle.ttl_expunge.proofs.Asides.{all_stay, same_held, held_is}
 
 -- Some removed rows were probed, and the one at `at` is the next.
 pub record Sweeping (first s : Entries) (start aside : Aside) (at : ℕ) : Type 0 where

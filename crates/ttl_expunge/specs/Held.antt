@@ -1,5 +1,6 @@
 -- What the probes of an event do to what is beside the words.
 use Rattle.std.specs.Prelude.{◌≡◌, ◌⊎◌, ℕ, true, List, ◌++◌, Contains, filter}
+use Rattle.seg_words.specs.Probing.{Goes, IsDecided}
 use Rattle.apcu_model.specs.Change.{is_held}
 use Rattle.seg_words.specs.Windows.{Aside, has, is_named, held_blocks}
 use Rattle.apcu_model.specs.Cache.{Row}
@@ -7,16 +8,7 @@ use Rattle.entry_slots.specs.Lists.{has_place}
 use Rattle.entry_slots.specs.Entries.{Entries}
 use Rattle.ttl_expunge.specs.Dropping.{swept_in, dropped_rows}
 
--- windows close only, and a block that is held stays so
-pub record Goes (old new : Aside) : Type 0 where
-  pub closes : (b : ℕ) → is_named new.windows b ≡ true → is_named old.windows b ≡ true
-  pub holds : (b : ℕ) → has b (held_blocks old) ≡ true → has b (held_blocks new) ≡ true
-
--- What is decided of the block at a place: a window names it exactly where it is held. No later probe of the
--- event changes this.
-abbrev pub IsDecided : Aside → ℕ → Type 0
-IsDecided aside at = is_named aside.windows at ≡ has at (held_blocks aside)
-
+-- of each of these rows it is decided whether it is held
 pub record AreDecided (aside : Aside) (rows : List Row) : Type 0 where
   pub each : (row : Row) → Contains rows row → IsDecided aside row.place
 
@@ -27,12 +19,6 @@ pub record AreRemoved (aside : Aside) (removed : List Row) : Type 0 where
 -- each of these rows is held: none of them would be swept
 pub record AreHeld (aside : Aside) (rows : List Row) : Type 0 where
   pub each : (row : Row) → Contains rows row → has row.place (held_blocks aside) ≡ true
-
--- the block at `at` was probed
-pub record Met (old new : Aside) (at : ℕ) : Type 0 where
-  pub goes : Goes old new
-  pub decided : IsDecided new at
-  pub refused : (b : ℕ) → has b new.refused ≡ true → ((b ≡ at) × (has at (held_blocks new) ≡ true)) ⊎ (has b old.refused ≡ true)
 
 -- the rows under the windows that are open still are there, with their places and numbers
 pub record KeepsOpen (windows : List ℕ) (old new : Entries) : Type 0 where

@@ -1,7 +1,8 @@
 ghost use Rattle.std.specs.Prelude.{◌≡◌, ℕ, true, false, not, ◌++◌};
+ghost use Rattle.seg_words.specs.Probing.{Met};
 ghost use Rattle.seg_words.specs.Windows.{has, held_blocks};
 ghost use Rattle.entry_slots.specs.Lists.{has_place, only_at};
-ghost use Rattle.ttl_expunge.specs.Held.{AreRemoved, Met, Sweeps, Drops};
+ghost use Rattle.ttl_expunge.specs.Held.{AreRemoved, Sweeps, Drops};
 ghost use Rattle.ttl_expunge.specs.Dropping.{swept_at};
 ghost use Rattle.entry_slots.specs.Standing.{Stand, entries};
 

@@ -8,4 +8,5 @@ mod room;
 
 pub use chains::{expunge_all, expunge_expired, sweep_chain};
 pub use expunge::{drop_row, is_let_go, sweep_removed};
+pub use laws::{drop_laws, entry_laws};
 pub use room::{make_room, make_room_next};

@@ -43,19 +43,8 @@ pub fn make_room<S: Segment>(
     ensures stand { Stand S.WordsIn slots.new seg.new }
     ensures rest { S.rest seg.new ≡ S.rest seg.old }
 {
-    entry_laws();
     sweep_removed(slots, seg);
-    let swept = slots.take(seg, n);
-    if swept.is_some() {
-        return (swept, false);
-    }
-    drop_expired(slots, seg, ttl, t);
-    let unexpired = slots.take(seg, n);
-    if unexpired.is_some() {
-        return (unexpired, false);
-    }
-    expunge_all(slots, seg, t);
-    (slots.take(seg, n), true)
+    make_room_next(slots, seg, n, ttl, t)
 }
 
 /// The same in an event in which room was made before: all removed rows are held, and none is swept.

@@ -1,9 +1,9 @@
 use Rattle.std.proofs.Common.{◌≡◌, false, cond, sym, ap, ◌∙◌, subst}
 use Rattle.std.proofs.lemmas.Bool.{or_right, not-true, not-false}
+use Rattle.seg_words.specs.Probing.{Met}
 use Rattle.seg_words.specs.Windows.{Aside, has, held_blocks}
 use Rattle.entry_slots.specs.Lists.{is_at, has_place}
 use Rattle.entry_slots.specs.Entries.{freed_at}
-use Rattle.ttl_expunge.specs.Held.{Met}
 use Rattle.ttl_expunge.proofs.Rows.{any-append}
 use Rattle.entry_slots.specs.Standing.{entries}
 use Rattle.ttl_expunge.proofs.expunge.sweep_at.Goals as goal

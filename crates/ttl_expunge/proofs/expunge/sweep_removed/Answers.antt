@@ -1,8 +1,8 @@
 use Rattle.std.proofs.Common.{refl, ap, ◌∙◌, subst}
 use Rattle.std.proofs.lemmas.Bool.{or_right}
+use Rattle.seg_words.specs.Probing.{Met}
 use Rattle.seg_words.specs.Windows.{Aside, has}
 use Rattle.entry_slots.specs.Lists.{is_at, has_place}
-use Rattle.ttl_expunge.specs.Held.{Met}
 use Rattle.ttl_expunge.proofs.Rows.{any-append}
 use Rattle.ttl_expunge.proofs.Sweeping.{turn, turn_fresh, sweeping_starts, sweeping_on, sweeping_falls, sweeping_ends}
 use Rattle.ttl_expunge.proofs.Asides.{stand_kept}

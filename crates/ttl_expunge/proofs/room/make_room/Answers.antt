@@ -1,76 +1,13 @@
-use Rattle.std.proofs.Common.{◌≡◌, true, false, sym, ap, ◌∙◌}
-use Rattle.std.specs.Prelude.{is_some}
-use Rattle.entry_slots.specs.Entries.{Entries}
-use Rattle.ttl_expunge.specs.Held.{Drops}
-use Rattle.ttl_expunge.proofs.Asides.{goes_on}
-use Rattle.ttl_expunge.proofs.Open.{sweeps_open, drops_open, open_on, order_from, sweeps_held, drops_held}
-use Rattle.ttl_expunge.proofs.Making.{took, unchanged, drops_from, makes, room_swept, room_expired, room_full, expired_open, expired_rows_of, all_rows_of}
 use Rattle.entry_slots.specs.Standing.{entries}
+use Rattle.ttl_expunge.proofs.Open.{sweeps_open, sweeps_held}
+use Rattle.ttl_expunge.proofs.Making.{room_on}
 use Rattle.ttl_expunge.proofs.room.make_room.Goals as goal
 
-pub returns-then-is_some-clause-made : goal.returns-then-is_some-clause-made
-returns-then-is_some-clause-made g c =
-    let s0 = entries c.args.slots.now in
-    let s1 = entries c.sweep_removed.new.slots in
-    let a0 = g.S.WordsIn.aside c.args.seg.now in
-    let a1 = g.S.WordsIn.aside c.sweep_removed.new.seg in
-    let r = c.take-swept.result in
-    let e = c.take-swept.ensures in
-    let sweeps = c.sweep_removed.ensures.sweeps in
-    makes r false (took r c.args.n s1 (entries c.take-swept.new.self) e.taken e.none) e.place
-    (room_swept r sweeps e.place (sym c.is_some.ensures ∙ c.if-is_some.true)) (ap (λ (x : Entries). x.conf) sweeps.swept) sweeps.goes (sweeps_open s0 s1 a0 a1 sweeps) sweeps.refused (sweeps_held s0 s1 a0 a1 sweeps) e.beside.aside
-
-pub returns-then-is_some-2-clause-made : goal.returns-then-is_some-2-clause-made
-returns-then-is_some-2-clause-made g c =
-    let s0 = entries c.args.slots.now in
-    let s1 = entries c.sweep_removed.new.slots in
-    let s2 = entries c.drop_expired.new.slots in
-    let a0 = g.S.WordsIn.aside c.args.seg.now in
-    let a1 = g.S.WordsIn.aside c.sweep_removed.new.seg in
-    let a2 = g.S.WordsIn.aside c.drop_expired.new.seg in
-    let r = c.take-swept.result in
-    let r' = c.take-unexpired.result in
-    let e = c.take-swept.ensures in
-    let e' = c.take-unexpired.ensures in
-    let nothing : is_some r ≡ false = sym c.is_some.ensures ∙ c.if-is_some.false in
-    let sweeps = c.sweep_removed.ensures.sweeps in
-    let sound = c.entry_laws.ensures.sound c.sweep_removed.new.slots (g.S.WordsIn.words c.sweep_removed.new.seg) a1 (entries c.sweep_removed.new.slots) c.sweep_removed.ensures.stand in
-    let drops : Drops s1 s2 a1 a2 c.args.t (expired_rows_of c.args.t s1) =
-    drops_from (expired_rows_of c.args.t) (unchanged r s1 (entries c.take-swept.new.self) nothing e.none) e.beside.aside c.drop_expired.ensures.drops in
-    makes r' false (took r' c.args.n s2 (entries c.take-unexpired.new.self) e'.taken e'.none) e'.place
-    (room_expired r r' sweeps e.place nothing drops sound e'.place (sym c.is_some-2.ensures ∙ c.if-is_some-2.true))
-    (ap (λ (x : Entries). x.conf) drops.dropped ∙ ap (λ (x : Entries). x.conf) sweeps.swept)
-    (goes_on a0 a1 a2 sweeps.goes drops.goes)
-    (open_on s0 s1 s2 a1 a2 drops.goes (sweeps_open s0 s1 a0 a1 sweeps) (expired_open s1 s2 a1 a2 c.args.t sound drops)) drops.refused (drops_held s1 s2 a1 a2 c.args.t (expired_rows_of c.args.t s1) drops (sweeps_held s0 s1 a0 a1 sweeps)) e'.beside.aside
+pub make_room_next-requires-clause-held : goal.make_room_next-requires-clause-held
+make_room_next-requires-clause-held g c =
+    sweeps_held (entries c.args.slots.now) (entries c.sweep_removed.new.slots) (g.S.WordsIn.aside c.args.seg.now) (g.S.WordsIn.aside c.sweep_removed.new.seg) c.sweep_removed.ensures.sweeps
 
 pub returns-clause-made : goal.returns-clause-made
 returns-clause-made g c =
-    let s0 = entries c.args.slots.now in
-    let s1 = entries c.sweep_removed.new.slots in
-    let s2 = entries c.drop_expired.new.slots in
-    let s3 = entries c.expunge_all.new.slots in
-    let a0 = g.S.WordsIn.aside c.args.seg.now in
-    let a1 = g.S.WordsIn.aside c.sweep_removed.new.seg in
-    let a2 = g.S.WordsIn.aside c.drop_expired.new.seg in
-    let a3 = g.S.WordsIn.aside c.expunge_all.new.seg in
-    let r = c.take-swept.result in
-    let r' = c.take-unexpired.result in
-    let e = c.take-swept.ensures in
-    let e' = c.take-unexpired.ensures in
-    let f = c.take.ensures in
-    let nothing : is_some r ≡ false = sym c.is_some.ensures ∙ c.if-is_some.false in
-    let neither : is_some r' ≡ false = sym c.is_some-2.ensures ∙ c.if-is_some-2.false in
     let sweeps = c.sweep_removed.ensures.sweeps in
-    let sound = c.entry_laws.ensures.sound c.sweep_removed.new.slots (g.S.WordsIn.words c.sweep_removed.new.seg) a1 (entries c.sweep_removed.new.slots) c.sweep_removed.ensures.stand in
-    let sound' = c.entry_laws.ensures.sound c.drop_expired.new.slots (g.S.WordsIn.words c.drop_expired.new.seg) a2 (entries c.drop_expired.new.slots) c.drop_expired.ensures.stand in
-    let drops : Drops s1 s2 a1 a2 c.args.t (expired_rows_of c.args.t s1) =
-    drops_from (expired_rows_of c.args.t) (unchanged r s1 (entries c.take-swept.new.self) nothing e.none) e.beside.aside c.drop_expired.ensures.drops in
-    let all : Drops s2 s3 a2 a3 c.args.t (all_rows_of s2) =
-    drops_from all_rows_of (unchanged r' s2 (entries c.take-unexpired.new.self) neither e'.none) e'.beside.aside c.expunge_all.ensures.drops in
-    let keeps = open_on s0 s1 s2 a1 a2 drops.goes (sweeps_open s0 s1 a0 a1 sweeps) (expired_open s1 s2 a1 a2 c.args.t sound drops) in
-    makes c.take.result true (took c.take.result c.args.n s3 (entries c.take.new.self) f.taken f.none) f.place
-    (room_full r r' sweeps e.place nothing drops sound e'.place neither all sound')
-    (ap (λ (x : Entries). x.conf) all.dropped ∙ (ap (λ (x : Entries). x.conf) drops.dropped ∙ ap (λ (x : Entries). x.conf) sweeps.swept))
-    (goes_on a0 a2 a3 (goes_on a0 a1 a2 sweeps.goes drops.goes) all.goes)
-    (open_on s0 s2 s3 a2 a3 all.goes keeps (drops_open s2 s3 a2 a3 c.args.t (all_rows_of s2) sound' (order_from s2.conf s2.rows) all)) all.refused
-    (drops_held s2 s3 a2 a3 c.args.t (all_rows_of s2) all (drops_held s1 s2 a1 a2 c.args.t (expired_rows_of c.args.t s1) drops (sweeps_held s0 s1 a0 a1 sweeps))) f.beside.aside
+    room_on sweeps (sweeps_open (entries c.args.slots.now) (entries c.sweep_removed.new.slots) (g.S.WordsIn.aside c.args.seg.now) (g.S.WordsIn.aside c.sweep_removed.new.seg) sweeps) c.make_room_next.ensures.made

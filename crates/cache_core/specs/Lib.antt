@@ -1,0 +1,5 @@
+pub mod Laws
+pub mod Placing
+pub mod Looking
+pub mod Caching
+pub mod Storing

@@ -1,0 +1,78 @@
+//! Look-ups.
+
+ghost use Rattle.std.specs.Prelude.{◌≡◌, ℕ, ◌<◌, ◌^◌, true, length, is_some, IfSome, IfNone, None};
+ghost use Rattle.seg_words.specs.Kept.{Kept, KeptBeside};
+ghost use Rattle.seg_words.specs.Windows.{held_blocks};
+ghost use Rattle.apcu_model.specs.Cache.{Row};
+ghost use Rattle.apcu_model.specs.Expiry.{live_row, is_hard_expired};
+ghost use Rattle.apcu_model.specs.Sequential.{looked_up};
+ghost use Rattle.cache_core.specs.Caching.{cache_of, CacheStands};
+ghost use Rattle.cache_core.specs.Looking.{look_of, IsFound};
+
+use crate::core::Core;
+use crate::scalar::{Look, read_scalar};
+use entry_slots::{Head, standing_laws};
+use seg_words::{Segment, WordsIn};
+
+// Whether the own time of a row of which this is noted is over.
+fn is_over(head: Head, t: u64) -> bool
+    ensures { (row : Row) → head.ttl ≡ row.ttl → head.ctime ≡ row.ctime
+        → result ≡ is_hard_expired t row }
+{
+    head.ttl > 0 && head.ctime.saturating_add(u64::from(head.ttl)) < t
+}
+
+impl Core {
+    // The place of the row that a look-up of the key finds, and what its first words say.
+    pub(crate) fn find_live<S: Segment>(&self, seg: &mut S, key: &[u8], t: u64) -> Option<(u32, Head)>
+        requires short { length key.now < 2 ^ 32 }
+        requires stand { CacheStands S.WordsIn self.now seg.old }
+        ensures found { IfSome result (λ r.
+            IsFound S.WordsIn seg.old key.now t (cache_of self.now) r.0 r.1) }
+        ensures none { IfNone result (live_row key.now t (cache_of self.now) ≡ None) }
+        ensures kept { Kept S.WordsIn seg.old seg.new }
+    {
+        standing_laws();
+        let at = self.slots.find(seg, key)?;
+        let head = self.slots.head(seg, at);
+        if is_over(head, t) {
+            return None;
+        }
+        Some((at, head))
+    }
+
+    /// Whether a look-up of the key at the moment `t`, in seconds, finds a row. Nothing is counted.
+    pub fn exists<S: Segment>(&self, seg: &mut S, key: &[u8], t: u64) -> bool
+        requires short { length key.now < 2 ^ 32 }
+        requires stand { CacheStands S.WordsIn self.now seg.old }
+        ensures found { result ≡ is_some (live_row key.now t (cache_of self.now)) }
+        ensures kept { Kept S.WordsIn seg.old seg.new }
+    {
+        self.find_live(seg, key, t).is_some()
+    }
+
+    /// Looks a key up at the moment `t`: a row that is found is used and counts a hit, else a miss is counted. A
+    /// row whose own time is over is not found; one that is only stale by the cache's limit is, and is fresh again.
+    pub fn look<S: Segment>(&mut self, seg: &mut S, key: &[u8], t: u64) -> Look
+        requires short { length key.now < 2 ^ 32 }
+        requires stand { CacheStands S.WordsIn self.old seg.old }
+        ensures look { result ≡ look_of (live_row key.now t (cache_of self.old)) }
+        ensures cache { cache_of self.new
+            ≡ looked_up key.now t (live_row key.now t (cache_of self.old)) (cache_of self.old) }
+        ensures stand { CacheStands S.WordsIn self.new seg.new }
+        ensures beside { KeptBeside S.WordsIn seg.old seg.new }
+    {
+        standing_laws();
+        let Some((at, head)) = self.find_live(seg, key, t) else {
+            self.tally = self.tally.after_miss();
+            return Look::Miss;
+        };
+        let scalar = read_scalar(seg, head.image, head.image_len);
+        self.slots.touch(seg, at, t);
+        self.tally = self.tally.after_hit();
+        match scalar {
+            Some(scalar) => Look::Scalar(scalar),
+            None => Look::Hit(at),
+        }
+    }
+}
