@@ -10,14 +10,14 @@ use Rattle.sma_blocks.specs.Live.{live_blocks}
 use Rattle.sma_blocks.specs.Ready.{Holds}
 use Rattle.apcu_model.specs.Cache.{Row, extent_of}
 use Rattle.entry_slots.specs.declared.slots.EntrySlots.{EntrySlots}
-use Rattle.entry_slots.specs.Lists.{is_at, has_place}
+use Rattle.entry_slots.specs.Lists.{is_at, begins_at, has_place}
 use Rattle.entry_slots.specs.Entries.{Entries, listed, blocks_of}
 use Rattle.entry_slots.specs.Standing.{Stands}
-use Rattle.entry_slots.specs.Facts.{OnlyClose, OnlyOpensAt, AreApart, AreOnce, IsCopyable}
+use Rattle.entry_slots.specs.Facts.{OnlyClose, OnlyOpensAt, AreApart, IsCopyable, IsSound}
 use Rattle.entry_slots.proofs.Members.{any_there, counted, same_there}
 use Rattle.entry_slots.proofs.Blocks.{Apart, live_apart, live_bounds, told_from}
 use Rattle.entry_slots.proofs.Homes.{IsHome, room, home_listed}
-use Rattle.entry_slots.proofs.Places.{at_place, at_itself, once, blocks_once}
+use Rattle.entry_slots.proofs.Places.{at_itself, once}
 
 -- the row that is listed at a place
 listed_at : {e : EntrySlots} {ws : List ℕ} {aside : Aside} (s : Entries) (at : ℕ) → Stands e ws aside s → has_place at (listed s) ≡ true → (row : Row) × Contains (listed s) row × (row.place ≡ at) × IsHome e ws aside row
@@ -33,7 +33,7 @@ image_inside {ws = ws} row h =
 -- a block that was taken is elsewhere
 not_taken : {e : EntrySlots} {ws : List ℕ} {aside : Aside} (s : Entries) → Stands e ws aside s → (row : Row) → Contains (listed s) row → (block : Extent) → Contains s.taken block → block.place ≡ row.place → ⊥
 not_taken s h row c block t same =
-    let taken = counted (at_place row.place) s.taken block t (at_itself (record row { place = block.place }) row.place same) in
+    let taken = counted (begins_at row.place) s.taken block t (at_itself (record row { place = block.place }) row.place same) in
     let self = at_itself row row.place refl in
     elim (Contains-append_cases s.rows s.removed row c) [
       | inl l ↦ omega (arith, once h row.place, counted (is_at row.place) s.rows row l self, taken)
@@ -95,7 +95,7 @@ opened_stands e ws old new s at there more h =
 told_unnamed : (windows : List ℕ) (at : ℕ) → is_named windows at ≡ false → IsTold windows (at + 11)
 told_unnamed windows at none = told_from windows (at + 11) (λ x named e. false≢true (sym none ∙ subst (λ n. is_named windows n ≡ true) (omega arith) named))
 
-pub listed_probed : (e : EntrySlots) (ws : List ℕ) (aside : Aside) (s : Entries) (at : ℕ) → Stands e ws aside s → has_place at (listed s) ≡ true → (windows : List ℕ) → MayProbe ws windows at
+listed_probed : (e : EntrySlots) (ws : List ℕ) (aside : Aside) (s : Entries) (at : ℕ) → Stands e ws aside s → has_place at (listed s) ≡ true → (windows : List ℕ) → MayProbe ws windows at
 listed_probed e ws aside s at h there windows =
     let own = listed_at s at h there in
     let w = room own.3 in
@@ -142,8 +142,14 @@ blocks_lie_apart e ws aside s one other h c d =
     let live : List Extent = live_blocks ws e.sma.from in
     live_apart e.sma ws aside one other h.ready (same_there live (blocks_of s) one h.blocks c) (same_there live (blocks_of s) other h.blocks d)
 
-pub blocks_are_once : (e : EntrySlots) (ws : List ℕ) (aside : Aside) (s : Entries) → Stands e ws aside s → AreOnce (blocks_of s)
-blocks_are_once e ws aside s h at = omega (arith, h.blocks.count (at_place at), blocks_once ws e.sma.from (live_blocks ws e.sma.from) e.sma.to at h.ready.blocks)
+pub sound : (e : EntrySlots) (ws : List ℕ) (aside : Aside) (s : Entries) → Stands e ws aside s → IsSound s ws aside.windows
+sound e ws aside s h = record {
+  good = h.good;
+  apart = h.apart;
+  once = once h;
+  placed = false_from_ne_true (has_place 0 (listed s)) (λ there. let own = listed_at s 0 h there in omega (arith, own.2, (room own.3).some));
+  probed = λ at there. listed_probed e ws aside s at h there aside.windows;
+}
 
 -- closing the windows on a block opens none
 closed_on-named : (ws : List ℕ) (at x : ℕ) → has x (closed_on at ws) ≡ true → 0 < x → has x ws ≡ true

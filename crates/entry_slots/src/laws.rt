@@ -3,14 +3,13 @@
 ghost use Rattle.std.specs.Prelude.{◌≡◌, ◌≢◌, ℕ, ◌<◌, ◌≤◌, ◌+◌, Bool, true, false, List, ◌∷◌, ◌++◌, length, Contains, Some};
 ghost use Rattle.seg_words.specs.declared.extents.Extent.{Extent};
 ghost use Rattle.seg_words.specs.Windows.{Aside, Frees, Refuses};
-ghost use Rattle.seg_words.specs.Blocks.{MayProbe};
 ghost use Rattle.apcu_model.specs.Cache.{Row};
 ghost use Rattle.entry_slots.specs.declared.slots.EntrySlots.{EntrySlots};
 ghost use Rattle.entry_slots.specs.Lists.{has_place, first_place, next_place};
 ghost use Rattle.entry_slots.specs.Entries.{Entries, chain_of, listed, loose, blocks_of, place_of, unlinked_at};
 ghost use Rattle.entry_slots.specs.Entries.{removed_at, freed_at, dropped_at, gone_at};
 ghost use Rattle.entry_slots.specs.Standing.{Stands};
-ghost use Rattle.entry_slots.specs.Facts.{OnlyClose, OnlyOpensAt, AreApart, AreOnce, IsCopyable, IsAtRow};
+ghost use Rattle.entry_slots.specs.Facts.{OnlyClose, OnlyOpensAt, AreApart, IsCopyable, IsSound, IsAtRow};
 
 /// Words stand for the same entries where windows close and the mask and the refused places change in any
 /// way, and where a window opens on the block of a row or a removed row. At a probe windows only close.
@@ -25,12 +24,11 @@ pub fn window_laws()
         → OnlyClose old new }
 {}
 
-/// The block of a row or a removed row may be probed, whatever the windows, and may be copied from. All blocks
-/// lie apart inside the words, and no place begins two of them. So a walk along a chain meets each place once.
+/// No place begins two blocks, and none of a row or a removed row is 0; each of these may be probed, and may be
+/// copied from. All blocks lie apart inside the words. So a walk along a chain meets each place once.
 pub fn standing_laws()
-    ensures probed { (e : EntrySlots) (words : List ℕ) (aside : Aside) (s : Entries) (at : ℕ)
-        → Stands e words aside s → has_place at (listed s) ≡ true
-        → (windows : List ℕ) → MayProbe words windows at }
+    ensures sound { (e : EntrySlots) (words : List ℕ) (aside : Aside) (s : Entries)
+        → Stands e words aside s → IsSound s words aside.windows }
     ensures copied { (e : EntrySlots) (words : List ℕ) (aside : Aside) (s : Entries) (at : ℕ)
         → Stands e words aside s → has_place at (listed s) ≡ true
         → IsCopyable words aside.windows at }
@@ -40,8 +38,6 @@ pub fn standing_laws()
     ensures apart { (e : EntrySlots) (words : List ℕ) (aside : Aside) (s : Entries)
         (one other : Extent) → Stands e words aside s → Contains (blocks_of s) one
         → Contains (blocks_of s) other → AreApart one other }
-    ensures once { (e : EntrySlots) (words : List ℕ) (aside : Aside) (s : Entries)
-        → Stands e words aside s → AreOnce (blocks_of s) }
     ensures one { (e : EntrySlots) (words : List ℕ) (aside : Aside) (s : Entries) (p q : Row)
         → Stands e words aside s → Contains (listed s) p → Contains (listed s) q
         → p.place ≡ q.place → p ≡ q }

@@ -9,6 +9,7 @@ mod reading;
 mod removed;
 mod slots;
 mod standing;
+mod whole;
 mod writing;
 
 pub use head::Head;

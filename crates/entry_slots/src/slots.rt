@@ -3,10 +3,9 @@ ghost use Rattle.seg_words.specs.Kept.{Kept, KeptBeside};
 ghost use Rattle.seg_words.specs.Windows.{is_named};
 ghost use Rattle.php_graph.specs.Numbers.{hash_of};
 ghost use Rattle.apcu_model.specs.Cache.{Row, has_key};
-ghost use Rattle.apcu_model.specs.Conf.{IsGood};
 ghost use Rattle.apcu_model.specs.Walk.{slot_of};
 ghost use Rattle.entry_slots.specs.Lists.{has_place, first_place, FollowsIn};
-ghost use Rattle.entry_slots.specs.Entries.{no_entries, chain_of, listed, loose, place_for, block_for, place_of, old_place, IsListed, HoldsInt, FollowsInChain};
+ghost use Rattle.entry_slots.specs.Entries.{chain_of, listed, loose, place_for, block_for, place_of, old_place, IsListed, HoldsInt, FollowsInChain};
 ghost use Rattle.entry_slots.specs.Entries.{with_taken, touched_in, with_number, linked, unlinked_at, removed_at, freed_at};
 ghost use Rattle.entry_slots.specs.Standing.{Stand, IsStanding, entries};
 ghost use Rattle.entry_slots.specs.Links.{IsLinkTo, IsTarget};
@@ -18,7 +17,6 @@ use crate::lower::lower_laws;
 use crate::reading::{count_after, first_words, next_of};
 use crate::standing::{Change, Standing};
 use crate::writing::{Note, put_entry};
-use apcu_model::Conf;
 use php_graph::{Graph, hash_of};
 use seg_words::{Segment, WordsIn};
 use sma_blocks::Sma;
@@ -33,42 +31,13 @@ pub struct EntrySlots {
     /// The place of the first removed entry, or 0.
     pub(crate) removed: u32,
     /// The number that the next entry gets.
-    next_number: u64,
+    pub(crate) next_number: u64,
     /// The number of rows.
-    count: u32,
+    pub(crate) count: u32,
     pub(crate) standing: Standing,
 }
 
 impl EntrySlots {
-    /// Makes a cache of this shape without rows. No window may be open.
-    pub fn format<S: Segment>(seg: &mut S, conf: &Conf) -> EntrySlots
-        requires good { IsGood conf.now }
-        requires all { length (S.words seg.old) ≡ conf.now.words }
-        requires closed { (at : ℕ) → is_named (S.aside seg.old).windows at ≡ false }
-        ensures made { entries result ≡ no_entries conf.now }
-        ensures stand { Stand S.WordsIn result seg.new }
-        ensures beside { KeptBeside S.WordsIn seg.old seg.new }
-    {
-        for slot in 0..conf.slots {
-            seg.store(slot, 0);
-        }
-        EntrySlots {
-            sma: Sma::format(seg, conf.slots),
-            removed: 0,
-            next_number: 1,
-            count: 0,
-            standing: Standing::new(conf),
-        }
-    }
-
-    /// How many rows there are.
-    pub fn rows(&self) -> u32
-        requires stand { IsStanding self.now }
-        ensures rows { result ≡ length (entries self.now).rows }
-    {
-        self.count
-    }
-
     /// Takes a block of `n` words at the least place where they fit beside all blocks; `None` exactly where
     /// they fit nowhere, and then nothing changed. The block is loose until it is linked.
     pub fn take<S: Segment>(&mut self, seg: &mut S, n: u32) -> Option<u32>
@@ -306,8 +275,20 @@ impl EntrySlots {
         ensures stand { Stand S.WordsIn self.new seg.new }
         ensures beside { KeptBeside S.WordsIn seg.old seg.new }
     {
-        lower_laws();
         self.take_off(seg, at);
+        self.free_unlinked(seg, at);
+    }
+
+    /// Gives the block of the unlinked row back, as `free` does, but walks no list. No window may name it.
+    pub fn free_unlinked<S: Segment>(&mut self, seg: &mut S, at: u32)
+        requires stand { Stand S.WordsIn self.old seg.old }
+        requires there { has_place at (entries self.old).unlinked ≡ true }
+        requires unnamed { is_named (S.aside seg.old).windows at ≡ false }
+        ensures freed { entries self.new ≡ freed_at at (entries self.old) }
+        ensures stand { Stand S.WordsIn self.new seg.new }
+        ensures beside { KeptBeside S.WordsIn seg.old seg.new }
+    {
+        lower_laws();
         self.sma.give(seg, at);
         self.standing = self.standing.then(&Change::Give(at));
     }

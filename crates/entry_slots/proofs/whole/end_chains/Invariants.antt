@@ -1,6 +1,6 @@
 use Rattle.std.proofs.Common.{◌≡◌, ℕ, ◌<◌, slice_index, length}
 use Rattle.seg_words.specs.Kept.{KeptBeside}
-use Rattle.entry_slots.proofs.slots.EntrySlots.format.Given as goal
+use Rattle.entry_slots.proofs.whole.end_chains.Given as goal
 
 abbrev pub invariant-loop-slot : goal.invariant-loop-slot
 invariant-loop-slot g l = record {
