@@ -1,3 +1,7 @@
 pub mod Standing
 pub mod Rows
 pub mod Replacing
+pub mod Live
+pub mod Caching
+pub mod Storing
+pub mod Keyed

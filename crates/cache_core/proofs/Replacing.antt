@@ -20,7 +20,7 @@ use Rattle.apcu_model.specs.Rows.{are_apart}
 use Rattle.apcu_model.specs.Walk.{slot_of, is_in_slot, in_slot_order}
 use Rattle.entry_slots.specs.Lists.{is_at, has_place, only_at, without_place}
 use Rattle.entry_slots.specs.Entries.{Entries, entries_of, chain_of, with_taken, linked, fresh_row, freed_at, removed_at}
-use Rattle.ttl_expunge.specs.Sound.{IsSound}
+use Rattle.entry_slots.specs.Facts.{IsSound}
 use Rattle.ttl_expunge.specs.Held.{AreRemoved, AreHeld, KeepsOpen, Drops}
 use Rattle.ttl_expunge.specs.Dropping.{dropped_in, dropped_rows}
 use Rattle.cache_core.specs.Laws.{Laws}
@@ -249,7 +249,7 @@ puts_from laws {s0} {s1} {s2} {a0} {a1} {a2} {words} {windows} at key graph ttl 
   placed_is = placed_is;
   goes = goes_on a0 a1 a2 drops.goes rep.goes;
   keeps = laws.joined s0 s1 s2 a1 a2 rep.goes
-      (laws.open s0 s1 words windows a0 a1 t (filter (is_expired s0.conf t) (chain_of s0 slot)) sound (λ row c. (Contains-filter (is_in_slot s0.conf slot) s0.rows row (Contains-filter (is_expired s0.conf t) (chain_of s0 slot) row c).0).0) drops)
+      (laws.keeps s0 s1 words windows a0 a1 t (filter (is_expired s0.conf t) (chain_of s0 slot)) sound (λ row c. (Contains-filter (is_in_slot s0.conf slot) s0.rows row (Contains-filter (is_expired s0.conf t) (chain_of s0 slot) row c).0).0) drops)
       (replaces_open rep);
   refused = rep.refused;
   held = λ was. replaces_held rep (laws.held s0 s1 a0 a1 t (filter (is_expired s0.conf t) (chain_of s0 slot)) drops was);

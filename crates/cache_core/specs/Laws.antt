@@ -9,7 +9,7 @@ use Rattle.apcu_model.specs.Walk.{slot_of, in_slot_order}
 use Rattle.entry_slots.specs.declared.slots.EntrySlots.{EntrySlots}
 use Rattle.entry_slots.specs.Entries.{Entries}
 use Rattle.entry_slots.specs.Standing.{Stands}
-use Rattle.ttl_expunge.specs.Sound.{IsSound}
+use Rattle.entry_slots.specs.Facts.{IsSound}
 use Rattle.ttl_expunge.specs.Dropping.{dropped_in, dropped_rows}
 use Rattle.ttl_expunge.specs.Held.{AreHeld, KeepsOpen, Drops}
 
@@ -20,7 +20,7 @@ pub record Laws : Type 0 where
   pub later : (s new : Entries) (before after later : Aside) (t : ℕ) (gone : List Row) → Drops s new before after t gone → Goes after later → new ≡ dropped_rows (held_blocks later) t gone s
   pub order : (s : Entries) (words windows held : List ℕ) (t : ℕ) (pass : Row → Bool) → IsSound s words windows → dropped_rows held t (in_slot_order s.conf (filter pass s.rows)) s ≡ dropped_in held t pass s
   -- the rows under open windows stay, and removed rows that are held stay so
-  pub open : (s new : Entries) (words windows : List ℕ) (before after : Aside) (t : ℕ) (gone : List Row) → IsSound s words windows
+  pub keeps : (s new : Entries) (words windows : List ℕ) (before after : Aside) (t : ℕ) (gone : List Row) → IsSound s words windows
       → ((row : Row) → Contains gone row → Contains s.rows row) → Drops s new before after t gone → KeepsOpen after.windows s new
   pub held : (s new : Entries) (before after : Aside) (t : ℕ) (gone : List Row) → Drops s new before after t gone → AreHeld before s.removed → AreHeld after new.removed
   pub joined : (old mid new : Entries) (between after : Aside) → Goes between after → KeepsOpen between.windows old mid → KeepsOpen after.windows mid new → KeepsOpen after.windows old new

@@ -28,7 +28,7 @@ impl Core {
         ensures later { (later : Aside) → Goes (S.aside seg.new) later
             → cache_of self.new ≡ deleted (held_blocks later) key.now t (cache_of self.old) }
         ensures goes { Goes (S.aside seg.old) (S.aside seg.new) }
-        ensures open { KeepsOpen (S.aside seg.new).windows
+        ensures keeps { KeepsOpen (S.aside seg.new).windows
             (entries self.old.slots) (entries self.new.slots) }
         ensures refused { AreRemoved (S.aside seg.new) (cache_of self.new).removed }
         ensures stand { CacheStands S.WordsIn self.new seg.new }
@@ -51,7 +51,7 @@ impl Core {
         ensures later { (later : Aside) → Goes (S.aside seg.new) later
             → cache_of self.new ≡ cleared (held_blocks later) t (cache_of self.old) }
         ensures goes { Goes (S.aside seg.old) (S.aside seg.new) }
-        ensures open { KeepsOpen (S.aside seg.new).windows
+        ensures keeps { KeepsOpen (S.aside seg.new).windows
             (entries self.old.slots) (entries self.new.slots) }
         ensures refused { AreRemoved (S.aside seg.new) (cache_of self.new).removed }
         ensures stand { CacheStands S.WordsIn self.new seg.new }

@@ -47,7 +47,7 @@ impl Core {
             → inserted (held_blocks later) key.now g.now ttl exclusive t (cache_of self.old)
             ≡ record { answer = result; cache = cache_of self.new } }
         ensures goes { Goes (S.aside seg.old) (S.aside seg.new) }
-        ensures open { KeepsOpen (S.aside seg.new).windows
+        ensures keeps { KeepsOpen (S.aside seg.new).windows
             (entries self.old.slots) (entries self.new.slots) }
         ensures refused { AreRemoved (S.aside seg.new) (cache_of self.new).removed }
         ensures held { result ≢ answers.TooLarge → result ≢ answers.Exists
@@ -85,7 +85,7 @@ impl Core {
             → inserted (held_blocks later) key.now g.now ttl exclusive t (cache_of self.old)
             ≡ record { answer = result; cache = cache_of self.new } }
         ensures goes { Goes (S.aside seg.old) (S.aside seg.new) }
-        ensures open { KeepsOpen (S.aside seg.new).windows
+        ensures keeps { KeepsOpen (S.aside seg.new).windows
             (entries self.old.slots) (entries self.new.slots) }
         ensures refused { AreRemoved (S.aside seg.new) (cache_of self.new).removed }
         ensures held { AreHeld (S.aside seg.new) (cache_of self.new).removed }
@@ -136,7 +136,7 @@ impl Core {
         ensures later { (later : Aside) → Goes (S.aside seg.new) later
             → cache_of self.new ≡ swept (held_blocks later) (cache_of self.old) }
         ensures goes { Goes (S.aside seg.old) (S.aside seg.new) }
-        ensures open { KeepsOpen (S.aside seg.new).windows
+        ensures keeps { KeepsOpen (S.aside seg.new).windows
             (entries self.old.slots) (entries self.new.slots) }
         ensures refused { AreRemoved (S.aside seg.new) (cache_of self.new).removed }
         ensures held { AreHeld (S.aside seg.new) (cache_of self.new).removed }
@@ -165,7 +165,7 @@ impl Core {
             → added (held_blocks later) key.now g.now ttl t (cache_of self.old)
             ≡ record { answer = result; cache = cache_of self.new } }
         ensures goes { Goes (S.aside seg.old) (S.aside seg.new) }
-        ensures open { KeepsOpen (S.aside seg.new).windows
+        ensures keeps { KeepsOpen (S.aside seg.new).windows
             (entries self.old.slots) (entries self.new.slots) }
         ensures refused { AreRemoved (S.aside seg.new) (cache_of self.new).removed }
         ensures held { AreHeld (S.aside seg.new) (cache_of self.new).removed }

@@ -10,7 +10,7 @@ use Rattle.apcu_model.specs.Walk.{is_in_slot}
 use Rattle.entry_slots.specs.Lists.{is_at, has_place, only_at, without_place, first_place, next_place}
 use Rattle.ttl_expunge.specs.Lists.{rows_from}
 use Rattle.entry_slots.specs.Entries.{Entries, chain_of}
-use Rattle.ttl_expunge.specs.Sound.{IsSound}
+use Rattle.entry_slots.specs.Facts.{IsSound}
 use Rattle.ttl_expunge.specs.Held.{AreRemoved, Drops}
 use Rattle.ttl_expunge.specs.Dropping.{left_of}
 use Rattle.ttl_expunge.proofs.Rows.{any-append, count-cons, place_from, place_there, without_middle, next_in, from_in, from_none, alone, filter_alike, filter_all, Contains-first, Contains-filter}

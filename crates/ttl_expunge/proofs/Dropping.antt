@@ -10,7 +10,7 @@ use Rattle.apcu_model.specs.Cache.{Row}
 use Rattle.apcu_model.specs.Change.{is_held}
 use Rattle.entry_slots.specs.Lists.{is_at, has_place, only_at, without_place}
 use Rattle.entry_slots.specs.Entries.{Entries, unlinked_at, removed_at, freed_at}
-use Rattle.ttl_expunge.specs.Sound.{IsSound}
+use Rattle.entry_slots.specs.Facts.{IsSound}
 use Rattle.ttl_expunge.specs.Held.{AreDecided, AreRemoved, Drops}
 use Rattle.ttl_expunge.specs.Dropping.{left_of, dropped_rows}
 use Rattle.ttl_expunge.proofs.Rows.{any-append, none_counted, count-cons, counted, place_from, without_none, only_none, filter_alike, filter_all, Contains-cases}

@@ -1,5 +1,4 @@
 pub mod Rows
-pub mod Sounding
 pub mod Asides
 pub mod Sweeping
 pub mod Dropping

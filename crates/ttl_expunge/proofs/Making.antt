@@ -12,7 +12,7 @@ use Rattle.apcu_model.specs.Change.{is_held, dropped, swept, expired_dropped, ex
 use Rattle.apcu_model.specs.Expiry.{is_expired}
 use Rattle.apcu_model.specs.Walk.{in_slot_order}
 use Rattle.entry_slots.specs.Entries.{Entries, entries_of, blocks_of, with_taken}
-use Rattle.ttl_expunge.specs.Sound.{IsSound}
+use Rattle.entry_slots.specs.Facts.{IsSound}
 use Rattle.ttl_expunge.specs.Held.{AreRemoved, AreHeld, KeepsOpen, Sweeps, Drops}
 use Rattle.ttl_expunge.specs.Dropping.{swept_in, dropped_in, dropped_rows}
 use Rattle.ttl_expunge.specs.Room.{with_block, MakesRoom}

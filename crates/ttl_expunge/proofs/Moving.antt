@@ -11,10 +11,10 @@ use Rattle.apcu_model.specs.Change.{is_held}
 use Rattle.entry_slots.specs.Lists.{has_place, only_at, first_place, next_place, is_at}
 use Rattle.ttl_expunge.specs.Lists.{rows_from}
 use Rattle.entry_slots.specs.Entries.{Entries, chain_of}
-use Rattle.ttl_expunge.specs.Sound.{IsSound}
+use Rattle.entry_slots.specs.Facts.{IsSound}
 use Rattle.std.specs.List.{flat_map, range_with_len}
 use Rattle.apcu_model.specs.Walk.{in_slot_order}
-use Rattle.ttl_expunge.specs.Sound.{without_rows}
+use Rattle.entry_slots.specs.Entries.{without_rows}
 use Rattle.ttl_expunge.specs.Held.{AreDecided, AreRemoved, Drops, Moves}
 use Rattle.ttl_expunge.proofs.Asides.{same_held, all_stay, held_is}
 use Rattle.ttl_expunge.proofs.Chaining.{IsNext, next_from, chain_on, chain_left, none_at_zero}

@@ -12,7 +12,7 @@ use Rattle.apcu_model.specs.Change.{is_held}
 use Rattle.apcu_model.specs.Walk.{slot_of, is_in_slot, in_slot_order}
 use Rattle.entry_slots.specs.Lists.{has_place}
 use Rattle.entry_slots.specs.Entries.{Entries}
-use Rattle.ttl_expunge.specs.Sound.{IsSound}
+use Rattle.entry_slots.specs.Facts.{IsSound}
 use Rattle.ttl_expunge.specs.Held.{AreRemoved, AreHeld, KeepsOpen, Sweeps, Drops}
 use Rattle.ttl_expunge.specs.Dropping.{left_of, dropped_in, dropped_rows}
 use Rattle.ttl_expunge.proofs.Rows.{place_from, place_there, filter_alike, filter_all, Contains-first, Contains-later, Contains-cases, Contains-filter, Contains-kept, Contains-map}

@@ -8,7 +8,7 @@ use Rattle.apcu_model.specs.Cache.{Row}
 use Rattle.apcu_model.specs.Walk.{slot_of, is_in_slot, in_slot_order}
 use Rattle.entry_slots.specs.Lists.{is_at, has_place}
 use Rattle.entry_slots.specs.Entries.{Entries, chain_of}
-use Rattle.ttl_expunge.specs.Sound.{IsSound}
+use Rattle.entry_slots.specs.Facts.{IsSound}
 use Rattle.ttl_expunge.specs.Held.{AreRemoved, Drops}
 use Rattle.ttl_expunge.specs.Dropping.{left_of}
 use Rattle.ttl_expunge.proofs.Rows.{count-cons, counted, place_from, filter_alike, Contains-cases, Contains-filter}

@@ -11,7 +11,7 @@ use Rattle.apcu_model.specs.Change.{is_held}
 use Rattle.entry_slots.specs.Lists.{is_at, has_place, without_place, first_place, next_place}
 use Rattle.ttl_expunge.specs.Lists.{rows_from}
 use Rattle.entry_slots.specs.Entries.{Entries, freed_at}
-use Rattle.ttl_expunge.specs.Sound.{IsSound}
+use Rattle.entry_slots.specs.Facts.{IsSound}
 use Rattle.ttl_expunge.specs.Held.{AreDecided, AreRemoved, Sweeps}
 use Rattle.ttl_expunge.specs.Dropping.{swept_in, swept_at}
 use Rattle.ttl_expunge.proofs.Rows.{any-append, none_counted, counted, place_there, without_none, without_middle, next_in, from_in, from_none, alone, Contains-first, Contains-cases}

@@ -1,5 +1,4 @@
 pub mod Lists
-pub mod Sound
 pub mod Dropping
 pub mod Held
 pub mod Which

@@ -8,9 +8,8 @@ ghost use Rattle.ttl_expunge.specs.Held.{AreRemoved, Drops};
 ghost use Rattle.ttl_expunge.specs.Which.{passes};
 ghost use Rattle.entry_slots.specs.Standing.{Stand, entries};
 
-use crate::laws::entry_laws;
 use crate::expunge::drop_row;
-use entry_slots::{EntrySlots, Head};
+use entry_slots::{EntrySlots, Head, standing_laws};
 use seg_words::Segment;
 
 /// Which rows are dropped.
@@ -44,7 +43,7 @@ fn drop_if<S: Segment>(slots: &mut EntrySlots, seg: &mut S, at: u32, which: Whic
     ensures stand { Stand S.WordsIn slots.new seg.new }
     ensures rest { S.rest seg.new ≡ S.rest seg.old }
 {
-    entry_laws();
+    standing_laws();
     let head = slots.head(seg, at);
     if is_dropped(which, head, t) {
         drop_row(slots, seg, at, t);
@@ -60,7 +59,7 @@ fn drop_chain<S: Segment>(slots: &mut EntrySlots, seg: &mut S, slot: u32, which:
     ensures stand { Stand S.WordsIn slots.new seg.new }
     ensures rest { S.rest seg.new ≡ S.rest seg.old }
 {
-    entry_laws();
+    standing_laws();
     let mut at = slots.first_in(seg, slot);
     while at != 0 {
         let next = slots.after(seg, at);
@@ -77,7 +76,7 @@ fn drop_all<S: Segment>(slots: &mut EntrySlots, seg: &mut S, which: Which, t: u6
     ensures stand { Stand S.WordsIn slots.new seg.new }
     ensures rest { S.rest seg.new ≡ S.rest seg.old }
 {
-    entry_laws();
+    standing_laws();
     let end = slots.slots();
     for slot in 0..end {
         drop_chain(slots, seg, slot, which, t);

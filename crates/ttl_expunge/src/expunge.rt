@@ -6,8 +6,7 @@ ghost use Rattle.ttl_expunge.specs.Held.{AreRemoved, Sweeps, Drops};
 ghost use Rattle.ttl_expunge.specs.Dropping.{swept_at};
 ghost use Rattle.entry_slots.specs.Standing.{Stand, entries};
 
-use crate::laws::entry_laws;
-use entry_slots::EntrySlots;
+use entry_slots::{EntrySlots, standing_laws, window_laws};
 use seg_words::{Segment, probe_laws};
 
 /// Whether the block of the row or removed row at `at` may be given back, since nobody copies from it any more. It
@@ -21,8 +20,9 @@ pub fn is_let_go<S: Segment>(slots: &EntrySlots, seg: &mut S, at: u32) -> bool
     ensures met { Met (S.aside seg.old) (S.aside seg.new) at }
     ensures rest { S.rest seg.new ≡ S.rest seg.old }
 {
-    entry_laws();
     probe_laws();
+    standing_laws();
+    window_laws();
     seg.probe(at)
 }
 
@@ -49,7 +49,7 @@ pub fn sweep_removed<S: Segment>(slots: &mut EntrySlots, seg: &mut S)
     ensures stand { Stand S.WordsIn slots.new seg.new }
     ensures rest { S.rest seg.new ≡ S.rest seg.old }
 {
-    entry_laws();
+    standing_laws();
     let mut at = slots.first_removed();
     while at != 0 {
         let next = slots.after(seg, at);
@@ -68,11 +68,11 @@ pub fn drop_row<S: Segment>(slots: &mut EntrySlots, seg: &mut S, at: u32, t: u64
     ensures stand { Stand S.WordsIn slots.new seg.new }
     ensures rest { S.rest seg.new ≡ S.rest seg.old }
 {
-    entry_laws();
+    standing_laws();
     let is_free = is_let_go(slots, seg, at);
     slots.unlink(seg, at);
     if is_free {
-        slots.free(seg, at);
+        slots.free_unlinked(seg, at);
     } else {
         slots.to_removed(seg, at, t);
     }

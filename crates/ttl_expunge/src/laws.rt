@@ -5,15 +5,11 @@ ghost use Rattle.seg_words.specs.Probing.{Goes};
 ghost use Rattle.seg_words.specs.Windows.{Aside, held_blocks};
 ghost use Rattle.apcu_model.specs.Cache.{Row};
 ghost use Rattle.apcu_model.specs.Walk.{in_slot_order};
-ghost use Rattle.entry_slots.specs.declared.slots.EntrySlots.{EntrySlots};
 ghost use Rattle.entry_slots.specs.Entries.{Entries};
-ghost use Rattle.entry_slots.specs.Facts.{OnlyClose};
-ghost use Rattle.entry_slots.specs.Standing.{Stands};
 ghost use Rattle.ttl_expunge.specs.Dropping.{dropped_in, dropped_rows};
 ghost use Rattle.ttl_expunge.specs.Held.{AreHeld, KeepsOpen, Drops};
-ghost use Rattle.ttl_expunge.specs.Sound.{IsSound};
+ghost use Rattle.entry_slots.specs.Facts.{IsSound};
 
-use entry_slots::{standing_laws, window_laws};
 
 /// What follows where rows were dropped: it is so by the blocks that are held after later probes of the event, and
 /// in the order of a cache; the rows under open windows stay, and removed rows that are held stay so.
@@ -25,7 +21,7 @@ pub fn drop_laws()
         → IsSound s words windows
         → dropped_rows held t (in_slot_order s.conf (filter pass s.rows)) s
         ≡ dropped_in held t pass s }
-    ensures open { (s new : Entries) (words windows : List ℕ) (before after : Aside) (t : ℕ)
+    ensures keeps { (s new : Entries) (words windows : List ℕ) (before after : Aside) (t : ℕ)
         (gone : List Row) → IsSound s words windows
         → ((row : Row) → Contains gone row → Contains s.rows row)
         → Drops s new before after t gone → KeepsOpen after.windows s new }
@@ -36,14 +32,3 @@ pub fn drop_laws()
         → KeepsOpen between.windows old mid → KeepsOpen after.windows mid new
         → KeepsOpen after.windows old new }
 {}
-
-// What the crate below promises of all words that stand for entries.
-pub fn entry_laws()
-    ensures sound { (e : EntrySlots) (words : List ℕ) (aside : Aside) (s : Entries)
-        → Stands e words aside s → IsSound s words aside.windows }
-    ensures closed { (e : EntrySlots) (words : List ℕ) (old new : Aside) (s : Entries)
-        → OnlyClose old new → Stands e words old s → Stands e words new s }
-{
-    standing_laws();
-    window_laws();
-}

@@ -4,12 +4,13 @@ ghost use Rattle.apcu_model.specs.Expiry.{is_expired};
 ghost use Rattle.apcu_model.specs.Walk.{in_slot_order};
 ghost use Rattle.ttl_expunge.specs.Held.{AreRemoved, AreHeld, Drops};
 ghost use Rattle.ttl_expunge.specs.Room.{MakesRoom};
+ghost use Rattle.entry_slots.specs.Entries.{IsWhole};
 ghost use Rattle.entry_slots.specs.Standing.{Stand, entries};
 
-use crate::laws::entry_laws;
-use crate::chains::{expunge_all, expunge_expired};
+use crate::at_once::expunge_at_once;
+use crate::chains::expunge_expired;
 use crate::expunge::sweep_removed;
-use entry_slots::EntrySlots;
+use entry_slots::{EntrySlots, standing_laws};
 use seg_words::Segment;
 
 // Drops the expired rows, where the cache has a time limit.
@@ -38,6 +39,7 @@ pub fn make_room<S: Segment>(
     requires size { (n % 2 ≡ 0) × (2 ≤ n) }
     requires stand { Stand S.WordsIn slots.old seg.old }
     requires limit { ttl ≡ (entries slots.old).conf.ttl }
+    requires whole { IsWhole (entries slots.old) }
     requires fresh { (b : ℕ) → has b (S.aside seg.old).refused ≡ false }
     ensures made { MakesRoom (entries slots.old) (entries slots.new) (S.aside seg.old) (S.aside seg.new) n t result.0 result.1 }
     ensures stand { Stand S.WordsIn slots.new seg.new }
@@ -58,13 +60,14 @@ pub fn make_room_next<S: Segment>(
     requires size { (n % 2 ≡ 0) × (2 ≤ n) }
     requires stand { Stand S.WordsIn slots.old seg.old }
     requires limit { ttl ≡ (entries slots.old).conf.ttl }
+    requires whole { IsWhole (entries slots.old) }
     requires held { AreHeld (S.aside seg.old) (entries slots.old).removed }
     requires refused { AreRemoved (S.aside seg.old) (entries slots.old).removed }
     ensures made { MakesRoom (entries slots.old) (entries slots.new) (S.aside seg.old) (S.aside seg.new) n t result.0 result.1 }
     ensures stand { Stand S.WordsIn slots.new seg.new }
     ensures rest { S.rest seg.new ≡ S.rest seg.old }
 {
-    entry_laws();
+    standing_laws();
     let swept = slots.take(seg, n);
     if swept.is_some() {
         return (swept, false);
@@ -74,6 +77,6 @@ pub fn make_room_next<S: Segment>(
     if unexpired.is_some() {
         return (unexpired, false);
     }
-    expunge_all(slots, seg, t);
+    expunge_at_once(slots, seg, t);
     (slots.take(seg, n), true)
 }

@@ -23,7 +23,7 @@ drop_chain-requires-clause-slot g c =
 
 pub loop-slot-preserved : goal.loop-slot-preserved
 loop-slot-preserved g c =
-    let sound = c.entry_laws.ensures.sound c.loop-slot.slots (g.S.WordsIn.words c.loop-slot.seg) (g.S.WordsIn.aside c.loop-slot.seg) (entries c.loop-slot.slots) c.loop-slot.invariant.stand in
+    let sound = c.standing_laws.ensures.sound c.loop-slot.slots (g.S.WordsIn.words c.loop-slot.seg) (g.S.WordsIn.aside c.loop-slot.seg) (entries c.loop-slot.slots) c.loop-slot.invariant.stand in
     record {
       expunging = expunging_on c.loop-slot.invariant.expunging sound c.drop_chain.ensures.drops;
       within = omega arith;

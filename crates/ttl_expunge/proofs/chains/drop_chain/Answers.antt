@@ -24,13 +24,13 @@ loop-at-init g c =
 pub after-next-requires-clause-there : goal.after-next-requires-clause-there
 after-next-requires-clause-there g c =
     let s = entries c.loop-at.slots in
-    let sound = c.entry_laws.ensures.sound c.loop-at.slots (g.S.WordsIn.words c.loop-at.seg) (g.S.WordsIn.aside c.loop-at.seg) (entries c.loop-at.slots) c.loop-at.invariant.stand in
+    let sound = c.standing_laws.ensures.sound c.loop-at.slots (g.S.WordsIn.words c.loop-at.seg) (g.S.WordsIn.aside c.loop-at.seg) (entries c.loop-at.slots) c.loop-at.invariant.stand in
     let n = next_is c.loop-at.invariant.chaining sound c.loop-at-test.true in
     any-append (is_at c.loop-at.at) s.rows s.removed ∙ or_left (has_place c.loop-at.at s.rows) (has_place c.loop-at.at s.removed) n.listed
 
 pub drop_if-requires : goal.drop_if-requires
 drop_if-requires g c =
-    let sound = c.entry_laws.ensures.sound c.loop-at.slots (g.S.WordsIn.words c.loop-at.seg) (g.S.WordsIn.aside c.loop-at.seg) (entries c.loop-at.slots) c.loop-at.invariant.stand in
+    let sound = c.standing_laws.ensures.sound c.loop-at.slots (g.S.WordsIn.words c.loop-at.seg) (g.S.WordsIn.aside c.loop-at.seg) (entries c.loop-at.slots) c.loop-at.invariant.stand in
     let n = next_is c.loop-at.invariant.chaining sound c.loop-at-test.true in
     record {
       stand = stand_kept c.loop-at.slots c.after-next.ensures.kept c.loop-at.invariant.stand;
@@ -41,7 +41,7 @@ drop_if-requires g c =
 pub loop-at-preserved : goal.loop-at-preserved
 loop-at-preserved g c =
     let s = entries c.loop-at.slots in
-    let sound = c.entry_laws.ensures.sound c.loop-at.slots (g.S.WordsIn.words c.loop-at.seg) (g.S.WordsIn.aside c.loop-at.seg) (entries c.loop-at.slots) c.loop-at.invariant.stand in
+    let sound = c.standing_laws.ensures.sound c.loop-at.slots (g.S.WordsIn.words c.loop-at.seg) (g.S.WordsIn.aside c.loop-at.seg) (entries c.loop-at.slots) c.loop-at.invariant.stand in
     let n = next_is c.loop-at.invariant.chaining sound c.loop-at-test.true in
     let drops : Drops s (entries c.drop_if.new.slots) (g.S.WordsIn.aside c.loop-at.seg) (g.S.WordsIn.aside c.drop_if.new.seg) c.args.t (filter (passes c.args.which c.args.t) (only_at c.loop-at.at s.rows)) =
     subst (λ (a : Aside). Drops s (entries c.drop_if.new.slots) a (g.S.WordsIn.aside c.drop_if.new.seg) c.args.t (filter (passes c.args.which c.args.t) (only_at c.loop-at.at s.rows))) c.after-next.ensures.kept.aside c.drop_if.ensures.drops in
@@ -55,8 +55,8 @@ loop-at-preserved g c =
 pub loop-at-smaller : goal.loop-at-smaller
 loop-at-smaller g c =
     let s = entries c.loop-at.slots in
-    let sound = c.entry_laws.ensures.sound c.loop-at.slots (g.S.WordsIn.words c.loop-at.seg) (g.S.WordsIn.aside c.loop-at.seg) (entries c.loop-at.slots) c.loop-at.invariant.stand in
-    let sound' = c.entry_laws.ensures.sound c.drop_if.new.slots (g.S.WordsIn.words c.drop_if.new.seg) (g.S.WordsIn.aside c.drop_if.new.seg) (entries c.drop_if.new.slots) c.drop_if.ensures.stand in
+    let sound = c.standing_laws.ensures.sound c.loop-at.slots (g.S.WordsIn.words c.loop-at.seg) (g.S.WordsIn.aside c.loop-at.seg) (entries c.loop-at.slots) c.loop-at.invariant.stand in
+    let sound' = c.standing_laws.ensures.sound c.drop_if.new.slots (g.S.WordsIn.words c.drop_if.new.seg) (g.S.WordsIn.aside c.drop_if.new.seg) (entries c.drop_if.new.slots) c.drop_if.ensures.stand in
     let n = next_is c.loop-at.invariant.chaining sound c.loop-at-test.true in
     let drops : Drops s (entries c.drop_if.new.slots) (g.S.WordsIn.aside c.loop-at.seg) (g.S.WordsIn.aside c.drop_if.new.seg) c.args.t (filter (passes c.args.which c.args.t) (only_at c.loop-at.at s.rows)) =
     subst (λ (a : Aside). Drops s (entries c.drop_if.new.slots) a (g.S.WordsIn.aside c.drop_if.new.seg) c.args.t (filter (passes c.args.which c.args.t) (only_at c.loop-at.at s.rows))) c.after-next.ensures.kept.aside c.drop_if.ensures.drops in
@@ -65,5 +65,5 @@ loop-at-smaller g c =
 
 pub returns-clause-drops : goal.returns-clause-drops
 returns-clause-drops g c =
-    let sound = c.entry_laws.ensures.sound c.loop-at.slots (g.S.WordsIn.words c.loop-at.seg) (g.S.WordsIn.aside c.loop-at.seg) (entries c.loop-at.slots) c.loop-at.invariant.stand in
+    let sound = c.standing_laws.ensures.sound c.loop-at.slots (g.S.WordsIn.words c.loop-at.seg) (g.S.WordsIn.aside c.loop-at.seg) (entries c.loop-at.slots) c.loop-at.invariant.stand in
     chaining_ends c.loop-at.invariant.chaining sound c.loop-at-test.false

@@ -12,7 +12,7 @@ use Rattle.ttl_expunge.proofs.chains.drop_if.Goals as goal
 pub returns-then-is_dropped-clause-drops : goal.returns-then-is_dropped-clause-drops
 returns-then-is_dropped-clause-drops g c =
     let s = entries c.args.slots.now in
-    let o = only_of c.args.at (c.entry_laws.ensures.sound c.args.slots.now (g.S.WordsIn.words c.args.seg.now) (g.S.WordsIn.aside c.args.seg.now) (entries c.args.slots.now) c.requires.stand) c.requires.there in
+    let o = only_of c.args.at (c.standing_laws.ensures.sound c.args.slots.now (g.S.WordsIn.words c.args.seg.now) (g.S.WordsIn.aside c.args.seg.now) (entries c.args.slots.now) c.requires.stand) c.requires.there in
     let h = c.head-head.ensures.head o.row (record { there = Contains-append_left s.rows s.removed o.row o.there; place = o.place }) in
     let is : passes c.args.which c.args.t o.row ≡ true = sym (c.is_dropped.ensures o.row h.ttl h.ctime h.atime) ∙ c.if-is_dropped.true in
     let all : filter (passes c.args.which c.args.t) (only_at c.args.at s.rows) ≡ only_at c.args.at s.rows = ap (filter (passes c.args.which c.args.t)) o.only ∙ (ap (λ b. cond b (o.row ∷ []) []) is ∙ sym o.only) in
@@ -22,7 +22,7 @@ returns-then-is_dropped-clause-drops g c =
 pub returns-else-is_dropped-clause-drops : goal.returns-else-is_dropped-clause-drops
 returns-else-is_dropped-clause-drops g c =
     let s = entries c.args.slots.now in
-    let o = only_of c.args.at (c.entry_laws.ensures.sound c.args.slots.now (g.S.WordsIn.words c.args.seg.now) (g.S.WordsIn.aside c.args.seg.now) (entries c.args.slots.now) c.requires.stand) c.requires.there in
+    let o = only_of c.args.at (c.standing_laws.ensures.sound c.args.slots.now (g.S.WordsIn.words c.args.seg.now) (g.S.WordsIn.aside c.args.seg.now) (entries c.args.slots.now) c.requires.stand) c.requires.there in
     let h = c.head-head.ensures.head o.row (record { there = Contains-append_left s.rows s.removed o.row o.there; place = o.place }) in
     let is : passes c.args.which c.args.t o.row ≡ false = sym (c.is_dropped.ensures o.row h.ttl h.ctime h.atime) ∙ c.if-is_dropped.false in
     let none : filter (passes c.args.which c.args.t) (only_at c.args.at s.rows) ≡ [] = ap (filter (passes c.args.which c.args.t)) o.only ∙ ap (λ b. cond b (o.row ∷ []) []) is in

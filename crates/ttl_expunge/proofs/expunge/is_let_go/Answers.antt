@@ -6,7 +6,7 @@ use Rattle.ttl_expunge.proofs.expunge.is_let_go.Goals as goal
 
 pub probe-requires-clause-block : goal.probe-requires-clause-block
 probe-requires-clause-block g c =
-    (c.entry_laws.ensures.sound c.args.slots.now (g.S.WordsIn.words c.args.seg.now) (g.S.WordsIn.aside c.args.seg.now) (entries c.args.slots.now) c.requires.stand).probed c.args.at c.requires.there
+    (c.standing_laws.ensures.sound c.args.slots.now (g.S.WordsIn.words c.args.seg.now) (g.S.WordsIn.aside c.args.seg.now) (entries c.args.slots.now) c.requires.stand).probed c.args.at c.requires.there
 
 pub returns-clause-met : goal.returns-clause-met
 returns-clause-met g c = c.probe_laws.ensures.met (g.S.WordsIn.aside c.args.seg.now) (g.S.WordsIn.aside c.probe.new.self) c.args.at c.probe.result c.probe.ensures.free c.probe.ensures.held
@@ -20,4 +20,4 @@ returns-clause-stand g c =
     let new : Aside = g.S.WordsIn.aside c.probe.new.self in
     let met : Met old new c.args.at = c.probe_laws.ensures.met old new c.args.at c.probe.result c.probe.ensures.free c.probe.ensures.held in
     subst (λ ws. Stands c.args.slots.now ws new (entries c.args.slots.now)) (sym c.probe.ensures.words)
-    (c.entry_laws.ensures.closed c.args.slots.now (g.S.WordsIn.words c.args.seg.now) old new (entries c.args.slots.now) met.goes.closes c.requires.stand)
+    (c.window_laws.ensures.closed c.args.slots.now (g.S.WordsIn.words c.args.seg.now) old new (entries c.args.slots.now) met.goes.closes c.requires.stand)

@@ -22,13 +22,13 @@ loop-at-init g c =
 pub after-next-requires-clause-there : goal.after-next-requires-clause-there
 after-next-requires-clause-there g c =
     let s = entries c.loop-at.slots in
-    let sound = c.entry_laws.ensures.sound c.loop-at.slots (g.S.WordsIn.words c.loop-at.seg) (g.S.WordsIn.aside c.loop-at.seg) (entries c.loop-at.slots) c.loop-at.invariant.stand in
+    let sound = c.standing_laws.ensures.sound c.loop-at.slots (g.S.WordsIn.words c.loop-at.seg) (g.S.WordsIn.aside c.loop-at.seg) (entries c.loop-at.slots) c.loop-at.invariant.stand in
     let t = turn c.loop-at.invariant.sweeping sound c.loop-at-test.true in
     any-append (is_at c.loop-at.at) s.rows s.removed ∙ or_right (has_place c.loop-at.at s.rows) (has_place c.loop-at.at s.removed) t.there
 
 pub sweep_at-requires : goal.sweep_at-requires
 sweep_at-requires g c =
-    let sound = c.entry_laws.ensures.sound c.loop-at.slots (g.S.WordsIn.words c.loop-at.seg) (g.S.WordsIn.aside c.loop-at.seg) (entries c.loop-at.slots) c.loop-at.invariant.stand in
+    let sound = c.standing_laws.ensures.sound c.loop-at.slots (g.S.WordsIn.words c.loop-at.seg) (g.S.WordsIn.aside c.loop-at.seg) (entries c.loop-at.slots) c.loop-at.invariant.stand in
     let t = turn c.loop-at.invariant.sweeping sound c.loop-at-test.true in
     record {
       stand = stand_kept c.loop-at.slots c.after-next.ensures.kept c.loop-at.invariant.stand;
@@ -38,7 +38,7 @@ sweep_at-requires g c =
 
 pub loop-at-preserved : goal.loop-at-preserved
 loop-at-preserved g c =
-    let sound = c.entry_laws.ensures.sound c.loop-at.slots (g.S.WordsIn.words c.loop-at.seg) (g.S.WordsIn.aside c.loop-at.seg) (entries c.loop-at.slots) c.loop-at.invariant.stand in
+    let sound = c.standing_laws.ensures.sound c.loop-at.slots (g.S.WordsIn.words c.loop-at.seg) (g.S.WordsIn.aside c.loop-at.seg) (entries c.loop-at.slots) c.loop-at.invariant.stand in
     let t = turn c.loop-at.invariant.sweeping sound c.loop-at-test.true in
     let met : Met (g.S.WordsIn.aside c.loop-at.seg) (g.S.WordsIn.aside c.sweep_at.new.seg) c.loop-at.at = subst (λ (a : Aside). Met a (g.S.WordsIn.aside c.sweep_at.new.seg) c.loop-at.at) c.after-next.ensures.kept.aside c.sweep_at.ensures.met in
     record {
@@ -49,15 +49,15 @@ loop-at-preserved g c =
 
 pub loop-at-smaller : goal.loop-at-smaller
 loop-at-smaller g c =
-    let sound = c.entry_laws.ensures.sound c.loop-at.slots (g.S.WordsIn.words c.loop-at.seg) (g.S.WordsIn.aside c.loop-at.seg) (entries c.loop-at.slots) c.loop-at.invariant.stand in
-    let sound' = c.entry_laws.ensures.sound c.sweep_at.new.slots (g.S.WordsIn.words c.sweep_at.new.seg) (g.S.WordsIn.aside c.sweep_at.new.seg) (entries c.sweep_at.new.slots) c.sweep_at.ensures.stand in
+    let sound = c.standing_laws.ensures.sound c.loop-at.slots (g.S.WordsIn.words c.loop-at.seg) (g.S.WordsIn.aside c.loop-at.seg) (entries c.loop-at.slots) c.loop-at.invariant.stand in
+    let sound' = c.standing_laws.ensures.sound c.sweep_at.new.slots (g.S.WordsIn.words c.sweep_at.new.seg) (g.S.WordsIn.aside c.sweep_at.new.seg) (entries c.sweep_at.new.slots) c.sweep_at.ensures.stand in
     let t = turn c.loop-at.invariant.sweeping sound c.loop-at-test.true in
     let met : Met (g.S.WordsIn.aside c.loop-at.seg) (g.S.WordsIn.aside c.sweep_at.new.seg) c.loop-at.at = subst (λ (a : Aside). Met a (g.S.WordsIn.aside c.sweep_at.new.seg) c.loop-at.at) c.after-next.ensures.kept.aside c.sweep_at.ensures.met in
     sweeping_falls c.loop-at.invariant.sweeping sound c.loop-at-test.true c.sweep_at.ensures.swept met (c.after-next.ensures.removed t.there) sound'
 
 pub returns : goal.returns
 returns g c =
-    let sound = c.entry_laws.ensures.sound c.loop-at.slots (g.S.WordsIn.words c.loop-at.seg) (g.S.WordsIn.aside c.loop-at.seg) (entries c.loop-at.slots) c.loop-at.invariant.stand in
+    let sound = c.standing_laws.ensures.sound c.loop-at.slots (g.S.WordsIn.words c.loop-at.seg) (g.S.WordsIn.aside c.loop-at.seg) (entries c.loop-at.slots) c.loop-at.invariant.stand in
     record {
       sweeps = sweeping_ends c.loop-at.invariant.sweeping sound c.loop-at-test.false;
       stand = c.loop-at.invariant.stand;

@@ -6,7 +6,7 @@ pub returns : goal.returns
 returns c = record {
   later = λ s new before after later t gone d on. dropped_later d later on;
   order = λ s words windows held t pass sound. in_order held t pass sound;
-  open = λ s new words windows before after t gone sound from d. drops_open s new before after t gone sound from d;
+  keeps = λ s new words windows before after t gone sound from d. drops_open s new before after t gone sound from d;
   held = drops_held;
   joined = open_on;
 }

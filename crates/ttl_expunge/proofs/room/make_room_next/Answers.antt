@@ -8,6 +8,19 @@ use Rattle.ttl_expunge.proofs.Making.{took, unchanged, drops_from, makes, room_s
 use Rattle.entry_slots.specs.Standing.{entries}
 use Rattle.ttl_expunge.proofs.room.make_room_next.Goals as goal
 
+pub expunge_at_once-requires-clause-whole : goal.expunge_at_once-requires-clause-whole
+expunge_at_once-requires-clause-whole g c =
+    let s1 = entries c.args.slots.now in
+    let s2 = entries c.drop_expired.new.slots in
+    let nothing : is_some c.take-swept.result ≡ false = sym c.is_some.ensures ∙ c.if-is_some.false in
+    let neither : is_some c.take-unexpired.result ≡ false = sym c.is_some-2.ensures ∙ c.if-is_some-2.false in
+    let first : entries c.take-swept.new.self ≡ s1 = unchanged c.take-swept.result s1 (entries c.take-swept.new.self) nothing c.take-swept.ensures.none in
+    let last : entries c.take-unexpired.new.self ≡ s2 = unchanged c.take-unexpired.result s2 (entries c.take-unexpired.new.self) neither c.take-unexpired.ensures.none in
+    let drops = c.drop_expired.ensures.drops in (
+      ap (λ (x : Entries). x.unlinked) last ∙ (ap (λ (x : Entries). x.unlinked) drops.dropped ∙ (ap (λ (x : Entries). x.unlinked) first ∙ c.requires.whole.0)),
+      ap (λ (x : Entries). x.taken) last ∙ (ap (λ (x : Entries). x.taken) drops.dropped ∙ (ap (λ (x : Entries). x.taken) first ∙ c.requires.whole.1)),
+    )
+
 pub returns-then-is_some-clause-made : goal.returns-then-is_some-clause-made
 returns-then-is_some-clause-made g c =
     let s0 = entries c.args.slots.now in
@@ -34,7 +47,7 @@ returns-then-is_some-2-clause-made g c =
     let e' = c.take-unexpired.ensures in
     let nothing : is_some r ≡ false = sym c.is_some.ensures ∙ c.if-is_some.false in
     let sweeps = nothing_swept s0 a0 c.requires.held c.requires.refused in
-    let sound = c.entry_laws.ensures.sound c.args.slots.now (g.S.WordsIn.words c.args.seg.now) a1 (entries c.args.slots.now) c.requires.stand in
+    let sound = c.standing_laws.ensures.sound c.args.slots.now (g.S.WordsIn.words c.args.seg.now) a1 (entries c.args.slots.now) c.requires.stand in
     let drops : Drops s1 s2 a1 a2 c.args.t (expired_rows_of c.args.t s1) =
     drops_from (expired_rows_of c.args.t) (unchanged r s1 (entries c.take-swept.new.self) nothing e.none) e.beside.aside c.drop_expired.ensures.drops in
     makes r' false (took r' c.args.n s2 (entries c.take-unexpired.new.self) e'.taken e'.none) e'.place
@@ -48,11 +61,11 @@ returns-clause-made g c =
     let s0 = entries c.args.slots.now in
     let s1 = entries c.args.slots.now in
     let s2 = entries c.drop_expired.new.slots in
-    let s3 = entries c.expunge_all.new.slots in
+    let s3 = entries c.expunge_at_once.new.slots in
     let a0 = g.S.WordsIn.aside c.args.seg.now in
     let a1 = g.S.WordsIn.aside c.args.seg.now in
     let a2 = g.S.WordsIn.aside c.drop_expired.new.seg in
-    let a3 = g.S.WordsIn.aside c.expunge_all.new.seg in
+    let a3 = g.S.WordsIn.aside c.expunge_at_once.new.seg in
     let r = c.take-swept.result in
     let r' = c.take-unexpired.result in
     let e = c.take-swept.ensures in
@@ -61,12 +74,12 @@ returns-clause-made g c =
     let nothing : is_some r ≡ false = sym c.is_some.ensures ∙ c.if-is_some.false in
     let neither : is_some r' ≡ false = sym c.is_some-2.ensures ∙ c.if-is_some-2.false in
     let sweeps = nothing_swept s0 a0 c.requires.held c.requires.refused in
-    let sound = c.entry_laws.ensures.sound c.args.slots.now (g.S.WordsIn.words c.args.seg.now) a1 (entries c.args.slots.now) c.requires.stand in
-    let sound' = c.entry_laws.ensures.sound c.drop_expired.new.slots (g.S.WordsIn.words c.drop_expired.new.seg) a2 (entries c.drop_expired.new.slots) c.drop_expired.ensures.stand in
+    let sound = c.standing_laws.ensures.sound c.args.slots.now (g.S.WordsIn.words c.args.seg.now) a1 (entries c.args.slots.now) c.requires.stand in
+    let sound' = c.standing_laws.ensures.sound c.drop_expired.new.slots (g.S.WordsIn.words c.drop_expired.new.seg) a2 (entries c.drop_expired.new.slots) c.drop_expired.ensures.stand in
     let drops : Drops s1 s2 a1 a2 c.args.t (expired_rows_of c.args.t s1) =
     drops_from (expired_rows_of c.args.t) (unchanged r s1 (entries c.take-swept.new.self) nothing e.none) e.beside.aside c.drop_expired.ensures.drops in
     let all : Drops s2 s3 a2 a3 c.args.t (all_rows_of s2) =
-    drops_from all_rows_of (unchanged r' s2 (entries c.take-unexpired.new.self) neither e'.none) e'.beside.aside c.expunge_all.ensures.drops in
+    drops_from all_rows_of (unchanged r' s2 (entries c.take-unexpired.new.self) neither e'.none) e'.beside.aside c.expunge_at_once.ensures.drops in
     let keeps = open_on s0 s1 s2 a1 a2 drops.goes (sweeps_open s0 s1 a0 a1 sweeps) (expired_open s1 s2 a1 a2 c.args.t sound drops) in
     makes c.take.result true (took c.take.result c.args.n s3 (entries c.take.new.self) f.taken f.none) f.place
     (room_full r r' sweeps e.place nothing drops sound e'.place neither all sound')

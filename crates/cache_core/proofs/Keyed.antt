@@ -1,0 +1,86 @@
+-- The row of a key is dropped, or used.
+use Rattle.std.proofs.Common.{◌≡◌, inl, inr, ℕ, ◌≤◌, Bool, true, false, cond, not, List, [], ◌∷◌, map, filter, find, Option, Some, None, refl, sym, ap, ◌∙◌, subst, arith}
+use Rattle.std.specs.Prelude.{is_some, if◌then◌else◌}
+use Rattle.std.specs.List.{Contains, count_by}
+use Rattle.std.proofs.lemmas.Bool.{cases_Bool, eq-eqb, eqb-true, false≢true, false_from_ne_true}
+use Rattle.std.proofs.lemmas.Slice.Eq.{bytes_eq-Decides}
+use Rattle.seg_words.specs.Windows.{Aside, held_blocks}
+use Rattle.seg_words.specs.Probing.{Goes}
+use Rattle.apcu_model.specs.Cache.{Row, Cache, has_key}
+use Rattle.apcu_model.specs.Change.{dropped, deleted, cleared}
+use Rattle.apcu_model.specs.Expiry.{live_row}
+use Rattle.apcu_model.specs.Sequential.{touched, looked_up}
+use Rattle.apcu_model.specs.Walk.{in_slot_order}
+use Rattle.entry_slots.specs.Lists.{is_at, has_place, only_at}
+use Rattle.entry_slots.specs.Entries.{Entries, entries_of, touched_row, touched_in}
+use Rattle.entry_slots.specs.Facts.{IsSound}
+use Rattle.ttl_expunge.specs.Dropping.{dropped_in}
+use Rattle.ttl_expunge.specs.Held.{Drops}
+use Rattle.cache_core.specs.Laws.{Laws}
+use Rattle.cache_core.proofs.Rows.{counted, count-cons, none_counted, only_none, filter_all, Contains-first, Contains-later, Contains-cases, Contains-filter}
+use Rattle.cache_core.proofs.Replacing.{IsOld, key_is, order_key}
+
+-- the row at a place where one row at most is
+only_once : (at : ℕ) (rows : List Row) (row : Row) → Contains rows row → row.place ≡ at → count_by (is_at at) rows ≤ 1 → only_at at rows ≡ row ∷ []
+only_once at [] row c place few = absurd (omega (arith, c.1))
+only_once at (r ∷ rows) row c place few = elim (Contains-cases r rows row c) [
+  | inl same ↦
+      let here : is_at at r ≡ true = eq-eqb r.place at (ap (λ (x : Row). x.place) same ∙ place) in
+      let one : cond {A = ℕ} (is_at at r) 1 0 ≡ 1 = ap (λ (b : Bool). cond {A = ℕ} b 1 0) here in
+      let none = none_counted (is_at at) rows (omega (arith, few, one, count-cons (is_at at) r rows)) in
+      ap (λ b. cond b (r ∷ only_at at rows) (only_at at rows)) here ∙ (ap (λ l. r ∷ l) (only_none at rows none) ∙ ap (λ (x : Row). x ∷ []) same)
+  | inr later ↦
+      let some : 1 ≤ count_by (is_at at) rows = counted (is_at at) rows row later (eq-eqb row.place at place) in
+      let none : is_at at r ≡ false = false_from_ne_true (is_at at r) (λ h.
+      let one : cond {A = ℕ} (is_at at r) 1 0 ≡ 1 = ap (λ (b : Bool). cond {A = ℕ} b 1 0) h in
+      omega (arith, few, one, some, count-cons (is_at at) r rows)) in
+      ap (λ b. cond b (r ∷ only_at at rows) (only_at at rows)) none ∙ only_once at rows row later place (omega (arith, few, count-cons (is_at at) r rows))
+]
+
+-- the rows that pass were dropped, by the blocks that are held later too
+pub passing_later : (laws : Laws) {s new : Entries} {before after : Aside} {t : ℕ} {words windows : List ℕ} (pass : Row → Bool) (c : Cache)
+    → Drops s new before after t (in_slot_order s.conf (filter pass s.rows)) → IsSound s words windows → s ≡ entries_of c → (later : Aside) → Goes after later → new ≡ entries_of (dropped (held_blocks later) t pass c)
+passing_later laws {s} {new} {before} {after} {t} {words} {windows} pass c drops sound e later on =
+    laws.later s new before after later t (in_slot_order s.conf (filter pass s.rows)) drops on
+    ∙ (laws.order s words windows (held_blocks later) t pass sound ∙ ap (λ (x : Entries). dropped_in (held_blocks later) t pass x) e)
+
+-- the row at `at` was dropped, which is the one of the key
+pub deleted_later : (laws : Laws) {s new : Entries} {before after : Aside} {t at : ℕ} {words windows : List ℕ} (key : List ℕ) (c : Cache) → IsOld s key at → Drops s new before after t (only_at at s.rows)
+    → IsSound s words windows → s ≡ entries_of c → is_some (live_row key t c) ≡ true → (later : Aside) → Goes after later → new ≡ entries_of (deleted (held_blocks later) key t c)
+deleted_later laws {s} {new} {before} {after} {t} {at} key c o drops sound e live later on =
+    let only : only_at at s.rows ≡ o.row ∷ [] = only_once at s.rows o.row o.there o.place (omega (arith, sound.once at)) in
+    let keyed : Drops s new before after t (in_slot_order s.conf (filter (has_key key) s.rows)) =
+    subst (λ (l : List Row). Drops s new before after t l) (only ∙ (sym o.one ∙ sym (order_key laws s.conf s.rows key sound.good.slots_least))) drops in
+    passing_later laws (has_key key) c keyed sound e later on
+    ∙ ap (λ (b : Bool). entries_of (if b then dropped (held_blocks later) t (has_key key) c else c)) (sym live)
+
+-- all rows were dropped
+pub cleared_later : (laws : Laws) {s new : Entries} {before after : Aside} {t : ℕ} {words windows : List ℕ} (c : Cache) → Drops s new before after t (in_slot_order s.conf s.rows)
+    → IsSound s words windows → s ≡ entries_of c → (later : Aside) → Goes after later → new ≡ entries_of (cleared (held_blocks later) t c)
+cleared_later laws {s} {new} {before} {after} {t} c drops sound e later on =
+    let every : Drops s new before after t (in_slot_order s.conf (filter (λ row. true) s.rows)) =
+    subst (λ (l : List Row). Drops s new before after t (in_slot_order s.conf l)) (sym (filter_all (λ (row : Row). true) s.rows (λ row m. refl))) drops in
+    passing_later laws (λ row. true) c every sound e later on
+
+map_alike : (f h : Row → Row) (rows : List Row) → ((row : Row) → Contains rows row → f row ≡ h row) → map f rows ≡ map h rows
+map_alike f h [] e = refl
+map_alike f h (row ∷ rows) e = ap (λ x. x ∷ map f rows) (e row (Contains-first row rows)) ∙ ap (λ l. h row ∷ l) (map_alike f h rows (λ r c. e r (Contains-later row rows r c)))
+
+-- the row at `at` was used, which is the one of the key
+pub touched_keyed : {s : Entries} {words windows : List ℕ} (key : List ℕ) (at t : ℕ) → IsOld s key at → IsSound s words windows
+    → map {A = Row} {B = Row} (touched_row at t) s.rows ≡ map {A = Row} {B = Row} (λ r. if has_key key r then touched t r else r) s.rows
+touched_keyed {s} key at t o sound =
+    map_alike (touched_row at t) (λ r. if has_key key r then touched t r else r) s.rows (λ row c. ap (λ (b : Bool). if b then touched t row else row) (same row c))
+  where
+    only : only_at at s.rows ≡ filter (has_key key) s.rows
+    only = only_once at s.rows o.row o.there o.place (omega (arith, sound.once at)) ∙ sym o.one
+
+    kept : (p : Row → Bool) (rows : List Row) (row : Row) → Contains rows row → p row ≡ true → Contains (filter p rows) row
+    kept = Rattle.cache_core.proofs.Rows.Contains-kept
+
+    same : (row : Row) → Contains s.rows row → is_at at row ≡ has_key key row
+    same row c = elim (cases_Bool (has_key key row)) [
+      | inl is ↦ (Contains-filter (is_at at) s.rows row (subst (λ l. Contains l row) (sym only) (kept (has_key key) s.rows row c is))).1 ∙ sym is
+      | inr isnt ↦ false_from_ne_true (is_at at row) (λ t.
+          false≢true (sym isnt ∙ (Contains-filter (has_key key) s.rows row (subst (λ l. Contains l row) only (kept (is_at at) s.rows row c t))).1)) ∙ sym isnt
+    ]
