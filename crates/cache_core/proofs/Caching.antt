@@ -11,7 +11,7 @@ use Rattle.apcu_model.specs.Change.{is_held, swept, with_room, is_expunged}
 use Rattle.entry_slots.specs.Entries.{Entries, entries_of}
 use Rattle.entry_slots.specs.Standing.{Stand, entries}
 use Rattle.ttl_expunge.specs.Held.{Sweeps}
-use Rattle.cache_core.specs.declared.core.Core.{Core}
+use Rattle.cache_core.specs.declared.cache.Core.{Core}
 use Rattle.cache_core.specs.declared.tally.Tally.{Tally}
 use Rattle.cache_core.specs.Caching.{cache_of, CacheStands}
 use Rattle.cache_core.specs.Laws.{Laws}

@@ -3,5 +3,5 @@ pub mod Rows
 pub mod Replacing
 pub mod Live
 pub mod Caching
-pub mod Storing
+pub mod Insertions
 pub mod Keyed

@@ -4,7 +4,7 @@ use Rattle.seg_words.specs.declared.segment.WordsIn.{Ghosts}
 use Rattle.apcu_model.specs.Cache.{Cache}
 use Rattle.entry_slots.specs.Entries.{entries_of}
 use Rattle.entry_slots.specs.Standing.{Stand, entries}
-use Rattle.cache_core.specs.declared.core.Core.{Core}
+use Rattle.cache_core.specs.declared.cache.Core.{Core}
 
 -- the cache that a core keeps
 abbrev pub cache_of : Core → Cache

@@ -9,7 +9,7 @@ ghost use Rattle.entry_slots.specs.Standing.{entries};
 ghost use Rattle.ttl_expunge.specs.Held.{AreRemoved, KeepsOpen};
 ghost use Rattle.cache_core.specs.Caching.{cache_of, CacheStands};
 
-use crate::core::Core;
+use crate::cache::Core;
 use crate::lower::lower_laws;
 use crate::tally::Tally;
 use seg_words::Segment;

@@ -1,7 +1,7 @@
 //! The cache over the words of a segment: what it stores, finds, deletes and counts.
 #![tactic(auto)]
 
-mod core;
+mod cache;
 mod dropping;
 mod looking;
 mod lower;
@@ -10,5 +10,5 @@ mod scalar;
 mod storing;
 mod tally;
 
-pub use core::Core;
+pub use cache::Core;
 pub use scalar::{Look, Scalar};

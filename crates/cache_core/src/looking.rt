@@ -9,7 +9,7 @@ ghost use Rattle.apcu_model.specs.Sequential.{looked_up};
 ghost use Rattle.cache_core.specs.Caching.{cache_of, CacheStands};
 ghost use Rattle.cache_core.specs.Looking.{look_of, IsFound};
 
-use crate::core::Core;
+use crate::cache::Core;
 use crate::scalar::{Look, read_scalar};
 use entry_slots::{Head, standing_laws};
 use seg_words::{Segment, WordsIn};

@@ -1,6 +1,6 @@
 //! Storing.
 
-ghost use Rattle.std.specs.Prelude.{◌≡◌, ◌≢◌, ◌×◌, ℕ, ◌<◌, ◌^◌, ◌-◌, ◌&&◌, nat_lt, false, List, length, is_some, IfSome, IfNone};
+ghost use Rattle.std.specs.Prelude.{◌≡◌, ◌≢◌, ℕ, ◌<◌, ◌^◌, ◌-◌, ◌&&◌, nat_lt, false, List, length, is_some, IfSome, IfNone};
 ghost use Rattle.seg_words.specs.Kept.{Kept};
 ghost use Rattle.seg_words.specs.Windows.{Aside, has, held_blocks};
 ghost use Rattle.seg_words.specs.Probing.{Goes};
@@ -13,7 +13,7 @@ ghost use Rattle.cache_core.specs.Caching.{cache_of, CacheStands};
 ghost use Rattle.cache_core.specs.Storing.{added, IsEarly};
 ghost use Rattle.apcu_model.specs.declared.request.StoreAnswer.TheVariants as answers;
 
-use crate::core::Core;
+use crate::cache::Core;
 use crate::lower::lower_laws;
 use crate::placing::put_in;
 use apcu_model::StoreAnswer;

@@ -1,9 +1,9 @@
 //! All rows leave at once: only those that somebody still copies are moved one by one.
 
 ghost use Rattle.std.specs.Prelude.{◌≡◌, ℕ, ◌<◌, true};
-ghost use Rattle.apcu_model.specs.Walk.{in_slot_order};
 ghost use Rattle.entry_slots.specs.Lists.{has_place, only_at};
 ghost use Rattle.entry_slots.specs.Entries.{IsWhole, chain_of};
+ghost use Rattle.ttl_expunge.specs.Dropping.{all_rows};
 ghost use Rattle.ttl_expunge.specs.Held.{AreRemoved, Drops, Moves};
 ghost use Rattle.entry_slots.specs.Standing.{Stand, entries};
 
@@ -17,7 +17,8 @@ fn move_if_held<S: Segment>(slots: &mut EntrySlots, seg: &mut S, at: u32, t: u64
     requires stand { Stand S.WordsIn slots.old seg.old }
     requires there { has_place at (entries slots.old).rows ≡ true }
     requires refused { AreRemoved (S.aside seg.old) (entries slots.old).removed }
-    ensures moves { Moves (entries slots.old) (entries slots.new) (S.aside seg.old) (S.aside seg.new) t (only_at at (entries slots.old).rows) }
+    ensures moves { Moves (entries slots.old) (entries slots.new)
+        (S.aside seg.old) (S.aside seg.new) t (only_at at (entries slots.old).rows) }
     ensures stand { Stand S.WordsIn slots.new seg.new }
     ensures rest { S.rest seg.new ≡ S.rest seg.old }
 {
@@ -33,7 +34,8 @@ fn move_held_in<S: Segment>(slots: &mut EntrySlots, seg: &mut S, slot: u32, t: u
     requires stand { Stand S.WordsIn slots.old seg.old }
     requires slot { slot < (entries slots.old).conf.slots }
     requires refused { AreRemoved (S.aside seg.old) (entries slots.old).removed }
-    ensures moves { Moves (entries slots.old) (entries slots.new) (S.aside seg.old) (S.aside seg.new) t (chain_of (entries slots.old) slot) }
+    ensures moves { Moves (entries slots.old) (entries slots.new)
+        (S.aside seg.old) (S.aside seg.new) t (chain_of (entries slots.old) slot) }
     ensures stand { Stand S.WordsIn slots.new seg.new }
     ensures rest { S.rest seg.new ≡ S.rest seg.old }
 {
@@ -50,7 +52,8 @@ fn move_held_in<S: Segment>(slots: &mut EntrySlots, seg: &mut S, slot: u32, t: u
 fn move_held<S: Segment>(slots: &mut EntrySlots, seg: &mut S, t: u64)
     requires stand { Stand S.WordsIn slots.old seg.old }
     requires refused { AreRemoved (S.aside seg.old) (entries slots.old).removed }
-    ensures moves { Moves (entries slots.old) (entries slots.new) (S.aside seg.old) (S.aside seg.new) t (in_slot_order (entries slots.old).conf (entries slots.old).rows) }
+    ensures moves { Moves (entries slots.old) (entries slots.new)
+        (S.aside seg.old) (S.aside seg.new) t (all_rows (entries slots.old)) }
     ensures stand { Stand S.WordsIn slots.new seg.new }
     ensures rest { S.rest seg.new ≡ S.rest seg.old }
 {
@@ -67,7 +70,8 @@ pub fn expunge_at_once<S: Segment>(slots: &mut EntrySlots, seg: &mut S, t: u64)
     requires stand { Stand S.WordsIn slots.old seg.old }
     requires whole { IsWhole (entries slots.old) }
     requires refused { AreRemoved (S.aside seg.old) (entries slots.old).removed }
-    ensures drops { Drops (entries slots.old) (entries slots.new) (S.aside seg.old) (S.aside seg.new) t (in_slot_order (entries slots.old).conf (entries slots.old).rows) }
+    ensures drops { Drops (entries slots.old) (entries slots.new)
+        (S.aside seg.old) (S.aside seg.new) t (all_rows (entries slots.old)) }
     ensures stand { Stand S.WordsIn slots.new seg.new }
     ensures rest { S.rest seg.new ≡ S.rest seg.old }
 {

@@ -1,9 +1,9 @@
 ghost use Rattle.std.specs.Prelude.{◌≡◌, ℕ, ◌<◌, true, filter};
 ghost use Rattle.apcu_model.specs.Cache.{Row};
-ghost use Rattle.apcu_model.specs.Expiry.{is_expired};
 ghost use Rattle.apcu_model.specs.Walk.{in_slot_order};
 ghost use Rattle.entry_slots.specs.Lists.{has_place, only_at};
 ghost use Rattle.entry_slots.specs.Entries.{chain_of};
+ghost use Rattle.ttl_expunge.specs.Dropping.{all_rows, expired_rows, expired_in};
 ghost use Rattle.ttl_expunge.specs.Held.{AreRemoved, Drops};
 ghost use Rattle.ttl_expunge.specs.Which.{passes};
 ghost use Rattle.entry_slots.specs.Standing.{Stand, entries};
@@ -23,7 +23,8 @@ pub(crate) enum Which {
 
 // Whether a row of which this is noted is dropped.
 fn is_dropped(which: Which, head: Head, t: u64) -> bool
-    ensures { (row : Row) → head.ttl ≡ row.ttl → head.ctime ≡ row.ctime → head.atime ≡ row.atime → result ≡ passes which t row }
+    ensures { (row : Row) → head.ttl ≡ row.ttl → head.ctime ≡ row.ctime
+        → head.atime ≡ row.atime → result ≡ passes which t row }
 {
     match which {
         Which::All => true,
@@ -39,7 +40,9 @@ fn drop_if<S: Segment>(slots: &mut EntrySlots, seg: &mut S, at: u32, which: Whic
     requires stand { Stand S.WordsIn slots.old seg.old }
     requires there { has_place at (entries slots.old).rows ≡ true }
     requires refused { AreRemoved (S.aside seg.old) (entries slots.old).removed }
-    ensures drops { Drops (entries slots.old) (entries slots.new) (S.aside seg.old) (S.aside seg.new) t (filter (passes which t) (only_at at (entries slots.old).rows)) }
+    ensures drops { Drops (entries slots.old) (entries slots.new)
+        (S.aside seg.old) (S.aside seg.new) t
+        (filter (passes which t) (only_at at (entries slots.old).rows)) }
     ensures stand { Stand S.WordsIn slots.new seg.new }
     ensures rest { S.rest seg.new ≡ S.rest seg.old }
 {
@@ -55,7 +58,9 @@ fn drop_chain<S: Segment>(slots: &mut EntrySlots, seg: &mut S, slot: u32, which:
     requires stand { Stand S.WordsIn slots.old seg.old }
     requires slot { slot < (entries slots.old).conf.slots }
     requires refused { AreRemoved (S.aside seg.old) (entries slots.old).removed }
-    ensures drops { Drops (entries slots.old) (entries slots.new) (S.aside seg.old) (S.aside seg.new) t (filter (passes which t) (chain_of (entries slots.old) slot)) }
+    ensures drops { Drops (entries slots.old) (entries slots.new)
+        (S.aside seg.old) (S.aside seg.new) t
+        (filter (passes which t) (chain_of (entries slots.old) slot)) }
     ensures stand { Stand S.WordsIn slots.new seg.new }
     ensures rest { S.rest seg.new ≡ S.rest seg.old }
 {
@@ -72,7 +77,9 @@ fn drop_chain<S: Segment>(slots: &mut EntrySlots, seg: &mut S, slot: u32, which:
 fn drop_all<S: Segment>(slots: &mut EntrySlots, seg: &mut S, which: Which, t: u64)
     requires stand { Stand S.WordsIn slots.old seg.old }
     requires refused { AreRemoved (S.aside seg.old) (entries slots.old).removed }
-    ensures drops { Drops (entries slots.old) (entries slots.new) (S.aside seg.old) (S.aside seg.new) t (in_slot_order (entries slots.old).conf (filter (passes which t) (entries slots.old).rows)) }
+    ensures drops { Drops (entries slots.old) (entries slots.new)
+        (S.aside seg.old) (S.aside seg.new) t (in_slot_order (entries slots.old).conf
+        (filter (passes which t) (entries slots.old).rows)) }
     ensures stand { Stand S.WordsIn slots.new seg.new }
     ensures rest { S.rest seg.new ≡ S.rest seg.old }
 {
@@ -89,7 +96,8 @@ pub fn sweep_chain<S: Segment>(slots: &mut EntrySlots, seg: &mut S, slot: u32, t
     requires slot { slot < (entries slots.old).conf.slots }
     requires limit { ttl ≡ (entries slots.old).conf.ttl }
     requires refused { AreRemoved (S.aside seg.old) (entries slots.old).removed }
-    ensures drops { Drops (entries slots.old) (entries slots.new) (S.aside seg.old) (S.aside seg.new) t (filter (is_expired (entries slots.old).conf t) (chain_of (entries slots.old) slot)) }
+    ensures drops { Drops (entries slots.old) (entries slots.new)
+        (S.aside seg.old) (S.aside seg.new) t (expired_in t slot (entries slots.old)) }
     ensures stand { Stand S.WordsIn slots.new seg.new }
     ensures rest { S.rest seg.new ≡ S.rest seg.old }
 {
@@ -101,7 +109,8 @@ pub fn expunge_expired<S: Segment>(slots: &mut EntrySlots, seg: &mut S, ttl: u32
     requires stand { Stand S.WordsIn slots.old seg.old }
     requires limit { ttl ≡ (entries slots.old).conf.ttl }
     requires refused { AreRemoved (S.aside seg.old) (entries slots.old).removed }
-    ensures drops { Drops (entries slots.old) (entries slots.new) (S.aside seg.old) (S.aside seg.new) t (in_slot_order (entries slots.old).conf (filter (is_expired (entries slots.old).conf t) (entries slots.old).rows)) }
+    ensures drops { Drops (entries slots.old) (entries slots.new)
+        (S.aside seg.old) (S.aside seg.new) t (expired_rows t (entries slots.old)) }
     ensures stand { Stand S.WordsIn slots.new seg.new }
     ensures rest { S.rest seg.new ≡ S.rest seg.old }
 {
@@ -112,7 +121,8 @@ pub fn expunge_expired<S: Segment>(slots: &mut EntrySlots, seg: &mut S, ttl: u32
 pub fn expunge_all<S: Segment>(slots: &mut EntrySlots, seg: &mut S, t: u64)
     requires stand { Stand S.WordsIn slots.old seg.old }
     requires refused { AreRemoved (S.aside seg.old) (entries slots.old).removed }
-    ensures drops { Drops (entries slots.old) (entries slots.new) (S.aside seg.old) (S.aside seg.new) t (in_slot_order (entries slots.old).conf (entries slots.old).rows) }
+    ensures drops { Drops (entries slots.old) (entries slots.new)
+        (S.aside seg.old) (S.aside seg.new) t (all_rows (entries slots.old)) }
     ensures stand { Stand S.WordsIn slots.new seg.new }
     ensures rest { S.rest seg.new ≡ S.rest seg.old }
 {

@@ -1,7 +1,8 @@
-ghost use Rattle.std.specs.Prelude.{◌≡◌, ℕ, true, false, not, ◌++◌};
+ghost use Rattle.std.specs.Prelude.{◌≡◌, ℕ, true, false, not};
 ghost use Rattle.seg_words.specs.Probing.{Met};
 ghost use Rattle.seg_words.specs.Windows.{has, held_blocks};
 ghost use Rattle.entry_slots.specs.Lists.{has_place, only_at};
+ghost use Rattle.entry_slots.specs.Entries.{listed};
 ghost use Rattle.ttl_expunge.specs.Held.{AreRemoved, Sweeps, Drops};
 ghost use Rattle.ttl_expunge.specs.Dropping.{swept_at};
 ghost use Rattle.entry_slots.specs.Standing.{Stand, entries};
@@ -13,7 +14,7 @@ use seg_words::{Segment, probe_laws};
 /// probes the block: after `false` the block is held in this event, and no later probe changes either answer.
 pub fn is_let_go<S: Segment>(slots: &EntrySlots, seg: &mut S, at: u32) -> bool
     requires stand { Stand S.WordsIn slots.now seg.old }
-    requires there { has_place at ((entries slots.now).rows ++ (entries slots.now).removed) ≡ true }
+    requires there { has_place at (listed (entries slots.now)) ≡ true }
     requires fresh { has at (S.aside seg.old).refused ≡ false }
     ensures free { result ≡ not (has at (held_blocks (S.aside seg.new))) }
     ensures stand { Stand S.WordsIn slots.now seg.new }
@@ -31,7 +32,8 @@ fn sweep_at<S: Segment>(slots: &mut EntrySlots, seg: &mut S, at: u32)
     requires stand { Stand S.WordsIn slots.old seg.old }
     requires there { has_place at (entries slots.old).removed ≡ true }
     requires fresh { has at (S.aside seg.old).refused ≡ false }
-    ensures swept { entries slots.new ≡ swept_at (held_blocks (S.aside seg.new)) at (entries slots.old) }
+    ensures swept { entries slots.new
+        ≡ swept_at (held_blocks (S.aside seg.new)) at (entries slots.old) }
     ensures stand { Stand S.WordsIn slots.new seg.new }
     ensures met { Met (S.aside seg.old) (S.aside seg.new) at }
     ensures rest { S.rest seg.new ≡ S.rest seg.old }
@@ -45,7 +47,8 @@ fn sweep_at<S: Segment>(slots: &mut EntrySlots, seg: &mut S, at: u32)
 pub fn sweep_removed<S: Segment>(slots: &mut EntrySlots, seg: &mut S)
     requires stand { Stand S.WordsIn slots.old seg.old }
     requires fresh { (b : ℕ) → has b (S.aside seg.old).refused ≡ false }
-    ensures sweeps { Sweeps (entries slots.old) (entries slots.new) (S.aside seg.old) (S.aside seg.new) }
+    ensures sweeps { Sweeps (entries slots.old) (entries slots.new)
+        (S.aside seg.old) (S.aside seg.new) }
     ensures stand { Stand S.WordsIn slots.new seg.new }
     ensures rest { S.rest seg.new ≡ S.rest seg.old }
 {
@@ -64,7 +67,8 @@ pub fn drop_row<S: Segment>(slots: &mut EntrySlots, seg: &mut S, at: u32, t: u64
     requires stand { Stand S.WordsIn slots.old seg.old }
     requires there { has_place at (entries slots.old).rows ≡ true }
     requires refused { AreRemoved (S.aside seg.old) (entries slots.old).removed }
-    ensures drops { Drops (entries slots.old) (entries slots.new) (S.aside seg.old) (S.aside seg.new) t (only_at at (entries slots.old).rows) }
+    ensures drops { Drops (entries slots.old) (entries slots.new)
+        (S.aside seg.old) (S.aside seg.new) t (only_at at (entries slots.old).rows) }
     ensures stand { Stand S.WordsIn slots.new seg.new }
     ensures rest { S.rest seg.new ≡ S.rest seg.old }
 {

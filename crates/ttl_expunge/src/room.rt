@@ -1,7 +1,6 @@
-ghost use Rattle.std.specs.Prelude.{◌≡◌, ℕ, ◌%◌, ◌≤◌, false, nat_lt, if◌then◌else◌, [], filter};
+ghost use Rattle.std.specs.Prelude.{◌≡◌, ℕ, ◌%◌, ◌≤◌, false};
 ghost use Rattle.seg_words.specs.Windows.{has};
-ghost use Rattle.apcu_model.specs.Expiry.{is_expired};
-ghost use Rattle.apcu_model.specs.Walk.{in_slot_order};
+ghost use Rattle.ttl_expunge.specs.Dropping.{spent_rows};
 ghost use Rattle.ttl_expunge.specs.Held.{AreRemoved, AreHeld, Drops};
 ghost use Rattle.ttl_expunge.specs.Room.{MakesRoom};
 ghost use Rattle.entry_slots.specs.Entries.{IsWhole};
@@ -18,7 +17,8 @@ fn drop_expired<S: Segment>(slots: &mut EntrySlots, seg: &mut S, ttl: u32, t: u6
     requires stand { Stand S.WordsIn slots.old seg.old }
     requires limit { ttl ≡ (entries slots.old).conf.ttl }
     requires refused { AreRemoved (S.aside seg.old) (entries slots.old).removed }
-    ensures drops { Drops (entries slots.old) (entries slots.new) (S.aside seg.old) (S.aside seg.new) t (if nat_lt 0 (entries slots.old).conf.ttl then in_slot_order (entries slots.old).conf (filter (is_expired (entries slots.old).conf t) (entries slots.old).rows) else []) }
+    ensures drops { Drops (entries slots.old) (entries slots.new)
+        (S.aside seg.old) (S.aside seg.new) t (spent_rows t (entries slots.old)) }
     ensures stand { Stand S.WordsIn slots.new seg.new }
     ensures rest { S.rest seg.new ≡ S.rest seg.old }
 {
@@ -41,7 +41,8 @@ pub fn make_room<S: Segment>(
     requires limit { ttl ≡ (entries slots.old).conf.ttl }
     requires whole { IsWhole (entries slots.old) }
     requires fresh { (b : ℕ) → has b (S.aside seg.old).refused ≡ false }
-    ensures made { MakesRoom (entries slots.old) (entries slots.new) (S.aside seg.old) (S.aside seg.new) n t result.0 result.1 }
+    ensures made { MakesRoom (entries slots.old) (entries slots.new)
+        (S.aside seg.old) (S.aside seg.new) n t result.0 result.1 }
     ensures stand { Stand S.WordsIn slots.new seg.new }
     ensures rest { S.rest seg.new ≡ S.rest seg.old }
 {
@@ -63,7 +64,8 @@ pub fn make_room_next<S: Segment>(
     requires whole { IsWhole (entries slots.old) }
     requires held { AreHeld (S.aside seg.old) (entries slots.old).removed }
     requires refused { AreRemoved (S.aside seg.old) (entries slots.old).removed }
-    ensures made { MakesRoom (entries slots.old) (entries slots.new) (S.aside seg.old) (S.aside seg.new) n t result.0 result.1 }
+    ensures made { MakesRoom (entries slots.old) (entries slots.new)
+        (S.aside seg.old) (S.aside seg.new) n t result.0 result.1 }
     ensures stand { Stand S.WordsIn slots.new seg.new }
     ensures rest { S.rest seg.new ≡ S.rest seg.old }
 {

@@ -1,5 +1,5 @@
 -- A value is stored: the tests before, and the ways of an insertion.
-use Rattle.std.proofs.Common.{◌≡◌, ◌×◌, ℕ, ◌-◌, ◌<◌, ◌≤◌, Bool, true, false, cond, not, inl, inr, ◌⊎◌, ◌&&◌, List, [], ◌∷◌, length, filter, find, Option, Some, None, refl, sym, ap, ◌∙◌, subst, arith}
+use Rattle.std.proofs.Common.{◌≡◌, ℕ, ◌-◌, ◌<◌, ◌≤◌, Bool, true, false, cond, not, inl, inr, ◌⊎◌, ◌&&◌, List, [], ◌∷◌, length, filter, find, Option, Some, None, refl, sym, ap, ◌∙◌, subst, arith}
 use Rattle.std.specs.Prelude.{nat_lt, is_some, if◌then◌else◌}
 use Rattle.std.proofs.lemmas.Bool.{le-ltb, lt-ltb}
 use Rattle.seg_words.specs.Windows.{Aside, held_blocks}
