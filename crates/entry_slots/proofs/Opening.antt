@@ -91,17 +91,13 @@ opened_stands e ws old new s at there more h =
       to = h.to;
     }
 
--- the pin count of a block that no window names is told
-told_unnamed : (windows : List ℕ) (at : ℕ) → is_named windows at ≡ false → IsTold windows (at + 11)
-told_unnamed windows at none = told_from windows (at + 11) (λ x named e. false≢true (sym none ∙ subst (λ n. is_named windows n ≡ true) (omega arith) named))
-
 listed_probed : (e : EntrySlots) (ws : List ℕ) (aside : Aside) (s : Entries) (at : ℕ) → Stands e ws aside s → has_place at (listed s) ≡ true → (windows : List ℕ) → MayProbe ws windows at
 listed_probed e ws aside s at h there windows =
     let own = listed_at s at h there in
     let w = room own.3 in
     record {
       inside = omega (arith, w.high, w.enough, own.2);
-      count = λ none. (told_unnamed windows at none, ap (λ n. slice_index ws (n + 11)) (sym own.2) ∙ own.3.entry.pin_count);
+      count = λ none. ap (λ n. slice_index ws (n + 11)) (sym own.2) ∙ own.3.entry.pin_count;
     }
 
 row_copied : {e : EntrySlots} {ws : List ℕ} {aside : Aside} (row : Row) → IsHome e ws aside row → IsCopyable ws aside.windows row.place
@@ -150,20 +146,3 @@ sound e ws aside s h = record {
   placed = false_from_ne_true (has_place 0 (listed s)) (λ there. let own = listed_at s 0 h there in omega (arith, own.2, (room own.3).some));
   probed = λ at there. listed_probed e ws aside s at h there aside.windows;
 }
-
--- closing the windows on a block opens none
-closed_on-named : (ws : List ℕ) (at x : ℕ) → has x (closed_on at ws) ≡ true → 0 < x → has x ws ≡ true
-closed_on-named [] at x h some = h
-closed_on-named (w ∷ ws) at x h some = go (eqb w at) (or_cases (eqb x (cond (eqb w at) 0 w)) (has x (closed_on at ws)) h) (λ k. closed_on-named ws at x k some)
-  where
-    go : (b : Bool) → (eqb x (cond b 0 w) ≡ true) ⊎ (has x (closed_on at ws) ≡ true) → (has x (closed_on at ws) ≡ true → has x ws ≡ true) → has x (w ∷ ws) ≡ true
-    go b (inr later) rest = or_right (eqb x w) (has x ws) (rest later)
-    go true (inl here) rest = absurd (omega (arith, eqb-true x 0 here))
-    go false (inl here) rest = or_left (eqb x w) (has x ws) here
-
-pub probe_closes : (old new : Aside) (at : ℕ) (free : Bool) → (free ≡ true → Frees old new at) → (free ≡ false → Refuses old new at) → OnlyClose old new
-probe_closes old new at true frees refuses = λ x named.
-    let windows = (frees refl).windows in
-    let p = and_parts (ltb 0 x) (has x new.windows) named in
-    and_from (ltb 0 x) (has x old.windows) p.0 (closed_on-named old.windows at x (subst (λ l. has x l ≡ true) windows p.1) (ltb-true 0 x p.0))
-probe_closes old new at false frees refuses = λ x named. subst (λ l. is_named l x ≡ true) (refuses refl).windows named

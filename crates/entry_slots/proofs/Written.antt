@@ -12,7 +12,8 @@ use Rattle.sma_blocks.specs.Ready.{ChangesInner}
 use Rattle.php_graph.specs.declared.kind.Kind.{Kind}
 use Rattle.php_graph.specs.Graph.{IsGraph}
 use Rattle.php_graph.specs.ByteStrings.{AreBytes}
-use Rattle.php_graph.specs.Size.{words_in, image_length, block_size}
+use Rattle.seg_words.specs.Layout.{words_in}
+use Rattle.php_graph.specs.Size.{image_length, block_size}
 use Rattle.value_image.specs.Packed.{words_of}
 use Rattle.value_image.specs.Rows.{written, StandsAt}
 use Rattle.value_image.specs.Image.{IsImageOf, image_of}
@@ -23,7 +24,7 @@ use Rattle.entry_slots.specs.declared.writing.Note.{Note}
 use Rattle.entry_slots.specs.Lists.{is_at, begins_at}
 use Rattle.entry_slots.specs.Entries.{Entries, chain_of, blocks_of, fresh_row}
 use Rattle.entry_slots.specs.Standing.{IsChain, IsEntry, Stands}
-use Rattle.entry_slots.specs.Written.{first_words, entry_words}
+use Rattle.entry_slots.specs.Written.{head_words, entry_words}
 use Rattle.entry_slots.specs.Laws.{Laws}
 use Rattle.entry_slots.proofs.Runs.{words_long}
 use Rattle.entry_slots.proofs.Members.{same_there, counted, Contains-filter}
@@ -135,7 +136,7 @@ written_entry law ws at key g note graph bytes ttl size inside =
     let ws' : List ℕ = written ws (at + 1) (entry_words key g note) in
     let klen = words_long key in
     let glen = law.image_long g in
-    let first : List ℕ = first_words key g note in
+    let first : List ℕ = head_words key g note in
     let tail : List ℕ = words_of key ++ image_of g in
     let long : length (entry_words key g note) ≡ 11 + words_in (length key) + image_length g = omega (arith, length-append first tail, length-append (words_of key) (image_of g)) in
     let all : StandsAt ws' (at + 1) (first ++ tail) = law.there ws (at + 1) (entry_words key g note) (omega (arith, long)) in

@@ -2,6 +2,7 @@
 use Rattle.std.specs.Prelude.{◌≡◌, ◌⊎◌, ℕ, ◌+◌, ◌<◌, ◌≤◌, true, false, List, ◌++◌, length, slice_index, count_by, Contains}
 use Rattle.seg_words.specs.declared.extents.Extent.{Extent}
 use Rattle.seg_words.specs.Windows.{Aside, is_named}
+use Rattle.seg_words.specs.declared.layout.TheConstants.{PIN_COUNT}
 use Rattle.seg_words.specs.Blocks.{IsTold, MayProbe, image_place, image_end}
 use Rattle.apcu_model.specs.Cache.{Row}
 use Rattle.apcu_model.specs.Conf.{IsGood}
@@ -34,7 +35,7 @@ pub record IsSound (s : Entries) (words windows : List ℕ) : Type 0 where
 -- no other block that a window names, and the words of its image are told.
 pub record IsCopyable (words windows : List ℕ) (at : ℕ) : Type 0 where
   pub positive : 0 < at
-  pub zero_count : slice_index words (at + 11) ≡ 0
+  pub zero_count : slice_index words (at + PIN_COUNT) ≡ 0
   pub inside : image_end words at ≤ length words
   pub clear : (b : ℕ) → is_named windows b ≡ true → (at ≡ b) ⊎ ((image_end words at ≤ b) ⊎ (image_end words b ≤ at))
   pub told : (i : ℕ) → image_place words at ≤ i → i < image_end words at → IsTold windows i

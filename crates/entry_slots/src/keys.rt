@@ -4,8 +4,8 @@ ghost use Rattle.std.specs.Prelude.{◌≡◌, ℕ, ◌+◌, ◌/◌, ◌%◌, �
 ghost use Rattle.seg_words.specs.Kept.{Kept};
 ghost use Rattle.seg_words.specs.Blocks.{IsTold};
 ghost use Rattle.php_graph.specs.Numbers.{hash_of};
-ghost use Rattle.entry_slots.specs.Written.{IsKeyAt};
-ghost use Rattle.php_graph.specs.Size.{words_in};
+ghost use Rattle.entry_slots.specs.Written.{IsEntryKey};
+ghost use Rattle.seg_words.specs.Layout.{words_in};
 ghost use Rattle.value_image.specs.Packed.{word_at};
 
 use crate::lower::lower_laws;
@@ -50,7 +50,7 @@ fn word_of_byte<S: Segment>(seg: &mut S, at: u32, i: u32, word: u64) -> u64
 pub(crate) fn hash_at<S: Segment>(seg: &mut S, at: u32, len: u32) -> u64
     requires inside { at + words_in len ≤ length (S.words seg.old) }
     requires told { (i : ℕ) → at ≤ i → i < at + words_in len → IsTold (S.aside seg.old).windows i }
-    ensures hash { (key : List ℕ) → IsKeyAt (S.words seg.old) at len key → result ≡ hash_of key }
+    ensures hash { (key : List ℕ) → IsEntryKey (S.words seg.old) at len key → result ≡ hash_of key }
     ensures kept { Kept S.WordsIn seg.old seg.new }
 {
     lower_laws();

@@ -1,8 +1,8 @@
 //! What the layers above rely on beside the calls.
 
-ghost use Rattle.std.specs.Prelude.{◌≡◌, ◌≢◌, ℕ, ◌<◌, ◌≤◌, ◌+◌, Bool, true, false, List, ◌∷◌, ◌++◌, length, Contains, Some};
+ghost use Rattle.std.specs.Prelude.{◌≡◌, ◌≢◌, ℕ, ◌<◌, ◌≤◌, ◌+◌, true, false, List, ◌∷◌, ◌++◌, length, Contains, Some};
 ghost use Rattle.seg_words.specs.declared.extents.Extent.{Extent};
-ghost use Rattle.seg_words.specs.Windows.{Aside, Frees, Refuses};
+ghost use Rattle.seg_words.specs.Windows.{Aside};
 ghost use Rattle.apcu_model.specs.Cache.{Row};
 ghost use Rattle.entry_slots.specs.declared.slots.EntrySlots.{EntrySlots};
 ghost use Rattle.entry_slots.specs.Lists.{has_place, first_place, next_place};
@@ -12,16 +12,13 @@ ghost use Rattle.entry_slots.specs.Standing.{Stands};
 ghost use Rattle.entry_slots.specs.Facts.{OnlyClose, OnlyOpensAt, AreApart, IsCopyable, IsSound, IsAtRow};
 
 /// Words stand for the same entries where windows close and the mask and the refused places change in any
-/// way, and where a window opens on the block of a row or a removed row. At a probe windows only close.
+/// way, and where a window opens on the block of a row or a removed row.
 pub fn window_laws()
     ensures closed { (e : EntrySlots) (words : List ℕ) (old new : Aside) (s : Entries)
         → OnlyClose old new → Stands e words old s → Stands e words new s }
     ensures opened { (e : EntrySlots) (words : List ℕ) (old new : Aside) (s : Entries) (at : ℕ)
         → has_place at (listed s) ≡ true → OnlyOpensAt at old new
         → Stands e words old s → Stands e words new s }
-    ensures probed { (old new : Aside) (at : ℕ) (free : Bool)
-        → (free ≡ true → Frees old new at) → (free ≡ false → Refuses old new at)
-        → OnlyClose old new }
 {}
 
 /// No place begins two blocks, and none of a row or a removed row is 0; each of these may be probed, and may be

@@ -12,7 +12,7 @@ mod standing;
 mod whole;
 mod writing;
 
-pub use head::Head;
+pub use head::{ATIME, CTIME, DTIME, HITS, Head, MTIME, NEXT, NUMBER, TTL};
 pub use laws::{leaving_laws, place_laws, standing_laws, window_laws};
 pub use slots::EntrySlots;
 

@@ -4,6 +4,7 @@ ghost use Rattle.seg_words.specs.Windows.{is_named};
 ghost use Rattle.php_graph.specs.Numbers.{hash_of};
 ghost use Rattle.apcu_model.specs.Cache.{Row, has_key};
 ghost use Rattle.apcu_model.specs.Walk.{slot_of};
+ghost use Rattle.entry_slots.specs.declared.head.TheConstants.{NEXT};
 ghost use Rattle.entry_slots.specs.Lists.{has_place, first_place, FollowsIn};
 ghost use Rattle.entry_slots.specs.Entries.{chain_of, listed, loose, place_for, block_for, place_of, old_place, IsListed, HoldsInt, FollowsInChain};
 ghost use Rattle.entry_slots.specs.Entries.{with_taken, touched_in, with_number, linked, unlinked_at, removed_at, freed_at};
@@ -11,14 +12,14 @@ ghost use Rattle.entry_slots.specs.Standing.{Stand, IsStanding, entries};
 ghost use Rattle.entry_slots.specs.Links.{IsLinkTo, IsTarget};
 ghost use Rattle.entry_slots.specs.Reading.{HeadIn};
 
-use crate::head::Head;
+use crate::head::{ATIME, CTIME, DTIME, HITS, Head, MTIME, NEXT, NUMBER, TTL};
 use crate::keys::{hash_at, key_word};
 use crate::lower::lower_laws;
 use crate::reading::{count_after, first_words, next_of};
 use crate::standing::{Change, Standing};
 use crate::writing::{Note, put_entry};
 use php_graph::{Graph, hash_of};
-use seg_words::{Segment, WordsIn};
+use seg_words::{HEAD_WORDS, IMAGE_LENGTH, KEY_LENGTH, Segment, WordsIn, words_in};
 use sma_blocks::Sma;
 
 /// Entries in hash chains: each of the words before the first block begins the chain of one slot, and a
@@ -98,11 +99,11 @@ impl EntrySlots {
         ensures kept { Kept S.WordsIn seg.old seg.new }
     {
         lower_laws();
-        if seg.load(at + 2) != key.len() as u64 {
+        if seg.load(at + KEY_LENGTH) != key.len() as u64 {
             return false;
         }
-        for i in 0..(key.len() as u32).div_ceil(8) {
-            if seg.load(at + 12 + i) != key_word(key, i) {
+        for i in 0..words_in(key.len() as u32) {
+            if seg.load(at + HEAD_WORDS + i) != key_word(key, i) {
                 return false;
             }
         }
@@ -139,9 +140,9 @@ impl EntrySlots {
         ensures beside { KeptBeside S.WordsIn seg.old seg.new }
     {
         lower_laws();
-        let hits = seg.load(at + 9);
-        seg.store(at + 9, hits.saturating_add(1));
-        seg.store(at + 7, t);
+        let hits = seg.load(at + HITS);
+        seg.store(at + HITS, hits.saturating_add(1));
+        seg.store(at + ATIME, t);
         self.standing = self.standing.then(&Change::Touch(at, t));
     }
 
@@ -156,9 +157,9 @@ impl EntrySlots {
         ensures beside { KeptBeside S.WordsIn seg.old seg.new }
     {
         lower_laws();
-        let len = seg.load(at + 2) as u32;
-        seg.store(at + 13 + len.div_ceil(8), n.cast_unsigned());
-        seg.store(at + 6, t);
+        let len = seg.load(at + KEY_LENGTH) as u32;
+        seg.store(at + (HEAD_WORDS + 1) + words_in(len), n.cast_unsigned());
+        seg.store(at + MTIME, t);
         self.standing = self.standing.then(&Change::SetInt(at, n, t));
     }
 
@@ -171,19 +172,19 @@ impl EntrySlots {
         ensures kept { Kept S.WordsIn seg.old seg.new }
     {
         let words = first_words(seg, at);
-        let key_len = words[2] as u32;
+        let key_len = words[KEY_LENGTH as usize] as u32;
         Head {
             key_len,
-            image: at + 12 + key_len.div_ceil(8),
-            image_len: words[3] as u32,
-            ttl: words[4] as u32,
-            ctime: words[5],
-            mtime: words[6],
-            atime: words[7],
-            dtime: words[8],
-            hits: words[9],
+            image: at + HEAD_WORDS + words_in(key_len),
+            image_len: words[IMAGE_LENGTH as usize] as u32,
+            ttl: words[TTL as usize] as u32,
+            ctime: words[CTIME as usize],
+            mtime: words[MTIME as usize],
+            atime: words[ATIME as usize],
+            dtime: words[DTIME as usize],
+            hits: words[HITS as usize],
             size: words[0] as u32,
-            number: words[10],
+            number: words[NUMBER as usize],
         }
     }
 
@@ -260,8 +261,8 @@ impl EntrySlots {
         ensures beside { KeptBeside S.WordsIn seg.old seg.new }
     {
         lower_laws();
-        seg.store(at + 1, 0);
-        seg.store(at + 8, t);
+        seg.store(at + NEXT, 0);
+        seg.store(at + DTIME, t);
         self.standing = self.standing.then(&Change::Note(at, t));
         self.append(seg, at);
     }
@@ -302,15 +303,15 @@ impl EntrySlots {
         ensures low { result < self.now.sma.from }
         ensures kept { Kept S.WordsIn seg.old seg.new }
     {
-        let len = seg.load(at + 2) as u32;
-        (hash_at(seg, at + 12, len) % u64::from(self.sma.from)) as u32
+        let len = seg.load(at + KEY_LENGTH) as u32;
+        (hash_at(seg, at + HEAD_WORDS, len) % u64::from(self.sma.from)) as u32
     }
 
     // What follows the row at a place; nothing follows the place 0.
     fn behind<S: Segment>(&self, seg: &mut S, at: u32) -> u32
         requires stand { Stand S.WordsIn self.now seg.old }
         requires there { (at ≡ 0) ⊎ (has_place at (entries self.now).rows ≡ true) }
-        ensures next { at ≢ 0 → result ≡ slice_index (S.words seg.old) (at + 1) }
+        ensures next { at ≢ 0 → result ≡ slice_index (S.words seg.old) (at + NEXT) }
         ensures none { at ≡ 0 → result ≡ 0 }
         ensures kept { Kept S.WordsIn seg.old seg.new }
     {
@@ -335,7 +336,7 @@ impl EntrySlots {
             if named == target {
                 return link;
             }
-            link = named + 1;
+            link = named + NEXT;
         }
         link
     }

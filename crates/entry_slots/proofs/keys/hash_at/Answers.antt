@@ -2,9 +2,9 @@ use Rattle.std.proofs.Common.{◌≡◌, ℕ, ◌+◌, ◌*◌, ◌/◌, ◌%◌
 use Rattle.std.specs.Prelude.{bit_or}
 use Rattle.std.proofs.lemmas.List.{take_all}
 use Rattle.php_graph.specs.Numbers.{hash_step, hash_of}
-use Rattle.php_graph.specs.Size.{words_in}
+use Rattle.seg_words.specs.Layout.{words_in}
 use Rattle.value_image.specs.Packed.{words_of, word_at}
-use Rattle.entry_slots.specs.Written.{IsKeyAt}
+use Rattle.entry_slots.specs.Written.{IsEntryKey}
 use Rattle.entry_slots.specs.Laws.{Laws}
 use Rattle.entry_slots.proofs.Runs.{words_long, word_there}
 use Rattle.entry_slots.proofs.Digits.{key_byte, hash_more}
@@ -13,7 +13,7 @@ use Rattle.entry_slots.proofs.keys.hash_at.Goals as goal
 word_in : (i len : ℕ) → i < len → i / 8 < words_in len
 word_in i len lt = omega arith
 
-key_word_at : Laws → (ws : List ℕ) (at len : ℕ) (key : List ℕ) (i : ℕ) → IsKeyAt ws at len key → i < len → slice_index ws (at + i / 8) ≡ word_at key (i / 8)
+key_word_at : Laws → (ws : List ℕ) (at len : ℕ) (key : List ℕ) (i : ℕ) → IsEntryKey ws at len key → i < len → slice_index ws (at + i / 8) ≡ word_at key (i / 8)
 key_word_at law ws at len key i h lt =
     let n = words_long key in
     let few : i / 8 < words_in (length key) = subst (λ (k : ℕ). i / 8 < words_in k) (sym h.count) (word_in i len lt) in

@@ -3,7 +3,8 @@ use Rattle.std.specs.List.{AllByRecursion}
 use Rattle.std.proofs.lemmas.List.Elements.{recursion_from_All, All-from_get_or}
 use Rattle.seg_words.specs.Windows.{Aside}
 use Rattle.php_graph.specs.Numbers.{hash_of}
-use Rattle.php_graph.specs.Size.{words_in, image_length}
+use Rattle.seg_words.specs.Layout.{words_in}
+use Rattle.php_graph.specs.Size.{image_length}
 use Rattle.value_image.specs.Rows.{written, MayWrite}
 use Rattle.apcu_model.specs.Walk.{slot_of}
 use Rattle.entry_slots.specs.declared.slots.EntrySlots.{EntrySlots}
