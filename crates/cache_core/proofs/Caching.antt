@@ -1,5 +1,5 @@
 -- A core's cache from its entries and counts.
-use Rattle.std.proofs.Common.{◌≡◌, ℕ, Bool, true, false, cond, List, filter, refl, sym, ap, ◌∙◌, subst}
+use Rattle.std.proofs.Common.{◌≡◌, inl, inr, ℕ, Bool, true, false, cond, List, ◌++◌, filter, refl, sym, ap, ◌∙◌, subst}
 use Rattle.std.specs.Prelude.{if◌then◌else◌}
 use Rattle.seg_words.specs.Windows.{Aside, held_blocks}
 use Rattle.seg_words.specs.Probing.{Goes}
@@ -10,12 +10,14 @@ use Rattle.apcu_model.specs.Cache.{Row, Cache, risen}
 use Rattle.apcu_model.specs.Change.{is_held, swept, with_room, is_expunged}
 use Rattle.entry_slots.specs.Entries.{Entries, entries_of}
 use Rattle.entry_slots.specs.Standing.{Stand, entries}
-use Rattle.ttl_expunge.specs.Held.{Sweeps}
+use Rattle.ttl_expunge.specs.Held.{AreHeld, KeepsOpen, Sweeps}
 use Rattle.cache_core.specs.declared.cache.Core.{Core}
 use Rattle.cache_core.specs.declared.tally.Tally.{Tally}
 use Rattle.cache_core.specs.Caching.{cache_of, CacheStands}
 use Rattle.cache_core.specs.Laws.{Laws}
-use Rattle.cache_core.proofs.Rows.{same_held}
+use Rattle.std.specs.List.{Contains}
+use Rattle.std.proofs.lemmas.List.Elements.{Contains-append_left, Contains-append_right, Contains-append_cases}
+use Rattle.cache_core.proofs.Rows.{same_held, held_is, Contains-filter, Contains-kept}
 use Rattle.cache_core.proofs.Standing.{stand_kept}
 
 -- these are a cache's counts
@@ -25,13 +27,17 @@ pub record AreCounts (tally : Tally) (c : Cache) : Type 0 where
   pub inserts : tally.inserts ≡ c.inserts
   pub expunges : tally.expunges ≡ c.expunges
 
-alike : (c d : Cache) → c.conf ≡ d.conf → c.rows ≡ d.rows → c.removed ≡ d.removed → c.next_number ≡ d.next_number
-    → c.hits ≡ d.hits → c.misses ≡ d.misses → c.inserts ≡ d.inserts → c.expunges ≡ d.expunges → c ≡ d
-alike c d conf rows removed number hits misses inserts expunges = cc (conf, rows, removed, number, hits, misses, inserts, expunges)
+alike : (conf conf' : Conf) (rows rows' removed removed' : List Row) (number number' hits hits' misses misses' inserts inserts' expunges expunges' : ℕ)
+    → conf ≡ conf' → rows ≡ rows' → removed ≡ removed' → number ≡ number' → hits ≡ hits' → misses ≡ misses' → inserts ≡ inserts' → expunges ≡ expunges'
+    → ◌≡◌ {A = Cache} (record { conf = conf; rows = rows; removed = removed; next_number = number; hits = hits; misses = misses; inserts = inserts; expunges = expunges })
+    (record { conf = conf'; rows = rows'; removed = removed'; next_number = number'; hits = hits'; misses = misses'; inserts = inserts'; expunges = expunges' })
+alike conf conf' rows rows' removed removed' number number' hits hits' misses misses' inserts inserts' expunges expunges' a b c d e f g h = cc (a, b, c, d, e, f, g, h)
 
 pub cache_made : (core : Core) (c : Cache) → entries core.slots ≡ entries_of c → core.conf ≡ c.conf → AreCounts core.tally c → cache_of core ≡ c
 cache_made core c e conf counts =
-    alike (cache_of core) c conf (ap (λ (s : Entries). s.rows) e) (ap (λ (s : Entries). s.removed) e) (ap (λ (s : Entries). s.next_number) e)
+    let s = entries core.slots in
+    alike core.conf c.conf s.rows c.rows s.removed c.removed s.next_number c.next_number core.tally.hits c.hits core.tally.misses c.misses core.tally.inserts c.inserts core.tally.expunges c.expunges
+    conf (ap (λ (s : Entries). s.rows) e) (ap (λ (s : Entries). s.removed) e) (ap (λ (s : Entries). s.next_number) e)
     counts.hits counts.misses counts.inserts counts.expunges
 
 -- and then no block is loose
@@ -66,3 +72,21 @@ swept_later {s} {new} {before} {after} c sweeps e later on =
     sweeps.swept
     ∙ (ap (λ l. let x : Entries = record s { removed = l } in x) (sym (same_held after later s.removed on sweeps.decided))
     ∙ ap (λ (y : Entries). let x : Entries = record y { removed = filter (is_held (held_blocks later)) y.removed } in x) e)
+
+-- the rows under open windows stay where the removed ones are swept
+pub sweeps_keep : {old new : Entries} {before after : Aside} → Sweeps old new before after → KeepsOpen after.windows old new
+sweeps_keep {old} {new} {before} {after} s = record {
+  each = λ row c named. elim (Contains-append_cases old.rows old.removed row c) [
+    | inl listed ↦ (row, subst (λ (x : Entries). Contains (x.rows ++ x.removed) row) (sym s.swept) (Contains-append_left old.rows (filter (is_held (held_blocks after)) old.removed) row listed), refl, refl)
+    | inr removed ↦
+        let held : is_held (held_blocks after) row ≡ true = held_is (held_blocks after) row ∙ (sym (s.decided.each row removed) ∙ named) in
+        (row, subst (λ (x : Entries). Contains (x.rows ++ x.removed) row) (sym s.swept) (Contains-append_right old.rows (filter (is_held (held_blocks after)) old.removed) row (Contains-kept (is_held (held_blocks after)) old.removed row removed held)), refl, refl)
+  ];
+}
+
+pub sweeps_held : {old new : Entries} {before after : Aside} → Sweeps old new before after → AreHeld after new.removed
+sweeps_held {old} {new} {before} {after} s = record {
+  each = λ row c.
+      let f = Contains-filter (is_held (held_blocks after)) old.removed row (subst (λ (x : Entries). Contains x.removed row) s.swept c) in
+      sym (held_is (held_blocks after) row) ∙ f.1;
+}

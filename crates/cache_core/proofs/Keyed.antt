@@ -1,12 +1,12 @@
 -- The row of a key is dropped, or used.
-use Rattle.std.proofs.Common.{◌≡◌, inl, inr, ℕ, ◌≤◌, Bool, true, false, cond, not, List, [], ◌∷◌, map, filter, find, Option, Some, None, refl, sym, ap, ◌∙◌, subst, arith}
+use Rattle.std.proofs.Common.{◌≡◌, inl, inr, ℕ, ◌≤◌, Bool, true, false, cond, not, List, [], ◌∷◌, map, filter, Option, Some, refl, sym, ap, ◌∙◌, subst, arith}
 use Rattle.std.specs.Prelude.{is_some, if◌then◌else◌}
 use Rattle.std.specs.List.{Contains, count_by}
 use Rattle.std.proofs.lemmas.Bool.{cases_Bool, eq-eqb, eqb-true, false≢true, false_from_ne_true}
 use Rattle.std.proofs.lemmas.Slice.Eq.{bytes_eq-Decides}
 use Rattle.seg_words.specs.Windows.{Aside, held_blocks}
 use Rattle.seg_words.specs.Probing.{Goes}
-use Rattle.apcu_model.specs.Cache.{Row, Cache, has_key}
+use Rattle.apcu_model.specs.Cache.{Row, Cache, has_key, risen}
 use Rattle.apcu_model.specs.Change.{dropped, deleted, cleared}
 use Rattle.apcu_model.specs.Expiry.{live_row}
 use Rattle.apcu_model.specs.Sequential.{touched, looked_up}
@@ -16,7 +16,12 @@ use Rattle.entry_slots.specs.Entries.{Entries, entries_of, touched_row, touched_
 use Rattle.entry_slots.specs.Facts.{IsSound}
 use Rattle.ttl_expunge.specs.Dropping.{dropped_in}
 use Rattle.ttl_expunge.specs.Held.{Drops}
+use Rattle.entry_slots.specs.Standing.{entries}
+use Rattle.cache_core.specs.declared.cache.Core.{Core}
+use Rattle.cache_core.specs.declared.tally.Tally.{Tally}
+use Rattle.cache_core.specs.Caching.{cache_of}
 use Rattle.cache_core.specs.Laws.{Laws}
+use Rattle.cache_core.proofs.Caching.{cache_made, whole_made}
 use Rattle.cache_core.proofs.Rows.{counted, count-cons, none_counted, only_none, filter_all, Contains-first, Contains-later, Contains-cases, Contains-filter}
 use Rattle.cache_core.proofs.Replacing.{IsOld, key_is, order_key}
 
@@ -44,24 +49,6 @@ passing_later laws {s} {new} {before} {after} {t} {words} {windows} pass c drops
     laws.later s new before after later t (in_slot_order s.conf (filter pass s.rows)) drops on
     ∙ (laws.order s words windows (held_blocks later) t pass sound ∙ ap (λ (x : Entries). dropped_in (held_blocks later) t pass x) e)
 
--- the row at `at` was dropped, which is the one of the key
-pub deleted_later : (laws : Laws) {s new : Entries} {before after : Aside} {t at : ℕ} {words windows : List ℕ} (key : List ℕ) (c : Cache) → IsOld s key at → Drops s new before after t (only_at at s.rows)
-    → IsSound s words windows → s ≡ entries_of c → is_some (live_row key t c) ≡ true → (later : Aside) → Goes after later → new ≡ entries_of (deleted (held_blocks later) key t c)
-deleted_later laws {s} {new} {before} {after} {t} {at} key c o drops sound e live later on =
-    let only : only_at at s.rows ≡ o.row ∷ [] = only_once at s.rows o.row o.there o.place (omega (arith, sound.once at)) in
-    let keyed : Drops s new before after t (in_slot_order s.conf (filter (has_key key) s.rows)) =
-    subst (λ (l : List Row). Drops s new before after t l) (only ∙ (sym o.one ∙ sym (order_key laws s.conf s.rows key sound.good.slots_least))) drops in
-    passing_later laws (has_key key) c keyed sound e later on
-    ∙ ap (λ (b : Bool). entries_of (if b then dropped (held_blocks later) t (has_key key) c else c)) (sym live)
-
--- all rows were dropped
-pub cleared_later : (laws : Laws) {s new : Entries} {before after : Aside} {t : ℕ} {words windows : List ℕ} (c : Cache) → Drops s new before after t (in_slot_order s.conf s.rows)
-    → IsSound s words windows → s ≡ entries_of c → (later : Aside) → Goes after later → new ≡ entries_of (cleared (held_blocks later) t c)
-cleared_later laws {s} {new} {before} {after} {t} c drops sound e later on =
-    let every : Drops s new before after t (in_slot_order s.conf (filter (λ row. true) s.rows)) =
-    subst (λ (l : List Row). Drops s new before after t (in_slot_order s.conf l)) (sym (filter_all (λ (row : Row). true) s.rows (λ row m. refl))) drops in
-    passing_later laws (λ row. true) c every sound e later on
-
 map_alike : (f h : Row → Row) (rows : List Row) → ((row : Row) → Contains rows row → f row ≡ h row) → map f rows ≡ map h rows
 map_alike f h [] e = refl
 map_alike f h (row ∷ rows) e = ap (λ x. x ∷ map f rows) (e row (Contains-first row rows)) ∙ ap (λ l. h row ∷ l) (map_alike f h rows (λ r c. e r (Contains-later row rows r c)))
@@ -84,3 +71,64 @@ touched_keyed {s} key at t o sound =
       | inr isnt ↦ false_from_ne_true (is_at at row) (λ t.
           false≢true (sym isnt ∙ (Contains-filter (has_key key) s.rows row (subst (λ l. Contains l row) only (kept (is_at at) s.rows row c t))).1)) ∙ sym isnt
     ]
+
+-- a core's cache once the row of a key was dropped
+pub core_deleted : (laws : Laws) (old new : Core) {before after : Aside} {words windows : List ℕ} (key : List ℕ) (t at : ℕ) → entries old.slots ≡ entries_of (cache_of old) → IsOld (entries old.slots) key at
+    → IsSound (entries old.slots) words windows → Drops (entries old.slots) (entries new.slots) before after t (only_at at (entries old.slots).rows) → new.conf ≡ old.conf → new.tally ≡ old.tally
+    → is_some (live_row key t (cache_of old)) ≡ true → (later : Aside) → Goes after later → (cache_of new ≡ deleted (held_blocks later) key t (cache_of old)) × (entries new.slots ≡ entries_of (cache_of new))
+core_deleted laws old new {before} {after} key t at whole o sound drops conf tally live later on =
+    let s = entries old.slots in
+    let only : only_at at s.rows ≡ o.row ∷ [] = only_once at s.rows o.row o.there o.place (omega (arith, sound.once at)) in
+    let keyed : Drops s (entries new.slots) before after t (in_slot_order s.conf (filter (has_key key) s.rows)) =
+    subst (λ (l : List Row). Drops s (entries new.slots) before after t l) (only ∙ (sym o.one ∙ sym (order_key laws s.conf s.rows key sound.good.slots_least))) drops in
+    let gone : Cache = dropped (held_blocks later) t (has_key key) (cache_of old) in
+    let e : entries new.slots ≡ entries_of gone = passing_later laws (has_key key) (cache_of old) keyed sound whole later on in
+    let same : cache_of new ≡ gone = cache_made new gone e conf (record {
+      hits = ap (λ (x : Tally). x.hits) tally;
+      misses = ap (λ (x : Tally). x.misses) tally;
+      inserts = ap (λ (x : Tally). x.inserts) tally;
+      expunges = ap (λ (x : Tally). x.expunges) tally;
+    }) in (
+      same ∙ ap (λ (b : Bool). if b then gone else cache_of old) (sym live),
+      whole_made new gone e same,
+    )
+
+-- and once all rows were
+pub core_cleared : (laws : Laws) (old new : Core) {before after : Aside} {words windows : List ℕ} (t : ℕ) → entries old.slots ≡ entries_of (cache_of old) → IsSound (entries old.slots) words windows
+    → Drops (entries old.slots) (entries new.slots) before after t (in_slot_order (entries old.slots).conf (entries old.slots).rows) → new.conf ≡ old.conf → new.tally ≡ record { hits = 0; misses = 0; inserts = 0; expunges = 0 }
+    → (later : Aside) → Goes after later → (cache_of new ≡ cleared (held_blocks later) t (cache_of old)) × (entries new.slots ≡ entries_of (cache_of new))
+core_cleared laws old new {before} {after} t whole sound drops conf tally later on =
+    let s = entries old.slots in
+    let every : Drops s (entries new.slots) before after t (in_slot_order s.conf (filter (λ row. true) s.rows)) =
+    subst (λ (l : List Row). Drops s (entries new.slots) before after t (in_slot_order s.conf l)) (sym (filter_all (λ (row : Row). true) s.rows (λ row m. refl))) drops in
+    let gone : Cache = cleared (held_blocks later) t (cache_of old) in
+    let e : entries new.slots ≡ entries_of gone = passing_later laws (λ row. true) (cache_of old) every sound whole later on in
+    let same : cache_of new ≡ gone = cache_made new gone e conf (record {
+      hits = ap (λ (x : Tally). x.hits) tally;
+      misses = ap (λ (x : Tally). x.misses) tally;
+      inserts = ap (λ (x : Tally). x.inserts) tally;
+      expunges = ap (λ (x : Tally). x.expunges) tally;
+    }) in
+    (same, whole_made new gone e same)
+
+-- and once it was used
+pub core_touched : (old new : Core) {words windows : List ℕ} (key : List ℕ) (t at : ℕ) (row : Row) → entries old.slots ≡ entries_of (cache_of old) → IsOld (entries old.slots) key at → IsSound (entries old.slots) words windows
+    → entries new.slots ≡ touched_in at t (entries old.slots) → new.conf ≡ old.conf → new.tally ≡ record old.tally { hits = risen old.tally.hits } → live_row key t (cache_of old) ≡ Some row
+    → (cache_of new ≡ looked_up key t (live_row key t (cache_of old)) (cache_of old)) × (entries new.slots ≡ entries_of (cache_of new))
+core_touched old new key t at row whole o sound now conf tally live =
+    let s = entries old.slots in
+    let c = cache_of old in
+    let used : Cache = record c { rows = map {A = Row} (λ r. if has_key key r then touched t r else r) c.rows; hits = risen c.hits } in
+    let e : entries new.slots ≡ entries_of used =
+    now
+    ∙ (ap (λ (l : List Row). let x : Entries = record s { rows = l } in x) (touched_keyed key at t o sound)
+    ∙ ap (λ (y : Entries). let x : Entries = record y { rows = map {A = Row} (λ r. if has_key key r then touched t r else r) c.rows } in x) whole) in
+    let same : cache_of new ≡ used = cache_made new used e conf (record {
+      hits = ap (λ (x : Tally). x.hits) tally;
+      misses = ap (λ (x : Tally). x.misses) tally;
+      inserts = ap (λ (x : Tally). x.inserts) tally;
+      expunges = ap (λ (x : Tally). x.expunges) tally;
+    }) in (
+      same ∙ ap (λ (r : Option Row). looked_up key t r c) (sym live),
+      whole_made new used e same,
+    )

@@ -5,3 +5,5 @@ pub mod Live
 pub mod Caching
 pub mod Insertions
 pub mod Keyed
+pub mod Adding
+pub mod Tags

@@ -1,11 +1,19 @@
 -- The row that a look-up finds is the one of its key.
 use Rattle.std.proofs.Common.{◌≡◌, ℕ, Bool, true, false, cond, not, ◌&&◌, List, [], ◌∷◌, find, Option, Some, None, refl, sym, ap, ◌∙◌, subst}
+use Rattle.std.specs.Prelude.{is_some, option_map, IfSome, IfNone}
 use Rattle.std.specs.List.{list_any}
 use Rattle.std.proofs.lemmas.Bool.{and_parts, or_parts, not-true}
 use Rattle.apcu_model.specs.Cache.{Row, has_key}
 use Rattle.apcu_model.specs.Expiry.{is_hard_expired}
 use Rattle.apcu_model.specs.Rows.{are_apart}
-use Rattle.cache_core.proofs.Replacing.{key_is}
+use Rattle.seg_words.specs.declared.segment.WordsIn.{Ghosts}
+use Rattle.entry_slots.specs.declared.head.Head.{Head}
+use Rattle.apcu_model.specs.Cache.{Cache}
+use Rattle.apcu_model.specs.Expiry.{live_row}
+use Rattle.entry_slots.specs.Facts.{IsSound}
+use Rattle.entry_slots.specs.Entries.{Entries}
+use Rattle.cache_core.specs.Looking.{IsFound}
+use Rattle.cache_core.proofs.Replacing.{IsOld, key_is, old_is}
 
 abbrev found : List ℕ → ℕ → List Row → Option Row
 found key t rows = find (λ row. has_key key row && not (is_hard_expired t row)) rows
@@ -42,3 +50,15 @@ live_as key t (r ∷ rows) row apart h = go (has_key key r) refl h (live_as key 
         ∙ (ap (λ o. cond (not (is_hard_expired t r)) (Some r) o) (none_lives key t rows none)
         ∙ ap (λ (x : Row). cond (not (is_hard_expired t x)) (Some x) None) same)
     go false e q on = ap (λ b. cond (b && not (is_hard_expired t r)) (Some r) (found key t rows)) e ∙ on q
+
+-- whether one is found
+pub found_some : {X R : Type 0} (gh : Ghosts X R) (seg : X) (key : List ℕ) (t : ℕ) (c : Cache) (r : Option (ℕ × Head)) → IfSome r (λ p. IsFound gh seg key t c p.0 p.1) → IfNone r (live_row key t c ≡ None)
+    → is_some r ≡ is_some (live_row key t c)
+found_some gh seg key t c None some none = ap is_some (sym none)
+found_some gh seg key t c (Some p) some none = ap is_some (sym some.live)
+
+-- the one that is found is the one of its key
+pub old_found : {X R : Type 0} {gh : Ghosts X R} {seg : X} {key : List ℕ} {t at : ℕ} {c : Cache} {head : Head} {s : Entries} {words windows : List ℕ} → IsFound gh seg key t c at head → s.rows ≡ c.rows → IsSound s words windows
+    → IsOld s key at
+old_found {key = key} {at = at} {s = s} f same sound =
+    old_is key at sound (sym (ap (λ rows. option_map (λ (row : Row). row.place) (find (has_key key) rows)) same ∙ (ap (option_map (λ (row : Row). row.place)) f.first ∙ ap (λ n. Some n) f.place)))

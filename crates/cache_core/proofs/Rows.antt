@@ -1,8 +1,10 @@
 -- Lists of rows.
 use Rattle.std.proofs.Common.{◌≡◌, ◌⊎◌, inl, inr, ℕ, zero, suc, ◌+◌, ◌≤◌, ◌==◌, ◌&&◌, Bool, true, false, cond, not, ◌||◌, List, [], ◌∷◌, ◌++◌, map, filter, refl, sym, ap, ◌∙◌, subst, arith}
 use Rattle.std.proofs.lemmas.Bool.{or_left, or_right, or_cases, or_parts, eqb-true, eq-eqb, cases_Bool, false≢true, false_from_ne_true}
-use Rattle.std.specs.List.{Contains, count_by, list_any}
-use Rattle.std.proofs.lemmas.List.Elements.{Contains-append_right, filter-append}
+use Rattle.std.specs.List.{Contains, count_by, list_any, flat_map, range_with_len}
+use Rattle.std.proofs.lemmas.List.Elements.{Contains-append_right, Contains-append_cases}
+use Rattle.apcu_model.specs.declared.conf.Conf.{Conf}
+use Rattle.apcu_model.specs.Walk.{is_in_slot, in_slot_order}
 use Rattle.std.proofs.lemmas.List.Sums.{sum_by-cons, sum_by-append}
 use Rattle.seg_words.specs.Windows.{Aside, has, held_blocks}
 use Rattle.seg_words.specs.Probing.{Goes, stays_held}
@@ -171,3 +173,11 @@ dated_held held t rows row c =
     let r = map_there {X = Row} {Y = Row} (λ x. record x { dtime = t }) (filter (is_held held) rows) row c in
     let f = Contains-filter (is_held held) rows r.0 r.1 in
     subst (λ n. has n held ≡ true) (ap (λ (x : Row). x.place) r.2) (sym (held_is held r.0) ∙ f.1)
+
+flat_there : {X : Type 0} (f : ℕ → List X) (ns : List ℕ) (x : X) → Contains (flat_map f ns) x → (k : ℕ) × Contains (f k) x
+flat_there f [] x c = absurd (none_in_nil x c)
+flat_there f (n ∷ ns) x c = elim (Contains-append_cases (f n) (flat_map f ns) x c) [ inl here ↦ (n, here) | inr later ↦ flat_there f ns x later ]
+
+-- the same rows, by slot and place
+pub order_from : (conf : Conf) (rows : List Row) (row : Row) → Contains (in_slot_order conf rows) row → Contains rows row
+order_from conf rows row c = let k = flat_there (λ slot. filter (is_in_slot conf slot) rows) (range_with_len 0 conf.slots) row c in (Contains-filter (is_in_slot conf k.0) rows row k.1).0

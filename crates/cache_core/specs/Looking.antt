@@ -1,9 +1,9 @@
 -- What a look-up finds.
-use Rattle.std.specs.Prelude.{◌≡◌, ℕ, List, [], ◌∷◌, Option, Some, None, Contains}
+use Rattle.std.specs.Prelude.{◌≡◌, ℕ, List, [], ◌∷◌, Option, Some, None, find, Contains}
 use Rattle.php_graph.specs.declared.kind.Kind.{Kind}
 use Rattle.php_graph.specs.declared.kind.Kind.TheVariants as kinds
 use Rattle.seg_words.specs.declared.segment.WordsIn.{Ghosts}
-use Rattle.apcu_model.specs.Cache.{Row, Cache}
+use Rattle.apcu_model.specs.Cache.{Row, Cache, has_key}
 use Rattle.apcu_model.specs.Expiry.{live_row}
 use Rattle.entry_slots.specs.declared.head.Head.{Head}
 use Rattle.entry_slots.specs.Reading.{HeadIn}
@@ -38,6 +38,7 @@ look_of (Some row) = look_at row.place (scalar_of row.graph)
 pub record IsFound {X R : Type 0} (g : Ghosts X R) (seg : X) (key : List ℕ) (t : ℕ) (c : Cache) (at : ℕ) (head : Head) : Type 0 where
   pub row : Row
   pub live : live_row key t c ≡ Some row
+  pub first : find (has_key key) c.rows ≡ Some row
   pub there : Contains c.rows row
   pub place : row.place ≡ at
   pub head_is : HeadIn g seg head row

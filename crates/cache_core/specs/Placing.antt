@@ -6,7 +6,8 @@ use Rattle.php_graph.specs.Size.{block_size}
 use Rattle.apcu_model.specs.Cache.{Row, Cache, risen, has_key}
 use Rattle.apcu_model.specs.Change.{is_held, with_row, placed}
 use Rattle.entry_slots.specs.Entries.{Entries, entries_of, with_taken, fresh_row}
-use Rattle.ttl_expunge.specs.Held.{Goes, AreDecided, AreRemoved, AreHeld, KeepsOpen}
+use Rattle.seg_words.specs.Probing.{Goes}
+use Rattle.ttl_expunge.specs.Held.{AreDecided, AreRemoved, AreHeld, KeepsOpen}
 
 -- the new row stands in the block that was taken for it, and the old row of the key was dropped
 abbrev pub replaced_in : List ℕ → ℕ → List ℕ → List Kind → ℕ → ℕ → Entries → Entries

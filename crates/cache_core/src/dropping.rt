@@ -13,7 +13,7 @@ use crate::cache::Core;
 use crate::lower::lower_laws;
 use crate::tally::Tally;
 use seg_words::Segment;
-use ttl_expunge::{drop_row, expunge_all};
+use ttl_expunge::{drop_row, expunge_at_once};
 
 impl Core {
     /// Deletes the row that a look-up of the key at the moment `t`, in seconds, finds; whether it finds one. A row
@@ -58,7 +58,7 @@ impl Core {
         ensures rest { S.rest seg.new ≡ S.rest seg.old }
     {
         lower_laws();
-        expunge_all(&mut self.slots, seg, t);
+        expunge_at_once(&mut self.slots, seg, t);
         self.tally = Tally::new();
     }
 }

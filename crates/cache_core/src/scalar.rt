@@ -45,13 +45,16 @@ pub(crate) fn read_scalar<W: WordsIn>(from: &mut W, at: u32, _len: u32) -> Optio
     images_are_runs();
     runs_stand();
     let tag = from.load(at);
-    match tag % 8 {
-        NULL => Some(Scalar::Null),
-        BOOL => Some(Scalar::Bool(tag != BOOL)),
-        INT => {
-            let number = from.load(at + 1);
-            Some(Scalar::Int(number.cast_signed()))
-        }
-        _ => None,
+    let code = tag % 8;
+    if code == NULL {
+        return Some(Scalar::Null);
     }
+    if code == BOOL {
+        return Some(Scalar::Bool(tag != BOOL));
+    }
+    if code != INT {
+        return None;
+    }
+    let number = from.load(at + 1);
+    Some(Scalar::Int(number.cast_signed()))
 }

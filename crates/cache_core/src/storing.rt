@@ -55,6 +55,7 @@ impl Core {
         ensures stand { CacheStands S.WordsIn self.new seg.new }
         ensures rest { S.rest seg.new ≡ S.rest seg.old }
     {
+        lower_laws();
         if let Some(answer) = self.refusal(seg, key, g, exclusive, t) {
             return answer;
         }
@@ -92,6 +93,7 @@ impl Core {
         ensures stand { CacheStands S.WordsIn self.new seg.new }
         ensures rest { S.rest seg.new ≡ S.rest seg.old }
     {
+        lower_laws();
         if let Some(answer) = self.refusal(seg, key, g, exclusive, t) {
             return answer;
         }
@@ -119,11 +121,16 @@ impl Core {
         ensures fits { IfNone result (block_size (length key.now) g.now < 2 ^ 32) }
         ensures kept { Kept S.WordsIn seg.old seg.new }
     {
+        let room = self.conf.words - self.conf.slots;
         let n = block_words(key.len() as u64, g);
-        if n > u64::from(self.conf.words - self.conf.slots) {
+        if n > u64::from(room) {
             return Some(StoreAnswer::TooLarge);
         }
-        if exclusive && self.exists(seg, key, t) {
+        if !exclusive {
+            return None;
+        }
+        let live = self.exists(seg, key, t);
+        if live {
             return Some(StoreAnswer::Exists);
         }
         None
@@ -173,9 +180,9 @@ impl Core {
         ensures rest { S.rest seg.new ≡ S.rest seg.old }
     {
         lower_laws();
-        let n = block_words(key.len() as u64, g) as u32;
+        let n = block_words(key.len() as u64, g);
         let limit = self.conf.ttl;
-        let (place, full) = make_room_next(&mut self.slots, seg, n, limit, t);
+        let (place, full) = make_room_next(&mut self.slots, seg, n as u32, limit, t);
         self.tally = self.tally.after_room(full);
         let Some(at) = place else {
             return StoreAnswer::NoRoom;
