@@ -1,11 +1,13 @@
 ghost use Rattle.std.specs.Prelude.{◌≡◌, ℕ, false, length};
 ghost use Rattle.seg_words.specs.Kept.{KeptBeside};
 ghost use Rattle.seg_words.specs.Windows.{is_named};
-ghost use Rattle.apcu_model.specs.Cache.{empty_cache};
+ghost use Rattle.std.specs.Borrow.{sem};
+ghost use Rattle.apcu_model.specs.Cache.{empty_cache, counts_of};
+ghost use Rattle.entry_slots.specs.Standing.{IsStanding};
 ghost use Rattle.apcu_model.specs.Conf.{IsGood};
 
 use crate::tally::Tally;
-use apcu_model::Conf;
+use apcu_model::{Conf, Counts};
 use entry_slots::EntrySlots;
 use seg_words::{Segment, WordsIn};
 
@@ -23,6 +25,7 @@ pub struct Core {
 
 impl Core {
     ghost use Rattle.cache_core.specs.Caching.{cache_of, CacheStands};
+    ghost use Rattle.cache_core.specs.Lending.{LendsSlots};
 
     /// Makes a cache of this shape without rows. No window may be open.
     pub fn format<S: Segment>(seg: &mut S, conf: &Conf) -> Core
@@ -34,6 +37,28 @@ impl Core {
         ensures beside { KeptBeside S.WordsIn seg.old seg.new }
     {
         Core { slots: EntrySlots::format(seg, conf), conf: *conf, tally: Tally::new() }
+    }
+
+    /// What was counted, and the number of rows. Each count stays at its last number once there.
+    pub fn counts(&self) -> Counts
+        requires stand { IsStanding self.now.slots }
+        ensures { result ≡ counts_of (cache_of self.now) }
+    {
+        Counts {
+            hits: self.tally.hits,
+            misses: self.tally.misses,
+            inserts: self.tally.inserts,
+            expunges: self.tally.expunges,
+            entries: u64::from(self.slots.rows()),
+        }
+    }
+
+    /// The entries, for walks over them.
+    pub fn slots(&mut self) -> &mut EntrySlots
+        ensures* lends { sem 𝓛 (LendsSlots self.entry result) }
+        ensures value { result.now ≡ self.old.slots }
+    {
+        &mut self.slots
     }
 
     /// The cache's shape.

@@ -45,3 +45,19 @@ pub touch-requires-clause-there : goal.touch-requires-clause-there
 touch-requires-clause-there g c =
     let f = c.in-Some.ensures.found in
     subst (λ n. has_place n (entries c.args.self.now.slots).rows ≡ true) f.place (place_there (entries c.args.self.now.slots).rows f.row f.there)
+
+pub returns-in_err-value-clause-cache : goal.returns-in_err-value-clause-cache
+returns-in_err-value-clause-cache g c =
+    let core = c.args.self.now in
+    let new : Core = record core { slots = c.touch.new.self; tally = c.after_hit-self.result } in
+    let f = c.in-Some.ensures.found in
+    let sound = c.standing_laws.ensures.sound core.slots (g.S.WordsIn.words c.args.seg.now) (g.S.WordsIn.aside c.args.seg.now) (entries core.slots) c.requires.stand.stand in
+    (core_touched core new c.args.key.now c.args.t c.in-Some.at f.row c.requires.stand.whole (old_found f refl sound) sound c.touch.ensures.touched refl c.after_hit-self.ensures f.live).0
+
+pub returns-clause-cache : goal.returns-clause-cache
+returns-clause-cache g c =
+    let core = c.args.self.now in
+    let new : Core = record core { slots = c.touch.new.self; tally = c.after_hit-self.result } in
+    let f = c.in-Some.ensures.found in
+    let sound = c.standing_laws.ensures.sound core.slots (g.S.WordsIn.words c.args.seg.now) (g.S.WordsIn.aside c.args.seg.now) (entries core.slots) c.requires.stand.stand in
+    (core_touched core new c.args.key.now c.args.t c.in-Some.at f.row c.requires.stand.whole (old_found f refl sound) sound c.touch.ensures.touched refl c.after_hit-self.ensures f.live).0
