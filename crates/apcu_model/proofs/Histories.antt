@@ -1,5 +1,5 @@
 -- Histories that are one event longer.
-use Rattle.std.proofs.Common.{◌≡◌, ℕ, ◌&&◌, Bool, true, false, List, [], ◌∷◌, ◌++◌, refl, sym, ap, ◌∙◌}
+use Rattle.std.proofs.Common.{◌≡◌, ℕ, ◌&&◌, Bool, true, false, List, [], ◌∷◌, ◌++◌, refl, ap, ◌∙◌}
 use Rattle.apcu_model.specs.declared.event.Event.{Event}
 use Rattle.apcu_model.specs.History.{Stage, after_event, after_events, all_legal, is_legal_mask, mark_of, marks_of}
 

@@ -1,9 +1,9 @@
 -- The numbers of rows are all different, and each worker has one window.
-use Rattle.std.proofs.Common.{◌≡◌, ◌≢◌, ℕ, zero, suc, ◌+◌, ◌-◌, ◌^◌, ◌<◌, ◌≤◌, ◌==◌, ◌&&◌, ◌||◌, ◌⊎◌, ⊎_elim, inl, inr, Bool, true, false, not, cond, if◌then◌else◌, min, List, [], ◌∷◌, ◌++◌, length, map, filter, Option, Some, None, refl, ap, sym, ◌∙◌, subst, arith}
+use Rattle.std.proofs.Common.{◌≡◌, ◌≢◌, ℕ, ◌+◌, ◌-◌, ◌^◌, ◌<◌, ◌≤◌, ◌==◌, ◌&&◌, ◌⊎◌, inl, inr, Bool, true, false, not, cond, if◌then◌else◌, List, [], ◌∷◌, ◌++◌, length, map, filter, Option, Some, None, refl, ap, sym, ◌∙◌, subst, arith}
 use Rattle.std.specs.Prelude.{Contains, nat_lt, is_some}
 use Rattle.std.specs.List.{flat_map, list_any, range_with_len}
 use Rattle.std.specs.Map.{lookup}
-use Rattle.std.proofs.lemmas.Bool.{eq-eqb, eqb-true, eqb-false, ne_eqb, false≢true}
+use Rattle.std.proofs.lemmas.Bool.{eq-eqb, eqb-true, ne_eqb, false≢true}
 use Rattle.std.proofs.lemmas.Map.Entries.{lookup-filter-keys}
 use Rattle.std.proofs.lemmas.List.Elements.{Contains-append_left, Contains-append_right, Contains-append_cases}
 use Rattle.php_graph.specs.declared.kind.Kind.{Kind}
@@ -16,9 +16,9 @@ use Rattle.apcu_model.specs.declared.request.StoreAnswer.TheVariants as answers
 use Rattle.apcu_model.specs.Cache.{Row, Cache, risen, has_key, gap_of}
 use Rattle.apcu_model.specs.Expiry.{is_expired, live_row}
 use Rattle.apcu_model.specs.Walk.{is_in_slot, in_slot_order, slot_of}
-use Rattle.apcu_model.specs.Change.{is_held, dropped, swept, expired_dropped, expunged, deleted, cleared, has_gap, with_room, with_row, placed, put_in, inserted}
+use Rattle.apcu_model.specs.Change.{is_held, dropped, swept, expired_dropped, expunged, deleted, cleared, has_gap, with_room, with_row, placed, put_in}
 use Rattle.apcu_model.specs.Sequential.{cache_after, looked_up, touched}
-use Rattle.apcu_model.specs.History.{Stage, start_of, window_of, is_scalar, opened, opened_at, held_places, after_event, after_events, IsNumbered, stage_of}
+use Rattle.apcu_model.specs.History.{Stage, start_of, is_scalar, opened, opened_at, held_places, after_event, after_events, IsNumbered, stage_of}
 use Rattle.apcu_model.proofs.Members.{Contains-cases, Contains-first, Contains-later, Contains-filter, none_in_nil}
 
 map_there : {X Y : Type 0} (f : X → Y) (xs : List X) (y : Y) → Contains (map f xs) y → (x : X) × Contains xs x × (f x ≡ y)

@@ -1,4 +1,5 @@
-/// What a cache counts, as `apcu_cache_info` tells it. Each count stays at its last number once there.
+/// What a cache counts, as `apcu_cache_info` tells it. Each count stays at its last number once
+/// there.
 #[derive(Clone, Copy, Debug, PartialEq, Eq)]
 pub struct Counts {
     /// Fetches that found a row, since the last expunge.

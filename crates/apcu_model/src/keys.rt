@@ -40,12 +40,14 @@ impl Keys {
 
     /// The list again. It takes no memory.
     pub fn into_vec(self) -> Vec<Bytes>
-        ensures { result.items ≡ self }
+        ensures items { result.items ≡ self }
+        ensures few { length result.items < 2 ^ 32 }
     {
         self.keys
     }
 
-    /// Adds a key at the end. Without memory the keys stay as they were, and the new one is dropped.
+    /// Adds a key at the end. Without memory the keys stay as they were, and the new one is
+    /// dropped.
     pub fn push(&mut self, key: Bytes) -> Result<(), AllocError>
         requires { length self.old < 2 ^ 32 - 1 }
         ensures { self.new ≡ (if is_ok result then self.old ++ key ∷ [] else self.old) }
@@ -66,6 +68,13 @@ impl Keys {
         ensures { result ≡ (length self.now == 0) }
     {
         self.keys.is_empty()
+    }
+
+    /// The keys.
+    pub fn as_slice(&self) -> &[Bytes]
+        ensures { result.now ≡ self.now }
+    {
+        self.keys.as_slice()
     }
 
     /// The key with this number, from 0.

@@ -27,6 +27,3 @@ pub use laws::{
 pub use pairs::Pairs;
 pub use plain::Plain;
 pub use request::{Reply, Request, StoreAnswer};
-
-#[cfg(test)]
-mod tests;

@@ -41,12 +41,14 @@ impl Pairs {
 
     /// The list again. It takes no memory.
     pub fn into_vec(self) -> Vec<(Bytes, Graph)>
-        ensures { result.items ≡ self }
+        ensures items { result.items ≡ self }
+        ensures few { length result.items < 2 ^ 32 }
     {
         self.pairs
     }
 
-    /// Adds a pair at the end. Without memory the pairs stay as they were, and the new one is dropped.
+    /// Adds a pair at the end. Without memory the pairs stay as they were, and the new one is
+    /// dropped.
     pub fn push(&mut self, key: Bytes, value: Graph) -> Result<(), AllocError>
         requires { length self.old < 2 ^ 32 - 1 }
         ensures { self.new ≡ (if is_ok result then self.old ++ (key, value) ∷ [] else self.old) }
@@ -67,6 +69,13 @@ impl Pairs {
         ensures { result ≡ (length self.now == 0) }
     {
         self.pairs.is_empty()
+    }
+
+    /// The pairs.
+    pub fn as_slice(&self) -> &[(Bytes, Graph)]
+        ensures { result.now ≡ self.now }
+    {
+        self.pairs.as_slice()
     }
 
     /// The key and the value with this number, from 0.

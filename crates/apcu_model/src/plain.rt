@@ -79,19 +79,8 @@ impl Plain {
                 value,
                 ttl,
                 exclusive,
-            } => {
-                let key = Bytes::of(self.state.alloc, key.as_slice())?;
-                let value = value.try_copy(self.state.alloc)?;
-                Ok(Reply::Flag(self.store(key, value, *ttl, *exclusive, t)?))
-            }
-            Request::Fetch(key) => {
-                let reply = match self.live_value(key.as_slice(), t) {
-                    Some(value) => Reply::Found(value.try_copy(self.state.alloc)?),
-                    None => Reply::Absent,
-                };
-                self.note_fetch(key.as_slice(), t);
-                Ok(reply)
-            }
+            } => self.store_copies(key, value, *ttl, *exclusive, t),
+            Request::Fetch(key) => self.fetch_copy(key.as_slice(), t),
             Request::Exists(key) => Ok(Reply::Flag(self.exists(key.as_slice(), t))),
             Request::Delete(key) => Ok(Reply::Flag(self.delete(key.as_slice(), t))),
             Request::Clear => {
@@ -100,6 +89,40 @@ impl Plain {
             }
             Request::Retire => Ok(Reply::Ended),
         }
+    }
+
+    // Stores copies of the key and the value.
+    fn store_copies(
+        &mut self,
+        key: &Bytes,
+        value: &Graph,
+        ttl: u32,
+        exclusive: bool,
+        t: u64,
+    ) -> Result<Reply, AllocError>
+        ensures reply { IfOk result (λ r. r
+            ≡ reply_to [] t (Store key.now value.now ttl exclusive) self.old) }
+        ensures after { OnOk result (self.new
+            ≡ cache_after [] t (Store key.now value.now ttl exclusive) self.old) }
+        ensures err { OnErr result (self.new ≡ self.old) }
+    {
+        let key = Bytes::of(self.state.alloc, key.as_slice())?;
+        let value = value.try_copy(self.state.alloc)?;
+        Ok(Reply::Flag(self.store(key, value, ttl, exclusive, t)?))
+    }
+
+    // Answers a copy of the value that it finds, and notes the fetch.
+    fn fetch_copy(&mut self, key: &[u8], t: u64) -> Result<Reply, AllocError>
+        ensures reply { IfOk result (λ r. r ≡ reply_to [] t (Fetch key.now) self.old) }
+        ensures after { OnOk result (self.new ≡ cache_after [] t (Fetch key.now) self.old) }
+        ensures err { OnErr result (self.new ≡ self.old) }
+    {
+        let reply = match self.live_value(key, t) {
+            Some(value) => Reply::Found(value.try_copy(self.state.alloc)?),
+            None => Reply::Absent,
+        };
+        self.note_fetch(key, t);
+        Ok(reply)
     }
 
     /// Stores a value at the time `t`, and answers whether it then stands in the cache. `ttl` is in
@@ -117,9 +140,9 @@ impl Plain {
         t: u64,
     ) -> Result<bool, AllocError>
         ensures reply { IfOk result (λ done. Flag done
-          ≡ reply_to [] t (Store key value ttl exclusive) self.old) }
+            ≡ reply_to [] t (Store key value ttl exclusive) self.old) }
         ensures after { OnOk result (self.new
-          ≡ cache_after [] t (Store key value ttl exclusive) self.old) }
+            ≡ cache_after [] t (Store key value ttl exclusive) self.old) }
         ensures err { OnErr result (self.new ≡ self.old) }
     {
         self.state.store(key, value, ttl, exclusive, t)
@@ -129,7 +152,7 @@ impl Plain {
     /// it finds none. It takes no memory and counts nothing: `note_fetch` does.
     pub fn live_value(&self, key: &[u8], t: u64) -> Option<&Graph>
         ensures { MatchOption result (reply_to [] t (Fetch key.now) self.now ≡ Absent)
-          (λ g. reply_to [] t (Fetch key.now) self.now ≡ Found g.now) }
+            (λ g. reply_to [] t (Fetch key.now) self.now ≡ Found g.now) }
     {
         self.state.live_value(key, t)
     }

@@ -104,7 +104,7 @@ impl State {
         requires sound { IsSound self.old }
         requires room { vec_len self.old.rows < vec_capacity self.old.rows }
         ensures cache { cache_of self.new
-          ≡ placed [] draft.key draft.graph draft.ttl t draft.size (cache_of self.old) place }
+            ≡ placed [] draft.key draft.graph draft.ttl t draft.size (cache_of self.old) place }
         ensures sound { IsSound self.new }
     {
         let slot = hash_of(draft.key.as_slice()) % u64::from(self.conf.slots);
@@ -130,10 +130,10 @@ impl State {
     fn insert(&mut self, draft: Draft, t: u64) -> Result<bool, AllocError>
         requires { IsSound self.old }
         ensures reply { let d = draft in let room = with_room [] d.size t (cache_of self.old) in
-          IfOk result (λ done. done
+            IfOk result (λ done. done
             ≡ is_stored (put_in [] d.key d.graph d.ttl t d.size room (gap_of room d.size)).answer) }
         ensures after { let d = draft in let room = with_room [] d.size t (cache_of self.old) in
-          OnOk result (cache_of self.new
+            OnOk result (cache_of self.new
             ≡ (put_in [] d.key d.graph d.ttl t d.size room (gap_of room d.size)).cache) }
         ensures err { OnErr result (cache_of self.new ≡ cache_of self.old) }
         ensures sound { IsSound self.new }
@@ -167,9 +167,9 @@ impl State {
     ) -> Result<bool, AllocError>
         requires { IsSound self.old }
         ensures reply { IfOk result (λ done. done
-          ≡ is_stored (inserted [] key value ttl exclusive t (cache_of self.old)).answer) }
+            ≡ is_stored (inserted [] key value ttl exclusive t (cache_of self.old)).answer) }
         ensures after { OnOk result (cache_of self.new
-          ≡ (inserted [] key value ttl exclusive t (cache_of self.old)).cache) }
+            ≡ (inserted [] key value ttl exclusive t (cache_of self.old)).cache) }
         ensures err { OnErr result (cache_of self.new ≡ cache_of self.old) }
         ensures sound { IsSound self.new }
     {
@@ -192,8 +192,8 @@ impl State {
     // The value that a look-up of the key finds.
     pub(crate) fn live_value(&self, key: &[u8], t: u64) -> Option<&Graph>
         ensures { MatchOption result
-          (found_in (live_row key.now t (cache_of self.now)) ≡ Absent)
-          (λ g. found_in (live_row key.now t (cache_of self.now)) ≡ Found g.now) }
+            (found_in (live_row key.now t (cache_of self.now)) ≡ Absent)
+            (λ g. found_in (live_row key.now t (cache_of self.now)) ≡ Found g.now) }
     {
         match live_in(&self.rows, key, t) {
             Some(row) => Some(&row.graph),
@@ -205,7 +205,7 @@ impl State {
     pub(crate) fn note_fetch(&mut self, key: &[u8], t: u64)
         requires { IsSound self.old }
         ensures cache { cache_of self.new
-          ≡ looked_up key.now t (live_row key.now t (cache_of self.old)) (cache_of self.old) }
+            ≡ looked_up key.now t (live_row key.now t (cache_of self.old)) (cache_of self.old) }
         ensures sound { IsSound self.new }
     {
         if self.is_live(key, t) {

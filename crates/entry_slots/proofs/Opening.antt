@@ -1,11 +1,11 @@
 -- Windows on the blocks of rows and removed rows.
-use Rattle.std.proofs.Common.{◌≡◌, ◌⊎◌, inl, inr, ℕ, ◌+◌, ◌/◌, ◌<◌, ◌≤◌, Bool, true, false, cond, eqb, ltb, List, [], ◌∷◌, length, slice_index, sym, ap, ◌∙◌, subst, refl, arith}
+use Rattle.std.proofs.Common.{◌≡◌, inl, inr, ℕ, ◌+◌, ◌/◌, ◌<◌, ◌≤◌, true, List, length, slice_index, sym, ap, ◌∙◌, subst, refl, arith}
 use Rattle.std.specs.List.{Contains}
-use Rattle.std.proofs.lemmas.Bool.{eqb-true, ltb-true, and_parts, and_from, or_cases, or_left, or_right, false≢true, false_from_ne_true}
+use Rattle.std.proofs.lemmas.Bool.{eqb-true, false≢true, false_from_ne_true}
 use Rattle.std.proofs.lemmas.List.Elements.{Contains-append_cases}
 use Rattle.seg_words.specs.declared.extents.Extent.{Extent}
-use Rattle.seg_words.specs.Windows.{Aside, has, is_named, closed_on, Frees, Refuses}
-use Rattle.seg_words.specs.Blocks.{IsTold, MayProbe, image_place, image_end}
+use Rattle.seg_words.specs.Windows.{Aside, is_named}
+use Rattle.seg_words.specs.Blocks.{MayProbe, image_place, image_end}
 use Rattle.sma_blocks.specs.Live.{live_blocks}
 use Rattle.sma_blocks.specs.Ready.{Holds}
 use Rattle.apcu_model.specs.Cache.{Row, extent_of}
@@ -15,7 +15,7 @@ use Rattle.entry_slots.specs.Entries.{Entries, listed, blocks_of}
 use Rattle.entry_slots.specs.Standing.{Stands}
 use Rattle.entry_slots.specs.Facts.{OnlyClose, OnlyOpensAt, AreApart, IsCopyable, IsSound}
 use Rattle.entry_slots.proofs.Members.{any_there, counted, same_there}
-use Rattle.entry_slots.proofs.Blocks.{Apart, live_apart, live_bounds, told_from}
+use Rattle.entry_slots.proofs.Blocks.{Apart, live_apart, live_bounds}
 use Rattle.entry_slots.proofs.Homes.{IsHome, room, home_listed}
 use Rattle.entry_slots.proofs.Places.{at_itself, once}
 

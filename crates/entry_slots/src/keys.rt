@@ -10,12 +10,8 @@ ghost use Rattle.value_image.specs.Packed.{word_at};
 
 use crate::lower::lower_laws;
 use byteorder::{ByteOrder, LittleEndian};
+use php_graph::{HASH_START, TOP_BIT, hash_step};
 use seg_words::{Segment, WordsIn};
-
-/// Where the hash starts.
-const HASH_START: u64 = 5381;
-/// The bit that is set in each hash.
-const TOP_BIT: u64 = 1 << 63;
 
 // The word of a key's eight bytes from byte `8 * i` on, the first byte lowest; past the end they are 0.
 pub(crate) fn key_word(key: &[u8], i: u32) -> u64
@@ -58,8 +54,7 @@ pub(crate) fn hash_at<S: Segment>(seg: &mut S, at: u32, len: u32) -> u64
     let mut word = 0;
     for i in 0..len {
         word = word_of_byte(seg, at, i, word);
-        let byte = (word >> (8 * (i % 8))) % 256;
-        hash = hash.wrapping_mul(33).wrapping_add(byte);
+        hash = hash_step(hash, ((word >> (8 * (i % 8))) % 256) as u8);
     }
     hash | TOP_BIT
 }

@@ -1,6 +1,6 @@
 //! What the layers above rely on beside the calls.
 
-ghost use Rattle.std.specs.Prelude.{◌≡◌, ◌≢◌, ℕ, ◌<◌, ◌≤◌, ◌+◌, true, false, List, ◌∷◌, ◌++◌, length, Contains, Some};
+ghost use Rattle.std.specs.Prelude.{◌≡◌, ◌≢◌, ℕ, ◌<◌, ◌≤◌, ◌+◌, true, false, List, [], ◌∷◌, ◌++◌, length, Contains, Some};
 ghost use Rattle.seg_words.specs.declared.extents.Extent.{Extent};
 ghost use Rattle.seg_words.specs.Windows.{Aside};
 ghost use Rattle.apcu_model.specs.Cache.{Row};
@@ -38,12 +38,15 @@ pub fn standing_laws()
     ensures one { (e : EntrySlots) (words : List ℕ) (aside : Aside) (s : Entries) (p q : Row)
         → Stands e words aside s → Contains (listed s) p → Contains (listed s) q
         → p.place ≡ q.place → p ≡ q }
+    ensures empty { (e : EntrySlots) (words : List ℕ) (aside : Aside) (s : Entries) (slot : ℕ)
+        → Stands e words aside s → first_place (chain_of s slot) ≡ 0 → chain_of s slot ≡ [] }
     ensures walked { (e : EntrySlots) (words : List ℕ) (aside : Aside) (s : Entries) (slot : ℕ)
         (front : List Row) (row : Row) (back : List Row) → Stands e words aside s
         → chain_of s slot ≡ front ++ row ∷ back → IsAtRow s slot front row back }
 {}
 
-/// A row that is unlinked and then removed or freed has left the rows, and nothing else has changed.
+/// A row that is unlinked and then removed or freed has left the rows, and nothing else has changed. Its
+/// chain is shorter from the first step on.
 pub fn leaving_laws()
     ensures drops { (e : EntrySlots) (words : List ℕ) (aside : Aside) (s : Entries) (at t : ℕ)
         → Stands e words aside s → has_place at s.rows ≡ true
@@ -51,11 +54,17 @@ pub fn leaving_laws()
     ensures goes { (e : EntrySlots) (words : List ℕ) (aside : Aside) (s : Entries) (at : ℕ)
         → Stands e words aside s → has_place at s.rows ≡ true
         → freed_at at (unlinked_at at s) ≡ gone_at at s }
+    ensures shorter { (s : Entries) (slot at : ℕ) → has_place at (chain_of s slot) ≡ true
+        → length (chain_of (unlinked_at at s) slot) < length (chain_of s slot) }
 {}
 
-/// Which places rows have: the one that was found by its key, the first one, the next one, each of a chain,
-/// and the one that was unlinked.
+/// Which places rows have: those of the rows of a list and no others. So the one that was found by its key,
+/// the first one, the next one, each of a chain, and the one that was unlinked.
 pub fn place_laws()
+    ensures member { (rows : List Row) (row : Row) → Contains rows row
+        → has_place row.place rows ≡ true }
+    ensures some { (rows : List Row) (at : ℕ) → has_place at rows ≡ true
+        → (row : Row) × Contains rows row × (row.place ≡ at) }
     ensures found { (key : List ℕ) (s : Entries) (at : ℕ)
         → Some at ≡ place_of key s → has_place at s.rows ≡ true }
     ensures first { (rows : List Row) (at : ℕ)

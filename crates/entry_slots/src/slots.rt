@@ -210,7 +210,7 @@ impl EntrySlots {
         ensures beside { KeptBeside S.WordsIn seg.old seg.new }
     {
         lower_laws();
-        g.is_sealed();
+        let _places = g.places();
         let slot = self.slot_for(key);
         let link = self.link_to(seg, slot, replaced);
         let note = Note {

@@ -168,7 +168,7 @@ wants_no_value g (p ∷ outer) (Some key) d (inr e) = absurd cc
 
 -- ---- a member that shares a place
 
-pub no_back : (g : List Kind) (cs : List ℕ) (key : Option Key) (x : ℕ) → IsDraft g cs key → wants_by g cs key ≡ Value → 1 ≤ x → x ≤ length g → cs ≡ [] → ⊥
+pub no_back : (g : List Kind) (cs : List ℕ) (key : Option Key) (x : ℕ) → IsDraft g cs key → wants_by g cs key ≡ Value → 1 ≤ x → x ≤ length g → ¬ cs ≡ []
 no_back [] [] None x d wants low high e = omega arith
 no_back (k ∷ ks) [] None x d wants low high e = cc
 no_back g [] (Some key) x d wants low high e = d.waiting
@@ -213,7 +213,7 @@ pub record IsLast (g : List Kind) (cs : List Container) (c : Container) : Type 0
   pub knows : KnowsKeys c.highest c.seen (keys_of kind)
   pub outer : KnowsAll g rest None
 
-pub last_is : (g : List Kind) (cs : List Container) (c : Container) → (length cs ≡ 0 → ⊥) → c ≡ get_or cs (length cs - 1) c → KnowsAll g (reverse cs) None → AllByRecursion (λ p. is_open_at g p ≡ true) (places_of cs) → IsLast g cs c
+pub last_is : (g : List Kind) (cs : List Container) (c : Container) → ¬ length cs ≡ 0 → c ≡ get_or cs (length cs - 1) c → KnowsAll g (reverse cs) None → AllByRecursion (λ p. is_open_at g p ≡ true) (places_of cs) → IsLast g cs c
 last_is g cs c some at known opened =
     let l = last_first cs c (slice_get_read cs (length cs) (length cs - 1) c refl (omega (arith, some)) at) in
     let all : AllByRecursion (λ p. is_open_at g p ≡ true) (c.place ∷ map (λ c. c.place) l.0) = subst (λ (xs : List Container). AllByRecursion (λ p. is_open_at g p ≡ true) (map (λ c. c.place) xs)) l.1 opened in
@@ -261,7 +261,7 @@ building_refused g offsets cs cs' key values b no_key same known = record {
   values_are = b.values_are;
 }
 
-not_both : (o : Option Kind) → cond (passes is_array o) ArrayKey Name ≡ ArrayKey → passes is_object o ≡ true → ⊥
+not_both : (o : Option Kind) → cond (passes is_array o) ArrayKey Name ≡ ArrayKey → ¬ passes is_object o ≡ true
 not_both None e object = cc
 not_both (Some (kinds.Array ms)) e object = cc
 not_both (Some (kinds.Object class ps)) e object = cc

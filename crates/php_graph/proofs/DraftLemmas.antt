@@ -103,7 +103,7 @@ with_member-is_container (kinds.Object class ps) (keys.Int n) c = refl
 with_member-is_container (kinds.Object class ps) (keys.Str name) c = refl
 with_member-is_container kind key c = refl
 
-pub no_same : (kind : Kind) (x : ℕ) → is_container kind ≡ true → kind ≡ kinds.Same x → ⊥
+pub no_same : (kind : Kind) (x : ℕ) → is_container kind ≡ true → ¬ kind ≡ kinds.Same x
 no_same kind x holds e = false≢true (sym (ap is_container e) ∙ holds)
 
 pub key_eq-swap : (a b : Key) → key_eq a b ≡ key_eq b a

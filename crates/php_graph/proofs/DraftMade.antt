@@ -172,7 +172,7 @@ value_top : (g : List Kind) (kind : Kind) → IsDraft g [] None → wants_by g [
 value_top [] kind d wants new = value_on_top kind d new
 value_top (k ∷ ks) kind d wants new = absurd cc
 
-pub no_value : (b : Bool) → cond b ArrayKey Name ≡ Value → ⊥
+pub no_value : (b : Bool) → ¬ cond b ArrayKey Name ≡ Value
 no_value true e = absurd cc
 no_value false e = absurd cc
 
@@ -288,7 +288,7 @@ pub done_graph : (g : List Kind) (key : Option Key) → IsDraft g [] key → wan
 done_graph g None d wants = (record { sealed = whole g wants d.shaped; targets = d.targets; well_formed = d.well_formed; fits = d.fits; count = d.count }, refl)
 done_graph g (Some key) d wants = absurd d.waiting
 
-inside_wants : (b : Bool) → cond b ArrayKey Name ≡ Done → ⊥
+inside_wants : (b : Bool) → ¬ cond b ArrayKey Name ≡ Done
 inside_wants true e = absurd cc
 inside_wants false e = absurd cc
 

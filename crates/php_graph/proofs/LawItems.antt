@@ -215,7 +215,7 @@ open_wrote g h p outer m key kind item before w grown is_next names there holds 
 
 -- ---- the end of a container
 
-not_empty : (ms : List (Key × Child)) (x : Key × Child) → [] ≡ ms ++ x ∷ [] → ⊥
+not_empty : (ms : List (Key × Child)) (x : Key × Child) → ¬ [] ≡ ms ++ x ∷ []
 not_empty [] x e = cc
 not_empty (m ∷ ms) x e = cc
 

@@ -105,7 +105,7 @@ pub record MembersDone (g places : List Kind) (p : ℕ) (outer : List ℕ) (kind
   pub holds : is_container filled ≡ true
   pub opened : opening filled ≡ opening kind
   pub members : members_of filled ≡ members_of kind ++ ms
-  pub old : (k : ℕ) → k ≤ length places → (k ≡ p → ⊥) → kind_at after k ≡ kind_at places k
+  pub old : (k : ℕ) → k ≤ length places → ¬ k ≡ p → kind_at after k ≡ kind_at places k
   pub new : (k : ℕ) → length places < k → k < e → kind_at after k ≡ kind_at g k
   pub more : values_in after ≡ values_in places + values is
   pub does : (rest : List Item) → drafted (draft places (p ∷ outer) None) (is ++ rest) ≡ drafted (draft after (p ∷ outer) None) rest

@@ -99,7 +99,7 @@ step_drafted d items.Close is fits fault range =
     let none = wants_no_value d.places d.containers d.key is (close_wanted (wants_of d) fits) in
     closed_by d none.1.0 none.1.1 is none.0 none.1.2
 
-no_place : (p x : ℕ) → kind_at [] p ≡ Some (kinds.Same x) → ⊥
+no_place : (p x : ℕ) → ¬ kind_at [] p ≡ Some (kinds.Same x)
 no_place zero x e = cc
 no_place (suc p) x e = cc
 

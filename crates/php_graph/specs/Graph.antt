@@ -13,6 +13,7 @@ use Rattle.php_graph.specs.declared.kind.Kind.{Kind}
 use Rattle.php_graph.specs.declared.kind.Kind.TheVariants as kinds
 use Rattle.php_graph.specs.ByteStrings.{AreBytes}
 use Rattle.php_graph.specs.Numbers.{int_of_text}
+use Rattle.php_graph.specs.declared.builder.TheConstants.{LEVELS, MOST_VALUES}
 
 -- ---- places and members
 
@@ -68,7 +69,7 @@ child_end (suc level) g (Back x) m = if nat_le 1 x && nat_lt x m then Some m els
 
 -- how many values may lie in one another: the innermost lies inside 511 containers
 abbrev pub levels : ℕ
-levels = 512
+levels = LEVELS
 
 -- the number after the value that is written at place k
 unfoldable pub end_of : List Kind → ℕ → Option ℕ
@@ -134,7 +135,7 @@ values_in g = length g + sum_by (λ kind. count_by is_back (children_of kind)) g
 
 -- how many values a graph may have
 abbrev pub most_values : ℕ
-most_values = 16777216
+most_values = MOST_VALUES
 
 -- The places are those of one value, the one at place 1.
 pub record IsGraph (g : List Kind) : Type 0 where

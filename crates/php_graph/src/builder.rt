@@ -1,6 +1,6 @@
 //! Writing a graph item by item.
 
-ghost use Rattle.std.specs.Prelude.{◌≡◌, ◌⊎◌, [], true, Some, None, IsTrue, OnOk, OnErr, IfErr, IsErrOf, MatchResult};
+ghost use Rattle.std.specs.Prelude.{◌≡◌, ◌<◌, ◌⊎◌, [], vec_len, vec_capacity, true, Some, None, IsTrue, OnOk, OnErr, IfErr, IsErrOf, MatchResult};
 ghost use Rattle.php_graph.specs.declared.item.BuildFault.{BuildFault};
 ghost use Rattle.php_graph.specs.declared.item.BuildFault.TheVariants.{Memory};
 ghost use Rattle.php_graph.specs.declared.item.Item.TheVariants as items;
@@ -13,6 +13,7 @@ ghost use Rattle.php_graph.specs.Drafted.{IsFresh};
 use crate::bytes::Bytes;
 use crate::child::Child;
 use crate::container::Container;
+use crate::draft_steps::{attach, note_last, open_container, push_place, put};
 use crate::graph::Graph;
 use crate::item::{BuildFault, Item, Wants};
 use crate::key::Key;
@@ -20,17 +21,16 @@ use crate::kind::Kind;
 use crate::members::Members;
 use crate::numbers::is_class;
 use crate::props::Props;
-use crate::steps::{attach, note_last, open_container, push_place, put};
-use std::alloc::Global;
+use std::alloc::{AllocError, Global};
 use std::marker::Model;
 
 /// How many containers may lie in one another.
-const LEVELS: usize = 512;
+pub const LEVELS: usize = 512;
 /// How many values a graph may have.
-const MOST_VALUES: u32 = 16_777_216;
+pub const MOST_VALUES: u32 = 16_777_216;
 
 /// A graph that is being written, item by item, in the order of the notation.
-#[derive(Debug, Drop)]
+#[derive(Drop)]
 pub struct Builder {
     places: Vec<Kind>,
     /// Room for where the image has each place. It is filled in once the graph is whole.
@@ -52,7 +52,20 @@ impl Model for Builder {
 
     ghost view = { λ a. draft_of a.places.items a.containers.items a.key };
 
-    ghost invariant = { λ a. IsBuilding a.places.items a.offsets.items a.containers.items a.key a.values };
+    ghost invariant = { λ a.
+        IsBuilding a.places.items a.offsets.items a.containers.items a.key a.values };
+}
+
+// Room for one more offset and one more open container.
+fn make_room(offsets: &mut Vec<u64>, containers: &mut Vec<Container>) -> Result<(), AllocError>
+    ensures offsets { offsets.new.items ≡ offsets.old.items }
+    ensures containers { containers.new.items ≡ containers.old.items }
+    ensures room_there { OnOk result (vec_len offsets.new < vec_capacity offsets.new) }
+    ensures room_here { OnOk result (vec_len containers.new < vec_capacity containers.new) }
+{
+    offsets.reserve(1)?;
+    containers.reserve(1)?;
+    Ok(())
 }
 
 impl Builder {
@@ -92,10 +105,11 @@ impl Builder {
         }
     }
 
-    /// Why there is no room for one more value: it would lie too deep, or there are too many. What is refused so is
-    /// refused whatever the value is.
+    /// Why there is no room for one more value: it would lie too deep, or there are too many.
+    /// What is refused so is refused whatever the value is.
     pub fn room(&self) -> Result<(), BuildFault>
-        ensures { MatchResult result (λ _. room_fault self.now ≡ None) (λ fault. room_fault self.now ≡ Some fault) }
+        ensures { MatchResult result (λ _. room_fault self.now ≡ None)
+            (λ fault. room_fault self.now ≡ Some fault) }
     {
         if self.containers.len() >= LEVELS {
             return Err(BuildFault::TooDeep);
@@ -106,7 +120,7 @@ impl Builder {
         Ok(())
     }
 
-    /// A value with a place of its own.
+    // A value with a place of its own.
     fn push_value(&mut self, kind: Kind) -> Result<(), BuildFault>
         requires wanted { wants_of self.old ≡ Value }
         requires new_value { IsFresh self.old.places kind }
@@ -115,8 +129,7 @@ impl Builder {
         ensures err { OnErr result (self.new ≡ self.old) }
     {
         self.room()?;
-        self.offsets.reserve(1)?;
-        self.containers.reserve(1)?;
+        make_room(&mut self.offsets, &mut self.containers)?;
         let place = self.places.len() as u32 + 1;
         let opens = kind.is_container();
         kind.check();
@@ -126,7 +139,8 @@ impl Builder {
         self.values += 1;
         Ok(())
     }
-    /// A member that shares the value at this place.
+
+    // A member that shares the value at this place.
     fn push_back(&mut self, place: u32) -> Result<(), BuildFault>
         requires { wants_of self.old ≡ Value }
         ensures answer { IsAnswer (value_fault self.old (items.Back place)) result }
@@ -147,7 +161,7 @@ impl Builder {
         Ok(())
     }
 
-    /// A value that names the object at this place.
+    // A value that names the object at this place.
     fn push_same(&mut self, place: u32) -> Result<(), BuildFault>
         requires { wants_of self.old ≡ Value }
         ensures answer { IsAnswer (value_fault self.old (items.Same place)) result }
@@ -161,7 +175,7 @@ impl Builder {
         self.push_value(Kind::Same(place))
     }
 
-    /// Whether an object has begun at this place.
+    // Whether an object has begun at this place.
     fn has_object(&self, place: u32) -> bool
         ensures { result ≡ is_object_at self.now.places place }
     {
@@ -173,7 +187,7 @@ impl Builder {
         kind.is_object()
     }
 
-    /// An object that begins.
+    // An object that begins.
     fn push_object(&mut self, class: Bytes) -> Result<(), BuildFault>
         requires { wants_of self.old ≡ Value }
         ensures answer { IsAnswer (value_fault self.old (items.OpenObject class)) result }
@@ -188,9 +202,10 @@ impl Builder {
         self.push_value(Kind::Object(class, props))
     }
 
-    /// The key of the next member.
+    // The key of the next member.
     fn push_key(&mut self, key: Key) -> Result<(), BuildFault>
-        requires inside { wants_of self.old ≡ ArrayKey ⊎ (wants_of self.old ≡ Name × is_name key ≡ true) }
+        requires inside { wants_of self.old ≡ ArrayKey
+            ⊎ (wants_of self.old ≡ Name × is_name key ≡ true) }
         ensures answer { IsAnswer (fault_of self.old (items.Key key)) result }
         ensures ok { OnOk result (self.new ≡ pushed self.old (items.Key key)) }
         ensures err { OnErr result (self.new ≡ self.old) }
@@ -200,7 +215,7 @@ impl Builder {
         Ok(())
     }
 
-    /// The innermost open container ends.
+    // The innermost open container ends.
     fn close(&mut self)
         requires { wants_of self.old ≡ ArrayKey ⊎ wants_of self.old ≡ Name }
         ensures { self.new ≡ pushed self.old items.Close }
@@ -234,15 +249,19 @@ impl Builder {
         }
     }
 
-    /// Writes the next item. It is refused where it begins a value inside 512 containers, or the value number
-    /// 16,777,217; where it shares a place that has not begun, or names no object that has; where its key is
-    /// an integer's decimal, or is there already; or where its class has no such name. Want of memory comes
-    /// only where none of these does. A refusal leaves everything as it was.
+    /// Writes the next item. It is refused where it begins a value inside 512 containers, or the
+    /// value number 16,777,217; where it shares a place that has not begun, or names no object that
+    /// has; where its key is an integer's decimal, or is there already; or where its class has no
+    /// such name. Want of memory comes only where none of these does. A refusal leaves everything
+    /// as it was.
     pub fn push(&mut self, item: Item) -> Result<(), BuildFault>
         requires { IsTrue (item_fits (wants_of self.old) item) }
-        ensures ok { OnOk result ((self.new ≡ pushed self.old item) × (fault_of self.old item ≡ None)) }
-        ensures refused { (fault : BuildFault) → fault_of self.old item ≡ Some fault → IsErrOf result fault }
-        ensures cause { IfErr result (λ fault. (fault ≡ Memory) ⊎ (fault_of self.old item ≡ Some fault)) }
+        ensures ok { OnOk result ((self.new ≡ pushed self.old item)
+            × (fault_of self.old item ≡ None)) }
+        ensures refused { (fault : BuildFault) → fault_of self.old item ≡ Some fault
+            → IsErrOf result fault }
+        ensures cause { IfErr result (λ fault. (fault ≡ Memory)
+            ⊎ (fault_of self.old item ≡ Some fault)) }
         ensures err { OnErr result (self.new ≡ self.old) }
     {
         self.step(item)

@@ -30,6 +30,14 @@ impl Model for Bytes {
 }
 
 impl Bytes {
+    /// These bytes. It takes no memory.
+    pub fn from_vec(items: Vec<u8>) -> Bytes
+        requires { length items.items < 2 ^ 32 }
+        ensures { result ≡ items.items }
+    {
+        Bytes { items }
+    }
+
     /// A copy of these bytes.
     pub fn of(alloc: Global, from: &[u8]) -> Result<Bytes, AllocError>
         requires { length from.now < 2 ^ 32 }
@@ -47,7 +55,7 @@ impl Bytes {
         self.items.as_slice()
     }
 
-    /// Equal bytes.
+    // Equal bytes.
     pub(crate) fn try_copy(&self, alloc: Global) -> Result<Bytes, AllocError>
         ensures { IfOk result (λ copy. copy ≡ self.now) }
     {
@@ -59,7 +67,7 @@ impl Bytes {
 impl Bytes {
     ghost use Rattle.php_graph.specs.Size.{words_in};
 
-    /// The words of the bytes in an image, eight bytes a word.
+    // The words of the bytes in an image, eight bytes a word.
     pub(crate) fn cells(&self) -> u64
         ensures cells { result ≡ words_in (length self.now) }
         ensures small { result ≤ 2 ^ 29 }
@@ -99,7 +107,8 @@ impl Ord for Bytes {
 impl PartialOrd for Bytes {
     ghost partial_cmp = { as_partial_cmp (slice_cmp nat_cmp) };
 
-    ghost laws = { partial_order_from_own_ties (Prim.search (comparing, rules)) (Prim.search (comparing, rules)) };
+    ghost laws = { partial_order_from_own_ties (Prim.search (comparing, rules))
+        (Prim.search (comparing, rules)) };
 
     fn partial_cmp(&self, other: &Bytes) -> Option<Ordering> {
         Some(self.cmp(other))

@@ -15,33 +15,33 @@ use crate::kind::Kind;
 use std::alloc::{AllocError, Global};
 use std::collections::BTreeSet;
 
-/// Up to so many keys are looked through one by one.
+// Up to so many keys are looked through one by one.
 const FEW_KEYS: u32 = 8;
 
-/// What is kept of a container's keys, to tell those that are new.
-#[derive(Debug, Drop)]
+// What is kept of a container's keys, to tell those that are new.
+#[derive(Drop)]
 pub(crate) enum Seen {
-    /// Nothing: there are few keys, or each one's mark was above those before it.
+    // Nothing: there are few keys, or each one's mark was above those before it.
     Nothing,
-    /// Each key's mark.
+    // Each key's mark.
     Marks(BTreeSet<u64>),
-    /// Each key, from where one came whose mark was there.
+    // Each key, from where one came whose mark was there.
     Keys(BTreeSet<Key>),
 }
 
-/// An open container, and what is known of its keys.
-#[derive(Debug, Drop)]
+// An open container, and what is known of its keys.
+#[derive(Drop)]
 pub(crate) struct Container {
-    /// Its place, from 1.
+    // Its place, from 1.
     pub(crate) place: u32,
-    /// No key's mark is above it. None where there is no key.
+    // No key's mark is above it. None where there is no key.
     pub(crate) highest: Option<u64>,
-    /// What is kept of its keys.
+    // What is kept of its keys.
     pub(crate) seen: Seen,
 }
 
 impl Container {
-    /// A container with no keys.
+    // A container with no keys.
     pub(crate) fn new(place: u32) -> Container
         ensures place { result.place ≡ place }
         ensures keys { KnowsKeys result.highest result.seen [] }
@@ -53,13 +53,14 @@ impl Container {
         }
     }
 
-    /// Notes that the container gets this key, unless it has it. A key whose mark is above all others is new, and
-    /// is not looked for.
+    // Notes that the container gets this key, unless it has it. A key whose mark is above all
+    // others is new, and is not looked for.
     pub(crate) fn note(&mut self, alloc: Global, kind: &Kind, key: &Key) -> Result<(), BuildFault>
         requires { KnowsKeys self.old.highest self.old.seen (keys_of kind.now) }
         ensures place { self.new.place ≡ self.old.place }
         ensures answer { IsAnswer (repeat_fault (keys_of kind.now) key.now) result }
-        ensures ok { OnOk result (KnowsKeys self.new.highest self.new.seen (keys_of kind.now ++ key.now ∷ [])) }
+        ensures ok { OnOk result (KnowsKeys self.new.highest self.new.seen
+            (keys_of kind.now ++ key.now ∷ [])) }
         ensures err { OnErr result (KnowsKeys self.new.highest self.new.seen (keys_of kind.now)) }
     {
         let mark = key.mark();
@@ -70,7 +71,7 @@ impl Container {
     }
 }
 
-/// Notes a key, unless it is there. One whose mark rises above all others is new.
+// Notes a key, unless it is there. One whose mark rises above all others is new.
 fn see(
     seen: &mut Seen,
     alloc: Global,
@@ -103,7 +104,8 @@ fn see(
     }
 }
 
-/// Notes a key where nothing is kept, unless it is there. Where there are many, their marks are kept from here on.
+// Notes a key where nothing is kept, unless it is there. Where there are many, their marks are kept
+// from here on.
 fn see_first(
     seen: &mut Seen,
     alloc: Global,
@@ -134,8 +136,8 @@ fn see_first(
     see_marked(seen, alloc, kind, key)
 }
 
-/// Notes a key whose mark is there, unless it is there itself. From here on all keys are kept, so that many
-/// keys of one mark cost no more than others.
+// Notes a key whose mark is there, unless it is there itself. From here on all keys are kept, so
+// that many keys of one mark cost no more than others.
 fn see_marked(seen: &mut Seen, alloc: Global, kind: &Kind, key: &Key) -> Result<(), BuildFault>
     requires { SeesKeys seen.old (keys_of kind.now) }
     ensures answer { IsAnswer (repeat_fault (keys_of kind.now) key.now) result }
@@ -150,7 +152,7 @@ fn see_marked(seen: &mut Seen, alloc: Global, kind: &Kind, key: &Key) -> Result<
     noted
 }
 
-/// What is answered where there is no memory. A key that is there is refused as ever.
+// What is answered where there is no memory. A key that is there is refused as ever.
 fn no_memory(kind: &Kind, key: &Key) -> BuildFault
     ensures { IsAnswer (repeat_fault (keys_of kind.now) key.now) (Err result) }
 {
@@ -161,10 +163,12 @@ fn no_memory(kind: &Kind, key: &Key) -> BuildFault
     }
 }
 
-/// Adds an equal key to the set, unless it is there.
+// Adds an equal key to the set, unless it is there.
 fn insert_new(keys: &mut BTreeSet<Key>, alloc: Global, key: &Key) -> Result<(), BuildFault>
-    ensures answer { (ks : List Key) → HasKeys ks keys.old → IsAnswer (repeat_fault ks key.now) result }
-    ensures ok { OnOk result ((ks : List Key) → HasKeys ks keys.old → HasKeys (ks ++ key.now ∷ []) keys.new) }
+    ensures answer { (ks : List Key) → HasKeys ks keys.old
+        → IsAnswer (repeat_fault ks key.now) result }
+    ensures ok { OnOk result ((ks : List Key) → HasKeys ks keys.old
+        → HasKeys (ks ++ key.now ∷ []) keys.new) }
     ensures err { OnErr result ((ks : List Key) → HasKeys ks keys.old → HasKeys ks keys.new) }
 {
     if keys.contains(key) {
@@ -174,31 +178,33 @@ fn insert_new(keys: &mut BTreeSet<Key>, alloc: Global, key: &Key) -> Result<(), 
     Ok(())
 }
 
-/// Adds an equal key to the set.
+// Adds an equal key to the set.
 pub(crate) fn insert_copy(
     set: &mut BTreeSet<Key>,
     alloc: Global,
     key: &Key,
 ) -> Result<(), AllocError>
-    ensures ok { OnOk result ((ks : List Key) → HasKeys ks set.old → HasKeys (ks ++ key.now ∷ []) set.new) }
+    ensures ok { OnOk result ((ks : List Key) → HasKeys ks set.old
+        → HasKeys (ks ++ key.now ∷ []) set.new) }
     ensures err { OnErr result ((ks : List Key) → HasKeys ks set.old → HasKeys ks set.new) }
 {
     set.insert(key.try_copy(alloc)?)?;
     Ok(())
 }
 
-/// Adds a key's mark to the set: whether it is new there. Memory is wanted only for one that is.
+// Adds a key's mark to the set: whether it is new there. Memory is wanted only for one that is.
 pub(crate) fn insert_mark(marks: &mut BTreeSet<u64>, mark: u64) -> Result<bool, AllocError>
     ensures new { IfOk result (λ new. new ≡ not (contains nat_cmp marks.old mark)) }
     ensures absent { OnErr result (contains nat_cmp marks.old mark ≡ false) }
-    ensures ok { OnOk result ((ks : List Key) (k : Key) → mark ≡ mark_of k → HasMarks ks marks.old → HasMarks (ks ++ k ∷ []) marks.new) }
+    ensures ok { OnOk result ((ks : List Key) (k : Key) → mark ≡ mark_of k → HasMarks ks marks.old
+        → HasMarks (ks ++ k ∷ []) marks.new) }
     ensures kept { (ks : List Key) → HasMarks ks marks.old → HasMarks ks marks.new }
 {
     let new = marks.insert(mark)?;
     Ok(new)
 }
 
-/// Whether a mark is above the highest.
+// Whether a mark is above the highest.
 fn is_above(highest: Option<u64>, mark: u64) -> bool
     ensures { result ≡ is_above highest mark }
 {
@@ -208,7 +214,7 @@ fn is_above(highest: Option<u64>, mark: u64) -> bool
     }
 }
 
-/// The highest once this mark is there too.
+// The highest once this mark is there too.
 fn raised(highest: Option<u64>, mark: u64) -> Option<u64>
     ensures { result ≡ raised highest mark }
 {

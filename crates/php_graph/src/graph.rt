@@ -6,7 +6,7 @@ ghost use Rattle.php_graph.specs.declared.kind.Kind.TheVariants.{Str};
 ghost use Rattle.std.specs.Option.{option_map};
 ghost use Rattle.php_graph.specs.Graph.{IsGraph, kind_at, most_values, end_of, part_of, lowered_places};
 ghost use Rattle.php_graph.specs.Counted.{children_in};
-ghost use Rattle.php_graph.specs.Kept.{offsets_from};
+ghost use Rattle.php_graph.specs.Kept.{IsKept, offsets_from};
 ghost use Rattle.php_graph.specs.Size.{image_length, offset_of, block_size};
 
 use crate::bytes::Bytes;
@@ -14,14 +14,15 @@ use crate::kind::Kind;
 use std::alloc::{AllocError, Global};
 use std::marker::Model;
 
-/// A value as PHP's serialize notation numbers it: a list of places from 1, in the order in which they are
-/// written. Order, sharing and cycles are the numbers in its members. It is whole and well formed always.
+/// A value as PHP's serialize notation numbers it: a list of places from 1, in the order in which
+/// they are written. Order, sharing and cycles are the numbers in its members. It is whole and well
+/// formed always.
 #[derive(Debug, Drop)]
 pub struct Graph {
     pub(crate) places: Vec<Kind>,
-    /// Where the image has each place, in words.
+    // Where the image has each place, in words.
     pub(crate) offsets: Vec<u64>,
-    /// The length of the image in words.
+    // The length of the image in words.
     pub(crate) words: u64,
 }
 
@@ -38,7 +39,7 @@ impl Model for Graph {
 }
 
 impl Graph {
-    /// The graph with these places, and room for where each stands.
+    // The graph with these places, and room for where each stands.
     pub(crate) fn from_parts(places: Vec<Kind>, offsets: Vec<u64>) -> Graph
         requires graph { IsGraph places.items }
         requires few { children_in places.items ≤ most_values }
@@ -54,9 +55,23 @@ impl Graph {
         }
     }
 
-    /// How many places there are.
+    /// The graph of these places, where the image has each of them, and how long it is. It takes no
+    /// memory.
+    pub fn from_places(places: Vec<Kind>, offsets: Vec<u64>, words: u64) -> Graph
+        requires { IsKept places.items offsets.items words }
+        ensures { result ≡ places.items }
+    {
+        Graph {
+            places,
+            offsets,
+            words,
+        }
+    }
+
+    /// How many places there are. Each graph is whole and well formed.
     pub fn places(&self) -> u32
-        ensures { result ≡ length self.now }
+        ensures count { result ≡ length self.now }
+        ensures graph { IsGraph self.now }
     {
         self.places.len() as u32
     }
@@ -87,12 +102,13 @@ impl Graph {
         self.words
     }
 
-    /// Each graph is whole and well formed.
+    /// What `places` says too: each graph is whole and well formed.
     pub fn is_sealed(&self)
         ensures { IsGraph self.now }
     {
         let _places = &self.places;
     }
+
     /// Whether the two have equal places: the same values in the same order, shared alike.
     pub fn same(&self, other: &Graph) -> bool
         ensures { IsTrue result ↔ (self.now ≡ other.now) }
@@ -112,8 +128,9 @@ impl Graph {
             words: self.words,
         })
     }
-    /// The value that is written at place k, as a graph of its own: its places, with all numbers lowered by k - 1.
-    /// None exactly where one of them names a place outside that value.
+
+    /// The value that is written at place k, as a graph of its own: its places, with all numbers
+    /// lowered by k - 1. None exactly where one of them names a place outside that value.
     pub fn part(&self, alloc: Global, k: u32) -> Result<Option<Graph>, AllocError>
         requires from_one { 1 ≤ k }
         requires there { k ≤ length self.now }
@@ -127,8 +144,8 @@ impl Graph {
     }
 }
 
-/// The number after the value that is written at place k. Only the last of its members, the last one's last
-/// and so on are looked at.
+// The number after the value that is written at place k. Only the last of its members, the last
+// one's last and so on are looked at.
 fn end_of(places: &[Kind], k: u32) -> u32
     requires graph { IsGraph places.now }
     requires from_one { 1 ≤ k }
@@ -144,23 +161,25 @@ fn end_of(places: &[Kind], k: u32) -> u32
     place + 1
 }
 
-/// The places of the value that is written at place k, with all numbers lowered by k - 1.
+// The places of the value that is written at place k, with all numbers lowered by k - 1.
 fn part_places(alloc: Global, places: &[Kind], k: u32) -> Result<Option<Vec<Kind>>, AllocError>
     requires graph { IsGraph places.now }
     requires few { children_in places.now ≤ most_values }
     requires from_one { 1 ≤ k }
     requires there { k ≤ length places.now }
     ensures part { IfOk result (λ part. option_map (λ v. v.items) part ≡ part_of places.now k) }
-    ensures graph { IfOk result (λ part. IfSome part (λ v. IsGraph v.items × (children_in v.items ≤ most_values))) }
+    ensures graph { IfOk result (λ part. IfSome part
+        (λ v. IsGraph v.items × (children_in v.items ≤ most_values))) }
 {
     let end = end_of(places, k);
     let written = &places[(k - 1) as usize..(end - 1) as usize];
     lowered(alloc, written, k - 1)
 }
 
-/// The places with all numbers lowered. None where one of them names a place outside.
+// The places with all numbers lowered. None where one of them names a place outside.
 fn lowered(alloc: Global, places: &[Kind], by: u32) -> Result<Option<Vec<Kind>>, AllocError>
-    ensures { IfOk result (λ lowered. option_map (λ v. v.items) lowered ≡ lowered_places by places.now) }
+    ensures { IfOk result
+        (λ lowered. option_map (λ v. v.items) lowered ≡ lowered_places by places.now) }
 {
     let mut made = Vec::new(alloc);
     for kind in places {
@@ -206,7 +225,8 @@ fn copied(alloc: Global, places: &[Kind]) -> Result<Vec<Kind>, AllocError>
     Ok(copies)
 }
 
-/// The words of an entry's block: twelve, its key and the graph's image, filled up to an even number.
+/// The words of an entry's block: twelve, its key and the graph's image, filled up to an even
+/// number.
 pub fn block_words(key_len: u64, g: &Graph) -> u64
     requires { key_len < 2 ^ 32 }
     ensures { result ≡ block_size key_len g.now }
@@ -215,7 +235,7 @@ pub fn block_words(key_len: u64, g: &Graph) -> u64
     words + words % 2
 }
 
-/// Writes where each place stands, and answers the words of all.
+// Writes where each place stands, and answers the words of all.
 fn fill_offsets(places: &[Kind], offsets: &mut Vec<u64>) -> u64
     requires room { length offsets.old.items ≡ length places.now }
     requires small { image_length places.now < 2 ^ 60 }
@@ -231,10 +251,12 @@ fn fill_offsets(places: &[Kind], offsets: &mut Vec<u64>) -> u64
 }
 
 impl Graph {
-    /// The bytes of a value that is one string; any other value comes back as it is. It takes no memory.
+    /// The bytes of a value that is one string; any other value comes back as it is. It takes no
+    /// memory.
     pub fn into_string(self) -> Result<Bytes, Graph>
         ensures string { IfOk result (λ bytes. (self ≡ Str bytes ∷ []) × AreBytes bytes) }
-        ensures other { IfErr result (λ g. (g ≡ self) × ((bytes : List ℕ) → self ≡ Str bytes ∷ [] → ⊥)) }
+        ensures other { IfErr result
+            (λ g. (g ≡ self) × ((bytes : List ℕ) → ¬ self ≡ Str bytes ∷ [])) }
     {
         let Graph {
             mut places,

@@ -10,7 +10,7 @@ use std::alloc::AllocError;
 use thiserror::Error;
 
 /// A step in writing a value: a value, the beginning or the end of a container, or a key.
-#[derive(Debug, Drop)]
+#[derive(Drop)]
 pub enum Item {
     Null,
     Bool(bool),

@@ -18,7 +18,7 @@ pub enum Key {
 }
 
 impl Key {
-    /// An equal key.
+    // An equal key.
     pub(crate) fn try_copy(&self, alloc: Global) -> Result<Key, AllocError>
         ensures { IfOk result (λ copy. copy ≡ self.now) }
     {
@@ -27,7 +27,8 @@ impl Key {
             Key::Str(bytes) => Ok(Key::Str(bytes.try_copy(alloc)?)),
         }
     }
-    /// The words of the key in an image.
+
+    // The words of the key in an image.
     pub(crate) fn cells(&self) -> u64
         ensures cells { result ≡ key_cells self.now }
         ensures small { result < 2 ^ 30 }
@@ -37,7 +38,8 @@ impl Key {
             Key::Str(bytes) => 1 + bytes.cells(),
         }
     }
-    /// Each key is a number of 64 bits, or a byte string.
+
+    // Each key is a number of 64 bits, or a byte string.
     pub(crate) fn check(&self)
         ensures { FitsKey self.now }
     {
@@ -50,7 +52,9 @@ impl Key {
             }
         }
     }
-    /// The key's mark. Equal keys have equal marks, and few others do. Marks of integers rise as they do.
+
+    // The key's mark. Equal keys have equal marks, and few others do. Marks of integers rise as
+    // they do.
     pub(crate) fn mark(&self) -> u64
         ensures { result ≡ mark_of self.now }
     {
@@ -59,7 +63,8 @@ impl Key {
             Key::Str(bytes) => hash_of(bytes.as_slice()),
         }
     }
-    /// Whether it is a byte string, as the names of properties are.
+
+    // Whether it is a byte string, as the names of properties are.
     pub(crate) fn is_name(&self) -> bool
         ensures { result ≡ is_name self.now }
     {

@@ -30,7 +30,7 @@ pub enum Kind {
 }
 
 impl Kind {
-    /// Whether a container has this key, or an object this name.
+    // Whether a container has this key, or an object this name.
     pub(crate) fn has_key(&self, key: &Key) -> bool
         ensures { result ≡ has_key (keys_of self.now) key.now }
     {
@@ -44,7 +44,7 @@ impl Kind {
         }
     }
 
-    /// How many members there are.
+    // How many members there are.
     pub(crate) fn members(&self) -> u32 {
         match self {
             Kind::Array(members) => members.len(),
@@ -53,7 +53,7 @@ impl Kind {
         }
     }
 
-    /// The marks of a container's keys.
+    // The marks of a container's keys.
     pub(crate) fn mark_set(&self, alloc: Global) -> Result<BTreeSet<u64>, AllocError>
         ensures { IfOk result (HasMarks (keys_of self.now)) }
     {
@@ -64,7 +64,7 @@ impl Kind {
         }
     }
 
-    /// The keys of a container.
+    // The keys of a container.
     pub(crate) fn key_set(&self, alloc: Global) -> Result<BTreeSet<Key>, AllocError>
         ensures { IfOk result (HasKeys (keys_of self.now)) }
     {
@@ -75,7 +75,7 @@ impl Kind {
         }
     }
 
-    /// Whether it has members.
+    // Whether it has members.
     pub(crate) fn is_container(&self) -> bool
         ensures { result ≡ is_container self.now }
     {
@@ -85,7 +85,7 @@ impl Kind {
         }
     }
 
-    /// Whether it is an array.
+    // Whether it is an array.
     pub(crate) fn is_array(&self) -> bool
         ensures { result ≡ is_array self.now }
     {
@@ -95,7 +95,7 @@ impl Kind {
         }
     }
 
-    /// Whether it is an object.
+    // Whether it is an object.
     pub(crate) fn is_object(&self) -> bool
         ensures { result ≡ is_object self.now }
     {
@@ -105,7 +105,7 @@ impl Kind {
         }
     }
 
-    /// Each number is of 64 bits, and each byte string has fewer than 2^32 bytes.
+    // Each number is of 64 bits, and each byte string has fewer than 2^32 bytes.
     pub(crate) fn check(&self)
         ensures { children_of self.now ≡ [] → FitsKind self.now }
     {
@@ -123,7 +123,7 @@ impl Kind {
         }
     }
 
-    /// Adds a member to a container. Where there is no memory, the key comes back.
+    // Adds a member to a container. Where there is no memory, the key comes back.
     pub(crate) fn add(&mut self, key: Key, child: Child) -> Result<(), Key>
         requires room { length (children_of self.old) + 1 < 2 ^ 32 }
         requires named { is_object self.old ≡ true → is_name key ≡ true }
@@ -144,7 +144,7 @@ impl Kind {
         }
     }
 
-    /// The words of the place in an image.
+    // The words of the place in an image.
     pub(crate) fn cells(&self) -> u64
         requires { cells_of self.now < 2 ^ 62 }
         ensures { result ≡ cells_of self.now }
@@ -158,7 +158,7 @@ impl Kind {
         }
     }
 
-    /// An equal place.
+    // An equal place.
     pub(crate) fn try_copy(&self, alloc: Global) -> Result<Kind, AllocError>
         ensures { IfOk result (λ copy. copy ≡ self.now) }
     {
@@ -176,7 +176,8 @@ impl Kind {
         }
     }
 
-    /// The same place of a graph whose numbers are lowered by so much. None where that names none of its places.
+    // The same place of a graph whose numbers are lowered by so much. None where that names none of
+    // its places.
     pub(crate) fn lowered(&self, alloc: Global, by: u32) -> Result<Option<Kind>, AllocError>
         ensures { IfOk result (λ lowered. lowered ≡ lowered_kind by self.now) }
     {
@@ -194,7 +195,8 @@ impl Kind {
             _ => Ok(Some(self.try_copy(alloc)?)),
         }
     }
-    /// Whether the two are equal.
+
+    // Whether the two are equal.
     pub(crate) fn same(&self, other: &Kind) -> bool
         ensures { IsTrue result ↔ (self.now ≡ other.now) }
     {
@@ -210,7 +212,8 @@ impl Kind {
             _ => false,
         }
     }
-    /// The place of the last member that is written here.
+
+    // The place of the last member that is written here.
     pub(crate) fn last_own(&self) -> Option<u32>
         ensures { result ≡ last_own None (children_of self.now) }
     {

@@ -1,11 +1,11 @@
 //! Value graphs as PHP's serialize notation numbers them, their keys, and PHP's string hash.
 #![tactic(auto)]
 
-mod assembly;
 mod builder;
 mod bytes;
 mod child;
 mod container;
+mod draft_steps;
 mod graph;
 mod item;
 mod key;
@@ -14,9 +14,8 @@ mod laws;
 mod members;
 mod numbers;
 mod props;
-mod steps;
 
-pub use builder::Builder;
+pub use builder::{Builder, LEVELS, MOST_VALUES};
 pub use bytes::Bytes;
 pub use child::Child;
 pub use graph::{Graph, block_words};
@@ -25,8 +24,5 @@ pub use key::Key;
 pub use kind::Kind;
 pub use laws::{graphs_are_written, written_graphs};
 pub use members::Members;
-pub use numbers::{hash_of, int_of_text, integer_texts};
+pub use numbers::{HASH_START, TOP_BIT, hash_of, hash_step, int_of_text, integer_texts};
 pub use props::Props;
-
-#[cfg(test)]
-mod tests;

@@ -1,6 +1,8 @@
 //! The members of an array.
 
-ghost use Rattle.std.specs.Prelude.{◌≡◌, ◌<◌, length, [], IsTrue, ◌↔◌, slice_get, Some, None, IfOk, OnOk, IfErr, OnErr, ◌+◌, ◌^◌, ◌∷◌, ◌++◌};
+ghost use Rattle.std.specs.Prelude.{◌≡◌, ◌<◌, length, slice_set, [], IsTrue, ◌↔◌, slice_get, Some, None, IfOk, OnOk, IfErr, OnErr, ◌+◌, ◌^◌, ◌∷◌, ◌++◌};
+ghost use Rattle.php_graph.specs.declared.key.Key.{Key};
+ghost use Rattle.php_graph.specs.declared.child.Child.{Child};
 ghost use Rattle.php_graph.specs.Graph.{lowered_members, has_key};
 ghost use Rattle.php_graph.specs.Keys.{HasKeys, HasMarks};
 ghost use Rattle.php_graph.specs.Kept.{last_own};
@@ -33,13 +35,31 @@ impl Model for Members {
 }
 
 impl Members {
-    /// No members. This takes no memory.
+    // No members. This takes no memory.
     pub(crate) fn new(alloc: Global) -> Members
         ensures { result ≡ [] }
     {
         Members {
             items: Vec::new(alloc),
         }
+    }
+
+    /// These members. It takes no memory.
+    pub fn from_vec(items: Vec<(Key, Child)>) -> Members
+        requires { length items.items < 2 ^ 32 }
+        ensures { result ≡ items.items }
+    {
+        Members { items }
+    }
+
+    /// Changes what the member with this number holds.
+    pub fn set_child(&mut self, i: u32, child: Child)
+        requires { i < length self.old }
+        ensures { (m : Key × Child) → slice_get self.old i ≡ Some m
+            → self.new ≡ slice_set self.old i (m.0, child) }
+    {
+        let item = &mut self.items[i as usize];
+        item.1 = child;
     }
 
     /// How many there are.
@@ -64,7 +84,8 @@ impl Members {
         let item = &self.items[i as usize];
         (&item.0, item.1)
     }
-    /// Adds a member. Where there is no memory, the key comes back.
+
+    // Adds a member. Where there is no memory, the key comes back.
     pub(crate) fn push(&mut self, key: Key, child: Child) -> Result<(), Key>
         requires { length self.old + 1 < 2 ^ 32 }
         ensures ok { OnOk result (self.new ≡ self.old ++ (key, child) ∷ []) }
@@ -80,7 +101,7 @@ impl Members {
         }
     }
 
-    /// The keys' marks.
+    // The keys' marks.
     pub(crate) fn mark_set(&self, alloc: Global) -> Result<BTreeSet<u64>, AllocError>
         ensures { IfOk result (HasMarks (map (λ m. m.0) self.now)) }
     {
@@ -91,7 +112,7 @@ impl Members {
         Ok(marks)
     }
 
-    /// The keys, for quick look-ups.
+    // The keys, for quick look-ups.
     pub(crate) fn key_set(&self, alloc: Global) -> Result<BTreeSet<Key>, AllocError>
         ensures { IfOk result (HasKeys (map (λ m. m.0) self.now)) }
     {
@@ -102,7 +123,7 @@ impl Members {
         Ok(set)
     }
 
-    /// Whether the key is there.
+    // Whether the key is there.
     pub(crate) fn has_key(&self, key: &Key) -> bool
         ensures { result ≡ has_key (map (λ m. m.0) self.now) key.now }
     {
@@ -114,7 +135,7 @@ impl Members {
         false
     }
 
-    /// The words of the members in an image.
+    // The words of the members in an image.
     pub(crate) fn cells(&self) -> u64
         requires { sum_by (λ m. 1 + key_cells m.0) self.now < 2 ^ 62 }
         ensures { result ≡ sum_by (λ m. 1 + key_cells m.0) self.now }
@@ -126,7 +147,7 @@ impl Members {
         cells
     }
 
-    /// Equal members.
+    // Equal members.
     pub(crate) fn try_copy(&self, alloc: Global) -> Result<Members, AllocError>
         ensures { IfOk result (λ copy. copy ≡ self.now) }
     {
@@ -137,8 +158,8 @@ impl Members {
         Ok(Members { items })
     }
 
-    /// The same members in a graph whose numbers are lowered by so much. None where one of them is none of
-    /// its places.
+    // The same members in a graph whose numbers are lowered by so much. None where one of them is
+    // none of its places.
     pub(crate) fn lowered(&self, alloc: Global, by: u32) -> Result<Option<Members>, AllocError>
         ensures { IfOk result (λ lowered. lowered ≡ lowered_members by self.now) }
     {
@@ -151,13 +172,15 @@ impl Members {
         }
         Ok(Some(Members { items }))
     }
-    /// Whether these are the same members in the same order.
+
+    // Whether these are the same members in the same order.
     pub(crate) fn same(&self, other: &Members) -> bool
         ensures { IsTrue result ↔ (self.now ≡ other.now) }
     {
         self.items == other.items
     }
-    /// The place of the last one that is written here.
+
+    // The place of the last one that is written here.
     pub(crate) fn last_own(&self) -> Option<u32>
         ensures { result ≡ last_own None (map (λ m. m.1) self.now) }
     {

@@ -6,17 +6,19 @@ ghost use Rattle.std.specs.List.{list_all};
 ghost use Rattle.std.specs.Int.{w64};
 ghost use Rattle.std.specs.Fmt.{signed_decimal};
 ghost use Rattle.php_graph.specs.Graph.{is_class, is_class_byte};
-ghost use Rattle.php_graph.specs.Numbers.{int_of_text, hash_of, is_canonical, digits_after, natural_of, negative_of};
+ghost use Rattle.php_graph.specs.Numbers.{int_of_text, hash_of, hash_step, is_canonical, digits_after, natural_of, negative_of};
 
 const MINUS: u8 = b'-';
-/// Where a digit follows a number above this one, the number is above 2^63.
+// Where a digit follows a number above this one, the number is above 2^63.
 const LARGE: u64 = 1 << 60;
 
-const HASH_START: u64 = 5381;
+/// What PHP's string hash begins with.
+pub const HASH_START: u64 = 5381;
 
-pub(crate) const TOP_BIT: u64 = 1 << 63;
+/// The highest bit of a word. PHP's string hash has it set.
+pub const TOP_BIT: u64 = 1 << 63;
 
-/// Whether these are digits, at least one, with no zero before others.
+// Whether these are digits, at least one, with no zero before others.
 fn is_canonical(digits: &[u8]) -> bool
     ensures { result ≡ is_canonical digits.now }
 {
@@ -32,9 +34,10 @@ fn are_digits(digits: &[u8]) -> bool
     digits.iter().all(|digit| digit.is_ascii_digit())
 }
 
-/// The number that canonical digits write. There may be none where it is above 2^63.
+// The number that canonical digits write. There may be none where it is above 2^63.
 fn small_number(digits: &[u8]) -> Option<u64>
-    ensures { MatchOption result ((is_canonical digits.now ≡ false) ⊎ (2 ^ 63 < digits_after 0 digits.now))
+    ensures { MatchOption result
+        ((is_canonical digits.now ≡ false) ⊎ (2 ^ 63 < digits_after 0 digits.now))
         (λ n. (is_canonical digits.now ≡ true) × (n ≡ digits_after 0 digits.now)) }
 {
     if !is_canonical(digits) {
@@ -71,9 +74,9 @@ fn negative_of(digits: &[u8]) -> Option<i64>
     Some(-((number - 1) as i64) - 1)
 }
 
-/// The integer whose canonical decimal the text is, as PHP takes an array's string key for an integer:
-/// digits without a leading zero, `-` before a number below 0, `0` alone, in the range of `i64`. No other
-/// text gives one.
+/// The integer whose canonical decimal the text is, as PHP takes an array's string key for an
+/// integer: digits without a leading zero, `-` before a number below 0, `0` alone, in the range of
+/// `i64`. No other text gives one.
 #[tactic(auto, unfolding(crate::specs::Numbers::int_of_text))]
 pub fn int_of_text(text: &[u8]) -> Option<i64>
     ensures { result ≡ int_of_text text.now }
@@ -92,11 +95,13 @@ pub fn int_of_text(text: &[u8]) -> Option<i64>
 
 /// A text gives an integer exactly where it is what the integer is written as.
 pub fn integer_texts()
-    ensures written { (text : List ℕ) (n : ℤ) → int_of_text text ≡ Some n → (text ≡ signed_decimal n) × FitsSigned w64 n }
+    ensures written { (text : List ℕ) (n : ℤ) → int_of_text text ≡ Some n
+        → (text ≡ signed_decimal n) × FitsSigned w64 n }
     ensures read { (n : ℤ) → FitsSigned w64 n → int_of_text (signed_decimal n) ≡ Some n }
 {}
 
-/// Whether a class may have this name: at least one byte, each a digit, a letter, `_`, `\\` or from 0x7F on.
+// Whether a class may have this name: at least one byte, each a digit, a letter, `_`, `\\` or from
+// 0x7F on.
 pub(crate) fn is_class(name: &[u8]) -> bool
     ensures { result ≡ is_class name.now }
 {
@@ -118,14 +123,22 @@ fn is_class_byte(byte: u8) -> bool
     }
 }
 
-/// PHP's string hash, which begins with 5381, takes `hash * 33 + byte` for each byte, and has its top bit set.
+/// One step of PHP's string hash: `hash * 33 + byte`, modulo 2^64.
+pub fn hash_step(hash: u64, byte: u8) -> u64
+    ensures { result ≡ hash_step hash byte }
+{
+    hash.wrapping_mul(33).wrapping_add(u64::from(byte))
+}
+
+/// PHP's string hash, which begins with 5381, takes `hash * 33 + byte` for each byte, and has its
+/// top bit set. PHP's source calls it DJBX33A (`zend_inline_hash_func`).
 #[tactic(auto, unfolding(crate::specs::Numbers::hash_of))]
 pub fn hash_of(key: &[u8]) -> u64
     ensures { result ≡ hash_of key.now }
 {
     let mut hash = HASH_START;
     for byte in key {
-        hash = hash.wrapping_mul(33).wrapping_add(u64::from(*byte));
+        hash = hash_step(hash, *byte);
     }
     hash | TOP_BIT
 }

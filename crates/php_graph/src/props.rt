@@ -1,7 +1,8 @@
 //! The properties of an object.
 
-ghost use Rattle.std.specs.Prelude.{◌≡◌, ◌<◌, length, [], IsTrue, ◌↔◌, slice_get, Some, None, IfOk, OnOk, IfErr, OnErr, ◌+◌, ◌^◌, ◌∷◌, ◌++◌, map, sum_by};
+ghost use Rattle.std.specs.Prelude.{◌≡◌, ◌<◌, List, ℕ, length, slice_set, [], IsTrue, ◌↔◌, slice_get, Some, None, IfOk, OnOk, IfErr, OnErr, ◌+◌, ◌^◌, ◌∷◌, ◌++◌, map, sum_by};
 ghost use Rattle.php_graph.specs.declared.key.Key.TheVariants.{Str};
+ghost use Rattle.php_graph.specs.declared.child.Child.{Child};
 ghost use Rattle.php_graph.specs.Graph.{lowered_members, has_key};
 ghost use Rattle.php_graph.specs.Keys.{HasKeys, HasMarks};
 ghost use Rattle.php_graph.specs.Kept.{last_own};
@@ -35,12 +36,32 @@ impl Model for Props {
 }
 
 impl Props {
-    /// No properties.
+    // No properties.
     pub(crate) fn new(alloc: Global) -> Result<Props, AllocError>
         ensures { IfOk result (λ props. props ≡ []) }
     {
         let items = Box::new(alloc, Vec::new(alloc))?;
         Ok(Props { items })
+    }
+
+    /// These properties.
+    pub fn from_vec(alloc: Global, items: Vec<(Bytes, Child)>) -> Result<Props, AllocError>
+        requires { length items.items < 2 ^ 32 }
+        ensures { IfOk result (λ props. props ≡ items.items) }
+    {
+        let items = Box::new(alloc, items)?;
+        Ok(Props { items })
+    }
+
+    /// Changes what the property with this number holds.
+    pub fn set_child(&mut self, i: u32, child: Child)
+        requires { i < length self.old }
+        ensures { (p : List ℕ × Child) → slice_get self.old i ≡ Some p
+            → self.new ≡ slice_set self.old i (p.0, child) }
+    {
+        let items: &mut Vec<(Bytes, Child)> = &mut self.items;
+        let item = &mut items[i as usize];
+        item.1 = child;
     }
 
     /// How many there are.
@@ -66,7 +87,8 @@ impl Props {
         let item = &items[i as usize];
         (&item.0, item.1)
     }
-    /// Adds a property. Where there is no memory, the name comes back.
+
+    // Adds a property. Where there is no memory, the name comes back.
     pub(crate) fn push(&mut self, name: Bytes, child: Child) -> Result<(), Bytes>
         requires { length self.old + 1 < 2 ^ 32 }
         ensures ok { OnOk result (self.new ≡ self.old ++ (name, child) ∷ []) }
@@ -82,7 +104,7 @@ impl Props {
         }
     }
 
-    /// The names' marks.
+    // The names' marks.
     pub(crate) fn mark_set(&self, alloc: Global) -> Result<BTreeSet<u64>, AllocError>
         ensures { IfOk result (HasMarks (map (λ p. Str p.0) self.now)) }
     {
@@ -94,7 +116,7 @@ impl Props {
         Ok(marks)
     }
 
-    /// The names, for quick look-ups.
+    // The names, for quick look-ups.
     pub(crate) fn key_set(&self, alloc: Global) -> Result<BTreeSet<Key>, AllocError>
         ensures { IfOk result (HasKeys (map (λ p. Str p.0) self.now)) }
     {
@@ -107,7 +129,7 @@ impl Props {
         Ok(set)
     }
 
-    /// Whether the name is there.
+    // Whether the name is there.
     pub(crate) fn has_name(&self, name: &Bytes) -> bool
         ensures { result ≡ has_key (map (λ p. Str p.0) self.now) (Str name.now) }
     {
@@ -120,7 +142,7 @@ impl Props {
         false
     }
 
-    /// The words of the properties in an image.
+    // The words of the properties in an image.
     pub(crate) fn cells(&self) -> u64
         requires { sum_by (λ p. 2 + words_in (length p.0)) self.now < 2 ^ 62 }
         ensures { result ≡ sum_by (λ p. 2 + words_in (length p.0)) self.now }
@@ -133,7 +155,7 @@ impl Props {
         cells
     }
 
-    /// Equal properties.
+    // Equal properties.
     pub(crate) fn try_copy(&self, alloc: Global) -> Result<Props, AllocError>
         ensures { IfOk result (λ copy. copy ≡ self.now) }
     {
@@ -146,8 +168,8 @@ impl Props {
         Ok(Props { items })
     }
 
-    /// The same properties in a graph whose numbers are lowered by so much. None where one of them is none of
-    /// its places.
+    // The same properties in a graph whose numbers are lowered by so much. None where one of them
+    // is none of its places.
     pub(crate) fn lowered(&self, alloc: Global, by: u32) -> Result<Option<Props>, AllocError>
         ensures { IfOk result (λ lowered. lowered ≡ lowered_members by self.now) }
     {
@@ -162,13 +184,15 @@ impl Props {
         let items = Box::new(alloc, items)?;
         Ok(Some(Props { items }))
     }
-    /// Whether these are the same properties in the same order.
+
+    // Whether these are the same properties in the same order.
     pub(crate) fn same(&self, other: &Props) -> bool
         ensures { IsTrue result ↔ (self.now ≡ other.now) }
     {
         self.items == other.items
     }
-    /// The place of the last one that is written here.
+
+    // The place of the last one that is written here.
     pub(crate) fn last_own(&self) -> Option<u32>
         ensures { result ≡ last_own None (map (λ m. m.1) self.now) }
     {

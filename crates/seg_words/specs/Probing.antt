@@ -9,17 +9,18 @@ pub record Goes (old new : Aside) : Type 0 where
   pub closes : (b : ℕ) → is_named new.windows b ≡ true → is_named old.windows b ≡ true
   pub holds : (b : ℕ) → has b (held_blocks old) ≡ true → has b (held_blocks new) ≡ true
 
--- What is decided of the block at a place: a window names it exactly where it is held. No later probe of
--- the event changes this.
+-- What is decided of the block at a place: a window names it exactly where it is held. No later
+-- probe of the event changes this.
 abbrev pub IsDecided : Aside → ℕ → Type 0
 IsDecided aside at = is_named aside.windows at ≡ has at (held_blocks aside)
 
--- The block at `at` was probed: it is decided, and it alone may be refused that was not before, which it
--- is only where it is held.
+-- The block at `at` was probed: it is decided, and it alone may be refused that was not before,
+-- which it is only where it is held.
 pub record Met (old new : Aside) (at : ℕ) : Type 0 where
   pub goes : Goes old new
   pub decided : IsDecided new at
-  pub refused : (b : ℕ) → has b new.refused ≡ true → ((b ≡ at) × (has at (held_blocks new) ≡ true)) ⊎ (has b old.refused ≡ true)
+  pub refused : (b : ℕ) → has b new.refused ≡ true
+      → ((b ≡ at) × (has at (held_blocks new) ≡ true)) ⊎ (has b old.refused ≡ true)
 
 -- where nothing changes, nothing goes
 pub goes_nowhere : (old new : Aside) → new ≡ old → Goes old new

@@ -8,8 +8,8 @@ use std::alloc::{AllocError, Global};
 
 /// Words in memory with a window for each of 64 workers, for one thread that plays them all.
 ///
-/// What is held for a worker is the place of the block that it may still copy from. It becomes the worker's
-/// window when an event begins that meets the worker. Only making the words takes memory.
+/// What is held for a worker is the place of the block that it may still copy from. It becomes the
+/// worker's window when an event begins that meets the worker. Only making the words takes memory.
 #[derive(Drop)]
 pub struct HeldWords {
     items: Vec<u64>,
@@ -58,8 +58,8 @@ impl HeldWords {
         self.held[worker as usize] = at;
     }
 
-    /// Begins an event that meets the workers of the mask, the worker 0 lowest. Their windows are what is
-    /// held for them, all others are closed, and no place is refused.
+    /// Begins an event that meets the workers of the mask, the worker 0 lowest. Their windows are
+    /// what is held for them, all others are closed, and no place is refused.
     pub fn begin(&mut self, mask: u64)
         ensures aside { ⟦<HeldWords as WordsIn>⟧.aside self.new
             ≡ begun mask (⟦<HeldWords as WordsIn>⟧.rest self.old) }
@@ -100,7 +100,8 @@ impl WordsIn for HeldWords {
 
     ghost words = { λ s. s.items.items };
 
-    ghost aside = { λ s. record { windows = s.windows; mask = s.mask; refused = drop s.left s.marks } };
+    ghost aside = { λ s.
+        record { windows = s.windows; mask = s.mask; refused = drop s.left s.marks } };
 
     ghost rest = { λ s. s.held };
 
@@ -124,8 +125,8 @@ impl Segment for HeldWords {
         self.mask
     }
 
-    /// Tells whether no window names the block. The workers with a window are met already, so the mask and
-    /// the windows stay.
+    /// Tells whether no window names the block. The workers with a window are met already, so the
+    /// mask and the windows stay.
     fn probe(&mut self, at: u32) -> bool
         requires block { MayProbe (⟦<HeldWords as WordsIn>⟧.words self.old)
             (⟦<HeldWords as WordsIn>⟧.aside self.old).windows at }

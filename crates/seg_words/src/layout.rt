@@ -1,7 +1,8 @@
 ghost use Rattle.std.specs.Prelude.{◌≡◌};
 ghost use Rattle.seg_words.specs.Layout.{words_in};
 
-/// The words of an entry's head. The key follows, eight bytes a word, and then the image of the value.
+/// The words of an entry's head. The key follows, eight bytes a word, and then the image of the
+/// value.
 pub const HEAD_WORDS: u32 = 12;
 
 /// Where an entry's head has the length of its key, in bytes.

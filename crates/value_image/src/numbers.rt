@@ -8,7 +8,7 @@ ghost use Rattle.value_image.specs.Reading.{AllBelow, IsBelow, IsReadOf, renumbe
 use php_graph::{Child, Kind, Members, Props};
 use std::alloc::{AllocError, Global};
 
-/// The member with the number that the table has at its offset.
+// The member with the number that the table has at its offset.
 fn renumbered(child: Child, table: &[u32]) -> Child
     requires { number_of child < length table.now }
     ensures { result ≡ renumbered_child (slice_index table.now) child }
@@ -19,7 +19,7 @@ fn renumbered(child: Child, table: &[u32]) -> Child
     }
 }
 
-/// Gives each member its number.
+// Gives each member its number.
 fn renumber_members(members: &mut Members, table: &[u32])
     requires { AllBelow (length table.now) members.old }
     ensures { members.new ≡ map (renumbered_member (slice_index table.now)) members.old }
@@ -30,7 +30,7 @@ fn renumber_members(members: &mut Members, table: &[u32])
     }
 }
 
-/// Gives each property its number.
+// Gives each property its number.
 fn renumber_properties(props: &mut Props, table: &[u32])
     requires { AllBelow (length table.now) props.old }
     ensures { props.new ≡ map (renumbered_member (slice_index table.now)) props.old }
@@ -41,7 +41,7 @@ fn renumber_properties(props: &mut Props, table: &[u32])
     }
 }
 
-/// Gives what stands at a place its numbers.
+// Gives what stands at a place its numbers.
 fn renumber_place(kind: &mut Kind, table: &[u32])
     requires { IsBelow (length table.now) kind.old }
     ensures { kind.new ≡ renumbered_kind (slice_index table.now) kind.old }
@@ -54,7 +54,7 @@ fn renumber_place(kind: &mut Kind, table: &[u32])
     }
 }
 
-/// Gives all places their numbers.
+// Gives all places their numbers.
 fn renumber_places(places: &mut Vec<Kind>, table: &[u32])
     requires { (i : ℕ) (kind : Kind) → slice_get places.old.items i ≡ Some kind
         → IsBelow (length table.now) kind }
@@ -65,7 +65,7 @@ fn renumber_places(places: &mut Vec<Kind>, table: &[u32])
     }
 }
 
-/// A table of so many words that has the number of each place, from 1, at the place's offset.
+// A table of so many words that has the number of each place, from 1, at the place's offset.
 fn table_of(alloc: Global, offsets: &[u64], len: u32) -> Result<Vec<u32>, AllocError>
     requires few { length offsets.now < 2 ^ 32 }
     requires below { (i : ℕ) → i < length offsets.now → slice_index offsets.now i < len }
@@ -82,7 +82,7 @@ fn table_of(alloc: Global, offsets: &[u64], len: u32) -> Result<Vec<u32>, AllocE
     Ok(table)
 }
 
-/// Gives the places that were read their numbers.
+// Gives the places that were read their numbers.
 pub(crate) fn number(
     alloc: Global,
     places: &mut Vec<Kind>,

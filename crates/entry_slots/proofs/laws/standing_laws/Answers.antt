@@ -1,6 +1,6 @@
 use Rattle.entry_slots.proofs.Opening.{sound, listed_copied, block_inside, blocks_lie_apart}
 use Rattle.entry_slots.proofs.Places.{listed_one}
-use Rattle.entry_slots.proofs.Walking.{walked}
+use Rattle.entry_slots.proofs.Walking.{walked, empty}
 use Rattle.entry_slots.proofs.laws.standing_laws.Goals as goal
 
 pub returns-clause-sound : goal.returns-clause-sound
@@ -20,3 +20,6 @@ returns-clause-one c = listed_one
 
 pub returns-clause-walked : goal.returns-clause-walked
 returns-clause-walked c = walked
+
+pub returns-clause-empty : goal.returns-clause-empty
+returns-clause-empty c = empty

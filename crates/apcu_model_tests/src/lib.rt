@@ -1,0 +1,7 @@
+//! Tests of the plain cache and of what stands beside it.
+#![tactic(auto)]
+
+#[cfg(test)]
+mod play;
+#[cfg(test)]
+mod tests;

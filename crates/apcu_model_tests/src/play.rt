@@ -1,0 +1,267 @@
+ghost use Rattle.apcu_model.specs.Conf.{IsGood};
+
+use apcu_model::*;
+use php_graph::{Builder, Bytes, Graph, Item, Kind, Wants};
+use std::alloc::Global;
+use std::process::Abort;
+use std::test::Fail;
+
+fn graph(rt: &impl Abort, alloc: Global, item: Item) -> Result<Graph, Fail> {
+    let mut builder = Builder::new(alloc);
+    assert!(rt; builder.wants().permits(&item));
+    builder.push(item)?;
+    assert!(rt; builder.wants() == Wants::Done);
+    Ok(builder.seal())
+}
+
+// The number, or a string of so many bytes.
+#[derive(Clone, Copy)]
+pub(crate) enum Value {
+    Int(i64),
+    Text(usize),
+}
+
+pub(crate) fn value_of(rt: &impl Abort, alloc: Global, value: Value) -> Result<Graph, Fail> {
+    match value {
+        Value::Int(n) => graph(rt, alloc, Item::Int(n)),
+        Value::Text(len) => {
+            assert!(rt; len < 1 << 20);
+            let bytes = vec![in alloc; b'z'; len]?;
+            graph(rt, alloc, Item::Str(Bytes::of(alloc, &bytes)?))
+        }
+    }
+}
+
+// One cache that is asked, and one that takes over and lends: both answer the same.
+#[derive(Drop)]
+struct Pair {
+    alloc: Global,
+    asked: Plain,
+    lending: Plain,
+}
+
+impl Pair {
+    fn new(alloc: Global, conf: &Conf) -> Pair
+        requires { IsGood conf.now }
+    {
+        Pair {
+            alloc,
+            asked: Plain::new(alloc, conf),
+            lending: Plain::new(alloc, conf),
+        }
+    }
+}
+
+// The key of this number.
+pub(crate) fn key(alloc: Global, name: u8) -> Result<Bytes, Fail> {
+    Ok(Bytes::of(alloc, &[b'k', b'0' + name / 10, b'0' + name % 10])?)
+}
+
+fn asked(
+    alloc: Global,
+    key: &Bytes,
+    value: &Graph,
+    ttl: u32,
+    exclusive: bool,
+) -> Result<Request, Fail> {
+    Ok(Request::Store {
+        key: Bytes::of(alloc, key.as_slice())?,
+        value: value.try_copy(alloc)?,
+        ttl,
+        exclusive,
+    })
+}
+
+fn flag(rt: &impl Abort, reply: Reply) -> bool {
+    match reply {
+        Reply::Flag(done) => done,
+        _ => panic!(rt; "it is answered by a flag"),
+    }
+}
+
+fn store(
+    rt: &impl Abort,
+    pair: &mut Pair,
+    key: Bytes,
+    value: Graph,
+    how: (u32, bool, u64),
+) -> Result<bool, Fail> {
+    let (ttl, exclusive, t) = how;
+    let request = asked(pair.alloc, &key, &value, ttl, exclusive)?;
+    let stored = pair.lending.store(key, value, ttl, exclusive, t)?;
+    let told = pair.asked.ask(&request, t)?;
+    assert_eq!(rt; flag(rt, told), stored);
+    Ok(stored)
+}
+
+fn number_of(value: &Graph) -> i64 {
+    if value.places() == 0 {
+        return -1;
+    }
+    match value.kind(1) {
+        Kind::Int(n) => *n,
+        _ => -1,
+    }
+}
+
+fn lent(plain: &mut Plain, key: &Bytes, t: u64) -> Option<i64> {
+    let number = match plain.live_value(key.as_slice(), t) {
+        Some(value) => Some(number_of(value)),
+        None => None,
+    };
+    plain.note_fetch(key.as_slice(), t);
+    number
+}
+
+fn number_in(rt: &impl Abort, reply: Reply) -> Option<i64> {
+    match reply {
+        Reply::Found(value) => Some(number_of(&value)),
+        Reply::Absent => None,
+        _ => panic!(rt; "a fetch is answered by a value or its absence"),
+    }
+}
+
+// The number under the key; `None` where it is absent, and -1 for another value.
+fn found(rt: &impl Abort, pair: &mut Pair, key: Bytes, t: u64) -> Result<Option<i64>, Fail> {
+    let lent = lent(&mut pair.lending, &key, t);
+    let told = pair.asked.ask(&Request::Fetch(key), t)?;
+    assert_eq!(rt; number_in(rt, told), lent);
+    Ok(lent)
+}
+
+fn exists(rt: &impl Abort, pair: &mut Pair, key: Bytes, t: u64) -> Result<bool, Fail> {
+    let there = pair.lending.exists(key.as_slice(), t);
+    let told = pair.asked.ask(&Request::Exists(key), t)?;
+    assert_eq!(rt; flag(rt, told), there);
+    Ok(there)
+}
+
+fn delete(rt: &impl Abort, pair: &mut Pair, key: Bytes, t: u64) -> Result<bool, Fail> {
+    let done = pair.lending.delete(key.as_slice(), t);
+    let told = pair.asked.ask(&Request::Delete(key), t)?;
+    assert_eq!(rt; flag(rt, told), done);
+    Ok(done)
+}
+
+fn clear(rt: &impl Abort, pair: &mut Pair, t: u64) -> Result<(), Fail> {
+    pair.lending.clear();
+    let told = pair.asked.ask(&Request::Clear, t)?;
+    assert!(rt; flag(rt, told));
+    Ok(())
+}
+
+// A call under the key of that number, and what it answers.
+#[derive(Clone, Copy)]
+pub(crate) enum Call {
+    // with this ttl
+    Store(u8, Value, u32, bool),
+    Add(u8, Value, bool),
+    Fetch(u8, Option<i64>),
+    Exists(u8, bool),
+    Delete(u8, bool),
+    Clear,
+    // the number 1 under the keys 1 to 30: they fill 480 words; the first has this ttl
+    Fill(u32),
+    // hits, misses, inserts, expunges and entries
+    Counts(u64, u64, u64, u64, u64),
+}
+
+fn put(
+    rt: &impl Abort,
+    pair: &mut Pair,
+    name: u8,
+    value: Value,
+    how: (u32, bool, u64),
+) -> Result<bool, Fail> {
+    let value = value_of(rt, pair.alloc, value)?;
+    let key = key(pair.alloc, name)?;
+    store(rt, pair, key, value, how)
+}
+
+fn fill(rt: &impl Abort, pair: &mut Pair, first: u32, t: u64) -> Result<(), Fail> {
+    for name in 1..31u8 {
+        let ttl = if name == 1 { first } else { 0 };
+        let stored = put(rt, pair, name, Value::Int(1), (ttl, false, t))?;
+        assert!(rt; stored);
+    }
+    Ok(())
+}
+
+fn answer(rt: &impl Abort, pair: &mut Pair, name: u8, call: Call, t: u64) -> Result<(), Fail> {
+    let key = key(pair.alloc, name)?;
+    match call {
+        Call::Fetch(_, expected) => {
+            let number = found(rt, pair, key, t)?;
+            assert_eq!(rt; number, expected);
+        }
+        Call::Exists(_, expected) => {
+            let there = exists(rt, pair, key, t)?;
+            assert_eq!(rt; there, expected);
+        }
+        Call::Delete(_, expected) => {
+            let done = delete(rt, pair, key, t)?;
+            assert_eq!(rt; done, expected);
+        }
+        _ => {}
+    }
+    Ok(())
+}
+
+fn count(rt: &impl Abort, pair: &Pair, counts: Counts) {
+    assert_eq!(rt; pair.asked.counts(), counts);
+    assert_eq!(rt; pair.lending.counts(), counts);
+}
+
+fn do_call(rt: &impl Abort, pair: &mut Pair, call: Call, t: u64) -> Result<(), Fail> {
+    match call {
+        Call::Store(name, v, ttl, expected) => {
+            let done = put(rt, pair, name, v, (ttl, false, t))?;
+            assert_eq!(rt; done, expected);
+        }
+        Call::Add(name, v, expected) => {
+            let done = put(rt, pair, name, v, (0, true, t))?;
+            assert_eq!(rt; done, expected);
+        }
+        Call::Fetch(name, _) | Call::Exists(name, _) | Call::Delete(name, _) => {
+            answer(rt, pair, name, call, t)?;
+        }
+        Call::Clear => clear(rt, pair, t)?,
+        Call::Fill(ttl) => fill(rt, pair, ttl, t)?,
+        Call::Counts(hits, misses, inserts, expunges, entries) => count(
+            rt,
+            pair,
+            Counts {
+                hits,
+                misses,
+                inserts,
+                expunges,
+                entries,
+            },
+        ),
+    }
+    Ok(())
+}
+
+pub(crate) fn small(ttl: u32) -> Conf
+    ensures { IsGood result }
+{
+    Conf {
+        words: 512,
+        slots: 32,
+        ttl,
+    }
+}
+
+// The calls in turn at their times, in a new cache with this limit.
+pub(crate) fn play(
+    rt: &impl Abort,
+    alloc: Global,
+    limit: u32,
+    rows: &[(u64, Call)],
+) -> Result<(), Fail> {
+    let mut pair = Pair::new(alloc, &small(limit));
+    for (t, row) in rows {
+        do_call(rt, &mut pair, *row, *t)?;
+    }
+    Ok(())
+}

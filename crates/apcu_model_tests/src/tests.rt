@@ -1,0 +1,244 @@
+use crate::play::{Call, Value, key, play, small, value_of};
+use apcu_model::*;
+use php_graph::Bytes;
+use std::alloc::Global;
+use std::process::Abort;
+use std::test::Fail;
+
+#[test]
+fn stores_and_fetches(rt: HostRuntime) -> Result<(), Fail> {
+    play(
+        &rt,
+        rt.alloc(),
+        0,
+        &[
+            (100, Call::Fetch(1, None)),
+            (100, Call::Store(1, Value::Int(5), 0, true)),
+            (100, Call::Fetch(1, Some(5))),
+            (100, Call::Store(1, Value::Int(7), 0, true)),
+            (100, Call::Fetch(1, Some(7))),
+            (100, Call::Add(1, Value::Int(9), false)),
+            (100, Call::Fetch(1, Some(7))),
+            (100, Call::Counts(3, 1, 2, 0, 1)),
+        ],
+    )
+}
+
+#[test]
+fn exists_deletes_and_clears(rt: HostRuntime) -> Result<(), Fail> {
+    play(
+        &rt,
+        rt.alloc(),
+        0,
+        &[
+            (100, Call::Exists(1, false)),
+            (100, Call::Delete(1, false)),
+            (100, Call::Store(1, Value::Int(5), 0, true)),
+            (100, Call::Store(2, Value::Int(6), 0, true)),
+            (100, Call::Exists(1, true)),
+            (100, Call::Delete(1, true)),
+            (100, Call::Exists(1, false)),
+            (100, Call::Fetch(1, None)),
+            (100, Call::Fetch(2, Some(6))),
+            (100, Call::Counts(1, 1, 2, 0, 1)),
+            (100, Call::Clear),
+            (100, Call::Exists(2, false)),
+            (100, Call::Counts(0, 0, 0, 0, 0)),
+        ],
+    )
+}
+
+#[test]
+fn retires(rt: HostRuntime) -> Result<(), Fail> {
+    let mut plain = Plain::new(rt.alloc(), &small(0));
+    assert!(rt; matches!(plain.ask(&Request::Retire, 0)?, Reply::Ended));
+    Ok(())
+}
+
+#[test]
+fn fits_what_an_empty_segment_takes(rt: HostRuntime) -> Result<(), Fail> {
+    play(
+        &rt,
+        rt.alloc(),
+        0,
+        &[
+            (100, Call::Store(1, Value::Int(1), 0, true)),
+            (100, Call::Store(2, Value::Text(3_729), 0, false)),
+            (100, Call::Fetch(1, Some(1))),
+            (100, Call::Counts(1, 0, 1, 0, 1)),
+            (100, Call::Store(2, Value::Text(3_728), 0, true)),
+            (100, Call::Fetch(1, None)),
+            (100, Call::Fetch(2, Some(-1))),
+            (100, Call::Counts(1, 1, 1, 1, 1)),
+        ],
+    )
+}
+
+#[test]
+fn makes_room_by_all_rows(rt: HostRuntime) -> Result<(), Fail> {
+    play(
+        &rt,
+        rt.alloc(),
+        0,
+        &[
+            (100, Call::Fill(0)),
+            (100, Call::Counts(0, 0, 30, 0, 30)),
+            (100, Call::Store(31, Value::Int(1), 0, true)),
+            (100, Call::Counts(0, 0, 1, 1, 1)),
+            (100, Call::Fetch(1, None)),
+            (100, Call::Fetch(31, Some(1))),
+            (100, Call::Clear),
+            (100, Call::Counts(0, 0, 0, 0, 0)),
+        ],
+    )
+}
+
+#[test]
+fn makes_room_by_expired_rows(rt: HostRuntime) -> Result<(), Fail> {
+    play(
+        &rt,
+        rt.alloc(),
+        10,
+        &[
+            (100, Call::Fill(5)),
+            (106, Call::Store(31, Value::Int(1), 0, true)),
+            (106, Call::Fetch(2, Some(1))),
+            (106, Call::Fetch(1, None)),
+            (106, Call::Fetch(31, Some(1))),
+            (106, Call::Counts(2, 1, 31, 0, 30)),
+        ],
+    )
+}
+
+#[test]
+fn expires(rt: HostRuntime) -> Result<(), Fail> {
+    play(
+        &rt,
+        rt.alloc(),
+        0,
+        &[
+            (100, Call::Store(1, Value::Int(1), 10, true)),
+            (110, Call::Fetch(1, Some(1))),
+            (111, Call::Fetch(1, None)),
+            (111, Call::Exists(1, false)),
+            (111, Call::Delete(1, false)),
+            (111, Call::Counts(1, 1, 1, 0, 1)),
+            (111, Call::Add(1, Value::Int(2), true)),
+            (111, Call::Add(1, Value::Int(3), false)),
+            (111, Call::Fetch(1, Some(2))),
+        ],
+    )
+}
+
+// The cache's own limit is 10 seconds from the last use on, which a fetch renews.
+#[test]
+fn finds_a_row_that_was_not_used(rt: HostRuntime) -> Result<(), Fail> {
+    play(
+        &rt,
+        rt.alloc(),
+        10,
+        &[
+            (100, Call::Store(1, Value::Int(1), 0, true)),
+            (111, Call::Exists(1, true)),
+            (111, Call::Add(1, Value::Int(2), false)),
+            (111, Call::Fetch(1, Some(1))),
+            (111, Call::Delete(1, true)),
+            (111, Call::Exists(1, false)),
+        ],
+    )
+}
+
+// Two blocks that are given back beside each other are one gap, whichever of them goes first.
+#[test]
+fn merges_gaps(rt: HostRuntime) -> Result<(), Fail> {
+    for (first, second) in [(1, 2), (2, 1)] {
+        play(
+            &rt,
+            rt.alloc(),
+            0,
+            &[
+                (100, Call::Store(1, Value::Text(1_168), 0, true)),
+                (100, Call::Store(2, Value::Text(1_168), 0, true)),
+                (100, Call::Store(3, Value::Text(1_168), 0, true)),
+                (100, Call::Delete(first, true)),
+                (100, Call::Delete(second, true)),
+                (100, Call::Store(4, Value::Text(2_448), 0, true)),
+                (100, Call::Exists(3, true)),
+                (100, Call::Counts(0, 0, 4, 0, 2)),
+            ],
+        )?;
+    }
+    Ok(())
+}
+
+fn two_pairs(rt: &impl Abort, alloc: Global) -> Result<Pairs, Fail> {
+    let mut pairs = Pairs::new(alloc);
+    for (name, value) in [(1, Value::Int(1)), (2, Value::Text(3_729))] {
+        let key = key(alloc, name)?;
+        let value = value_of(rt, alloc, value)?;
+        assert!(rt; pairs.len() < 2);
+        pairs.push(key, value)?;
+    }
+    Ok(pairs)
+}
+
+// Of two pairs the second is too large: a store of both tells its key alone.
+#[test]
+fn stores_pairs(rt: HostRuntime) -> Result<(), Fail> {
+    let alloc = rt.alloc();
+    let pairs = two_pairs(&rt, alloc)?;
+    assert_eq!(rt; pairs.len(), 2);
+    assert_eq!(rt; pairs.at(1).1.places(), 1);
+    let mut plain = Plain::new(alloc, &small(0));
+    let mut failed = Keys::new(alloc);
+    assert!(rt; failed.is_empty());
+    assert_eq!(rt; pairs.as_slice().len(), 2);
+    for (key, value) in pairs.into_vec() {
+        let name = Bytes::of(alloc, key.as_slice())?;
+        if !plain.store(key, value, 0, false, 100)? {
+            assert!(rt; failed.len() < 2);
+            failed.push(name)?;
+        }
+    }
+    let failed = Keys::from_vec(failed.into_vec());
+    assert_eq!(rt; failed.as_slice().len(), 1);
+    assert_eq!(rt; failed.len(), 1);
+    assert_eq!(rt; failed.at(0).as_slice(), b"k02".as_slice());
+    Ok(())
+}
+
+// A fetch of no keys is no event.
+#[test]
+fn fetches_no_keys(rt: HostRuntime) -> Result<(), Fail> {
+    let alloc = rt.alloc();
+    let mut plain = Plain::new(alloc, &small(0));
+    for key in Keys::new(alloc).into_vec() {
+        plain.note_fetch(key.as_slice(), 100);
+    }
+    assert_eq!(rt; plain.counts().misses, 0);
+    let none = Pairs::from_vec(Pairs::new(alloc).into_vec());
+    assert!(rt; none.is_empty());
+    Ok(())
+}
+
+#[test]
+fn lends_a_request(rt: HostRuntime) -> Result<(), Fail> {
+    let request = Request::Delete(key(rt.alloc(), 7)?);
+    match request.lent() {
+        Ask::Delete(key) => assert_eq!(rt; key, b"k07".as_slice()),
+        _ => panic!(rt; "a delete is lent as a delete"),
+    }
+    Ok(())
+}
+
+#[test]
+fn keeps_a_journal(rt: HostRuntime) -> Result<(), Fail> {
+    let mut journal = Journal::new(rt.alloc(), 2)?;
+    assert!(rt; journal.is_empty());
+    let mark = Mark { worker: 3, mask: 5 };
+    journal.push(mark);
+    assert_eq!(rt; journal.len(), 1);
+    assert_eq!(rt; journal.at(0), mark);
+    assert!(rt; small(0).good());
+    Ok(())
+}

@@ -1,0 +1,152 @@
+//! The steps of a builder, over the lists that it keeps.
+
+ghost use Rattle.std.specs.Prelude.{◌≡◌, ◌<◌, ◌+◌, ◌^◌, ◌++◌, ◌∷◌, [], length, reverse, true, OnOk, OnErr, Some, None, vec_len, vec_capacity};
+ghost use Rattle.std.specs.List.{AllByRecursion};
+ghost use Rattle.php_graph.specs.declared.child.Child.TheVariants.{Own};
+ghost use Rattle.php_graph.specs.Graph.{is_array_key, keys_of, FitsKey};
+ghost use Rattle.php_graph.specs.Keys.{KnowsKeys};
+ghost use Rattle.php_graph.specs.Building.{attached, innermost_fault, fault_in, IsAnswer};
+ghost use Rattle.php_graph.specs.Drafted.{Opens, places_of, CanAttach, KnowsAll, is_open_at};
+
+use crate::child::Child;
+use crate::container::Container;
+use crate::item::BuildFault;
+use crate::key::Key;
+use crate::kind::Kind;
+use crate::numbers::int_of_text;
+use std::alloc::{AllocError, Global};
+
+// Puts a value at the end, where there is room for it.
+pub(crate) fn put<T: Drop>(items: &mut Vec<T>, value: T)
+    requires { vec_len items.old < vec_capacity items.old }
+    ensures { items.new.items ≡ items.old.items ++ value ∷ [] }
+{
+    if let Err(_) = items.push(value) {
+        unreachable!()
+    }
+}
+
+// Notes a container that opens at this place, where there is room for it.
+pub(crate) fn open_container(containers: &mut Vec<Container>, place: u32, opens: bool)
+    requires { vec_len containers.old < vec_capacity containers.old }
+    ensures { Opens opens place containers.old.items containers.new.items }
+{
+    if opens {
+        put(containers, Container::new(place));
+    }
+}
+
+// Gives the innermost open container this member, under the key that waits.
+pub(crate) fn attach(
+    places: &mut Vec<Kind>,
+    containers: &[Container],
+    key: &mut Option<Key>,
+    child: Child,
+) -> Result<(), AllocError>
+    requires { CanAttach places.old.items (places_of containers.now) key.old }
+    ensures ok { OnOk result (places.new.items
+        ≡ attached places.old.items (places_of containers.now) key.old child) }
+    ensures used { OnOk result (key.new ≡ None) }
+    ensures err { OnErr result ((places.new.items ≡ places.old.items) × (key.new ≡ key.old)) }
+{
+    let Some(container) = containers.last() else {
+        return Ok(());
+    };
+    match key.take() {
+        None => Ok(()),
+        Some(name) => {
+            let kind = &mut places[(container.place - 1) as usize];
+            match kind.add(name, child) {
+                Ok(()) => Ok(()),
+                Err(name) => {
+                    *key = Some(name);
+                    Err(AllocError)
+                }
+            }
+        }
+    }
+}
+
+// Gives a value the next place, as a member of the innermost open container.
+pub(crate) fn push_place(
+    places: &mut Vec<Kind>,
+    containers: &[Container],
+    key: &mut Option<Key>,
+    kind: Kind,
+) -> Result<(), AllocError>
+    requires can { CanAttach places.old.items (places_of containers.now) key.old }
+    requires small { length places.old.items + 1 < 2 ^ 32 }
+    ensures ok { OnOk result (places.new.items
+        ≡ attached places.old.items (places_of containers.now) key.old
+        (Own (length places.old.items + 1)) ++ kind ∷ []) }
+    ensures used { OnOk result (key.new ≡ None) }
+    ensures err { OnErr result ((places.new.items ≡ places.old.items) × (key.new ≡ key.old)) }
+{
+    let place = places.len() as u32 + 1;
+    places.push(kind)?;
+    match attach(places, containers, key, Child::Own(place)) {
+        Ok(()) => Ok(()),
+        Err(error) => {
+            let _ = places.pop();
+            Err(error)
+        }
+    }
+}
+
+// Notes a key of the innermost open container, unless it may not stand there.
+pub(crate) fn note_last(
+    alloc: Global,
+    places: &[Kind],
+    containers: &mut Vec<Container>,
+    key: &Key,
+) -> Result<(), BuildFault>
+    requires known { KnowsAll places.now (reverse containers.old.items) None }
+    requires opened { AllByRecursion (λ p. is_open_at places.now p ≡ true)
+        (places_of containers.old.items) }
+    ensures fits { FitsKey key.now }
+    ensures answer { IsAnswer
+        (innermost_fault places.now (places_of containers.old.items) key.now) result }
+    ensures places { places_of containers.new.items ≡ places_of containers.old.items }
+    ensures ok { OnOk result (KnowsAll places.now (reverse containers.new.items) (Some key.now)) }
+    ensures err { OnErr result (KnowsAll places.now (reverse containers.new.items) None) }
+{
+    key.check();
+    let last = containers.len();
+    if last == 0 {
+        return Ok(());
+    }
+    let container = &mut containers[last - 1];
+    let kind = &places[(container.place - 1) as usize];
+    note_key(alloc, kind, container, key)
+}
+
+// Notes a key of an open container, unless it may not stand there.
+fn note_key(
+    alloc: Global,
+    kind: &Kind,
+    container: &mut Container,
+    key: &Key,
+) -> Result<(), BuildFault>
+    requires { KnowsKeys container.old.highest container.old.seen (keys_of kind.now) }
+    ensures answer { IsAnswer (fault_in kind.now key.now) result }
+    ensures place { container.new.place ≡ container.old.place }
+    ensures ok { OnOk result (KnowsKeys container.new.highest container.new.seen
+        (keys_of kind.now ++ key.now ∷ [])) }
+    ensures err { OnErr result (KnowsKeys container.new.highest container.new.seen
+        (keys_of kind.now)) }
+{
+    if kind.is_array() && !is_array_key(key) {
+        return Err(BuildFault::IntegerText);
+    }
+    container.note(alloc, kind, key)
+}
+
+// Whether an array may have this key.
+fn is_array_key(key: &Key) -> bool
+    ensures { result ≡ is_array_key key.now }
+{
+    match key {
+        Key::Int(_) => true,
+        Key::Str(bytes) => int_of_text(bytes.as_slice()).is_none(),
+    }
+}
