@@ -1,0 +1,6 @@
+pub mod Values
+pub mod Forms
+pub mod Spelled
+pub mod Rows
+pub mod Keywords
+pub mod Asking
