@@ -18,7 +18,7 @@ abbrev pub AreAlike : List ℕ → List ℕ → Type 0
 AreAlike held other = (at : ℕ) → list_any (λ place. place == at) held ≡ list_any (λ place. place == at) other
 
 -- The rows that pass leave the rows. Those of them that are held go to the end of the removed rows, by
--- slot and place, with the moment; the others are gone, and so are their blocks.
+-- slot and place, with the time; the others are gone, and so are their blocks.
 abbrev pub dropped : List ℕ → ℕ → (Row → Bool) → Cache → Cache
 dropped held t pass c = record c {
   rows = filter (λ row. not (pass row)) c.rows;

@@ -1,5 +1,5 @@
 -- What the cache of one thread answers to a request, and what it leaves. `held` is the list of the places
--- of blocks that are held in this event, t the moment.
+-- of blocks that are held in this event, t the time.
 use Rattle.std.specs.Prelude.{ℕ, Bool, true, false, if◌then◌else◌, List, map, Option, Some, None, is_some}
 use Rattle.apcu_model.specs.declared.request.StoreAnswer.{StoreAnswer}
 use Rattle.apcu_model.specs.declared.request.StoreAnswer.TheVariants as answers

@@ -16,7 +16,7 @@ use seg_words::{Extent, first_fit};
 use std::alloc::{AllocError, Global};
 
 // What the plain cache keeps.
-#[derive(Debug, Drop)]
+#[derive(Drop)]
 pub(crate) struct State {
     pub(crate) alloc: Global,
     pub(crate) conf: Conf,
@@ -29,7 +29,7 @@ pub(crate) struct State {
 }
 
 // What is to be stored: owned already, so that no memory is missing later.
-#[derive(Debug, Drop)]
+#[derive(Drop)]
 struct Draft {
     key: Bytes,
     graph: Graph,
@@ -103,7 +103,8 @@ impl State {
     fn put(&mut self, draft: Draft, place: u32, t: u64)
         requires sound { IsSound self.old }
         requires room { vec_len self.old.rows < vec_capacity self.old.rows }
-        ensures cache { cache_of self.new ≡ placed [] draft.key draft.graph draft.ttl t draft.size (cache_of self.old) place }
+        ensures cache { cache_of self.new
+            ≡ placed [] draft.key draft.graph draft.ttl t draft.size (cache_of self.old) place }
         ensures sound { IsSound self.new }
     {
         let slot = hash_of(draft.key.as_slice()) % u64::from(self.conf.slots);
@@ -128,8 +129,12 @@ impl State {
     // Makes room and puts the row there. Memory is taken before anything changes.
     fn insert(&mut self, draft: Draft, t: u64) -> Result<bool, AllocError>
         requires { IsSound self.old }
-        ensures reply { IfOk result (λ done. let room = with_room [] draft.size t (cache_of self.old) in done ≡ is_stored (put_in [] draft.key draft.graph draft.ttl t draft.size room (gap_of room draft.size)).answer) }
-        ensures after { OnOk result (let room = with_room [] draft.size t (cache_of self.old) in cache_of self.new ≡ (put_in [] draft.key draft.graph draft.ttl t draft.size room (gap_of room draft.size)).cache) }
+        ensures reply { let d = draft in let room = with_room [] d.size t (cache_of self.old) in
+            IfOk result (λ done. done
+            ≡ is_stored (put_in [] d.key d.graph d.ttl t d.size room (gap_of room d.size)).answer) }
+        ensures after { let d = draft in let room = with_room [] d.size t (cache_of self.old) in
+            OnOk result (cache_of self.new
+            ≡ (put_in [] d.key d.graph d.ttl t d.size room (gap_of room d.size)).cache) }
         ensures err { OnErr result (cache_of self.new ≡ cache_of self.old) }
         ensures sound { IsSound self.new }
     {
@@ -161,8 +166,10 @@ impl State {
         t: u64,
     ) -> Result<bool, AllocError>
         requires { IsSound self.old }
-        ensures reply { IfOk result (λ done. done ≡ is_stored (inserted [] key value ttl exclusive t (cache_of self.old)).answer) }
-        ensures after { OnOk result (cache_of self.new ≡ (inserted [] key value ttl exclusive t (cache_of self.old)).cache) }
+        ensures reply { IfOk result (λ done. done
+            ≡ is_stored (inserted [] key value ttl exclusive t (cache_of self.old)).answer) }
+        ensures after { OnOk result (cache_of self.new
+            ≡ (inserted [] key value ttl exclusive t (cache_of self.old)).cache) }
         ensures err { OnErr result (cache_of self.new ≡ cache_of self.old) }
         ensures sound { IsSound self.new }
     {
@@ -184,7 +191,9 @@ impl State {
 
     // The value that a look-up of the key finds.
     pub(crate) fn live_value(&self, key: &[u8], t: u64) -> Option<&Graph>
-        ensures { MatchOption result (found_in (live_row key.now t (cache_of self.now)) ≡ Absent) (λ g. found_in (live_row key.now t (cache_of self.now)) ≡ Found g.now) }
+        ensures { MatchOption result
+            (found_in (live_row key.now t (cache_of self.now)) ≡ Absent)
+            (λ g. found_in (live_row key.now t (cache_of self.now)) ≡ Found g.now) }
     {
         match live_in(&self.rows, key, t) {
             Some(row) => Some(&row.graph),
@@ -195,7 +204,8 @@ impl State {
     // Notes a look-up: a hit and the row's use, or a miss.
     pub(crate) fn note_fetch(&mut self, key: &[u8], t: u64)
         requires { IsSound self.old }
-        ensures cache { cache_of self.new ≡ looked_up key.now t (live_row key.now t (cache_of self.old)) (cache_of self.old) }
+        ensures cache { cache_of self.new
+            ≡ looked_up key.now t (live_row key.now t (cache_of self.old)) (cache_of self.old) }
         ensures sound { IsSound self.new }
     {
         if self.is_live(key, t) {

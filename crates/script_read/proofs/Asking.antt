@@ -8,18 +8,12 @@ use Rattle.apcu_model.specs.declared.request.Reply.{Reply}
 use Rattle.script_read.specs.declared.call.Call.{Call}
 use Rattle.script_read.specs.declared.call.Call.TheVariants.{StoreOne, StoreMany, FetchOne, FetchMany, ExistsOne, ExistsMany, DeleteOne, DeleteMany, Clear, Enabled}
 use Rattle.script_read.specs.Calls.{events_of}
-use Rattle.script_read.specs.Play.{Next, Asks, Leaves, with_own, asks_each, next_of}
-
-own_asks : (reply : Reply) (next : Next) (request : Request) → with_own reply next ≡ Asks request → next ≡ Asks request
-own_asks reply (Asks r) request e = e
-own_asks reply (Leaves own others) request e = absurd cc
+use Rattle.script_read.specs.Play.{Next, Asks, Leaves, asks_each, next_of}
 
 each_few : (asked : List Request) (replies : List Reply) (request : Request) → asks_each asked replies ≡ Asks request → length replies < length asked
 each_few [] replies request e = absurd cc
 each_few (first ∷ more) [] request e = omega arith
-each_few (first ∷ more) (reply ∷ replies) request e =
-    let n = each_few more replies request (own_asks reply (asks_each more replies) request e) in
-    omega (arith, n)
+each_few (first ∷ more) (reply ∷ replies) request e = omega (arith, each_few more replies request e)
 
 map_len : {A B : Type 0} (f : A → B) (xs : List A) → length (map f xs) ≡ length xs
 map_len f [] = refl

@@ -12,35 +12,33 @@ use Rattle.script_read.specs.declared.call.Call.{Call}
 use Rattle.script_read.specs.declared.call.Call.TheVariants.{StoreOne, StoreMany, FetchOne, FetchMany, ExistsOne, ExistsMany, DeleteOne, DeleteMany, Clear, Enabled}
 use Rattle.script_read.specs.declared.script.Step.{Step}
 
--- What a call does next, after the replies from it on: it asks once more, or it is done. Then these are its
--- own replies, and these belong to the calls after it.
+-- what a call asks, one request after the other; whether the cache is enabled asks nothing
+abbrev pub requests_of : Call → List Request
+requests_of (StoreOne key value ttl exclusive) = requests.Store key value ttl exclusive ∷ []
+requests_of (StoreMany pairs ttl exclusive) = map (λ pair. requests.Store pair.0 pair.1 ttl exclusive) pairs
+requests_of (FetchOne key) = requests.Fetch key ∷ []
+requests_of (FetchMany keys) = map requests.Fetch keys
+requests_of (ExistsOne key) = requests.Exists key ∷ []
+requests_of (ExistsMany keys) = map requests.Exists keys
+requests_of (DeleteOne key) = requests.Delete key ∷ []
+requests_of (DeleteMany keys) = map requests.Delete keys
+requests_of Clear = requests.Clear ∷ []
+requests_of Enabled = []
+
+-- What a call does next, after it got some replies: it asks once more, or it is done and leaves the
+-- replies that belong to the calls after it.
 pub data Next : Type 0 where
   Asks : Request → Next
-  Leaves : List Reply → List Reply → Next
-
--- one more reply is the call's own
-abbrev pub with_own : Reply → Next → Next
-with_own reply (Asks request) = Asks request
-with_own reply (Leaves own others) = Leaves (reply ∷ own) others
+  Leaves : List Reply → Next
 
 -- these requests, one after the other
 abbrev pub asks_each : List Request → List Reply → Next
-asks_each [] replies = Leaves [] replies
+asks_each [] replies = Leaves replies
 asks_each (request ∷ more) [] = Asks request
-asks_each (request ∷ more) (reply ∷ replies) = with_own reply (asks_each more replies)
+asks_each (request ∷ more) (reply ∷ replies) = asks_each more replies
 
--- By calls: one on several keys asks for each in turn, and whether the cache is enabled asks nothing.
 abbrev pub next_of : Conf → Call → List Reply → Next
-next_of conf (StoreOne key value ttl exclusive) replies = asks_each (requests.Store key value ttl exclusive ∷ []) replies
-next_of conf (StoreMany pairs ttl exclusive) replies = asks_each (map (λ pair. requests.Store pair.0 pair.1 ttl exclusive) pairs) replies
-next_of conf (FetchOne key) replies = asks_each (requests.Fetch key ∷ []) replies
-next_of conf (FetchMany keys) replies = asks_each (map requests.Fetch keys) replies
-next_of conf (ExistsOne key) replies = asks_each (requests.Exists key ∷ []) replies
-next_of conf (ExistsMany keys) replies = asks_each (map requests.Exists keys) replies
-next_of conf (DeleteOne key) replies = asks_each (requests.Delete key ∷ []) replies
-next_of conf (DeleteMany keys) replies = asks_each (map requests.Delete keys) replies
-next_of conf Clear replies = asks_each (requests.Clear ∷ []) replies
-next_of conf Enabled replies = asks_each [] replies
+next_of conf call replies = asks_each (requests_of call) replies
 
 -- a request and its moment
 pub record Wish : Type 0 where
@@ -50,7 +48,7 @@ pub record Wish : Type 0 where
 -- the call's request, or else what the calls after it want
 abbrev pub continued : ℕ → (List Reply → Option Wish) → Next → Option Wish
 continued t later (Asks request) = Some (record { request = request; t = t })
-continued t later (Leaves own others) = later others
+continued t later (Leaves others) = later others
 
 -- A worker's next request after these replies: that of the first call that is not done; after the last
 -- call its end, at the moment 0, and then nothing.

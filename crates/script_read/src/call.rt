@@ -1,7 +1,7 @@
 ghost use Rattle.std.specs.Prelude.{◌≡◌};
 ghost use Rattle.script_read.specs.Calls.{events_of};
 
-use crate::lists::{Keys, Pairs};
+use apcu_model::{Keys, Pairs};
 use php_graph::{Bytes, Graph};
 
 /// A call of a script, as PHP's manual has the functions of APCu.

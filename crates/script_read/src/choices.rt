@@ -7,7 +7,7 @@ ghost use Rattle.script_read.specs.Calls.{last_moment};
 ghost use Rattle.script_read.specs.Arguments.{key, integer, null, ttl, moment, keys, pairs, string_at, value_at, key_bytes, asked, stored, IsThere};
 
 use crate::given::{Asked, Stored};
-use crate::lists::{Keys, Pairs};
+use apcu_model::{Keys, Pairs};
 use itoa::Buffer;
 use php_graph::{Bytes, Child, Graph, Key, Kind};
 use std::alloc::{AllocError, Global};

@@ -1,4 +1,4 @@
-use crate::lists::{Keys, Pairs};
+use apcu_model::{Keys, Pairs};
 use php_graph::Bytes;
 
 /// What is asked for: one key, or an array of keys.

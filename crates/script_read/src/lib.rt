@@ -10,13 +10,12 @@ mod given;
 mod keyword;
 mod laws;
 mod lines;
-mod lists;
 mod reading;
 mod script;
 
 pub use call::Call;
 pub use fault::ScriptFault;
 pub use laws::{calls_ask_few, readings_are_scripts};
-pub use lists::{Keys, Pairs};
+
 pub use reading::read_scripts;
 pub use script::{Script, Scripts, Step};

@@ -14,7 +14,7 @@ use crate::effect::Effect;
 use crate::fault::Stop;
 use crate::given::{Asked, Stored};
 use crate::keyword::Keyword;
-use crate::lists::Pairs;
+use apcu_model::Pairs;
 use notation::Reason;
 use php_graph::Bytes;
 use std::alloc::Global;

@@ -1,4 +1,4 @@
-use Rattle.std.proofs.Common.{◌≡◌, true, not, List, [], sym, ap, ◌∙◌}
+use Rattle.std.proofs.Common.{not, List, [], sym, ap, ◌∙◌}
 use Rattle.std.proofs.lemmas.Bool.{cond-true}
 use Rattle.std.specs.Prelude.{is_some}
 use Rattle.apcu_model.specs.Cache.{Row, Cache, has_key}
