@@ -4,3 +4,7 @@ pub mod Spelled
 pub mod Rows
 pub mod Keywords
 pub mod Asking
+pub mod Inside
+pub mod Walking
+pub mod Members
+pub mod Answered

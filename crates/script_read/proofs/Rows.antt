@@ -1,10 +1,10 @@
 -- A row of the table, as the steps that a function of its own takes: each argument by what it is made of.
-use Rattle.std.proofs.Common.{◌≡◌, ℕ, Bool, true, false, cond, List, [], ◌∷◌, Option, Some, None, Result, Ok, Err, refl, ap, ◌∙◌}
+use Rattle.std.proofs.Common.{◌≡◌, ℕ, Bool, true, false, cond, List, [], ◌∷◌, Option, Some, None, Result, Ok, Err, refl, sym, ap, subst, ◌∙◌}
 use Rattle.std.specs.Prelude.{codes}
 use Rattle.std.specs.Option.{option_map}
 use Rattle.php_graph.specs.declared.kind.Kind.{Kind}
 use Rattle.notation.specs.declared.fault.Fault.{Fault}
-use Rattle.notation.specs.Marks.{◌>>=◌}
+use Rattle.notation.specs.Marks.{◌>>=◌, fail}
 use Rattle.notation.specs.Reading.{reading_of}
 use Rattle.script_read.specs.declared.call.Call.TheVariants.{StoreOne, StoreMany}
 use Rattle.script_read.specs.declared.effect.Effect.{Effect}
@@ -14,7 +14,12 @@ use Rattle.script_read.specs.declared.given.Stored.{Stored}
 use Rattle.script_read.specs.declared.given.Stored.TheVariants as stores
 use Rattle.script_read.specs.Arguments.{any_value, null, ttl, moment, asked, stored}
 use Rattle.script_read.specs.Table.{Form, Done, Need, May, Refuse, or_refuse, taken, needs, may, calls, store_one, store_many, store_by, fetch_of, exists_of, delete_of, form_in, form_of}
-use Rattle.script_read.specs.Reading.{space_at, ends_here, end_at, chosen, choice_at, argument_at, optional_at, last_argument_at, rest_at}
+use Rattle.script_read.specs.Reading.{space_at, ends_here, end_at, chosen, choice_at, argument_at, optional_at, last_argument_at, rest_at, word_at, behind_word, before_worker, form_after, line_at}
+use Rattle.script_read.specs.declared.keyword.Keyword.{Keyword}
+use Rattle.script_read.specs.declared.fault.Stop.{Stop}
+use Rattle.script_read.specs.declared.fault.Stop.TheVariants as stops
+use Rattle.script_read.specs.Gives.{Stops, Gives, form_named}
+use Rattle.notation.specs.declared.fault.Reason.{Reason}
 
 -- a form that refuses nothing by itself
 abbrev pub Goes : Form → Type 0
@@ -98,11 +103,14 @@ pub stored_is : (exclusive : Bool) (last bytes : List ℕ) → rest_at (needs st
 stored_is exclusive last bytes = needs_is stored (store_by exclusive) last bytes (by_goes exclusive)
 
 -- the argument and the end first, and its effect then
-effect_last : {A : Type 0} (r : Result (A × List ℕ) Fault) (effect : A → Effect) → (r >>= ended effect) ≡ ((r >>= λ x. end_at x.1 >>= λ rest. Ok (x.0, rest)) >>= λ a. Ok (effect a.0, a.1))
+abbrev kept : {A : Type 0} → A → List ℕ → Result (A × List ℕ) Fault
+kept x rest = Ok (x, rest)
+
+effect_last : {A : Type 0} (r : Result (A × List ℕ) Fault) (effect : A → Effect) → (r >>= ended effect) ≡ ((r >>= λ x. end_at x.1 >>= λ rest. kept x.0 rest) >>= λ a. kept (effect a.0) a.1)
 effect_last {A = A} (Err e) effect = refl
 effect_last {A = A} (Ok x) effect = by_end (end_at x.1)
   where
-    by_end : (r : Result (List ℕ) Fault) → (r >>= λ rest. Ok (effect x.0, rest)) ≡ ((r >>= λ rest. Ok (x.0, rest)) >>= λ a. Ok (effect a.0, a.1))
+    by_end : (r : Result (List ℕ) Fault) → (r >>= λ rest. kept (effect x.0) rest) ≡ ((r >>= λ rest. kept x.0 rest) >>= λ a. kept (effect a.0) a.1)
     by_end (Ok rest) = refl
     by_end (Err e) = refl
 
@@ -117,3 +125,35 @@ exists_is last bytes = needs_is asked (λ a. calls (exists_of a)) last bytes (λ
 pub delete_is : (last bytes : List ℕ) → rest_at (form_of (codes "apcu_delete")) last bytes ≡ (last_argument_at asked bytes >>= λ a. Ok (Calls (delete_of a.0), a.1))
 unfolding form_in rest_at
 delete_is last bytes = needs_is asked (λ a. calls (delete_of a)) last bytes (λ a. tt) ∙ effect_last (argument_at asked bytes) (λ a. Calls (delete_of a))
+
+-- ---- stores
+
+pub stored_at : (exclusive : Bool) (last bytes : List ℕ) (s : Stored) (rest : List ℕ) → argument_at stored bytes ≡ Ok (s, rest) → rest_at (needs stored (store_by exclusive)) last bytes ≡ rest_at (store_by exclusive s) [] rest
+stored_at exclusive last bytes s rest read = stored_is exclusive last bytes ∙ ap (λ (r : Result (Stored × List ℕ) Fault). r >>= λ x. rest_at (store_by exclusive x.0) [] x.1) read
+
+pub stored_fails : (exclusive : Bool) (last bytes : List ℕ) (e : Stop) → Stops e (argument_at stored bytes) → Stops e (rest_at (needs stored (store_by exclusive)) last bytes)
+stored_fails exclusive last bytes stops.Memory stop = tt
+stored_fails exclusive last bytes (stops.Fault f) stop = stored_is exclusive last bytes ∙ ap (λ (r : Result (Stored × List ℕ) Fault). r >>= λ x. rest_at (store_by exclusive x.0) [] x.1) stop
+
+-- the same reading gives the same
+pub moved : {X Y : Type 0} (view : X → Y) (r : Result X Stop) (a b : Result Y Fault) → a ≡ b → Gives view r b → Gives view r a
+moved view r a b e h = subst (λ c. Gives view r c) (sym e) h
+
+-- ---- the first line
+
+first_reads : (begun : ℕ) (line word : List ℕ) (keyword : Keyword) (reason : Reason) → begun ≡ 0 → word ≡ word_at line → form_of word ≡ form_named keyword → before_worker (form_named keyword) ≡ Refuse reason → line_at begun line ≡ fail reason line
+unfolding rest_at
+first_reads begun line word keyword reason none is named refused =
+    ap (λ (n : ℕ). rest_at (form_after n (word_at line)) line (behind_word line)) none
+    ∙ (ap (λ (w : List ℕ). rest_at (before_worker (form_of w)) line (behind_word line)) (sym is)
+    ∙ (ap (λ (f : Form). rest_at (before_worker f) line (behind_word line)) named
+    ∙ ap (λ (f : Form). rest_at f line (behind_word line)) refused))
+
+-- the fault that begins with these bytes, whatever is to be read
+fault_is : {A B : Type 0} (e : Stop) (reason : Reason) (bytes : List ℕ) → Stops {Y = A} e (fail reason bytes) → Stops {Y = B} e (fail reason bytes)
+fault_is stops.Memory reason bytes stop = tt
+fault_is (stops.Fault f) reason bytes stop = cc
+
+pub first_refused : (e : Stop) (begun : ℕ) (line word : List ℕ) (keyword : Keyword) (reason : Reason) → begun ≡ 0 → word ≡ word_at line → form_of word ≡ form_named keyword → before_worker (form_named keyword) ≡ Refuse reason → Stops {Y = ℕ} e (fail reason line) → Stops e (line_at begun line)
+first_refused e begun line word keyword reason none is named refused stop =
+    subst (λ (r : Result (Effect × List ℕ) Fault). Stops e r) (sym (first_reads begun line word keyword reason none is named refused)) (fault_is {A = ℕ} {B = Effect × List ℕ} e reason line stop)

@@ -60,6 +60,7 @@ pub(crate) fn is_null(graph: &Graph) -> bool
 }
 
 // One key, or an array of keys.
+#[tactic(auto, using(crate::proofs::Members::asked_many))]
 pub(crate) fn asked_of(alloc: Global, graph: Graph) -> Result<Option<Asked>, AllocError>
     ensures { IfOk result (λ made. made ≡ asked graph) }
 {
@@ -73,6 +74,7 @@ pub(crate) fn asked_of(alloc: Global, graph: Graph) -> Result<Option<Asked>, All
 }
 
 // One key, or an array of keys with their values.
+#[tactic(auto, using(crate::proofs::Members::stored_many))]
 pub(crate) fn stored_of(alloc: Global, graph: Graph) -> Result<Option<Stored>, AllocError>
     ensures { IfOk result (λ made. made ≡ stored graph) }
 {
@@ -96,10 +98,10 @@ fn keys_of(alloc: Global, graph: &Graph) -> Result<Option<Keys>, AllocError>
     let mut keys = Keys::new(alloc);
     for i in 0..members.len() {
         let (_, child) = members.at(i);
-        let Some(text) = string_at(graph, child) else {
-            return Ok(None);
-        };
-        keys.push(Bytes::of(alloc, text.as_slice())?)?;
+        match string_at(graph, child) {
+            Some(text) => keys.push(Bytes::of(alloc, text.as_slice())?)?,
+            None => return Ok(None),
+        }
     }
     Ok(Some(keys))
 }
@@ -129,10 +131,10 @@ fn pairs_of(alloc: Global, graph: &Graph) -> Result<Option<Pairs>, AllocError>
     let mut pairs = Pairs::new(alloc);
     for i in 0..members.len() {
         let (key, child) = members.at(i);
-        let Some(value) = value_at(alloc, graph, child)? else {
-            return Ok(None);
-        };
-        pairs.push(bytes_of(alloc, key)?, value)?;
+        match value_at(alloc, graph, child)? {
+            Some(value) => pairs.push(bytes_of(alloc, key)?, value)?,
+            None => return Ok(None),
+        }
     }
     Ok(Some(pairs))
 }

@@ -10,6 +10,7 @@ use crate::keyword::is_word;
 use crate::laws::readings_are_scripts;
 use crate::lines::{line, word_len, worker};
 use crate::script::{Scripts, Step};
+use notation::readings_stay_inside;
 use std::alloc::Global;
 
 // All of the bytes, line by line.
@@ -43,6 +44,7 @@ fn read(alloc: Global, bytes: &[u8]) -> Result<Scripts, ScriptFault>
     requires { length bytes.now ≤ 67108864 }
     ensures { ReadsScripts bytes.now result }
 {
+    readings_stay_inside();
     match scripts(alloc, bytes) {
         Ok(scripts) => Ok(scripts),
         Err(Stop::Memory) => Err(ScriptFault::Memory),
