@@ -150,10 +150,10 @@ first_reads begun line word keyword reason none is named refused =
     ∙ ap (λ (f : Form). rest_at f line (behind_word line)) refused))
 
 -- the fault that begins with these bytes, whatever is to be read
-fault_is : {A B : Type 0} (e : Stop) (reason : Reason) (bytes : List ℕ) → Stops {Y = A} e (fail reason bytes) → Stops {Y = B} e (fail reason bytes)
-fault_is stops.Memory reason bytes stop = tt
-fault_is (stops.Fault f) reason bytes stop = cc
+fault_is : (A B : Type 0) (e : Stop) (reason : Reason) (bytes : List ℕ) → Stops {Y = A} e (fail reason bytes) → Stops {Y = B} e (fail reason bytes)
+fault_is A B stops.Memory reason bytes stop = tt
+fault_is A B (stops.Fault f) reason bytes stop = cc
 
 pub first_refused : (e : Stop) (begun : ℕ) (line word : List ℕ) (keyword : Keyword) (reason : Reason) → begun ≡ 0 → word ≡ word_at line → form_of word ≡ form_named keyword → before_worker (form_named keyword) ≡ Refuse reason → Stops {Y = ℕ} e (fail reason line) → Stops e (line_at begun line)
 first_refused e begun line word keyword reason none is named refused stop =
-    subst (λ (r : Result (Effect × List ℕ) Fault). Stops e r) (sym (first_reads begun line word keyword reason none is named refused)) (fault_is {A = ℕ} {B = Effect × List ℕ} e reason line stop)
+    subst (λ (r : Result (Effect × List ℕ) Fault). Stops e r) (sym (first_reads begun line word keyword reason none is named refused)) (fault_is ℕ (Effect × List ℕ) e reason line stop)

@@ -8,7 +8,8 @@ use thiserror::Error;
 /// Why no scripts were read.
 #[derive(Debug, Drop, Error)]
 pub enum ScriptFault {
-    /// The bytes spell no scripts: the first fault from the left, and the place of its byte, from 0.
+    /// The bytes spell no scripts: the first fault from the left, and the place of its byte, from
+    /// 0.
     #[error("byte {place}: {reason}")]
     Bad { place: u64, reason: Reason },
     /// There was no memory for the scripts.

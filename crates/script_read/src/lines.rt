@@ -7,8 +7,10 @@ ghost use Rattle.script_read.specs.Grammar.{most_workers};
 ghost use Rattle.script_read.specs.Reading.{ends_word, word_len, word_at, behind_word, last_argument_at, rest_at, before_worker, worker_at, line_at};
 ghost use Rattle.script_read.specs.Gives.{Gives, form_named, IsSoon};
 
-use crate::arguments::{asked_argument, end, fault, moment_argument, null_argument};
-use crate::arguments::{stored_argument, ttl_argument, value_argument};
+use crate::arguments::{
+    asked_argument, end, fault, moment_argument, null_argument, stored_argument, ttl_argument,
+    value_argument,
+};
 use crate::call::Call;
 use crate::effect::Effect;
 use crate::fault::Stop;
