@@ -1,4 +1,4 @@
-ghost use Rattle.std.specs.Prelude.{◌≡◌, ℕ, ◌+◌, ◌<◌, ◌≤◌, ◌^◌, true, false, [], length, IfSome};
+ghost use Rattle.std.specs.Prelude.{◌≡◌, ℕ, ◌+◌, ◌*◌, ◌<◌, ◌≤◌, ◌^◌, true, false, [], length, slice_index, IfSome};
 ghost use Rattle.seg_words.specs.Kept.{Kept, KeptBeside};
 ghost use Rattle.seg_words.specs.Windows.{is_named};
 ghost use Rattle.php_graph.specs.Size.{block_size};
@@ -9,6 +9,7 @@ ghost use Rattle.entry_slots.specs.Standing.{Stand, entries};
 
 use apcu_model::Conf;
 use entry_slots::{EntrySlots, Head, leaving_laws, place_laws, standing_laws};
+use max_tree::MaxRow;
 use php_graph::{Builder, Graph, Item, Kind, block_words};
 use seg_words::{Segment, VecWords, WordsIn};
 use std::alloc::Global;
@@ -164,7 +165,8 @@ fn plays(
 ) -> Result<(), Fail> {
     let one = number(alloc, 1)?;
     let mut words = VecWords::new(alloc, 512)?;
-    let mut slots = EntrySlots::format(&mut words, &small());
+    let gaps = MaxRow::new(alloc, 128)?;
+    let mut slots = EntrySlots::format(&mut words, &small(), gaps);
     assert_eq!(rt; play(&mut slots, &mut words, &one, steps), steps.len());
     assert_eq!(rt; (slots.rows(), slots.first_removed()), (rows, first_removed));
     let items = words.into_words();
@@ -255,7 +257,8 @@ fn deletes_at_once(rt: HostRuntime) -> Result<(), Fail> {
 fn sets_and_uses(rt: HostRuntime) -> Result<(), Fail> {
     let mut words = VecWords::new(rt.alloc(), 512)?;
     let five = number(rt.alloc(), 5)?;
-    let Some(read) = set_and_use(&mut words, &small(), b"ab", &five, -1, 9) else {
+    let gaps = MaxRow::new(rt.alloc(), 128)?;
+    let Some(read) = set_and_use(&mut words, &small(), gaps, b"ab", &five, -1, 9) else {
         panic!(rt; "there is room");
     };
     let head = read.head;
@@ -286,6 +289,7 @@ struct Read {
 fn set_and_use<S: Segment>(
     seg: &mut S,
     conf: &Conf,
+    gaps: MaxRow,
     key: &[u8],
     g: &Graph,
     n: i64,
@@ -295,8 +299,10 @@ fn set_and_use<S: Segment>(
     requires good { IsGood conf.now }
     requires all { length (S.words seg.old) ≡ conf.now.words }
     requires closed { (at : ℕ) → is_named (S.aside seg.old).windows at ≡ false }
+    requires enough { length (S.words seg.old) ≤ 4 * length gaps }
+    requires zeros { (i : ℕ) → slice_index gaps i ≡ 0 }
 {
-    let mut slots = EntrySlots::format(seg, conf);
+    let mut slots = EntrySlots::format(seg, conf, gaps);
     if !is_empty_in(&slots, seg, 0) {
         return None;
     }
@@ -311,6 +317,7 @@ fn update<S: Segment>(
     slots: &mut EntrySlots,
     seg: &mut S,
     conf: &Conf,
+    gaps: MaxRow,
     key: &[u8],
     g: &Graph,
     n: i64,
@@ -379,7 +386,8 @@ fn drop_slot<S: Segment>(slots: &mut EntrySlots, seg: &mut S, slot: u32, t: u64)
 fn drops_a_slot(rt: HostRuntime) -> Result<(), Fail> {
     let one = number(rt.alloc(), 1)?;
     let mut words = VecWords::new(rt.alloc(), 512)?;
-    let mut slots = EntrySlots::format(&mut words, &small());
+    let gaps = MaxRow::new(rt.alloc(), 128)?;
+    let mut slots = EntrySlots::format(&mut words, &small(), gaps);
     assert_eq!(rt; play(&mut slots, &mut words, &one, &FILL), 4);
     assert_eq!(rt; slots.words(), 512);
     assert!(rt; slots.slots() > 6);
@@ -390,13 +398,21 @@ fn drops_a_slot(rt: HostRuntime) -> Result<(), Fail> {
 
 // In a cache made anew: puts a row, and frees all rows at once; where the row was put, how many were left, and
 // where the next one is put.
-fn clear<S: Segment>(seg: &mut S, conf: &Conf, key: &[u8], g: &Graph) -> Option<(u32, u32, Option<u32>)>
+fn clear<S: Segment>(
+    seg: &mut S,
+    conf: &Conf,
+    gaps: MaxRow,
+    key: &[u8],
+    g: &Graph,
+) -> Option<(u32, u32, Option<u32>)>
     requires short { length key.now < 2 ^ 32 }
     requires good { IsGood conf.now }
     requires all { length (S.words seg.old) ≡ conf.now.words }
     requires closed { (at : ℕ) → is_named (S.aside seg.old).windows at ≡ false }
+    requires enough { length (S.words seg.old) ≤ 4 * length gaps }
+    requires zeros { (i : ℕ) → slice_index gaps i ≡ 0 }
 {
-    let mut slots = EntrySlots::format(seg, conf);
+    let mut slots = EntrySlots::format(seg, conf, gaps);
     if block_words(key.len() as u64, g) > u64::from(u32::MAX) {
         return None;
     }
@@ -409,8 +425,9 @@ fn clear<S: Segment>(seg: &mut S, conf: &Conf, key: &[u8], g: &Graph) -> Option<
 fn frees_all_rows(rt: HostRuntime) -> Result<(), Fail> {
     let mut words = VecWords::new(rt.alloc(), 512)?;
     let five = number(rt.alloc(), 5)?;
+    let gaps = MaxRow::new(rt.alloc(), 128)?;
     assert_eq!(rt;
-        clear(&mut words, &small(), b"ab", &five),
+        clear(&mut words, &small(), gaps, b"ab", &five),
         Some((32, 0, Some(32)))
     );
     assert_eq!(rt; words.into_words().get(7), Some(&0));

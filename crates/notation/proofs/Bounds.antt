@@ -1,6 +1,6 @@
 -- A fault lies within the bytes that are read, and so does what is left.
 use Rattle.std.proofs.Common.{◌≡◌, ℕ, zero, suc, ◌+◌, ◌≤◌, Bool, true, false, cond, List, [], ◌∷◌, length, take, drop, Option, Some, None, Result, Ok, Err, ℤ, subst, arith}
-use Rattle.std.specs.Prelude.{◌==◌, ◌&&◌, nat_lt, slice_index}
+use Rattle.std.specs.Prelude.{◌==◌, ◌&&◌, nat_lt, slice_index, MatchResult}
 use Rattle.std.proofs.lemmas.List.{length-drop}
 use Rattle.php_graph.specs.declared.key.Key.{Key}
 use Rattle.php_graph.specs.declared.kind.Kind.{Kind}
@@ -219,3 +219,11 @@ reading_within bytes =
 -- the first fault of the bytes is at one of them, or at their end
 pub fault_within : (bytes : List ℕ) (fault : Fault) → reading_of bytes ≡ Err fault → fault.left ≤ length bytes
 fault_within bytes fault e = subst (λ (r : Result (List Kind × List ℕ) Fault). Within (length bytes) (behind {A = List Kind}) r) e (reading_within bytes)
+
+-- what was read leaves no more bytes, and a fault is at one of them, or at their end
+pub reading_inside : (bytes : List ℕ) → MatchResult (reading_of bytes) (λ x. length x.1 ≤ length bytes) (λ fault. fault.left ≤ length bytes)
+reading_inside bytes = by_result (reading_of bytes) (reading_within bytes)
+  where
+    by_result : (r : Result (List Kind × List ℕ) Fault) → Within (length bytes) (behind {A = List Kind}) r → MatchResult r (λ x. length x.1 ≤ length bytes) (λ fault. fault.left ≤ length bytes)
+    by_result (Ok x) h = h
+    by_result (Err e) h = h

@@ -1,6 +1,6 @@
 //! Laws of texts of values.
 
-ghost use Rattle.std.specs.Prelude.{◌≡◌, ◌++◌, ◌<◌, ℕ, List, Ok};
+ghost use Rattle.std.specs.Prelude.{◌≡◌, ◌++◌, ◌<◌, ◌≤◌, ℕ, List, length, Ok, MatchResult};
 ghost use Rattle.std.specs.List.{AllByRecursion};
 ghost use Rattle.php_graph.specs.declared.kind.Kind.{Kind};
 ghost use Rattle.php_graph.specs.Graph.{IsGraph};
@@ -24,6 +24,12 @@ pub fn readings_are_spellings()
     graphs_are_written();
     written_graphs();
 }
+
+/// What reading a value leaves, and the bytes from its first fault on, are no more than the bytes.
+pub fn readings_stay_inside()
+    ensures { (bytes : List ℕ) → MatchResult (reading_of bytes)
+        (λ x. length x.1 ≤ length bytes) (λ fault. fault.left ≤ length bytes) }
+{}
 
 /// No text of a value is the front of another: two texts that go on to the same bytes are of one
 /// value, and the same bytes follow them.

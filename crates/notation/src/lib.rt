@@ -14,7 +14,7 @@ mod writing;
 pub use byte_out::ByteOut;
 pub use cursor::Cursor;
 pub use fault::{Fault, ReadFault, Reason};
-pub use laws::{readings_are_spellings, texts_tell_values_apart};
+pub use laws::{readings_are_spellings, readings_stay_inside, texts_tell_values_apart};
 pub use pieces::write_key;
 pub use reading::read_value;
 pub use writing::write_value;

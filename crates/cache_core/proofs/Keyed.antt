@@ -1,0 +1,134 @@
+-- The row of a key is dropped, or used.
+use Rattle.std.proofs.Common.{◌≡◌, inl, inr, ℕ, ◌≤◌, Bool, true, false, cond, not, List, [], ◌∷◌, map, filter, Option, Some, refl, sym, ap, ◌∙◌, subst, arith}
+use Rattle.std.specs.Prelude.{is_some, if◌then◌else◌}
+use Rattle.std.specs.List.{Contains, count_by}
+use Rattle.std.proofs.lemmas.Bool.{cases_Bool, eq-eqb, eqb-true, false≢true, false_from_ne_true}
+use Rattle.std.proofs.lemmas.Slice.Eq.{bytes_eq-Decides}
+use Rattle.seg_words.specs.Windows.{Aside, held_blocks}
+use Rattle.seg_words.specs.Probing.{Goes}
+use Rattle.apcu_model.specs.Cache.{Row, Cache, has_key, risen}
+use Rattle.apcu_model.specs.Change.{dropped, deleted, cleared}
+use Rattle.apcu_model.specs.Expiry.{live_row}
+use Rattle.apcu_model.specs.Sequential.{touched, looked_up}
+use Rattle.apcu_model.specs.Walk.{in_slot_order}
+use Rattle.entry_slots.specs.Lists.{is_at, has_place, only_at}
+use Rattle.entry_slots.specs.Entries.{Entries, entries_of, touched_row, touched_in}
+use Rattle.entry_slots.specs.Facts.{IsSound}
+use Rattle.ttl_expunge.specs.Dropping.{dropped_in}
+use Rattle.ttl_expunge.specs.Held.{Drops}
+use Rattle.entry_slots.specs.Standing.{entries}
+use Rattle.cache_core.specs.declared.cache.Core.{Core}
+use Rattle.cache_core.specs.declared.tally.Tally.{Tally}
+use Rattle.cache_core.specs.Caching.{cache_of}
+use Rattle.cache_core.specs.Laws.{Laws}
+use Rattle.cache_core.proofs.Caching.{cache_made, whole_made}
+use Rattle.cache_core.proofs.Rows.{counted, count-cons, none_counted, only_none, filter_all, Contains-first, Contains-later, Contains-cases, Contains-filter}
+use Rattle.cache_core.proofs.Replacing.{IsOld, key_is, order_key}
+
+-- the row at a place where one row at most is
+only_once : (at : ℕ) (rows : List Row) (row : Row) → Contains rows row → row.place ≡ at → count_by (is_at at) rows ≤ 1 → only_at at rows ≡ row ∷ []
+only_once at [] row c place few = absurd (omega (arith, c.1))
+only_once at (r ∷ rows) row c place few = elim (Contains-cases r rows row c) [
+  | inl same ↦
+      let here : is_at at r ≡ true = eq-eqb r.place at (ap (λ (x : Row). x.place) same ∙ place) in
+      let one : cond {A = ℕ} (is_at at r) 1 0 ≡ 1 = ap (λ (b : Bool). cond {A = ℕ} b 1 0) here in
+      let none = none_counted (is_at at) rows (omega (arith, few, one, count-cons (is_at at) r rows)) in
+      ap (λ b. cond b (r ∷ only_at at rows) (only_at at rows)) here ∙ (ap (λ l. r ∷ l) (only_none at rows none) ∙ ap (λ (x : Row). x ∷ []) same)
+  | inr later ↦
+      let some : 1 ≤ count_by (is_at at) rows = counted (is_at at) rows row later (eq-eqb row.place at place) in
+      let none : is_at at r ≡ false = false_from_ne_true (is_at at r) (λ h.
+      let one : cond {A = ℕ} (is_at at r) 1 0 ≡ 1 = ap (λ (b : Bool). cond {A = ℕ} b 1 0) h in
+      omega (arith, few, one, some, count-cons (is_at at) r rows)) in
+      ap (λ b. cond b (r ∷ only_at at rows) (only_at at rows)) none ∙ only_once at rows row later place (omega (arith, few, count-cons (is_at at) r rows))
+]
+
+-- the rows that pass were dropped, by the blocks that are held later too
+pub passing_later : (laws : Laws) {s new : Entries} {before after : Aside} {t : ℕ} {words windows : List ℕ} (pass : Row → Bool) (c : Cache)
+    → Drops s new before after t (in_slot_order s.conf (filter pass s.rows)) → IsSound s words windows → s ≡ entries_of c → (later : Aside) → Goes after later → new ≡ entries_of (dropped (held_blocks later) t pass c)
+passing_later laws {s} {new} {before} {after} {t} {words} {windows} pass c drops sound e later on =
+    laws.later s new before after later t (in_slot_order s.conf (filter pass s.rows)) drops on
+    ∙ (laws.order s words windows (held_blocks later) t pass sound ∙ ap (λ (x : Entries). dropped_in (held_blocks later) t pass x) e)
+
+map_alike : (f h : Row → Row) (rows : List Row) → ((row : Row) → Contains rows row → f row ≡ h row) → map f rows ≡ map h rows
+map_alike f h [] e = refl
+map_alike f h (row ∷ rows) e = ap (λ x. x ∷ map f rows) (e row (Contains-first row rows)) ∙ ap (λ l. h row ∷ l) (map_alike f h rows (λ r c. e r (Contains-later row rows r c)))
+
+-- the row at `at` was used, which is the one of the key
+pub touched_keyed : {s : Entries} {words windows : List ℕ} (key : List ℕ) (at t : ℕ) → IsOld s key at → IsSound s words windows
+    → map {A = Row} {B = Row} (touched_row at t) s.rows ≡ map {A = Row} {B = Row} (λ r. if has_key key r then touched t r else r) s.rows
+touched_keyed {s} key at t o sound =
+    map_alike (touched_row at t) (λ r. if has_key key r then touched t r else r) s.rows (λ row c. ap (λ (b : Bool). if b then touched t row else row) (same row c))
+  where
+    only : only_at at s.rows ≡ filter (has_key key) s.rows
+    only = only_once at s.rows o.row o.there o.place (omega (arith, sound.once at)) ∙ sym o.one
+
+    kept : (p : Row → Bool) (rows : List Row) (row : Row) → Contains rows row → p row ≡ true → Contains (filter p rows) row
+    kept = Rattle.cache_core.proofs.Rows.Contains-kept
+
+    same : (row : Row) → Contains s.rows row → is_at at row ≡ has_key key row
+    same row c = elim (cases_Bool (has_key key row)) [
+      | inl is ↦ (Contains-filter (is_at at) s.rows row (subst (λ l. Contains l row) (sym only) (kept (has_key key) s.rows row c is))).1 ∙ sym is
+      | inr isnt ↦ false_from_ne_true (is_at at row) (λ t.
+          false≢true (sym isnt ∙ (Contains-filter (has_key key) s.rows row (subst (λ l. Contains l row) only (kept (is_at at) s.rows row c t))).1)) ∙ sym isnt
+    ]
+
+-- a core's cache once the row of a key was dropped
+pub core_deleted : (laws : Laws) (old new : Core) {before after : Aside} {words windows : List ℕ} (key : List ℕ) (t at : ℕ) → entries old.slots ≡ entries_of (cache_of old) → IsOld (entries old.slots) key at
+    → IsSound (entries old.slots) words windows → Drops (entries old.slots) (entries new.slots) before after t (only_at at (entries old.slots).rows) → new.conf ≡ old.conf → new.tally ≡ old.tally
+    → is_some (live_row key t (cache_of old)) ≡ true → (later : Aside) → Goes after later → (cache_of new ≡ deleted (held_blocks later) key t (cache_of old)) × (entries new.slots ≡ entries_of (cache_of new))
+core_deleted laws old new {before} {after} key t at whole o sound drops conf tally live later on =
+    let s = entries old.slots in
+    let only : only_at at s.rows ≡ o.row ∷ [] = only_once at s.rows o.row o.there o.place (omega (arith, sound.once at)) in
+    let keyed : Drops s (entries new.slots) before after t (in_slot_order s.conf (filter (has_key key) s.rows)) =
+    subst (λ (l : List Row). Drops s (entries new.slots) before after t l) (only ∙ (sym o.one ∙ sym (order_key laws s.conf s.rows key sound.good.slots_least))) drops in
+    let gone : Cache = dropped (held_blocks later) t (has_key key) (cache_of old) in
+    let e : entries new.slots ≡ entries_of gone = passing_later laws (has_key key) (cache_of old) keyed sound whole later on in
+    let same : cache_of new ≡ gone = cache_made new gone e conf (record {
+      hits = ap (λ (x : Tally). x.hits) tally;
+      misses = ap (λ (x : Tally). x.misses) tally;
+      inserts = ap (λ (x : Tally). x.inserts) tally;
+      expunges = ap (λ (x : Tally). x.expunges) tally;
+    }) in (
+      same ∙ ap (λ (b : Bool). if b then gone else cache_of old) (sym live),
+      whole_made new gone e same,
+    )
+
+-- and once all rows were
+pub core_cleared : (laws : Laws) (old new : Core) {before after : Aside} {words windows : List ℕ} (t : ℕ) → entries old.slots ≡ entries_of (cache_of old) → IsSound (entries old.slots) words windows
+    → Drops (entries old.slots) (entries new.slots) before after t (in_slot_order (entries old.slots).conf (entries old.slots).rows) → new.conf ≡ old.conf → new.tally ≡ record { hits = 0; misses = 0; inserts = 0; expunges = 0 }
+    → (later : Aside) → Goes after later → (cache_of new ≡ cleared (held_blocks later) t (cache_of old)) × (entries new.slots ≡ entries_of (cache_of new))
+core_cleared laws old new {before} {after} t whole sound drops conf tally later on =
+    let s = entries old.slots in
+    let every : Drops s (entries new.slots) before after t (in_slot_order s.conf (filter (λ row. true) s.rows)) =
+    subst (λ (l : List Row). Drops s (entries new.slots) before after t (in_slot_order s.conf l)) (sym (filter_all (λ (row : Row). true) s.rows (λ row m. refl))) drops in
+    let gone : Cache = cleared (held_blocks later) t (cache_of old) in
+    let e : entries new.slots ≡ entries_of gone = passing_later laws (λ row. true) (cache_of old) every sound whole later on in
+    let same : cache_of new ≡ gone = cache_made new gone e conf (record {
+      hits = ap (λ (x : Tally). x.hits) tally;
+      misses = ap (λ (x : Tally). x.misses) tally;
+      inserts = ap (λ (x : Tally). x.inserts) tally;
+      expunges = ap (λ (x : Tally). x.expunges) tally;
+    }) in
+    (same, whole_made new gone e same)
+
+-- and once it was used
+pub core_touched : (old new : Core) {words windows : List ℕ} (key : List ℕ) (t at : ℕ) (row : Row) → entries old.slots ≡ entries_of (cache_of old) → IsOld (entries old.slots) key at → IsSound (entries old.slots) words windows
+    → entries new.slots ≡ touched_in at t (entries old.slots) → new.conf ≡ old.conf → new.tally ≡ record old.tally { hits = risen old.tally.hits } → live_row key t (cache_of old) ≡ Some row
+    → (cache_of new ≡ looked_up key t (live_row key t (cache_of old)) (cache_of old)) × (entries new.slots ≡ entries_of (cache_of new))
+core_touched old new key t at row whole o sound now conf tally live =
+    let s = entries old.slots in
+    let c = cache_of old in
+    let used : Cache = record c { rows = map {A = Row} (λ r. if has_key key r then touched t r else r) c.rows; hits = risen c.hits } in
+    let e : entries new.slots ≡ entries_of used =
+    now
+    ∙ (ap (λ (l : List Row). let x : Entries = record s { rows = l } in x) (touched_keyed key at t o sound)
+    ∙ ap (λ (y : Entries). let x : Entries = record y { rows = map {A = Row} (λ r. if has_key key r then touched t r else r) c.rows } in x) whole) in
+    let same : cache_of new ≡ used = cache_made new used e conf (record {
+      hits = ap (λ (x : Tally). x.hits) tally;
+      misses = ap (λ (x : Tally). x.misses) tally;
+      inserts = ap (λ (x : Tally). x.inserts) tally;
+      expunges = ap (λ (x : Tally). x.expunges) tally;
+    }) in (
+      same ∙ ap (λ (r : Option Row). looked_up key t r c) (sym live),
+      whole_made new used e same,
+    )

@@ -1,0 +1,64 @@
+-- The row that a look-up finds is the one of its key.
+use Rattle.std.proofs.Common.{◌≡◌, ℕ, Bool, true, false, cond, not, ◌&&◌, List, [], ◌∷◌, find, Option, Some, None, refl, sym, ap, ◌∙◌, subst}
+use Rattle.std.specs.Prelude.{is_some, option_map, IfSome, IfNone}
+use Rattle.std.specs.List.{list_any}
+use Rattle.std.proofs.lemmas.Bool.{and_parts, or_parts, not-true}
+use Rattle.apcu_model.specs.Cache.{Row, has_key}
+use Rattle.apcu_model.specs.Expiry.{is_hard_expired}
+use Rattle.apcu_model.specs.Rows.{are_apart}
+use Rattle.seg_words.specs.declared.segment.WordsIn.{Ghosts}
+use Rattle.entry_slots.specs.declared.head.Head.{Head}
+use Rattle.apcu_model.specs.Cache.{Cache}
+use Rattle.apcu_model.specs.Expiry.{live_row}
+use Rattle.entry_slots.specs.Facts.{IsSound}
+use Rattle.entry_slots.specs.Entries.{Entries}
+use Rattle.cache_core.specs.Looking.{IsFound}
+use Rattle.cache_core.proofs.Replacing.{IsOld, key_is, old_is}
+
+abbrev found : List ℕ → ℕ → List Row → Option Row
+found key t rows = find (λ row. has_key key row && not (is_hard_expired t row)) rows
+
+none_lives : (key : List ℕ) (t : ℕ) (rows : List Row) → list_any (has_key key) rows ≡ false → found key t rows ≡ None
+none_lives key t [] h = refl
+none_lives key t (row ∷ rows) h =
+    let parts = or_parts (has_key key row) (list_any (has_key key) rows) h in
+    ap (λ b. cond (b && not (is_hard_expired t row)) (Some row) (found key t rows)) parts.0 ∙ none_lives key t rows parts.1
+
+-- no row has the key
+pub not_live : (key : List ℕ) (t : ℕ) (rows : List Row) → find (has_key key) rows ≡ None → found key t rows ≡ None
+not_live key t [] h = refl
+not_live key t (row ∷ rows) h = go (has_key key row) refl h (not_live key t rows)
+  where
+    go : (b : Bool) → has_key key row ≡ b → cond b (Some row) (find (has_key key) rows) ≡ None → (find (has_key key) rows ≡ None → found key t rows ≡ None) → found key t (row ∷ rows) ≡ None
+    go true e q on = absurd (cc q)
+    go false e q on = ap (λ b. cond (b && not (is_hard_expired t row)) (Some row) (found key t rows)) e ∙ on q
+
+-- the row of the key is found unless its time is over
+pub live_as : (key : List ℕ) (t : ℕ) (rows : List Row) (row : Row) → are_apart rows ≡ true → find (has_key key) rows ≡ Some row → found key t rows ≡ cond (not (is_hard_expired t row)) (Some row) None
+live_as key t [] row apart h = absurd (cc h)
+live_as key t (r ∷ rows) row apart h = go (has_key key r) refl h (live_as key t rows row parts.1)
+  where
+    parts : (not (list_any (has_key r.key) rows) ≡ true) × (are_apart rows ≡ true)
+    parts = and_parts (not (list_any (has_key r.key) rows)) (are_apart rows) apart
+
+    go : (b : Bool) → has_key key r ≡ b → cond b (Some r) (find (has_key key) rows) ≡ Some row → (find (has_key key) rows ≡ Some row → found key t rows ≡ cond (not (is_hard_expired t row)) (Some row) None)
+        → found key t (r ∷ rows) ≡ cond (not (is_hard_expired t row)) (Some row) None
+    go true e q on =
+        let same : r ≡ row = cc q in
+        let none : list_any (has_key key) rows ≡ false = subst (λ k. list_any (has_key k) rows ≡ false) (key_is key r e) (not-true (list_any (has_key r.key) rows) parts.0) in
+        ap (λ b. cond (b && not (is_hard_expired t r)) (Some r) (found key t rows)) e
+        ∙ (ap (λ o. cond (not (is_hard_expired t r)) (Some r) o) (none_lives key t rows none)
+        ∙ ap (λ (x : Row). cond (not (is_hard_expired t x)) (Some x) None) same)
+    go false e q on = ap (λ b. cond (b && not (is_hard_expired t r)) (Some r) (found key t rows)) e ∙ on q
+
+-- whether one is found
+pub found_some : {X R : Type 0} (gh : Ghosts X R) (seg : X) (key : List ℕ) (t : ℕ) (c : Cache) (r : Option (ℕ × Head)) → IfSome r (λ p. IsFound gh seg key t c p.0 p.1) → IfNone r (live_row key t c ≡ None)
+    → is_some r ≡ is_some (live_row key t c)
+found_some gh seg key t c None some none = ap is_some (sym none)
+found_some gh seg key t c (Some p) some none = ap is_some (sym some.live)
+
+-- the one that is found is the one of its key
+pub old_found : {X R : Type 0} {gh : Ghosts X R} {seg : X} {key : List ℕ} {t at : ℕ} {c : Cache} {head : Head} {s : Entries} {words windows : List ℕ} → IsFound gh seg key t c at head → s.rows ≡ c.rows → IsSound s words windows
+    → IsOld s key at
+old_found {key = key} {at = at} {s = s} f same sound =
+    old_is key at sound (sym (ap (λ rows. option_map (λ (row : Row). row.place) (find (has_key key) rows)) same ∙ (ap (option_map (λ (row : Row). row.place)) f.first ∙ ap (λ n. Some n) f.place)))

@@ -1,0 +1,65 @@
+use Rattle.std.proofs.Common.{◌≡◌, ℕ, Bool, refl, sym, ap, ◌∙◌, subst, arith}
+use Rattle.seg_words.specs.Windows.{Aside}
+use Rattle.seg_words.specs.Probing.{Goes, goes_nowhere, goes_on}
+use Rattle.php_graph.specs.Size.{block_size}
+use Rattle.std.specs.Prelude.{length, Option, Some, None}
+use Rattle.entry_slots.specs.Entries.{Entries}
+use Rattle.entry_slots.specs.Standing.{entries}
+use Rattle.ttl_expunge.specs.Room.{MakesRoom}
+use Rattle.cache_core.specs.declared.cache.Core.{Core}
+use Rattle.cache_core.specs.Caching.{cache_of}
+use Rattle.cache_core.proofs.Caching.{whole_made}
+use Rattle.cache_core.proofs.Adding.{IsAfterRoom, none_added, row_added}
+use Rattle.cache_core.proofs.cache.Core.add.Goals as goal
+
+made_as : {s s1 : Entries} {a0 a1 : Aside} {n n' t : ℕ} {r r' : Option ℕ} {full : Bool} → n ≡ n' → r ≡ r' → MakesRoom s s1 a0 a1 n t r full → MakesRoom s s1 a0 a1 n' t r' full
+made_as {s} {s1} {a0} {a1} {n} {n'} {t} {r} {r'} {full} q o m =
+    subst (λ (x : Option ℕ). MakesRoom s s1 a0 a1 n' t x full) o (subst (λ (k : ℕ). MakesRoom s s1 a0 a1 k t r full) q m)
+
+pub make_room_next-place-requires-clause-limit : goal.make_room_next-place-requires-clause-limit
+make_room_next-place-requires-clause-limit g c = ap (λ (x : Entries). x.conf.ttl) (sym c.requires.stand.whole)
+
+pub make_room_next-place-requires-clause-whole : goal.make_room_next-place-requires-clause-whole
+make_room_next-place-requires-clause-whole g c = (ap (λ (x : Entries). x.unlinked) c.requires.stand.whole, ap (λ (x : Entries). x.taken) c.requires.stand.whole)
+
+pub put_in-requires-clause-limit : goal.put_in-requires-clause-limit
+put_in-requires-clause-limit g c = ap (λ (x : Entries). x.conf.ttl) (sym c.requires.stand.whole) ∙ sym (ap (λ k. k.ttl) c.make_room_next-place.ensures.made.conf_is)
+
+pub returns-in_default-clause-later : goal.returns-in_default-clause-later
+returns-in_default-clause-later g c = λ later on.
+    let new : Core = record { slots = c.make_room_next-place.new.slots; conf = c.args.self.now.conf; tally = c.after_room-self.result } in
+    let made = made_as c.block_words-n.ensures c.in_default.is c.make_room_next-place.ensures.made in
+    let after = c.after_room-self.ensures in
+    (none_added c.lower_laws.ensures c.args.self.now c.args.key.now c.args.g.now c.args.ttl c.args.t new c.requires.stand.whole made refl
+    (record { hits = after.hits; misses = after.misses; inserts = after.inserts; expunges = after.expunges }) later on).1
+
+pub returns-in_default-clause-stand : goal.returns-in_default-clause-stand
+returns-in_default-clause-stand g c =
+    let new : Core = record { slots = c.make_room_next-place.new.slots; conf = c.args.self.now.conf; tally = c.after_room-self.result } in
+    let made = made_as c.block_words-n.ensures c.in_default.is c.make_room_next-place.ensures.made in
+    let after = c.after_room-self.ensures in
+    let now = g.S.WordsIn.aside c.make_room_next-place.new.seg in
+    let same = (none_added c.lower_laws.ensures c.args.self.now c.args.key.now c.args.g.now c.args.ttl c.args.t new c.requires.stand.whole made refl
+    (record { hits = after.hits; misses = after.misses; inserts = after.inserts; expunges = after.expunges }) now (goes_nowhere now now refl)).0 in
+    record {
+      stand = c.make_room_next-place.ensures.stand;
+      whole = whole_made new _ (made.room (cache_of c.args.self.now) now c.requires.stand.whole (goes_nowhere now now refl)) same;
+    }
+
+pub returns-clause-later : goal.returns-clause-later
+returns-clause-later g c = λ later on.
+    let new : Core = record { slots = c.put_in.new.slots; conf = c.args.self.now.conf; tally = c.after_insert-self.result } in
+    let made = made_as c.block_words-n.ensures c.in-Some.is c.make_room_next-place.ensures.made in
+    let after = c.after_room-self.ensures in
+    (row_added c.lower_laws.ensures c.args.self.now c.args.key.now c.args.g.now c.args.ttl c.args.t new c.after_room-self.result c.requires.stand.whole made c.put_in.ensures.puts refl
+    (record { hits = after.hits; misses = after.misses; inserts = after.inserts; expunges = after.expunges }) c.after_insert-self.ensures later on).2
+
+pub returns-clause-stand : goal.returns-clause-stand
+returns-clause-stand g c =
+    let new : Core = record { slots = c.put_in.new.slots; conf = c.args.self.now.conf; tally = c.after_insert-self.result } in
+    let made = made_as c.block_words-n.ensures c.in-Some.is c.make_room_next-place.ensures.made in
+    let after = c.after_room-self.ensures in
+    let now = g.S.WordsIn.aside c.put_in.new.seg in
+    let all = row_added c.lower_laws.ensures c.args.self.now c.args.key.now c.args.g.now c.args.ttl c.args.t new c.after_room-self.result c.requires.stand.whole made c.put_in.ensures.puts refl
+    (record { hits = after.hits; misses = after.misses; inserts = after.inserts; expunges = after.expunges }) c.after_insert-self.ensures now (goes_nowhere now now refl) in
+    record { stand = c.put_in.ensures.stand; whole = whole_made new _ all.1 all.0 }

@@ -1,0 +1,29 @@
+use Rattle.std.proofs.Common.{refl}
+use Rattle.seg_words.specs.Windows.{held_blocks}
+use Rattle.seg_words.specs.Probing.{goes_nowhere}
+use Rattle.apcu_model.specs.Change.{swept}
+use Rattle.entry_slots.specs.Standing.{entries}
+use Rattle.cache_core.specs.declared.cache.Core.{Core}
+use Rattle.cache_core.specs.Caching.{cache_of}
+use Rattle.cache_core.proofs.Caching.{cache_made, whole_made, swept_later, sweeps_keep, sweeps_held}
+use Rattle.cache_core.proofs.cache.Core.sweep.Goals as goal
+
+pub returns : goal.returns
+returns g c =
+    let core = c.args.self.now in
+    let old = cache_of core in
+    let new : Core = record core { slots = c.sweep_removed.new.slots } in
+    let after = g.S.WordsIn.aside c.sweep_removed.new.seg in
+    let sweeps = c.sweep_removed.ensures.sweeps in
+    let whole = c.requires.stand.whole in
+    let now = swept (held_blocks after) old in
+    let e = swept_later old sweeps whole after (goes_nowhere after after refl) in
+    record {
+      later = λ later on. cache_made new (swept (held_blocks later) old) (swept_later old sweeps whole later on) refl (record { hits = refl; misses = refl; inserts = refl; expunges = refl });
+      goes = sweeps.goes;
+      keeps = sweeps_keep sweeps;
+      refused = sweeps.refused;
+      held = sweeps_held sweeps;
+      stand = record { stand = c.sweep_removed.ensures.stand; whole = whole_made new now e (cache_made new now e refl (record { hits = refl; misses = refl; inserts = refl; expunges = refl })) };
+      rest = c.sweep_removed.ensures.rest;
+    }

@@ -1,0 +1,25 @@
+-- What the words of a segment and a core stand for.
+use Rattle.std.specs.Prelude.{◌≡◌}
+use Rattle.seg_words.specs.declared.segment.WordsIn.{Ghosts}
+use Rattle.apcu_model.specs.Cache.{Cache}
+use Rattle.entry_slots.specs.Entries.{entries_of}
+use Rattle.entry_slots.specs.Standing.{Stand, entries}
+use Rattle.cache_core.specs.declared.cache.Core.{Core}
+
+-- the cache that a core keeps
+abbrev pub cache_of : Core → Cache
+cache_of core = record {
+  conf = core.conf;
+  rows = (entries core.slots).rows;
+  removed = (entries core.slots).removed;
+  next_number = (entries core.slots).next_number;
+  hits = core.tally.hits;
+  misses = core.tally.misses;
+  inserts = core.tally.inserts;
+  expunges = core.tally.expunges;
+}
+
+-- The words stand for it: no block is loose, and the shape is that of the words.
+pub record CacheStands {X R : Type 0} (g : Ghosts X R) (core : Core) (seg : X) : Type 0 where
+  pub stand : Stand g core.slots seg
+  pub whole : entries core.slots ≡ entries_of (cache_of core)

@@ -1,0 +1,6 @@
+pub mod Laws
+pub mod Placing
+pub mod Looking
+pub mod Caching
+pub mod Lending
+pub mod Storing

@@ -1,0 +1,75 @@
+ghost use Rattle.std.specs.Prelude.{◌≡◌, ℕ, ◌*◌, ◌≤◌, false, length, slice_index};
+ghost use Rattle.seg_words.specs.Kept.{KeptBeside};
+ghost use Rattle.seg_words.specs.Windows.{is_named};
+ghost use Rattle.std.specs.Borrow.{sem};
+ghost use Rattle.apcu_model.specs.Cache.{empty_cache, counts_of};
+ghost use Rattle.entry_slots.specs.Standing.{IsStanding};
+ghost use Rattle.apcu_model.specs.Conf.{IsGood};
+
+use crate::tally::Tally;
+use apcu_model::{Conf, Counts};
+use entry_slots::EntrySlots;
+use max_tree::MaxRow;
+use seg_words::{Segment, WordsIn};
+
+/// The cache over the words of a segment. It keeps what stands beside them: the entries, the shape and what is
+/// counted. No call takes memory.
+///
+/// Contracts see it as the cache of one thread (`cache_of`), by the blocks that are held as the call leaves the
+/// segment's windows and mask.
+#[derive(Drop)]
+pub struct Core {
+    pub(crate) slots: EntrySlots,
+    pub(crate) conf: Conf,
+    pub(crate) tally: Tally,
+}
+
+impl Core {
+    ghost use Rattle.cache_core.specs.Caching.{cache_of, CacheStands};
+    ghost use Rattle.cache_core.specs.Lending.{LendsSlots};
+
+    /// Makes a cache of this shape without rows. No window may be open.
+    ///
+    /// `gaps` is the memory of the index of gaps: zeros, one for every four words.
+    pub fn format<S: Segment>(seg: &mut S, conf: &Conf, gaps: MaxRow) -> Core
+        requires good { IsGood conf.now }
+        requires all { length (S.words seg.old) ≡ conf.now.words }
+        requires closed { (at : ℕ) → is_named (S.aside seg.old).windows at ≡ false }
+        requires enough { length (S.words seg.old) ≤ 4 * length gaps }
+        requires zeros { (i : ℕ) → slice_index gaps i ≡ 0 }
+        ensures made { cache_of result ≡ empty_cache conf.now }
+        ensures stand { CacheStands S.WordsIn result seg.new }
+        ensures beside { KeptBeside S.WordsIn seg.old seg.new }
+    {
+        Core { slots: EntrySlots::format(seg, conf, gaps), conf: *conf, tally: Tally::new() }
+    }
+
+    /// What was counted, and the number of rows. Each count stays at its last number once there.
+    pub fn counts(&self) -> Counts
+        requires stand { IsStanding self.now.slots }
+        ensures { result ≡ counts_of (cache_of self.now) }
+    {
+        Counts {
+            hits: self.tally.hits,
+            misses: self.tally.misses,
+            inserts: self.tally.inserts,
+            expunges: self.tally.expunges,
+            entries: u64::from(self.slots.rows()),
+        }
+    }
+
+    /// The entries, for walks over them.
+    pub fn slots(&mut self) -> &mut EntrySlots
+        ensures* lends { sem 𝓛 (LendsSlots self.entry result) }
+        ensures value { result.now ≡ self.old.slots }
+    {
+        &mut self.slots
+    }
+
+    /// The cache's shape.
+    pub fn conf(&self) -> &Conf
+        ensures { result.now ≡ (cache_of self.now).conf }
+    {
+        &self.conf
+    }
+}

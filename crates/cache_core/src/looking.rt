@@ -1,0 +1,118 @@
+//! Look-ups.
+
+ghost use Rattle.std.specs.Prelude.{◌≡◌, ℕ, ◌<◌, ◌^◌, true, length, is_some, option_map, IfSome, IfNone, IfOk, None};
+ghost use Rattle.seg_words.specs.Kept.{Kept, KeptBeside};
+ghost use Rattle.apcu_model.specs.Cache.{Row};
+ghost use Rattle.apcu_model.specs.Expiry.{live_row, is_hard_expired};
+ghost use Rattle.apcu_model.specs.Sequential.{looked_up};
+ghost use Rattle.cache_core.specs.Caching.{cache_of, CacheStands};
+ghost use Rattle.cache_core.specs.Looking.{look_at, look_of, IsFound};
+
+use crate::cache::Core;
+use crate::scalar::{Look, Scalar, read_scalar};
+use entry_slots::{Head, standing_laws};
+use php_graph::Graph;
+use seg_words::{Segment, WordsIn};
+use std::alloc::{AllocError, Global};
+use value_image::unpersist;
+
+// Whether the own time of a row of which this is noted is over.
+fn is_over(head: Head, t: u64) -> bool
+    ensures { (row : Row) → head.ttl ≡ row.ttl → head.ctime ≡ row.ctime
+        → result ≡ is_hard_expired t row }
+{
+    head.ttl > 0 && head.ctime.saturating_add(u64::from(head.ttl)) < t
+}
+
+// What a look-up answers that found the row at a place with this value.
+fn answer(at: u32, scalar: Option<Scalar>) -> Look
+    ensures { result ≡ look_at at scalar }
+{
+    match scalar {
+        Some(scalar) => Look::Scalar(scalar),
+        None => Look::Hit(at),
+    }
+}
+
+impl Core {
+    // The place of the row that a look-up of the key finds, and what its first words say.
+    pub(crate) fn find_live<S: Segment>(&self, seg: &mut S, key: &[u8], t: u64) -> Option<(u32, Head)>
+        requires short { length key.now < 2 ^ 32 }
+        requires stand { CacheStands S.WordsIn self.now seg.old }
+        ensures found { IfSome result (λ r.
+            IsFound S.WordsIn seg.old key.now t (cache_of self.now) r.0 r.1) }
+        ensures none { IfNone result (live_row key.now t (cache_of self.now) ≡ None) }
+        ensures kept { Kept S.WordsIn seg.old seg.new }
+    {
+        standing_laws();
+        let Some(at) = self.slots.find(seg, key) else {
+            return None;
+        };
+        let head = self.slots.head(seg, at);
+        if is_over(head, t) {
+            return None;
+        }
+        Some((at, head))
+    }
+
+    /// Whether a look-up of the key at the moment `t`, in seconds, finds a row. Nothing is counted.
+    pub fn exists<S: Segment>(&self, seg: &mut S, key: &[u8], t: u64) -> bool
+        requires short { length key.now < 2 ^ 32 }
+        requires stand { CacheStands S.WordsIn self.now seg.old }
+        ensures found { result ≡ is_some (live_row key.now t (cache_of self.now)) }
+        ensures kept { Kept S.WordsIn seg.old seg.new }
+    {
+        self.find_live(seg, key, t).is_some()
+    }
+
+    /// Looks a key up at the moment `t`: a row that is found is used and counts a hit, else a miss is counted. A
+    /// row whose own time is over is not found; one that is only stale by the cache's limit is, and is fresh again.
+    pub fn look<S: Segment>(&mut self, seg: &mut S, key: &[u8], t: u64) -> Look
+        requires short { length key.now < 2 ^ 32 }
+        requires stand { CacheStands S.WordsIn self.old seg.old }
+        ensures look { result ≡ look_of (live_row key.now t (cache_of self.old)) }
+        ensures cache { cache_of self.new
+            ≡ looked_up key.now t (live_row key.now t (cache_of self.old)) (cache_of self.old) }
+        ensures stand { CacheStands S.WordsIn self.new seg.new }
+        ensures beside { KeptBeside S.WordsIn seg.old seg.new }
+    {
+        standing_laws();
+        let Some((at, head)) = self.find_live(seg, key, t) else {
+            self.tally = self.tally.after_miss();
+            return Look::Miss;
+        };
+        let scalar = read_scalar(seg, head.image, head.image_len);
+        self.slots.touch(seg, at, t);
+        self.tally = self.tally.after_hit();
+        answer(at, scalar)
+    }
+
+    /// Fetches the value of a key at the moment `t`, as `look` does. Where memory is missing for the value, the
+    /// look-up still stands: the row was used, and a hit is counted.
+    pub fn fetch<S: Segment>(
+        &mut self,
+        alloc: Global,
+        seg: &mut S,
+        key: &[u8],
+        t: u64,
+    ) -> Result<Option<Graph>, AllocError>
+        requires short { length key.now < 2 ^ 32 }
+        requires stand { CacheStands S.WordsIn self.old seg.old }
+        ensures found { IfOk result (λ found. found
+            ≡ option_map (λ (row : Row). row.graph) (live_row key.now t (cache_of self.old))) }
+        ensures cache { cache_of self.new
+            ≡ looked_up key.now t (live_row key.now t (cache_of self.old)) (cache_of self.old) }
+        ensures stand { CacheStands S.WordsIn self.new seg.new }
+        ensures beside { KeptBeside S.WordsIn seg.old seg.new }
+    {
+        standing_laws();
+        let Some((at, head)) = self.find_live(seg, key, t) else {
+            self.tally = self.tally.after_miss();
+            return Ok(None);
+        };
+        let value = unpersist(alloc, seg, head.image, head.image_len);
+        self.slots.touch(seg, at, t);
+        self.tally = self.tally.after_hit();
+        Ok(Some(value?))
+    }
+}

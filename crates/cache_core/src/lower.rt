@@ -1,0 +1,17 @@
+//! What the crates below promise.
+
+ghost use Rattle.cache_core.specs.Laws.{Laws};
+
+use apcu_model::{count_laws, order_single};
+use entry_slots::standing_laws;
+use ttl_expunge::drop_laws;
+
+// Gathers the laws of the crates below that the calls here rest on.
+pub(crate) fn lower_laws()
+    ensures { Laws }
+{
+    standing_laws();
+    drop_laws();
+    order_single();
+    count_laws();
+}

@@ -1,0 +1,60 @@
+ghost use Rattle.std.specs.Prelude.{◌≡◌, ℕ, ◌≤◌, ◌<◌, ◌+◌, List};
+ghost use Rattle.php_graph.specs.declared.kind.Kind.{Kind};
+ghost use Rattle.seg_words.specs.Blocks.{IsTold};
+ghost use Rattle.seg_words.specs.Kept.{Kept};
+ghost use Rattle.value_image.specs.Image.{IsImageOf};
+ghost use Rattle.cache_core.specs.Looking.{scalar_of};
+
+use seg_words::WordsIn;
+use value_image::{images_are_runs, runs_stand};
+
+/// A value of one word or two, which is answered at once and never copied outside an event.
+#[derive(Clone, Copy, Debug, PartialEq, Eq)]
+pub enum Scalar {
+    Null,
+    Bool(bool),
+    Int(i64),
+}
+
+/// What a look-up finds.
+#[derive(Clone, Copy, Debug, PartialEq, Eq)]
+pub enum Look {
+    /// No live row has the key.
+    Miss,
+    /// A live row's value, where it is null, a truth value or an integer.
+    Scalar(Scalar),
+    /// The place of a live row's block, where the value is any other.
+    Hit(u32),
+}
+
+/// The code of null in a tag word, which holds a code and eight times a number.
+const NULL: u64 = 0;
+/// The code of a truth value.
+const BOOL: u64 = 1;
+/// The code of an integer.
+const INT: u64 = 2;
+
+// The value of which the image stands from place `at` on, if its first place is null, a truth value or an integer.
+pub(crate) fn read_scalar<W: WordsIn>(from: &mut W, at: u32, _len: u32) -> Option<Scalar>
+    requires image { (g : List Kind) × IsImageOf (W.words from.old) at _len g }
+    requires told { (i : ℕ) → at ≤ i → i < at + _len → IsTold (W.aside from.old).windows i }
+    ensures scalar { (g : List Kind) → IsImageOf (W.words from.old) at _len g
+        → result ≡ scalar_of g }
+    ensures kept { Kept W.WordsIn from.old from.new }
+{
+    images_are_runs();
+    runs_stand();
+    let tag = from.load(at);
+    let code = tag % 8;
+    if code == NULL {
+        return Some(Scalar::Null);
+    }
+    if code == BOOL {
+        return Some(Scalar::Bool(tag != BOOL));
+    }
+    if code != INT {
+        return None;
+    }
+    let number = from.load(at + 1);
+    Some(Scalar::Int(number.cast_signed()))
+}

@@ -1,0 +1,194 @@
+//! Storing.
+
+ghost use Rattle.std.specs.Prelude.{◌≡◌, ◌≢◌, ℕ, ◌<◌, ◌^◌, ◌-◌, ◌&&◌, nat_lt, false, List, length, is_some, IfSome, IfNone};
+ghost use Rattle.seg_words.specs.Kept.{Kept};
+ghost use Rattle.seg_words.specs.Windows.{Aside, has, held_blocks};
+ghost use Rattle.seg_words.specs.Probing.{Goes};
+ghost use Rattle.php_graph.specs.Size.{block_size};
+ghost use Rattle.apcu_model.specs.Change.{inserted, swept};
+ghost use Rattle.apcu_model.specs.Expiry.{live_row};
+ghost use Rattle.entry_slots.specs.Standing.{entries};
+ghost use Rattle.ttl_expunge.specs.Held.{AreRemoved, AreHeld, KeepsOpen};
+ghost use Rattle.cache_core.specs.Caching.{cache_of, CacheStands};
+ghost use Rattle.cache_core.specs.Storing.{added, IsEarly};
+ghost use Rattle.apcu_model.specs.declared.request.StoreAnswer.TheVariants as answers;
+
+use crate::cache::Core;
+use crate::lower::lower_laws;
+use crate::placing::put_in;
+use apcu_model::StoreAnswer;
+use php_graph::{Graph, block_words};
+use seg_words::{Segment, WordsIn};
+use ttl_expunge::{make_room_next, sweep_removed};
+
+impl Core {
+    /// Stores a value at the moment `t`, in seconds. `ttl` is in seconds, 0 is no limit; an `exclusive` store leaves a
+    /// live row as it is. No place may be refused before in this event.
+    ///
+    /// `TooLarge` where the value could not even fit into an empty segment, then `Exists` where an exclusive store
+    /// meets a live row; nothing changed then. `NoRoom` where no gap is large enough, not even after room was made.
+    pub fn store<S: Segment>(
+        &mut self,
+        seg: &mut S,
+        key: &[u8],
+        g: &Graph,
+        ttl: u32,
+        exclusive: bool,
+        t: u64,
+    ) -> StoreAnswer
+        requires short { length key.now < 2 ^ 32 }
+        requires stand { CacheStands S.WordsIn self.old seg.old }
+        requires fresh { (b : ℕ) → has b (S.aside seg.old).refused ≡ false }
+        ensures answer { result ≡ (inserted (held_blocks (S.aside seg.new))
+            key.now g.now ttl exclusive t (cache_of self.old)).answer }
+        ensures cache { cache_of self.new ≡ (inserted (held_blocks (S.aside seg.new))
+            key.now g.now ttl exclusive t (cache_of self.old)).cache }
+        ensures later { (later : Aside) → Goes (S.aside seg.new) later
+            → inserted (held_blocks later) key.now g.now ttl exclusive t (cache_of self.old)
+            ≡ record { answer = result; cache = cache_of self.new } }
+        ensures goes { Goes (S.aside seg.old) (S.aside seg.new) }
+        ensures keeps { KeepsOpen (S.aside seg.new).windows
+            (entries self.old.slots) (entries self.new.slots) }
+        ensures refused { AreRemoved (S.aside seg.new) (cache_of self.new).removed }
+        ensures held { result ≢ answers.TooLarge → result ≢ answers.Exists
+            → AreHeld (S.aside seg.new) (cache_of self.new).removed }
+        ensures stand { CacheStands S.WordsIn self.new seg.new }
+        ensures rest { S.rest seg.new ≡ S.rest seg.old }
+    {
+        lower_laws();
+        if let Some(answer) = self.refusal(seg, key, g, exclusive, t) {
+            return answer;
+        }
+        self.sweep(seg);
+        self.add(seg, key, g, ttl, t)
+    }
+
+    /// Stores a value as `store` does, after an insertion of the same event that answered `Stored` or `NoRoom`: the
+    /// removed rows that it left are held, and none is swept.
+    pub fn store_next<S: Segment>(
+        &mut self,
+        seg: &mut S,
+        key: &[u8],
+        g: &Graph,
+        ttl: u32,
+        exclusive: bool,
+        t: u64,
+    ) -> StoreAnswer
+        requires short { length key.now < 2 ^ 32 }
+        requires stand { CacheStands S.WordsIn self.old seg.old }
+        requires held { AreHeld (S.aside seg.old) (cache_of self.old).removed }
+        requires refused { AreRemoved (S.aside seg.old) (cache_of self.old).removed }
+        ensures answer { result ≡ (inserted (held_blocks (S.aside seg.new))
+            key.now g.now ttl exclusive t (cache_of self.old)).answer }
+        ensures cache { cache_of self.new ≡ (inserted (held_blocks (S.aside seg.new))
+            key.now g.now ttl exclusive t (cache_of self.old)).cache }
+        ensures later { (later : Aside) → Goes (S.aside seg.new) later
+            → inserted (held_blocks later) key.now g.now ttl exclusive t (cache_of self.old)
+            ≡ record { answer = result; cache = cache_of self.new } }
+        ensures goes { Goes (S.aside seg.old) (S.aside seg.new) }
+        ensures keeps { KeepsOpen (S.aside seg.new).windows
+            (entries self.old.slots) (entries self.new.slots) }
+        ensures refused { AreRemoved (S.aside seg.new) (cache_of self.new).removed }
+        ensures held { AreHeld (S.aside seg.new) (cache_of self.new).removed }
+        ensures stand { CacheStands S.WordsIn self.new seg.new }
+        ensures rest { S.rest seg.new ≡ S.rest seg.old }
+    {
+        lower_laws();
+        if let Some(answer) = self.refusal(seg, key, g, exclusive, t) {
+            return answer;
+        }
+        self.add(seg, key, g, ttl, t)
+    }
+
+    // Why the value is not stored, though there may be room for it.
+    fn refusal<S: Segment>(
+        &self,
+        seg: &mut S,
+        key: &[u8],
+        g: &Graph,
+        exclusive: bool,
+        t: u64,
+    ) -> Option<StoreAnswer>
+        requires short { length key.now < 2 ^ 32 }
+        requires stand { CacheStands S.WordsIn self.now seg.old }
+        ensures none { IfNone result ((held : List ℕ) (ttl : ℕ)
+            → inserted held key.now g.now ttl exclusive t (cache_of self.now)
+            ≡ added held key.now g.now ttl t (cache_of self.now)) }
+        ensures some { IfSome result (λ answer. (held : List ℕ) (ttl : ℕ)
+            → inserted held key.now g.now ttl exclusive t (cache_of self.now)
+            ≡ record { answer = answer; cache = cache_of self.now }) }
+        ensures which { IfSome result (λ answer. IsEarly answer) }
+        ensures fits { IfNone result (block_size (length key.now) g.now < 2 ^ 32) }
+        ensures kept { Kept S.WordsIn seg.old seg.new }
+    {
+        let room = self.conf.words - self.conf.slots;
+        let n = block_words(key.len() as u64, g);
+        if n > u64::from(room) {
+            return Some(StoreAnswer::TooLarge);
+        }
+        if !exclusive {
+            return None;
+        }
+        let live = self.exists(seg, key, t);
+        if live {
+            return Some(StoreAnswer::Exists);
+        }
+        None
+    }
+
+    // Frees the removed rows that nobody copies any more.
+    fn sweep<S: Segment>(&mut self, seg: &mut S)
+        requires stand { CacheStands S.WordsIn self.old seg.old }
+        requires fresh { (b : ℕ) → has b (S.aside seg.old).refused ≡ false }
+        ensures later { (later : Aside) → Goes (S.aside seg.new) later
+            → cache_of self.new ≡ swept (held_blocks later) (cache_of self.old) }
+        ensures goes { Goes (S.aside seg.old) (S.aside seg.new) }
+        ensures keeps { KeepsOpen (S.aside seg.new).windows
+            (entries self.old.slots) (entries self.new.slots) }
+        ensures refused { AreRemoved (S.aside seg.new) (cache_of self.new).removed }
+        ensures held { AreHeld (S.aside seg.new) (cache_of self.new).removed }
+        ensures stand { CacheStands S.WordsIn self.new seg.new }
+        ensures rest { S.rest seg.new ≡ S.rest seg.old }
+    {
+        lower_laws();
+        sweep_removed(&mut self.slots, seg);
+    }
+
+    // Makes room for a new row, and puts it there.
+    fn add<S: Segment>(
+        &mut self,
+        seg: &mut S,
+        key: &[u8],
+        g: &Graph,
+        ttl: u32,
+        t: u64,
+    ) -> StoreAnswer
+        requires short { length key.now < 2 ^ 32 }
+        requires fits { block_size (length key.now) g.now < 2 ^ 32 }
+        requires stand { CacheStands S.WordsIn self.old seg.old }
+        requires held { AreHeld (S.aside seg.old) (cache_of self.old).removed }
+        requires refused { AreRemoved (S.aside seg.old) (cache_of self.old).removed }
+        ensures later { (later : Aside) → Goes (S.aside seg.new) later
+            → added (held_blocks later) key.now g.now ttl t (cache_of self.old)
+            ≡ record { answer = result; cache = cache_of self.new } }
+        ensures goes { Goes (S.aside seg.old) (S.aside seg.new) }
+        ensures keeps { KeepsOpen (S.aside seg.new).windows
+            (entries self.old.slots) (entries self.new.slots) }
+        ensures refused { AreRemoved (S.aside seg.new) (cache_of self.new).removed }
+        ensures held { AreHeld (S.aside seg.new) (cache_of self.new).removed }
+        ensures stand { CacheStands S.WordsIn self.new seg.new }
+        ensures rest { S.rest seg.new ≡ S.rest seg.old }
+    {
+        lower_laws();
+        let n = block_words(key.len() as u64, g);
+        let limit = self.conf.ttl;
+        let (place, full) = make_room_next(&mut self.slots, seg, n as u32, limit, t);
+        self.tally = self.tally.after_room(full);
+        let Some(at) = place else {
+            return StoreAnswer::NoRoom;
+        };
+        put_in(&mut self.slots, seg, at, key, g, ttl, limit, t);
+        self.tally = self.tally.after_insert();
+        StoreAnswer::Stored
+    }
+}

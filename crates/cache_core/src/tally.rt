@@ -1,0 +1,55 @@
+ghost use Rattle.std.specs.Prelude.{◌≡◌, if◌then◌else◌};
+ghost use Rattle.apcu_model.specs.Cache.{risen};
+
+/// What a cache counts. Each count stays at its last number once there.
+#[derive(Clone, Copy, Debug, PartialEq, Eq)]
+pub(crate) struct Tally {
+    pub(crate) hits: u64,
+    pub(crate) misses: u64,
+    pub(crate) inserts: u64,
+    pub(crate) expunges: u64,
+}
+
+impl Tally {
+    // Nothing was counted.
+    pub(crate) fn new() -> Tally
+        ensures { result ≡ record { hits = 0; misses = 0; inserts = 0; expunges = 0 } }
+    {
+        Tally { hits: 0, misses: 0, inserts: 0, expunges: 0 }
+    }
+
+    // Room was made. Where all rows went for it, what was counted since the last time is forgotten.
+    pub(crate) fn after_room(self, full: bool) -> Tally
+        ensures hits { result.hits ≡ (if full then 0 else self.hits) }
+        ensures misses { result.misses ≡ (if full then 0 else self.misses) }
+        ensures inserts { result.inserts ≡ (if full then 0 else self.inserts) }
+        ensures expunges { result.expunges ≡ (if full then risen self.expunges else self.expunges) }
+    {
+        if full {
+            Tally { hits: 0, misses: 0, inserts: 0, expunges: self.expunges.saturating_add(1) }
+        } else {
+            self
+        }
+    }
+
+    // A row was stored.
+    pub(crate) fn after_insert(self) -> Tally
+        ensures { result ≡ record self { inserts = risen self.inserts } }
+    {
+        Tally { inserts: self.inserts.saturating_add(1), ..self }
+    }
+
+    // A look-up found a row.
+    pub(crate) fn after_hit(self) -> Tally
+        ensures { result ≡ record self { hits = risen self.hits } }
+    {
+        Tally { hits: self.hits.saturating_add(1), ..self }
+    }
+
+    // A look-up found none.
+    pub(crate) fn after_miss(self) -> Tally
+        ensures { result ≡ record self { misses = risen self.misses } }
+    {
+        Tally { misses: self.misses.saturating_add(1), ..self }
+    }
+}

@@ -1,0 +1,110 @@
+-- A fault of scripts lies within their bytes.
+use Rattle.std.proofs.Common.{◌≡◌, ℕ, zero, suc, ◌≤◌, Bool, true, false, cond, List, [], ◌∷◌, length, drop, Result, Ok, Err, refl, sym, ap, subst, arith}
+use Rattle.std.specs.Prelude.{◌==◌, nat_lt, MatchResult}
+use Rattle.std.proofs.lemmas.List.{length-drop}
+use Rattle.php_graph.specs.declared.kind.Kind.{Kind}
+use Rattle.notation.specs.declared.fault.Reason.TheVariants as reasons
+use Rattle.notation.specs.declared.fault.Fault.{Fault}
+use Rattle.notation.specs.Marks.{◌>>=◌, fail}
+use Rattle.notation.specs.Reading.{reading_of}
+use Rattle.script_read.specs.declared.effect.Effect.{Effect}
+use Rattle.script_read.specs.declared.effect.Effect.TheVariants.{Sets, Calls}
+use Rattle.script_read.specs.declared.script.Step.{Step}
+use Rattle.script_read.specs.Table.{Form, Done, Need, May, Refuse}
+use Rattle.script_read.specs.Grammar.{most_workers}
+use Rattle.script_read.specs.Reading.{space_at, one_more_at, end_at, ends_here, rest_at, word_len, word_at, behind_word, worker_at, form_after, line_at, is_worker, Rest, with_effect, lines_at, scripts_at}
+
+-- no more than n bytes are left, or are there from the fault on
+abbrev Within : {A : Type 0} → ℕ → (A → List ℕ) → Result A Fault → Type 0
+Within n left (Ok x) = length (left x) ≤ n
+Within n left (Err f) = f.left ≤ n
+
+-- reading a value stays inside its bytes
+abbrev pub ValuesInside : Type 0
+ValuesInside = (bytes : List ℕ) → MatchResult (reading_of bytes) (λ x. length x.1 ≤ length bytes) (λ fault. fault.left ≤ length bytes)
+
+then_within : {A B : Type 0} (n : ℕ) (left : A → List ℕ) (left' : B → List ℕ) (r : Result A Fault) (f : A → Result B Fault) → Within n left r → ((x : A) → length (left x) ≤ n → Within n left' (f x)) → Within n left' (r >>= f)
+then_within n left left' (Ok x) f h more = more x h
+then_within n left left' (Err e) f h more = h
+
+cond_within : {A : Type 0} (n : ℕ) (left : A → List ℕ) (b : Bool) (x y : Result A Fault) → Within n left x → Within n left y → Within n left (cond b x y)
+cond_within n left true x y p q = p
+cond_within n left false x y p q = q
+
+abbrev same : List ℕ → List ℕ
+same bytes = bytes
+
+abbrev behind : {A : Type 0} → A × List ℕ → List ℕ
+behind p = p.1
+
+-- nothing is left
+abbrev none : {A : Type 0} → A → List ℕ
+none x = []
+
+space_within : (n : ℕ) (bytes : List ℕ) → length bytes ≤ n → Within n same (space_at bytes)
+unfolding space_at
+space_within n [] h = omega arith
+space_within n (b ∷ rest) h =
+    cond_within n same (b == 32) (Ok rest) (cond (b == 10) (fail reasons.Argument (b ∷ rest)) (fail reasons.Separator (b ∷ rest))) (omega (arith, h))
+    (cond_within n same (b == 10) (fail reasons.Argument (b ∷ rest)) (fail reasons.Separator (b ∷ rest)) h h)
+
+one_more_within : (n : ℕ) (bytes : List ℕ) → length bytes ≤ n → Within n same (one_more_at bytes)
+one_more_within n [] h = omega arith
+one_more_within n (b ∷ rest) h = h
+
+end_within : (n : ℕ) (bytes : List ℕ) → length bytes ≤ n → Within n same (end_at bytes)
+unfolding end_at
+end_within n [] h = omega arith
+end_within n (b ∷ rest) h =
+    cond_within n same (b == 10) (Ok rest) (cond (b == 32) (one_more_at rest) (fail reasons.Separator (b ∷ rest))) (omega (arith, h))
+    (cond_within n same (b == 32) (one_more_at rest) (fail reasons.Separator (b ∷ rest)) (one_more_within n rest (omega (arith, h))) h)
+
+value_within : ValuesInside → (n : ℕ) (bytes : List ℕ) → length bytes ≤ n → Within n (behind {A = List Kind}) (reading_of bytes)
+value_within law n bytes h = by_result (reading_of bytes) (law bytes)
+  where
+    by_result : (r : Result (List Kind × List ℕ) Fault) → MatchResult r (λ x. length x.1 ≤ length bytes) (λ fault. fault.left ≤ length bytes) → Within n (behind {A = List Kind}) r
+    by_result (Ok x) within = omega (arith, within, h)
+    by_result (Err e) within = omega (arith, within, h)
+
+form_within : ValuesInside → (form : Form) (n : ℕ) (last bytes : List ℕ) → length last ≤ n → length bytes ≤ n → Within n (behind {A = Effect}) (rest_at form last bytes)
+unfolding rest_at
+form_within law (Done e) n last bytes l h = then_within n same behind (end_at bytes) (λ after. Ok (e, after)) (end_within n bytes h) (λ after k. k)
+form_within law (Need next) n last bytes l h =
+    then_within n same behind (space_at bytes) (λ argument. reading_of argument >>= λ v. rest_at (next v.0) argument v.1) (space_within n bytes h)
+    (λ argument k. then_within n behind behind (reading_of argument) (λ v. rest_at (next v.0) argument v.1) (value_within law n argument k) (λ v m. form_within law (next v.0) n argument v.1 k m))
+form_within law (May short next) n last bytes l h =
+    cond_within n behind (ends_here bytes) (rest_at short last bytes) (space_at bytes >>= λ argument. reading_of argument >>= λ v. rest_at (next v.0) argument v.1) (form_within law short n last bytes l h)
+    (then_within n same behind (space_at bytes) (λ argument. reading_of argument >>= λ v. rest_at (next v.0) argument v.1) (space_within n bytes h)
+    (λ argument k. then_within n behind behind (reading_of argument) (λ v. rest_at (next v.0) argument v.1) (value_within law n argument k) (λ v m. form_within law (next v.0) n argument v.1 k m)))
+form_within law (Refuse reason) n last bytes l h = l
+
+worker_within : (n begun : ℕ) (line : List ℕ) → length line ≤ n → Within n same (worker_at begun line)
+worker_within n begun line h =
+    cond_within n same (nat_lt begun most_workers) (end_at (behind_word line)) (fail reasons.Unbuilt line) (end_within n (behind_word line) (omega (arith, h, length-drop (word_len line) line))) h
+
+line_within : ValuesInside → (n begun : ℕ) (line : List ℕ) → length line ≤ n → Within n (behind {A = Effect}) (line_at begun line)
+line_within law n begun line h = form_within law (form_after begun (word_at line)) n line (behind_word line) h (omega (arith, h, length-drop (word_len line) line))
+
+effect_within : (n t : ℕ) (others : ℕ → Result Rest Fault) (e : Effect) → ((u : ℕ) → Within n (none {A = Rest}) (others u)) → Within n (none {A = Rest}) (with_effect t others e)
+effect_within n t others (Sets u) within = within u
+effect_within n t others (Calls call) within = then_within n none none (others t) (λ more. Ok (record { t = t; call = call } ∷ more.0, more.1)) (within t) (λ more k. omega arith)
+
+lines_within : ValuesInside → (lines begun t n : ℕ) (bytes : List ℕ) → length bytes ≤ n → Within n (none {A = Rest}) (lines_at lines begun t bytes)
+unfolding lines_at
+lines_within law zero begun t n [] h = omega arith
+lines_within law (suc lines) begun t n [] h = omega arith
+lines_within law zero begun t n (b ∷ rest) h = omega arith
+lines_within law (suc lines) begun t n (b ∷ rest) h =
+    cond_within n none (is_worker (b ∷ rest))
+    (worker_at begun (b ∷ rest) >>= λ after. lines_at lines (suc begun) 0 after >>= λ more. Ok ([], more.0 ∷ more.1))
+    (line_at begun (b ∷ rest) >>= λ e. with_effect t (λ u. lines_at lines begun u e.1) e.0)
+    (then_within n same none (worker_at begun (b ∷ rest)) (λ after. lines_at lines (suc begun) 0 after >>= λ more. Ok ([], more.0 ∷ more.1)) (worker_within n begun (b ∷ rest) h)
+    (λ after k. then_within n none none (lines_at lines (suc begun) 0 after) (λ more. Ok ([], more.0 ∷ more.1)) (lines_within law lines (suc begun) 0 n after k) (λ more m. omega arith)))
+    (then_within n behind none (line_at begun (b ∷ rest)) (λ e. with_effect t (λ u. lines_at lines begun u e.1) e.0) (line_within law n begun (b ∷ rest) h)
+    (λ e k. effect_within n t (λ u. lines_at lines begun u e.1) e.0 (λ u. lines_within law lines begun u n e.1 k)))
+
+pub scripts_inside : ValuesInside → (bytes : List ℕ) (fault : Fault) → scripts_at bytes ≡ Err fault → fault.left ≤ length bytes
+unfolding scripts_at
+scripts_inside law bytes fault e =
+    subst (λ (r : Result (List (List Step)) Fault). Within (length bytes) (none {A = List (List Step)}) r) e
+    (then_within (length bytes) none none (lines_at (length bytes) 0 0 bytes) (λ rest. Ok rest.1) (lines_within law (length bytes) 0 0 (length bytes) bytes (omega arith)) (λ rest k. omega arith))

@@ -1,0 +1,10 @@
+pub mod Values
+pub mod Forms
+pub mod Spelled
+pub mod Rows
+pub mod Keywords
+pub mod Asking
+pub mod Inside
+pub mod Walking
+pub mod Members
+pub mod Answered

@@ -1,0 +1,159 @@
+-- A row of the table, as the steps that a function of its own takes: each argument by what it is made of.
+use Rattle.std.proofs.Common.{◌≡◌, ℕ, Bool, true, false, cond, List, [], ◌∷◌, Option, Some, None, Result, Ok, Err, refl, sym, ap, subst, ◌∙◌}
+use Rattle.std.specs.Prelude.{codes}
+use Rattle.std.specs.Option.{option_map}
+use Rattle.php_graph.specs.declared.kind.Kind.{Kind}
+use Rattle.notation.specs.declared.fault.Fault.{Fault}
+use Rattle.notation.specs.Marks.{◌>>=◌, fail}
+use Rattle.notation.specs.Reading.{reading_of}
+use Rattle.script_read.specs.declared.call.Call.TheVariants.{StoreOne, StoreMany}
+use Rattle.script_read.specs.declared.effect.Effect.{Effect}
+use Rattle.script_read.specs.declared.effect.Effect.TheVariants.{Sets, Calls}
+use Rattle.script_read.specs.declared.given.Asked.{Asked}
+use Rattle.script_read.specs.declared.given.Stored.{Stored}
+use Rattle.script_read.specs.declared.given.Stored.TheVariants as stores
+use Rattle.script_read.specs.Arguments.{any_value, null, ttl, moment, asked, stored}
+use Rattle.script_read.specs.Table.{Form, Done, Need, May, Refuse, or_refuse, taken, needs, may, calls, store_one, store_many, store_by, fetch_of, exists_of, delete_of, form_in, form_of}
+use Rattle.script_read.specs.Reading.{space_at, ends_here, end_at, chosen, choice_at, argument_at, optional_at, last_argument_at, rest_at, word_at, behind_word, before_worker, form_after, line_at}
+use Rattle.script_read.specs.declared.keyword.Keyword.{Keyword}
+use Rattle.script_read.specs.declared.fault.Stop.{Stop}
+use Rattle.script_read.specs.declared.fault.Stop.TheVariants as stops
+use Rattle.script_read.specs.Gives.{Stops, Gives, form_named}
+use Rattle.notation.specs.declared.fault.Reason.{Reason}
+
+-- a form that refuses nothing by itself
+abbrev pub Goes : Form → Type 0
+Goes (Done e) = Unit {0}
+Goes (Need next) = Unit {0}
+Goes (May short next) = Goes short
+Goes (Refuse reason) = ⊥
+
+-- such a form does not look at what stands last
+pub last_is : (form : Form) (a b bytes : List ℕ) → Goes form → rest_at form a bytes ≡ rest_at form b bytes
+unfolding rest_at
+last_is (Done e) a b bytes goes = refl
+last_is (Need next) a b bytes goes = refl
+last_is (May short next) a b bytes goes = ap (λ (r : Result (Effect × List ℕ) Fault). cond (ends_here bytes) r (space_at bytes >>= λ argument. reading_of argument >>= λ v. rest_at (next v.0) argument v.1)) (last_is short a b bytes goes)
+last_is (Refuse reason) a b bytes goes = absurd goes
+
+-- what follows an argument
+abbrev on : {A : Type 0} → (A → Form) → Result (A × List ℕ) Fault → Result (Effect × List ℕ) Fault
+on next r = r >>= λ x. rest_at (next x.0) [] x.1
+
+value_on : {A : Type 0} (choose : List Kind → Option A) (next : A → Form) (argument : List ℕ) (r : Result (List Kind × List ℕ) Fault) → ((x : A) → Goes (next x))
+    → (r >>= λ v. rest_at (taken choose next v.0) argument v.1) ≡ on next (r >>= λ v. chosen (choose v.0) argument v.1)
+unfolding rest_at
+value_on {A = A} choose next argument (Err e) goes = refl
+value_on {A = A} choose next argument (Ok v) goes = by_choice (choose v.0)
+  where
+    by_choice : (o : Option A) → rest_at (or_refuse (option_map next o)) argument v.1 ≡ on next (chosen o argument v.1)
+    by_choice None = refl
+    by_choice (Some x) = last_is (next x) argument [] v.1 (goes x)
+
+space_on : {A : Type 0} (choose : List Kind → Option A) (next : A → Form) (r : Result (List ℕ) Fault) → ((x : A) → Goes (next x))
+    → (r >>= λ argument. reading_of argument >>= λ v. rest_at (taken choose next v.0) argument v.1) ≡ on next (r >>= λ argument. choice_at choose argument)
+space_on choose next (Err e) goes = refl
+space_on choose next (Ok argument) goes = value_on choose next argument (reading_of argument) goes
+
+pub needs_is : {A : Type 0} (choose : List Kind → Option A) (next : A → Form) (last bytes : List ℕ) → ((x : A) → Goes (next x)) → rest_at (needs choose next) last bytes ≡ on next (argument_at choose bytes)
+unfolding rest_at
+needs_is choose next last bytes goes = space_on choose next (space_at bytes) goes
+
+pub may_is : {A : Type 0} (default : A) (choose : List Kind → Option A) (next : A → Form) (last bytes : List ℕ) → ((x : A) → Goes (next x)) → rest_at (may default choose next) last bytes ≡ on next (optional_at default choose bytes)
+unfolding rest_at
+may_is {A = A} default choose next last bytes goes = by_end (ends_here bytes)
+  where
+    by_end : (b : Bool) → cond b (rest_at (next default) last bytes) (space_at bytes >>= λ argument. reading_of argument >>= λ v. rest_at (taken choose next v.0) argument v.1) ≡ on next (cond b (Ok (default, bytes)) (argument_at choose bytes))
+    by_end true = last_is (next default) last [] bytes (goes default)
+    by_end false = space_on choose next (space_at bytes) goes
+
+-- ---- words, each by the two above
+
+then_is : {A B : Type 0} (r : Result A Fault) (f g : A → Result B Fault) → ((x : A) → f x ≡ g x) → (r >>= f) ≡ (r >>= g)
+then_is (Ok x) f g same = same x
+then_is (Err e) f g same = refl
+
+-- the end of the line, after which this is its effect
+abbrev pub ended : {A : Type 0} → (A → Effect) → A × List ℕ → Result (Effect × List ℕ) Fault
+ended effect x = end_at x.1 >>= λ rest. Ok (effect x.0, rest)
+
+pub time_is : (last bytes : List ℕ) → rest_at (form_of (codes "time")) last bytes ≡ (argument_at moment bytes >>= ended Sets)
+unfolding form_in rest_at
+time_is last bytes = needs_is moment (λ t. Done (Sets t)) last bytes (λ t. tt)
+
+pub store_one_is : (exclusive : Bool) (k last bytes : List ℕ) → rest_at (store_one exclusive k) last bytes
+    ≡ (argument_at any_value bytes >>= λ v. optional_at 0 ttl v.1 >>= ended (λ t. Calls (StoreOne k v.0 t exclusive)))
+unfolding rest_at
+store_one_is exclusive k last bytes =
+    needs_is any_value (λ v. may 0 ttl (λ t. calls (StoreOne k v t exclusive))) last bytes (λ v. tt)
+    ∙ then_is (argument_at any_value bytes) _ _ (λ v. may_is 0 ttl (λ t. calls (StoreOne k v.0 t exclusive)) [] v.1 (λ t. tt))
+
+pub store_many_is : (exclusive : Bool) (ps : List (List ℕ × List Kind)) (last bytes : List ℕ) → rest_at (store_many exclusive ps) last bytes
+    ≡ (optional_at tt null bytes >>= λ n. optional_at 0 ttl n.1 >>= ended (λ t. Calls (StoreMany ps t exclusive)))
+unfolding rest_at
+store_many_is exclusive ps last bytes =
+    may_is tt null (λ n. may 0 ttl (λ t. calls (StoreMany ps t exclusive))) last bytes (λ n. tt)
+    ∙ then_is (optional_at tt null bytes) _ _ (λ n. may_is 0 ttl (λ t. calls (StoreMany ps t exclusive)) [] n.1 (λ t. tt))
+
+by_goes : (exclusive : Bool) (s : Stored) → Goes (store_by exclusive s)
+by_goes exclusive (stores.One k) = tt
+by_goes exclusive (stores.Many ps) = tt
+
+pub stored_is : (exclusive : Bool) (last bytes : List ℕ) → rest_at (needs stored (store_by exclusive)) last bytes ≡ (argument_at stored bytes >>= λ s. rest_at (store_by exclusive s.0) [] s.1)
+stored_is exclusive last bytes = needs_is stored (store_by exclusive) last bytes (by_goes exclusive)
+
+-- the argument and the end first, and its effect then
+abbrev kept : {A : Type 0} → A → List ℕ → Result (A × List ℕ) Fault
+kept x rest = Ok (x, rest)
+
+effect_last : {A : Type 0} (r : Result (A × List ℕ) Fault) (effect : A → Effect) → (r >>= ended effect) ≡ ((r >>= λ x. end_at x.1 >>= λ rest. kept x.0 rest) >>= λ a. kept (effect a.0) a.1)
+effect_last {A = A} (Err e) effect = refl
+effect_last {A = A} (Ok x) effect = by_end (end_at x.1)
+  where
+    by_end : (r : Result (List ℕ) Fault) → (r >>= λ rest. kept (effect x.0) rest) ≡ ((r >>= λ rest. kept x.0 rest) >>= λ a. kept (effect a.0) a.1)
+    by_end (Ok rest) = refl
+    by_end (Err e) = refl
+
+pub fetch_is : (last bytes : List ℕ) → rest_at (form_of (codes "apcu_fetch")) last bytes ≡ (last_argument_at asked bytes >>= λ a. Ok (Calls (fetch_of a.0), a.1))
+unfolding form_in rest_at
+fetch_is last bytes = needs_is asked (λ a. calls (fetch_of a)) last bytes (λ a. tt) ∙ effect_last (argument_at asked bytes) (λ a. Calls (fetch_of a))
+
+pub exists_is : (last bytes : List ℕ) → rest_at (form_of (codes "apcu_exists")) last bytes ≡ (last_argument_at asked bytes >>= λ a. Ok (Calls (exists_of a.0), a.1))
+unfolding form_in rest_at
+exists_is last bytes = needs_is asked (λ a. calls (exists_of a)) last bytes (λ a. tt) ∙ effect_last (argument_at asked bytes) (λ a. Calls (exists_of a))
+
+pub delete_is : (last bytes : List ℕ) → rest_at (form_of (codes "apcu_delete")) last bytes ≡ (last_argument_at asked bytes >>= λ a. Ok (Calls (delete_of a.0), a.1))
+unfolding form_in rest_at
+delete_is last bytes = needs_is asked (λ a. calls (delete_of a)) last bytes (λ a. tt) ∙ effect_last (argument_at asked bytes) (λ a. Calls (delete_of a))
+
+-- ---- stores
+
+pub stored_at : (exclusive : Bool) (last bytes : List ℕ) (s : Stored) (rest : List ℕ) → argument_at stored bytes ≡ Ok (s, rest) → rest_at (needs stored (store_by exclusive)) last bytes ≡ rest_at (store_by exclusive s) [] rest
+stored_at exclusive last bytes s rest read = stored_is exclusive last bytes ∙ ap (λ (r : Result (Stored × List ℕ) Fault). r >>= λ x. rest_at (store_by exclusive x.0) [] x.1) read
+
+pub stored_fails : (exclusive : Bool) (last bytes : List ℕ) (e : Stop) → Stops e (argument_at stored bytes) → Stops e (rest_at (needs stored (store_by exclusive)) last bytes)
+stored_fails exclusive last bytes stops.Memory stop = tt
+stored_fails exclusive last bytes (stops.Fault f) stop = stored_is exclusive last bytes ∙ ap (λ (r : Result (Stored × List ℕ) Fault). r >>= λ x. rest_at (store_by exclusive x.0) [] x.1) stop
+
+-- the same reading gives the same
+pub moved : {X Y : Type 0} (view : X → Y) (r : Result X Stop) (a b : Result Y Fault) → a ≡ b → Gives view r b → Gives view r a
+moved view r a b e h = subst (λ c. Gives view r c) (sym e) h
+
+-- ---- the first line
+
+first_reads : (begun : ℕ) (line word : List ℕ) (keyword : Keyword) (reason : Reason) → begun ≡ 0 → word ≡ word_at line → form_of word ≡ form_named keyword → before_worker (form_named keyword) ≡ Refuse reason → line_at begun line ≡ fail reason line
+unfolding rest_at
+first_reads begun line word keyword reason none is named refused =
+    ap (λ (n : ℕ). rest_at (form_after n (word_at line)) line (behind_word line)) none
+    ∙ (ap (λ (w : List ℕ). rest_at (before_worker (form_of w)) line (behind_word line)) (sym is)
+    ∙ (ap (λ (f : Form). rest_at (before_worker f) line (behind_word line)) named
+    ∙ ap (λ (f : Form). rest_at f line (behind_word line)) refused))
+
+-- the fault that begins with these bytes, whatever is to be read
+fault_is : (A B : Type 0) (e : Stop) (reason : Reason) (bytes : List ℕ) → Stops {Y = A} e (fail reason bytes) → Stops {Y = B} e (fail reason bytes)
+fault_is A B stops.Memory reason bytes stop = tt
+fault_is A B (stops.Fault f) reason bytes stop = cc
+
+pub first_refused : (e : Stop) (begun : ℕ) (line word : List ℕ) (keyword : Keyword) (reason : Reason) → begun ≡ 0 → word ≡ word_at line → form_of word ≡ form_named keyword → before_worker (form_named keyword) ≡ Refuse reason → Stops {Y = ℕ} e (fail reason line) → Stops e (line_at begun line)
+first_refused e begun line word keyword reason none is named refused stop =
+    subst (λ (r : Result (Effect × List ℕ) Fault). Stops e r) (sym (first_reads begun line word keyword reason none is named refused)) (fault_is ℕ (Effect × List ℕ) e reason line stop)

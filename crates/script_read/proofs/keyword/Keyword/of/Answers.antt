@@ -1,0 +1,33 @@
+use Rattle.std.proofs.Common.{sym, ◌∙◌}
+use Rattle.script_read.proofs.Keywords.{same_form, later_form, no_form}
+use Rattle.script_read.proofs.keyword.Keyword.of.Goals as goal
+
+pub returns-then-is_word : goal.returns-then-is_word
+returns-then-is_word c = same_form c.args.text.now _ (sym c.is_word.ensures ∙ c.if-is_word.true)
+
+pub returns-then-is_word-2 : goal.returns-then-is_word-2
+returns-then-is_word-2 c = same_form c.args.text.now _ (sym c.is_word-else-is_word.ensures ∙ c.if-is_word-2.true)
+
+pub returns-then-is_word-3 : goal.returns-then-is_word-3
+returns-then-is_word-3 c = same_form c.args.text.now _ (sym c.is_word-else-is_word-2.ensures ∙ c.if-is_word-3.true)
+
+pub returns-then-is_word-4 : goal.returns-then-is_word-4
+returns-then-is_word-4 c = same_form c.args.text.now _ (sym c.is_word-else-is_word-3.ensures ∙ c.if-is_word-4.true)
+
+pub returns-then-is_word-5 : goal.returns-then-is_word-5
+returns-then-is_word-5 c = same_form c.args.text.now _ (sym c.is_word-else-is_word-4.ensures ∙ c.if-is_word-5.true)
+
+pub returns-then-is_word-6 : goal.returns-then-is_word-6
+returns-then-is_word-6 c = same_form c.args.text.now _ (sym c.is_word-else-is_word-5.ensures ∙ c.if-is_word-6.true)
+
+pub returns-then-is_word-7 : goal.returns-then-is_word-7
+returns-then-is_word-7 c = same_form c.args.text.now _ (sym c.is_word-else-is_word-6.ensures ∙ c.if-is_word-7.true)
+
+pub returns-then-is_word-8 : goal.returns-then-is_word-8
+returns-then-is_word-8 c = same_form c.args.text.now _ (sym c.is_word-else-is_word-7.ensures ∙ c.if-is_word-8.true)
+
+pub returns-then-is_later : goal.returns-then-is_later
+returns-then-is_later c = later_form c.args.text.now (sym c.is_later.ensures ∙ c.if-is_later.true)
+
+pub returns-else-is_later : goal.returns-else-is_later
+returns-else-is_later c = no_form c.args.text.now (sym c.is_word.ensures ∙ c.if-is_word.false) (sym c.is_word-else-is_word.ensures ∙ c.if-is_word-2.false) (sym c.is_word-else-is_word-2.ensures ∙ c.if-is_word-3.false) (sym c.is_word-else-is_word-3.ensures ∙ c.if-is_word-4.false) (sym c.is_word-else-is_word-4.ensures ∙ c.if-is_word-5.false) (sym c.is_word-else-is_word-5.ensures ∙ c.if-is_word-6.false) (sym c.is_word-else-is_word-6.ensures ∙ c.if-is_word-7.false) (sym c.is_word-else-is_word-7.ensures ∙ c.if-is_word-8.false) (sym c.is_later.ensures ∙ c.if-is_later.false)

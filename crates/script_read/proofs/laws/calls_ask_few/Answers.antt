@@ -1,0 +1,5 @@
+use Rattle.script_read.proofs.Asking.{asks_few}
+use Rattle.script_read.proofs.laws.calls_ask_few.Goals as goal
+
+pub returns : goal.returns
+returns c = asks_few

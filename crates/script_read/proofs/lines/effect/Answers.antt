@@ -1,0 +1,63 @@
+use Rattle.std.proofs.Common.{ap}
+use Rattle.script_read.specs.declared.keyword.Keyword.{Keyword}
+use Rattle.script_read.specs.Table.{form_in}
+use Rattle.script_read.specs.Reading.{rest_at}
+use Rattle.script_read.specs.Gives.{form_named}
+use Rattle.script_read.proofs.Rows.{moved}
+use Rattle.script_read.proofs.lines.effect.Goals as goal
+
+pub returns-in-Time-clause-read : goal.returns-in-Time-clause-read
+unfolding form_in
+returns-in-Time-clause-read c =
+    let line = c.args.line.now in
+    let rest = c.args.rest.now in
+    moved _ c.time.result _ _ (ap (λ (w : Keyword). rest_at (form_named w) line rest) c.in-Time.is) (c.time.ensures.read line)
+
+pub returns-in-Store-clause-read : goal.returns-in-Store-clause-read
+unfolding form_in
+returns-in-Store-clause-read c =
+    let line = c.args.line.now in
+    let rest = c.args.rest.now in
+    moved _ c.store.result _ _ (ap (λ (w : Keyword). rest_at (form_named w) line rest) c.in-Store.is) (c.store.ensures.read line)
+
+pub returns-in-Add-clause-read : goal.returns-in-Add-clause-read
+unfolding form_in
+returns-in-Add-clause-read c =
+    let line = c.args.line.now in
+    let rest = c.args.rest.now in
+    moved _ c.store-in-Add.result _ _ (ap (λ (w : Keyword). rest_at (form_named w) line rest) c.in-Add.is) (c.store-in-Add.ensures.read line)
+
+pub returns-in-Fetch-clause-read : goal.returns-in-Fetch-clause-read
+unfolding form_in
+returns-in-Fetch-clause-read c =
+    let line = c.args.line.now in
+    let rest = c.args.rest.now in
+    moved _ c.fetch.result _ _ (ap (λ (w : Keyword). rest_at (form_named w) line rest) c.in-Fetch.is) (c.fetch.ensures.read line)
+
+pub returns-in-Exists-clause-read : goal.returns-in-Exists-clause-read
+unfolding form_in
+returns-in-Exists-clause-read c =
+    let line = c.args.line.now in
+    let rest = c.args.rest.now in
+    moved _ c.exists.result _ _ (ap (λ (w : Keyword). rest_at (form_named w) line rest) c.in-Exists.is) (c.exists.ensures.read line)
+
+pub returns-in-Delete-clause-read : goal.returns-in-Delete-clause-read
+unfolding form_in
+returns-in-Delete-clause-read c =
+    let line = c.args.line.now in
+    let rest = c.args.rest.now in
+    moved _ c.delete.result _ _ (ap (λ (w : Keyword). rest_at (form_named w) line rest) c.in-Delete.is) (c.delete.ensures.read line)
+
+pub returns-in-Clear-clause-read : goal.returns-in-Clear-clause-read
+unfolding form_in
+returns-in-Clear-clause-read c =
+    let line = c.args.line.now in
+    let rest = c.args.rest.now in
+    moved _ c.bare.result _ _ (ap (λ (w : Keyword). rest_at (form_named w) line rest) c.in-Clear.is) (c.bare.ensures.read line)
+
+pub returns-in-Enabled-clause-read : goal.returns-in-Enabled-clause-read
+unfolding form_in
+returns-in-Enabled-clause-read c =
+    let line = c.args.line.now in
+    let rest = c.args.rest.now in
+    moved _ c.bare-in-Enabled.result _ _ (ap (λ (w : Keyword). rest_at (form_named w) line rest) c.in-Enabled.is) (c.bare-in-Enabled.ensures.read line)

@@ -1,0 +1,18 @@
+use Rattle.std.proofs.Common.{◌≡◌, ◌≤◌, ◌+◌, length}
+use Rattle.script_read.specs.Calls.{last_moment}
+use Rattle.script_read.specs.Grammar.{most_workers}
+use Rattle.script_read.specs.Growing.{last_len}
+use Rattle.script_read.specs.Reading.{scripts_at}
+use Rattle.script_read.proofs.Walking.{IsSoFar}
+use Rattle.script_read.proofs.reading.scripts.Given as goal
+
+abbrev pub invariant-loop-rest : goal.invariant-loop-rest
+invariant-loop-rest l = record {
+  so_far : IsSoFar l.scripts l.t l.rest (scripts_at l.bytes);
+  soon : l.t ≤ last_moment;
+  few : last_len l.scripts + length l.rest ≤ length l.bytes;
+  workers : length l.scripts ≤ most_workers;
+}
+
+abbrev pub decreases-loop-rest : goal.decreases-loop-rest
+decreases-loop-rest l = length l.rest

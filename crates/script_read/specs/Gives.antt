@@ -1,0 +1,57 @@
+-- What a reader of scripts answers, beside what reading gives.
+use Rattle.std.specs.Prelude.{◌≡◌, ℕ, ◌+◌, ◌≤◌, List, length, codes, Result, Ok, Err}
+use Rattle.notation.specs.declared.fault.Reason.{Reason}
+use Rattle.notation.specs.declared.fault.Fault.{Fault}
+use Rattle.script_read.specs.declared.fault.Stop.{Stop}
+use Rattle.script_read.specs.declared.fault.Stop.TheVariants as stops
+use Rattle.script_read.specs.declared.fault.ScriptFault.{ScriptFault}
+use Rattle.script_read.specs.declared.fault.ScriptFault.TheVariants as faults
+use Rattle.script_read.specs.declared.effect.Effect.{Effect}
+use Rattle.script_read.specs.declared.effect.Effect.TheVariants.{Sets, Calls}
+use Rattle.script_read.specs.declared.keyword.Keyword.{Keyword}
+use Rattle.script_read.specs.declared.keyword.Keyword.TheVariants as keywords
+use Rattle.script_read.specs.declared.script.Step.{Step}
+use Rattle.notation.specs.declared.fault.Reason.TheVariants as reasons
+use Rattle.script_read.specs.Calls.{last_moment}
+use Rattle.script_read.specs.Table.{Form, Refuse, later, form_of}
+use Rattle.script_read.specs.Reading.{scripts_at}
+
+abbrev pub Stops : {Y : Type 0} → Stop → Result Y Fault → Type 0
+Stops stops.Memory read = Unit {0}
+Stops (stops.Fault f) read = read ≡ Err f
+
+-- What a function returned, seen by view, is what reading gives, unless memory ran out.
+abbrev pub Gives : {X Y : Type 0} → (X → Y) → Result X Stop → Result Y Fault → Type 0
+Gives view (Ok x) read = read ≡ Ok (view x)
+Gives view (Err e) read = Stops e read
+
+-- The first fault of the bytes stands at this place, counted from 0.
+pub record IsFirstFault (bytes : List ℕ) (place : ℕ) (reason : Reason) : Type 0 where
+  pub fault : Fault
+  pub reads : scripts_at bytes ≡ Err fault
+  pub why : fault.reason ≡ reason
+  pub at : place + fault.left ≡ length bytes
+
+-- The scripts are those that are read; a fault is the first one. Memory may be wanting always.
+abbrev pub ReadsScripts : List ℕ → Result (List (List Step)) ScriptFault → Type 0
+ReadsScripts bytes (Ok scripts) = scripts_at bytes ≡ Ok scripts
+ReadsScripts bytes (Err (faults.Bad place reason)) = IsFirstFault bytes place reason
+ReadsScripts bytes (Err faults.Memory) = Unit {0}
+
+-- what follows a word of the code
+abbrev pub form_named : Keyword → Form
+form_named keywords.Time = form_of (codes "time")
+form_named keywords.Store = form_of (codes "apcu_store")
+form_named keywords.Add = form_of (codes "apcu_add")
+form_named keywords.Fetch = form_of (codes "apcu_fetch")
+form_named keywords.Exists = form_of (codes "apcu_exists")
+form_named keywords.Delete = form_of (codes "apcu_delete")
+form_named keywords.Clear = form_of (codes "apcu_clear_cache")
+form_named keywords.Enabled = form_of (codes "apcu_enabled")
+form_named keywords.Later = later
+form_named keywords.Unknown = Refuse reasons.Line
+
+-- a moment that a line sets is one
+abbrev pub IsSoon : Effect → Type 0
+IsSoon (Sets t) = t ≤ last_moment
+IsSoon (Calls call) = Unit {0}

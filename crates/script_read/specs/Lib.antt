@@ -1,0 +1,9 @@
+pub mod Calls
+pub mod Arguments
+pub mod Table
+pub mod Grammar
+pub mod Reading
+pub mod Ties
+pub mod Growing
+pub mod Gives
+pub mod Play

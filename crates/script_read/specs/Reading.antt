@@ -1,0 +1,130 @@
+-- Reading scripts from left to right, to their end or to the first fault.
+use Rattle.std.specs.Prelude.{ℕ, zero, suc, Bool, false, ◌&&◌, ◌||◌, not, ◌==◌, nat_le, nat_lt, if◌then◌else◌, List, [], ◌∷◌, length, take, drop, codes, Option, Some, None, Result, Ok}
+use Rattle.std.specs.List.{position_or_len}
+use Rattle.std.specs.Str.{bytes_eq}
+use Rattle.php_graph.specs.declared.kind.Kind.{Kind}
+use Rattle.notation.specs.declared.fault.Reason.TheVariants as reasons
+use Rattle.notation.specs.declared.fault.Fault.{Fault}
+use Rattle.notation.specs.Marks.{◌>>=◌, fail}
+use Rattle.notation.specs.Reading.{reading_of}
+use Rattle.script_read.specs.declared.effect.Effect.{Effect}
+use Rattle.script_read.specs.declared.effect.Effect.TheVariants.{Sets, Calls}
+use Rattle.script_read.specs.declared.script.Step.{Step}
+use Rattle.script_read.specs.Table.{Form, Done, Need, May, Refuse, form_of}
+use Rattle.script_read.specs.Grammar.{most_workers}
+
+-- ---- words
+
+-- a byte that is neither a letter nor `_`
+abbrev pub ends_word : ℕ → Bool
+ends_word b = not ((nat_le 65 b && nat_le b 90) || ((nat_le 97 b && nat_le b 122) || b == 95))
+
+-- how long the longest run of letters and `_` in front is
+abbrev pub word_len : List ℕ → ℕ
+word_len bytes = position_or_len ends_word bytes
+
+abbrev pub word_at : List ℕ → List ℕ
+word_at line = take (word_len line) line
+
+-- what stands behind it
+abbrev pub behind_word : List ℕ → List ℕ
+behind_word line = drop (word_len line) line
+
+-- ---- what is due between arguments and behind them
+
+-- A space before an argument that is due. A line that ends there lacks it.
+unfoldable pub space_at : List ℕ → Result (List ℕ) Fault
+space_at [] = fail reasons.End []
+space_at (b ∷ rest) = if b == 32 then Ok rest else if b == 10 then fail reasons.Argument (b ∷ rest) else fail reasons.Separator (b ∷ rest)
+
+-- an argument too many, whatever it is
+abbrev pub one_more_at : List ℕ → Result (List ℕ) Fault
+one_more_at [] = fail reasons.End []
+one_more_at (b ∷ rest) = fail reasons.Argument (b ∷ rest)
+
+-- the end of the line
+unfoldable pub end_at : List ℕ → Result (List ℕ) Fault
+end_at [] = fail reasons.End []
+end_at (b ∷ rest) = if b == 10 then Ok rest else if b == 32 then one_more_at rest else fail reasons.Separator (b ∷ rest)
+
+abbrev pub ends_here : List ℕ → Bool
+ends_here [] = false
+ends_here (b ∷ rest) = b == 10
+
+-- ---- values as arguments
+
+-- what was read, where it is something, with the bytes after it; else a fault at the argument
+abbrev pub chosen : {A : Type 0} → Option A → List ℕ → List ℕ → Result (A × List ℕ) Fault
+chosen (Some x) argument rest = Ok (x, rest)
+chosen None argument rest = fail reasons.Argument argument
+
+abbrev pub choice_at : {A : Type 0} → (List Kind → Option A) → List ℕ → Result (A × List ℕ) Fault
+choice_at choose argument = reading_of argument >>= λ v. chosen (choose v.0) argument v.1
+
+-- an argument that is due, and one that may be left out
+abbrev pub argument_at : {A : Type 0} → (List Kind → Option A) → List ℕ → Result (A × List ℕ) Fault
+argument_at choose bytes = space_at bytes >>= λ argument. choice_at choose argument
+
+abbrev pub optional_at : {A : Type 0} → A → (List Kind → Option A) → List ℕ → Result (A × List ℕ) Fault
+optional_at default choose bytes = if ends_here bytes then Ok (default, bytes) else argument_at choose bytes
+
+-- an argument that is due, and the end of the line behind it
+abbrev pub last_argument_at : {A : Type 0} → (List Kind → Option A) → List ℕ → Result (A × List ℕ) Fault
+last_argument_at choose bytes = argument_at choose bytes >>= λ x. end_at x.1 >>= λ rest. Ok (x.0, rest)
+
+-- ---- lines
+
+-- What may follow, to the end of the line. What stands last began at the first of these bytes.
+unfoldable pub rest_at : Form → List ℕ → List ℕ → Result (Effect × List ℕ) Fault
+rest_at (Done e) last bytes = end_at bytes >>= λ after. Ok (e, after)
+rest_at (Need next) last bytes = do
+  argument ← space_at bytes
+  v ← reading_of argument
+  rest_at (next v.0) argument v.1
+rest_at (May short next) last bytes =
+    if ends_here bytes then rest_at short last bytes
+    else (space_at bytes >>= λ argument. reading_of argument >>= λ v. rest_at (next v.0) argument v.1)
+rest_at (Refuse reason) last bytes = fail reason last
+
+-- the line `worker`, where so many scripts have begun
+abbrev pub worker_at : ℕ → List ℕ → Result (List ℕ) Fault
+worker_at begun line = if nat_lt begun most_workers then end_at (behind_word line) else fail reasons.Unbuilt line
+
+-- before the first `worker`: what is refused anyway stays so
+abbrev pub before_worker : Form → Form
+before_worker (Refuse reason) = Refuse reason
+before_worker _ = Refuse reasons.Line
+
+-- what may follow a word, where so many scripts have begun
+abbrev pub form_after : ℕ → List ℕ → Form
+form_after zero word = before_worker (form_of word)
+form_after (suc begun) word = form_of word
+
+abbrev pub line_at : ℕ → List ℕ → Result (Effect × List ℕ) Fault
+line_at begun line = rest_at (form_after begun (word_at line)) line (behind_word line)
+
+-- ---- scripts
+
+abbrev pub is_worker : List ℕ → Bool
+is_worker line = bytes_eq (word_at line) (codes "worker")
+
+-- the steps that are still to come of a script, and the scripts after it
+abbrev pub Rest : Type 0
+Rest = List Step × List (List Step)
+
+abbrev pub with_effect : ℕ → (ℕ → Result Rest Fault) → Effect → Result Rest Fault
+with_effect t others (Sets u) = others u
+with_effect t others (Calls call) = others t >>= λ more. Ok (record { t = t; call = call } ∷ more.0, more.1)
+
+-- The lines up to the end of the bytes, at most so many, where so many scripts have begun, from this moment on.
+unfoldable pub lines_at : ℕ → ℕ → ℕ → List ℕ → Result Rest Fault
+lines_at lines begun t [] = Ok ([], [])
+lines_at zero begun t (b ∷ rest) = Ok ([], [])
+lines_at (suc lines) begun t (b ∷ rest) =
+    if is_worker (b ∷ rest)
+    then (worker_at begun (b ∷ rest) >>= λ after. lines_at lines (suc begun) 0 after >>= λ more. Ok ([], more.0 ∷ more.1))
+    else (line_at begun (b ∷ rest) >>= λ e. with_effect t (λ u. lines_at lines begun u e.1) e.0)
+
+-- All of the bytes. Each line takes a byte at least, so there are no more of them than bytes.
+unfoldable pub scripts_at : List ℕ → Result (List (List Step)) Fault
+scripts_at bytes = lines_at (length bytes) 0 0 bytes >>= λ rest. Ok rest.1

@@ -1,0 +1,117 @@
+-- The words of lines, and the arguments that each takes.
+use Rattle.std.specs.Prelude.{ℕ, Bool, true, false, List, [], ◌∷◌, ◌++◌, map, codes, Option, Some, None, if◌then◌else◌}
+use Rattle.std.specs.Option.{option_map}
+use Rattle.std.specs.Str.{bytes_eq}
+use Rattle.php_graph.specs.declared.kind.Kind.{Kind}
+use Rattle.notation.specs.declared.fault.Reason.{Reason}
+use Rattle.notation.specs.declared.fault.Reason.TheVariants.{Argument, Line, Unbuilt}
+use Rattle.script_read.specs.declared.call.Call.{Call}
+use Rattle.script_read.specs.declared.call.Call.TheVariants.{StoreOne, StoreMany, FetchOne, FetchMany, ExistsOne, ExistsMany, DeleteOne, DeleteMany, Clear, Enabled}
+use Rattle.script_read.specs.declared.effect.Effect.{Effect}
+use Rattle.script_read.specs.declared.effect.Effect.TheVariants.{Sets, Calls}
+use Rattle.script_read.specs.declared.given.Asked.{Asked}
+use Rattle.script_read.specs.declared.given.Asked.TheVariants as asks
+use Rattle.script_read.specs.declared.given.Stored.{Stored}
+use Rattle.script_read.specs.declared.given.Stored.TheVariants as stores
+use Rattle.script_read.specs.Arguments.{any_value, null, ttl, moment, asked, stored}
+
+-- ---- forms
+
+-- What may follow in a line.
+pub data Form : Type 0 where
+  -- its end
+  Done : Effect → Form
+  -- a value, which decides how it goes on
+  Need : (List Kind → Form) → Form
+  -- the same, or the end: then it goes on as if nothing more could come
+  May : Form → (List Kind → Form) → Form
+  -- nothing: what stands last is refused for the reason
+  Refuse : Reason → Form
+
+abbrev pub or_refuse : Option Form → Form
+or_refuse (Some form) = form
+or_refuse None = Refuse Argument
+
+-- the value, as this takes it, decides how the line goes on
+abbrev pub taken : {A : Type 0} → (List Kind → Option A) → (A → Form) → List Kind → Form
+taken choose next g = or_refuse (option_map next (choose g))
+
+-- an argument that is due
+abbrev pub needs : {A : Type 0} → (List Kind → Option A) → (A → Form) → Form
+needs choose next = Need (taken choose next)
+
+-- an argument that stands for this one where it is left out
+abbrev pub may : {A : Type 0} → A → (List Kind → Option A) → (A → Form) → Form
+may default choose next = May (next default) (taken choose next)
+
+abbrev pub calls : Call → Form
+calls call = Done (Calls call)
+
+-- ---- words
+
+-- a key's value, and a limit of time
+abbrev pub store_one : Bool → List ℕ → Form
+store_one exclusive k = needs any_value (λ v. may 0 ttl (λ t. calls (StoreOne k v t exclusive)))
+
+-- behind an array of keys with their values: a null, and a limit of time
+abbrev pub store_many : Bool → List (List ℕ × List Kind) → Form
+store_many exclusive ps = may tt null (λ n. may 0 ttl (λ t. calls (StoreMany ps t exclusive)))
+
+-- the first argument decides what follows it
+abbrev pub store_by : Bool → Stored → Form
+store_by exclusive (stores.One k) = store_one exclusive k
+store_by exclusive (stores.Many ps) = store_many exclusive ps
+
+abbrev pub fetch_of : Asked → Call
+fetch_of (asks.One k) = FetchOne k
+fetch_of (asks.Many ks) = FetchMany ks
+
+abbrev pub exists_of : Asked → Call
+exists_of (asks.One k) = ExistsOne k
+exists_of (asks.Many ks) = ExistsMany ks
+
+abbrev pub delete_of : Asked → Call
+delete_of (asks.One k) = DeleteOne k
+delete_of (asks.Many ks) = DeleteMany ks
+
+-- the words, `worker` apart
+abbrev pub built : List (List ℕ × Form)
+built =
+    (codes "time", needs moment (λ t. Done (Sets t)))
+    ∷ (codes "apcu_store", needs stored (store_by false))
+    ∷ (codes "apcu_add", needs stored (store_by true))
+    ∷ (codes "apcu_fetch", needs asked (λ a. calls (fetch_of a)))
+    ∷ (codes "apcu_exists", needs asked (λ a. calls (exists_of a)))
+    ∷ (codes "apcu_delete", needs asked (λ a. calls (delete_of a)))
+    ∷ (codes "apcu_clear_cache", calls Clear)
+    ∷ (codes "apcu_enabled", calls Enabled)
+    ∷ []
+
+-- words that are not built yet
+abbrev pub later_words : List (List ℕ)
+later_words =
+    codes "apcu_inc"
+    ∷ codes "apcu_dec"
+    ∷ codes "apcu_cas"
+    ∷ codes "apcu_entry"
+    ∷ codes "apcu_key_info"
+    ∷ codes "apcu_cache_info"
+    ∷ codes "apcu_sma_info"
+    ∷ codes "APCUIterator"
+    ∷ codes "APCUIterator_delete"
+    ∷ codes "APCUIterator_totals"
+    ∷ []
+
+abbrev pub later : Form
+later = Refuse Unbuilt
+
+abbrev pub table : List (List ℕ × Form)
+table = built ++ map (λ word. (word, later)) later_words
+
+-- what follows a word, by the first row that has it; no other word may begin a line
+unfoldable pub form_in : List (List ℕ × Form) → List ℕ → Form
+form_in [] word = Refuse Line
+form_in (row ∷ rows) word = if bytes_eq word row.0 then row.1 else form_in rows word
+
+abbrev pub form_of : List ℕ → Form
+form_of word = form_in table word

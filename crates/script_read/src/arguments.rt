@@ -1,0 +1,171 @@
+//! The arguments of lines: values, and what is made of them.
+
+ghost use Rattle.std.specs.Prelude.{◌≡◌, ℕ, ◌≤◌, ◌<◌, List, length, Err, IfOk};
+ghost use Rattle.notation.specs.Marks.{fail};
+ghost use Rattle.notation.specs.Reading.{reading_of};
+ghost use Rattle.script_read.specs.Calls.{last_moment};
+ghost use Rattle.script_read.specs.Arguments.{any_value, null, ttl, moment, asked, stored};
+ghost use Rattle.script_read.specs.Reading.{space_at, end_at, one_more_at, ends_here, argument_at, optional_at};
+ghost use Rattle.script_read.specs.Gives.{Gives};
+
+use crate::choices::{asked_of, is_null, moment_of, stored_of, ttl_of};
+use crate::fault::Stop;
+use crate::given::{Asked, Stored};
+use notation::{Cursor, Fault, ReadFault, Reason, read_value};
+use php_graph::Graph;
+use std::alloc::Global;
+
+// The fault that begins with these bytes.
+pub(crate) fn fault(reason: Reason, bytes: &[u8]) -> Stop
+    ensures { Gives {X = ℕ} {Y = ℕ} (λ x. x) (Err result) (fail reason bytes.now) }
+{
+    Stop::Fault(Fault {
+        reason,
+        left: bytes.len(),
+    })
+}
+
+// A space before an argument that is due.
+#[tactic(auto, unfolding(crate::specs::Reading::space_at))]
+fn space(bytes: &[u8]) -> Result<&[u8], Stop>
+    ensures read { Gives (λ rest. rest.now) result (space_at bytes.now) }
+    ensures fewer { IfOk result (λ rest. length rest.now < length bytes.now) }
+{
+    match bytes {
+        [] => Err(fault(Reason::End, bytes)),
+        [b' ', rest @ ..] => Ok(rest),
+        [b'\n', ..] => Err(fault(Reason::Argument, bytes)),
+        [_, ..] => Err(fault(Reason::Separator, bytes)),
+    }
+}
+
+// The end of a line.
+#[tactic(auto, unfolding(crate::specs::Reading::end_at))]
+pub(crate) fn end(bytes: &[u8]) -> Result<&[u8], Stop>
+    ensures read { Gives (λ rest. rest.now) result (end_at bytes.now) }
+    ensures fewer { IfOk result (λ rest. length rest.now < length bytes.now) }
+{
+    match bytes {
+        [] => Err(fault(Reason::End, bytes)),
+        [b'\n', rest @ ..] => Ok(rest),
+        [b' ', rest @ ..] => Err(one_more(rest)),
+        [_, ..] => Err(fault(Reason::Separator, bytes)),
+    }
+}
+
+fn one_more(bytes: &[u8]) -> Stop
+    ensures { Gives {X = List ℕ} {Y = List ℕ} (λ x. x) (Err result) (one_more_at bytes.now) }
+{
+    if bytes.is_empty() {
+        fault(Reason::End, bytes)
+    } else {
+        fault(Reason::Argument, bytes)
+    }
+}
+
+fn ends_here(bytes: &[u8]) -> bool
+    ensures { result ≡ ends_here bytes.now }
+{
+    match bytes {
+        [] => false,
+        [b, ..] => *b == b'\n',
+    }
+}
+
+// A value in the notation.
+fn value(alloc: Global, bytes: &[u8]) -> Result<(Graph, &[u8]), Stop>
+    ensures read { Gives (λ x. (x.0, x.1.now)) result (reading_of bytes.now) }
+    ensures no_more { IfOk result (λ x. length x.1.now ≤ length bytes.now) }
+{
+    let mut from = Cursor::new(bytes);
+    match read_value(alloc, &mut from) {
+        Ok(graph) => Ok((graph, &bytes[from.place() as usize..])),
+        Err(ReadFault::Bad { place, reason }) => Err(Stop::Fault(Fault {
+            reason,
+            left: bytes.len() - place as usize,
+        })),
+        Err(ReadFault::Memory) => Err(Stop::Memory),
+    }
+}
+
+// Any value.
+pub(crate) fn value_argument(alloc: Global, bytes: &[u8]) -> Result<(Graph, &[u8]), Stop>
+    ensures read { Gives (λ x. (x.0, x.1.now)) result (argument_at any_value bytes.now) }
+    ensures fewer { IfOk result (λ x. length x.1.now < length bytes.now) }
+{
+    let argument = space(bytes)?;
+    value(alloc, argument)
+}
+
+// One key, or an array of keys.
+pub(crate) fn asked_argument(alloc: Global, bytes: &[u8]) -> Result<(Asked, &[u8]), Stop>
+    ensures read { Gives (λ x. (x.0, x.1.now)) result (argument_at asked bytes.now) }
+    ensures fewer { IfOk result (λ x. length x.1.now < length bytes.now) }
+{
+    let argument = space(bytes)?;
+    let (graph, rest) = value(alloc, argument)?;
+    match asked_of(alloc, graph)? {
+        Some(asked) => Ok((asked, rest)),
+        None => Err(fault(Reason::Argument, argument)),
+    }
+}
+
+// One key, or an array of keys with their values.
+pub(crate) fn stored_argument(alloc: Global, bytes: &[u8]) -> Result<(Stored, &[u8]), Stop>
+    ensures read { Gives (λ x. (x.0, x.1.now)) result (argument_at stored bytes.now) }
+    ensures fewer { IfOk result (λ x. length x.1.now < length bytes.now) }
+{
+    let argument = space(bytes)?;
+    let (graph, rest) = value(alloc, argument)?;
+    match stored_of(alloc, graph)? {
+        Some(stored) => Ok((stored, rest)),
+        None => Err(fault(Reason::Argument, argument)),
+    }
+}
+
+// A moment.
+pub(crate) fn moment_argument(alloc: Global, bytes: &[u8]) -> Result<(u64, &[u8]), Stop>
+    ensures read { Gives (λ x. (x.0, x.1.now)) result (argument_at moment bytes.now) }
+    ensures fewer { IfOk result (λ x. length x.1.now < length bytes.now) }
+    ensures soon { IfOk result (λ x. x.0 ≤ last_moment) }
+{
+    let argument = space(bytes)?;
+    let (graph, rest) = value(alloc, argument)?;
+    match moment_of(&graph) {
+        Some(t) => Ok((t, rest)),
+        None => Err(fault(Reason::Argument, argument)),
+    }
+}
+
+// A limit of time, or 0 where the line ends.
+pub(crate) fn ttl_argument(alloc: Global, bytes: &[u8]) -> Result<(u32, &[u8]), Stop>
+    ensures read { Gives (λ x. (x.0, x.1.now)) result (optional_at 0 ttl bytes.now) }
+    ensures no_more { IfOk result (λ x. length x.1.now ≤ length bytes.now) }
+{
+    if ends_here(bytes) {
+        return Ok((0, bytes));
+    }
+    let argument = space(bytes)?;
+    let (graph, rest) = value(alloc, argument)?;
+    match ttl_of(&graph) {
+        Some(ttl) => Ok((ttl, rest)),
+        None => Err(fault(Reason::Argument, argument)),
+    }
+}
+
+// A null, or the end of the line.
+pub(crate) fn null_argument(alloc: Global, bytes: &[u8]) -> Result<&[u8], Stop>
+    ensures read { Gives (λ rest. (tt, rest.now)) result (optional_at tt null bytes.now) }
+    ensures no_more { IfOk result (λ rest. length rest.now ≤ length bytes.now) }
+{
+    if ends_here(bytes) {
+        return Ok(bytes);
+    }
+    let argument = space(bytes)?;
+    let (graph, rest) = value(alloc, argument)?;
+    if is_null(&graph) {
+        Ok(rest)
+    } else {
+        Err(fault(Reason::Argument, argument))
+    }
+}

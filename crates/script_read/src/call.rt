@@ -1,0 +1,61 @@
+ghost use Rattle.std.specs.Prelude.{◌≡◌};
+ghost use Rattle.script_read.specs.Calls.{events_of};
+
+use apcu_model::{Keys, Pairs};
+use php_graph::{Bytes, Graph};
+
+/// A call of a script, as PHP's manual has the functions of APCu.
+#[derive(Debug, Drop)]
+pub enum Call {
+    /// `apcu_store` of one key, or `apcu_add` where it is exclusive.
+    StoreOne {
+        key: Bytes,
+        value: Graph,
+        /// In seconds; 0 is no limit.
+        ttl: u32,
+        exclusive: bool,
+    },
+    /// `apcu_store` of an array, or `apcu_add` where it is exclusive.
+    StoreMany {
+        pairs: Pairs,
+        /// In seconds; 0 is no limit.
+        ttl: u32,
+        exclusive: bool,
+    },
+    /// `apcu_fetch` of one key.
+    FetchOne(Bytes),
+    /// `apcu_fetch` of an array of keys.
+    FetchMany(Keys),
+    /// `apcu_exists` of one key.
+    ExistsOne(Bytes),
+    /// `apcu_exists` of an array of keys.
+    ExistsMany(Keys),
+    /// `apcu_delete` of one key.
+    DeleteOne(Bytes),
+    /// `apcu_delete` of an array of keys.
+    DeleteMany(Keys),
+    /// `apcu_clear_cache`.
+    Clear,
+    /// `apcu_enabled`, which asks nothing of the cache.
+    Enabled,
+}
+
+impl Call {
+    /// How many events the call makes at most, in a cache of so many slots.
+    pub fn events(&self, slots: u32) -> u64
+        ensures { result ≡ events_of slots self.now }
+    {
+        match self {
+            Call::StoreOne { .. }
+            | Call::FetchOne(_)
+            | Call::ExistsOne(_)
+            | Call::DeleteOne(_)
+            | Call::Clear => 1,
+            Call::StoreMany { pairs, .. } => u64::from(pairs.len()),
+            Call::FetchMany(keys) | Call::ExistsMany(keys) | Call::DeleteMany(keys) => {
+                u64::from(keys.len())
+            }
+            Call::Enabled => 0,
+        }
+    }
+}

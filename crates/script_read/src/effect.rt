@@ -1,0 +1,8 @@
+use crate::call::Call;
+
+/// What a line of a script does: it sets the moment of the lines after it, or it is a call.
+#[derive(Debug, Drop)]
+pub(crate) enum Effect {
+    Sets(u64),
+    Calls(Call),
+}

@@ -1,0 +1,73 @@
+ghost use Rattle.std.specs.Prelude.{◌≡◌};
+ghost use Rattle.std.specs.List.{list_any};
+ghost use Rattle.std.specs.Str.{bytes_eq};
+ghost use Rattle.script_read.specs.Table.{later_words, form_of};
+ghost use Rattle.script_read.specs.Gives.{form_named};
+
+/// What a line begins with.
+#[derive(Clone, Copy, Debug, PartialEq, Eq)]
+pub(crate) enum Keyword {
+    Time,
+    Store,
+    Add,
+    Fetch,
+    Exists,
+    Delete,
+    Clear,
+    Enabled,
+    /// A call that is not built yet.
+    Later,
+    /// No word of the language.
+    Unknown,
+}
+
+impl Keyword {
+    // The word that this text is; what may follow it is what may follow the text.
+    pub fn of(text: &[u8]) -> Keyword
+        ensures { form_of text.now ≡ form_named result }
+    {
+        if is_word(text, b"time") {
+            Keyword::Time
+        } else if is_word(text, b"apcu_store") {
+            Keyword::Store
+        } else if is_word(text, b"apcu_add") {
+            Keyword::Add
+        } else if is_word(text, b"apcu_fetch") {
+            Keyword::Fetch
+        } else if is_word(text, b"apcu_exists") {
+            Keyword::Exists
+        } else if is_word(text, b"apcu_delete") {
+            Keyword::Delete
+        } else if is_word(text, b"apcu_clear_cache") {
+            Keyword::Clear
+        } else if is_word(text, b"apcu_enabled") {
+            Keyword::Enabled
+        } else if is_later(text) {
+            Keyword::Later
+        } else {
+            Keyword::Unknown
+        }
+    }
+}
+
+// A call that is not built yet.
+fn is_later(text: &[u8]) -> bool
+    ensures { result ≡ list_any (bytes_eq text.now) later_words }
+{
+    is_word(text, b"apcu_inc")
+        || is_word(text, b"apcu_dec")
+        || is_word(text, b"apcu_cas")
+        || is_word(text, b"apcu_entry")
+        || is_word(text, b"apcu_key_info")
+        || is_word(text, b"apcu_cache_info")
+        || is_word(text, b"apcu_sma_info")
+        || is_word(text, b"APCUIterator")
+        || is_word(text, b"APCUIterator_delete")
+        || is_word(text, b"APCUIterator_totals")
+}
+
+pub(crate) fn is_word(text: &[u8], word: &[u8]) -> bool
+    ensures { result ≡ bytes_eq text.now word.now }
+{
+    text == word
+}

@@ -1,0 +1,28 @@
+//! Laws of scripts.
+
+ghost use Rattle.std.specs.Prelude.{◌≡◌, ◌<◌, List, length};
+ghost use Rattle.apcu_model.specs.declared.conf.Conf.{Conf};
+ghost use Rattle.apcu_model.specs.declared.request.Request.{Request};
+ghost use Rattle.apcu_model.specs.declared.request.Reply.{Reply};
+ghost use Rattle.script_read.specs.declared.call.Call.{Call};
+ghost use Rattle.script_read.specs.Calls.{events_of};
+ghost use Rattle.script_read.specs.Ties.{ScriptsTake, ScriptsAgain, ScriptsAreOne};
+ghost use Rattle.script_read.specs.Play.{next_of, Asks};
+
+use notation::readings_are_spellings;
+
+/// Scripts that are read are those that the bytes spell, and those that bytes spell are read. So
+/// bytes spell one list of scripts at most.
+pub fn readings_are_scripts()
+    ensures takes { ScriptsTake }
+    ensures again { ScriptsAgain }
+    ensures one { ScriptsAreOne }
+{
+    readings_are_spellings();
+}
+
+/// A call asks no more often than its events are counted.
+pub fn calls_ask_few()
+    ensures { (conf : Conf) (call : Call) (replies : List Reply) (request : Request)
+        → next_of conf call replies ≡ Asks request → length replies < events_of conf.slots call }
+{}

@@ -1,0 +1,20 @@
+//! Scripts: what they are spelled as, how they are read, and what a worker asks next.
+#![tactic(auto)]
+
+mod arguments;
+mod call;
+mod choices;
+mod effect;
+mod fault;
+mod given;
+mod keyword;
+mod laws;
+mod lines;
+mod reading;
+mod script;
+
+pub use call::Call;
+pub use fault::ScriptFault;
+pub use laws::{calls_ask_few, readings_are_scripts};
+pub use reading::read_scripts;
+pub use script::{Script, Scripts, Step};

@@ -1,0 +1,72 @@
+ghost use Rattle.std.specs.Prelude.{◌≡◌, ℕ, ◌≤◌, List, length, IfOk, MatchResult};
+ghost use Rattle.script_read.specs.declared.script.Step.{Step};
+ghost use Rattle.script_read.specs.Grammar.{AreScripts};
+ghost use Rattle.script_read.specs.Reading.{scripts_at};
+ghost use Rattle.script_read.specs.Gives.{Gives, ReadsScripts};
+
+use crate::effect::Effect;
+use crate::fault::{ScriptFault, Stop};
+use crate::keyword::is_word;
+use crate::laws::readings_are_scripts;
+use crate::lines::{line, word_len, worker};
+use crate::script::{Scripts, Step};
+use notation::readings_stay_inside;
+use std::alloc::Global;
+
+// All of the bytes, line by line.
+fn scripts(alloc: Global, bytes: &[u8]) -> Result<Scripts, Stop>
+    requires { length bytes.now ≤ 67108864 }
+    ensures read { Gives (λ scripts. scripts) result (scripts_at bytes.now) }
+{
+    let mut scripts = Scripts::new(alloc);
+    let mut t = 0;
+    let mut rest = bytes;
+    while !rest.is_empty() {
+        let (word, behind) = rest.split_at(word_len(rest));
+        if is_word(word, b"worker") {
+            rest = worker(scripts.len(), rest, behind)?;
+            scripts.begin(alloc)?;
+            t = 0;
+        } else {
+            let (effect, after) = line(alloc, scripts.len(), word, rest, behind)?;
+            rest = after;
+            match effect {
+                Effect::Sets(moment) => t = moment,
+                Effect::Calls(call) => scripts.add(Step { t, call })?,
+            }
+        }
+    }
+    Ok(scripts)
+}
+
+// The scripts, or the first fault.
+fn read(alloc: Global, bytes: &[u8]) -> Result<Scripts, ScriptFault>
+    requires { length bytes.now ≤ 67108864 }
+    ensures { ReadsScripts bytes.now result }
+{
+    readings_stay_inside();
+    match scripts(alloc, bytes) {
+        Ok(scripts) => Ok(scripts),
+        Err(Stop::Memory) => Err(ScriptFault::Memory),
+        Err(Stop::Fault(fault)) => Err(ScriptFault::Bad {
+            place: (bytes.len() - fault.left) as u64,
+            reason: fault.reason,
+        }),
+    }
+}
+
+/// Reads the scripts that all of the bytes spell: none where there are no bytes, else that of one
+/// worker. Else the answer is the first fault from the left, with the place of its byte.
+pub fn read_scripts(alloc: Global, bytes: &[u8]) -> Result<Scripts, ScriptFault>
+    requires { length bytes.now ≤ 67108864 }
+    // What is read is spelled so.
+    ensures found { IfOk result (AreScripts bytes.now) }
+    // What is spelled so is read, unless memory runs out, and nothing else is spelled so.
+    ensures only { (scripts : List (List Step)) → AreScripts bytes.now scripts
+        → MatchResult result (λ read. read ≡ scripts) (λ e. e ≡ ScriptFault.Memory) }
+    // It is what reading from left to right gives: the scripts, or the first fault.
+    ensures read { ReadsScripts bytes.now result }
+{
+    readings_are_scripts();
+    read(alloc, bytes)
+}

@@ -1,0 +1,167 @@
+ghost use Rattle.std.specs.Prelude.{◌≡◌, ℕ, ◌<◌, ◌==◌, ◌++◌, List, [], ◌∷◌, length, is_ok, if◌then◌else◌, slice_get, Some, IfNone};
+ghost use Rattle.script_read.specs.declared.script.Step.{Step};
+ghost use Rattle.script_read.specs.Calls.{IsInTime};
+ghost use Rattle.script_read.specs.Growing.{grown, last_len};
+ghost use Rattle.std.specs.List.{AllByRecursion};
+ghost use Rattle.std.specs.Option.{option_to_list};
+
+use crate::call::Call;
+use std::alloc::{AllocError, Global};
+use std::marker::Model;
+
+/// A call and the moment, in seconds, at which it is made.
+#[derive(Debug, Drop)]
+pub struct Step {
+    pub t: u64,
+    pub call: Call,
+}
+
+/// What one worker does, in order. Contracts see the list of its steps.
+#[derive(Debug, Drop)]
+pub struct Script {
+    steps: Vec<Step>,
+}
+
+impl Model for Script {
+    ghost use Rattle.std.specs.Prelude.{List, length, ◌<◌, ◌^◌};
+    ghost use Rattle.std.specs.List.{AllByRecursion};
+    ghost use Rattle.script_read.specs.declared.script.Step.{Step};
+    ghost use Rattle.script_read.specs.Calls.{IsInTime};
+
+    ghost Value = { List Step };
+
+    ghost view = { λ s. s.steps.items };
+
+    ghost invariant = { λ s. (length s.steps.items < 2 ^ 32) × AllByRecursion IsInTime s.steps.items };
+}
+
+impl Script {
+    /// A script without steps.
+    pub fn new(alloc: Global) -> Script
+        ensures { result ≡ [] }
+    {
+        Script {
+            steps: Vec::new(alloc),
+        }
+    }
+
+    /// Adds a step at the end; without memory the script stays as it was.
+    pub fn push(&mut self, step: Step) -> Result<(), AllocError>
+        requires moment { IsInTime step }
+        requires few { length self.old < 4294967295 }
+        ensures { self.new ≡ (if is_ok result then self.old ++ step ∷ [] else self.old) }
+    {
+        self.steps.push(step)?;
+        Ok(())
+    }
+
+    /// How many steps there are.
+    pub fn len(&self) -> u32
+        ensures { result ≡ length self.now }
+    {
+        self.steps.len() as u32
+    }
+
+    /// Whether there are none.
+    pub fn is_empty(&self) -> bool
+        ensures { result ≡ (length self.now == 0) }
+    {
+        self.steps.is_empty()
+    }
+
+    /// A step, counted from 0.
+    pub fn at(&self, i: u32) -> &Step
+        requires { i < length self.now }
+        ensures step { slice_get self.now i ≡ Some result.now }
+        ensures moment { IsInTime result.now }
+    {
+        &self.steps[i as usize]
+    }
+
+    /// The steps. It takes no memory.
+    pub fn into_steps(self) -> Vec<Step>
+        ensures steps { result.items ≡ self }
+        ensures moments { AllByRecursion IsInTime result.items }
+    {
+        self.steps
+    }
+}
+
+/// The scripts of all workers, that of worker 0 first. Contracts see the list of their lists of
+/// steps.
+#[derive(Debug, Drop)]
+pub struct Scripts {
+    scripts: Vec<Script>,
+}
+
+impl Model for Scripts {
+    ghost use Rattle.std.specs.Prelude.{List, length, ◌≤◌};
+    ghost use Rattle.script_read.specs.declared.script.Step.{Step};
+
+    ghost Value = { List (List Step) };
+
+    ghost view = { λ s. s.scripts.items };
+
+    ghost invariant = { λ s. length s.scripts.items ≤ 64 };
+}
+
+impl Scripts {
+    /// No scripts.
+    pub fn new(alloc: Global) -> Scripts
+        ensures { result ≡ [] }
+    {
+        Scripts {
+            scripts: Vec::new(alloc),
+        }
+    }
+
+    /// How many scripts there are.
+    pub fn len(&self) -> u32
+        ensures { result ≡ length self.now }
+    {
+        self.scripts.len() as u32
+    }
+
+    /// Whether there are none.
+    pub fn is_empty(&self) -> bool
+        ensures { result ≡ (length self.now == 0) }
+    {
+        self.scripts.is_empty()
+    }
+
+    /// The script of a worker.
+    pub fn at(&self, worker: u32) -> &Script
+        requires { worker < length self.now }
+        ensures { slice_get self.now worker ≡ Some result.now }
+    {
+        &self.scripts[worker as usize]
+    }
+
+    /// Takes the last script away.
+    pub fn pop(&mut self) -> Option<Script>
+        ensures last { self.old ≡ self.new ++ option_to_list result }
+        ensures none { IfNone result (self.old ≡ []) }
+    {
+        self.scripts.pop()
+    }
+
+    // The script of one more worker begins; without memory the scripts stay as they were.
+    pub(crate) fn begin(&mut self, alloc: Global) -> Result<(), AllocError>
+        requires { length self.old < 64 }
+        ensures { self.new ≡ (if is_ok result then self.old ++ [] ∷ [] else self.old) }
+    {
+        self.scripts.push(Script::new(alloc))?;
+        Ok(())
+    }
+
+    // The last script has one step more; without memory it stays as it was.
+    pub(crate) fn add(&mut self, step: Step) -> Result<(), AllocError>
+        requires moment { IsInTime step }
+        requires some { 0 < length self.old }
+        requires few { last_len self.old < 4294967295 }
+        ensures { self.new ≡ (if is_ok result then grown self.old step else self.old) }
+    {
+        let last = self.scripts.len() - 1;
+        self.scripts[last].push(step)
+    }
+}

@@ -1,0 +1,5 @@
+//! Tests of script_read.
+#![tactic(auto)]
+
+#[cfg(test)]
+mod tests;

@@ -1,0 +1,272 @@
+//! Scripts that are read, and first faults.
+
+use apcu_model::{Keys, Pairs};
+use notation::{Cursor, Reason, read_value};
+use php_graph::{Bytes, Graph};
+use script_read::{Call, Script, ScriptFault, Scripts, Step, read_scripts};
+use std::alloc::Global;
+use std::process::Abort;
+use std::test::Fail;
+
+// A call as a table has it: values and pairs by their texts.
+#[derive(Clone, Copy)]
+enum Asked {
+    Store(&'static [u8], &'static [u8], u32, bool),
+    StoreMany(&'static [(&'static [u8], &'static [u8])], u32, bool),
+    Fetch(&'static [u8]),
+    FetchMany(&'static [&'static [u8]]),
+    Exists(&'static [u8]),
+    ExistsMany(&'static [&'static [u8]]),
+    Delete(&'static [u8]),
+    DeleteMany(&'static [&'static [u8]]),
+    Clear,
+    Enabled,
+}
+
+fn is_value(alloc: Global, text: &[u8], value: &Graph) -> Result<bool, Fail> {
+    let mut from = Cursor::new(text);
+    let expected = read_value(alloc, &mut from)?;
+    Ok(expected.same(value))
+}
+
+fn are_keys(expected: &[&[u8]], keys: &Keys) -> bool {
+    if keys.len() as usize != expected.len() {
+        return false;
+    }
+    for (i, key) in keys.as_slice().iter().enumerate() {
+        if i >= expected.len() || key.as_slice() != expected[i] {
+            return false;
+        }
+    }
+    true
+}
+
+fn are_pairs(alloc: Global, expected: &[(&[u8], &[u8])], pairs: &Pairs) -> Result<bool, Fail> {
+    if pairs.len() as usize != expected.len() {
+        return Ok(false);
+    }
+    for (i, pair) in pairs.as_slice().iter().enumerate() {
+        if i >= expected.len() || pair.0.as_slice() != expected[i].0 {
+            return Ok(false);
+        }
+        if !is_value(alloc, expected[i].1, &pair.1)? {
+            return Ok(false);
+        }
+    }
+    Ok(true)
+}
+
+fn is_call(alloc: Global, expected: Asked, call: &Call) -> Result<bool, Fail> {
+    match (expected, call) {
+        (
+            Asked::Store(k, v, t, x),
+            Call::StoreOne {
+                key,
+                value,
+                ttl,
+                exclusive,
+            },
+        ) => Ok(key.as_slice() == k && *ttl == t && *exclusive == x && is_value(alloc, v, value)?),
+        (
+            Asked::StoreMany(ps, t, x),
+            Call::StoreMany {
+                pairs,
+                ttl,
+                exclusive,
+            },
+        ) => Ok(*ttl == t && *exclusive == x && are_pairs(alloc, ps, pairs)?),
+        (Asked::Fetch(k), Call::FetchOne(key))
+        | (Asked::Exists(k), Call::ExistsOne(key))
+        | (Asked::Delete(k), Call::DeleteOne(key)) => Ok(key.as_slice() == k),
+        (Asked::FetchMany(ks), Call::FetchMany(keys))
+        | (Asked::ExistsMany(ks), Call::ExistsMany(keys))
+        | (Asked::DeleteMany(ks), Call::DeleteMany(keys)) => Ok(are_keys(ks, keys)),
+        (Asked::Clear, Call::Clear) | (Asked::Enabled, Call::Enabled) => Ok(true),
+        _ => Ok(false),
+    }
+}
+
+// A line of the table: the moment, the call, and its events.
+type Row = (u64, Asked, u64);
+
+fn expect_steps(rt: &impl Abort, alloc: Global, text: &[u8], rows: &[Row]) -> Result<(), Fail> {
+    let scripts = read_scripts(alloc, text)?;
+    assert_eq!(rt; scripts.len(), 1);
+    assert!(rt; !scripts.is_empty());
+    let script = scripts.at(0);
+    assert_eq!(rt; script.len() as usize, rows.len());
+    for i in 0..script.len() {
+        let step = script.at(i);
+        assert!(rt; (i as usize) < rows.len());
+        let row = rows[i as usize];
+        assert_eq!(rt; step.t, row.0);
+        assert!(rt; is_call(alloc, row.1, &step.call)?);
+        assert_eq!(rt; step.call.events(32), row.2);
+    }
+    Ok(())
+}
+
+#[test]
+fn calls_in_all_their_forms(rt: HostRuntime) -> Result<(), Fail> {
+    let text = b"worker\n\
+        apcu_store s:1:\"a\"; i:5;\n\
+        apcu_add s:1:\"a\"; N; i:4294967295;\n\
+        time i:100;\n\
+        apcu_store a:2:{i:-7;i:1;s:1:\"b\";a:1:{i:0;R:3;}}\n\
+        apcu_store a:1:{s:0:\"\";O:1:\"A\":1:{s:1:\"x\";r:2;}} N;\n\
+        time i:999999999999;\n\
+        apcu_add a:0:{} N; i:5;\n\
+        time i:0;\n\
+        apcu_fetch s:1:\"a\";\n\
+        apcu_fetch a:2:{i:0;s:1:\"a\";i:1;s:1:\"5\";}\n\
+        apcu_fetch a:0:{}\n\
+        apcu_exists s:0:\"\";\n\
+        apcu_exists a:1:{s:1:\"x\";s:1:\"a\";}\n\
+        apcu_delete s:1:\"a\";\n\
+        apcu_delete a:1:{i:9;s:1:\"a\";}\n\
+        apcu_clear_cache\n\
+        time i:7;\n\
+        apcu_enabled\n";
+    let rows: [Row; 14] = [
+        (0, Asked::Store(b"a", b"i:5;", 0, false), 1),
+        (0, Asked::Store(b"a", b"N;", 4294967295, true), 1),
+        (100, Asked::StoreMany(&[(b"-7", b"i:1;"), (b"b", b"a:1:{i:0;R:1;}")], 0, false), 2),
+        (100, Asked::StoreMany(&[(b"", b"O:1:\"A\":1:{s:1:\"x\";r:1;}")], 0, false), 1),
+        (999999999999, Asked::StoreMany(&[], 5, true), 0),
+        (0, Asked::Fetch(b"a"), 1),
+        (0, Asked::FetchMany(&[b"a", b"5"]), 2),
+        (0, Asked::FetchMany(&[]), 0),
+        (0, Asked::Exists(b""), 1),
+        (0, Asked::ExistsMany(&[b"a"]), 1),
+        (0, Asked::Delete(b"a"), 1),
+        (0, Asked::DeleteMany(&[b"a"]), 1),
+        (0, Asked::Clear, 1),
+        (7, Asked::Enabled, 0),
+    ];
+    expect_steps(&rt, rt.alloc(), text, &rows)
+}
+
+#[test]
+fn no_scripts(rt: HostRuntime) -> Result<(), Fail> {
+    let mut none = read_scripts(rt.alloc(), b"")?;
+    assert_eq!(rt; none.len(), 0);
+    assert!(rt; none.pop().is_none());
+    let mut one = read_scripts(rt.alloc(), b"worker\n")?;
+    match one.pop() {
+        Some(script) => assert_eq!(rt; script.into_steps().len(), 0),
+        None => assert!(rt; false),
+    }
+    Ok(())
+}
+
+fn refused(rt: &impl Abort, alloc: Global, text: &[u8], place: u64, reason: Reason) {
+    match read_scripts(alloc, text) {
+        Err(ScriptFault::Bad {
+            place: at,
+            reason: why,
+        }) => {
+            assert_eq!(rt; at, place);
+            assert_eq!(rt; why, reason);
+        }
+        _ => assert!(rt; false),
+    }
+}
+
+// A text that is refused, with the place of its first fault and the reason.
+type Fault = (&'static [u8], u64, Reason);
+
+#[test]
+fn values_at_fault(rt: HostRuntime) {
+    let rows: [Fault; 4] = [
+        (b"worker\napcu_store s:1:\"a\"; i:05;\n", 29, Reason::Number),
+        (b"worker\napcu_store s:1:\"a\"; s:3:\"ab\";\n", 29, Reason::Length),
+        (b"worker\napcu_store s:1:\"a\"; d:1.5;\n", 27, Reason::Tag),
+        (b"worker\napcu_store s:1:\"a\"; a:1:{i:0;r:1;}\n", 38, Reason::Target),
+    ];
+    for row in &rows {
+        refused(&rt, rt.alloc(), row.0, row.1, row.2);
+    }
+}
+
+#[test]
+fn lines_at_fault(rt: HostRuntime) {
+    let rows: [Fault; 30] = [
+        (b"worker", 6, Reason::End),
+        (b"worker ", 7, Reason::End),
+        (b"worker N;\n", 7, Reason::Argument),
+        (b"worker:\n", 6, Reason::Separator),
+        (b"workers\n", 0, Reason::Line),
+        (b"\n", 0, Reason::Line),
+        (b"apcu_fetch s:1:\"a\";\n", 0, Reason::Line),
+        (b"time i:1;\n", 0, Reason::Line),
+        (b"apcu_inc s:1:\"a\";\n", 0, Reason::Unbuilt),
+        (b"worker\nworker\n", 7, Reason::Unbuilt),
+        (b"worker\nworker N;\n", 7, Reason::Unbuilt),
+        (b"worker\n\n", 7, Reason::Line),
+        (b"worker\napcu_foo\n", 7, Reason::Line),
+        (b"worker\napcu_inc x", 7, Reason::Unbuilt),
+        (b"worker\nAPCUIterator_totals\n", 7, Reason::Unbuilt),
+        (b"worker\ntime", 11, Reason::End),
+        (b"worker\ntime ", 12, Reason::End),
+        (b"worker\ntime i:1;", 16, Reason::End),
+        (b"worker\napcu_clear_cache", 23, Reason::End),
+        (b"worker\napcu_clear_cache ", 24, Reason::End),
+        (b"worker\napcu_store s:1:\"a\"; i:1;", 31, Reason::End),
+        (b"worker\napcu_store a:0:{} N; i:1;", 32, Reason::End),
+        (b"worker\ntime:i:1;\n", 11, Reason::Separator),
+        (b"worker\ntime i:1;x\n", 16, Reason::Separator),
+        (b"worker\napcu_fetch s:1:\"a\"; i:1;\n", 27, Reason::Argument),
+        (b"worker\napcu_clear_cache N;\n", 24, Reason::Argument),
+        (b"worker\napcu_enabled  \n", 20, Reason::Argument),
+        (b"worker\napcu_store s:1:\"a\"; i:1; i:1; i:1;\n", 37, Reason::Argument),
+        (b"worker\napcu_store a:0:{} N; i:1; i:1;\n", 33, Reason::Argument),
+        (b"worker\napcu_store s:1:\"a\";	i:1;\n", 26, Reason::Separator),
+    ];
+    for row in &rows {
+        refused(&rt, rt.alloc(), row.0, row.1, row.2);
+    }
+}
+
+#[test]
+fn arguments_at_fault(rt: HostRuntime) {
+    let rows: [Fault; 19] = [
+        (b"worker\ntime\n", 11, Reason::Argument),
+        (b"worker\ntime i:-1;\n", 12, Reason::Argument),
+        (b"worker\ntime i:1000000000000;\n", 12, Reason::Argument),
+        (b"worker\ntime s:1:\"1\";\n", 12, Reason::Argument),
+        (b"worker\napcu_fetch\n", 17, Reason::Argument),
+        (b"worker\napcu_fetch i:1;\n", 18, Reason::Argument),
+        (b"worker\napcu_exists a:1:{i:0;i:1;}\n", 19, Reason::Argument),
+        (b"worker\napcu_delete a:2:{i:0;s:1:\"a\";i:1;R:2;}\n", 19, Reason::Argument),
+        (b"worker\napcu_delete O:1:\"A\":0:{}\n", 19, Reason::Argument),
+        (b"worker\napcu_store N; N;\n", 18, Reason::Argument),
+        (b"worker\napcu_store s:1:\"a\";\n", 26, Reason::Argument),
+        (b"worker\napcu_store s:1:\"a\"; N; N;\n", 30, Reason::Argument),
+        (b"worker\napcu_add s:1:\"a\"; N; i:4294967296;\n", 28, Reason::Argument),
+        (b"worker\napcu_add s:1:\"a\"; N; i:-1;\n", 28, Reason::Argument),
+        (b"worker\napcu_store a:1:{i:0;R:1;}\n", 18, Reason::Argument),
+        (b"worker\napcu_store a:2:{i:0;O:1:\"A\":0:{}i:1;r:2;}\n", 18, Reason::Argument),
+        (b"worker\napcu_store a:2:{i:0;i:1;i:1;a:1:{i:0;R:2;}}\n", 18, Reason::Argument),
+        (b"worker\napcu_store a:0:{} i:1;\n", 25, Reason::Argument),
+        (b"worker\napcu_store a:0:{} N; N;\n", 28, Reason::Argument),
+    ];
+    for row in &rows {
+        refused(&rt, rt.alloc(), row.0, row.1, row.2);
+    }
+}
+
+#[test]
+fn scripts_are_made(rt: HostRuntime) -> Result<(), Fail> {
+    let mut script = Script::new(rt.alloc());
+    assert!(rt; script.is_empty());
+    let key = Bytes::of(rt.alloc(), b"k")?;
+    script.push(Step {
+        t: 5,
+        call: Call::FetchOne(key),
+    })?;
+    assert_eq!(rt; script.len(), 1);
+    assert_eq!(rt; script.at(0).t, 5);
+    let scripts = Scripts::new(rt.alloc());
+    assert!(rt; scripts.is_empty());
+    Ok(())
+}

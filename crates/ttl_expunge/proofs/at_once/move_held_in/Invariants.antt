@@ -1,0 +1,15 @@
+use Rattle.std.proofs.Common.{◌≡◌}
+use Rattle.ttl_expunge.proofs.Chaining.{chain_left}
+use Rattle.ttl_expunge.proofs.Moving.{Moving}
+use Rattle.entry_slots.specs.Standing.{Stand, entries}
+use Rattle.ttl_expunge.proofs.at_once.move_held_in.Given as goal
+
+abbrev pub invariant-loop-at : goal.invariant-loop-at
+invariant-loop-at g l = record {
+  moving : Moving l.t (entries l.fn.slots) (entries l.slots) (g.S.WordsIn.aside l.fn.seg) (g.S.WordsIn.aside l.seg) l.slot l.at;
+  stand : Stand g.S.WordsIn l.slots l.seg;
+  rest : g.S.WordsIn.rest l.seg ≡ g.S.WordsIn.rest l.fn.seg;
+}
+
+abbrev pub decreases-loop-at : goal.decreases-loop-at
+decreases-loop-at g l = chain_left (entries l.slots) l.slot l.at

@@ -1,0 +1,35 @@
+use Rattle.std.proofs.Common.{refl, ap, ◌∙◌, arith}
+use Rattle.entry_slots.specs.Entries.{Entries}
+use Rattle.ttl_expunge.specs.Which.{passes}
+use Rattle.ttl_expunge.proofs.Asides.{stand_kept}
+use Rattle.ttl_expunge.proofs.Ordering.{expunging_starts, expunging_on, expunging_ends}
+use Rattle.entry_slots.specs.Standing.{entries}
+use Rattle.ttl_expunge.proofs.chains.drop_all.Goals as goal
+
+pub loop-slot-init : goal.loop-slot-init
+loop-slot-init g c =
+    let s = entries c.args.slots.now in
+    record {
+      expunging = expunging_starts (passes c.args.which c.args.t) c.args.t s (g.S.WordsIn.aside c.args.seg.now) (g.S.WordsIn.aside c.args.seg.now) refl c.requires.refused;
+      within = omega arith;
+      stand = c.requires.stand;
+      rest = refl;
+    }
+
+pub drop_chain-requires-clause-slot : goal.drop_chain-requires-clause-slot
+drop_chain-requires-clause-slot g c =
+    let same = ap (λ (x : Entries). x.conf.slots) c.loop-slot.invariant.expunging.drops.dropped in
+    omega (arith, same, c.slots-end.ensures.slots)
+
+pub loop-slot-preserved : goal.loop-slot-preserved
+loop-slot-preserved g c =
+    let sound = c.standing_laws.ensures.sound c.loop-slot.slots (g.S.WordsIn.words c.loop-slot.seg) (g.S.WordsIn.aside c.loop-slot.seg) (entries c.loop-slot.slots) c.loop-slot.invariant.stand in
+    record {
+      expunging = expunging_on c.loop-slot.invariant.expunging sound c.drop_chain.ensures.drops;
+      within = omega arith;
+      stand = c.drop_chain.ensures.stand;
+      rest = c.drop_chain.ensures.rest ∙ c.loop-slot.invariant.rest;
+    }
+
+pub returns-clause-drops : goal.returns-clause-drops
+returns-clause-drops g c = expunging_ends c.loop-slot.invariant.expunging (omega (arith, c.slots-end.ensures.slots, c.loop-slot.invariant.within))

@@ -1,0 +1,21 @@
+use Rattle.std.proofs.Common.{ap, ◌∙◌}
+use Rattle.entry_slots.specs.Entries.{Entries}
+use Rattle.entry_slots.specs.Standing.{entries}
+use Rattle.ttl_expunge.proofs.Open.{sweeps_open, sweeps_held}
+use Rattle.ttl_expunge.proofs.Making.{room_on}
+use Rattle.ttl_expunge.proofs.room.make_room.Goals as goal
+
+pub make_room_next-requires-clause-whole : goal.make_room_next-requires-clause-whole
+make_room_next-requires-clause-whole g c = (
+  ap (λ (x : Entries). x.unlinked) c.sweep_removed.ensures.sweeps.swept ∙ c.requires.whole.0,
+  ap (λ (x : Entries). x.taken) c.sweep_removed.ensures.sweeps.swept ∙ c.requires.whole.1,
+)
+
+pub make_room_next-requires-clause-held : goal.make_room_next-requires-clause-held
+make_room_next-requires-clause-held g c =
+    sweeps_held (entries c.args.slots.now) (entries c.sweep_removed.new.slots) (g.S.WordsIn.aside c.args.seg.now) (g.S.WordsIn.aside c.sweep_removed.new.seg) c.sweep_removed.ensures.sweeps
+
+pub returns-clause-made : goal.returns-clause-made
+returns-clause-made g c =
+    let sweeps = c.sweep_removed.ensures.sweeps in
+    room_on sweeps (sweeps_open (entries c.args.slots.now) (entries c.sweep_removed.new.slots) (g.S.WordsIn.aside c.args.seg.now) (g.S.WordsIn.aside c.sweep_removed.new.seg) sweeps) c.make_room_next.ensures.made

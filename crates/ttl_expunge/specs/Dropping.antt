@@ -1,0 +1,51 @@
+-- How rows leave the entries.
+use Rattle.std.specs.Prelude.{ℕ, Bool, not, nat_lt, if◌then◌else◌, List, [], ◌++◌, map, filter}
+use Rattle.seg_words.specs.Windows.{has}
+use Rattle.apcu_model.specs.Cache.{Row}
+use Rattle.apcu_model.specs.Change.{is_held}
+use Rattle.apcu_model.specs.Expiry.{is_expired}
+use Rattle.apcu_model.specs.Walk.{in_slot_order}
+use Rattle.entry_slots.specs.Lists.{has_place}
+use Rattle.entry_slots.specs.Entries.{Entries, chain_of, freed_at}
+
+-- the removed rows that nobody copies any more are gone
+abbrev pub swept_in : List ℕ → Entries → Entries
+swept_in held s = record s { removed = filter (is_held held) s.removed }
+
+-- the removed row at this place is gone, where it is not held
+abbrev pub swept_at : List ℕ → ℕ → Entries → Entries
+swept_at held at s = if has at held then s else freed_at at s
+
+-- the rows but those at the places of `gone`
+abbrev pub left_of : List Row → List Row → List Row
+left_of gone rows = filter (λ row. not (has_place row.place gone)) rows
+
+-- these rows leave the rows, one after the other: those that are held go to the end of the removed ones
+abbrev pub dropped_rows : List ℕ → ℕ → List Row → Entries → Entries
+dropped_rows held t gone s = record s {
+  rows = left_of gone s.rows;
+  removed = s.removed ++ map {A = Row} (λ row. record row { dtime = t }) (filter (is_held held) gone);
+}
+
+-- the rows that pass leave the rows, as `dropped` of a cache says
+abbrev pub dropped_in : List ℕ → ℕ → (Row → Bool) → Entries → Entries
+dropped_in held t pass s = record s {
+  rows = filter (λ row. not (pass row)) s.rows;
+  removed = s.removed ++ map {A = Row} (λ row. record row { dtime = t }) (filter (is_held held) (in_slot_order s.conf (filter pass s.rows)));
+}
+
+-- all rows, in the order in which they are dropped
+abbrev pub all_rows : Entries → List Row
+all_rows s = in_slot_order s.conf s.rows
+
+-- the expired ones of them
+abbrev pub expired_rows : ℕ → Entries → List Row
+expired_rows t s = in_slot_order s.conf (filter (is_expired s.conf t) s.rows)
+
+-- the expired ones of one slot
+abbrev pub expired_in : ℕ → ℕ → Entries → List Row
+expired_in t slot s = filter (is_expired s.conf t) (chain_of s slot)
+
+-- those that go where room is wanted: none where the cache has no time limit
+abbrev pub spent_rows : ℕ → Entries → List Row
+spent_rows t s = if nat_lt 0 s.conf.ttl then expired_rows t s else []

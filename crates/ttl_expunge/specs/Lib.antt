@@ -1,0 +1,5 @@
+pub mod Lists
+pub mod Dropping
+pub mod Held
+pub mod Which
+pub mod Room

@@ -1,0 +1,130 @@
+ghost use Rattle.std.specs.Prelude.{◌≡◌, ℕ, ◌<◌, true, filter};
+ghost use Rattle.apcu_model.specs.Cache.{Row};
+ghost use Rattle.apcu_model.specs.Walk.{in_slot_order};
+ghost use Rattle.entry_slots.specs.Lists.{has_place, only_at};
+ghost use Rattle.entry_slots.specs.Entries.{chain_of};
+ghost use Rattle.ttl_expunge.specs.Dropping.{all_rows, expired_rows, expired_in};
+ghost use Rattle.ttl_expunge.specs.Held.{AreRemoved, Drops};
+ghost use Rattle.ttl_expunge.specs.Which.{passes};
+ghost use Rattle.entry_slots.specs.Standing.{Stand, entries};
+
+use crate::expunge::drop_row;
+use entry_slots::{EntrySlots, Head, standing_laws};
+use seg_words::Segment;
+
+/// Which rows are dropped.
+#[derive(Clone, Copy, Debug)]
+pub(crate) enum Which {
+    /// All.
+    All,
+    /// The expired ones, where this is how long a row without a time of its own lives unused.
+    Expired(u32),
+}
+
+// Whether a row of which this is noted is dropped.
+fn is_dropped(which: Which, head: Head, t: u64) -> bool
+    ensures { (row : Row) → head.ttl ≡ row.ttl → head.ctime ≡ row.ctime
+        → head.atime ≡ row.atime → result ≡ passes which t row }
+{
+    match which {
+        Which::All => true,
+        Which::Expired(ttl) => {
+            (head.ttl > 0 && head.ctime.saturating_add(u64::from(head.ttl)) < t)
+                || (head.ttl == 0 && ttl > 0 && head.atime.saturating_add(u64::from(ttl)) < t)
+        }
+    }
+}
+
+// Drops the row at `at`, if it is such a one.
+fn drop_if<S: Segment>(slots: &mut EntrySlots, seg: &mut S, at: u32, which: Which, t: u64)
+    requires stand { Stand S.WordsIn slots.old seg.old }
+    requires there { has_place at (entries slots.old).rows ≡ true }
+    requires refused { AreRemoved (S.aside seg.old) (entries slots.old).removed }
+    ensures drops { Drops (entries slots.old) (entries slots.new)
+        (S.aside seg.old) (S.aside seg.new) t
+        (filter (passes which t) (only_at at (entries slots.old).rows)) }
+    ensures stand { Stand S.WordsIn slots.new seg.new }
+    ensures rest { S.rest seg.new ≡ S.rest seg.old }
+{
+    standing_laws();
+    let head = slots.head(seg, at);
+    if is_dropped(which, head, t) {
+        drop_row(slots, seg, at, t);
+    }
+}
+
+// Drops such rows of one slot.
+fn drop_chain<S: Segment>(slots: &mut EntrySlots, seg: &mut S, slot: u32, which: Which, t: u64)
+    requires stand { Stand S.WordsIn slots.old seg.old }
+    requires slot { slot < (entries slots.old).conf.slots }
+    requires refused { AreRemoved (S.aside seg.old) (entries slots.old).removed }
+    ensures drops { Drops (entries slots.old) (entries slots.new)
+        (S.aside seg.old) (S.aside seg.new) t
+        (filter (passes which t) (chain_of (entries slots.old) slot)) }
+    ensures stand { Stand S.WordsIn slots.new seg.new }
+    ensures rest { S.rest seg.new ≡ S.rest seg.old }
+{
+    standing_laws();
+    let mut at = slots.first_in(seg, slot);
+    while at != 0 {
+        let next = slots.after(seg, at);
+        drop_if(slots, seg, at, which, t);
+        at = next;
+    }
+}
+
+// Drops such rows of all slots.
+fn drop_all<S: Segment>(slots: &mut EntrySlots, seg: &mut S, which: Which, t: u64)
+    requires stand { Stand S.WordsIn slots.old seg.old }
+    requires refused { AreRemoved (S.aside seg.old) (entries slots.old).removed }
+    ensures drops { Drops (entries slots.old) (entries slots.new)
+        (S.aside seg.old) (S.aside seg.new) t (in_slot_order (entries slots.old).conf
+        (filter (passes which t) (entries slots.old).rows)) }
+    ensures stand { Stand S.WordsIn slots.new seg.new }
+    ensures rest { S.rest seg.new ≡ S.rest seg.old }
+{
+    standing_laws();
+    let end = slots.slots();
+    for slot in 0..end {
+        drop_chain(slots, seg, slot, which, t);
+    }
+}
+
+/// Drops the expired rows of one slot; `ttl` is the cache's time limit.
+pub fn sweep_chain<S: Segment>(slots: &mut EntrySlots, seg: &mut S, slot: u32, ttl: u32, t: u64)
+    requires stand { Stand S.WordsIn slots.old seg.old }
+    requires slot { slot < (entries slots.old).conf.slots }
+    requires limit { ttl ≡ (entries slots.old).conf.ttl }
+    requires refused { AreRemoved (S.aside seg.old) (entries slots.old).removed }
+    ensures drops { Drops (entries slots.old) (entries slots.new)
+        (S.aside seg.old) (S.aside seg.new) t (expired_in t slot (entries slots.old)) }
+    ensures stand { Stand S.WordsIn slots.new seg.new }
+    ensures rest { S.rest seg.new ≡ S.rest seg.old }
+{
+    drop_chain(slots, seg, slot, Which::Expired(ttl), t);
+}
+
+/// Drops all expired rows, by slot and by their place in the chain.
+pub fn expunge_expired<S: Segment>(slots: &mut EntrySlots, seg: &mut S, ttl: u32, t: u64)
+    requires stand { Stand S.WordsIn slots.old seg.old }
+    requires limit { ttl ≡ (entries slots.old).conf.ttl }
+    requires refused { AreRemoved (S.aside seg.old) (entries slots.old).removed }
+    ensures drops { Drops (entries slots.old) (entries slots.new)
+        (S.aside seg.old) (S.aside seg.new) t (expired_rows t (entries slots.old)) }
+    ensures stand { Stand S.WordsIn slots.new seg.new }
+    ensures rest { S.rest seg.new ≡ S.rest seg.old }
+{
+    drop_all(slots, seg, Which::Expired(ttl), t);
+}
+
+/// Drops all rows, by slot and by their place in the chain.
+pub fn expunge_all<S: Segment>(slots: &mut EntrySlots, seg: &mut S, t: u64)
+    requires stand { Stand S.WordsIn slots.old seg.old }
+    requires refused { AreRemoved (S.aside seg.old) (entries slots.old).removed }
+    ensures drops { Drops (entries slots.old) (entries slots.new)
+        (S.aside seg.old) (S.aside seg.new) t (all_rows (entries slots.old)) }
+    ensures stand { Stand S.WordsIn slots.new seg.new }
+    ensures rest { S.rest seg.new ≡ S.rest seg.old }
+{
+    drop_all(slots, seg, Which::All, t);
+}

@@ -1,0 +1,83 @@
+ghost use Rattle.std.specs.Prelude.{◌≡◌, ℕ, true, false, not};
+ghost use Rattle.seg_words.specs.Probing.{Met};
+ghost use Rattle.seg_words.specs.Windows.{has, held_blocks};
+ghost use Rattle.entry_slots.specs.Lists.{has_place, only_at};
+ghost use Rattle.entry_slots.specs.Entries.{listed};
+ghost use Rattle.ttl_expunge.specs.Held.{AreRemoved, Sweeps, Drops};
+ghost use Rattle.ttl_expunge.specs.Dropping.{swept_at};
+ghost use Rattle.entry_slots.specs.Standing.{Stand, entries};
+
+use entry_slots::{EntrySlots, standing_laws, window_laws};
+use seg_words::{Segment, probe_laws};
+
+/// Whether the block of the row or removed row at `at` may be given back, since nobody copies from it any more. It
+/// probes the block: after `false` the block is held in this event, and no later probe changes either answer.
+pub fn is_let_go<S: Segment>(slots: &EntrySlots, seg: &mut S, at: u32) -> bool
+    requires stand { Stand S.WordsIn slots.now seg.old }
+    requires there { has_place at (listed (entries slots.now)) ≡ true }
+    requires fresh { has at (S.aside seg.old).refused ≡ false }
+    ensures free { result ≡ not (has at (held_blocks (S.aside seg.new))) }
+    ensures stand { Stand S.WordsIn slots.now seg.new }
+    ensures met { Met (S.aside seg.old) (S.aside seg.new) at }
+    ensures rest { S.rest seg.new ≡ S.rest seg.old }
+{
+    probe_laws();
+    standing_laws();
+    window_laws();
+    seg.probe(at)
+}
+
+// Frees the removed row at `at`, unless somebody still copies from its block.
+fn sweep_at<S: Segment>(slots: &mut EntrySlots, seg: &mut S, at: u32)
+    requires stand { Stand S.WordsIn slots.old seg.old }
+    requires there { has_place at (entries slots.old).removed ≡ true }
+    requires fresh { has at (S.aside seg.old).refused ≡ false }
+    ensures swept { entries slots.new
+        ≡ swept_at (held_blocks (S.aside seg.new)) at (entries slots.old) }
+    ensures stand { Stand S.WordsIn slots.new seg.new }
+    ensures met { Met (S.aside seg.old) (S.aside seg.new) at }
+    ensures rest { S.rest seg.new ≡ S.rest seg.old }
+{
+    if is_let_go(slots, seg, at) {
+        slots.free(seg, at);
+    }
+}
+
+/// Frees each removed row that nobody copies from any more. The others keep their order.
+pub fn sweep_removed<S: Segment>(slots: &mut EntrySlots, seg: &mut S)
+    requires stand { Stand S.WordsIn slots.old seg.old }
+    requires fresh { (b : ℕ) → has b (S.aside seg.old).refused ≡ false }
+    ensures sweeps { Sweeps (entries slots.old) (entries slots.new)
+        (S.aside seg.old) (S.aside seg.new) }
+    ensures stand { Stand S.WordsIn slots.new seg.new }
+    ensures rest { S.rest seg.new ≡ S.rest seg.old }
+{
+    standing_laws();
+    let mut at = slots.first_removed();
+    while at != 0 {
+        let next = slots.after(seg, at);
+        sweep_at(slots, seg, at);
+        at = next;
+    }
+}
+
+/// Drops the row at `at`: it is the last of the removed rows where somebody still copies from its block, and
+/// else it is gone.
+pub fn drop_row<S: Segment>(slots: &mut EntrySlots, seg: &mut S, at: u32, t: u64)
+    requires stand { Stand S.WordsIn slots.old seg.old }
+    requires there { has_place at (entries slots.old).rows ≡ true }
+    requires refused { AreRemoved (S.aside seg.old) (entries slots.old).removed }
+    ensures drops { Drops (entries slots.old) (entries slots.new)
+        (S.aside seg.old) (S.aside seg.new) t (only_at at (entries slots.old).rows) }
+    ensures stand { Stand S.WordsIn slots.new seg.new }
+    ensures rest { S.rest seg.new ≡ S.rest seg.old }
+{
+    standing_laws();
+    let is_free = is_let_go(slots, seg, at);
+    slots.unlink(seg, at);
+    if is_free {
+        slots.free_unlinked(seg, at);
+    } else {
+        slots.to_removed(seg, at, t);
+    }
+}

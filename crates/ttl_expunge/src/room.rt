@@ -1,0 +1,84 @@
+ghost use Rattle.std.specs.Prelude.{◌≡◌, ℕ, ◌%◌, ◌≤◌, false};
+ghost use Rattle.seg_words.specs.Windows.{has};
+ghost use Rattle.ttl_expunge.specs.Dropping.{spent_rows};
+ghost use Rattle.ttl_expunge.specs.Held.{AreRemoved, AreHeld, Drops};
+ghost use Rattle.ttl_expunge.specs.Room.{MakesRoom};
+ghost use Rattle.entry_slots.specs.Entries.{IsWhole};
+ghost use Rattle.entry_slots.specs.Standing.{Stand, entries};
+
+use crate::at_once::expunge_at_once;
+use crate::chains::expunge_expired;
+use crate::expunge::sweep_removed;
+use entry_slots::{EntrySlots, standing_laws};
+use seg_words::Segment;
+
+// Drops the expired rows, where the cache has a time limit.
+fn drop_expired<S: Segment>(slots: &mut EntrySlots, seg: &mut S, ttl: u32, t: u64)
+    requires stand { Stand S.WordsIn slots.old seg.old }
+    requires limit { ttl ≡ (entries slots.old).conf.ttl }
+    requires refused { AreRemoved (S.aside seg.old) (entries slots.old).removed }
+    ensures drops { Drops (entries slots.old) (entries slots.new)
+        (S.aside seg.old) (S.aside seg.new) t (spent_rows t (entries slots.old)) }
+    ensures stand { Stand S.WordsIn slots.new seg.new }
+    ensures rest { S.rest seg.new ≡ S.rest seg.old }
+{
+    if ttl > 0 {
+        expunge_expired(slots, seg, ttl, t);
+    }
+}
+
+/// Makes room for a block of `n` words and takes it: the removed rows are swept; where no gap is large enough
+/// yet, expired rows go; and where none is even then, all rows. The flag tells whether all rows went.
+pub fn make_room<S: Segment>(
+    slots: &mut EntrySlots,
+    seg: &mut S,
+    n: u32,
+    ttl: u32,
+    t: u64,
+) -> (Option<u32>, bool)
+    requires size { (n % 2 ≡ 0) × (2 ≤ n) }
+    requires stand { Stand S.WordsIn slots.old seg.old }
+    requires limit { ttl ≡ (entries slots.old).conf.ttl }
+    requires whole { IsWhole (entries slots.old) }
+    requires fresh { (b : ℕ) → has b (S.aside seg.old).refused ≡ false }
+    ensures made { MakesRoom (entries slots.old) (entries slots.new)
+        (S.aside seg.old) (S.aside seg.new) n t result.0 result.1 }
+    ensures stand { Stand S.WordsIn slots.new seg.new }
+    ensures rest { S.rest seg.new ≡ S.rest seg.old }
+{
+    sweep_removed(slots, seg);
+    make_room_next(slots, seg, n, ttl, t)
+}
+
+/// The same in an event in which room was made before: all removed rows are held, and none is swept.
+pub fn make_room_next<S: Segment>(
+    slots: &mut EntrySlots,
+    seg: &mut S,
+    n: u32,
+    ttl: u32,
+    t: u64,
+) -> (Option<u32>, bool)
+    requires size { (n % 2 ≡ 0) × (2 ≤ n) }
+    requires stand { Stand S.WordsIn slots.old seg.old }
+    requires limit { ttl ≡ (entries slots.old).conf.ttl }
+    requires whole { IsWhole (entries slots.old) }
+    requires held { AreHeld (S.aside seg.old) (entries slots.old).removed }
+    requires refused { AreRemoved (S.aside seg.old) (entries slots.old).removed }
+    ensures made { MakesRoom (entries slots.old) (entries slots.new)
+        (S.aside seg.old) (S.aside seg.new) n t result.0 result.1 }
+    ensures stand { Stand S.WordsIn slots.new seg.new }
+    ensures rest { S.rest seg.new ≡ S.rest seg.old }
+{
+    standing_laws();
+    let swept = slots.take(seg, n);
+    if swept.is_some() {
+        return (swept, false);
+    }
+    drop_expired(slots, seg, ttl, t);
+    let unexpired = slots.take(seg, n);
+    if unexpired.is_some() {
+        return (unexpired, false);
+    }
+    expunge_at_once(slots, seg, t);
+    (slots.take(seg, n), true)
+}
