@@ -7,8 +7,9 @@ use Rattle.io_edges.specs.declared.sink.Put.{Put}
 use Rattle.io_edges.specs.declared.sink.Put.TheVariants as put
 use Rattle.io_edges.specs.Faults.{raised}
 
--- A source: the bytes that are left, the most that one read gives, the numbers of the reads that fail,
--- the number of the next read, and the count of faults. Both numbers stay at the last value of a `u64`.
+-- A source: the bytes that are left, the most that one read gives, the numbers of the reads that
+-- fail, the number of the next read, and the count of faults. Both numbers stay at the last value
+-- of a `u64`.
 pub record Input : Type 0 where
   pub left : List ℕ
   pub piece : ℕ
@@ -40,8 +41,9 @@ after_read source room = record {
   faults = (if read_fails source then raised source.faults else source.faults);
 }
 
--- A sink: the bytes that it holds, the room that it had from the start, the most that one write takes, the numbers
--- of the writes that fail, the number of the next write, and the count of faults, as of a source.
+-- A sink: the bytes that it holds, the room that it had from the start, the most that one write
+-- takes, the numbers of the writes that fail, the number of the next write, and the count of
+-- faults, as of a source.
 pub record Output : Type 0 where
   pub held : List ℕ
   pub room : ℕ
@@ -52,7 +54,8 @@ pub record Output : Type 0 where
 
 -- the next write fails: its number is one of those that fail, or the room is taken
 abbrev pub write_fails : Output → Bool
-write_fails sink = list_any (λ number. number == sink.call) sink.fails || nat_le sink.room (length sink.held)
+write_fails sink =
+    list_any (λ number. number == sink.call) sink.fails || nat_le sink.room (length sink.held)
 
 -- how many of this many bytes the next write takes, if it does not fail
 abbrev pub write_count : Output → ℕ → ℕ
@@ -65,7 +68,9 @@ write_answer sink count = if write_fails sink then put.Failed else put.Took (wri
 -- the sink after a write of these bytes
 abbrev pub after_write : Output → List ℕ → Output
 after_write sink bytes = record {
-  held = (if write_fails sink then sink.held else sink.held ++ take (write_count sink (length bytes)) bytes);
+  held =
+      (if write_fails sink then sink.held
+      else sink.held ++ take (write_count sink (length bytes)) bytes);
   room = sink.room;
   piece = sink.piece;
   fails = sink.fails;

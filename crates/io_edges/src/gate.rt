@@ -5,17 +5,19 @@
 pub enum Point {
     /// The call is about to be made.
     Before(u32),
-    /// A block is pinned, and its copy has not begun.
+    /// A block is pinned, and the copy of its value has not begun.
     Pinned(u32),
-    /// A chunk of a walk has come.
+    /// A chunk of a walk was gathered.
     Chunk(u32),
     /// The call has its reply.
     After(u32),
 }
 
-/// Told of each point that a worker reaches. It has no part in any answer: it is there so that a test can hold one
-/// worker at a point until another has come to its own. A call may take as long as it likes.
+/// Told of each point that a worker reaches. It has no part in any answer: it is there so that a
+/// test can hold one worker at a point until another has come to its own. A call may take as long
+/// as it likes.
 pub trait Gate {
+    /// Is called by a worker at each of its points, and holds it until it returns.
     fn reached(&self, worker: u32, point: Point);
 }
 

@@ -1,4 +1,5 @@
-//! The edges of a program: where bytes come from, where they go, and points at which a test may hold a worker.
+//! The edges of a program: where bytes come from, where they go, and points at which a test may
+//! hold a worker.
 #![tactic(auto)]
 
 mod gate;
@@ -20,6 +21,3 @@ pub use source::{Got, Source};
 pub use std_sink::StdSink;
 pub use std_source::StdSource;
 pub use writing::{WriteFault, write_all};
-
-#[cfg(test)]
-mod tests;

@@ -8,7 +8,8 @@ use crate::{Put, Sink};
 use std::alloc::{AllocError, Global};
 use std::marker::Model;
 
-/// A sink in memory, which tells what it holds. Its room is taken when it is made, so no write takes memory.
+/// A sink in memory, which tells what it holds. Its room is taken when it is made, so no write
+/// takes memory.
 #[derive(Drop)]
 pub struct MemSink<'a> {
     bytes: Vec<u8>,
@@ -34,12 +35,14 @@ impl<'a> Model for MemSink<'a> {
       faults = s.faults;
     } };
 
-    ghost invariant = { λ s. (1 ≤ s.piece) × (vec_len s.bytes ≤ s.room) × (s.room ≤ vec_capacity s.bytes) };
+    ghost invariant = { λ s.
+        (1 ≤ s.piece) × (vec_len s.bytes ≤ s.room) × (s.room ≤ vec_capacity s.bytes) };
 }
 
 impl<'a> MemSink<'a> {
-    /// An empty sink with room for `room` bytes, which is taken here. A write takes at most `piece` bytes. The writes
-    /// whose numbers, from 0, stand in `fails` fail, and so does each where the room is taken.
+    /// An empty sink with room for `room` bytes, which is taken here. A write takes at most `piece`
+    /// bytes. The writes whose numbers, from 0, stand in `fails` fail, and so does each where the
+    /// room is taken.
     pub fn new(
         alloc: Global,
         room: usize,
@@ -85,7 +88,8 @@ impl Sink for MemSink<'_> {
         ensures answer { result ≡ write_answer self.old (length from.now) }
         ensures after { self.new ≡ after_write self.old from.now }
         ensures took { TakesWithin result (length from.now) }
-        ensures bytes { Some self.new.held ≡ append_known (Some self.old.held) (bytes_taken result from.now) }
+        ensures bytes { Some self.new.held
+            ≡ append_known (Some self.old.held) (bytes_taken result from.now) }
         ensures faults { CountsWriteFault result self.old.faults self.new.faults }
     {
         let number = self.call;

@@ -7,8 +7,8 @@ ghost use Rattle.io_edges.specs.Memory.{read_answer, after_read};
 use crate::{Got, Source};
 use std::marker::Model;
 
-/// A source over bytes in memory, which tells what is left. It reads in pieces of a given size, and fails at given
-/// calls, so that a test can choose both.
+/// A source over bytes in memory, which tells what is left. It reads in pieces of a given size, and
+/// fails at given calls, so that a test can choose both.
 #[derive(Drop)]
 pub struct MemSource<'a> {
     rest: &'a [u8],
@@ -36,11 +36,17 @@ impl<'a> Model for MemSource<'a> {
 }
 
 impl<'a> MemSource<'a> {
-    /// A source of these bytes. A read gives as many as there are and as fit, but at most `piece`. The reads whose
-    /// numbers, from 0, stand in `fails` fail.
+    /// A source of these bytes. A read gives as many as there are and as fit, but at most `piece`.
+    /// The reads whose numbers, from 0, stand in `fails` fail.
     pub fn new(bytes: &'a [u8], piece: usize, fails: &'a [u64]) -> MemSource<'a>
         requires { 1 ≤ piece }
-        ensures { result ≡ record { left = bytes.now; piece = piece; fails = fails.now; call = 0; faults = 0 } }
+        ensures { result ≡ record {
+          left = bytes.now;
+          piece = piece;
+          fails = fails.now;
+          call = 0;
+          faults = 0;
+        } }
     {
         MemSource {
             rest: bytes,
@@ -62,7 +68,8 @@ impl Source for MemSource<'_> {
         ensures answer { result ≡ read_answer self.old (length into.old) }
         ensures after { self.new ≡ after_read self.old (length into.old) }
         ensures took { GivesWithin result (length into.new) }
-        ensures bytes { Some self.old.left ≡ prepend_known (bytes_given result into.new) (Some self.new.left) }
+        ensures bytes { Some self.old.left
+            ≡ prepend_known (bytes_given result into.new) (Some self.new.left) }
         ensures end { EndsOnlyAtEnd result (Some self.new.left) }
         ensures faults { CountsReadFault result self.old.faults self.new.faults }
     {

@@ -25,22 +25,28 @@ pub enum ReadError {
 // The most bytes that one read is asked for.
 const PIECE: usize = 65536;
 
-/// Reads all that a source has left, if that is at most `limit` bytes, of which one more at most is read. The memory
-/// that it takes grows with the bytes that came. After an error the bytes that came are gone.
+/// Reads all that a source has left, if that is at most `limit` bytes, of which one more at most is
+/// read. The memory that it takes grows with the bytes that came. After an error the bytes that
+/// came are gone.
 pub fn read_all<S: Source>(alloc: Global, input: &mut S, limit: usize) -> Result<Vec<u8>, ReadError>
     // The bytes are all that was left, and nothing is left now.
     ensures all { IfOk result (λ bytes. IfSome (S.left input.old) (λ left. bytes.items ≡ left)) }
-    ensures given { IfOk result (λ bytes. S.left input.old ≡ prepend_known bytes.items (S.left input.new)) }
+    ensures given { IfOk result (λ bytes.
+        S.left input.old ≡ prepend_known bytes.items (S.left input.new)) }
     ensures end { OnOk result (IsAtEnd (S.left input.new)) }
     ensures within { IfOk result (λ bytes. vec_len bytes ≤ limit) }
 
     // It is too long where more than the limit was left, of which just one more was read.
-    ensures too_long { IsErrOf result ReadError.TooLong → IfSome (S.left input.old) (λ left. limit < length left) }
-    ensures one_more { IsErrOf result ReadError.TooLong → HasTaken (S.left input.old) (S.left input.new) (limit + 1) }
+    ensures too_long { IsErrOf result ReadError.TooLong
+        → IfSome (S.left input.old) (λ left. limit < length left) }
+    ensures one_more { IsErrOf result ReadError.TooLong
+        → HasTaken (S.left input.old) (S.left input.new) (limit + 1) }
 
     // A fault is a fault of the source in this call.
-    ensures fault { IsErrOf result ReadError.Fault → Rose (S.faults input.old) (S.faults input.new) }
-    ensures calm { ¬ IsErrOf result ReadError.Fault → S.faults input.new ≡ S.faults input.old }
+    ensures fault { IsErrOf result ReadError.Fault
+        → Rose (S.faults input.old) (S.faults input.new) }
+    ensures calm { ¬ IsErrOf result ReadError.Fault
+        → S.faults input.new ≡ S.faults input.old }
     ensures never_falls { S.faults input.old ≤ S.faults input.new }
 
     // After any error a part of what was left is gone.

@@ -22,7 +22,8 @@ pub trait Source {
     /// How often a read has failed. The count stays at the last value of a `u64`.
     ghost faults: { Self → ℕ };
 
-    /// Reads the next bytes into the front of `into`. The bytes behind those are left as they may be.
+    /// Reads the next bytes into the front of `into`. The bytes behind those are left as they may
+    /// be.
     fn read(&mut self, into: &mut [u8]) -> Got
         requires { 0 < length into.old }
 
@@ -30,7 +31,8 @@ pub trait Source {
         ensures took { GivesWithin result (length into.new) }
 
         // What is given is what comes next, and it is not given again.
-        ensures bytes { left self.old ≡ prepend_known (bytes_given result into.new) (left self.new) }
+        ensures bytes { left self.old
+            ≡ prepend_known (bytes_given result into.new) (left self.new) }
         ensures end { EndsOnlyAtEnd result (left self.new) }
 
         // A failure has its cause, and nothing else raises the count.

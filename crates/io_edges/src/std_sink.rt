@@ -6,9 +6,9 @@ ghost use Rattle.io_edges.specs.Writing.{bytes_taken, TakesWithin, CountsWriteFa
 use crate::{Put, Sink};
 use std::io::{ErrorKind, Stderr, Stdout, Write};
 
-/// A sink over a writer, as standard output. It tells nothing of what it holds, since no contract can say what a
-/// stream received. Each error counts as a fault, and so does a write that takes 0 bytes. It keeps no bytes back, and
-/// does not flush a writer that does.
+/// A sink over a writer, as standard output. It tells nothing of what it holds, since no contract
+/// can say what a stream received. Each error counts as a fault, and so does a write that takes 0
+/// bytes. It keeps no bytes back, and does not flush a writer that does.
 #[derive(Drop)]
 pub struct StdSink<W> {
     writer: W,

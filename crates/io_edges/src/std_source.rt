@@ -6,8 +6,8 @@ ghost use Rattle.io_edges.specs.Reading.{bytes_given, GivesWithin, EndsOnlyAtEnd
 use crate::{Got, Source};
 use std::io::{ErrorKind, Read, Stdin};
 
-/// A source over a reader, as standard input. It tells nothing of what is left, since no contract can say what a
-/// stream holds. A read of 0 bytes is the end. Each error counts as a fault.
+/// A source over a reader, as standard input. It tells nothing of what is left, since no contract
+/// can say what a stream holds. A read of 0 bytes is the end. Each error counts as a fault.
 #[derive(Drop)]
 pub struct StdSource<R> {
     reader: R,
@@ -46,7 +46,8 @@ impl<R: Read> Source for StdSource<R> {
         ensures took { GivesWithin result (length into.new) }
         ensures faults { CountsReadFault result self.old.failures self.new.failures }
 
-        // Of a reader that tells its bytes, what is given is what comes next, and the end is its end.
+        // Of a reader that tells its bytes, what is given is what comes next, and the end is its
+        // end.
         ensures given { Consumes (R.remaining self.old.reader) (R.remaining self.new.reader)
             (bytes_given result into.new) }
         ensures end { EndsOnlyAtEnd result (R.remaining self.new.reader) }
@@ -67,7 +68,8 @@ impl<R: Read> Source for StdSource<R> {
 fn read_retrying<R: Read>(reader: &mut R, into: &mut [u8]) -> Option<usize>
     ensures bound { IfSome result (λ count. count ≤ length into.new) }
     ensures given { MatchOption result (Keeps (R.remaining reader.old) (R.remaining reader.new))
-        (λ count. Consumes (R.remaining reader.old) (R.remaining reader.new) (take count into.new)) }
+        (λ count.
+        Consumes (R.remaining reader.old) (R.remaining reader.new) (take count into.new)) }
     ensures end { result ≡ Some 0 → 0 < length into.new → IsAtEnd (R.remaining reader.new) }
 {
     'tries: for _ in 0..u64::MAX {

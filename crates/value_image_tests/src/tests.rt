@@ -8,8 +8,10 @@ use php_graph::{Builder, Bytes, Graph, Item, Key, Wants};
 use seg_words::{Segment, VecWords};
 use std::alloc::{AllocError, Global};
 use std::test::Fail;
-use value_image::{bytes_are_packed, images_are_runs, images_differ, runs_are_written, runs_stand};
-use value_image::{get_bytes, persist, put_bytes, unpersist};
+use value_image::{
+    bytes_are_packed, get_bytes, images_are_runs, images_differ, persist, put_bytes,
+    runs_are_written, runs_stand, unpersist,
+};
 
 // A step in writing a value.
 #[derive(Clone, Copy)]

@@ -1,5 +1,8 @@
-// Each call once, and what no clause says: the real streams, fakes that fail in mid-stream, and the messages.
-use super::*;
+// The real streams, fakes that fail in mid-stream, and the messages.
+use io_edges::{
+    Gate, Got, MemSink, MemSource, NoGate, Point, Put, ReadError, Sink, Source, StdSink, StdSource,
+    WriteFault, read_all, write_all,
+};
 use std::io::{self, Error, ErrorKind, Read, Write};
 use std::test::Fail;
 
@@ -81,11 +84,16 @@ fn a_stream_is_read_through_an_interruption_and_fails_where_it_breaks(rt: HostRu
         call: 0,
     });
     let mut into = [0; 4];
-    assert_eq!(rt; source.read(&mut into), Got::Took(2));
-    assert_eq!(rt; source.read(&mut into), Got::Took(3));
-    assert_eq!(rt; source.read(&mut into), Got::Failed);
-    assert_eq!(rt; source.read(&mut into), Got::Took(1));
-    assert_eq!(rt; source.read(&mut into), Got::End);
+    for wanted in [
+        Got::Took(2),
+        Got::Took(3),
+        Got::Failed,
+        Got::Took(1),
+        Got::End,
+    ] {
+        let got = source.read(&mut into);
+        assert_eq!(rt; got, wanted);
+    }
     assert_eq!(rt; into, *b"xxx\0");
 }
 
@@ -102,10 +110,10 @@ fn a_stream_is_written_through_an_interruption_and_fails_where_it_takes_nothing(
         call: 0,
         taken: 0,
     });
-    assert_eq!(rt; sink.write(b"abcd"), Put::Took(2));
-    assert_eq!(rt; sink.write(b"cd"), Put::Failed);
-    assert_eq!(rt; sink.write(b"cd"), Put::Failed);
-    assert_eq!(rt; sink.write(b"cd"), Put::Took(2));
+    for wanted in [Put::Took(2), Put::Failed, Put::Failed, Put::Took(4)] {
+        let put = sink.write(b"abcd");
+        assert_eq!(rt; put, wanted);
+    }
     assert!(rt; write_all(&mut sink, b"e").is_err());
 }
 
@@ -152,13 +160,18 @@ fn a_read_fails_in_turn(rt: HostRuntime) {
 
 #[test]
 fn one_byte_over_the_limit_is_too_long(rt: HostRuntime) {
-    let alloc = rt.alloc();
-    let mut source = MemSource::new(b"abcd", 2, &[]);
-    assert!(rt; matches!(read_all(alloc, &mut source, 3), Err(ReadError::TooLong)));
-    let mut source = MemSource::new(b"abcd", 2, &[]);
-    assert!(rt; read_all(alloc, &mut source, 4).is_ok());
-    let mut source = MemSource::new(b"", 2, &[]);
-    assert!(rt; read_all(alloc, &mut source, 0).is_ok());
+    let four = b"abcd".as_slice();
+    let rows = [
+        (four, 3, true),
+        (four, 4, false),
+        (b"".as_slice(), 0, false),
+    ];
+    for (bytes, limit, too_long) in rows {
+        let mut source = MemSource::new(bytes, 2, &[]);
+        let read = read_all(rt.alloc(), &mut source, limit);
+        assert_eq!(rt; matches!(read, Err(ReadError::TooLong)), too_long);
+        assert_eq!(rt; read.is_ok(), !too_long);
+    }
 }
 
 #[test]
@@ -185,23 +198,17 @@ fn a_write_fails_in_turn(rt: HostRuntime) -> Result<(), Fail> {
 
 #[test]
 fn errors_say_what_they_are(rt: HostRuntime) -> Result<(), Fail> {
-    let alloc = rt.alloc();
-    assert_eq!(rt;
-        format!(in alloc; "{}", ReadError::Memory)?.as_str(),
-        "out of memory"
-    );
-    assert_eq!(rt;
-        format!(in alloc; "{}", ReadError::Fault)?.as_str(),
-        "read fault"
-    );
-    assert_eq!(rt;
-        format!(in alloc; "{}", ReadError::TooLong)?.as_str(),
-        "input too long"
-    );
-    assert_eq!(rt;
-        format!(in alloc; "{}", WriteFault)?.as_str(),
-        "write fault"
-    );
+    let errors = [
+        (ReadError::Memory, "out of memory"),
+        (ReadError::Fault, "read fault"),
+        (ReadError::TooLong, "input too long"),
+    ];
+    for (error, words) in errors {
+        let text = format!(in rt.alloc(); "{error}")?;
+        assert_eq!(rt; text.as_str(), words);
+    }
+    let text = format!(in rt.alloc(); "{}", WriteFault)?;
+    assert_eq!(rt; text.as_str(), "write fault");
     Ok(())
 }
 
