@@ -5,7 +5,6 @@ use Rattle.script_read.specs.declared.fault.ScriptFault.{ScriptFault}
 use Rattle.script_read.specs.declared.fault.ScriptFault.TheVariants as faults
 use Rattle.script_read.specs.declared.script.Step.{Step}
 use Rattle.script_read.specs.Grammar.{AreScripts}
-use Rattle.script_read.specs.Reading.{scripts_at}
 use Rattle.script_read.specs.Ties.{AreSomeBytes, ScriptsTake, ScriptsAgain}
 use Rattle.script_read.specs.Gives.{ReadsScripts}
 use Rattle.script_read.proofs.Forms.{ok_is}

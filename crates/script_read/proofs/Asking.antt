@@ -1,5 +1,5 @@
 -- How often a call asks.
-use Rattle.std.proofs.Common.{◌≡◌, ℕ, zero, suc, ◌<◌, ◌≤◌, List, [], ◌∷◌, length, map, arith, refl, ap, ◌∙◌}
+use Rattle.std.proofs.Common.{◌≡◌, ℕ, suc, ◌<◌, List, [], ◌∷◌, length, map, arith, refl, ap}
 use Rattle.php_graph.specs.declared.kind.Kind.{Kind}
 use Rattle.apcu_model.specs.declared.conf.Conf.{Conf}
 use Rattle.apcu_model.specs.declared.request.Request.{Request}
@@ -8,7 +8,7 @@ use Rattle.apcu_model.specs.declared.request.Reply.{Reply}
 use Rattle.script_read.specs.declared.call.Call.{Call}
 use Rattle.script_read.specs.declared.call.Call.TheVariants.{StoreOne, StoreMany, FetchOne, FetchMany, ExistsOne, ExistsMany, DeleteOne, DeleteMany, Clear, Enabled}
 use Rattle.script_read.specs.Calls.{events_of}
-use Rattle.script_read.specs.Play.{Next, Asks, Leaves, asks_each, next_of}
+use Rattle.script_read.specs.Play.{Asks, asks_each, next_of}
 
 each_few : (asked : List Request) (replies : List Reply) (request : Request) → asks_each asked replies ≡ Asks request → length replies < length asked
 each_few [] replies request e = absurd cc

@@ -1,5 +1,5 @@
 -- A fault of scripts lies within their bytes.
-use Rattle.std.proofs.Common.{◌≡◌, ℕ, zero, suc, ◌≤◌, Bool, true, false, cond, List, [], ◌∷◌, length, drop, Result, Ok, Err, refl, sym, ap, subst, arith}
+use Rattle.std.proofs.Common.{◌≡◌, ℕ, zero, suc, ◌≤◌, Bool, true, false, cond, List, [], ◌∷◌, length, Result, Ok, Err, subst, arith}
 use Rattle.std.specs.Prelude.{◌==◌, nat_lt, MatchResult}
 use Rattle.std.proofs.lemmas.List.{length-drop}
 use Rattle.php_graph.specs.declared.kind.Kind.{Kind}

@@ -1,5 +1,5 @@
 -- A row of the table, as the steps that a function of its own takes: each argument by what it is made of.
-use Rattle.std.proofs.Common.{◌≡◌, ℕ, Bool, true, false, cond, List, [], ◌∷◌, Option, Some, None, Result, Ok, Err, refl, sym, ap, subst, ◌∙◌}
+use Rattle.std.proofs.Common.{◌≡◌, ℕ, Bool, true, false, cond, List, [], Option, Some, None, Result, Ok, Err, refl, sym, ap, subst, ◌∙◌}
 use Rattle.std.specs.Prelude.{codes}
 use Rattle.std.specs.Option.{option_map}
 use Rattle.php_graph.specs.declared.kind.Kind.{Kind}
@@ -9,7 +9,6 @@ use Rattle.notation.specs.Reading.{reading_of}
 use Rattle.script_read.specs.declared.call.Call.TheVariants.{StoreOne, StoreMany}
 use Rattle.script_read.specs.declared.effect.Effect.{Effect}
 use Rattle.script_read.specs.declared.effect.Effect.TheVariants.{Sets, Calls}
-use Rattle.script_read.specs.declared.given.Asked.{Asked}
 use Rattle.script_read.specs.declared.given.Stored.{Stored}
 use Rattle.script_read.specs.declared.given.Stored.TheVariants as stores
 use Rattle.script_read.specs.Arguments.{any_value, null, ttl, moment, asked, stored}

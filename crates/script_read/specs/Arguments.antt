@@ -1,5 +1,5 @@
 -- What a value is as an argument: nothing where it is of the wrong kind or range.
-use Rattle.std.specs.Prelude.{ℕ, ◌&&◌, nat_le, if◌then◌else◌, List, [], ◌∷◌, Option, Some, None, IsSome, ℤ, pos, negsuc}
+use Rattle.std.specs.Prelude.{ℕ, nat_le, if◌then◌else◌, List, [], ◌∷◌, Option, Some, None, IsSome, ℤ, pos, negsuc}
 use Rattle.std.specs.Fmt.{signed_decimal}
 use Rattle.std.specs.Option.{option_and_then, option_map}
 use Rattle.php_graph.specs.declared.key.Key.{Key}

@@ -1,5 +1,5 @@
 -- How far a call can go.
-use Rattle.std.specs.Prelude.{◌≡◌, ℕ, ◌≤◌, ◌<◌, List, length}
+use Rattle.std.specs.Prelude.{ℕ, ◌≤◌, length}
 use Rattle.script_read.specs.declared.call.Call.{Call}
 use Rattle.script_read.specs.declared.call.Call.TheVariants.{StoreOne, StoreMany, FetchOne, FetchMany, ExistsOne, ExistsMany, DeleteOne, DeleteMany, Clear, Enabled}
 use Rattle.script_read.specs.declared.script.Step.{Step}

@@ -1,5 +1,5 @@
 -- What ties reading to the grammar.
-use Rattle.std.specs.Prelude.{◌≡◌, ℕ, ◌<◌, ◌++◌, List, Some, Ok}
+use Rattle.std.specs.Prelude.{◌≡◌, ℕ, ◌<◌, List, Ok}
 use Rattle.std.specs.List.{AllByRecursion}
 use Rattle.script_read.specs.declared.script.Step.{Step}
 use Rattle.script_read.specs.Grammar.{AreScripts}

@@ -130,8 +130,16 @@ fn calls_in_all_their_forms(rt: HostRuntime) -> Result<(), Fail> {
     let rows: [Row; 14] = [
         (0, Asked::Store(b"a", b"i:5;", 0, false), 1),
         (0, Asked::Store(b"a", b"N;", 4294967295, true), 1),
-        (100, Asked::StoreMany(&[(b"-7", b"i:1;"), (b"b", b"a:1:{i:0;R:1;}")], 0, false), 2),
-        (100, Asked::StoreMany(&[(b"", b"O:1:\"A\":1:{s:1:\"x\";r:1;}")], 0, false), 1),
+        (
+            100,
+            Asked::StoreMany(&[(b"-7", b"i:1;"), (b"b", b"a:1:{i:0;R:1;}")], 0, false),
+            2,
+        ),
+        (
+            100,
+            Asked::StoreMany(&[(b"", b"O:1:\"A\":1:{s:1:\"x\";r:1;}")], 0, false),
+            1,
+        ),
         (999999999999, Asked::StoreMany(&[], 5, true), 0),
         (0, Asked::Fetch(b"a"), 1),
         (0, Asked::FetchMany(&[b"a", b"5"]), 2),
@@ -161,10 +169,12 @@ fn no_scripts(rt: HostRuntime) -> Result<(), Fail> {
 
 fn refused(rt: &impl Abort, alloc: Global, text: &[u8], place: u64, reason: Reason) {
     match read_scripts(alloc, text) {
-        Err(ScriptFault::Bad {
-            place: at,
-            reason: why,
-        }) => {
+        Err(
+            ScriptFault::Bad {
+                place: at,
+                reason: why,
+            },
+        ) => {
             assert_eq!(rt; at, place);
             assert_eq!(rt; why, reason);
         }
@@ -179,9 +189,17 @@ type Fault = (&'static [u8], u64, Reason);
 fn values_at_fault(rt: HostRuntime) {
     let rows: [Fault; 4] = [
         (b"worker\napcu_store s:1:\"a\"; i:05;\n", 29, Reason::Number),
-        (b"worker\napcu_store s:1:\"a\"; s:3:\"ab\";\n", 29, Reason::Length),
+        (
+            b"worker\napcu_store s:1:\"a\"; s:3:\"ab\";\n",
+            29,
+            Reason::Length,
+        ),
         (b"worker\napcu_store s:1:\"a\"; d:1.5;\n", 27, Reason::Tag),
-        (b"worker\napcu_store s:1:\"a\"; a:1:{i:0;r:1;}\n", 38, Reason::Target),
+        (
+            b"worker\napcu_store s:1:\"a\"; a:1:{i:0;r:1;}\n",
+            38,
+            Reason::Target,
+        ),
     ];
     for row in &rows {
         refused(&rt, rt.alloc(), row.0, row.1, row.2);
@@ -215,12 +233,28 @@ fn lines_at_fault(rt: HostRuntime) {
         (b"worker\napcu_store a:0:{} N; i:1;", 32, Reason::End),
         (b"worker\ntime:i:1;\n", 11, Reason::Separator),
         (b"worker\ntime i:1;x\n", 16, Reason::Separator),
-        (b"worker\napcu_fetch s:1:\"a\"; i:1;\n", 27, Reason::Argument),
+        (
+            b"worker\napcu_fetch s:1:\"a\"; i:1;\n",
+            27,
+            Reason::Argument,
+        ),
         (b"worker\napcu_clear_cache N;\n", 24, Reason::Argument),
         (b"worker\napcu_enabled  \n", 20, Reason::Argument),
-        (b"worker\napcu_store s:1:\"a\"; i:1; i:1; i:1;\n", 37, Reason::Argument),
-        (b"worker\napcu_store a:0:{} N; i:1; i:1;\n", 33, Reason::Argument),
-        (b"worker\napcu_store s:1:\"a\";	i:1;\n", 26, Reason::Separator),
+        (
+            b"worker\napcu_store s:1:\"a\"; i:1; i:1; i:1;\n",
+            37,
+            Reason::Argument,
+        ),
+        (
+            b"worker\napcu_store a:0:{} N; i:1; i:1;\n",
+            33,
+            Reason::Argument,
+        ),
+        (
+            b"worker\napcu_store s:1:\"a\";\ti:1;\n",
+            26,
+            Reason::Separator,
+        ),
     ];
     for row in &rows {
         refused(&rt, rt.alloc(), row.0, row.1, row.2);
@@ -236,17 +270,49 @@ fn arguments_at_fault(rt: HostRuntime) {
         (b"worker\ntime s:1:\"1\";\n", 12, Reason::Argument),
         (b"worker\napcu_fetch\n", 17, Reason::Argument),
         (b"worker\napcu_fetch i:1;\n", 18, Reason::Argument),
-        (b"worker\napcu_exists a:1:{i:0;i:1;}\n", 19, Reason::Argument),
-        (b"worker\napcu_delete a:2:{i:0;s:1:\"a\";i:1;R:2;}\n", 19, Reason::Argument),
-        (b"worker\napcu_delete O:1:\"A\":0:{}\n", 19, Reason::Argument),
+        (
+            b"worker\napcu_exists a:1:{i:0;i:1;}\n",
+            19,
+            Reason::Argument,
+        ),
+        (
+            b"worker\napcu_delete a:2:{i:0;s:1:\"a\";i:1;R:2;}\n",
+            19,
+            Reason::Argument,
+        ),
+        (
+            b"worker\napcu_delete O:1:\"A\":0:{}\n",
+            19,
+            Reason::Argument,
+        ),
         (b"worker\napcu_store N; N;\n", 18, Reason::Argument),
         (b"worker\napcu_store s:1:\"a\";\n", 26, Reason::Argument),
-        (b"worker\napcu_store s:1:\"a\"; N; N;\n", 30, Reason::Argument),
-        (b"worker\napcu_add s:1:\"a\"; N; i:4294967296;\n", 28, Reason::Argument),
-        (b"worker\napcu_add s:1:\"a\"; N; i:-1;\n", 28, Reason::Argument),
+        (
+            b"worker\napcu_store s:1:\"a\"; N; N;\n",
+            30,
+            Reason::Argument,
+        ),
+        (
+            b"worker\napcu_add s:1:\"a\"; N; i:4294967296;\n",
+            28,
+            Reason::Argument,
+        ),
+        (
+            b"worker\napcu_add s:1:\"a\"; N; i:-1;\n",
+            28,
+            Reason::Argument,
+        ),
         (b"worker\napcu_store a:1:{i:0;R:1;}\n", 18, Reason::Argument),
-        (b"worker\napcu_store a:2:{i:0;O:1:\"A\":0:{}i:1;r:2;}\n", 18, Reason::Argument),
-        (b"worker\napcu_store a:2:{i:0;i:1;i:1;a:1:{i:0;R:2;}}\n", 18, Reason::Argument),
+        (
+            b"worker\napcu_store a:2:{i:0;O:1:\"A\":0:{}i:1;r:2;}\n",
+            18,
+            Reason::Argument,
+        ),
+        (
+            b"worker\napcu_store a:2:{i:0;i:1;i:1;a:1:{i:0;R:2;}}\n",
+            18,
+            Reason::Argument,
+        ),
         (b"worker\napcu_store a:0:{} i:1;\n", 25, Reason::Argument),
         (b"worker\napcu_store a:0:{} N; N;\n", 28, Reason::Argument),
     ];

@@ -1,13 +1,11 @@
-use Rattle.std.proofs.Common.{◌≡◌, ◌+◌, ℕ, List, length, drop, Option, Some, None, sym, ap, subst, ◌∙◌, arith, length-append}
-use Rattle.std.specs.Prelude.{slice_get, ◌++◌, ◌∷◌, []}
+use Rattle.std.proofs.Common.{◌≡◌, ◌+◌, ℕ, List, length, drop, Option, Some, sym, ap, subst, ◌∙◌, arith, length-append}
+use Rattle.std.specs.Prelude.{◌∷◌, []}
 use Rattle.php_graph.specs.declared.key.Key.{Key}
 use Rattle.php_graph.specs.declared.child.Child.{Child}
 use Rattle.php_graph.specs.declared.kind.Kind.{Kind}
-use Rattle.php_graph.specs.declared.kind.Kind.TheVariants as kinds
-use Rattle.php_graph.specs.Graph.{kind_at}
 use Rattle.std.specs.Option.{option_and_then}
-use Rattle.script_read.specs.Arguments.{each, members, keys, string_at}
-use Rattle.script_read.proofs.Members.{with_front, one_more, no_more, all_found, begins, some_places, members_of, member_there}
+use Rattle.script_read.specs.Arguments.{each, string_at}
+use Rattle.script_read.proofs.Members.{with_front, one_more, no_more, some_places, members_of, member_there}
 use Rattle.script_read.proofs.choices.keys_of.Goals as goal
 
 abbrev found : Kind → Option Kind

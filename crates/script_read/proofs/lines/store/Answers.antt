@@ -1,4 +1,4 @@
-use Rattle.std.proofs.Common.{◌≡◌, ℕ, List, [], Ok, ap, ◌∙◌}
+use Rattle.std.proofs.Common.{ℕ, List, [], Ok, ap, ◌∙◌}
 use Rattle.std.specs.Prelude.{Result}
 use Rattle.std.proofs.lemmas.Result.{err_from_is_err_and}
 use Rattle.notation.specs.declared.fault.Fault.{Fault}

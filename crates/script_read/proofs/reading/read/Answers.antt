@@ -1,6 +1,5 @@
 use Rattle.std.proofs.Common.{◌≡◌, Err, subst, refl, arith}
 use Rattle.script_read.specs.declared.fault.Stop.{Stop}
-use Rattle.script_read.specs.declared.fault.Stop.TheVariants as stops
 use Rattle.script_read.specs.Reading.{scripts_at}
 use Rattle.script_read.specs.Gives.{Stops}
 use Rattle.script_read.proofs.Inside.{scripts_inside}

@@ -1,11 +1,11 @@
-use Rattle.std.proofs.Common.{◌≡◌, ◌<◌, ◌≤◌, ℕ, List, [], ◌∷◌, ◌++◌, length, take, Ok, true, false, sym, ap, subst, ◌∙◌, arith}
+use Rattle.std.proofs.Common.{◌≡◌, ◌<◌, ℕ, List, length, Ok, true, false, sym, ap, subst, ◌∙◌, arith}
 use Rattle.std.specs.Prelude.{Result}
 use Rattle.std.proofs.lemmas.Result.{err_from_is_err_and}
 use Rattle.notation.specs.declared.fault.Fault.{Fault}
 use Rattle.script_read.specs.declared.effect.Effect.{Effect}
 use Rattle.script_read.specs.declared.effect.Effect.TheVariants.{Sets, Calls}
 use Rattle.script_read.specs.declared.script.Step.{Step}
-use Rattle.script_read.specs.Growing.{grown, last_len}
+use Rattle.script_read.specs.Growing.{last_len}
 use Rattle.script_read.specs.Reading.{is_worker, worker_at, line_at, scripts_at}
 use Rattle.script_read.specs.Gives.{Stops, IsSoon}
 use Rattle.script_read.proofs.Walking.{IsSoFar, begins, one_longer, begun_last, grown_length, grown_last, worker_goes_on, moment_goes_on, call_goes_on, worker_fails, line_fails, is_done, word_is}

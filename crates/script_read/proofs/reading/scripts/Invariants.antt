@@ -1,4 +1,4 @@
-use Rattle.std.proofs.Common.{◌≡◌, ◌≤◌, ◌+◌, length}
+use Rattle.std.proofs.Common.{◌≤◌, ◌+◌, length}
 use Rattle.script_read.specs.Calls.{last_moment}
 use Rattle.script_read.specs.Grammar.{most_workers}
 use Rattle.script_read.specs.Growing.{last_len}

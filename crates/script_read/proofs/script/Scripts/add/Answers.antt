@@ -1,4 +1,4 @@
-use Rattle.std.proofs.Common.{◌≡◌, ◌-◌, suc, length, sym, ap, arith, ◌∙◌}
+use Rattle.std.proofs.Common.{◌≡◌, ◌-◌, suc, length, ap, arith}
 use Rattle.std.specs.Prelude.{is_ok}
 use Rattle.script_read.specs.Growing.{last_len}
 use Rattle.script_read.proofs.Walking.{last_is, added}
