@@ -15,12 +15,17 @@ item f xs ys i p e lt h =
     sym (get-mixed f i xs) ∙ (ap (λ (r : List Kind). slice_get r i) (sym e) ∙ get-read (kinds_at ys) i p.kind (omega (arith, length-map ys (λ (q : Place). q.kind))) read)
 
 pub renumber_place-requires : goal.renumber_place-requires
-renumber_place-requires c = c.requires c.loop-i.i _ (item (renumbered_kind (slice_index c.args.table.now)) (kinds_at c.args.places.now.items) c.loop-i.places.items c.loop-i.i c.index_mut.result.now c.loop-i.invariant.kinds c.nothing c.index_mut.ensures.value)
+renumber_place-requires c =
+    let len = c.args.places.now.ok.0 in
+    let high : c.loop-i.i < length c.loop-i.places.items = omega (arith, c.loop-i-test.true, c.len-i-end.ensures, ap length c.loop-i.invariant.kinds, length-mixed (renumbered_kind (slice_index c.args.table.now)) c.loop-i.i (kinds_at c.args.places.now.items), length-map c.loop-i.places.items (λ (q : Place). q.kind), length-map c.args.places.now.items (λ (q : Place). q.kind)) in
+    c.requires c.loop-i.i _ (item (renumbered_kind (slice_index c.args.table.now)) (kinds_at c.args.places.now.items) c.loop-i.places.items c.loop-i.i c.index_mut.result.now c.loop-i.invariant.kinds high c.index_mut.ensures.value)
 
 pub loop-i-preserved : goal.loop-i-preserved
 loop-i-preserved c =
+    let len = c.args.places.now.ok.0 in
+    let high : c.loop-i.i < length c.loop-i.places.items = omega (arith, c.loop-i-test.true, c.len-i-end.ensures, ap length c.loop-i.invariant.kinds, length-mixed (renumbered_kind (slice_index c.args.table.now)) c.loop-i.i (kinds_at c.args.places.now.items), length-map c.loop-i.places.items (λ (q : Place). q.kind), length-map c.args.places.now.items (λ (q : Place). q.kind)) in
     let f = renumbered_kind (slice_index c.args.table.now) in
-    let was = item f (kinds_at c.args.places.now.items) c.loop-i.places.items c.loop-i.i c.index_mut.result.now c.loop-i.invariant.kinds c.nothing c.index_mut.ensures.value in
+    let was = item f (kinds_at c.args.places.now.items) c.loop-i.places.items c.loop-i.i c.index_mut.result.now c.loop-i.invariant.kinds high c.index_mut.ensures.value in
     record {
       kinds = map-set (λ (q : Place). q.kind) c.loop-i.places.items c.loop-i.i _ ∙ ap₂ (λ (xs : List Kind) (x : Kind). slice_set xs c.loop-i.i x) c.loop-i.invariant.kinds c.renumber_place.ensures
           ∙ set-mixed f c.loop-i.i (kinds_at c.args.places.now.items) c.index_mut.result.now.kind was;
