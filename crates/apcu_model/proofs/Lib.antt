@@ -1,1 +1,8 @@
+pub mod Alone
+pub mod Members
 pub mod Apart
+pub mod Counting
+pub mod Ordering
+pub mod Held
+pub mod Histories
+pub mod Numbering

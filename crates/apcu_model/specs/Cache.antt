@@ -1,12 +1,13 @@
 -- The rows of a cache and its counts.
-use Rattle.std.specs.Prelude.{ℕ, ◌+◌, ◌-◌, ◌^◌, min, Bool, List, [], ◌++◌, map, find, Option}
+use Rattle.std.specs.Prelude.{ℕ, ◌+◌, ◌-◌, ◌^◌, min, Bool, List, [], ◌++◌, length, map, Option}
 use Rattle.std.specs.Str.{bytes_eq}
 use Rattle.php_graph.specs.declared.kind.Kind.{Kind}
 use Rattle.seg_words.specs.declared.extents.Extent.{Extent}
 use Rattle.seg_words.specs.Gaps.{first_fit}
 use Rattle.apcu_model.specs.declared.conf.Conf.{Conf}
+use Rattle.apcu_model.specs.declared.counts.Counts.{Counts}
 
--- A key with its value. Moments are seconds, places and sizes are words.
+-- A key with its value. Times are in seconds, places and sizes in words.
 pub record Row : Type 0 where
   pub key : List ℕ
   pub graph : List Kind
@@ -40,6 +41,10 @@ pub record Cache : Type 0 where
 abbrev pub empty_cache : Conf → Cache
 empty_cache conf = record { conf = conf; rows = []; removed = []; next_number = 1; hits = 0; misses = 0; inserts = 0; expunges = 0 }
 
+-- what it counts, and its rows
+abbrev pub counts_of : Cache → Counts
+counts_of c = record { hits = c.hits; misses = c.misses; inserts = c.inserts; expunges = c.expunges; entries = length c.rows }
+
 -- one more, but a count stays at the last number of 64 bits
 abbrev pub risen : ℕ → ℕ
 risen n = min (n + 1) (2 ^ 64 - 1)
@@ -47,10 +52,6 @@ risen n = min (n + 1) (2 ^ 64 - 1)
 -- the row has this key
 abbrev pub has_key : List ℕ → Row → Bool
 has_key key row = bytes_eq row.key key
-
--- the row of a key
-abbrev pub row_of : List ℕ → Cache → Option Row
-row_of key c = find (has_key key) c.rows
 
 abbrev pub extent_of : Row → Extent
 extent_of row = record { place = row.place; size = row.size }

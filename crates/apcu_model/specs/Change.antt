@@ -1,6 +1,6 @@
 -- How rows leave a cache, how room is made, and how a row comes in. `held` is the list of the places
 -- of blocks that somebody copies: a row that is held keeps its block when it is dropped.
-use Rattle.std.specs.Prelude.{ℕ, ◌-◌, ◌==◌, ◌&&◌, not, nat_lt, Bool, true, if◌then◌else◌, List, [], ◌∷◌, ◌++◌, length, map, filter, Option, Some, None, is_some}
+use Rattle.std.specs.Prelude.{◌≡◌, ℕ, ◌-◌, ◌==◌, ◌&&◌, not, nat_lt, Bool, true, if◌then◌else◌, List, [], ◌∷◌, ◌++◌, length, map, filter, Option, Some, None, is_some}
 use Rattle.std.specs.List.{list_any}
 use Rattle.php_graph.specs.declared.kind.Kind.{Kind}
 use Rattle.php_graph.specs.Size.{block_size}
@@ -13,8 +13,12 @@ use Rattle.apcu_model.specs.Walk.{is_in_slot, in_slot_order, slot_of}
 abbrev pub is_held : List ℕ → Row → Bool
 is_held held row = list_any (λ place. place == row.place) held
 
+-- the same places stand in both lists
+abbrev pub AreAlike : List ℕ → List ℕ → Type 0
+AreAlike held other = (at : ℕ) → list_any (λ place. place == at) held ≡ list_any (λ place. place == at) other
+
 -- The rows that pass leave the rows. Those of them that are held go to the end of the removed rows, by
--- slot and place, with the moment; the others are gone, and so are their blocks.
+-- slot and place, with the time; the others are gone, and so are their blocks.
 abbrev pub dropped : List ℕ → ℕ → (Row → Bool) → Cache → Cache
 dropped held t pass c = record c {
   rows = filter (λ row. not (pass row)) c.rows;
@@ -33,6 +37,14 @@ expired_dropped held t c = if nat_lt 0 c.conf.ttl then dropped held t (is_expire
 abbrev pub expunged : List ℕ → ℕ → Cache → Cache
 expunged held t c = record (dropped held t (λ row. true) c) { hits = 0; misses = 0; inserts = 0; expunges = risen c.expunges }
 
+-- the row that a look-up of the key finds is dropped
+abbrev pub deleted : List ℕ → List ℕ → ℕ → Cache → Cache
+deleted held key t c = if is_some (live_row key t c) then dropped held t (has_key key) c else c
+
+-- all rows are dropped, and every count is forgotten
+abbrev pub cleared : List ℕ → ℕ → Cache → Cache
+cleared held t c = record (dropped held t (λ row. true) c) { hits = 0; misses = 0; inserts = 0; expunges = 0 }
+
 abbrev pub has_gap : ℕ → Cache → Bool
 has_gap n c = is_some (gap_of c n)
 
@@ -43,6 +55,24 @@ with_room held n t c =
     let first = swept held c in
     let second = expired_dropped held t first in
     if has_gap n first then first else if has_gap n second then second else expunged held t second
+
+-- all rows had to go for it: no gap was large enough, not even after the expired rows went
+abbrev pub is_expunged : List ℕ → ℕ → ℕ → Cache → Bool
+is_expunged held n t c = not (has_gap n (swept held c)) && not (has_gap n (expired_dropped held t (swept held c)))
+
+-- the counts stay
+pub record KeepsCounts (old new : Cache) : Type 0 where
+  pub hits : new.hits ≡ old.hits
+  pub misses : new.misses ≡ old.misses
+  pub inserts : new.inserts ≡ old.inserts
+  pub expunges : new.expunges ≡ old.expunges
+
+-- they are forgotten, but for one expunge more
+pub record ForgetsCounts (old new : Cache) : Type 0 where
+  pub hits : new.hits ≡ 0
+  pub misses : new.misses ≡ 0
+  pub inserts : new.inserts ≡ 0
+  pub expunges : new.expunges ≡ risen old.expunges
 
 -- the row in the place of the row of its key, or last where there is none
 abbrev pub with_row : Row → List Row → List Row

@@ -1,25 +1,19 @@
 -- Events, and who still copies a value after them.
-use Rattle.std.specs.Prelude.{ℕ, ◌^◌, ◌==◌, ◌&&◌, ◌||◌, not, nat_lt, if◌then◌else◌, Bool, true, false, List, [], ◌∷◌, ◌++◌, map, filter, Option, Some, None, is_some}
+use Rattle.std.specs.Prelude.{◌≡◌, ℕ, ◌^◌, ◌==◌, ◌&&◌, ◌||◌, not, nat_lt, if◌then◌else◌, Bool, true, false, List, [], ◌∷◌, ◌++◌, map, filter, Option, Some, None, is_some, Contains}
 use Rattle.std.specs.Int.{bit_at}
 use Rattle.std.specs.List.{list_any, list_all, range_with_len}
 use Rattle.std.specs.Map.{lookup}
 use Rattle.php_graph.specs.declared.kind.Kind.{Kind}
 use Rattle.php_graph.specs.declared.kind.Kind.TheVariants as kinds
 use Rattle.apcu_model.specs.declared.conf.Conf.{Conf}
+use Rattle.apcu_model.specs.declared.event.Event.{Event}
+use Rattle.apcu_model.specs.declared.journal.Mark.{Mark}
 use Rattle.apcu_model.specs.declared.request.Request.{Request}
-use Rattle.apcu_model.specs.declared.request.Request.TheVariants.{Store, Fetch, Retire}
+use Rattle.apcu_model.specs.declared.request.Request.TheVariants.{Store, Fetch, Exists, Delete, Clear, Retire}
 use Rattle.apcu_model.specs.declared.request.Reply.{Reply}
 use Rattle.apcu_model.specs.Cache.{Row, Cache, empty_cache}
 use Rattle.apcu_model.specs.Expiry.{live_row}
 use Rattle.apcu_model.specs.Sequential.{reply_to, cache_after}
-
--- A worker's request at a moment. The mask names the workers (one bit each) that the cache found still
--- copying a value.
-pub record Event : Type 0 where
-  pub worker : ℕ
-  pub t : ℕ
-  pub request : Request
-  pub mask : ℕ
 
 -- After some events: the cache, and for each worker whose last event fetched a value that is copied
 -- outside the lock, the number of that row.
@@ -73,6 +67,9 @@ opened_at worker (Some row) = if is_scalar row.graph then [] else (worker, row.n
 abbrev pub opened : ℕ → ℕ → Request → Cache → List (ℕ × ℕ)
 opened worker t (Fetch key) c = opened_at worker (live_row key t c)
 opened worker t (Store key value ttl exclusive) c = []
+opened worker t (Exists key) c = []
+opened worker t (Delete key) c = []
+opened worker t Clear c = []
 opened worker t Retire c = []
 
 abbrev pub reply_in : Stage → Event → Reply
@@ -88,3 +85,24 @@ after_event m e = record {
 abbrev pub after_events : Stage → List Event → Stage
 after_events m [] = m
 after_events m (e ∷ events) = after_events (after_event m e) events
+
+-- after these events, from an empty cache on
+abbrev pub stage_of : Conf → List Event → Stage
+stage_of conf history = after_events (start_of conf) history
+
+-- each event's mask is legal where the event stands
+abbrev pub all_legal : ℕ → Stage → List Event → Bool
+all_legal workers m [] = true
+all_legal workers m (e ∷ events) = is_legal_mask workers e.worker m e.mask && all_legal workers (after_event m e) events
+
+abbrev pub mark_of : Event → Mark
+mark_of e = record { worker = e.worker; mask = e.mask }
+
+-- the journal of these events
+abbrev pub marks_of : List Event → List Mark
+marks_of events = map mark_of events
+
+-- Rows and removed rows of one number have one place, and each worker has one window.
+pub record IsNumbered (m : Stage) : Type 0 where
+  pub one : (w : ℕ × ℕ) → Contains m.windows w → window_of m w.0 ≡ Some w.1
+  pub numbers : (p q : Row) → Contains (m.cache.rows ++ m.cache.removed) p → Contains (m.cache.rows ++ m.cache.removed) q → p.number ≡ q.number → p.place ≡ q.place

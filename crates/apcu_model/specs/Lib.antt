@@ -7,4 +7,4 @@ pub mod Walk
 pub mod Sequential
 pub mod History
 pub mod Journal
-pub mod Alone
+pub mod Asking

@@ -1,21 +1,21 @@
 -- What the cache of one thread answers to a request, and what it leaves. `held` is the list of the places
--- of blocks that are held in this event, t the moment.
-use Rattle.std.specs.Prelude.{ℕ, Bool, true, false, if◌then◌else◌, List, map, Option, Some, None}
+-- of blocks that are held in this event, t the time.
+use Rattle.std.specs.Prelude.{ℕ, Bool, true, false, if◌then◌else◌, List, map, Option, Some, None, is_some}
 use Rattle.apcu_model.specs.declared.request.StoreAnswer.{StoreAnswer}
-use Rattle.apcu_model.specs.declared.request.StoreAnswer.TheVariants.{TooLarge, Exists, NoRoom, Stored}
+use Rattle.apcu_model.specs.declared.request.StoreAnswer.TheVariants as answers
 use Rattle.apcu_model.specs.declared.request.Request.{Request}
-use Rattle.apcu_model.specs.declared.request.Request.TheVariants.{Store, Fetch, Retire}
+use Rattle.apcu_model.specs.declared.request.Request.TheVariants.{Store, Fetch, Exists, Delete, Clear, Retire}
 use Rattle.apcu_model.specs.declared.request.Reply.{Reply}
 use Rattle.apcu_model.specs.declared.request.Reply.TheVariants.{Flag, Found, Absent, Ended}
 use Rattle.apcu_model.specs.Cache.{Row, Cache, risen, has_key}
 use Rattle.apcu_model.specs.Expiry.{live_row}
-use Rattle.apcu_model.specs.Change.{inserted}
+use Rattle.apcu_model.specs.Change.{inserted, deleted, cleared}
 
 abbrev pub is_stored : StoreAnswer → Bool
-is_stored Stored = true
-is_stored TooLarge = false
-is_stored Exists = false
-is_stored NoRoom = false
+is_stored answers.Stored = true
+is_stored answers.TooLarge = false
+is_stored answers.Exists = false
+is_stored answers.NoRoom = false
 
 -- the value of the row that was found
 abbrev pub found_in : Option Row → Reply
@@ -25,6 +25,9 @@ found_in None = Absent
 abbrev pub reply_to : List ℕ → ℕ → Request → Cache → Reply
 reply_to held t (Store key value ttl exclusive) c = Flag (is_stored (inserted held key value ttl exclusive t c).answer)
 reply_to held t (Fetch key) c = found_in (live_row key t c)
+reply_to held t (Exists key) c = Flag (is_some (live_row key t c))
+reply_to held t (Delete key) c = Flag (is_some (live_row key t c))
+reply_to held t Clear c = Flag true
 reply_to held t Retire c = Ended
 
 -- the row was used
@@ -39,4 +42,7 @@ looked_up key t None c = record c { misses = risen c.misses }
 abbrev pub cache_after : List ℕ → ℕ → Request → Cache → Cache
 cache_after held t (Store key value ttl exclusive) c = (inserted held key value ttl exclusive t c).cache
 cache_after held t (Fetch key) c = looked_up key t (live_row key t c) c
+cache_after held t (Exists key) c = c
+cache_after held t (Delete key) c = deleted held key t c
+cache_after held t Clear c = cleared held t c
 cache_after held t Retire c = c

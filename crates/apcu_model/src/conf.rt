@@ -9,13 +9,14 @@ pub struct Conf {
     pub words: u32,
     /// The words from 0 on that are heads of hash chains. Blocks stand from here on.
     pub slots: u32,
-    /// `apc.ttl` in seconds: a row without a ttl of its own is stale this long after its last use; 0 is never.
+    /// `apc.ttl` in seconds: a row without a ttl of its own is stale this long after its last use;
+    /// 0 is never.
     pub ttl: u32,
 }
 
 impl Conf {
-    /// Whether a cache of this shape can be made: `words` is even and from 32 to 16,777,216, `slots`
-    /// is even and from 2 to 1,048,576, and at least 16 words are left for blocks.
+    /// Whether a cache of this shape can be made: `words` is even and from 32 to 16,777,216,
+    /// `slots` is even and from 2 to 1,048,576, and at least 16 words are left for blocks.
     pub fn good(&self) -> bool
         ensures { IsTrue result ↔ IsGood self.now }
     {

@@ -10,7 +10,7 @@ use seg_words::Extent;
 use std::marker::Model;
 
 // A key with its value, and all that the cache notes of it. Contracts see the row.
-#[derive(Debug, Drop)]
+#[derive(Drop)]
 pub(crate) struct Entry {
     pub(crate) key: Bytes,
     pub(crate) graph: Graph,
@@ -52,7 +52,7 @@ impl Entry {
         self.key.as_slice() == key
     }
 
-    // Whether its own time is over. A sum past 64 bits lies after every moment.
+    // Whether its own time is over. A sum past 64 bits lies after every time.
     pub(crate) fn is_hard_expired(&self, t: u64) -> bool
         ensures { result ≡ is_hard_expired t self.now }
     {

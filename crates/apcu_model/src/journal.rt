@@ -27,7 +27,8 @@ impl Model for Journal {
 
     ghost view = { λ j. record { marks = j.marks.items; room = j.room } };
 
-    ghost invariant = { λ j. (vec_len j.marks + j.room ≤ vec_capacity j.marks) × (vec_len j.marks + j.room < 2 ^ 32) };
+    ghost invariant = { λ j.
+        (vec_len j.marks + j.room ≤ vec_capacity j.marks) × (vec_len j.marks + j.room < 2 ^ 32) };
 }
 
 impl Journal {

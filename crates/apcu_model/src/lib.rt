@@ -1,20 +1,29 @@
 //! The cache of one thread: what each request answers and leaves, and a plain program that does so.
 #![tactic(auto)]
 
+mod ask;
 mod conf;
+mod counts;
 mod entry;
+mod event;
 mod journal;
+mod keys;
 mod laws;
+mod pairs;
 mod plain;
 mod request;
 mod rows;
 mod state;
 
+pub use ask::Ask;
 pub use conf::Conf;
+pub use counts::Counts;
+pub use event::Event;
 pub use journal::{Journal, Mark};
-pub use laws::{rows_stay_apart, works_alone};
+pub use keys::Keys;
+pub use laws::{
+    count_laws, held_alike, numbered, one_event_more, order_single, rows_stay_apart, works_alone,
+};
+pub use pairs::Pairs;
 pub use plain::Plain;
 pub use request::{Reply, Request, StoreAnswer};
-
-#[cfg(test)]
-mod tests;

@@ -1,11 +1,12 @@
-ghost use Rattle.std.specs.Prelude.{◌≡◌, [], MatchOption, IfOk, OnOk, OnErr};
-ghost use Rattle.apcu_model.specs.Cache.{empty_cache};
+ghost use Rattle.std.specs.Prelude.{◌≡◌, ℕ, [], MatchOption, IfOk, OnOk, OnErr};
+ghost use Rattle.apcu_model.specs.Cache.{counts_of, empty_cache};
 ghost use Rattle.apcu_model.specs.Conf.{IsGood};
 ghost use Rattle.apcu_model.specs.Sequential.{cache_after, reply_to};
-ghost use Rattle.apcu_model.specs.declared.request.Request.TheVariants.{Store, Fetch};
+ghost use Rattle.apcu_model.specs.declared.request.Request.TheVariants.{Store, Fetch, Exists, Delete, Clear};
 ghost use Rattle.apcu_model.specs.declared.request.Reply.TheVariants.{Flag, Found, Absent};
 
 use crate::conf::Conf;
+use crate::counts::Counts;
 use crate::request::{Reply, Request};
 use crate::state::State;
 use php_graph::{Bytes, Graph};
@@ -14,7 +15,7 @@ use std::marker::Model;
 
 /// A cache of one thread that keeps its rows in a list and looks at each of them: it shows what
 /// the cache in the shared segment has to do. Contracts see its rows and counts.
-#[derive(Debug, Drop)]
+#[derive(Drop)]
 pub struct Plain {
     state: State,
 }
@@ -50,10 +51,23 @@ impl Plain {
         }
     }
 
-    /// Answers a request at the moment `t`, in seconds. Where memory is missing, nothing changed.
+    /// What it counts.
+    pub fn counts(&self) -> Counts
+        ensures { result ≡ counts_of self.now }
+    {
+        Counts {
+            hits: self.state.hits,
+            misses: self.state.misses,
+            inserts: self.state.inserts,
+            expunges: self.state.expunges,
+            entries: self.state.rows.len() as u64,
+        }
+    }
+
+    /// Answers a request at the time `t`, in seconds. Where memory is missing, nothing changed.
     ///
-    /// It copies the key and the value that it stores, and the value that it answers. `store`, `live_value`
-    /// and `note_fetch` copy none.
+    /// It copies the key and the value that it stores, and the value that it answers. The calls
+    /// below copy none.
     pub fn ask(&mut self, request: &Request, t: u64) -> Result<Reply, AllocError>
         ensures reply { IfOk result (λ r. r ≡ reply_to [] t request.now self.old) }
         ensures after { OnOk result (self.new ≡ cache_after [] t request.now self.old) }
@@ -65,28 +79,58 @@ impl Plain {
                 value,
                 ttl,
                 exclusive,
-            } => {
-                let key = Bytes::of(self.state.alloc, key.as_slice())?;
-                let value = value.try_copy(self.state.alloc)?;
-                Ok(Reply::Flag(self.store(key, value, *ttl, *exclusive, t)?))
-            }
-            Request::Fetch(key) => {
-                let reply = match self.live_value(key.as_slice(), t) {
-                    Some(value) => Reply::Found(value.try_copy(self.state.alloc)?),
-                    None => Reply::Absent,
-                };
-                self.note_fetch(key.as_slice(), t);
-                Ok(reply)
+            } => self.store_copies(key, value, *ttl, *exclusive, t),
+            Request::Fetch(key) => self.fetch_copy(key.as_slice(), t),
+            Request::Exists(key) => Ok(Reply::Flag(self.exists(key.as_slice(), t))),
+            Request::Delete(key) => Ok(Reply::Flag(self.delete(key.as_slice(), t))),
+            Request::Clear => {
+                self.clear();
+                Ok(Reply::Flag(true))
             }
             Request::Retire => Ok(Reply::Ended),
         }
     }
 
-    /// Stores a value at the moment `t`, and answers whether it then stands in the cache. `ttl` is in seconds,
-    /// 0 is no limit; an `exclusive` store leaves a live row as it is. Where memory is missing, nothing changed.
+    // Stores copies of the key and the value.
+    fn store_copies(
+        &mut self,
+        key: &Bytes,
+        value: &Graph,
+        ttl: u32,
+        exclusive: bool,
+        t: u64,
+    ) -> Result<Reply, AllocError>
+        ensures reply { IfOk result (λ r. r
+          ≡ reply_to [] t (Store key.now value.now ttl exclusive) self.old) }
+        ensures after { OnOk result (self.new
+          ≡ cache_after [] t (Store key.now value.now ttl exclusive) self.old) }
+        ensures err { OnErr result (self.new ≡ self.old) }
+    {
+        let key = Bytes::of(self.state.alloc, key.as_slice())?;
+        let value = value.try_copy(self.state.alloc)?;
+        Ok(Reply::Flag(self.store(key, value, ttl, exclusive, t)?))
+    }
+
+    // Answers a copy of the value that it finds, and notes the fetch.
+    fn fetch_copy(&mut self, key: &[u8], t: u64) -> Result<Reply, AllocError>
+        ensures reply { IfOk result (λ r. r ≡ reply_to [] t (Fetch key.now) self.old) }
+        ensures after { OnOk result (self.new ≡ cache_after [] t (Fetch key.now) self.old) }
+        ensures err { OnErr result (self.new ≡ self.old) }
+    {
+        let reply = match self.live_value(key, t) {
+            Some(value) => Reply::Found(value.try_copy(self.state.alloc)?),
+            None => Reply::Absent,
+        };
+        self.note_fetch(key, t);
+        Ok(reply)
+    }
+
+    /// Stores a value at the time `t`, and answers whether it then stands in the cache. `ttl` is in
+    /// seconds, 0 is no limit; an `exclusive` store leaves a live row as it is. Where memory is
+    /// missing, nothing changed.
     ///
-    /// It takes key and value over instead of copying them. Nobody copies a value meanwhile, so the blocks of
-    /// rows that are dropped are free at once.
+    /// It takes key and value over instead of copying them. Nobody copies a value meanwhile, so the
+    /// blocks of rows that are dropped are free at once.
     pub fn store(
         &mut self,
         key: Bytes,
@@ -95,25 +139,52 @@ impl Plain {
         exclusive: bool,
         t: u64,
     ) -> Result<bool, AllocError>
-        ensures reply { IfOk result (λ done. Flag done ≡ reply_to [] t (Store key value ttl exclusive) self.old) }
-        ensures after { OnOk result (self.new ≡ cache_after [] t (Store key value ttl exclusive) self.old) }
+        ensures reply { IfOk result (λ done. Flag done
+            ≡ reply_to [] t (Store key value ttl exclusive) self.old) }
+        ensures after { OnOk result (self.new
+            ≡ cache_after [] t (Store key value ttl exclusive) self.old) }
         ensures err { OnErr result (self.new ≡ self.old) }
     {
         self.state.store(key, value, ttl, exclusive, t)
     }
 
-    /// The value that a fetch of the key at the moment `t` finds, lent and not copied; `None` where it finds
-    /// none. It takes no memory and counts nothing: `note_fetch` does.
+    /// The value that a fetch of the key at the time `t` finds, lent and not copied; `None` where
+    /// it finds none. It takes no memory and counts nothing: `note_fetch` does.
     pub fn live_value(&self, key: &[u8], t: u64) -> Option<&Graph>
-        ensures { MatchOption result (reply_to [] t (Fetch key.now) self.now ≡ Absent) (λ g. reply_to [] t (Fetch key.now) self.now ≡ Found g.now) }
+        ensures { MatchOption result (reply_to [] t (Fetch key.now) self.now ≡ Absent)
+            (λ g. reply_to [] t (Fetch key.now) self.now ≡ Found g.now) }
     {
         self.state.live_value(key, t)
     }
 
-    /// Notes a fetch of the key at the moment `t`: a hit and the row's use, or a miss. It takes no memory.
+    /// Notes a fetch of the key at the time `t`: a hit and the row's use, or a miss. It takes no
+    /// memory.
     pub fn note_fetch(&mut self, key: &[u8], t: u64)
         ensures { self.new ≡ cache_after [] t (Fetch key.now) self.old }
     {
         self.state.note_fetch(key, t);
+    }
+
+    /// Whether a look-up of the key at the time `t` finds a row. It changes and counts nothing.
+    pub fn exists(&self, key: &[u8], t: u64) -> bool
+        ensures { Flag result ≡ reply_to [] t (Exists key.now) self.now }
+    {
+        self.state.is_live(key, t)
+    }
+
+    /// Drops the row that a look-up of the key at the time `t` finds, and answers whether there is
+    /// one. A row whose own time is over is not found, and stays. It takes no memory.
+    pub fn delete(&mut self, key: &[u8], t: u64) -> bool
+        ensures reply { Flag result ≡ reply_to [] t (Delete key.now) self.old }
+        ensures after { self.new ≡ cache_after [] t (Delete key.now) self.old }
+    {
+        self.state.delete(key, t)
+    }
+
+    /// Drops all rows, and sets hits, misses, inserts and expunges to 0. It takes no memory.
+    pub fn clear(&mut self)
+        ensures { (t : ℕ) → self.new ≡ cache_after [] t Clear self.old }
+    {
+        self.state.clear();
     }
 }

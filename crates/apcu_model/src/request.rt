@@ -1,3 +1,4 @@
+use crate::ask::Ask;
 use php_graph::{Bytes, Graph};
 
 /// What a worker asks of the cache. Each request is one event.
@@ -13,8 +14,43 @@ pub enum Request {
     },
     /// `apcu_fetch` of one key.
     Fetch(Bytes),
+    /// `apcu_exists` of one key.
+    Exists(Bytes),
+    /// `apcu_delete` of one key.
+    Delete(Bytes),
+    /// `apcu_clear_cache`.
+    Clear,
     /// The worker's last event: it asks nothing more.
     Retire,
+}
+
+impl Request {
+    ghost use Rattle.std.specs.Prelude.{◌≡◌};
+    ghost use Rattle.apcu_model.specs.Asking.{asked};
+
+    /// The request with its key and its value lent.
+    pub fn lent(&self) -> Ask<'_>
+        ensures { asked result ≡ self.now }
+    {
+        match self {
+            Request::Store {
+                key,
+                value,
+                ttl,
+                exclusive,
+            } => Ask::Store {
+                key: key.as_slice(),
+                value,
+                ttl: *ttl,
+                exclusive: *exclusive,
+            },
+            Request::Fetch(key) => Ask::Fetch(key.as_slice()),
+            Request::Exists(key) => Ask::Exists(key.as_slice()),
+            Request::Delete(key) => Ask::Delete(key.as_slice()),
+            Request::Clear => Ask::Clear,
+            Request::Retire => Ask::Retire,
+        }
+    }
 }
 
 /// What the cache answers to a request.

@@ -12,7 +12,10 @@ use seg_words::Extent;
 
 // The row that a look-up of the key finds.
 pub(crate) fn live_in<'a>(rows: &'a [Entry], key: &[u8], t: u64) -> Option<&'a Entry>
-    ensures { MatchOption result (find (λ row. has_key key.now row && not (is_hard_expired t row)) rows.now ≡ None) (λ row. find (λ r. has_key key.now r && not (is_hard_expired t r)) rows.now ≡ Some row.now) }
+    ensures { MatchOption result
+        (find (λ row. has_key key.now row && not (is_hard_expired t row)) rows.now ≡ None)
+        (λ row. find (λ r. has_key key.now r && not (is_hard_expired t r)) rows.now
+        ≡ Some row.now) }
 {
     for row in rows {
         if row.has_key(key) && !row.is_hard_expired(t) {
@@ -24,7 +27,9 @@ pub(crate) fn live_in<'a>(rows: &'a [Entry], key: &[u8], t: u64) -> Option<&'a E
 
 // Where the key's row stands.
 fn place_of(rows: &[Entry], key: &[u8]) -> Option<usize>
-    ensures { MatchOption result (list_any (has_key key.now) rows.now ≡ false) (λ i. (i < length rows.now) × ((d : Row) → has_key key.now (slice_index_or rows.now i d) ≡ true)) }
+    ensures { MatchOption result (list_any (has_key key.now) rows.now ≡ false)
+        (λ i. (i < length rows.now)
+        × ((d : Row) → has_key key.now (slice_index_or rows.now i d) ≡ true)) }
 {
     for (i, row) in rows.iter().enumerate() {
         if row.has_key(key) {
@@ -64,10 +69,18 @@ pub(crate) fn drop_expired(rows: &mut Vec<Entry>, conf: Conf, t: u64)
     rows.retain(|row| !row.is_expired(conf, t));
 }
 
+// The key's row goes.
+pub(crate) fn drop_key(rows: &mut Vec<Entry>, key: &[u8])
+    ensures { rows.new.items ≡ filter (λ row. not (has_key key.now row)) rows.old.items }
+{
+    rows.retain(|row| !row.has_key(key));
+}
+
 // The expired rows of one hash chain go.
 pub(crate) fn drop_expired_in(rows: &mut Vec<Entry>, conf: Conf, slot: u64, t: u64)
     requires { 0 < conf.slots }
-    ensures items { rows.new.items ≡ filter (λ row. not (is_in_slot conf slot row && is_expired conf t row)) rows.old.items }
+    ensures items { rows.new.items
+        ≡ filter (λ row. not (is_in_slot conf slot row && is_expired conf t row)) rows.old.items }
     ensures less { vec_len rows.new ≤ vec_len rows.old }
     ensures capacity { vec_capacity rows.new ≡ vec_capacity rows.old }
 {

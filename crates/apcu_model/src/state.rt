@@ -1,20 +1,22 @@
 ghost use Rattle.std.specs.Prelude.{◌≡◌, ℕ, ◌<◌, ◌≤◌, [], is_some, vec_len, vec_capacity, MatchOption, IfOk, OnOk, OnErr};
 ghost use Rattle.apcu_model.specs.declared.request.Reply.TheVariants.{Absent, Found};
 ghost use Rattle.apcu_model.specs.Cache.{gap_of};
-ghost use Rattle.apcu_model.specs.Change.{expired_dropped, expunged, inserted, placed, put_in, with_room};
+ghost use Rattle.apcu_model.specs.Change.{cleared, deleted, expired_dropped, expunged, inserted, placed, put_in, with_room};
 ghost use Rattle.apcu_model.specs.Expiry.{live_row};
 ghost use Rattle.apcu_model.specs.Rows.{IsSound, cache_of};
 ghost use Rattle.apcu_model.specs.Sequential.{found_in, is_stored, looked_up};
 
 use crate::conf::Conf;
 use crate::entry::Entry;
-use crate::rows::{drop_expired, drop_expired_in, list_extents, live_in, put_row, touch_in};
+use crate::rows::{
+    drop_expired, drop_expired_in, drop_key, list_extents, live_in, put_row, touch_in,
+};
 use php_graph::{Bytes, Graph, block_words, hash_of};
 use seg_words::{Extent, first_fit};
 use std::alloc::{AllocError, Global};
 
 // What the plain cache keeps.
-#[derive(Debug, Drop)]
+#[derive(Drop)]
 pub(crate) struct State {
     pub(crate) alloc: Global,
     pub(crate) conf: Conf,
@@ -27,7 +29,7 @@ pub(crate) struct State {
 }
 
 // What is to be stored: owned already, so that no memory is missing later.
-#[derive(Debug, Drop)]
+#[derive(Drop)]
 struct Draft {
     key: Bytes,
     graph: Graph,
@@ -101,7 +103,8 @@ impl State {
     fn put(&mut self, draft: Draft, place: u32, t: u64)
         requires sound { IsSound self.old }
         requires room { vec_len self.old.rows < vec_capacity self.old.rows }
-        ensures cache { cache_of self.new ≡ placed [] draft.key draft.graph draft.ttl t draft.size (cache_of self.old) place }
+        ensures cache { cache_of self.new
+            ≡ placed [] draft.key draft.graph draft.ttl t draft.size (cache_of self.old) place }
         ensures sound { IsSound self.new }
     {
         let slot = hash_of(draft.key.as_slice()) % u64::from(self.conf.slots);
@@ -126,8 +129,12 @@ impl State {
     // Makes room and puts the row there. Memory is taken before anything changes.
     fn insert(&mut self, draft: Draft, t: u64) -> Result<bool, AllocError>
         requires { IsSound self.old }
-        ensures reply { IfOk result (λ done. let room = with_room [] draft.size t (cache_of self.old) in done ≡ is_stored (put_in [] draft.key draft.graph draft.ttl t draft.size room (gap_of room draft.size)).answer) }
-        ensures after { OnOk result (let room = with_room [] draft.size t (cache_of self.old) in cache_of self.new ≡ (put_in [] draft.key draft.graph draft.ttl t draft.size room (gap_of room draft.size)).cache) }
+        ensures reply { let d = draft in let room = with_room [] d.size t (cache_of self.old) in
+            IfOk result (λ done. done
+            ≡ is_stored (put_in [] d.key d.graph d.ttl t d.size room (gap_of room d.size)).answer) }
+        ensures after { let d = draft in let room = with_room [] d.size t (cache_of self.old) in
+            OnOk result (cache_of self.new
+            ≡ (put_in [] d.key d.graph d.ttl t d.size room (gap_of room d.size)).cache) }
         ensures err { OnErr result (cache_of self.new ≡ cache_of self.old) }
         ensures sound { IsSound self.new }
     {
@@ -143,7 +150,7 @@ impl State {
     }
 
     // Whether a look-up finds the key.
-    fn is_live(&self, key: &[u8], t: u64) -> bool
+    pub(crate) fn is_live(&self, key: &[u8], t: u64) -> bool
         ensures { result ≡ is_some (live_row key.now t (cache_of self.now)) }
     {
         live_in(&self.rows, key, t).is_some()
@@ -159,8 +166,10 @@ impl State {
         t: u64,
     ) -> Result<bool, AllocError>
         requires { IsSound self.old }
-        ensures reply { IfOk result (λ done. done ≡ is_stored (inserted [] key value ttl exclusive t (cache_of self.old)).answer) }
-        ensures after { OnOk result (cache_of self.new ≡ (inserted [] key value ttl exclusive t (cache_of self.old)).cache) }
+        ensures reply { IfOk result (λ done. done
+            ≡ is_stored (inserted [] key value ttl exclusive t (cache_of self.old)).answer) }
+        ensures after { OnOk result (cache_of self.new
+            ≡ (inserted [] key value ttl exclusive t (cache_of self.old)).cache) }
         ensures err { OnErr result (cache_of self.new ≡ cache_of self.old) }
         ensures sound { IsSound self.new }
     {
@@ -182,7 +191,9 @@ impl State {
 
     // The value that a look-up of the key finds.
     pub(crate) fn live_value(&self, key: &[u8], t: u64) -> Option<&Graph>
-        ensures { MatchOption result (found_in (live_row key.now t (cache_of self.now)) ≡ Absent) (λ g. found_in (live_row key.now t (cache_of self.now)) ≡ Found g.now) }
+        ensures { MatchOption result
+            (found_in (live_row key.now t (cache_of self.now)) ≡ Absent)
+            (λ g. found_in (live_row key.now t (cache_of self.now)) ≡ Found g.now) }
     {
         match live_in(&self.rows, key, t) {
             Some(row) => Some(&row.graph),
@@ -193,7 +204,8 @@ impl State {
     // Notes a look-up: a hit and the row's use, or a miss.
     pub(crate) fn note_fetch(&mut self, key: &[u8], t: u64)
         requires { IsSound self.old }
-        ensures cache { cache_of self.new ≡ looked_up key.now t (live_row key.now t (cache_of self.old)) (cache_of self.old) }
+        ensures cache { cache_of self.new
+            ≡ looked_up key.now t (live_row key.now t (cache_of self.old)) (cache_of self.old) }
         ensures sound { IsSound self.new }
     {
         if self.is_live(key, t) {
@@ -202,5 +214,32 @@ impl State {
         } else {
             self.misses = self.misses.saturating_add(1);
         }
+    }
+
+    // The row that a look-up of the key finds goes. Whether there is one.
+    pub(crate) fn delete(&mut self, key: &[u8], t: u64) -> bool
+        requires { IsSound self.old }
+        ensures reply { result ≡ is_some (live_row key.now t (cache_of self.old)) }
+        ensures cache { cache_of self.new ≡ deleted [] key.now t (cache_of self.old) }
+        ensures sound { IsSound self.new }
+    {
+        if !self.is_live(key, t) {
+            return false;
+        }
+        drop_key(&mut self.rows, key);
+        true
+    }
+
+    // All rows go, and all that was counted.
+    pub(crate) fn clear(&mut self)
+        requires { IsSound self.old }
+        ensures cache { (t : ℕ) → cache_of self.new ≡ cleared [] t (cache_of self.old) }
+        ensures sound { IsSound self.new }
+    {
+        self.rows.clear();
+        self.hits = 0;
+        self.misses = 0;
+        self.inserts = 0;
+        self.expunges = 0;
     }
 }

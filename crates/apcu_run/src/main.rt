@@ -1,25 +1,13 @@
 //! Plays scripts of apcu calls.
 #![tactic(auto)]
 
-mod fault;
-mod output;
-mod play;
-mod reading;
-mod run;
-mod script;
-mod status;
-mod tell;
-mod word;
-
+use apcu_play::{Status, run, tell};
 use io_edges::{NoGate, StdSink, StdSource};
-use run::run;
-use status::Status;
 use std::alloc::AllocError;
 use std::env;
 use std::io::ErrorKind;
 use std::process::ExitCode;
 use std::rt::Env;
-use tell::tell;
 
 // The program's words, its name first. A word that is not UTF-8 makes the command line as faulty as none.
 fn words_of<R: Env + AllocGlobal>(rt: &R) -> Result<Vec<String>, AllocError> {
@@ -53,6 +41,3 @@ fn main(rt: HostRuntime) -> ExitCode {
     };
     ExitCode::from(status.code())
 }
-
-#[cfg(test)]
-mod tests;

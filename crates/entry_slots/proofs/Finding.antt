@@ -1,8 +1,8 @@
 -- Which places rows have.
 use Rattle.std.proofs.Common.{◌≡◌, ◌≢◌, ℕ, Bool, true, false, cond, List, [], ◌∷◌, ◌++◌, Some, sym, subst, refl, ◌∙◌}
-use Rattle.std.specs.List.{find}
+use Rattle.std.specs.List.{Contains, find}
 use Rattle.std.specs.Option.{option_map}
-use Rattle.std.proofs.lemmas.Bool.{eq-eqb, or_left, or_right, false≢true}
+use Rattle.std.proofs.lemmas.Bool.{eq-eqb, eqb-true, or_left, or_right, false≢true}
 use Rattle.std.proofs.lemmas.List.Folds.{list_any-append}
 use Rattle.apcu_model.specs.Cache.{Row, has_key}
 use Rattle.apcu_model.specs.Walk.{is_in_slot}
@@ -15,6 +15,14 @@ in_left at xs ys h = list_any-append (is_at at) xs ys ∙ or_left (has_place at 
 
 pub in_right : (at : ℕ) (xs ys : List Row) → has_place at ys ≡ true → has_place at (xs ++ ys) ≡ true
 in_right at xs ys h = list_any-append (is_at at) xs ys ∙ or_right (has_place at xs) (has_place at ys) h
+
+-- of a list those of its rows
+pub member_there : (rows : List Row) (row : Row) → Contains rows row → has_place row.place rows ≡ true
+member_there rows row c = any_from (is_at row.place) rows row c (eq-eqb row.place row.place refl)
+
+-- and no others
+pub some_there : (rows : List Row) (at : ℕ) → has_place at rows ≡ true → (row : Row) × Contains rows row × (row.place ≡ at)
+some_there rows at h = let r = any_there (is_at at) rows h in (r.0, r.1, eqb-true r.0.place at r.2)
 
 -- the row that was found is one of the rows
 found_in : (p : Row → Bool) (rows : List Row) (at : ℕ) → Some at ≡ option_map (λ (row : Row). row.place) (find p rows) → has_place at rows ≡ true

@@ -5,7 +5,8 @@ use Rattle.std.specs.List.{Contains}
 use Rattle.seg_words.specs.declared.extents.Extent.{Extent}
 use Rattle.seg_words.specs.Windows.{Aside}
 use Rattle.seg_words.specs.Blocks.{image_place}
-use Rattle.php_graph.specs.Size.{words_in, image_length}
+use Rattle.seg_words.specs.Layout.{words_in}
+use Rattle.php_graph.specs.Size.{image_length}
 use Rattle.value_image.specs.Packed.{words_of}
 use Rattle.value_image.specs.Rows.{StandsAt}
 use Rattle.value_image.specs.Image.{IsImageOf, image_of}

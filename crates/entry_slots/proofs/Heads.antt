@@ -2,7 +2,8 @@
 use Rattle.std.proofs.Common.{◌≡◌, ℕ, ◌+◌, ◌/◌, ◌<◌, ◌^◌, List, length, slice_index, sym, ap, ◌∙◌, subst, arith}
 use Rattle.seg_words.specs.Windows.{Aside}
 use Rattle.seg_words.specs.Blocks.{image_place}
-use Rattle.php_graph.specs.Size.{words_in, image_length}
+use Rattle.seg_words.specs.Layout.{words_in}
+use Rattle.php_graph.specs.Size.{image_length}
 use Rattle.value_image.specs.Image.{IsImageOf}
 use Rattle.apcu_model.specs.Cache.{Row}
 use Rattle.entry_slots.specs.declared.slots.EntrySlots.{EntrySlots}

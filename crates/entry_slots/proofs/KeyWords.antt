@@ -6,7 +6,7 @@ use Rattle.std.proofs.lemmas.List.FromFn.{get_or-map-range_with_len}
 use Rattle.std.proofs.lemmas.Slice.Eq.{bytes_eq-Decides}
 use Rattle.seg_words.specs.Windows.{Aside}
 use Rattle.php_graph.specs.ByteStrings.{AreBytes}
-use Rattle.php_graph.specs.Size.{words_in}
+use Rattle.seg_words.specs.Layout.{words_in}
 use Rattle.value_image.specs.Packed.{words_of, word_at}
 use Rattle.apcu_model.specs.Cache.{Row, has_key}
 use Rattle.entry_slots.specs.declared.slots.EntrySlots.{EntrySlots}

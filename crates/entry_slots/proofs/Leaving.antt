@@ -1,18 +1,19 @@
 -- What it comes to that a row leaves its chain, and is removed or freed then.
-use Rattle.std.proofs.Common.{◌≡◌, ◌≢◌, ℕ, Bool, true, false, not, List, [], ◌∷◌, ◌++◌, map, refl, sym, ap, ap₂, ◌∙◌}
+use Rattle.std.proofs.Common.{◌≡◌, ◌≢◌, inl, inr, ℕ, ◌<◌, ◌≤◌, Bool, true, false, not, List, [], ◌∷◌, ◌++◌, length, map, refl, sym, ap, ap₂, ◌∙◌, arith}
 use Rattle.std.specs.List.{Contains}
-use Rattle.std.proofs.lemmas.Bool.{eqb-true, false_from_ne_true}
+use Rattle.std.proofs.lemmas.Bool.{cases_Bool, or_cases, eqb-true, false_from_ne_true, false≢true}
 use Rattle.std.proofs.lemmas.List.{append-nil}
 use Rattle.std.proofs.lemmas.List.Elements.{filter-append}
 use Rattle.seg_words.specs.Windows.{Aside}
 use Rattle.apcu_model.specs.Cache.{Row}
+use Rattle.apcu_model.specs.Walk.{is_in_slot}
 use Rattle.entry_slots.specs.declared.slots.EntrySlots.{EntrySlots}
 use Rattle.entry_slots.specs.Lists.{is_at, has_place, only_at, without_place}
-use Rattle.entry_slots.specs.Entries.{Entries, unlinked_at, removed_at, freed_at, dropped_at, gone_at}
+use Rattle.entry_slots.specs.Entries.{Entries, chain_of, unlinked_at, removed_at, freed_at, dropped_at, gone_at}
 use Rattle.entry_slots.specs.Standing.{Stands}
 use Rattle.entry_slots.proofs.Members.{any_there}
 use Rattle.entry_slots.proofs.Places.{rows_removed, rows_unlinked}
-use Rattle.entry_slots.proofs.Unlinking.{without_none}
+use Rattle.entry_slots.proofs.Unlinking.{without_none, filter_swap}
 use Rattle.entry_slots.proofs.Linking.{filter_none}
 use Rattle.entry_slots.proofs.Relisting.{only_gone}
 
@@ -52,3 +53,23 @@ module _ {e : EntrySlots} {ws : List ℕ} {aside : Aside} (s : Entries) (h : Sta
   pub goes : freed_at at (unlinked_at at s) ≡ gone_at at s
   goes =
       ap₂ (λ (a b : List Row). let x : Entries = record s { rows = without_place at s.rows; removed = a; unlinked = b } in x) (without_none at s.removed not_removed) left
+
+-- ---- its chain is shorter
+
+not_longer : (at : ℕ) (rows : List Row) → length (without_place at rows) ≤ length rows
+not_longer at [] = omega arith
+not_longer at (row ∷ rows) = elim (cases_Bool (is_at at row)) [
+  | inl here ↦ rw here (let rest = not_longer at rows in omega (arith, rest))
+  | inr other ↦ rw other (let rest = not_longer at rows in omega (arith, rest))
+]
+
+without_shorter : (at : ℕ) (rows : List Row) → has_place at rows ≡ true → length (without_place at rows) < length rows
+without_shorter at [] h = absurd (false≢true h)
+without_shorter at (row ∷ rows) h = elim (cases_Bool (is_at at row)) [
+  | inl here ↦ rw here (let rest = not_longer at rows in omega (arith, rest))
+  | inr other ↦ rw other (let rest = without_shorter at rows (elim (or_cases (is_at at row) (has_place at rows) h) [ inl here ↦ absurd (false≢true (sym other ∙ here)) | inr later ↦ later ]) in omega (arith, rest))
+]
+
+pub shorter : (s : Entries) (slot at : ℕ) → has_place at (chain_of s slot) ≡ true → length (chain_of (unlinked_at at s) slot) < length (chain_of s slot)
+shorter s slot at there =
+    omega (arith, without_shorter at (chain_of s slot) there, ap (length {A = Row}) (filter_swap (is_in_slot s.conf slot) (λ r. not (is_at at r)) s.rows))

@@ -34,3 +34,4 @@ pub mod Finding
 pub mod Walking
 pub mod There
 pub mod Leaving
+pub mod Emptying

@@ -10,14 +10,14 @@ use Rattle.apcu_model.specs.Cache.{Row, has_key, extent_of, risen}
 use Rattle.apcu_model.specs.Change.{with_row}
 use Rattle.apcu_model.specs.Walk.{is_in_slot, slot_of}
 use Rattle.entry_slots.specs.declared.slots.EntrySlots.{EntrySlots}
-use Rattle.entry_slots.specs.Lists.{is_at}
+use Rattle.entry_slots.specs.Lists.{is_at, begins_at}
 use Rattle.entry_slots.specs.Entries.{Entries, chain_of, blocks_of, fresh_row, linked}
 use Rattle.entry_slots.specs.Standing.{IsChain, IsEntry, Stands}
 use Rattle.entry_slots.specs.Links.{link_after}
 use Rattle.entry_slots.specs.Laws.{Laws}
 use Rattle.entry_slots.proofs.Members.{Contains-cases, count-append, counted, Contains-filter}
 use Rattle.entry_slots.proofs.Homes.{IsHome, home_row, home_removed, home_unlinked}
-use Rattle.entry_slots.proofs.Places.{once, at_place, at_itself, count_blocks}
+use Rattle.entry_slots.proofs.Places.{once, at_itself, count_blocks}
 use Rattle.entry_slots.proofs.Cutting.{Spot, set_change, set_entry}
 use Rattle.entry_slots.proofs.Rejoining.{in_front, cut_spot, not_word, back_other, rejoined, other_chain, removed_kept}
 use Rattle.entry_slots.proofs.Written.{taken_live}
@@ -41,7 +41,7 @@ module _ {e : EntrySlots} {ws : List ℕ} {aside : Aside} (s : Entries) (h : Sta
   }
 
   row_elsewhere : (row : Row) → Contains s.rows row → row.place ≢ at
-  row_elsewhere row c same = omega (arith, once h at, counted (is_at at) s.rows row c (at_itself row at same), counted (at_place at) s.taken (extent_of (fresh_row key g ttl t at s.next_number)) taken (eq-eqb at at refl))
+  row_elsewhere row c same = omega (arith, once h at, counted (is_at at) s.rows row c (at_itself row at same), counted (begins_at at) s.taken (extent_of (fresh_row key g ttl t at s.next_number)) taken (eq-eqb at at refl))
 
   new_other : at + 1 ≢ m
   new_other = not_word h slot lt m at front back split follows (fresh_row key g ttl t at s.next_number) new_home (λ q c.
@@ -60,8 +60,8 @@ module _ {e : EntrySlots} {ws : List ℕ} {aside : Aside} (s : Entries) (h : Sta
         count_blocks test (linked at key g ttl t s),
         count_with_row p row s.rows h.apart,
         count-append p (filter (has_key key) s.rows) s.unlinked,
-        count_split test (at_place at) s.taken,
-        only_passes test (at_place at) s.taken (extent_of row) taken (eq-eqb at at refl) (omega (arith, once h at)),
+        count_split test (begins_at at) s.taken,
+        only_passes test (begins_at at) s.taken (extent_of row) taken (eq-eqb at at refl) (omega (arith, once h at)),
       )
 
   pub linked_stands : Laws → (number count : ℕ) → number ≡ risen s.next_number → count ≡ length (with_row (fresh_row key g ttl t at s.next_number) s.rows)

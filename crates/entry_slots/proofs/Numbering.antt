@@ -10,7 +10,8 @@ use Rattle.seg_words.specs.Blocks.{image_place}
 use Rattle.php_graph.specs.declared.kind.Kind.{Kind}
 use Rattle.php_graph.specs.declared.kind.Kind.TheVariants as kinds
 use Rattle.php_graph.specs.Graph.{IsGraph, kind_at, end_of, child_end}
-use Rattle.php_graph.specs.Size.{words_in, image_length, block_size}
+use Rattle.seg_words.specs.Layout.{words_in}
+use Rattle.php_graph.specs.Size.{image_length, block_size}
 use Rattle.value_image.specs.Packed.{words_of}
 use Rattle.value_image.specs.Rows.{StandsAt}
 use Rattle.value_image.specs.Image.{IsImageOf, image_of}

@@ -1,23 +1,23 @@
 -- Windows on the blocks of rows and removed rows.
-use Rattle.std.proofs.Common.{◌≡◌, ◌⊎◌, inl, inr, ℕ, ◌+◌, ◌/◌, ◌<◌, ◌≤◌, Bool, true, false, cond, eqb, ltb, List, [], ◌∷◌, length, slice_index, sym, ap, ◌∙◌, subst, refl, arith}
+use Rattle.std.proofs.Common.{◌≡◌, inl, inr, ℕ, ◌+◌, ◌/◌, ◌<◌, ◌≤◌, true, List, length, slice_index, sym, ap, ◌∙◌, subst, refl, arith}
 use Rattle.std.specs.List.{Contains}
-use Rattle.std.proofs.lemmas.Bool.{eqb-true, ltb-true, and_parts, and_from, or_cases, or_left, or_right, false≢true, false_from_ne_true}
+use Rattle.std.proofs.lemmas.Bool.{eqb-true, false≢true, false_from_ne_true}
 use Rattle.std.proofs.lemmas.List.Elements.{Contains-append_cases}
 use Rattle.seg_words.specs.declared.extents.Extent.{Extent}
-use Rattle.seg_words.specs.Windows.{Aside, has, is_named, closed_on, Frees, Refuses}
-use Rattle.seg_words.specs.Blocks.{IsTold, MayProbe, image_place, image_end}
+use Rattle.seg_words.specs.Windows.{Aside, is_named}
+use Rattle.seg_words.specs.Blocks.{MayProbe, image_place, image_end}
 use Rattle.sma_blocks.specs.Live.{live_blocks}
 use Rattle.sma_blocks.specs.Ready.{Holds}
 use Rattle.apcu_model.specs.Cache.{Row, extent_of}
 use Rattle.entry_slots.specs.declared.slots.EntrySlots.{EntrySlots}
-use Rattle.entry_slots.specs.Lists.{is_at, has_place}
+use Rattle.entry_slots.specs.Lists.{is_at, begins_at, has_place}
 use Rattle.entry_slots.specs.Entries.{Entries, listed, blocks_of}
 use Rattle.entry_slots.specs.Standing.{Stands}
-use Rattle.entry_slots.specs.Facts.{OnlyClose, OnlyOpensAt, AreApart, AreOnce, IsCopyable}
+use Rattle.entry_slots.specs.Facts.{OnlyClose, OnlyOpensAt, AreApart, IsCopyable, IsSound}
 use Rattle.entry_slots.proofs.Members.{any_there, counted, same_there}
-use Rattle.entry_slots.proofs.Blocks.{Apart, live_apart, live_bounds, told_from}
+use Rattle.entry_slots.proofs.Blocks.{Apart, live_apart, live_bounds}
 use Rattle.entry_slots.proofs.Homes.{IsHome, room, home_listed}
-use Rattle.entry_slots.proofs.Places.{at_place, at_itself, once, blocks_once}
+use Rattle.entry_slots.proofs.Places.{at_itself, once}
 
 -- the row that is listed at a place
 listed_at : {e : EntrySlots} {ws : List ℕ} {aside : Aside} (s : Entries) (at : ℕ) → Stands e ws aside s → has_place at (listed s) ≡ true → (row : Row) × Contains (listed s) row × (row.place ≡ at) × IsHome e ws aside row
@@ -33,7 +33,7 @@ image_inside {ws = ws} row h =
 -- a block that was taken is elsewhere
 not_taken : {e : EntrySlots} {ws : List ℕ} {aside : Aside} (s : Entries) → Stands e ws aside s → (row : Row) → Contains (listed s) row → (block : Extent) → Contains s.taken block → block.place ≡ row.place → ⊥
 not_taken s h row c block t same =
-    let taken = counted (at_place row.place) s.taken block t (at_itself (record row { place = block.place }) row.place same) in
+    let taken = counted (begins_at row.place) s.taken block t (at_itself (record row { place = block.place }) row.place same) in
     let self = at_itself row row.place refl in
     elim (Contains-append_cases s.rows s.removed row c) [
       | inl l ↦ omega (arith, once h row.place, counted (is_at row.place) s.rows row l self, taken)
@@ -91,17 +91,13 @@ opened_stands e ws old new s at there more h =
       to = h.to;
     }
 
--- the pin count of a block that no window names is told
-told_unnamed : (windows : List ℕ) (at : ℕ) → is_named windows at ≡ false → IsTold windows (at + 11)
-told_unnamed windows at none = told_from windows (at + 11) (λ x named e. false≢true (sym none ∙ subst (λ n. is_named windows n ≡ true) (omega arith) named))
-
-pub listed_probed : (e : EntrySlots) (ws : List ℕ) (aside : Aside) (s : Entries) (at : ℕ) → Stands e ws aside s → has_place at (listed s) ≡ true → (windows : List ℕ) → MayProbe ws windows at
+listed_probed : (e : EntrySlots) (ws : List ℕ) (aside : Aside) (s : Entries) (at : ℕ) → Stands e ws aside s → has_place at (listed s) ≡ true → (windows : List ℕ) → MayProbe ws windows at
 listed_probed e ws aside s at h there windows =
     let own = listed_at s at h there in
     let w = room own.3 in
     record {
       inside = omega (arith, w.high, w.enough, own.2);
-      count = λ none. (told_unnamed windows at none, ap (λ n. slice_index ws (n + 11)) (sym own.2) ∙ own.3.entry.pin_count);
+      count = λ none. ap (λ n. slice_index ws (n + 11)) (sym own.2) ∙ own.3.entry.pin_count;
     }
 
 row_copied : {e : EntrySlots} {ws : List ℕ} {aside : Aside} (row : Row) → IsHome e ws aside row → IsCopyable ws aside.windows row.place
@@ -142,22 +138,11 @@ blocks_lie_apart e ws aside s one other h c d =
     let live : List Extent = live_blocks ws e.sma.from in
     live_apart e.sma ws aside one other h.ready (same_there live (blocks_of s) one h.blocks c) (same_there live (blocks_of s) other h.blocks d)
 
-pub blocks_are_once : (e : EntrySlots) (ws : List ℕ) (aside : Aside) (s : Entries) → Stands e ws aside s → AreOnce (blocks_of s)
-blocks_are_once e ws aside s h at = omega (arith, h.blocks.count (at_place at), blocks_once ws e.sma.from (live_blocks ws e.sma.from) e.sma.to at h.ready.blocks)
-
--- closing the windows on a block opens none
-closed_on-named : (ws : List ℕ) (at x : ℕ) → has x (closed_on at ws) ≡ true → 0 < x → has x ws ≡ true
-closed_on-named [] at x h some = h
-closed_on-named (w ∷ ws) at x h some = go (eqb w at) (or_cases (eqb x (cond (eqb w at) 0 w)) (has x (closed_on at ws)) h) (λ k. closed_on-named ws at x k some)
-  where
-    go : (b : Bool) → (eqb x (cond b 0 w) ≡ true) ⊎ (has x (closed_on at ws) ≡ true) → (has x (closed_on at ws) ≡ true → has x ws ≡ true) → has x (w ∷ ws) ≡ true
-    go b (inr later) rest = or_right (eqb x w) (has x ws) (rest later)
-    go true (inl here) rest = absurd (omega (arith, eqb-true x 0 here))
-    go false (inl here) rest = or_left (eqb x w) (has x ws) here
-
-pub probe_closes : (old new : Aside) (at : ℕ) (free : Bool) → (free ≡ true → Frees old new at) → (free ≡ false → Refuses old new at) → OnlyClose old new
-probe_closes old new at true frees refuses = λ x named.
-    let windows = (frees refl).windows in
-    let p = and_parts (ltb 0 x) (has x new.windows) named in
-    and_from (ltb 0 x) (has x old.windows) p.0 (closed_on-named old.windows at x (subst (λ l. has x l ≡ true) windows p.1) (ltb-true 0 x p.0))
-probe_closes old new at false frees refuses = λ x named. subst (λ l. is_named l x ≡ true) (refuses refl).windows named
+pub sound : (e : EntrySlots) (ws : List ℕ) (aside : Aside) (s : Entries) → Stands e ws aside s → IsSound s ws aside.windows
+sound e ws aside s h = record {
+  good = h.good;
+  apart = h.apart;
+  once = once h;
+  placed = false_from_ne_true (has_place 0 (listed s)) (λ there. let own = listed_at s 0 h there in omega (arith, own.2, (room own.3).some));
+  probed = λ at there. listed_probed e ws aside s at h there aside.windows;
+}

@@ -9,34 +9,31 @@ use Rattle.sma_blocks.specs.Ready.{AreBlocks}
 use Rattle.apcu_model.specs.Cache.{Row}
 use Rattle.apcu_model.specs.Cache as cache
 use Rattle.entry_slots.specs.declared.slots.EntrySlots.{EntrySlots}
-use Rattle.entry_slots.specs.Lists.{is_at}
+use Rattle.entry_slots.specs.Lists.{is_at, begins_at}
 use Rattle.entry_slots.specs.Entries.{Entries, listed, blocks_of}
 use Rattle.entry_slots.specs.Standing.{Stands}
 use Rattle.entry_slots.proofs.Blocks.{blocks_between}
 use Rattle.entry_slots.proofs.Members.{Contains-cases, count-cons, count-append, counted, there, none_in_nil}
 
-abbrev pub at_place : ℕ → Extent → Bool
-at_place p e = eqb e.place p
-
-pub blocks_once : (ws : List ℕ) (low : ℕ) (es : List Extent) (high x : ℕ) → AreBlocks ws low es high → count_by (at_place x) es ≤ 1
+pub blocks_once : (ws : List ℕ) (low : ℕ) (es : List Extent) (high x : ℕ) → AreBlocks ws low es high → count_by (begins_at x) es ≤ 1
 blocks_once ws low [] high x h = omega arith
 blocks_once ws low (e ∷ es) high x h =
     go (eqb e.place x) refl (blocks_once ws (e.place + e.size) es high x h.3)
   where
-    none_later : e.place ≡ x → count_by (at_place x) es < 1
-    none_later is = elim (cases_lt (count_by (at_place x) es) 1) [
+    none_later : e.place ≡ x → count_by (begins_at x) es < 1
+    none_later is = elim (cases_lt (count_by (begins_at x) es) 1) [
       | inl few ↦ few
-      | inr some ↦ let r = there (at_place x) es some in
+      | inr some ↦ let r = there (begins_at x) es some in
           absurd (omega (arith, (blocks_between ws (e.place + e.size) es high r.0 h.3 r.1).0, eqb-true r.0.place x r.2, h.1))
     ]
 
-    go : (here : Bool) → eqb e.place x ≡ here → count_by (at_place x) es ≤ 1 → count_by (at_place x) (e ∷ es) ≤ 1
+    go : (here : Bool) → eqb e.place x ≡ here → count_by (begins_at x) es ≤ 1 → count_by (begins_at x) (e ∷ es) ≤ 1
     go true is rest =
-        let one : cond {A = ℕ} (at_place x e) 1 0 ≡ 1 = ap (λ v. cond {A = ℕ} v 1 0) is in
-        omega (arith, count-cons (at_place x) e es, none_later (eqb-true e.place x is))
+        let one : cond {A = ℕ} (begins_at x e) 1 0 ≡ 1 = ap (λ v. cond {A = ℕ} v 1 0) is in
+        omega (arith, count-cons (begins_at x) e es, none_later (eqb-true e.place x is))
     go false is rest =
-        let none : cond {A = ℕ} (at_place x e) 1 0 ≡ 0 = ap (λ v. cond {A = ℕ} v 1 0) is in
-        omega (arith, count-cons (at_place x) e es)
+        let none : cond {A = ℕ} (begins_at x e) 1 0 ≡ 0 = ap (λ v. cond {A = ℕ} v 1 0) is in
+        omega (arith, count-cons (begins_at x) e es)
 
 pub count-map : {X Y : Type 0} (p : Y → Bool) (f : X → Y) (xs : List X) → count_by p (map f xs) ≡ count_by (λ x. p (f x)) xs
 count-map p f [] = refl
@@ -61,9 +58,9 @@ count_blocks test s =
 
 -- one block at most stands at a place
 pub once : {e : EntrySlots} {ws : List ℕ} {aside : Aside} {s : Entries} → Stands e ws aside s → (x : ℕ)
-    → count_by (is_at x) s.rows + (count_by (is_at x) s.removed + (count_by (is_at x) s.unlinked + count_by (at_place x) s.taken)) ≤ 1
+    → count_by (is_at x) s.rows + (count_by (is_at x) s.removed + (count_by (is_at x) s.unlinked + count_by (begins_at x) s.taken)) ≤ 1
 once {e} {ws} {aside} {s} h x =
-    omega (arith, count_blocks (at_place x) s, h.blocks.count (at_place x), blocks_once ws e.sma.from (live_blocks ws e.sma.from) e.sma.to x h.ready.blocks)
+    omega (arith, count_blocks (begins_at x) s, h.blocks.count (begins_at x), blocks_once ws e.sma.from (live_blocks ws e.sma.from) e.sma.to x h.ready.blocks)
 
 pub at_itself : (row : Row) (x : ℕ) → row.place ≡ x → is_at x row ≡ true
 at_itself row x e = eq-eqb row.place x e

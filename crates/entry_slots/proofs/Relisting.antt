@@ -6,14 +6,14 @@ use Rattle.std.proofs.lemmas.List.Elements.{Contains-append_cases, Contains-appe
 use Rattle.std.specs.List.{Contains, filter, count_by}
 use Rattle.seg_words.specs.declared.extents.Extent.{Extent}
 use Rattle.seg_words.specs.Windows.{Aside}
-use Rattle.sma_blocks.specs.Live.{live_blocks, without_block, SameBlocks}
+use Rattle.sma_blocks.specs.Live.{live_blocks, IsLive, without_block, SameBlocks}
 use Rattle.sma_blocks.specs.declared.sma.Sma.{Sma}
 use Rattle.sma_blocks.specs.Ready.{IsReady, ChangesInner}
 use Rattle.apcu_model.specs.Cache.{Row, extent_of}
 use Rattle.apcu_model.specs.Walk.{is_in_slot}
 use Rattle.entry_slots.specs.declared.slots.EntrySlots.{EntrySlots}
-use Rattle.entry_slots.specs.Lists.{is_at, has_place, only_at, without_place}
-use Rattle.entry_slots.specs.Entries.{Entries, chain_of, moved_at, off_at}
+use Rattle.entry_slots.specs.Lists.{is_at, begins_at, has_place, only_at, without_place}
+use Rattle.entry_slots.specs.Entries.{Entries, chain_of, moved_at, off_at, given_at, freed_at}
 use Rattle.entry_slots.specs.Standing.{IsChain, IsEntry, Stands}
 use Rattle.entry_slots.specs.Links.{IsRemovedLink}
 use Rattle.entry_slots.specs.Laws.{Laws}
@@ -22,7 +22,7 @@ use Rattle.entry_slots.proofs.Homes.{IsHome, room, home_row, home_removed, home_
 use Rattle.entry_slots.proofs.Frames.{entry_kept, chain_kept}
 use Rattle.entry_slots.proofs.Chains.{chain_first, small_first}
 use Rattle.entry_slots.proofs.Taking.{row_same, link_same}
-use Rattle.entry_slots.proofs.Places.{once, at_place, at_itself, count_blocks, blocks_once, rows_unlinked, removed_unlinked}
+use Rattle.entry_slots.proofs.Places.{once, at_itself, count_blocks, blocks_once, rows_unlinked, removed_unlinked}
 use Rattle.entry_slots.proofs.Cutting.{AreDistinct, distinct_both, Spot, set_change, set_entry, set_link}
 use Rattle.entry_slots.proofs.Linking.{count_split, only_passes, filter_none}
 use Rattle.entry_slots.proofs.Unlinking.{without_none, without_middle}
@@ -211,12 +211,12 @@ given_stands law {e} {ws} {aside} s h at q there place sma' ws' live same ef et 
         count = λ test.
             let p : Row → Bool = λ row. test (extent_of row) in
             let home = home_unlinked q h there in
-            let few : count_by (at_place at) blocks ≤ 1 = blocks_once ws e.sma.from (live_blocks ws e.sma.from) e.sma.to at h.ready.blocks in
-            let one : count_by test (filter (at_place at) blocks) ≡ cond (test (extent_of q)) 1 0 = only_passes test (at_place at) blocks (extent_of q) home.live (eq-eqb q.place at place) few in
+            let few : count_by (begins_at at) blocks ≤ 1 = blocks_once ws e.sma.from (live_blocks ws e.sma.from) e.sma.to at h.ready.blocks in
+            let one : count_by test (filter (begins_at at) blocks) ≡ cond (test (extent_of q)) 1 0 = only_passes test (begins_at at) blocks (extent_of q) home.live (eq-eqb q.place at place) few in
             let two : count_by p (only_at at s.unlinked) ≡ cond (p q) 1 0 = only_passes p (is_at at) s.unlinked q there (at_itself q at place) (omega (arith, once h at)) in
             let after : Entries = record s { unlinked = without_place at s.unlinked } in
             ap (λ from. count_by test (live_blocks ws' from)) ef
-            ∙ (ap (count_by test) live ∙ omega (arith, count_split test (at_place at) blocks, one, two, count_split p (is_at at) s.unlinked, h.blocks.count test, count_blocks test s, count_blocks test after));
+            ∙ (ap (count_by test) live ∙ omega (arith, count_split test (begins_at at) blocks, one, two, count_split p (is_at at) s.unlinked, h.blocks.count test, count_blocks test s, count_blocks test after));
       };
       apart = h.apart;
       number = h.number;
@@ -281,3 +281,27 @@ only_gone at (row ∷ rows) = go (is_at at row) refl (only_gone at rows)
 pub freed_list : (at : ℕ) (s : Entries) → without_place at (only_at at s.removed ++ s.unlinked) ≡ without_place at s.unlinked
 freed_list at s =
     filter-append (λ r. not (is_at at r)) (only_at at s.removed) s.unlinked ∙ ap (λ rs. rs ++ without_place at s.unlinked) (only_gone at s.removed)
+
+-- the unlinked row is no removed one
+pub given_freed : {e : EntrySlots} {ws : List ℕ} {aside : Aside} (s : Entries) → Stands e ws aside s → (at : ℕ) → has_place at s.unlinked ≡ true → given_at at s ≡ freed_at at s
+given_freed s h at there =
+    let r = unlinked_there s h at there in
+    let left : without_place at s.removed ≡ s.removed = without_none at s.removed (λ q c same. removed_unlinked h q r.0 c r.1 (r.2 ∙ sym same)) in
+    ap (λ (rows : List Row). let x : Entries = record s { removed = rows; unlinked = without_place at s.unlinked } in x) (sym left)
+
+-- its block is live
+pub live_there : {e : EntrySlots} {ws : List ℕ} {aside : Aside} (s : Entries) (h : Stands e ws aside s) (at : ℕ) (q : Row) → Contains s.unlinked q → q.place ≡ at → IsLive (live_blocks ws e.sma.from) at
+live_there {e} {ws} {aside} s h at q c place =
+    (q.size, subst (λ (n : ℕ). Contains (live_blocks ws e.sma.from) (record { place = n; size = q.size })) place (home_unlinked q h c).live)
+
+pub off_unlinked_there : {e : EntrySlots} {ws : List ℕ} {aside : Aside} (s : Entries) → Stands e ws aside s → (at : ℕ) → has_place at (s.unlinked ++ s.removed) ≡ true → has_place at (only_at at s.removed ++ s.unlinked) ≡ true
+off_unlinked_there s h at there =
+    let r = off_there s h at there in
+    any_from (is_at at) (only_at at s.removed ++ s.unlinked) r.0 r.1 (at_itself r.0 at r.2)
+
+-- to be taken off first changes nothing of what is left
+pub freed_off : (at : ℕ) (s : Entries) → freed_at at (off_at at s) ≡ freed_at at s
+freed_off at s =
+    let twice : without_place at (without_place at s.removed) ≡ without_place at s.removed =
+    without_none at (without_place at s.removed) (λ q c same. false≢true (sym (not-true (is_at at q) (Contains-filter (λ r. not (is_at at r)) s.removed q c).1) ∙ at_itself q at same)) in
+    ap₂ (λ (a b : List Row). let x : Entries = record s { removed = a; unlinked = b } in x) twice (freed_list at s)

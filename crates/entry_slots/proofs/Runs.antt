@@ -4,7 +4,7 @@ use Rattle.std.proofs.lemmas.List.{take_more, length-take-le}
 use Rattle.std.proofs.lemmas.List.FromFn.{get_or-map-range_with_len, length-map-range_with_len}
 use Rattle.seg_words.specs.Windows.{Aside}
 use Rattle.seg_words.specs.Blocks.{MayStore}
-use Rattle.php_graph.specs.Size.{words_in}
+use Rattle.seg_words.specs.Layout.{words_in}
 use Rattle.value_image.specs.Packed.{words_of, word_at}
 use Rattle.value_image.specs.Rows.{written, MayWrite}
 use Rattle.entry_slots.specs.Laws.{Laws}

@@ -46,3 +46,11 @@ walked e ws aside s slot front row back h split =
       next = ap (next_place row.place) split ∙ next_middle row.place front row back before refl;
       unlinked = filter_swap (is_in_slot s.conf slot) (λ r. not (is_at row.place r)) s.rows ∙ (ap (without_place row.place) split ∙ without_middle row.place front row back distinct refl);
     }
+
+-- a chain without a first row is empty
+pub empty : (e : EntrySlots) (ws : List ℕ) (aside : Aside) (s : Entries) (slot : ℕ) → Stands e ws aside s → first_place (chain_of s slot) ≡ 0 → chain_of s slot ≡ []
+empty e ws aside s slot h first = go (chain_of s slot) refl first
+  where
+    go : (rows : List Row) → chain_of s slot ≡ rows → first_place rows ≡ 0 → chain_of s slot ≡ []
+    go [] split none = split
+    go (row ∷ back) split none = absurd (omega (arith, (walked e ws aside s slot [] row back h split).positive, none))

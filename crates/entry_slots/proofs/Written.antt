@@ -12,7 +12,8 @@ use Rattle.sma_blocks.specs.Ready.{ChangesInner}
 use Rattle.php_graph.specs.declared.kind.Kind.{Kind}
 use Rattle.php_graph.specs.Graph.{IsGraph}
 use Rattle.php_graph.specs.ByteStrings.{AreBytes}
-use Rattle.php_graph.specs.Size.{words_in, image_length, block_size}
+use Rattle.seg_words.specs.Layout.{words_in}
+use Rattle.php_graph.specs.Size.{image_length, block_size}
 use Rattle.value_image.specs.Packed.{words_of}
 use Rattle.value_image.specs.Rows.{written, StandsAt}
 use Rattle.value_image.specs.Image.{IsImageOf, image_of}
@@ -20,10 +21,10 @@ use Rattle.apcu_model.specs.Cache.{Row, extent_of}
 use Rattle.apcu_model.specs.Walk.{is_in_slot}
 use Rattle.entry_slots.specs.declared.slots.EntrySlots.{EntrySlots}
 use Rattle.entry_slots.specs.declared.writing.Note.{Note}
-use Rattle.entry_slots.specs.Lists.{is_at}
+use Rattle.entry_slots.specs.Lists.{is_at, begins_at}
 use Rattle.entry_slots.specs.Entries.{Entries, chain_of, blocks_of, fresh_row}
 use Rattle.entry_slots.specs.Standing.{IsChain, IsEntry, Stands}
-use Rattle.entry_slots.specs.Written.{first_words, entry_words}
+use Rattle.entry_slots.specs.Written.{head_words, entry_words}
 use Rattle.entry_slots.specs.Laws.{Laws}
 use Rattle.entry_slots.proofs.Runs.{words_long}
 use Rattle.entry_slots.proofs.Members.{same_there, counted, Contains-filter}
@@ -32,7 +33,7 @@ use Rattle.entry_slots.proofs.Homes.{IsHome, room, home_row, home_removed, home_
 use Rattle.entry_slots.proofs.Changes.{OnlyIn}
 use Rattle.entry_slots.proofs.Frames.{SameRow, entry_kept, chain_kept}
 use Rattle.entry_slots.proofs.Storing.{may_store_in}
-use Rattle.entry_slots.proofs.Places.{once, at_place, at_itself}
+use Rattle.entry_slots.proofs.Places.{once, at_itself}
 
 -- only the run's words changed
 pub written_only : Laws → (ws : List ℕ) (at : ℕ) (run : List ℕ) → OnlyIn ws (written ws at run) at (at + length run)
@@ -99,13 +100,13 @@ module _ {e : EntrySlots} {ws : List ℕ} {aside : Aside} {s : Entries} (h : Sta
   }
 
   pub rows_not : (row : Row) → Contains s.rows row → row.place ≢ b.place
-  rows_not row c same = omega (arith, once h b.place, counted (is_at b.place) s.rows row c (at_itself row b.place same), counted (at_place b.place) s.taken b there (eq-eqb b.place b.place refl))
+  rows_not row c same = omega (arith, once h b.place, counted (is_at b.place) s.rows row c (at_itself row b.place same), counted (begins_at b.place) s.taken b there (eq-eqb b.place b.place refl))
 
   removed_not : (row : Row) → Contains s.removed row → row.place ≢ b.place
-  removed_not row c same = omega (arith, once h b.place, counted (is_at b.place) s.removed row c (at_itself row b.place same), counted (at_place b.place) s.taken b there (eq-eqb b.place b.place refl))
+  removed_not row c same = omega (arith, once h b.place, counted (is_at b.place) s.removed row c (at_itself row b.place same), counted (begins_at b.place) s.taken b there (eq-eqb b.place b.place refl))
 
   unlinked_not : (row : Row) → Contains s.unlinked row → row.place ≢ b.place
-  unlinked_not row c same = omega (arith, once h b.place, counted (is_at b.place) s.unlinked row c (at_itself row b.place same), counted (at_place b.place) s.taken b there (eq-eqb b.place b.place refl))
+  unlinked_not row c same = omega (arith, once h b.place, counted (is_at b.place) s.unlinked row c (at_itself row b.place same), counted (begins_at b.place) s.taken b there (eq-eqb b.place b.place refl))
 
   pub taken_stands : Laws → Stands e ws' aside s
   taken_stands law = record {
@@ -135,7 +136,7 @@ written_entry law ws at key g note graph bytes ttl size inside =
     let ws' : List ℕ = written ws (at + 1) (entry_words key g note) in
     let klen = words_long key in
     let glen = law.image_long g in
-    let first : List ℕ = first_words key g note in
+    let first : List ℕ = head_words key g note in
     let tail : List ℕ = words_of key ++ image_of g in
     let long : length (entry_words key g note) ≡ 11 + words_in (length key) + image_length g = omega (arith, length-append first tail, length-append (words_of key) (image_of g)) in
     let all : StandsAt ws' (at + 1) (first ++ tail) = law.there ws (at + 1) (entry_words key g note) (omega (arith, long)) in

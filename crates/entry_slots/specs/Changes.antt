@@ -1,5 +1,5 @@
 -- What a step of a call does to the entries.
-use Rattle.entry_slots.specs.Entries.{Entries, with_taken, touched_in, with_number, unlinked_at, noted_at, moved_at, off_at, given_at, linked}
+use Rattle.entry_slots.specs.Entries.{Entries, with_taken, touched_in, with_number, unlinked_at, noted_at, moved_at, off_at, given_at, linked, without_rows}
 use Rattle.entry_slots.specs.declared.standing.Change.{Change}
 use Rattle.entry_slots.specs.declared.standing.Change.TheVariants as change
 
@@ -13,3 +13,4 @@ changed (change.Move at) s = moved_at at s
 changed (change.TakeOff at) s = off_at at s
 changed (change.Give at) s = given_at at s
 changed (change.Link at key g ttl t) s = linked at key.now g.now ttl t s
+changed change.Clear s = without_rows s

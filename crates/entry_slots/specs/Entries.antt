@@ -33,6 +33,10 @@ no_entries conf = record { conf = conf; rows = []; removed = []; next_number = 1
 abbrev pub entries_of : Cache → Entries
 entries_of c = record { conf = c.conf; rows = c.rows; removed = c.removed; next_number = c.next_number; unlinked = []; taken = [] }
 
+-- no block is loose
+abbrev pub IsWhole : Entries → Type 0
+IsWhole s = (s.unlinked ≡ []) × (s.taken ≡ [])
+
 -- the rows of one hash chain, in their order
 abbrev pub chain_of : Entries → ℕ → List Row
 chain_of s slot = filter (is_in_slot s.conf slot) s.rows
@@ -162,6 +166,10 @@ dropped_at at t s = record s {
 -- the row at this place is gone, and so is its block
 abbrev pub gone_at : ℕ → Entries → Entries
 gone_at at s = record s { rows = without_place at s.rows }
+
+-- all rows are gone, and so are their blocks
+abbrev pub without_rows : Entries → Entries
+without_rows s = record s { rows = [] }
 
 -- the row at this place was used
 abbrev pub touched_row : ℕ → ℕ → Row → Row

@@ -1,11 +1,14 @@
 -- What follows from it that words stand for entries.
-use Rattle.std.specs.Prelude.{◌≡◌, ◌⊎◌, ℕ, ◌+◌, ◌<◌, ◌≤◌, ◌==◌, true, false, List, ◌++◌, length, slice_index, count_by, Contains}
+use Rattle.std.specs.Prelude.{◌≡◌, ◌⊎◌, ℕ, ◌+◌, ◌<◌, ◌≤◌, true, false, List, ◌++◌, length, slice_index, count_by, Contains}
 use Rattle.seg_words.specs.declared.extents.Extent.{Extent}
 use Rattle.seg_words.specs.Windows.{Aside, is_named}
-use Rattle.seg_words.specs.Blocks.{IsTold, image_place, image_end}
+use Rattle.seg_words.specs.declared.layout.TheConstants.{PIN_COUNT}
+use Rattle.seg_words.specs.Blocks.{IsTold, MayProbe, image_place, image_end}
 use Rattle.apcu_model.specs.Cache.{Row}
-use Rattle.entry_slots.specs.Lists.{has_place, first_place, next_place}
-use Rattle.entry_slots.specs.Entries.{Entries, chain_of, unlinked_at}
+use Rattle.apcu_model.specs.Conf.{IsGood}
+use Rattle.apcu_model.specs.Rows.{are_apart}
+use Rattle.entry_slots.specs.Lists.{is_at, begins_at, has_place, first_place, next_place}
+use Rattle.entry_slots.specs.Entries.{Entries, chain_of, listed, unlinked_at}
 
 -- each block that a new window names, an old one named
 abbrev pub OnlyClose : Aside → Aside → Type 0
@@ -19,15 +22,20 @@ OnlyOpensAt at old new = (x : ℕ) → is_named new.windows x ≡ true → (x �
 abbrev pub AreApart : Extent → Extent → Type 0
 AreApart one other = (one ≡ other) ⊎ ((one.place + one.size ≤ other.place) ⊎ (other.place + other.size ≤ one.place))
 
--- no two of the blocks begin at one place
-abbrev pub AreOnce : List Extent → Type 0
-AreOnce blocks = (at : ℕ) → count_by (λ (block : Extent). block.place == at) blocks ≤ 1
+-- What is so of all entries that words stand for: the shape is one that a cache may have, no two rows have one
+-- key, no place begins two blocks, no row or removed row is at 0, and each of them may be probed.
+pub record IsSound (s : Entries) (words windows : List ℕ) : Type 0 where
+  pub good : IsGood s.conf
+  pub apart : are_apart s.rows ≡ true
+  pub once : (at : ℕ) → count_by (is_at at) s.rows + (count_by (is_at at) s.removed + (count_by (is_at at) s.unlinked + count_by (begins_at at) s.taken)) ≤ 1
+  pub placed : has_place 0 (listed s) ≡ false
+  pub probed : (at : ℕ) → has_place at (listed s) ≡ true → MayProbe words windows at
 
 -- A worker may copy from the block at `at`: its pin count is 0, its key and image lie inside the words and meet
 -- no other block that a window names, and the words of its image are told.
 pub record IsCopyable (words windows : List ℕ) (at : ℕ) : Type 0 where
   pub positive : 0 < at
-  pub zero_count : slice_index words (at + 11) ≡ 0
+  pub zero_count : slice_index words (at + PIN_COUNT) ≡ 0
   pub inside : image_end words at ≤ length words
   pub clear : (b : ℕ) → is_named windows b ≡ true → (at ≡ b) ⊎ ((image_end words at ≤ b) ⊎ (image_end words b ≤ at))
   pub told : (i : ℕ) → image_place words at ≤ i → i < image_end words at → IsTold windows i

@@ -1,6 +1,7 @@
 -- The words by which a chain is held together.
 use Rattle.std.specs.Prelude.{◌≡◌, ◌⊎◌, ℕ, ◌+◌, true, List, [], ◌∷◌, ◌++◌, slice_index}
 use Rattle.apcu_model.specs.Cache.{Row}
+use Rattle.entry_slots.specs.declared.head.TheConstants.{NEXT}
 use Rattle.entry_slots.specs.Lists.{has_place}
 use Rattle.entry_slots.specs.Entries.{Entries, chain_of}
 use Rattle.entry_slots.specs.Standing.{IsChain}
@@ -8,7 +9,7 @@ use Rattle.entry_slots.specs.Standing.{IsChain}
 -- the word that names what follows these rows, in a chain that begins at the word `first`
 abbrev pub link_after : ℕ → List Row → ℕ
 link_after first [] = first
-link_after first (row ∷ rows) = link_after (row.place + 1) rows
+link_after first (row ∷ rows) = link_after (row.place + NEXT) rows
 
 -- The word `link` of the chain that begins at the word `first` names the row at `target`; where that is 0, it
 -- is the chain's last word.
@@ -30,5 +31,5 @@ pub record IsRemovedLink (words : List ℕ) (removed : List Row) (target link : 
   pub front : List Row
   pub back : List Row
   pub split : removed ≡ front ++ back
-  pub follows : ((front ≡ []) × (link ≡ 0)) ⊎ ((first : Row) × (rows : List Row) × (front ≡ first ∷ rows) × (link ≡ link_after (first.place + 1) rows))
+  pub follows : ((front ≡ []) × (link ≡ 0)) ⊎ ((first : Row) × (rows : List Row) × (front ≡ first ∷ rows) × (link ≡ link_after (first.place + NEXT) rows))
   pub rest : IsChain words target back

@@ -2,7 +2,9 @@
 use Rattle.std.specs.Prelude.{◌≡◌, ℕ, ◌+◌, ◌<◌, ◌≤◌, List, length}
 use Rattle.seg_words.specs.declared.segment.WordsIn.{Ghosts}
 use Rattle.seg_words.specs.Blocks.{IsTold, MayStore}
-use Rattle.php_graph.specs.Size.{words_in, image_length}
+use Rattle.seg_words.specs.declared.layout.TheConstants.{HEAD_WORDS}
+use Rattle.seg_words.specs.Layout.{words_in}
+use Rattle.php_graph.specs.Size.{image_length}
 use Rattle.value_image.specs.Packed.{words_of}
 use Rattle.value_image.specs.Rows.{IsToldAt}
 use Rattle.value_image.specs.Image.{IsImageOf}
@@ -17,7 +19,7 @@ pub record IsStorable (words windows : List ℕ) (i : ℕ) : Type 0 where
 -- what the words before the key say of a row, and where its image stands
 pub record IsHeadOf (words windows : List ℕ) (head : Head) (row : Row) : Type 0 where
   pub key_len : head.key_len ≡ length row.key
-  pub image : head.image ≡ row.place + 12 + words_in (length row.key)
+  pub image : head.image ≡ row.place + HEAD_WORDS + words_in (length row.key)
   pub image_len : head.image_len ≡ image_length row.graph
   pub ttl : head.ttl ≡ row.ttl
   pub ctime : head.ctime ≡ row.ctime
@@ -28,7 +30,7 @@ pub record IsHeadOf (words windows : List ℕ) (head : Head) (row : Row) : Type 
   pub size : head.size ≡ row.size
   pub number : head.number ≡ row.number
   -- the key and the image stand there, and can be read
-  pub key_stands : IsToldAt words windows (row.place + 12) (words_of row.key)
+  pub key_stands : IsToldAt words windows (row.place + HEAD_WORDS) (words_of row.key)
   pub image_stands : IsImageOf words head.image head.image_len row.graph
   pub image_told : (i : ℕ) → head.image ≤ i → i < head.image + head.image_len → IsTold windows i
 

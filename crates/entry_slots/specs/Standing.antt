@@ -3,6 +3,7 @@ use Rattle.std.specs.Prelude.{◌≡◌, ℕ, ◌+◌, ◌<◌, ◌^◌, true, f
 use Rattle.seg_words.specs.declared.extents.Extent.{Extent}
 use Rattle.seg_words.specs.declared.segment.WordsIn.{Ghosts}
 use Rattle.seg_words.specs.Windows.{Aside, is_named}
+use Rattle.seg_words.specs.declared.layout.TheConstants.{HEAD_WORDS, KEY_LENGTH, IMAGE_LENGTH, PIN_COUNT}
 use Rattle.seg_words.specs.Blocks.{image_place}
 use Rattle.sma_blocks.specs.Live.{live_blocks}
 use Rattle.sma_blocks.specs.Ready.{IsReady}
@@ -14,31 +15,32 @@ use Rattle.value_image.specs.Image.{IsImageOf}
 use Rattle.apcu_model.specs.Cache.{Row}
 use Rattle.apcu_model.specs.Conf.{IsGood}
 use Rattle.apcu_model.specs.Rows.{are_apart}
+use Rattle.entry_slots.specs.declared.head.TheConstants.{NEXT, TTL, CTIME, MTIME, ATIME, DTIME, HITS, NUMBER}
 use Rattle.entry_slots.specs.declared.slots.EntrySlots.{EntrySlots}
 use Rattle.entry_slots.specs.Lists.{HaveSame}
 use Rattle.entry_slots.specs.Entries.{Entries, chain_of, blocks_of}
 
--- From the block at `at` on, word 1 of each block is the place of the next: these rows, in their order. The
+-- From the block at `at` on, each head names the place of the next block: these rows, in their order. The
 -- last one's is 0.
 abbrev pub IsChain : List ℕ → ℕ → List Row → Type 0
 IsChain words at [] = at ≡ 0
-IsChain words at (row ∷ rows) = (at ≡ row.place) × IsChain words (slice_index words (row.place + 1)) rows
+IsChain words at (row ∷ rows) = (at ≡ row.place) × IsChain words (slice_index words (row.place + NEXT)) rows
 
--- The block of a row: its size, the lengths of its key and its image, what is noted of it, and word 11, which
--- is 0; then its key, eight bytes a word, the first byte lowest, and its image. Word 1 is the chain's.
+-- The block of a row: its size, the lengths of its key and its image, what is noted of it, and its pin count,
+-- which is 0; then its key, eight bytes a word, the first byte lowest, and its image.
 pub record IsEntry (words : List ℕ) (row : Row) : Type 0 where
   pub size : slice_index words row.place ≡ row.size
-  pub key_length : slice_index words (row.place + 2) ≡ length row.key
-  pub value_length : slice_index words (row.place + 3) ≡ image_length row.graph
-  pub ttl : slice_index words (row.place + 4) ≡ row.ttl
-  pub ctime : slice_index words (row.place + 5) ≡ row.ctime
-  pub mtime : slice_index words (row.place + 6) ≡ row.mtime
-  pub atime : slice_index words (row.place + 7) ≡ row.atime
-  pub dtime : slice_index words (row.place + 8) ≡ row.dtime
-  pub hits : slice_index words (row.place + 9) ≡ row.hits
-  pub number : slice_index words (row.place + 10) ≡ row.number
-  pub pin_count : slice_index words (row.place + 11) ≡ 0
-  pub key : StandsAt words (row.place + 12) (words_of row.key)
+  pub key_length : slice_index words (row.place + KEY_LENGTH) ≡ length row.key
+  pub value_length : slice_index words (row.place + IMAGE_LENGTH) ≡ image_length row.graph
+  pub ttl : slice_index words (row.place + TTL) ≡ row.ttl
+  pub ctime : slice_index words (row.place + CTIME) ≡ row.ctime
+  pub mtime : slice_index words (row.place + MTIME) ≡ row.mtime
+  pub atime : slice_index words (row.place + ATIME) ≡ row.atime
+  pub dtime : slice_index words (row.place + DTIME) ≡ row.dtime
+  pub hits : slice_index words (row.place + HITS) ≡ row.hits
+  pub number : slice_index words (row.place + NUMBER) ≡ row.number
+  pub pin_count : slice_index words (row.place + PIN_COUNT) ≡ 0
+  pub key : StandsAt words (row.place + HEAD_WORDS) (words_of row.key)
   pub image : IsImageOf words (image_place words row.place) (image_length row.graph) row.graph
   pub whole : row.size ≡ block_size (length row.key) row.graph
   pub bytes : AreBytes row.key

@@ -4,18 +4,14 @@ ghost use Rattle.std.specs.Prelude.{◌≡◌, ℕ, ◌+◌, ◌/◌, ◌%◌, �
 ghost use Rattle.seg_words.specs.Kept.{Kept};
 ghost use Rattle.seg_words.specs.Blocks.{IsTold};
 ghost use Rattle.php_graph.specs.Numbers.{hash_of};
-ghost use Rattle.entry_slots.specs.Written.{IsKeyAt};
-ghost use Rattle.php_graph.specs.Size.{words_in};
+ghost use Rattle.entry_slots.specs.Written.{IsEntryKey};
+ghost use Rattle.seg_words.specs.Layout.{words_in};
 ghost use Rattle.value_image.specs.Packed.{word_at};
 
 use crate::lower::lower_laws;
 use byteorder::{ByteOrder, LittleEndian};
+use php_graph::{HASH_START, TOP_BIT, hash_step};
 use seg_words::{Segment, WordsIn};
-
-/// Where the hash starts.
-const HASH_START: u64 = 5381;
-/// The bit that is set in each hash.
-const TOP_BIT: u64 = 1 << 63;
 
 // The word of a key's eight bytes from byte `8 * i` on, the first byte lowest; past the end they are 0.
 pub(crate) fn key_word(key: &[u8], i: u32) -> u64
@@ -50,7 +46,7 @@ fn word_of_byte<S: Segment>(seg: &mut S, at: u32, i: u32, word: u64) -> u64
 pub(crate) fn hash_at<S: Segment>(seg: &mut S, at: u32, len: u32) -> u64
     requires inside { at + words_in len ≤ length (S.words seg.old) }
     requires told { (i : ℕ) → at ≤ i → i < at + words_in len → IsTold (S.aside seg.old).windows i }
-    ensures hash { (key : List ℕ) → IsKeyAt (S.words seg.old) at len key → result ≡ hash_of key }
+    ensures hash { (key : List ℕ) → IsEntryKey (S.words seg.old) at len key → result ≡ hash_of key }
     ensures kept { Kept S.WordsIn seg.old seg.new }
 {
     lower_laws();
@@ -58,8 +54,7 @@ pub(crate) fn hash_at<S: Segment>(seg: &mut S, at: u32, len: u32) -> u64
     let mut word = 0;
     for i in 0..len {
         word = word_of_byte(seg, at, i, word);
-        let byte = (word >> (8 * (i % 8))) % 256;
-        hash = hash.wrapping_mul(33).wrapping_add(byte);
+        hash = hash_step(hash, ((word >> (8 * (i % 8))) % 256) as u8);
     }
     hash | TOP_BIT
 }

@@ -1,36 +1,31 @@
 //! What the layers above rely on beside the calls.
 
-ghost use Rattle.std.specs.Prelude.{◌≡◌, ◌≢◌, ℕ, ◌<◌, ◌≤◌, ◌+◌, Bool, true, false, List, ◌∷◌, ◌++◌, length, Contains, Some};
+ghost use Rattle.std.specs.Prelude.{◌≡◌, ◌≢◌, ℕ, ◌<◌, ◌≤◌, ◌+◌, true, false, List, [], ◌∷◌, ◌++◌, length, Contains, Some};
 ghost use Rattle.seg_words.specs.declared.extents.Extent.{Extent};
-ghost use Rattle.seg_words.specs.Windows.{Aside, Frees, Refuses};
-ghost use Rattle.seg_words.specs.Blocks.{MayProbe};
+ghost use Rattle.seg_words.specs.Windows.{Aside};
 ghost use Rattle.apcu_model.specs.Cache.{Row};
 ghost use Rattle.entry_slots.specs.declared.slots.EntrySlots.{EntrySlots};
 ghost use Rattle.entry_slots.specs.Lists.{has_place, first_place, next_place};
 ghost use Rattle.entry_slots.specs.Entries.{Entries, chain_of, listed, loose, blocks_of, place_of, unlinked_at};
 ghost use Rattle.entry_slots.specs.Entries.{removed_at, freed_at, dropped_at, gone_at};
 ghost use Rattle.entry_slots.specs.Standing.{Stands};
-ghost use Rattle.entry_slots.specs.Facts.{OnlyClose, OnlyOpensAt, AreApart, AreOnce, IsCopyable, IsAtRow};
+ghost use Rattle.entry_slots.specs.Facts.{OnlyClose, OnlyOpensAt, AreApart, IsCopyable, IsSound, IsAtRow};
 
 /// Words stand for the same entries where windows close and the mask and the refused places change in any
-/// way, and where a window opens on the block of a row or a removed row. At a probe windows only close.
+/// way, and where a window opens on the block of a row or a removed row.
 pub fn window_laws()
     ensures closed { (e : EntrySlots) (words : List ℕ) (old new : Aside) (s : Entries)
         → OnlyClose old new → Stands e words old s → Stands e words new s }
     ensures opened { (e : EntrySlots) (words : List ℕ) (old new : Aside) (s : Entries) (at : ℕ)
         → has_place at (listed s) ≡ true → OnlyOpensAt at old new
         → Stands e words old s → Stands e words new s }
-    ensures probed { (old new : Aside) (at : ℕ) (free : Bool)
-        → (free ≡ true → Frees old new at) → (free ≡ false → Refuses old new at)
-        → OnlyClose old new }
 {}
 
-/// The block of a row or a removed row may be probed, whatever the windows, and may be copied from. All blocks
-/// lie apart inside the words, and no place begins two of them. So a walk along a chain meets each place once.
+/// No place begins two blocks, and none of a row or a removed row is 0; each of these may be probed, and may be
+/// copied from. All blocks lie apart inside the words. So a walk along a chain meets each place once.
 pub fn standing_laws()
-    ensures probed { (e : EntrySlots) (words : List ℕ) (aside : Aside) (s : Entries) (at : ℕ)
-        → Stands e words aside s → has_place at (listed s) ≡ true
-        → (windows : List ℕ) → MayProbe words windows at }
+    ensures sound { (e : EntrySlots) (words : List ℕ) (aside : Aside) (s : Entries)
+        → Stands e words aside s → IsSound s words aside.windows }
     ensures copied { (e : EntrySlots) (words : List ℕ) (aside : Aside) (s : Entries) (at : ℕ)
         → Stands e words aside s → has_place at (listed s) ≡ true
         → IsCopyable words aside.windows at }
@@ -40,17 +35,18 @@ pub fn standing_laws()
     ensures apart { (e : EntrySlots) (words : List ℕ) (aside : Aside) (s : Entries)
         (one other : Extent) → Stands e words aside s → Contains (blocks_of s) one
         → Contains (blocks_of s) other → AreApart one other }
-    ensures once { (e : EntrySlots) (words : List ℕ) (aside : Aside) (s : Entries)
-        → Stands e words aside s → AreOnce (blocks_of s) }
     ensures one { (e : EntrySlots) (words : List ℕ) (aside : Aside) (s : Entries) (p q : Row)
         → Stands e words aside s → Contains (listed s) p → Contains (listed s) q
         → p.place ≡ q.place → p ≡ q }
+    ensures empty { (e : EntrySlots) (words : List ℕ) (aside : Aside) (s : Entries) (slot : ℕ)
+        → Stands e words aside s → first_place (chain_of s slot) ≡ 0 → chain_of s slot ≡ [] }
     ensures walked { (e : EntrySlots) (words : List ℕ) (aside : Aside) (s : Entries) (slot : ℕ)
         (front : List Row) (row : Row) (back : List Row) → Stands e words aside s
         → chain_of s slot ≡ front ++ row ∷ back → IsAtRow s slot front row back }
 {}
 
-/// A row that is unlinked and then removed or freed has left the rows, and nothing else has changed.
+/// A row that is unlinked and then removed or freed has left the rows, and nothing else has changed. Its
+/// chain is shorter from the first step on.
 pub fn leaving_laws()
     ensures drops { (e : EntrySlots) (words : List ℕ) (aside : Aside) (s : Entries) (at t : ℕ)
         → Stands e words aside s → has_place at s.rows ≡ true
@@ -58,11 +54,17 @@ pub fn leaving_laws()
     ensures goes { (e : EntrySlots) (words : List ℕ) (aside : Aside) (s : Entries) (at : ℕ)
         → Stands e words aside s → has_place at s.rows ≡ true
         → freed_at at (unlinked_at at s) ≡ gone_at at s }
+    ensures shorter { (s : Entries) (slot at : ℕ) → has_place at (chain_of s slot) ≡ true
+        → length (chain_of (unlinked_at at s) slot) < length (chain_of s slot) }
 {}
 
-/// Which places rows have: the one that was found by its key, the first one, the next one, each of a chain,
-/// and the one that was unlinked.
+/// Which places rows have: those of the rows of a list and no others. So the one that was found by its key,
+/// the first one, the next one, each of a chain, and the one that was unlinked.
 pub fn place_laws()
+    ensures member { (rows : List Row) (row : Row) → Contains rows row
+        → has_place row.place rows ≡ true }
+    ensures some { (rows : List Row) (at : ℕ) → has_place at rows ≡ true
+        → (row : Row) × Contains rows row × (row.place ≡ at) }
     ensures found { (key : List ℕ) (s : Entries) (at : ℕ)
         → Some at ≡ place_of key s → has_place at s.rows ≡ true }
     ensures first { (rows : List Row) (at : ℕ)

@@ -1,6 +1,7 @@
 //! Entries in the words of a segment: hash chains and the list of removed rows.
 #![tactic(auto)]
 
+mod all_rows;
 mod head;
 mod keys;
 mod laws;
@@ -11,9 +12,6 @@ mod slots;
 mod standing;
 mod writing;
 
-pub use head::Head;
+pub use head::{ATIME, CTIME, DTIME, HITS, Head, MTIME, NEXT, NUMBER, TTL};
 pub use laws::{leaving_laws, place_laws, standing_laws, window_laws};
 pub use slots::EntrySlots;
-
-#[cfg(test)]
-mod tests;

@@ -2,20 +2,24 @@
 
 ghost use Rattle.std.specs.Prelude.{◌≡◌, ℕ, ◌+◌, ◌<◌, ◌≤◌, ◌^◌, ◌==◌, if◌then◌else◌, length, slice_index};
 ghost use Rattle.seg_words.specs.Kept.{Kept};
+ghost use Rattle.seg_words.specs.declared.layout.TheConstants.{HEAD_WORDS, PIN_COUNT};
 ghost use Rattle.seg_words.specs.Blocks.{IsTold};
+ghost use Rattle.entry_slots.specs.declared.head.TheConstants.{NEXT};
 
-use seg_words::{Segment, WordsIn};
+use crate::head::NEXT;
+use seg_words::{HEAD_WORDS, PIN_COUNT, Segment, WordsIn};
 
 // The words of a block before its pin count.
 pub(crate) fn first_words<S: Segment>(seg: &mut S, at: u32) -> [u64; 11]
-    requires inside { at + 12 ≤ length (S.words seg.old) }
-    requires told { (k : ℕ) → k < 11 → IsTold (S.aside seg.old).windows (at + k) }
-    ensures each { (k : ℕ) → k < 11
+    requires inside { at + HEAD_WORDS ≤ length (S.words seg.old) }
+    requires told { (k : ℕ) → k < PIN_COUNT
+        → IsTold (S.aside seg.old).windows (at + k) }
+    ensures each { (k : ℕ) → k < PIN_COUNT
         → slice_index result k ≡ slice_index (S.words seg.old) (at + k) }
     ensures kept { Kept S.WordsIn seg.old seg.new }
 {
     let mut words = [0; 11];
-    for k in 0..11 {
+    for k in 0..PIN_COUNT {
         words[k as usize] = seg.load(at + k);
     }
     words
@@ -23,13 +27,13 @@ pub(crate) fn first_words<S: Segment>(seg: &mut S, at: u32) -> [u64; 11]
 
 // The place that follows the block in its list.
 pub(crate) fn next_of<S: Segment>(seg: &mut S, at: u32) -> u32
-    requires inside { at + 12 ≤ length (S.words seg.old) }
-    requires told { IsTold (S.aside seg.old).windows (at + 1) }
-    requires place { slice_index (S.words seg.old) (at + 1) < 2 ^ 32 }
-    ensures next { result ≡ slice_index (S.words seg.old) (at + 1) }
+    requires inside { at + HEAD_WORDS ≤ length (S.words seg.old) }
+    requires told { IsTold (S.aside seg.old).windows (at + NEXT) }
+    requires place { slice_index (S.words seg.old) (at + NEXT) < 2 ^ 32 }
+    ensures next { result ≡ slice_index (S.words seg.old) (at + NEXT) }
     ensures kept { Kept S.WordsIn seg.old seg.new }
 {
-    seg.load(at + 1) as u32
+    seg.load(at + NEXT) as u32
 }
 
 // The number of rows after a new one stands in the place of the one at `replaced`, or last.

@@ -2,12 +2,14 @@
 
 ghost use Rattle.std.specs.Prelude.{◌≡◌, ◌≢◌, ◌+◌, true, false, slice_index, slice_set, IfSome, IfNone};
 ghost use Rattle.seg_words.specs.Kept.{Kept, KeptBeside};
+ghost use Rattle.entry_slots.specs.declared.head.TheConstants.{NEXT};
 ghost use Rattle.entry_slots.specs.Lists.{has_place};
 ghost use Rattle.entry_slots.specs.Entries.{moved_at, off_at, loose};
 ghost use Rattle.entry_slots.specs.Standing.{Stand, entries};
 ghost use Rattle.entry_slots.specs.Links.{IsRemovedLink};
 ghost use Rattle.entry_slots.specs.Reading.{IsStorable};
 
+use crate::head::NEXT;
 use crate::lower::lower_laws;
 use crate::reading::next_of;
 use crate::slots::EntrySlots;
@@ -19,7 +21,7 @@ impl EntrySlots {
     pub(crate) fn append<S: Segment>(&mut self, seg: &mut S, at: u32)
         requires stand { Stand S.WordsIn self.old seg.old }
         requires there { has_place at (entries self.old).unlinked ≡ true }
-        requires alone { slice_index (S.words seg.old) (at + 1) ≡ 0 }
+        requires alone { slice_index (S.words seg.old) (at + NEXT) ≡ 0 }
         ensures moved { entries self.new ≡ moved_at at (entries self.old) }
         ensures stand { Stand S.WordsIn self.new seg.new }
         ensures beside { KeptBeside S.WordsIn seg.old seg.new }
@@ -86,7 +88,7 @@ impl EntrySlots {
             if named == 0 {
                 return None;
             }
-            link = named + 1;
+            link = named + NEXT;
             named = seg.load(link) as u32;
         }
         None

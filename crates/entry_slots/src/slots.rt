@@ -3,24 +3,23 @@ ghost use Rattle.seg_words.specs.Kept.{Kept, KeptBeside};
 ghost use Rattle.seg_words.specs.Windows.{is_named};
 ghost use Rattle.php_graph.specs.Numbers.{hash_of};
 ghost use Rattle.apcu_model.specs.Cache.{Row, has_key};
-ghost use Rattle.apcu_model.specs.Conf.{IsGood};
 ghost use Rattle.apcu_model.specs.Walk.{slot_of};
+ghost use Rattle.entry_slots.specs.declared.head.TheConstants.{NEXT};
 ghost use Rattle.entry_slots.specs.Lists.{has_place, first_place, FollowsIn};
-ghost use Rattle.entry_slots.specs.Entries.{no_entries, chain_of, listed, loose, place_for, block_for, place_of, old_place, IsListed, HoldsInt, FollowsInChain};
+ghost use Rattle.entry_slots.specs.Entries.{chain_of, listed, loose, place_for, block_for, place_of, old_place, IsListed, HoldsInt, FollowsInChain};
 ghost use Rattle.entry_slots.specs.Entries.{with_taken, touched_in, with_number, linked, unlinked_at, removed_at, freed_at};
 ghost use Rattle.entry_slots.specs.Standing.{Stand, IsStanding, entries};
 ghost use Rattle.entry_slots.specs.Links.{IsLinkTo, IsTarget};
 ghost use Rattle.entry_slots.specs.Reading.{HeadIn};
 
-use crate::head::Head;
+use crate::head::{ATIME, CTIME, DTIME, HITS, Head, MTIME, NEXT, NUMBER, TTL};
 use crate::keys::{hash_at, key_word};
 use crate::lower::lower_laws;
 use crate::reading::{count_after, first_words, next_of};
 use crate::standing::{Change, Standing};
 use crate::writing::{Note, put_entry};
-use apcu_model::Conf;
 use php_graph::{Graph, hash_of};
-use seg_words::{Segment, WordsIn};
+use seg_words::{HEAD_WORDS, IMAGE_LENGTH, KEY_LENGTH, Segment, WordsIn, words_in};
 use sma_blocks::Sma;
 
 /// Entries in hash chains: each of the words before the first block begins the chain of one slot, and a
@@ -33,42 +32,13 @@ pub struct EntrySlots {
     /// The place of the first removed entry, or 0.
     pub(crate) removed: u32,
     /// The number that the next entry gets.
-    next_number: u64,
+    pub(crate) next_number: u64,
     /// The number of rows.
-    count: u32,
+    pub(crate) count: u32,
     pub(crate) standing: Standing,
 }
 
 impl EntrySlots {
-    /// Makes a cache of this shape without rows. No window may be open.
-    pub fn format<S: Segment>(seg: &mut S, conf: &Conf) -> EntrySlots
-        requires good { IsGood conf.now }
-        requires all { length (S.words seg.old) ≡ conf.now.words }
-        requires closed { (at : ℕ) → is_named (S.aside seg.old).windows at ≡ false }
-        ensures made { entries result ≡ no_entries conf.now }
-        ensures stand { Stand S.WordsIn result seg.new }
-        ensures beside { KeptBeside S.WordsIn seg.old seg.new }
-    {
-        for slot in 0..conf.slots {
-            seg.store(slot, 0);
-        }
-        EntrySlots {
-            sma: Sma::format(seg, conf.slots),
-            removed: 0,
-            next_number: 1,
-            count: 0,
-            standing: Standing::new(conf),
-        }
-    }
-
-    /// How many rows there are.
-    pub fn rows(&self) -> u32
-        requires stand { IsStanding self.now }
-        ensures rows { result ≡ length (entries self.now).rows }
-    {
-        self.count
-    }
-
     /// Takes a block of `n` words at the least place where they fit beside all blocks; `None` exactly where
     /// they fit nowhere, and then nothing changed. The block is loose until it is linked.
     pub fn take<S: Segment>(&mut self, seg: &mut S, n: u32) -> Option<u32>
@@ -129,11 +99,11 @@ impl EntrySlots {
         ensures kept { Kept S.WordsIn seg.old seg.new }
     {
         lower_laws();
-        if seg.load(at + 2) != key.len() as u64 {
+        if seg.load(at + KEY_LENGTH) != key.len() as u64 {
             return false;
         }
-        for i in 0..(key.len() as u32).div_ceil(8) {
-            if seg.load(at + 12 + i) != key_word(key, i) {
+        for i in 0..words_in(key.len() as u32) {
+            if seg.load(at + HEAD_WORDS + i) != key_word(key, i) {
                 return false;
             }
         }
@@ -170,9 +140,9 @@ impl EntrySlots {
         ensures beside { KeptBeside S.WordsIn seg.old seg.new }
     {
         lower_laws();
-        let hits = seg.load(at + 9);
-        seg.store(at + 9, hits.saturating_add(1));
-        seg.store(at + 7, t);
+        let hits = seg.load(at + HITS);
+        seg.store(at + HITS, hits.saturating_add(1));
+        seg.store(at + ATIME, t);
         self.standing = self.standing.then(&Change::Touch(at, t));
     }
 
@@ -187,9 +157,9 @@ impl EntrySlots {
         ensures beside { KeptBeside S.WordsIn seg.old seg.new }
     {
         lower_laws();
-        let len = seg.load(at + 2) as u32;
-        seg.store(at + 13 + len.div_ceil(8), n.cast_unsigned());
-        seg.store(at + 6, t);
+        let len = seg.load(at + KEY_LENGTH) as u32;
+        seg.store(at + (HEAD_WORDS + 1) + words_in(len), n.cast_unsigned());
+        seg.store(at + MTIME, t);
         self.standing = self.standing.then(&Change::SetInt(at, n, t));
     }
 
@@ -202,19 +172,19 @@ impl EntrySlots {
         ensures kept { Kept S.WordsIn seg.old seg.new }
     {
         let words = first_words(seg, at);
-        let key_len = words[2] as u32;
+        let key_len = words[KEY_LENGTH as usize] as u32;
         Head {
             key_len,
-            image: at + 12 + key_len.div_ceil(8),
-            image_len: words[3] as u32,
-            ttl: words[4] as u32,
-            ctime: words[5],
-            mtime: words[6],
-            atime: words[7],
-            dtime: words[8],
-            hits: words[9],
+            image: at + HEAD_WORDS + words_in(key_len),
+            image_len: words[IMAGE_LENGTH as usize] as u32,
+            ttl: words[TTL as usize] as u32,
+            ctime: words[CTIME as usize],
+            mtime: words[MTIME as usize],
+            atime: words[ATIME as usize],
+            dtime: words[DTIME as usize],
+            hits: words[HITS as usize],
             size: words[0] as u32,
-            number: words[10],
+            number: words[NUMBER as usize],
         }
     }
 
@@ -240,7 +210,7 @@ impl EntrySlots {
         ensures beside { KeptBeside S.WordsIn seg.old seg.new }
     {
         lower_laws();
-        g.is_sealed();
+        let _places = g.places();
         let slot = self.slot_for(key);
         let link = self.link_to(seg, slot, replaced);
         let note = Note {
@@ -291,8 +261,8 @@ impl EntrySlots {
         ensures beside { KeptBeside S.WordsIn seg.old seg.new }
     {
         lower_laws();
-        seg.store(at + 1, 0);
-        seg.store(at + 8, t);
+        seg.store(at + NEXT, 0);
+        seg.store(at + DTIME, t);
         self.standing = self.standing.then(&Change::Note(at, t));
         self.append(seg, at);
     }
@@ -306,8 +276,20 @@ impl EntrySlots {
         ensures stand { Stand S.WordsIn self.new seg.new }
         ensures beside { KeptBeside S.WordsIn seg.old seg.new }
     {
-        lower_laws();
         self.take_off(seg, at);
+        self.free_unlinked(seg, at);
+    }
+
+    /// Gives the block of the unlinked row back, as `free` does, but walks no list. No window may name it.
+    pub fn free_unlinked<S: Segment>(&mut self, seg: &mut S, at: u32)
+        requires stand { Stand S.WordsIn self.old seg.old }
+        requires there { has_place at (entries self.old).unlinked ≡ true }
+        requires unnamed { is_named (S.aside seg.old).windows at ≡ false }
+        ensures freed { entries self.new ≡ freed_at at (entries self.old) }
+        ensures stand { Stand S.WordsIn self.new seg.new }
+        ensures beside { KeptBeside S.WordsIn seg.old seg.new }
+    {
+        lower_laws();
         self.sma.give(seg, at);
         self.standing = self.standing.then(&Change::Give(at));
     }
@@ -321,15 +303,15 @@ impl EntrySlots {
         ensures low { result < self.now.sma.from }
         ensures kept { Kept S.WordsIn seg.old seg.new }
     {
-        let len = seg.load(at + 2) as u32;
-        (hash_at(seg, at + 12, len) % u64::from(self.sma.from)) as u32
+        let len = seg.load(at + KEY_LENGTH) as u32;
+        (hash_at(seg, at + HEAD_WORDS, len) % u64::from(self.sma.from)) as u32
     }
 
     // What follows the row at a place; nothing follows the place 0.
     fn behind<S: Segment>(&self, seg: &mut S, at: u32) -> u32
         requires stand { Stand S.WordsIn self.now seg.old }
         requires there { (at ≡ 0) ⊎ (has_place at (entries self.now).rows ≡ true) }
-        ensures next { at ≢ 0 → result ≡ slice_index (S.words seg.old) (at + 1) }
+        ensures next { at ≢ 0 → result ≡ slice_index (S.words seg.old) (at + NEXT) }
         ensures none { at ≡ 0 → result ≡ 0 }
         ensures kept { Kept S.WordsIn seg.old seg.new }
     {
@@ -354,7 +336,7 @@ impl EntrySlots {
             if named == target {
                 return link;
             }
-            link = named + 1;
+            link = named + NEXT;
         }
         link
     }

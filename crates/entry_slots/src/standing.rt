@@ -30,6 +30,7 @@ pub enum Change<'a> {
     TakeOff(u32),
     Give(u32),
     Link(u32, &'a [u8], &'a Graph, u32, u64),
+    Clear,
 }
 
 impl Standing {

@@ -2,13 +2,14 @@
 
 ghost use Rattle.std.specs.Prelude.{◌≡◌, ◌+◌, ◌<◌, ◌^◌, length};
 ghost use Rattle.seg_words.specs.Kept.{KeptBeside};
-ghost use Rattle.php_graph.specs.Size.{words_in, image_length};
+ghost use Rattle.seg_words.specs.Layout.{words_in};
+ghost use Rattle.php_graph.specs.Size.{image_length};
 ghost use Rattle.value_image.specs.Rows.{written, MayWrite};
 ghost use Rattle.entry_slots.specs.Written.{entry_words};
 
 use crate::lower::lower_laws;
 use php_graph::Graph;
-use seg_words::Segment;
+use seg_words::{HEAD_WORDS, Segment, words_in};
 use value_image::{persist, put_bytes};
 
 /// What is noted of a new entry, beside its key and its value.
@@ -47,8 +48,8 @@ pub(crate) fn put_entry<S: Segment>(seg: &mut S, at: u32, key: &[u8], g: &Graph,
         0,
     ];
     put_words(seg, at + 1, &first);
-    put_bytes(seg, at + 12, key);
-    persist(seg, at + 12 + (key.len() as u32).div_ceil(8), g);
+    put_bytes(seg, at + HEAD_WORDS, key);
+    persist(seg, at + HEAD_WORDS + words_in(key.len() as u32), g);
 }
 
 // Writes words from a place on.

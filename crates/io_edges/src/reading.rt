@@ -40,7 +40,7 @@ pub fn read_all<S: Source>(alloc: Global, input: &mut S, limit: usize) -> Result
 
     // A fault is a fault of the source in this call.
     ensures fault { IsErrOf result ReadError.Fault → Rose (S.faults input.old) (S.faults input.new) }
-    ensures calm { (IsErrOf result ReadError.Fault → ⊥) → S.faults input.new ≡ S.faults input.old }
+    ensures calm { ¬ IsErrOf result ReadError.Fault → S.faults input.new ≡ S.faults input.old }
     ensures never_falls { S.faults input.old ≤ S.faults input.new }
 
     // After any error a part of what was left is gone.

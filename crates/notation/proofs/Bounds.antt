@@ -1,21 +1,18 @@
 -- A fault lies within the bytes that are read, and so does what is left.
-use Rattle.std.proofs.Common.{◌≡◌, ℕ, zero, suc, ◌+◌, ◌-◌, ◌≤◌, ◌<◌, Bool, true, false, cond, List, [], ◌∷◌, length, take, drop, Option, Some, None, Result, Ok, Err, ℤ, refl, subst, sym, arith}
+use Rattle.std.proofs.Common.{◌≡◌, ℕ, zero, suc, ◌+◌, ◌≤◌, Bool, true, false, cond, List, [], ◌∷◌, length, take, drop, Option, Some, None, Result, Ok, Err, ℤ, subst, arith}
 use Rattle.std.specs.Prelude.{◌==◌, ◌&&◌, nat_lt, slice_index}
 use Rattle.std.proofs.lemmas.List.{length-drop}
 use Rattle.php_graph.specs.declared.key.Key.{Key}
 use Rattle.php_graph.specs.declared.kind.Kind.{Kind}
-use Rattle.php_graph.specs.declared.item.Item.{Item}
 use Rattle.php_graph.specs.declared.item.Item.TheVariants as items
 use Rattle.php_graph.specs.declared.item.BuildFault.{BuildFault}
-use Rattle.php_graph.specs.declared.item.Wants.{Wants}
 use Rattle.php_graph.specs.Graph.{levels}
 use Rattle.php_graph.specs.Building.{Draft, nothing_drafted, wants_of, room_fault, fault_of, pushed}
 use Rattle.php_graph.specs.Numbers.{int_of_text}
-use Rattle.notation.specs.declared.fault.Reason.{Reason}
 use Rattle.notation.specs.declared.fault.Reason.TheVariants as reasons
 use Rattle.notation.specs.declared.fault.Fault.{Fault}
 use Rattle.notation.specs.Marks.{◌>>=◌, fail, mark_at, number_len, found, number_at, as_natural, as_truth, number_as, natural_at, quoted_at, sized_at, string_at, integer_at, count_at}
-use Rattle.notation.specs.Reading.{put_unless, put_at, Begun, null_at, truth_at, int_at, str_at, same_at, back_at, array_at, object_at, tagged_at, is_tag, if_room, begun_at, takes_integers, key_tagged_at, key_at, members_at, closed_at, rest_of_value, value_with, value_at, reading_of, reason_of}
+use Rattle.notation.specs.Reading.{put_unless, put_at, Begun, null_at, truth_at, int_at, str_at, same_at, back_at, array_at, object_at, tagged_at, is_tag, if_room, begun_at, takes_integers, key_tagged_at, key_at, members_at, closed_at, rest_of_value, value_with, value_at, reading_of}
 
 -- no more than n bytes are left, or are there from the fault on
 abbrev pub Within : {A : Type 0} → ℕ → (A → List ℕ) → Result A Fault → Type 0

@@ -1,15 +1,16 @@
 -- A part that is read is the part that was written.
-use Rattle.std.proofs.Common.{◌≡◌, ℕ, zero, suc, ◌+◌, ◌-◌, ◌^◌, ◌<◌, ◌≤◌, Bool, true, false, cond, ◌&&◌, eqb, ltb, List, [], ◌∷◌, ◌++◌, length, get_or, take, drop, Option, Some, None, Result, Ok, Err, ℤ, pos, negsuc, FitsSigned, w64, refl, sym, ap, subst, ◌∙◌, append_assoc, arith}
+use Rattle.std.proofs.Common.{◌≡◌, ℕ, suc, ◌+◌, ◌^◌, ◌<◌, Bool, true, false, cond, ◌&&◌, eqb, ltb, List, [], ◌∷◌, ◌++◌, length, take, drop, Option, Some, None, Result, Ok, Err, ℤ, pos, negsuc, FitsSigned, w64, refl, sym, ap, subst, ◌∙◌, arith}
 use Rattle.std.specs.Prelude.{slice_index}
 use Rattle.std.specs.Fmt.{decimal, signed_decimal}
 use Rattle.std.proofs.lemmas.Fmt.{decimal_digit}
 use Rattle.std.proofs.lemmas.Bool.{eqb-true, ltb-true}
-use Rattle.std.proofs.lemmas.List.{take-append-drop, length-append, length-take}
+use Rattle.std.proofs.lemmas.List.{take-append-drop, length-take}
 use Rattle.std.proofs.Math.Seq.{drop-cons}
+use Rattle.std.specs.List.{AllByRecursion}
+use Rattle.php_graph.specs.ByteStrings.{AreBytes}
 use Rattle.php_graph.specs.Numbers.{int_of_text}
 use Rattle.notation.specs.declared.fault.Fault.{Fault}
-use Rattle.notation.specs.declared.fault.Reason.{Reason}
-use Rattle.notation.specs.Marks.{◌>>=◌, fail, mark_at, number_len, found, number_at, as_natural, as_truth, number_as, natural_at, quoted_at, sized_at, string_at, integer_at, count_at}
+use Rattle.notation.specs.Marks.{◌>>=◌, mark_at, number_len, found, number_at, as_natural, as_truth, number_as, natural_at, quoted_at, sized_at, string_at, integer_at, count_at}
 
 -- a text that gives an integer is what is written for it
 abbrev pub Written : Type 0
@@ -158,3 +159,63 @@ count_takes law bytes n rest e =
     let s = ok_is (b.0.0, f.0) (n, rest) f.2 in
     let marked : b.0.1 ≡ 58 ∷ 123 ∷ f.0 = mark_takes 58 b.0.1 d.0 d.1 ∙ ap (λ (x : List ℕ). 58 ∷ x) (mark_takes 123 d.0 f.0 f.1) in
     mark_takes 58 bytes a.0 a.1 ∙ ap (λ (x : List ℕ). 58 ∷ x) (natural_takes law a.0 b.0.0 b.0.1 b.1 ∙ ap (λ (x : List ℕ). decimal b.0.0 ++ x) marked) ∙ ap (λ (p : ℕ × List ℕ). 58 ∷ (decimal p.0 ++ 58 ∷ 123 ∷ p.1)) s
+
+-- ---- what was read has its range
+
+abbrev pub AreSomeBytes : List ℕ → Type 0
+AreSomeBytes bytes = AllByRecursion (λ b. b < 256) bytes
+
+pub bytes_before : (a b : List ℕ) → AreSomeBytes (a ++ b) → AreSomeBytes a
+bytes_before [] b fits = tt
+bytes_before (x ∷ a) b fits = (fits.0, bytes_before a b fits.1)
+
+pub bytes_behind : (a b : List ℕ) → AreSomeBytes (a ++ b) → AreSomeBytes b
+bytes_behind [] b fits = fits
+bytes_behind (x ∷ a) b fits = bytes_behind a b fits.1
+
+number_fits : (law : Written) (bytes : List ℕ) (z : ℤ) (rest : List ℕ) → number_at bytes ≡ Ok (z, rest) → FitsSigned w64 z
+unfolding number_at
+number_fits law [] z rest e = absurd cc
+number_fits law (b ∷ more) z rest e =
+    let bytes = b ∷ more in
+    let len = number_len bytes in
+    let f = found_ok (int_of_text (take len bytes)) (drop len bytes) bytes z rest e in
+    (law (take len bytes) z f.0).1
+
+pub integer_fits : (law : Written) (bytes : List ℕ) (n : ℤ) (rest : List ℕ) → integer_at bytes ≡ Ok (n, rest) → FitsSigned w64 n
+unfolding integer_at
+integer_fits law bytes n rest e =
+    let a = bind_ok (mark_at 58 bytes) (λ number. number_at number >>= λ z. mark_at 59 z.1 >>= λ r. Ok (z.0, r)) (n, rest) e in
+    let b = bind_ok (number_at a.0) (λ z. mark_at 59 z.1 >>= λ r. Ok (z.0, r)) (n, rest) a.2 in
+    let d = bind_ok (mark_at 59 b.0.1) (λ r. Ok (b.0.0, r)) (n, rest) b.2 in
+    let s = ok_is (b.0.0, d.0) (n, rest) d.2 in
+    subst (λ (p : ℤ × List ℕ). FitsSigned w64 p.0) s (number_fits law a.0 b.0.0 b.0.1 b.1)
+
+natural_fits : (z : ℤ) (n : ℕ) → as_natural z ≡ Some n → n < 2 ^ 32
+natural_fits (pos m) n e = let i = if_some (ltb m (2 ^ 32)) m n e in subst (λ (k : ℕ). k < 2 ^ 32) i.1 (ltb-true m (2 ^ 32) i.0)
+natural_fits (negsuc m) n e = absurd cc
+
+sized_short : (law : Written) (bytes text rest : List ℕ) → sized_at bytes ≡ Ok (text, rest) → length text < 2 ^ 32
+unfolding sized_at
+sized_short law bytes text rest e =
+    let a = bind_ok (mark_at 58 bytes) (λ number. natural_at number >>= λ n. mark_at 58 n.1 >>= λ opening. mark_at 34 opening >>= λ inner. quoted_at n.0 number inner) (text, rest) e in
+    let b = bind_ok (natural_at a.0) (λ n. mark_at 58 n.1 >>= λ opening. mark_at 34 opening >>= λ inner. quoted_at n.0 a.0 inner) (text, rest) a.2 in
+    let d = bind_ok (mark_at 58 b.0.1) (λ opening. mark_at 34 opening >>= λ inner. quoted_at b.0.0 a.0 inner) (text, rest) b.2 in
+    let f = bind_ok (mark_at 34 d.0) (λ inner. quoted_at b.0.0 a.0 inner) (text, rest) d.2 in
+    let q = quoted_takes b.0.0 a.0 f.0 text rest f.2 in
+    let t = as_takes law as_natural a.0 b.0.0 b.0.1 b.1 in
+    subst (λ (k : ℕ). k < 2 ^ 32) (sym q.len) (natural_fits t.number b.0.0 t.chosen)
+
+pub sized_fits : (law : Written) (bytes text rest : List ℕ) → sized_at bytes ≡ Ok (text, rest) → AreSomeBytes bytes → AreBytes text
+sized_fits law bytes text rest e fits =
+    let inside = subst AreSomeBytes (sized_takes law bytes text rest e) fits in
+    let opened = bytes_behind (decimal (length text)) (58 ∷ 34 ∷ (text ++ 34 ∷ rest)) inside.1 in
+    (sized_short law bytes text rest e, bytes_before text (34 ∷ rest) opened.1.1)
+
+pub string_fits : (law : Written) (bytes text rest : List ℕ) → string_at bytes ≡ Ok (text, rest) → AreSomeBytes bytes → AreBytes text
+unfolding string_at
+string_fits law bytes text rest e fits =
+    let a = bind_ok (sized_at bytes) (λ t. mark_at 59 t.1 >>= λ r. Ok (t.0, r)) (text, rest) e in
+    let b = bind_ok (mark_at 59 a.0.1) (λ r. Ok (a.0.0, r)) (text, rest) a.2 in
+    let s = ok_is (a.0.0, b.0) (text, rest) b.2 in
+    subst (λ (p : List ℕ × List ℕ). AreBytes p.0) s (sized_fits law bytes a.0.0 a.0.1 a.1 fits)

@@ -8,3 +8,4 @@ pub mod Top
 pub mod Again
 pub mod Spelled
 pub mod Bounds
+pub mod Graphs

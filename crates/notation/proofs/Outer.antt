@@ -1,5 +1,5 @@
 -- The steps of a reader that goes on inside open containers.
-use Rattle.std.proofs.Common.{◌≡◌, ℕ, zero, suc, ◌+◌, ◌-◌, ◌<◌, ◌≤◌, Bool, true, false, cond, List, [], ◌∷◌, length, drop, Option, Some, None, Result, Ok, Err, refl, sym, ap, subst, ◌∙◌, arith, length-drop, ◌++◌}
+use Rattle.std.proofs.Common.{◌≡◌, ℕ, zero, suc, ◌-◌, ◌<◌, Bool, true, false, cond, List, [], ◌∷◌, length, drop, Option, Some, None, Result, Ok, Err, refl, sym, ap, subst, ◌∙◌, arith, length-drop, ◌++◌}
 use Rattle.std.specs.Prelude.{reverse, unwrap_or}
 use Rattle.std.specs.Option.{option_to_list}
 use Rattle.std.proofs.lemmas.List.{reverse-append}
@@ -9,12 +9,12 @@ use Rattle.php_graph.specs.declared.item.Wants.TheVariants as wants
 use Rattle.php_graph.specs.declared.kind.Kind.{Kind}
 use Rattle.php_graph.specs.declared.key.Key.{Key}
 use Rattle.php_graph.specs.Graph.{levels, is_array_at}
-use Rattle.php_graph.specs.Building.{Draft, nothing_drafted, wants_of, wants_by, wants_inside, wants_at_top}
+use Rattle.php_graph.specs.Building.{Draft, nothing_drafted, wants_of, wants_by}
 use Rattle.notation.specs.declared.fault.Fault.{Fault}
 use Rattle.notation.specs.declared.fault.Stop.{Stop}
 use Rattle.notation.specs.declared.fault.Stop.TheVariants as stops
 use Rattle.notation.specs.Marks.{◌>>=◌, Fails}
-use Rattle.notation.specs.Reading.{Begun, begun_at, key_at, closed_at, members_at, rest_of_value, value_with, value_at}
+use Rattle.notation.specs.Reading.{begun_at, key_at, closed_at, members_at, value_at}
 use Rattle.notation.specs.Steps.{opened, IsValueStep, wants_key}
 use Rattle.notation.specs.Outer.{outer_at, due_at, HasCome, outer_stack}
 

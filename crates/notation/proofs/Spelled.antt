@@ -1,9 +1,9 @@
 -- What was written of a value is read again.
-use Rattle.std.proofs.Common.{◌≡◌, ℕ, zero, suc, ◌+◌, ◌-◌, ◌^◌, ◌<◌, ◌≤◌, Bool, true, false, cond, ◌&&◌, List, [], ◌∷◌, ◌++◌, length, map, drop, Option, Some, None, Result, Ok, Err, ℤ, FitsSigned, w64, refl, sym, ap, subst, ◌∙◌, append_assoc, arith, codes, add-zero, add-one, eqb, leb, ltb, get_or}
+use Rattle.std.proofs.Common.{◌≡◌, ℕ, zero, suc, ◌+◌, ◌^◌, ◌<◌, ◌≤◌, Bool, true, false, cond, ◌&&◌, List, [], ◌∷◌, ◌++◌, length, map, Option, Some, None, Result, Ok, Err, ℤ, FitsSigned, w64, refl, sym, ap, subst, ◌∙◌, append_assoc, arith, codes, add-zero, eqb, leb, ltb, get_or}
 use Rattle.std.specs.Option.{is_none, option_and_then}
 use Rattle.std.specs.Fmt.{decimal, signed_decimal}
 use Rattle.std.specs.List.{AllByRecursion, count_by, sum_by}
-use Rattle.std.proofs.lemmas.Bool.{leb-true, ltb-true, eqb-true}
+use Rattle.std.proofs.lemmas.Bool.{ltb-true, eqb-true}
 use Rattle.std.proofs.lemmas.List.Sums.{get_or-le-sum_by, sum_by-cons}
 use Rattle.std.proofs.lemmas.Option.{slice_get_within, slice_get-get_or}
 use Rattle.std.proofs.lemmas.List.{append-nil}
@@ -19,22 +19,22 @@ use Rattle.php_graph.specs.declared.item.Item.TheVariants as items
 use Rattle.php_graph.specs.declared.item.Wants.{Wants}
 use Rattle.php_graph.specs.declared.item.Wants.TheVariants as wants
 use Rattle.php_graph.specs.declared.item.BuildFault.{BuildFault}
-use Rattle.php_graph.specs.Graph.{kind_at, levels, is_back, values_in, most_values, child_end, ends_after, children_of, end_of, IsGraph, FitsKind, FitsKey}
-use Rattle.php_graph.specs.Building.{Draft, nothing_drafted, all_drafted, wants_of, item_fits, is_name, first_fault, room_fault, content_fault, fault_of, pushed, drafted, member_items, named, kind_items, child_items, items_of}
+use Rattle.php_graph.specs.Graph.{kind_at, levels, is_back, child_end, ends_after, children_of, end_of, IsGraph, FitsKind, FitsKey}
+use Rattle.php_graph.specs.Building.{Draft, nothing_drafted, all_drafted, wants_of, item_fits, first_fault, room_fault, content_fault, fault_of, pushed, drafted, member_items, named, kind_items, child_items, items_of}
 use Rattle.notation.specs.declared.fault.Fault.{Fault}
-use Rattle.notation.specs.Marks.{◌>>=◌, fail, mark_at, natural_at, number_as, as_truth, sized_at, string_at, integer_at, count_at}
-use Rattle.notation.specs.Notation.{integer_text, string_text, key_text, array_head, object_head, member_texts, kind_text, child_text, text_of, text_from}
+use Rattle.notation.specs.Marks.{◌>>=◌, mark_at, count_at}
+use Rattle.notation.specs.Notation.{integer_text, string_text, key_text, array_head, object_head, member_texts, kind_text, child_text, text_of}
 use Rattle.notation.specs.Parts.{members_of}
 use Rattle.notation.specs.Answer.{IsReading}
 use Rattle.notation.specs.Place.{Standing, left}
 use Rattle.std.specs.Prelude.{MatchResult}
 use Rattle.notation.specs.declared.fault.ReadFault.{ReadFault}
 use Rattle.notation.specs.declared.fault.ReadFault.TheVariants as faults
-use Rattle.notation.specs.Reading.{put_unless, put_at, Begun, null_at, truth_at, int_at, str_at, same_at, back_at, array_at, object_at, tagged_at, is_tag, if_room, begun_at, takes_integers, key_tagged_at, key_at, members_at, closed_at, rest_of_value, value_with, value_at, reading_of}
+use Rattle.notation.specs.Reading.{put_unless, put_at, Begun, null_at, truth_at, int_at, str_at, same_at, back_at, array_at, object_at, tagged_at, if_room, begun_at, takes_integers, key_tagged_at, key_at, members_at, closed_at, rest_of_value, value_with, value_at, reading_of}
 use Rattle.notation.proofs.Again.{ReadBack, natural_read, truth_read, sized_read, string_read, integer_read, count_read}
-use Rattle.notation.proofs.Takes.{item_text, int_text, str_text, same_text, back_text, array_text, object_text, truth_text}
-use Rattle.notation.proofs.Texts.{held_by, IsOwn, own_at, no_level, then_some, if_some, some_same, back_text as back_words}
-use Rattle.notation.proofs.Top.{own_unfold, named_len}
+use Rattle.notation.proofs.Takes.{int_text, str_text, same_text, back_text, array_text, object_text, truth_text}
+use Rattle.notation.proofs.Texts.{held_by, own_at, no_level, then_some, if_some, some_same, back_text as back_words}
+use Rattle.notation.proofs.Top.{named_len}
 use Rattle.notation.proofs.Whole.{After}
 use Rattle.notation.proofs.Fields.{ok_is}
 

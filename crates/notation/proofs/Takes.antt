@@ -1,32 +1,26 @@
 -- What is read of a value is its text.
-use Rattle.std.proofs.Common.{◌≡◌, ℕ, zero, suc, ◌+◌, ◌-◌, ◌<◌, ◌≤◌, Bool, true, false, cond, ◌&&◌, ◌||◌, eqb, List, [], ◌∷◌, ◌++◌, length, map, take, drop, Option, Some, None, Result, Ok, Err, refl, sym, ap, subst, ◌∙◌, append_assoc, arith, codes, inl, inr, add-one, add-zero, length-append}
-use Rattle.std.specs.Prelude.{slice_set}
+use Rattle.std.proofs.Common.{◌≡◌, ℕ, Bool, true, false, cond, ◌||◌, eqb, List, [], ◌∷◌, ◌++◌, length, Option, Some, None, Result, Ok, Err, refl, sym, ap, subst, ◌∙◌, append_assoc, codes}
 use Rattle.std.specs.Fmt.{decimal, signed_decimal}
 use Rattle.std.proofs.lemmas.Bool.{eqb-true}
-use Rattle.std.proofs.lemmas.List.{append-nil}
-use Rattle.php_graph.specs.declared.key.Key.{Key}
-use Rattle.php_graph.specs.declared.key.Key.TheVariants as keys
-use Rattle.php_graph.specs.declared.child.Child.{Child}
-use Rattle.php_graph.specs.declared.child.Child.TheVariants.{Own, Back}
-use Rattle.php_graph.specs.declared.kind.Kind.{Kind}
-use Rattle.php_graph.specs.declared.kind.Kind.TheVariants as kinds
 use Rattle.php_graph.specs.declared.item.Item.{Item}
 use Rattle.php_graph.specs.declared.item.Item.TheVariants as items
 use Rattle.php_graph.specs.declared.item.BuildFault.{BuildFault}
-use Rattle.php_graph.specs.Graph.{kind_at, levels, is_array, is_array_at, passes, child_end, ends_after, children_of, end_of, IsGraph}
-use Rattle.php_graph.specs.Building.{Draft, nothing_drafted, wants_of, room_fault, fault_of, pushed, with_member, with_value, attached, changed_at, is_name, named}
+use Rattle.php_graph.specs.Building.{Draft, FitsItem, room_fault, fault_of, pushed}
 use Rattle.notation.specs.declared.fault.Fault.{Fault}
-use Rattle.notation.specs.Marks.{◌>>=◌, fail, mark_at, natural_at, number_as, as_truth, sized_at, string_at, integer_at, count_at}
-use Rattle.notation.specs.Notation.{integer_text, string_text, key_text, array_head, object_head, member_texts, kind_text, child_text, text_of, text_from}
-use Rattle.notation.specs.Reading.{put_unless, put_at, Begun, null_at, truth_at, int_at, str_at, same_at, back_at, array_at, object_at, tagged_at, is_tag, if_room, begun_at, takes_integers, key_tagged_at, key_at, members_at, closed_at, rest_of_value, value_with, value_at, reading_of}
-use Rattle.notation.proofs.Fields.{Written, bind_ok, ok_is, if_ok, mark_takes, natural_takes, truth_takes, sized_takes, string_takes, integer_takes, count_takes}
-use Rattle.notation.proofs.Steps.{attached_len}
+use Rattle.notation.specs.Marks.{◌>>=◌, mark_at, natural_at, number_as, as_truth, sized_at, string_at, integer_at, count_at}
+use Rattle.notation.specs.Notation.{integer_text, string_text, array_head, object_head}
+use Rattle.notation.specs.Reading.{put_unless, put_at, Begun, null_at, truth_at, int_at, str_at, same_at, back_at, array_at, object_at, tagged_at, is_tag, if_room, begun_at}
+use Rattle.notation.proofs.Fields.{Written, AreSomeBytes, integer_fits, string_fits, sized_fits, bind_ok, ok_is, mark_takes, natural_takes, truth_takes, sized_takes, string_takes, integer_takes, count_takes}
 
 -- ---- items
 
 pub put_ok : (o : Option BuildFault) (d e : Draft) (at : List ℕ) → put_unless o d at ≡ Ok e → d ≡ e
 put_ok None d e at h = ok_is d e h
 put_ok (Some fault) d e at h = absurd cc
+
+pub put_sound : (o : Option BuildFault) (d e : Draft) (at : List ℕ) → put_unless o d at ≡ Ok e → o ≡ None
+put_sound None d e at h = refl
+put_sound (Some fault) d e at h = absurd cc
 
 -- the text that an item and the number of its members have
 abbrev pub item_text : Item → Option ℕ → List ℕ
@@ -58,6 +52,8 @@ pub record IsStart (d e : Draft) (count : Option ℕ) (bytes rest : List ℕ) : 
   pub item : Item
   pub counted : Counted item count
   pub put : e ≡ pushed d item
+  pub sound : fault_of d item ≡ None
+  pub fits : AreSomeBytes bytes → FitsItem item
   pub text : bytes ≡ item_text item count ++ rest
 
 -- what was begun: the draft, the number of members, and the rest
@@ -69,7 +65,7 @@ unfolding null_at
 null_takes d bytes y e =
     let a = bind_ok (mark_at 59 bytes) (λ rest. put_at d items.Null bytes >>= λ p. Ok (p, None, rest)) y e in
     let b = bind_ok (put_at d items.Null bytes) (λ p. Ok (p, None, a.0)) y a.2 in
-    let start : IsStart d b.0 None (78 ∷ bytes) a.0 = record { item = items.Null; counted = tt; put = sym (put_ok (fault_of d items.Null) (pushed d items.Null) b.0 bytes b.1); text = ap (λ (t : List ℕ). 78 ∷ t) (mark_takes 59 bytes a.0 a.1) } in
+    let start : IsStart d b.0 None (78 ∷ bytes) a.0 = record { item = items.Null; counted = tt; put = sym (put_ok (fault_of d items.Null) (pushed d items.Null) b.0 bytes b.1); sound = put_sound (fault_of d items.Null) (pushed d items.Null) b.0 bytes b.1; fits = λ _. tt; text = ap (λ (t : List ℕ). 78 ∷ t) (mark_takes 59 bytes a.0 a.1) } in
     begun_is (b.0, None, a.0) y d (78 ∷ bytes) start (ok_is (b.0, None, a.0) y b.2)
 
 pub truth_text : (b : Bool) (rest : List ℕ) → 98 ∷ 58 ∷ (cond b (49 ∷ []) (48 ∷ []) ++ 59 ∷ rest) ≡ cond b (codes "b:1;") (codes "b:0;") ++ rest
@@ -84,7 +80,7 @@ truth_value_takes law d bytes y e =
     let m = bind_ok (mark_at 59 b.0.1) (λ rest. put_at d (items.Bool b.0.0) bytes >>= λ p. Ok (p, None, rest)) y b.2 in
     let p = bind_ok (put_at d (items.Bool b.0.0) bytes) (λ p. Ok (p, None, m.0)) y m.2 in
     let parts : bytes ≡ 58 ∷ (cond b.0.0 (49 ∷ []) (48 ∷ []) ++ 59 ∷ m.0) = mark_takes 58 bytes a.0 a.1 ∙ ap (λ (t : List ℕ). 58 ∷ t) (truth_takes law a.0 b.0.0 b.0.1 b.1 ∙ ap (λ (t : List ℕ). cond b.0.0 (49 ∷ []) (48 ∷ []) ++ t) (mark_takes 59 b.0.1 m.0 m.1)) in
-    let start : IsStart d p.0 None (98 ∷ bytes) m.0 = record { item = items.Bool b.0.0; counted = tt; put = sym (put_ok (fault_of d (items.Bool b.0.0)) (pushed d (items.Bool b.0.0)) p.0 bytes p.1); text = ap (λ (t : List ℕ). 98 ∷ t) parts ∙ truth_text b.0.0 m.0 } in
+    let start : IsStart d p.0 None (98 ∷ bytes) m.0 = record { item = items.Bool b.0.0; counted = tt; put = sym (put_ok (fault_of d (items.Bool b.0.0)) (pushed d (items.Bool b.0.0)) p.0 bytes p.1); sound = put_sound (fault_of d (items.Bool b.0.0)) (pushed d (items.Bool b.0.0)) p.0 bytes p.1; fits = λ _. tt; text = ap (λ (t : List ℕ). 98 ∷ t) parts ∙ truth_text b.0.0 m.0 } in
     begun_is (p.0, None, m.0) y d (98 ∷ bytes) start (ok_is (p.0, None, m.0) y p.2)
 
 pub int_text : (n : _) (rest : List ℕ) → integer_text n ++ rest ≡ 105 ∷ 58 ∷ (signed_decimal n ++ 59 ∷ rest)
@@ -98,7 +94,7 @@ unfolding int_at
 int_takes law d bytes y e =
     let a = bind_ok (integer_at bytes) (λ n. put_at d (items.Int n.0) bytes >>= λ p. Ok (p, None, n.1)) y e in
     let p = bind_ok (put_at d (items.Int a.0.0) bytes) (λ p. Ok (p, None, a.0.1)) y a.2 in
-    let start : IsStart d p.0 None (105 ∷ bytes) a.0.1 = record { item = items.Int a.0.0; counted = tt; put = sym (put_ok (fault_of d (items.Int a.0.0)) (pushed d (items.Int a.0.0)) p.0 bytes p.1); text = ap (λ (t : List ℕ). 105 ∷ t) (integer_takes law bytes a.0.0 a.0.1 a.1) ∙ sym (int_text a.0.0 a.0.1) } in
+    let start : IsStart d p.0 None (105 ∷ bytes) a.0.1 = record { item = items.Int a.0.0; counted = tt; put = sym (put_ok (fault_of d (items.Int a.0.0)) (pushed d (items.Int a.0.0)) p.0 bytes p.1); sound = put_sound (fault_of d (items.Int a.0.0)) (pushed d (items.Int a.0.0)) p.0 bytes p.1; fits = λ _. integer_fits law bytes a.0.0 a.0.1 a.1; text = ap (λ (t : List ℕ). 105 ∷ t) (integer_takes law bytes a.0.0 a.0.1 a.1) ∙ sym (int_text a.0.0 a.0.1) } in
     begun_is (p.0, None, a.0.1) y d (105 ∷ bytes) start (ok_is (p.0, None, a.0.1) y p.2)
 
 str_takes : (law : Written) (d : Draft) (bytes : List ℕ) (y : Begun) → str_at d bytes ≡ Ok y → IsStart d y.0 y.1 (115 ∷ bytes) y.2
@@ -106,7 +102,7 @@ unfolding str_at
 str_takes law d bytes y e =
     let a = bind_ok (string_at bytes) (λ t. put_at d (items.Str t.0) bytes >>= λ p. Ok (p, None, t.1)) y e in
     let p = bind_ok (put_at d (items.Str a.0.0) bytes) (λ p. Ok (p, None, a.0.1)) y a.2 in
-    let start : IsStart d p.0 None (115 ∷ bytes) a.0.1 = record { item = items.Str a.0.0; counted = tt; put = sym (put_ok (fault_of d (items.Str a.0.0)) (pushed d (items.Str a.0.0)) p.0 bytes p.1); text = ap (λ (t : List ℕ). 115 ∷ t) (string_takes law bytes a.0.0 a.0.1 a.1) ∙ sym (str_text a.0.0 a.0.1) } in
+    let start : IsStart d p.0 None (115 ∷ bytes) a.0.1 = record { item = items.Str a.0.0; counted = tt; put = sym (put_ok (fault_of d (items.Str a.0.0)) (pushed d (items.Str a.0.0)) p.0 bytes p.1); sound = put_sound (fault_of d (items.Str a.0.0)) (pushed d (items.Str a.0.0)) p.0 bytes p.1; fits = λ f. string_fits law bytes a.0.0 a.0.1 a.1 f.1; text = ap (λ (t : List ℕ). 115 ∷ t) (string_takes law bytes a.0.0 a.0.1 a.1) ∙ sym (str_text a.0.0 a.0.1) } in
     begun_is (p.0, None, a.0.1) y d (115 ∷ bytes) start (ok_is (p.0, None, a.0.1) y p.2)
 
 pub same_text : (x : ℕ) (rest : List ℕ) → (codes "r:" ++ decimal x ++ codes ";") ++ rest ≡ 114 ∷ 58 ∷ (decimal x ++ 59 ∷ rest)
@@ -123,7 +119,7 @@ same_takes law d bytes y e =
     let m = bind_ok (mark_at 59 b.0.1) (λ rest. put_at d (items.Same b.0.0) a.0 >>= λ p. Ok (p, None, rest)) y b.2 in
     let p = bind_ok (put_at d (items.Same b.0.0) a.0) (λ p. Ok (p, None, m.0)) y m.2 in
     let parts : bytes ≡ 58 ∷ (decimal b.0.0 ++ 59 ∷ m.0) = mark_takes 58 bytes a.0 a.1 ∙ ap (λ (t : List ℕ). 58 ∷ t) (natural_takes law a.0 b.0.0 b.0.1 b.1 ∙ ap (λ (t : List ℕ). decimal b.0.0 ++ t) (mark_takes 59 b.0.1 m.0 m.1)) in
-    let start : IsStart d p.0 None (114 ∷ bytes) m.0 = record { item = items.Same b.0.0; counted = tt; put = sym (put_ok (fault_of d (items.Same b.0.0)) (pushed d (items.Same b.0.0)) p.0 a.0 p.1); text = ap (λ (t : List ℕ). 114 ∷ t) parts ∙ sym (same_text b.0.0 m.0) } in
+    let start : IsStart d p.0 None (114 ∷ bytes) m.0 = record { item = items.Same b.0.0; counted = tt; put = sym (put_ok (fault_of d (items.Same b.0.0)) (pushed d (items.Same b.0.0)) p.0 a.0 p.1); sound = put_sound (fault_of d (items.Same b.0.0)) (pushed d (items.Same b.0.0)) p.0 a.0 p.1; fits = λ _. tt; text = ap (λ (t : List ℕ). 114 ∷ t) parts ∙ sym (same_text b.0.0 m.0) } in
     begun_is (p.0, None, m.0) y d (114 ∷ bytes) start (ok_is (p.0, None, m.0) y p.2)
 
 back_takes : (law : Written) (d : Draft) (bytes : List ℕ) (y : Begun) → back_at d bytes ≡ Ok y → IsStart d y.0 y.1 (82 ∷ bytes) y.2
@@ -134,7 +130,7 @@ back_takes law d bytes y e =
     let m = bind_ok (mark_at 59 b.0.1) (λ rest. put_at d (items.Back b.0.0) a.0 >>= λ p. Ok (p, None, rest)) y b.2 in
     let p = bind_ok (put_at d (items.Back b.0.0) a.0) (λ p. Ok (p, None, m.0)) y m.2 in
     let parts : bytes ≡ 58 ∷ (decimal b.0.0 ++ 59 ∷ m.0) = mark_takes 58 bytes a.0 a.1 ∙ ap (λ (t : List ℕ). 58 ∷ t) (natural_takes law a.0 b.0.0 b.0.1 b.1 ∙ ap (λ (t : List ℕ). decimal b.0.0 ++ t) (mark_takes 59 b.0.1 m.0 m.1)) in
-    let start : IsStart d p.0 None (82 ∷ bytes) m.0 = record { item = items.Back b.0.0; counted = tt; put = sym (put_ok (fault_of d (items.Back b.0.0)) (pushed d (items.Back b.0.0)) p.0 a.0 p.1); text = ap (λ (t : List ℕ). 82 ∷ t) parts ∙ sym (back_text b.0.0 m.0) } in
+    let start : IsStart d p.0 None (82 ∷ bytes) m.0 = record { item = items.Back b.0.0; counted = tt; put = sym (put_ok (fault_of d (items.Back b.0.0)) (pushed d (items.Back b.0.0)) p.0 a.0 p.1); sound = put_sound (fault_of d (items.Back b.0.0)) (pushed d (items.Back b.0.0)) p.0 a.0 p.1; fits = λ _. tt; text = ap (λ (t : List ℕ). 82 ∷ t) parts ∙ sym (back_text b.0.0 m.0) } in
     begun_is (p.0, None, m.0) y d (82 ∷ bytes) start (ok_is (p.0, None, m.0) y p.2)
 
 pub array_text : (n : ℕ) (rest : List ℕ) → array_head n ++ rest ≡ 97 ∷ 58 ∷ (decimal n ++ 58 ∷ 123 ∷ rest)
@@ -148,7 +144,7 @@ unfolding array_at
 array_takes law d bytes y e =
     let a = bind_ok (count_at bytes) (λ n. put_at d items.OpenArray bytes >>= λ p. Ok (p, Some n.0, n.1)) y e in
     let p = bind_ok (put_at d items.OpenArray bytes) (λ p. Ok (p, Some a.0.0, a.0.1)) y a.2 in
-    let start : IsStart d p.0 (Some a.0.0) (97 ∷ bytes) a.0.1 = record { item = items.OpenArray; counted = tt; put = sym (put_ok (fault_of d items.OpenArray) (pushed d items.OpenArray) p.0 bytes p.1); text = ap (λ (t : List ℕ). 97 ∷ t) (count_takes law bytes a.0.0 a.0.1 a.1) ∙ sym (array_text a.0.0 a.0.1) } in
+    let start : IsStart d p.0 (Some a.0.0) (97 ∷ bytes) a.0.1 = record { item = items.OpenArray; counted = tt; put = sym (put_ok (fault_of d items.OpenArray) (pushed d items.OpenArray) p.0 bytes p.1); sound = put_sound (fault_of d items.OpenArray) (pushed d items.OpenArray) p.0 bytes p.1; fits = λ _. tt; text = ap (λ (t : List ℕ). 97 ∷ t) (count_takes law bytes a.0.0 a.0.1 a.1) ∙ sym (array_text a.0.0 a.0.1) } in
     begun_is (p.0, Some a.0.0, a.0.1) y d (97 ∷ bytes) start (ok_is (p.0, Some a.0.0, a.0.1) y p.2)
 
 object_takes : (law : Written) (d : Draft) (at bytes : List ℕ) (y : Begun) → object_at d at bytes ≡ Ok y → IsStart d y.0 y.1 (79 ∷ bytes) y.2
@@ -158,7 +154,7 @@ object_takes law d at bytes y e =
     let p = bind_ok (put_at d (items.OpenObject a.0.0) at) (λ p. count_at a.0.1 >>= λ n. Ok (p, Some n.0, n.1)) y a.2 in
     let n = bind_ok (count_at a.0.1) (λ n. Ok (p.0, Some n.0, n.1)) y p.2 in
     let parts : bytes ≡ 58 ∷ (decimal (length a.0.0) ++ 58 ∷ 34 ∷ (a.0.0 ++ 34 ∷ 58 ∷ (decimal n.0.0 ++ 58 ∷ 123 ∷ n.0.1))) = sized_takes law bytes a.0.0 a.0.1 a.1 ∙ ap (λ (t : List ℕ). 58 ∷ (decimal (length a.0.0) ++ 58 ∷ 34 ∷ (a.0.0 ++ 34 ∷ t))) (count_takes law a.0.1 n.0.0 n.0.1 n.1) in
-    let start : IsStart d p.0 (Some n.0.0) (79 ∷ bytes) n.0.1 = record { item = items.OpenObject a.0.0; counted = tt; put = sym (put_ok (fault_of d (items.OpenObject a.0.0)) (pushed d (items.OpenObject a.0.0)) p.0 at p.1); text = ap (λ (t : List ℕ). 79 ∷ t) parts ∙ sym (object_text a.0.0 n.0.0 n.0.1) } in
+    let start : IsStart d p.0 (Some n.0.0) (79 ∷ bytes) n.0.1 = record { item = items.OpenObject a.0.0; counted = tt; put = sym (put_ok (fault_of d (items.OpenObject a.0.0)) (pushed d (items.OpenObject a.0.0)) p.0 at p.1); sound = put_sound (fault_of d (items.OpenObject a.0.0)) (pushed d (items.OpenObject a.0.0)) p.0 at p.1; fits = λ f. sized_fits law bytes a.0.0 a.0.1 a.1 f.1; text = ap (λ (t : List ℕ). 79 ∷ t) parts ∙ sym (object_text a.0.0 n.0.0 n.0.1) } in
     begun_is (p.0, Some n.0.0, n.0.1) y d (79 ∷ bytes) start (ok_is (p.0, Some n.0.0, n.0.1) y n.2)
 
 -- by the letter

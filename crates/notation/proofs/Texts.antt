@@ -1,11 +1,10 @@
 -- The text of a value, taken apart as a writer meets it.
-use Rattle.std.proofs.Common.{◌≡◌, ℕ, zero, suc, ◌+◌, ◌-◌, ◌<◌, ◌≤◌, Bool, true, false, cond, eqb, List, [], ◌∷◌, ◌++◌, length, map, drop, get_or, Option, Some, None, inl, inr, add-one, refl, sym, ap, subst, ◌∙◌, append_assoc, arith, codes, length-append}
+use Rattle.std.proofs.Common.{◌≡◌, ℕ, zero, suc, ◌+◌, ◌-◌, ◌<◌, ◌≤◌, Bool, true, false, cond, eqb, List, [], ◌∷◌, ◌++◌, length, map, drop, Option, Some, None, refl, sym, ap, subst, ◌∙◌, append_assoc, arith, codes, length-append}
 use Rattle.std.specs.Prelude.{slice_get, reverse}
 use Rattle.std.specs.Option.{option_and_then}
 use Rattle.std.specs.Fmt.{decimal}
 use Rattle.std.proofs.lemmas.Bool.{eqb-true}
-use Rattle.std.proofs.lemmas.Option.{slice_get_within, slice_get_cases}
-use Rattle.std.proofs.Math.Seq.{drop-cons}
+use Rattle.std.proofs.lemmas.Option.{slice_get_within}
 use Rattle.std.specs.Prelude.{OnOk, Result, Ok, Err}
 use Rattle.std.proofs.lemmas.List.{append-nil, length-reverse, reverse-append}
 use Rattle.php_graph.specs.declared.key.Key.{Key}
@@ -16,10 +15,10 @@ use Rattle.php_graph.specs.declared.kind.Kind.{Kind}
 use Rattle.php_graph.specs.declared.kind.Kind.TheVariants as kinds
 use Rattle.php_graph.specs.Graph.{kind_at, child_end, ends_after, children_of, levels, end_of, IsGraph}
 use Rattle.php_graph.specs.Building.{named, is_container}
-use Rattle.notation.specs.Notation.{kind_text, key_text, member_texts, child_text, text_from}
+use Rattle.notation.specs.Notation.{kind_text, key_text, member_texts, child_text}
 use Rattle.notation.specs.Parts.{members_of, start_text, members_text, frame_text}
 use Rattle.notation.specs.Appending.{Extends, MemberStep}
-use Rattle.notation.specs.Writing.{pending, HasEnd, IsBegun, AreBegun, EndsSomewhere, IsChildBegun, IsStepMade}
+use Rattle.notation.specs.Writing.{pending, HasEnd, AreBegun, EndsSomewhere, IsChildBegun, IsStepMade}
 use Rattle.notation.specs.declared.writing.Frame.{Frame}
 
 -- ---- appending

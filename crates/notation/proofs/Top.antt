@@ -1,5 +1,5 @@
 -- What is read of a value at the top is its text.
-use Rattle.std.proofs.Common.{◌≡◌, ℕ, zero, suc, ◌+◌, ◌-◌, ◌<◌, ◌≤◌, Bool, true, false, cond, List, [], ◌∷◌, ◌++◌, length, map, drop, Option, Some, None, Result, Ok, Err, refl, sym, ap, subst, ◌∙◌, append_assoc, arith, codes, add-one, add-zero, length-append}
+use Rattle.std.proofs.Common.{◌≡◌, ℕ, zero, suc, ◌+◌, ◌<◌, ◌≤◌, Bool, true, false, cond, List, [], ◌∷◌, ◌++◌, length, map, drop, Option, Some, None, Result, Ok, refl, sym, ap, subst, ◌∙◌, append_assoc, arith, codes, add-one, add-zero, length-append}
 use Rattle.std.specs.Fmt.{decimal}
 use Rattle.std.proofs.lemmas.List.{append-nil, length-drop, drop_at, drop-drop}
 use Rattle.php_graph.specs.declared.key.Key.{Key}
@@ -9,19 +9,19 @@ use Rattle.php_graph.specs.declared.kind.Kind.{Kind}
 use Rattle.php_graph.specs.declared.kind.Kind.TheVariants as kinds
 use Rattle.php_graph.specs.declared.item.Item.{Item}
 use Rattle.php_graph.specs.declared.item.Item.TheVariants as items
-use Rattle.php_graph.specs.Graph.{kind_at, levels, is_array, child_end, ends_after, children_of, end_of, IsGraph}
+use Rattle.php_graph.specs.Graph.{kind_at, levels, is_array, child_end, ends_after, end_of, IsGraph}
 use Rattle.php_graph.specs.Building.{Draft, nothing_drafted, pushed, with_value, with_back, attached, next_place, is_container, named}
 use Rattle.notation.specs.declared.fault.Fault.{Fault}
 use Rattle.notation.specs.declared.fault.Reason.TheVariants.{Depth}
 use Rattle.notation.specs.Marks.{◌>>=◌, fail, mark_at}
-use Rattle.notation.specs.Notation.{key_text, array_head, object_head, member_texts, kind_text, child_text, text_of, text_from}
-use Rattle.notation.specs.Parts.{members_of, start_text, members_text}
-use Rattle.notation.specs.Reading.{Begun, begun_at, members_at, closed_at, rest_of_value, value_with, value_at, reading_of}
+use Rattle.notation.specs.Notation.{key_text, array_head, object_head, member_texts, kind_text, child_text, text_of}
+use Rattle.notation.specs.Parts.{members_of, start_text}
+use Rattle.notation.specs.Reading.{begun_at, members_at, closed_at, rest_of_value, value_with, value_at, reading_of}
 use Rattle.notation.proofs.Fields.{Written, bind_ok, ok_is, mark_takes}
 use Rattle.notation.proofs.Steps.{attached_len}
-use Rattle.notation.proofs.Takes.{item_text, Counted, IsStart, begun_takes}
-use Rattle.notation.proofs.Texts.{held_by, kind_split, IsOwn, own_at, no_level, then_some, back_text}
-use Rattle.notation.proofs.Whole.{After, Agrees, agrees_own, with_members, AllNames, array_grown, object_grown, IsValue, Reads, AreMembers, members_takes}
+use Rattle.notation.proofs.Takes.{item_text, Counted, begun_takes}
+use Rattle.notation.proofs.Texts.{held_by, kind_split, own_at, no_level, then_some, back_text}
+use Rattle.notation.proofs.Whole.{After, Agrees, agrees_own, with_members, AllNames, array_grown, object_grown, IsValue, Reads, members_takes}
 
 -- ---- one place
 

@@ -1,39 +1,34 @@
 -- What is read of a whole value is its text: inside containers, and at the top.
-use Rattle.std.proofs.Common.{◌≡◌, ℕ, zero, suc, ◌+◌, ◌-◌, ◌<◌, ◌≤◌, Bool, true, false, cond, ◌&&◌, eqb, List, [], ◌∷◌, ◌++◌, length, map, drop, Option, Some, None, Result, Ok, Err, refl, sym, ap, subst, ◌∙◌, append_assoc, arith, codes, add-one, add-zero, length-append}
+use Rattle.std.proofs.Common.{◌≡◌, ℕ, zero, suc, ◌+◌, ◌-◌, ◌<◌, Bool, true, false, cond, ◌&&◌, eqb, List, [], ◌∷◌, ◌++◌, length, map, Option, Some, None, Result, Ok, refl, sym, ap, subst, ◌∙◌, append_assoc, arith, length-append}
 use Rattle.std.specs.Prelude.{slice_set, slice_get}
-use Rattle.std.specs.Option.{option_and_then}
-use Rattle.std.specs.Fmt.{decimal}
 use Rattle.std.proofs.lemmas.Bool.{eqb-true}
 use Rattle.std.proofs.lemmas.List.{append-nil}
 use Rattle.php_graph.specs.declared.key.Key.{Key}
 use Rattle.php_graph.specs.declared.key.Key.TheVariants as keys
 use Rattle.php_graph.specs.declared.child.Child.{Child}
-use Rattle.php_graph.specs.declared.child.Child.TheVariants.{Own, Back}
+use Rattle.php_graph.specs.declared.child.Child.TheVariants.{Own}
 use Rattle.php_graph.specs.declared.kind.Kind.{Kind}
 use Rattle.php_graph.specs.declared.kind.Kind.TheVariants as kinds
-use Rattle.php_graph.specs.declared.item.Item.{Item}
 use Rattle.php_graph.specs.declared.item.Item.TheVariants as items
-use Rattle.php_graph.specs.declared.item.Wants.{Wants}
 use Rattle.php_graph.specs.declared.item.Wants.TheVariants as wants
-use Rattle.php_graph.specs.declared.item.BuildFault.{BuildFault}
-use Rattle.php_graph.specs.Graph.{kind_at, levels, is_array, is_array_at, passes, child_end, ends_after, children_of, end_of, IsGraph}
-use Rattle.php_graph.specs.Building.{Draft, nothing_drafted, wants_of, wants_by, wants_inside, fault_of, pushed, with_member, with_value, attached, changed_at, next_place, is_container, is_name, named}
+use Rattle.php_graph.specs.Graph.{kind_at, is_array, is_array_at, passes, FitsKey}
+use Rattle.php_graph.specs.Building.{Draft, wants_of, wants_by, fault_of, pushed, with_member, attached, changed_at, next_place, is_name, named}
 use Rattle.notation.specs.declared.fault.Fault.{Fault}
 use Rattle.notation.specs.declared.fault.Reason.TheVariants.{Tag}
-use Rattle.notation.specs.Marks.{◌>>=◌, fail, mark_at, string_at, integer_at}
-use Rattle.notation.specs.Notation.{integer_text, string_text, key_text, array_head, object_head, member_texts, kind_text, child_text, text_of, text_from}
-use Rattle.notation.specs.Parts.{members_of}
-use Rattle.notation.specs.Reading.{put_unless, put_at, Begun, begun_at, takes_integers, key_tagged_at, key_at, members_at, closed_at, rest_of_value, value_with, value_at, reading_of}
-use Rattle.notation.proofs.Fields.{Written, bind_ok, ok_is, mark_takes, string_takes, integer_takes}
+use Rattle.notation.specs.Marks.{◌>>=◌, fail, string_at, integer_at}
+use Rattle.notation.specs.Notation.{key_text, member_texts, child_text}
+use Rattle.notation.specs.Reading.{put_at, takes_integers, key_tagged_at, key_at, members_at}
+use Rattle.notation.proofs.Fields.{Written, AreSomeBytes, integer_fits, string_fits, bind_ok, ok_is, string_takes, integer_takes}
 use Rattle.notation.proofs.Steps.{attached_len}
-use Rattle.notation.proofs.Takes.{put_ok, item_text, Counted, IsStart, begun_takes, int_text, str_text}
-use Rattle.notation.proofs.Texts.{held_by}
+use Rattle.notation.proofs.Takes.{put_ok, put_sound, int_text, str_text}
 
 -- ---- keys
 
 pub record IsKeyed (d e : Draft) (integers : Bool) (bytes rest : List ℕ) : Type 0 where
   pub key : Key
   pub put : e ≡ pushed d (items.Key key)
+  pub sound : fault_of d (items.Key key) ≡ None
+  pub fits : AreSomeBytes bytes → FitsKey key
   pub text : bytes ≡ key_text key ++ rest
   pub named : integers ≡ false → is_name key ≡ true
 
@@ -42,18 +37,19 @@ Held = Key × List ℕ
 
 pub record IsKeyText (integers : Bool) (bytes : List ℕ) (key : Key) (rest : List ℕ) : Type 0 where
   pub text : bytes ≡ key_text key ++ rest
+  pub fits : AreSomeBytes bytes → FitsKey key
   pub named : integers ≡ false → is_name key ≡ true
 
 string_key : (law : Written) (integers : Bool) (rest : List ℕ) (y : Held) → (string_at rest >>= λ text. Ok (keys.Str text.0, text.1)) ≡ Ok y → IsKeyText integers (115 ∷ rest) y.0 y.1
 string_key law integers rest y e =
     let a = bind_ok (string_at rest) (λ text. Ok (keys.Str text.0, text.1)) y e in
-    let start : IsKeyText integers (115 ∷ rest) (keys.Str a.0.0) a.0.1 = record { text = ap (λ (t : List ℕ). 115 ∷ t) (string_takes law rest a.0.0 a.0.1 a.1) ∙ sym (str_text a.0.0 a.0.1); named = λ _. refl } in
+    let start : IsKeyText integers (115 ∷ rest) (keys.Str a.0.0) a.0.1 = record { text = ap (λ (t : List ℕ). 115 ∷ t) (string_takes law rest a.0.0 a.0.1 a.1) ∙ sym (str_text a.0.0 a.0.1); fits = λ f. string_fits law rest a.0.0 a.0.1 a.1 f.1; named = λ _. refl } in
     subst (λ (z : Held). IsKeyText integers (115 ∷ rest) z.0 z.1) (ok_is (keys.Str a.0.0, a.0.1) y a.2) start
 
 integer_key : (law : Written) (rest : List ℕ) (y : Held) → (integer_at rest >>= λ n. Ok (keys.Int n.0, n.1)) ≡ Ok y → IsKeyText true (105 ∷ rest) y.0 y.1
 integer_key law rest y e =
     let a = bind_ok (integer_at rest) (λ n. Ok (keys.Int n.0, n.1)) y e in
-    let start : IsKeyText true (105 ∷ rest) (keys.Int a.0.0) a.0.1 = record { text = ap (λ (t : List ℕ). 105 ∷ t) (integer_takes law rest a.0.0 a.0.1 a.1) ∙ sym (int_text a.0.0 a.0.1); named = λ f. absurd cc } in
+    let start : IsKeyText true (105 ∷ rest) (keys.Int a.0.0) a.0.1 = record { text = ap (λ (t : List ℕ). 105 ∷ t) (integer_takes law rest a.0.0 a.0.1 a.1) ∙ sym (int_text a.0.0 a.0.1); fits = λ _. integer_fits law rest a.0.0 a.0.1 a.1; named = λ f. absurd cc } in
     subst (λ (z : Held). IsKeyText true (105 ∷ rest) z.0 z.1) (ok_is (keys.Int a.0.0, a.0.1) y a.2) start
 
 by_letter : (law : Written) (integers : Bool) (tag : ℕ) (rest : List ℕ) (y : Held) (s i : Bool) → eqb tag 115 ≡ s → eqb tag 105 ≡ i
@@ -78,7 +74,7 @@ key_takes law d (tag ∷ rest) y e =
     let a = bind_ok (key_tagged_at integers tag rest) (λ key. put_at d (items.Key key.0) (tag ∷ rest) >>= λ p. Ok (p, key.1)) y e in
     let p = bind_ok (put_at d (items.Key a.0.0) (tag ∷ rest)) (λ p. Ok (p, a.0.1)) y a.2 in
     let t = key_tagged_takes law integers tag rest a.0 a.1 in
-    let start : IsKeyed d p.0 integers (tag ∷ rest) a.0.1 = record { key = a.0.0; put = sym (put_ok (fault_of d (items.Key a.0.0)) (pushed d (items.Key a.0.0)) p.0 (tag ∷ rest) p.1); text = t.text; named = t.named } in
+    let start : IsKeyed d p.0 integers (tag ∷ rest) a.0.1 = record { key = a.0.0; put = sym (put_ok (fault_of d (items.Key a.0.0)) (pushed d (items.Key a.0.0)) p.0 (tag ∷ rest) p.1); sound = put_sound (fault_of d (items.Key a.0.0)) (pushed d (items.Key a.0.0)) p.0 (tag ∷ rest) p.1; fits = t.fits; text = t.text; named = t.named } in
     subst (λ (z : After). IsKeyed d z.0 integers (tag ∷ rest) z.1) (ok_is (p.0, a.0.1) y p.2) start
 
 -- ---- places

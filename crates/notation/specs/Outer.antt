@@ -1,5 +1,5 @@
 -- Reading on inside containers that are open.
-use Rattle.std.specs.Prelude.{◌≡◌, ℕ, zero, suc, ◌+◌, ◌-◌, ◌≤◌, ◌<◌, List, [], ◌∷◌, length, Option, Some, None, Result, Ok, Err, reverse}
+use Rattle.std.specs.Prelude.{◌≡◌, ℕ, suc, ◌-◌, ◌≤◌, ◌<◌, List, [], ◌∷◌, length, Option, Some, None, Result, Ok}
 use Rattle.php_graph.specs.declared.item.Wants.{Wants}
 use Rattle.php_graph.specs.declared.item.Wants.TheVariants as wants
 use Rattle.php_graph.specs.Graph.{levels}

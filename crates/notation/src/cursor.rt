@@ -1,4 +1,4 @@
-ghost use Rattle.std.specs.Prelude.{◌≡◌, ℕ, ◌+◌, ◌-◌, ◌<◌, ◌≤◌, length, List, take, drop, slice_get, IsSome};
+ghost use Rattle.std.specs.Prelude.{◌≡◌, ℕ, ◌+◌, ◌<◌, ◌≤◌, length, List, take, drop, slice_get, IsSome};
 ghost use Rattle.notation.specs.Place.{Standing, left};
 
 use std::marker::Model;
@@ -72,8 +72,9 @@ impl<'a> Cursor<'a> {
 
     // The place from which so many bytes are left.
     pub(crate) fn place_before(&self, count: usize) -> u64
-        ensures { result ≡ length self.now.bytes - count }
+        requires { count ≤ length self.now.bytes }
+        ensures { result + count ≡ length self.now.bytes }
     {
-        self.bytes.len().saturating_sub(count) as u64
+        (self.bytes.len() - count) as u64
     }
 }

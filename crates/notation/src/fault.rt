@@ -63,7 +63,8 @@ pub enum Reason {
 /// Why no value was read.
 #[derive(Debug, Drop, Error)]
 pub enum ReadFault {
-    /// No text of a value starts there: the first fault, and the place of its byte among all bytes, from 0.
+    /// No text of a value starts there: the first fault, and the place of its byte among all
+    /// bytes, from 0.
     #[error("byte {place}: {reason}")]
     Bad { place: u64, reason: Reason },
     /// There was no memory for the value.

@@ -9,7 +9,7 @@ ghost use Rattle.notation.specs.Reading.{reason_of, put_at, null_at, truth_at, i
 ghost use Rattle.notation.specs.Steps.{opens, opened, IsValueStep, wants_key};
 
 use crate::fault::{Reason, Stop};
-use crate::marks::{count, integer, mark, natural, sized, stop, string, truth};
+use crate::tokens::{count, integer, mark, natural, sized, stop, string, truth};
 use php_graph::{BuildFault, Builder, Bytes, Item, Key, Wants};
 use std::alloc::Global;
 
@@ -31,7 +31,8 @@ fn reason(fault: BuildFault) -> Reason
 fn put(builder: &mut Builder, item: Item, at: &[u8]) -> Result<(), Stop>
     requires { IsTrue (item_fits (wants_of builder.old) item) }
     ensures read { Gives (λ u. builder.new) result (put_at builder.old item at.now) }
-    ensures value { OnOk result (is_value item ≡ true → IsValueStep builder.old builder.new (opens item)) }
+    ensures value { OnOk result (is_value item ≡ true
+        → IsValueStep builder.old builder.new (opens item)) }
 {
     match builder.push(item) {
         Ok(()) => Ok(()),
@@ -55,7 +56,8 @@ fn null<'a>(builder: &mut Builder, bytes: &'a [u8]) -> Result<(Option<u32>, &'a 
 #[tactic(auto, unfolding(crate::specs::Reading::truth_at))]
 fn truth_value<'a>(builder: &mut Builder, bytes: &'a [u8]) -> Result<(Option<u32>, &'a [u8]), Stop>
     requires { wants_of builder.old ≡ Value }
-    ensures read { Gives (λ x. (builder.new, x.0, x.1.now)) result (truth_at builder.old bytes.now) }
+    ensures read { Gives (λ x. (builder.new, x.0, x.1.now)) result
+        (truth_at builder.old bytes.now) }
     ensures step { IfOk result (λ x. IsValueStep builder.old builder.new (opened x.0)) }
     ensures less { IfOk result (λ x. length x.1.now < length bytes.now) }
 {
@@ -126,7 +128,8 @@ fn back<'a>(builder: &mut Builder, bytes: &'a [u8]) -> Result<(Option<u32>, &'a 
 #[tactic(auto, unfolding(crate::specs::Reading::array_at))]
 fn array<'a>(builder: &mut Builder, bytes: &'a [u8]) -> Result<(Option<u32>, &'a [u8]), Stop>
     requires { wants_of builder.old ≡ Value }
-    ensures read { Gives (λ x. (builder.new, x.0, x.1.now)) result (array_at builder.old bytes.now) }
+    ensures read { Gives (λ x. (builder.new, x.0, x.1.now)) result
+        (array_at builder.old bytes.now) }
     ensures step { IfOk result (λ x. IsValueStep builder.old builder.new (opened x.0)) }
     ensures less { IfOk result (λ x. length x.1.now < length bytes.now) }
 {
@@ -143,7 +146,8 @@ fn object<'a>(
     bytes: &'a [u8],
 ) -> Result<(Option<u32>, &'a [u8]), Stop>
     requires { wants_of builder.old ≡ Value }
-    ensures read { Gives (λ x. (builder.new, x.0, x.1.now)) result (object_at builder.old at.now bytes.now) }
+    ensures read { Gives (λ x. (builder.new, x.0, x.1.now)) result
+        (object_at builder.old at.now bytes.now) }
     ensures step { IfOk result (λ x. IsValueStep builder.old builder.new (opened x.0)) }
     ensures less { IfOk result (λ x. length x.1.now < length bytes.now) }
 {
@@ -165,7 +169,8 @@ fn tagged<'a>(
     requires wants { wants_of builder.old ≡ Value }
     requires tagged { is_tag tag ≡ true }
     requires split { bytes.now ≡ tag ∷ rest.now }
-    ensures read { Gives (λ x. (builder.new, x.0, x.1.now)) result (tagged_at builder.old tag rest.now) }
+    ensures read { Gives (λ x. (builder.new, x.0, x.1.now)) result
+        (tagged_at builder.old tag rest.now) }
     ensures step { IfOk result (λ x. IsValueStep builder.old builder.new (opened x.0)) }
     ensures less { IfOk result (λ x. length x.1.now < length bytes.now) }
 {
@@ -197,7 +202,8 @@ pub(crate) fn begun<'a>(
     bytes: &'a [u8],
 ) -> Result<(Option<u32>, &'a [u8]), Stop>
     requires { wants_of builder.old ≡ Value }
-    ensures read { Gives (λ x. (builder.new, x.0, x.1.now)) result (begun_at builder.old bytes.now) }
+    ensures read { Gives (λ x. (builder.new, x.0, x.1.now)) result
+        (begun_at builder.old bytes.now) }
     ensures step { IfOk result (λ x. IsValueStep builder.old builder.new (opened x.0)) }
     ensures room { IfOk result (λ x. length builder.old.containers < levels) }
     ensures less { IfOk result (λ x. length x.1.now < length bytes.now) }
@@ -225,7 +231,8 @@ pub(crate) fn key<'a>(
 ) -> Result<&'a [u8], Stop>
     requires { wants_key (wants_of builder.old) ≡ true }
     ensures read { Gives (λ rest. (builder.new, rest.now)) result (key_at builder.old bytes.now) }
-    ensures waits { OnOk result ((builder.new.containers ≡ builder.old.containers) × (builder.new.places ≡ builder.old.places) × IsSome builder.new.key) }
+    ensures waits { OnOk result ((builder.new.containers ≡ builder.old.containers)
+        × (builder.new.places ≡ builder.old.places) × IsSome builder.new.key) }
     ensures less { IfOk result (λ rest. length rest.now < length bytes.now) }
 {
     match bytes {
@@ -243,7 +250,8 @@ fn put_key(builder: &mut Builder, key: Key, at: &[u8]) -> Result<(), Stop>
     requires wants { wants_key (wants_of builder.old) ≡ true }
     requires named { takes_integers (wants_of builder.old) ≡ false → is_name key ≡ true }
     ensures read { Gives (λ u. builder.new) result (put_at builder.old (Item.Key key) at.now) }
-    ensures waits { OnOk result ((builder.new.containers ≡ builder.old.containers) × (builder.new.places ≡ builder.old.places) × IsSome builder.new.key) }
+    ensures waits { OnOk result ((builder.new.containers ≡ builder.old.containers)
+        × (builder.new.places ≡ builder.old.places) × IsSome builder.new.key) }
 {
     match builder.push(Item::Key(key)) {
         Ok(()) => Ok(()),
@@ -282,8 +290,10 @@ fn key_tagged<'a>(
 #[tactic(auto, unfolding(crate::specs::Reading::closed_at))]
 pub(crate) fn close<'a>(builder: &mut Builder, bytes: &'a [u8]) -> Result<&'a [u8], Stop>
     requires { wants_key (wants_of builder.old) ≡ true }
-    ensures read { Gives (λ rest. (builder.new, rest.now)) result (closed_at builder.old bytes.now) }
-    ensures closes { OnOk result ((builder.new.containers ≡ drop 1 builder.old.containers) × (builder.new.places ≡ builder.old.places) × (builder.new.key ≡ None)) }
+    ensures read { Gives (λ rest. (builder.new, rest.now)) result
+        (closed_at builder.old bytes.now) }
+    ensures closes { OnOk result ((builder.new.containers ≡ drop 1 builder.old.containers)
+        × (builder.new.places ≡ builder.old.places) × (builder.new.key ≡ None)) }
     ensures less { IfOk result (λ rest. length rest.now < length bytes.now) }
 {
     let rest = mark(b'}', bytes)?;

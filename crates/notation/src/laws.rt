@@ -1,27 +1,35 @@
 //! Laws of texts of values.
 
-ghost use Rattle.std.specs.Prelude.{◌≡◌, ◌++◌, ℕ, List, Ok};
+ghost use Rattle.std.specs.Prelude.{◌≡◌, ◌++◌, ◌<◌, ℕ, List, Ok};
+ghost use Rattle.std.specs.List.{AllByRecursion};
 ghost use Rattle.php_graph.specs.declared.kind.Kind.{Kind};
 ghost use Rattle.php_graph.specs.Graph.{IsGraph};
 ghost use Rattle.notation.specs.Notation.{text_of};
 ghost use Rattle.notation.specs.Reading.{reading_of};
 
-use php_graph::{graphs_are_written, integer_texts};
+use php_graph::{graphs_are_written, integer_texts, written_graphs};
 
-/// What reading gives is what is spelled: the text of a value that was read stands in front of what was left, and
-/// the text of a value is read, whatever follows it.
+/// What reading gives is what is spelled: the text of a value that was read stands in front of
+/// what was left, and the text of a value is read, whatever follows it. What is read of bytes is
+/// a value.
 pub fn readings_are_spellings()
-    ensures takes { (bytes : List ℕ) (g : List Kind) (rest : List ℕ) → IsGraph g → reading_of bytes ≡ Ok (g, rest) → bytes ≡ text_of g ++ rest }
-    ensures again { (g : List Kind) (rest : List ℕ) → IsGraph g → reading_of (text_of g ++ rest) ≡ Ok (g, rest) }
+    ensures takes { (bytes : List ℕ) (g : List Kind) (rest : List ℕ) → IsGraph g
+        → reading_of bytes ≡ Ok (g, rest) → bytes ≡ text_of g ++ rest }
+    ensures again { (g : List Kind) (rest : List ℕ) → IsGraph g → reading_of (text_of g ++ rest)
+        ≡ Ok (g, rest) }
+    ensures graph { (bytes : List ℕ) (g : List Kind) (rest : List ℕ)
+        → AllByRecursion (λ b. b < 256) bytes → reading_of bytes ≡ Ok (g, rest) → IsGraph g }
 {
     integer_texts();
     graphs_are_written();
+    written_graphs();
 }
 
-/// No text of a value is the front of another: two texts that go on to the same bytes are of one value, and
-/// the same bytes follow them.
+/// No text of a value is the front of another: two texts that go on to the same bytes are of one
+/// value, and the same bytes follow them.
 pub fn texts_tell_values_apart()
-    ensures { (g h : List Kind) (x y : List ℕ) → IsGraph g → IsGraph h → text_of g ++ x ≡ text_of h ++ y → (g ≡ h) × (x ≡ y) }
+    ensures { (g h : List Kind) (x y : List ℕ) → IsGraph g → IsGraph h → text_of g ++ x ≡ text_of h
+        ++ y → (g ≡ h) × (x ≡ y) }
 {
     integer_texts();
     graphs_are_written();

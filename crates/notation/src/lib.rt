@@ -6,17 +6,17 @@ mod cursor;
 mod fault;
 mod items;
 mod laws;
-mod marks;
+mod pieces;
 mod reading;
-mod words;
+mod tokens;
 mod writing;
 
 pub use byte_out::ByteOut;
 pub use cursor::Cursor;
 pub use fault::{Fault, ReadFault, Reason};
 pub use laws::{readings_are_spellings, texts_tell_values_apart};
+pub use pieces::write_key;
 pub use reading::read_value;
-pub use words::write_key;
 pub use writing::write_value;
 
 #[cfg(test)]

@@ -8,7 +8,7 @@ ghost use Rattle.notation.specs.Notation.{text_of};
 ghost use Rattle.notation.specs.Place.{left};
 ghost use Rattle.notation.specs.Marks.{Gives};
 ghost use Rattle.notation.specs.Reading.{reading_of, value_at};
-ghost use Rattle.notation.specs.Answer.{IsReading};
+ghost use Rattle.notation.specs.Answer.{IsReading, IsPassedOver};
 ghost use Rattle.notation.specs.Outer.{outer_stack};
 
 use crate::cursor::Cursor;
@@ -17,19 +17,21 @@ use crate::items::{begun, close, key};
 use php_graph::{Builder, Graph, Wants, graphs_are_written, integer_texts};
 use std::alloc::{AllocError, Global};
 
-/// Reads the value whose text starts at the cursor, and goes on to what follows it. The notation is that of
-/// PHP's `serialize` and `unserialize`: `R:k;` takes no number, and shares the value that took the number k;
-/// `r:k;` takes a number of its own, and names the object that took the number k. Where no text of a value
-/// starts there, the answer is the first fault from the left, with the place of its byte. Memory is taken only
-/// for bytes that are there. After a fault the cursor stands where it stood.
+/// Reads the value whose text starts at the cursor, and goes on to what follows it. The notation
+/// is that of PHP's `serialize` and `unserialize`: `R:k;` takes no number, and shares the value
+/// that took the number k; `r:k;` takes a number of its own, and names the object that took the
+/// number k. Where no text of a value starts there, the answer is the first fault from the left,
+/// with the place of its byte. Memory is taken only for bytes that are there. After a fault the
+/// cursor stands where it stood.
 pub fn read_value(alloc: Global, from: &mut Cursor) -> Result<Graph, ReadFault>
     // It is what reading from left to right gives: the value, or the first fault.
     ensures read { IsReading from.old from.new result }
     // What is read is spelled there, and the cursor stands after it.
-    ensures found { IfOk result (λ g. IsGraph g × (left from.old ≡ text_of g ++ left from.new)) }
+    ensures found { IfOk result (λ g. IsPassedOver from.old from.new g) }
     ensures place { IfOk result (λ g. from.new.place ≡ from.old.place + length (text_of g)) }
     // What is spelled there is read, unless memory runs out.
-    ensures only { (g : List Kind) (rest : List ℕ) → IsGraph g → left from.old ≡ text_of g ++ rest → MatchResult result (λ h. (h ≡ g) × (left from.new ≡ rest)) (λ e. e ≡ ReadFault.Memory) }
+    ensures only { (g : List Kind) (rest : List ℕ) → IsGraph g → left from.old ≡ text_of g ++ rest
+        → MatchResult result (λ h. (h ≡ g) × (left from.new ≡ rest)) (λ e. e ≡ ReadFault.Memory) }
     ensures bytes { from.new.bytes ≡ from.old.bytes }
     ensures fault { OnErr result (from.new ≡ from.old) }
 {
@@ -49,8 +51,8 @@ pub fn read_value(alloc: Global, from: &mut Cursor) -> Result<Graph, ReadFault>
     }
 }
 
-// A whole value. The open containers are kept here, each with the number of members that are to come in the one
-// around it; those of the innermost are in `members`.
+// A whole value. The open containers are kept here, each with the number of members that are to
+// come in the one around it; those of the innermost are in `members`.
 #[tactic(auto, unfolding(crate::specs::Reading::reading_of))]
 fn whole(alloc: Global, bytes: &[u8]) -> Result<(Graph, &[u8]), Stop>
     ensures read { Gives (λ x. (x.0, x.1.now)) result (reading_of bytes.now) }
@@ -83,7 +85,8 @@ fn whole(alloc: Global, bytes: &[u8]) -> Result<(Graph, &[u8]), Stop>
 
 // Opens a container if there is one, and answers how many members are to come in the innermost.
 fn enter(outer: &mut Vec<u32>, members: u32, count: Option<u32>) -> Result<u32, AllocError>
-    ensures { IfOk result (λ n. outer_stack count members (reverse outer.old.items) n (reverse outer.new.items)) }
+    ensures { IfOk result (λ n. outer_stack count members (reverse outer.old.items) n
+        (reverse outer.new.items)) }
 {
     match count {
         Some(n) => {

@@ -7,12 +7,12 @@ ghost use Rattle.notation.specs.Appending.{Extends};
 ghost use Rattle.notation.specs.Writing.{AreBegun, EndsSomewhere, IsChildBegun, IsStepMade};
 
 use crate::byte_out::ByteOut;
-use crate::words::{put_key_of, put_number, put_start};
+use crate::pieces::{put_key_of, put_number, put_start};
 use php_graph::{Child, Graph};
 use std::alloc::AllocError;
 
-/// Appends the value's text, with `base` added to each number in `R:` and `r:`. With the base 0 this is the
-/// text of the value by itself. Without memory `out` stays as it was.
+/// Appends the value's text, with `base` added to each number in `R:` and `r:`. With the base 0
+/// this is the text of the value by itself. Without memory `out` stays as it was.
 pub fn write_value(g: &Graph, base: u64, out: &mut ByteOut) -> Result<(), AllocError>
     requires { base < 2 ^ 56 }
     ensures ok { OnOk result (out.new ≡ out.old ++ text_from base g.now) }
@@ -59,7 +59,8 @@ fn step(
 ) -> Result<(), AllocError>
     requires base { base < 2 ^ 56 }
     requires begun { AreBegun g.now (frame ∷ reverse frames.old.items) }
-    ensures ok { OnOk result (IsStepMade base g.now (frame ∷ reverse frames.old.items) (reverse frames.new.items) out.old out.new) }
+    ensures ok { OnOk result (IsStepMade base g.now (frame
+        ∷ reverse frames.old.items) (reverse frames.new.items) out.old out.new) }
     ensures err { OnErr result (Extends out.old out.new) }
 {
     match put_key_of(g.kind(frame.place), frame.next, out)? {
@@ -84,7 +85,8 @@ fn put_child(
 ) -> Result<(), AllocError>
     requires base { base < 2 ^ 56 }
     requires ends { EndsSomewhere (levels - length frames.old.items) g.now child }
-    ensures ok { OnOk result (IsChildBegun base g.now child (reverse frames.old.items) (reverse frames.new.items) out.old out.new) }
+    ensures ok { OnOk result (IsChildBegun base g.now child (reverse frames.old.items)
+        (reverse frames.new.items) out.old out.new) }
     ensures err { OnErr result (Extends out.old out.new) }
 {
     match child {

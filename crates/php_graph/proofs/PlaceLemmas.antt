@@ -12,11 +12,11 @@ use Rattle.php_graph.specs.declared.kind.Kind.{Kind}
 use Rattle.php_graph.specs.declared.places.Place.{Place}
 use Rattle.php_graph.specs.Graph.{lowered_kind, lowered_places}
 use Rattle.php_graph.specs.Building.{with_member}
-use Rattle.php_graph.specs.Kept.{Layout, kinds_at, kinds_of, offsets_at, offsets_from}
+use Rattle.php_graph.specs.Kept.{PlaceList, kinds_at, kinds_of, offsets_at, offsets_from}
 use Rattle.php_graph.specs.Size.{cells_of, image_length}
 
 -- what stands at a place but the first
-pub other_kind : (l : Layout) (i : ℕ) (p : Place) → ¬ i ≡ 0 → i < length (kinds_of l) → p ≡ get_or l.others (i - 1) p → slice_get (kinds_of l) i ≡ Some p.kind
+pub other_kind : (l : PlaceList) (i : ℕ) (p : Place) → ¬ i ≡ 0 → i < length (kinds_of l) → p ≡ get_or l.others (i - 1) p → slice_get (kinds_of l) i ≡ Some p.kind
 other_kind l zero p pos high is = absurd (pos refl)
 other_kind l (suc i) p pos high is =
     let j : suc i - 1 ≡ i = omega arith in
@@ -25,13 +25,13 @@ other_kind l (suc i) p pos high is =
     slice_get-map (λ p. p.kind) l.others i ∙ ap (option_map (λ p. p.kind)) there
 
 -- another place but the first
-pub set_kind : (l : Layout) (i : ℕ) (q : Place) → ¬ i ≡ 0 → l.first ∷ kinds_at (set l.others (i - 1) q) ≡ slice_set (kinds_of l) i q.kind
+pub set_kind : (l : PlaceList) (i : ℕ) (q : Place) → ¬ i ≡ 0 → l.first ∷ kinds_at (set l.others (i - 1) q) ≡ slice_set (kinds_of l) i q.kind
 set_kind l zero q pos = absurd (pos refl)
 set_kind l (suc i) q pos =
     let j : suc i - 1 ≡ i = omega arith in
     ap (λ k. l.first ∷ kinds_at (set l.others k q)) j ∙ ap (λ ks. l.first ∷ ks) (map-set (λ p. p.kind) l.others i q)
 
-pub added : (l : Layout) (i : ℕ) (p q : Place) (key : Key) (child : Child) (r : Result (Unit {0}) Key) → ¬ i ≡ 0 → i < length (kinds_of l) → p ≡ get_or l.others (i - 1) p → OnOk r (q.kind ≡ with_member p.kind key child)
+pub added : (l : PlaceList) (i : ℕ) (p q : Place) (key : Key) (child : Child) (r : Result (Unit {0}) Key) → ¬ i ≡ 0 → i < length (kinds_of l) → p ≡ get_or l.others (i - 1) p → OnOk r (q.kind ≡ with_member p.kind key child)
     → OnOk r ((kind : Kind) → slice_get (kinds_of l) i ≡ Some kind → l.first ∷ kinds_at (set l.others (i - 1) q) ≡ slice_set (kinds_of l) i (with_member kind key child))
 added l i p q key child (Ok done) pos high is ok = λ kind e.
     let both : Some p.kind ≡ Some kind = sym (other_kind l i p pos high is) ∙ e in
@@ -71,7 +71,7 @@ laid (x ∷ xs) (suc i) w cells p m q high is was kind at size =
 
 -- ---- a part
 
-pub kinds_push : (a b : Layout) (p : Place) → b.first ≡ a.first → b.others ≡ a.others ++ p ∷ [] → kinds_of b ≡ kinds_of a ++ p.kind ∷ []
+pub kinds_push : (a b : PlaceList) (p : Place) → b.first ≡ a.first → b.others ≡ a.others ++ p ∷ [] → kinds_of b ≡ kinds_of a ++ p.kind ∷ []
 kinds_push a b p first others = ap₂ (λ (k : Kind) (ks : List Kind). k ∷ ks) first (ap kinds_at others ∙ map-append (λ (p : Place). p.kind) a.others (p ∷ []))
 
 drop_at : (k : Kind) (ks : List Kind) (n : ℕ) (x : Kind) → slice_get (k ∷ ks) n ≡ Some x → drop n (k ∷ ks) ≡ x ∷ drop n ks
@@ -79,7 +79,7 @@ drop_at k ks zero x e = let same : k ≡ x = cc in ap (λ (y : Kind). y ∷ ks) 
 drop_at k [] (suc n) x e = absurd cc
 drop_at k (y ∷ ys) (suc n) x e = drop_at y ys n x e
 
-pub part_list : (l : Layout) (from to : ℕ) (x : Kind) → from < to → slice_get (kinds_of l) from ≡ Some x → take (to - from) (drop from (kinds_of l)) ≡ x ∷ kinds_at (take ((to - 1) - from) (drop from l.others))
+pub part_list : (l : PlaceList) (from to : ℕ) (x : Kind) → from < to → slice_get (kinds_of l) from ≡ Some x → take (to - from) (drop from (kinds_of l)) ≡ x ∷ kinds_at (take ((to - 1) - from) (drop from l.others))
 part_list l from to x lt e =
     let count : to - from ≡ suc ((to - 1) - from) = omega arith in
     let rest : take ((to - 1) - from) (drop from (kinds_at l.others)) ≡ kinds_at (take ((to - 1) - from) (drop from l.others)) =

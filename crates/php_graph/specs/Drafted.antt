@@ -3,7 +3,7 @@ use Rattle.std.specs.Prelude.{◌≡◌, ◌⊎◌, ℕ, suc, ◌+◌, ◌-◌, 
 use Rattle.std.specs.List.{AllByRecursion}
 use Rattle.std.specs.Option.{option_to_list}
 use Rattle.php_graph.specs.Keys.{KnowsKeys}
-use Rattle.php_graph.specs.Kept.{Layout, kinds_of}
+use Rattle.php_graph.specs.Kept.{PlaceList, kinds_of}
 use Rattle.php_graph.specs.Counted.{children_in}
 use Rattle.php_graph.specs.declared.key.Key.{Key}
 use Rattle.php_graph.specs.declared.child.Child.{Child}
@@ -19,7 +19,7 @@ abbrev pub places_of : List Container → List ℕ
 places_of cs = map (λ c. c.place) (reverse cs)
 
 -- the places so far
-abbrev pub kinds_in : Option Layout → List Kind
+abbrev pub kinds_in : Option PlaceList → List Kind
 kinds_in None = []
 kinds_in (Some layout) = kinds_of layout
 

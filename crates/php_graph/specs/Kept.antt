@@ -21,14 +21,14 @@ abbrev pub offsets_at : List Place → List ℕ
 offsets_at places = map (λ p. p.at) places
 
 -- Places of which the first stands apart. It begins the image.
-pub record Layout : Type 0 where
+pub record PlaceList : Type 0 where
   pub first : Kind
   pub others : List Place
 
-abbrev pub kinds_of : Layout → List Kind
+abbrev pub kinds_of : PlaceList → List Kind
 kinds_of layout = layout.first ∷ kinds_at layout.others
 
-abbrev pub offsets_of : Layout → List ℕ
+abbrev pub offsets_of : PlaceList → List ℕ
 offsets_of layout = 0 ∷ offsets_at layout.others
 
 -- the places of a graph, with where each stands and the length of the image

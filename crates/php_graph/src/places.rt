@@ -33,9 +33,9 @@ pub(crate) struct Places {
 }
 
 impl Model for Places {
-    ghost use Rattle.php_graph.specs.Kept.{Layout};
+    ghost use Rattle.php_graph.specs.Kept.{PlaceList};
 
-    ghost Value = { Layout };
+    ghost Value = { PlaceList };
 
     ghost view = { λ a. record { first = a.first; others = a.others.items } };
 }

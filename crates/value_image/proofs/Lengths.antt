@@ -6,7 +6,8 @@ use Rattle.php_graph.specs.declared.key.Key.TheVariants as keys
 use Rattle.php_graph.specs.declared.child.Child.{Child}
 use Rattle.php_graph.specs.declared.kind.Kind.{Kind}
 use Rattle.php_graph.specs.declared.kind.Kind.TheVariants as kinds
-use Rattle.php_graph.specs.Size.{words_in, key_cells, cells_of}
+use Rattle.seg_words.specs.Layout.{words_in}
+use Rattle.php_graph.specs.Size.{key_cells, cells_of}
 use Rattle.value_image.specs.Image.{string_words, key_words, member_words, property_words, kind_words}
 use Rattle.value_image.proofs.Packing.{length-words_of}
 use Rattle.value_image.proofs.ItemRuns.{length-items}

@@ -15,7 +15,7 @@ use Rattle.byteorder.specs.Numbers.{length-bytes_low_first, little_from-take, li
 use Rattle.byteorder.proofs.Bytes.{little_from-zeros_after, pow256}
 use Rattle.byteorder.proofs.Slices.{write_step}
 use Rattle.php_graph.specs.ByteStrings.{AreBytes}
-use Rattle.php_graph.specs.Size.{words_in}
+use Rattle.seg_words.specs.Layout.{words_in}
 use Rattle.value_image.specs.Packed.{bytes_of, words_of, word_at}
 use Rattle.value_image.specs.Rows.{written}
 use Rattle.value_image.proofs.Runs.{written-append}

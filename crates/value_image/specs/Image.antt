@@ -1,5 +1,5 @@
--- The image of a value graph: 64-bit words, its places in the order of their numbers, one right after
--- the other. An offset counts words from the first one of the image.
+-- The image of a value graph: 64-bit words, its places in the order of their numbers, one right
+-- after the other. An offset counts words from the first one of the image.
 use Rattle.std.specs.Prelude.{◌≡◌, ℕ, ◌+◌, ◌*◌, if◌then◌else◌, List, [], ◌∷◌, ◌++◌, length, take, drop, Some}
 use Rattle.std.specs.List.{flat_map}
 use Rattle.std.specs.Int.{w64, cast_unsigned}
@@ -22,7 +22,8 @@ abbrev pub key_words : Key → List ℕ
 key_words (keys.Int n) = 2 ∷ cast_unsigned w64 n ∷ []
 key_words (keys.Str bytes) = string_words bytes
 
--- What a member holds: twice the offset of the place that it names, plus one where it shares that place.
+-- What a member holds: twice the offset of the place that it names, plus one where it shares that
+-- place.
 abbrev pub child_word : (ℕ → ℕ) → Child → ℕ
 child_word offset (Own x) = 2 * offset x
 child_word offset (Back x) = 2 * offset x + 1
@@ -35,15 +36,16 @@ member_words offset m = child_word offset m.1 ∷ key_words m.0
 abbrev pub property_words : (ℕ → ℕ) → List ℕ × Child → List ℕ
 property_words offset p = child_word offset p.1 ∷ string_words p.0
 
--- What stands at a place, where the places have these offsets. The first word is a tag: the kind's code
--- from 0 to 6, plus eight times a truth value, a length in bytes, or a number of members.
+-- What stands at a place, where the places have these offsets. The first word is a tag: the kind's
+-- code from 0 to 6, plus eight times a truth value, a length in bytes, or a number of members.
 abbrev pub kind_words : (ℕ → ℕ) → Kind → List ℕ
 kind_words offset kinds.Null = 0 ∷ []
 kind_words offset (kinds.Bool b) = (1 + 8 * (if b then 1 else 0)) ∷ []
 kind_words offset (kinds.Int n) = 2 ∷ cast_unsigned w64 n ∷ []
 kind_words offset (kinds.Str bytes) = string_words bytes
 kind_words offset (kinds.Array ms) = (4 + 8 * length ms) ∷ flat_map (member_words offset) ms
-kind_words offset (kinds.Object class ps) = (5 + 8 * length ps) ∷ string_words class ++ flat_map (property_words offset) ps
+kind_words offset (kinds.Object class ps) =
+    (5 + 8 * length ps) ∷ string_words class ++ flat_map (property_words offset) ps
 kind_words offset (kinds.Same x) = 6 ∷ offset x ∷ []
 
 -- the words of one place of the graph
@@ -54,9 +56,10 @@ place_words g kind = kind_words (offset_of g) kind
 unfoldable pub image_of : List Kind → List ℕ
 image_of g = flat_map (place_words g) g
 
--- The len words from place `at` on are the image of the graph: so many words it takes, and at each place's
--- offset stand that place's words.
+-- The len words from place `at` on are the image of the graph: so many words it takes, and at each
+-- place's offset stand that place's words.
 pub record IsImageOf (row : List ℕ) (at len : ℕ) (g : List Kind) : Type 0 where
   pub graph : IsGraph g
   pub length_is : len ≡ image_length g
-  pub places : (k : ℕ) (kind : Kind) → kind_at g k ≡ Some kind → take (cells_of kind) (drop (at + offset_of g k) row) ≡ place_words g kind
+  pub places : (k : ℕ) (kind : Kind) → kind_at g k ≡ Some kind
+      → take (cells_of kind) (drop (at + offset_of g k) row) ≡ place_words g kind

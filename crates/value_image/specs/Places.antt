@@ -16,7 +16,8 @@ IsPlaceOf n x = (1 ≤ x) × (x ≤ n)
 
 -- each member names one of n places
 abbrev pub AllNamePlaces : {A : Type 0} → ℕ → List (A × Child) → Type 0
-AllNamePlaces {A = A} n ms = (i : ℕ) (m : A × Child) → slice_get ms i ≡ Some m → IsPlaceOf n (number_of m.1)
+AllNamePlaces {A = A} n ms =
+    (i : ℕ) (m : A × Child) → slice_get ms i ≡ Some m → IsPlaceOf n (number_of m.1)
 
 -- each number in what stands at a place is one of n places
 abbrev pub NamesPlaces : ℕ → Kind → Type 0

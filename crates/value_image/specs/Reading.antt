@@ -1,5 +1,5 @@
--- What is read of an image before its places have numbers: where a graph has a place's number, there is an
--- offset.
+-- What is read of an image before its places have numbers: where a graph has a place's number,
+-- there is an offset.
 use Rattle.std.specs.Prelude.{◌≡◌, ℕ, ◌<◌, ◌≤◌, ◌^◌, List, ◌++◌, length, map, slice_index, slice_get, Some, FitsSigned}
 use Rattle.std.specs.List.{flat_map, AllByRecursion}
 use Rattle.std.specs.Int.{w64}
@@ -38,7 +38,8 @@ itself x = x
 
 -- the table has the number of each place at the place's offset
 abbrev pub IsTableOf : List ℕ → List Kind → Type 0
-IsTableOf table g = (k : ℕ) → 1 ≤ k → k ≤ length g → (offset_of g k < length table) × (slice_index table (offset_of g k) ≡ k)
+IsTableOf table g =
+    (k : ℕ) → 1 ≤ k → k ≤ length g → (offset_of g k < length table) × (slice_index table (offset_of g k) ≡ k)
 
 -- ---- what stands in a row
 

@@ -2,7 +2,7 @@
 
 ghost use Rattle.std.specs.Prelude.{◌≡◌, ◌+◌, ◌/◌, ◌%◌, ℕ, ◌≤◌, ◌<◌, length, take, drop};
 ghost use Rattle.seg_words.specs.Kept.{Kept, KeptBeside};
-ghost use Rattle.php_graph.specs.Size.{words_in};
+ghost use Rattle.seg_words.specs.Layout.{words_in};
 ghost use Rattle.seg_words.specs.Blocks.{IsTold};
 ghost use Rattle.value_image.specs.Packed.{words_of, bytes_of, word_at};
 ghost use Rattle.value_image.specs.Rows.{written, MayWrite};
@@ -10,9 +10,11 @@ ghost use Rattle.value_image.specs.Rows.{written, MayWrite};
 use byteorder::{ByteOrder, LittleEndian};
 use seg_words::{Segment, WordsIn};
 
-/// Writes the bytes from place `at` on, eight a word, the last word filled with zeros. It takes no memory.
+/// Writes the bytes from place `at` on, eight a word, the last word filled with zeros. It takes no
+/// memory.
 pub fn put_bytes<S: Segment>(seg: &mut S, at: u32, bytes: &[u8])
-    requires { MayWrite (S.words seg.old) (S.aside seg.old).windows at (words_in (length bytes.now)) }
+    requires { MayWrite (S.words seg.old) (S.aside seg.old).windows at
+        (words_in (length bytes.now)) }
     ensures words { S.words seg.new ≡ written (S.words seg.old) at (words_of bytes.now) }
     ensures beside { KeptBeside S.WordsIn seg.old seg.new }
 {
@@ -27,8 +29,8 @@ pub fn put_bytes<S: Segment>(seg: &mut S, at: u32, bytes: &[u8])
     }
 }
 
-/// The word of the bytes behind all whole words. Where there is a whole word, the last eight bytes are read at
-/// once and those before shifted out, which is quicker than to gather so few bytes.
+// The word of the bytes behind all whole words. Where there is a whole word, the last eight bytes
+// are read at once and those before shifted out, which is quicker than to gather so few bytes.
 fn last_word(bytes: &[u8]) -> u64
     requires { 0 < length bytes.now % 8 }
     ensures { result ≡ word_at bytes.now (length bytes.now / 8) }

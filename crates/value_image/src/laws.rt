@@ -3,7 +3,8 @@
 ghost use Rattle.std.specs.Prelude.{◌≡◌, ℕ, ◌+◌, ◌<◌, ◌≤◌, List, ◌++◌, length, take, drop, slice_index};
 ghost use Rattle.php_graph.specs.declared.kind.Kind.{Kind};
 ghost use Rattle.php_graph.specs.Graph.{IsGraph};
-ghost use Rattle.php_graph.specs.Size.{words_in, image_length};
+ghost use Rattle.seg_words.specs.Layout.{words_in};
+ghost use Rattle.php_graph.specs.Size.{image_length};
 ghost use Rattle.php_graph.specs.ByteStrings.{AreBytes};
 ghost use Rattle.seg_words.specs.Blocks.{MayStore};
 ghost use Rattle.value_image.specs.Packed.{bytes_of, words_of};
@@ -27,7 +28,8 @@ pub fn images_differ()
 
 /// A run that is written changes its own words and no others, and what may be stored stays so.
 pub fn runs_are_written()
-    ensures length { (row : List ℕ) (at : ℕ) (run : List ℕ) → length (written row at run) ≡ length row }
+    ensures length { (row : List ℕ) (at : ℕ) (run : List ℕ)
+        → length (written row at run) ≡ length row }
     ensures cut { (row : List ℕ) (at : ℕ) (run : List ℕ) → at + length run ≤ length row
         → written row at run ≡ take at row ++ (run ++ drop (length run) (drop at row)) }
     ensures there { (row : List ℕ) (at : ℕ) (run : List ℕ) → at + length run ≤ length row
@@ -45,14 +47,17 @@ pub fn runs_are_written()
 
 /// A run stands there word by word, and its parts stand one behind the other.
 pub fn runs_stand()
-    ensures words { (row : List ℕ) (at : ℕ) (run : List ℕ) (i : ℕ) → StandsAt row at run → i < length run
+    ensures words { (row : List ℕ) (at : ℕ) (run : List ℕ) (i : ℕ)
+        → StandsAt row at run → i < length run
         → slice_index row (at + i) ≡ slice_index run i }
-    ensures front { (row : List ℕ) (at : ℕ) (xs ys : List ℕ) → StandsAt row at (xs ++ ys) → StandsAt row at xs }
+    ensures front { (row : List ℕ) (at : ℕ) (xs ys : List ℕ)
+        → StandsAt row at (xs ++ ys) → StandsAt row at xs }
     ensures back { (row : List ℕ) (at : ℕ) (xs ys : List ℕ) → StandsAt row at (xs ++ ys)
         → StandsAt row (at + length xs) ys }
 {}
 
-/// Byte strings of one length have the same words only where they are the same, and come back from them.
+/// Byte strings of one length have the same words only where they are the same, and come back from
+/// them.
 pub fn bytes_are_packed()
     ensures length { (bytes : List ℕ) → length (words_of bytes) ≡ words_in (length bytes) }
     ensures apart { (x y : List ℕ) → AreBytes x → AreBytes y → length x ≡ length y

@@ -2,17 +2,14 @@
 #![tactic(auto)]
 
 mod bytes;
-mod items;
 mod laws;
-mod members;
 mod numbers;
 mod read;
+mod read_members;
 mod write;
+mod write_members;
 
 pub use bytes::{get_bytes, put_bytes};
 pub use laws::{bytes_are_packed, images_are_runs, images_differ, runs_are_written, runs_stand};
 pub use read::unpersist;
 pub use write::persist;
-
-#[cfg(test)]
-mod tests;

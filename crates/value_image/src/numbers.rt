@@ -9,7 +9,7 @@ ghost use Rattle.value_image.specs.Reading.{AllBelow, IsBelow, IsReadOf, renumbe
 use php_graph::{Child, Kind, Members, Place, Props};
 use std::alloc::{AllocError, Global};
 
-/// The member with the number that the table has at its offset.
+// The member with the number that the table has at its offset.
 fn renumbered(child: Child, table: &[u32]) -> Child
     requires { number_of child < length table.now }
     ensures { result ≡ renumbered_child (slice_index table.now) child }
@@ -20,7 +20,7 @@ fn renumbered(child: Child, table: &[u32]) -> Child
     }
 }
 
-/// Gives each member its number.
+// Gives each member its number.
 fn renumber_members(members: &mut Members, table: &[u32])
     requires { AllBelow (length table.now) members.old }
     ensures { members.new ≡ map (renumbered_member (slice_index table.now)) members.old }
@@ -31,7 +31,7 @@ fn renumber_members(members: &mut Members, table: &[u32])
     }
 }
 
-/// Gives each property its number.
+// Gives each property its number.
 fn renumber_properties(props: &mut Props, table: &[u32])
     requires { AllBelow (length table.now) props.old }
     ensures { props.new ≡ map (renumbered_member (slice_index table.now)) props.old }
@@ -42,7 +42,7 @@ fn renumber_properties(props: &mut Props, table: &[u32])
     }
 }
 
-/// Gives what stands at a place its numbers.
+// Gives what stands at a place its numbers.
 fn renumber_place(kind: &mut Kind, table: &[u32])
     requires { IsBelow (length table.now) kind.old }
     ensures { kind.new ≡ renumbered_kind (slice_index table.now) kind.old }
@@ -55,7 +55,7 @@ fn renumber_place(kind: &mut Kind, table: &[u32])
     }
 }
 
-/// Gives places their numbers.
+// Gives places their numbers.
 fn renumber_places(places: &mut Vec<Place>, table: &[u32])
     requires { (i : ℕ) (kind : Kind) → slice_get (kinds_at places.old.items) i ≡ Some kind
         → IsBelow (length table.now) kind }
@@ -68,7 +68,7 @@ fn renumber_places(places: &mut Vec<Place>, table: &[u32])
     }
 }
 
-/// The offset of a place but the first, which has the offset 0.
+// The offset of a place but the first, which has the offset 0.
 fn offset_at(others: &[Place], i: usize) -> u64
     requires { i < length others.now }
     ensures { result ≡ slice_index (0 ∷ offsets_at others.now) (i + 1) }
@@ -76,7 +76,7 @@ fn offset_at(others: &[Place], i: usize) -> u64
     others[i].at
 }
 
-/// A table of so many words that has the number of each place, from 1, at the place's offset.
+// A table of so many words that has the number of each place, from 1, at the place's offset.
 fn table_of(alloc: Global, others: &[Place], len: u32) -> Result<Vec<u32>, AllocError>
     requires few { length others.now + 1 < 2 ^ 32 }
     requires below { (i : ℕ) → i < length others.now + 1
@@ -95,7 +95,7 @@ fn table_of(alloc: Global, others: &[Place], len: u32) -> Result<Vec<u32>, Alloc
     Ok(table)
 }
 
-/// Gives the places that were read their numbers.
+// Gives the places that were read their numbers.
 pub(crate) fn number(
     alloc: Global,
     first: &mut Kind,

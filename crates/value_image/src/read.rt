@@ -5,20 +5,21 @@ ghost use Rattle.seg_words.specs.Kept.{Kept};
 ghost use Rattle.php_graph.specs.declared.child.Child.{Child};
 ghost use Rattle.php_graph.specs.declared.kind.Kind.{Kind};
 ghost use Rattle.php_graph.specs.Kept.{kinds_at, offsets_at};
-ghost use Rattle.php_graph.specs.Size.{words_in, cells_of};
+ghost use Rattle.seg_words.specs.Layout.{words_in};
+ghost use Rattle.php_graph.specs.Size.{cells_of};
 ghost use Rattle.seg_words.specs.Blocks.{IsTold};
 ghost use Rattle.value_image.specs.Image.{IsImageOf};
 ghost use Rattle.value_image.specs.Reading.{IsKindAt, IsObjectAt, IsReadOf};
 
-use crate::items::{read_members, read_properties, read_string, read_text};
-use crate::members::{INT, STR};
 use crate::numbers::number;
+use crate::read_members::{read_members, read_properties, read_string, read_text};
 use crate::write::{ARRAY, BOOL, NULL, OBJECT};
+use crate::write_members::{INT, STR};
 use php_graph::{Bytes, Graph, Kind, Place, Props};
 use seg_words::WordsIn;
 use std::alloc::{AllocError, Global};
 
-/// The class and the properties of an object from place `at` on, and the place behind them.
+// The class and the properties of an object from place `at` on, and the place behind them.
 fn read_object<W: WordsIn>(
     alloc: Global,
     from: &mut W,
@@ -39,7 +40,7 @@ fn read_object<W: WordsIn>(
     Ok((class, props, next))
 }
 
-/// What stands at place `at`, with offsets in place of numbers, and the place behind it.
+// What stands at place `at`, with offsets in place of numbers, and the place behind it.
 fn read_place<W: WordsIn>(alloc: Global, from: &mut W, at: u32) -> Result<(Kind, u32), AllocError>
     requires { (kind : Kind) × IsKindAt (W.words from.old) (W.aside from.old).windows at kind }
     ensures place { (kind : Kind) → IsKindAt (W.words from.old) (W.aside from.old).windows at kind
@@ -73,8 +74,8 @@ fn read_place<W: WordsIn>(alloc: Global, from: &mut W, at: u32) -> Result<(Kind,
     }
 }
 
-/// The first place and the others of the image that the `len` words from place `at` on are, with
-/// offsets in place of numbers, and the offset of each.
+// The first place and the others of the image that the `len` words from place `at` on are, with
+// offsets in place of numbers, and the offset of each.
 fn read_places<W: WordsIn>(
     alloc: Global,
     from: &mut W,

@@ -3,27 +3,28 @@
 ghost use Rattle.std.specs.Prelude.{◌≡◌, ◌+◌, ◌*◌, ◌<◌, ◌^◌, ◌∷◌, ◌++◌, length, sum_by};
 ghost use Rattle.seg_words.specs.Kept.{KeptBeside};
 ghost use Rattle.std.specs.List.{flat_map};
-ghost use Rattle.php_graph.specs.Size.{words_in, key_cells, cells_of, image_length, offset_of};
+ghost use Rattle.seg_words.specs.Layout.{words_in};
+ghost use Rattle.php_graph.specs.Size.{key_cells, cells_of, image_length, offset_of};
 ghost use Rattle.value_image.specs.Rows.{written, MayWrite};
 ghost use Rattle.value_image.specs.Places.{AllNamePlaces, NamesPlaces};
 ghost use Rattle.value_image.specs.Image.{IsImageOf, image_of, place_words, string_words, member_words, property_words};
 
-use crate::members::{INT, put_members, put_one, put_properties, put_string, put_two};
+use crate::write_members::{INT, put_members, put_one, put_properties, put_string, put_two};
 use php_graph::{Bytes, Graph, Kind, Members, Props};
 use seg_words::Segment;
 
-/// The tag of null.
+// The tag of null.
 pub(crate) const NULL: u64 = 0;
-/// The tag of `false`.
+// The tag of `false`.
 pub(crate) const BOOL: u64 = 1;
-/// The tag of an array without members.
+// The tag of an array without members.
 pub(crate) const ARRAY: u64 = 4;
-/// The tag of an object without properties.
+// The tag of an object without properties.
 pub(crate) const OBJECT: u64 = 5;
-/// The tag of a place that names an object.
+// The tag of a place that names an object.
 const SAME: u64 = 6;
 
-/// Writes an array, and gives the place behind it.
+// Writes an array, and gives the place behind it.
 fn put_array<S: Segment>(seg: &mut S, at: u32, g: &Graph, members: &Members) -> u32
     requires places { AllNamePlaces (length g.now) members.now }
     requires short { image_length g.now < 2 ^ 32 }
@@ -38,7 +39,7 @@ fn put_array<S: Segment>(seg: &mut S, at: u32, g: &Graph, members: &Members) -> 
     put_members(seg, next, g, members)
 }
 
-/// Writes an object, and gives the place behind it.
+// Writes an object, and gives the place behind it.
 fn put_object<S: Segment>(seg: &mut S, at: u32, g: &Graph, class: &Bytes, props: &Props) -> u32
     requires places { AllNamePlaces (length g.now) props.now }
     requires short { image_length g.now < 2 ^ 32 }
@@ -56,7 +57,7 @@ fn put_object<S: Segment>(seg: &mut S, at: u32, g: &Graph, class: &Bytes, props:
     put_properties(seg, second, g, props)
 }
 
-/// Writes what stands at a place of the graph, and gives the place behind it.
+// Writes what stands at a place of the graph, and gives the place behind it.
 fn put_place<S: Segment>(seg: &mut S, at: u32, g: &Graph, kind: &Kind) -> u32
     requires places { NamesPlaces (length g.now) kind.now }
     requires short { image_length g.now < 2 ^ 32 }

@@ -1,5 +1,11 @@
-use Rattle.entry_slots.proofs.Finding.{found_there, first_there, next_there, chain_there, in_left, in_right, unlinks_there}
+use Rattle.entry_slots.proofs.Finding.{member_there, some_there, found_there, first_there, next_there, chain_there, in_left, in_right, unlinks_there}
 use Rattle.entry_slots.proofs.laws.place_laws.Goals as goal
+
+pub returns-clause-member : goal.returns-clause-member
+returns-clause-member c = member_there
+
+pub returns-clause-some : goal.returns-clause-some
+returns-clause-some c = some_there
 
 pub returns-clause-found : goal.returns-clause-found
 returns-clause-found c = found_there

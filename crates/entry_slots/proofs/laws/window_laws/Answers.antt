@@ -1,4 +1,4 @@
-use Rattle.entry_slots.proofs.Opening.{closed_stands, opened_stands, probe_closes}
+use Rattle.entry_slots.proofs.Opening.{closed_stands, opened_stands}
 use Rattle.entry_slots.proofs.laws.window_laws.Goals as goal
 
 pub returns-clause-closed : goal.returns-clause-closed
@@ -6,6 +6,3 @@ returns-clause-closed c = closed_stands
 
 pub returns-clause-opened : goal.returns-clause-opened
 returns-clause-opened c = opened_stands
-
-pub returns-clause-probed : goal.returns-clause-probed
-returns-clause-probed c = probe_closes

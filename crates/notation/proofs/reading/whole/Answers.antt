@@ -4,9 +4,8 @@ use Rattle.std.proofs.lemmas.List.{length-reverse}
 use Rattle.std.proofs.lemmas.Result.{err_from_is_err_and}
 use Rattle.php_graph.specs.Graph.{levels}
 use Rattle.php_graph.specs.Building.{Draft, nothing_drafted}
-use Rattle.notation.specs.Marks.{Gives, Fails}
 use Rattle.notation.specs.Reading.{reading_of, value_at}
-use Rattle.notation.specs.Outer.{HasCome, outer_stack}
+use Rattle.notation.specs.Outer.{outer_stack}
 use Rattle.notation.proofs.Outer.{began, begun_fails, due_value, at_first, fails_then, key_wanted, stack_some, closed_fails, popped, closed_on, keyed_on, key_fails_on}
 use Rattle.notation.proofs.reading.whole.Goals as goal
 

@@ -1,8 +1,7 @@
-use Rattle.std.proofs.Common.{◌≡◌, ◌-◌, ◌+◌, codes, ◌++◌, ℕ, List, length, refl, sym, subst, ap, ◌∙◌, arith}
-use Rattle.std.specs.Prelude.{reverse, OnOk}
+use Rattle.std.proofs.Common.{◌-◌, ◌+◌, codes, ◌++◌, ℕ, length, refl, sym, subst, ap, ◌∙◌}
+use Rattle.std.specs.Prelude.{reverse}
 use Rattle.std.specs.Fmt.{decimal}
 use Rattle.php_graph.specs.declared.child.Child.{Child}
-use Rattle.php_graph.specs.declared.child.Child.TheVariants.{Own, Back}
 use Rattle.php_graph.specs.Graph.{levels}
 use Rattle.notation.specs.Writing.{EndsSomewhere, IsChildBegun}
 use Rattle.notation.proofs.Texts.{back_begun, plain_begun, container_begun, own_of, place_there, on_ok}

@@ -1,4 +1,4 @@
-use Rattle.std.proofs.Common.{◌≡◌, ◌-◌, ℕ, List, [], length, sym, subst, ap, ◌∙◌}
+use Rattle.std.proofs.Common.{◌-◌, List, length, sym, subst}
 use Rattle.std.specs.Prelude.{reverse}
 use Rattle.std.proofs.lemmas.Result.{err_from_is_err_and}
 use Rattle.php_graph.specs.declared.child.Child.TheVariants.{Own}

@@ -1,4 +1,4 @@
-use Rattle.std.proofs.Common.{◌≡◌, ◌+◌, ◌-◌, ◌≤◌, ◌++◌, length}
+use Rattle.std.proofs.Common.{◌≡◌, ◌-◌, ◌≤◌, ◌++◌, length}
 use Rattle.std.specs.Prelude.{reverse}
 use Rattle.notation.specs.Notation.{text_from}
 use Rattle.notation.specs.Writing.{pending, AreBegun}

@@ -1,10 +1,10 @@
-use Rattle.std.proofs.Common.{◌≡◌, ◌-◌, ◌+◌, ◌++◌, ◌∷◌, suc, ℕ, List, Some, length, refl, sym, subst, ap, ◌∙◌, arith, length-append, add-one, Option, []}
-use Rattle.std.specs.Prelude.{reverse, OnOk, slice_get}
+use Rattle.std.proofs.Common.{◌≡◌, ◌-◌, ◌++◌, ◌∷◌, suc, ℕ, List, length, refl, sym, subst, ap, ◌∙◌, arith, add-one, []}
+use Rattle.std.specs.Prelude.{reverse, slice_get}
 use Rattle.std.proofs.lemmas.List.{length-reverse}
 use Rattle.php_graph.specs.declared.child.Child.{Child}
 use Rattle.php_graph.specs.Graph.{levels}
 use Rattle.notation.specs.Parts.{members_of}
-use Rattle.notation.specs.Writing.{EndsSomewhere, IsChildBegun, IsStepMade}
+use Rattle.notation.specs.Writing.{EndsSomewhere, IsChildBegun}
 use Rattle.notation.proofs.Texts.{some_member, no_member, end_made, member_next, member_made, on_ok, pushed_len}
 use Rattle.notation.proofs.writing.step.Goals as goal
 

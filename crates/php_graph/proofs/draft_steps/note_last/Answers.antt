@@ -3,7 +3,7 @@ use Rattle.std.specs.List.{slice_get, AllByRecursion}
 use Rattle.php_graph.specs.declared.kind.Kind.{Kind}
 use Rattle.php_graph.specs.Building.{fault_in, IsAnswer}
 use Rattle.php_graph.specs.Drafted.{kinds_in, places_of, is_open_at}
-use Rattle.php_graph.specs.Kept.{Layout, kinds_of}
+use Rattle.php_graph.specs.Kept.{PlaceList, kinds_of}
 use Rattle.php_graph.proofs.DraftLemmas.{one_kind}
 use Rattle.php_graph.proofs.DraftKept.{none_in}
 use Rattle.php_graph.proofs.DraftKnown.{IsLast, last_is, last_answer, last_places, last_ok, last_err}
@@ -23,22 +23,22 @@ last c =
 pub unreachable-requires : goal.unreachable-requires
 unreachable-requires c =
     let n : c.len-last.result ≡ length c.args.containers.now.items = omega (arith, c.len-last.ensures, c.args.containers.now.ok.0) in
-    let opened = subst (λ (o : Option Layout). AllByRecursion (λ p. is_open_at (kinds_in o) p ≡ true) (places_of c.args.containers.now.items)) c.in_default.is c.requires.opened in
+    let opened = subst (λ (o : Option PlaceList). AllByRecursion (λ p. is_open_at (kinds_in o) p ≡ true) (places_of c.args.containers.now.items)) c.in_default.is c.requires.opened in
     c.if-last-eq0.false (n ∙ none_in c.args.containers.now.items opened)
 
 pub kind-kind-requires : goal.kind-kind-requires
-kind-kind-requires c = let i = last (goal.at.kind-kind-requires c).After-index_mut-container in omega (arith, i.low, i.high, ap (λ (o : Option Layout). length (kinds_in o)) c.in-Some.is)
+kind-kind-requires c = let i = last (goal.at.kind-kind-requires c).After-index_mut-container in omega (arith, i.low, i.high, ap (λ (o : Option PlaceList). length (kinds_in o)) c.in-Some.is)
 
 pub note_key-requires : goal.note_key-requires
 note_key-requires c =
     let i = last (goal.at.note_key-requires c).After-index_mut-container in
-    let there = subst (λ (o : Option Layout). slice_get (kinds_in o) (c.index_mut-container.result.now.place - 1) ≡ Some c.kind-kind.result.now) (sym c.in-Some.is) c.kind-kind.ensures in
+    let there = subst (λ (o : Option PlaceList). slice_get (kinds_in o) (c.index_mut-container.result.now.place - 1) ≡ Some c.kind-kind.result.now) (sym c.in-Some.is) c.kind-kind.ensures in
     let same = one_kind (kinds_in c.args.places.now) c.index_mut-container.result.now.place i.kind c.kind-kind.result.now i.there there in
     rw same i.knows
 
 kind_is : (c : After-note_key) (i : IsLast (kinds_in c.args.places.now) c.args.containers.now.items c.index_mut-container.result.now) → c.kind-kind.result.now ≡ i.kind
 kind_is c i =
-    let there = subst (λ (o : Option Layout). slice_get (kinds_in o) (c.index_mut-container.result.now.place - 1) ≡ Some c.kind-kind.result.now) (sym c.in-Some.is) c.kind-kind.ensures in
+    let there = subst (λ (o : Option PlaceList). slice_get (kinds_in o) (c.index_mut-container.result.now.place - 1) ≡ Some c.kind-kind.result.now) (sym c.in-Some.is) c.kind-kind.ensures in
     one_kind (kinds_in c.args.places.now) c.index_mut-container.result.now.place i.kind c.kind-kind.result.now i.there there
 
 pub returns-clause-answer : goal.returns-clause-answer

@@ -1,7 +1,7 @@
 use Rattle.std.proofs.Common.{◌≡◌, ℕ, ◌+◌, ◌*◌, ◌/◌, ◌<◌, ◌≤◌, List, ap, sym, ◌∙◌, arith, length, take, slice_set}
 use Rattle.std.proofs.lemmas.List.{take_rest, length-take-le}
 use Rattle.seg_words.specs.Blocks.{MayStore}
-use Rattle.php_graph.specs.Size.{words_in}
+use Rattle.seg_words.specs.Layout.{words_in}
 use Rattle.value_image.specs.Packed.{words_of}
 use Rattle.value_image.specs.Rows.{written, MayWrite}
 use Rattle.value_image.proofs.Runs.{may_store-next}

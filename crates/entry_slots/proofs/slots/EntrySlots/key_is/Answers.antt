@@ -2,7 +2,7 @@ use Rattle.std.proofs.Common.{◌≡◌, inl, inr, ℕ, ◌+◌, ◌<◌, List, 
 use Rattle.std.proofs.lemmas.Bool.{cases_lt}
 use Rattle.std.proofs.lemmas.List.Elements.{recursion_from_All, All-from_get_or}
 use Rattle.value_image.specs.Packed.{word_at}
-use Rattle.php_graph.specs.Size.{words_in}
+use Rattle.seg_words.specs.Layout.{words_in}
 use Rattle.seg_words.specs.Blocks.{IsTold}
 use Rattle.seg_words.specs.Windows.{Aside}
 use Rattle.entry_slots.specs.declared.slots.EntrySlots.{EntrySlots}
@@ -44,14 +44,14 @@ overflow_add-at-in-loop-i-2 g c =
     let r = row_there (entry_now c.requires.stand c.requires.there) in
     let w = room r.1 in
     let read = c.load.ensures.word (told_at r.1 c.args.at 2 r.2 (omega arith) (omega arith)) in
-    let k = told_key r.0 r.1 c.args.at c.loop-i.i (length c.args.key.now) r.2 (sym c.if-load-key.false ∙ (read ∙ key_length_at r.1 c.args.at r.2)) (omega (arith, c.div_ceil-i-end.ensures)) in
+    let k = told_key r.0 r.1 c.args.at c.loop-i.i (length c.args.key.now) r.2 (sym c.if-load-key.false ∙ (read ∙ key_length_at r.1 c.args.at r.2)) (omega (arith, c.words_in-i-end.ensures)) in
     omega (arith, k.0, w.short)
 
 pub load-requires-in-loop-i : goal.load-requires-in-loop-i
 load-requires-in-loop-i g c =
     let r = row_there (entry_now c.requires.stand c.requires.there) in
     let read = c.load.ensures.word (told_at r.1 c.args.at 2 r.2 (omega arith) (omega arith)) in
-    let k = told_key r.0 r.1 c.args.at c.loop-i.i (length c.args.key.now) r.2 (sym c.if-load-key.false ∙ (read ∙ key_length_at r.1 c.args.at r.2)) (omega (arith, c.div_ceil-i-end.ensures)) in
+    let k = told_key r.0 r.1 c.args.at c.loop-i.i (length c.args.key.now) r.2 (sym c.if-load-key.false ∙ (read ∙ key_length_at r.1 c.args.at r.2)) (omega (arith, c.words_in-i-end.ensures)) in
     rw c.loop-i.invariant.kept.words k.0
 
 pub returns-then-load-key_word-clause-is : goal.returns-then-load-key_word-clause-is
@@ -59,7 +59,7 @@ returns-then-load-key_word-clause-is g c = λ row is.
     let place = is.place in
     let home = home_listed row c.requires.stand is.there in
     let read = c.load.ensures.word (told_at home c.args.at 2 place (omega arith) (omega arith)) in
-    let lt : c.loop-i.i < words_in (length c.args.key.now) = omega (arith, c.div_ceil-i-end.ensures, c.loop-i-test.true) in
+    let lt : c.loop-i.i < words_in (length c.args.key.now) = omega (arith, c.words_in-i-end.ensures, c.loop-i-test.true) in
     let k = told_key row home c.args.at c.loop-i.i (length c.args.key.now) place (sym c.if-load-key.false ∙ (read ∙ key_length_at home c.args.at place)) lt in
     let word = read_along (g.S.WordsIn.words c.args.seg.now) (g.S.WordsIn.words c.loop-i.seg) (g.S.WordsIn.aside c.args.seg.now) (g.S.WordsIn.aside c.loop-i.seg) (c.args.at + 12 + c.loop-i.i) c.load-in-loop-i.result c.loop-i.invariant.kept.words c.loop-i.invariant.kept.aside k.1 c.load-in-loop-i.ensures.word in
     differs_at c.lower_laws.ensures row c.args.key.now home c.args.at c.loop-i.i c.key_word.result place lt (λ same. c.if-load-key_word.true (word ∙ (same ∙ sym c.key_word.ensures)))
@@ -68,7 +68,7 @@ pub loop-i-preserved : goal.loop-i-preserved
 loop-i-preserved g c =
     let r = row_there (entry_now c.requires.stand c.requires.there) in
     let read = c.load.ensures.word (told_at r.1 c.args.at 2 r.2 (omega arith) (omega arith)) in
-    let k = told_key r.0 r.1 c.args.at c.loop-i.i (length c.args.key.now) r.2 (sym c.if-load-key.false ∙ (read ∙ key_length_at r.1 c.args.at r.2)) (omega (arith, c.div_ceil-i-end.ensures)) in
+    let k = told_key r.0 r.1 c.args.at c.loop-i.i (length c.args.key.now) r.2 (sym c.if-load-key.false ∙ (read ∙ key_length_at r.1 c.args.at r.2)) (omega (arith, c.words_in-i-end.ensures)) in
     let word = read_along (g.S.WordsIn.words c.args.seg.now) (g.S.WordsIn.words c.loop-i.seg) (g.S.WordsIn.aside c.args.seg.now) (g.S.WordsIn.aside c.loop-i.seg) (c.args.at + 12 + c.loop-i.i) c.load-in-loop-i.result c.loop-i.invariant.kept.words c.loop-i.invariant.kept.aside k.1 c.load-in-loop-i.ensures.word in
     record {
       same = more (λ j. slice_index (g.S.WordsIn.words c.args.seg.now) (c.args.at + 12 + j) ≡ word_at c.args.key.now j) c.loop-i.i c.loop-i.invariant.same (sym word ∙ (c.if-load-key_word.false ∙ c.key_word.ensures));
@@ -80,4 +80,4 @@ returns-clause-is g c = λ row is.
     let place = is.place in
     let home = home_listed row c.requires.stand is.there in
     let read = c.load.ensures.word (told_at home c.args.at 2 place (omega arith) (omega arith)) in
-    equal_at c.lower_laws.ensures row c.args.key.now home c.args.at place (sym read ∙ c.if-load-key.false) (c.requires.short, recursion_from_All (λ b. b < 256) c.args.key.now (All-from_get_or (λ b. b < 256) c.args.key.now 0 (λ i lt. omega (arith, c.type_inv.key i)))) (λ j lt. c.loop-i.invariant.same j (omega (arith, c.div_ceil-i-end.ensures, lt)))
+    equal_at c.lower_laws.ensures row c.args.key.now home c.args.at place (sym read ∙ c.if-load-key.false) (c.requires.short, recursion_from_All (λ b. b < 256) c.args.key.now (All-from_get_or (λ b. b < 256) c.args.key.now 0 (λ i lt. omega (arith, c.type_inv.key i)))) (λ j lt. c.loop-i.invariant.same j (omega (arith, c.words_in-i-end.ensures, lt)))

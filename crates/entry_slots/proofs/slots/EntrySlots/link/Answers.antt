@@ -3,7 +3,8 @@ use Rattle.std.specs.List.{AllByRecursion}
 use Rattle.std.proofs.lemmas.List.Elements.{recursion_from_All, All-from_get_or}
 use Rattle.seg_words.specs.Windows.{Aside}
 use Rattle.php_graph.specs.Numbers.{hash_of}
-use Rattle.php_graph.specs.Size.{words_in, image_length}
+use Rattle.seg_words.specs.Layout.{words_in}
+use Rattle.php_graph.specs.Size.{image_length}
 use Rattle.value_image.specs.Rows.{written, MayWrite}
 use Rattle.apcu_model.specs.Walk.{slot_of}
 use Rattle.entry_slots.specs.declared.slots.EntrySlots.{EntrySlots}
@@ -108,7 +109,7 @@ returns-clause-stand g c =
     let e' = record c.args.self.now { next_number = c.saturating_add-self.result; count = c.count_after-self.result; standing = c.then-self.result } in
     subst (λ x. Stands e' (g.S.WordsIn.words c.store.new.self) (g.S.WordsIn.aside c.store.new.self) x) (sym c.then-self.ensures)
     (restand {e' = e'} (stands_along (g.S.WordsIn.words c.store.new.self) (g.S.WordsIn.aside c.store.new.self)
-    (link_stands s h c.args.at c.args.key.now c.args.g.now taken c.lower_laws.ensures note c.is_sealed.ensures (c.requires.short, bytes) (omega (arith, c.ranges.ttl)) refl c.args.replaced slot c.link_to-link.result replaces is c.slot_for-slot.ensures.low link
+    (link_stands s h c.args.at c.args.key.now c.args.g.now taken c.lower_laws.ensures note c.places-places.ensures.graph (c.requires.short, bytes) (omega (arith, c.ranges.ttl)) refl c.args.replaced slot c.link_to-link.result replaces is c.slot_for-slot.ensures.low link
     (λ some. c.behind.ensures.next some ∙ ap (λ (v : List ℕ). slice_index v (c.args.replaced + 1)) read) c.behind.ensures.none
     c.saturating_add-self.result c.count_after-self.result (omega (arith, c.saturating_add-self.ensures)) c.count_after-self.ensures)
     words (c.store.ensures.aside ∙ (c.put_entry.ensures.beside.aside ∙ (c.behind.ensures.kept.aside ∙ c.link_to-link.ensures.kept.aside)))) refl refl refl refl)

@@ -8,7 +8,8 @@ use Rattle.seg_words.specs.Windows.{Aside, is_named}
 use Rattle.seg_words.specs.Blocks.{MayStore}
 use Rattle.php_graph.specs.declared.kind.Kind.TheVariants as kinds
 use Rattle.php_graph.specs.Graph.{kind_at}
-use Rattle.php_graph.specs.Size.{words_in, image_length}
+use Rattle.seg_words.specs.Layout.{words_in}
+use Rattle.php_graph.specs.Size.{image_length}
 use Rattle.apcu_model.specs.Cache.{Row, extent_of}
 use Rattle.entry_slots.specs.declared.slots.EntrySlots.{EntrySlots}
 use Rattle.entry_slots.specs.Entries.{with_number}
@@ -57,7 +58,7 @@ overflow_add-at-3 g c =
     let m = c.requires.int in
     let home = home_row m.row c.requires.stand m.there in
     let read = c.load-len.ensures.word (told_at home c.args.at 2 m.place (omega arith) (omega arith)) in
-    let v = value_in m.row m.number home m.int c.args.at c.load-len.result (c.args.at + 13 + c.div_ceil.result) m.place (read ∙ key_length_at home c.args.at m.place) (omega (arith, c.div_ceil.ensures)) in
+    let v = value_in m.row m.number home m.int c.args.at c.load-len.result (c.args.at + 13 + c.words_in.result) m.place (read ∙ key_length_at home c.args.at m.place) (omega (arith, c.words_in.ensures)) in
     omega (arith, v.0, v.1, v.2)
 
 pub overflow_add-at-4 : goal.overflow_add-at-4
@@ -68,11 +69,11 @@ store-requires g c =
     let m = c.requires.int in
     let home = home_row m.row c.requires.stand m.there in
     let read = c.load-len.ensures.word (told_at home c.args.at 2 m.place (omega arith) (omega arith)) in
-    let v = value_in m.row m.number home m.int c.args.at c.load-len.result (c.args.at + 13 + c.div_ceil.result) m.place (read ∙ key_length_at home c.args.at m.place) (omega (arith, c.div_ceil.ensures)) in
+    let v = value_in m.row m.number home m.int c.args.at c.load-len.result (c.args.at + 13 + c.words_in.result) m.place (read ∙ key_length_at home c.args.at m.place) (omega (arith, c.words_in.ensures)) in
     record {
       place = omega (arith, v.0, v.1, ap length c.load-len.ensures.words);
-      apart = may_along (g.S.WordsIn.words c.args.seg.now) (g.S.WordsIn.words c.load-len.new.self) (g.S.WordsIn.aside c.args.seg.now) (g.S.WordsIn.aside c.load-len.new.self) (c.args.at + 13 + c.div_ceil.result) c.load-len.ensures.words c.load-len.ensures.aside
-          (value_may m.row home c.args.at (c.args.at + 13 + c.div_ceil.result) m.place c.requires.unnamed (omega arith) v.0);
+      apart = may_along (g.S.WordsIn.words c.args.seg.now) (g.S.WordsIn.words c.load-len.new.self) (g.S.WordsIn.aside c.args.seg.now) (g.S.WordsIn.aside c.load-len.new.self) (c.args.at + 13 + c.words_in.result) c.load-len.ensures.words c.load-len.ensures.aside
+          (value_may m.row home c.args.at (c.args.at + 13 + c.words_in.result) m.place c.requires.unnamed (omega arith) v.0);
     }
 
 pub store-requires-2 : goal.store-requires-2
@@ -81,9 +82,9 @@ store-requires-2 g c =
     let home = home_row m.row c.requires.stand m.there in
     let w = room home in
     let ws : List ℕ = g.S.WordsIn.words c.args.seg.now in
-    let i : ℕ = c.args.at + 13 + c.div_ceil.result in
+    let i : ℕ = c.args.at + 13 + c.words_in.result in
     let read = c.load-len.ensures.word (told_at home c.args.at 2 m.place (omega arith) (omega arith)) in
-    let v = value_in m.row m.number home m.int c.args.at c.load-len.result i m.place (read ∙ key_length_at home c.args.at m.place) (omega (arith, c.div_ceil.ensures)) in
+    let v = value_in m.row m.number home m.int c.args.at c.load-len.result i m.place (read ∙ key_length_at home c.args.at m.place) (omega (arith, c.words_in.ensures)) in
     let words : g.S.WordsIn.words c.store.new.self ≡ slice_set ws i c.cast_unsigned.result = c.store.ensures.words ∙ ap (λ (u : List ℕ). slice_set u i c.cast_unsigned.result) c.load-len.ensures.words in
     record {
       place = omega (arith, w.high, w.enough, m.place, ap length words, length-set ws i c.cast_unsigned.result);
@@ -101,7 +102,7 @@ returns-clause-stand g c =
     let place = m.place in
     let home = home_row row h there in
     let ws : List ℕ = g.S.WordsIn.words c.args.seg.now in
-    let i : ℕ = c.args.at + 13 + c.div_ceil.result in
+    let i : ℕ = c.args.at + 13 + c.words_in.result in
     let read = c.load-len.ensures.word (told_at home c.args.at 2 place (omega arith) (omega arith)) in
     let len : c.load-len.result ≡ length row.key = read ∙ key_length_at home c.args.at place in
     let long : words_in c.load-len.result ≡ words_in (length row.key) = ap words_in len in
@@ -113,5 +114,5 @@ returns-clause-stand g c =
     let is : c.then-self.result.entries ≡ with_number c.args.at c.args.n c.args.t s = c.then-self.ensures ∙ ap (λ z. with_number c.args.at z c.args.t s) (to_z-of_z w64 c.args.n c.ranges.n) in
     subst (λ x. Stands e' (g.S.WordsIn.words c.store-2.new.self) (g.S.WordsIn.aside c.store-2.new.self) x) (sym is)
     (restand {e' = e'} (stands_along (g.S.WordsIn.words c.store-2.new.self) (g.S.WordsIn.aside c.store-2.new.self)
-    (number_stands c.lower_laws.ensures s h c.args.at i c.args.t c.args.n m.number row there place m.int c.ranges.n (omega (arith, c.div_ceil.ensures, long)))
+    (number_stands c.lower_laws.ensures s h c.args.at i c.args.t c.args.n m.number row there place m.int c.ranges.n (omega (arith, c.words_in.ensures, long)))
     words (c.store-2.ensures.aside ∙ (c.store.ensures.aside ∙ c.load-len.ensures.aside))) refl refl refl refl)

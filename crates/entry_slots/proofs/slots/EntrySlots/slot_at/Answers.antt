@@ -2,12 +2,12 @@ use Rattle.std.proofs.Common.{◌≡◌, ℕ, ◌+◌, ◌<◌, ◌%◌, ◌≤�
 use Rattle.seg_words.specs.Windows.{Aside}
 use Rattle.seg_words.specs.Blocks.{IsTold}
 use Rattle.php_graph.specs.Numbers.{hash_of}
-use Rattle.php_graph.specs.Size.{words_in}
+use Rattle.seg_words.specs.Layout.{words_in}
 use Rattle.value_image.specs.Packed.{words_of}
 use Rattle.value_image.specs.Rows.{StandsAt}
 use Rattle.apcu_model.specs.Cache.{Row}
 use Rattle.entry_slots.specs.declared.slots.EntrySlots.{EntrySlots}
-use Rattle.entry_slots.specs.Written.{IsKeyAt}
+use Rattle.entry_slots.specs.Written.{IsEntryKey}
 use Rattle.entry_slots.proofs.Homes.{IsHome, room, told_at, home_row}
 use Rattle.entry_slots.proofs.KeyWords.{key_length_at}
 use Rattle.entry_slots.proofs.Touching.{row_at}
@@ -15,7 +15,7 @@ use Rattle.entry_slots.proofs.Now.{row_now}
 use Rattle.entry_slots.proofs.slots.EntrySlots.slot_at.Goals as goal
 
 -- the key stands behind the first words
-key_stands : {e : EntrySlots} {ws : List ℕ} {aside : Aside} (row : Row) → IsHome e ws aside row → (at len : ℕ) (ws' : List ℕ) → row.place ≡ at → len ≡ length row.key → ws' ≡ ws → IsKeyAt ws' (at + 12) len row.key
+key_stands : {e : EntrySlots} {ws : List ℕ} {aside : Aside} (row : Row) → IsHome e ws aside row → (at len : ℕ) (ws' : List ℕ) → row.place ≡ at → len ≡ length row.key → ws' ≡ ws → IsEntryKey ws' (at + 12) len row.key
 key_stands {ws = ws} row h at len ws' e el ew = record {
   stands = subst (λ (n : ℕ). StandsAt ws' (n + 12) (words_of row.key)) e (subst (λ (w : List ℕ). StandsAt w (row.place + 12) (words_of row.key)) (sym ew) h.entry.key);
   bytes = h.entry.bytes;

@@ -3,7 +3,7 @@ use Rattle.php_graph.specs.declared.container.Container.{Container}
 use Rattle.php_graph.specs.declared.key.Key.{Key}
 use Rattle.php_graph.specs.declared.child.Child.TheVariants.{Back}
 use Rattle.php_graph.specs.Building.{wants_of, room_fault, attached}
-use Rattle.php_graph.specs.Kept.{Layout, kinds_of}
+use Rattle.php_graph.specs.Kept.{PlaceList, kinds_of}
 use Rattle.php_graph.specs.Drafted.{CanAttach, IsBuilding, kinds_in, places_of, draft_of}
 use Rattle.php_graph.proofs.DraftKept.{can_attach}
 use Rattle.php_graph.proofs.DraftKnown.{has_room, building_back}
@@ -13,7 +13,7 @@ pub attach-requires : goal.attach-requires
 attach-requires c =
     let g = kinds_in c.self.inside.places in
     let can = can_attach g (places_of c.self.inside.containers.items) c.self.inside.key c.self.invariant.draft in
-    rw c.deref.ensures.value (subst (λ (o : Option Layout). CanAttach (kinds_in o) (places_of c.self.inside.containers.items) c.self.inside.key) c.in-Some.is can)
+    rw c.deref.ensures.value (subst (λ (o : Option PlaceList). CanAttach (kinds_in o) (places_of c.self.inside.containers.items) c.self.inside.key) c.in-Some.is can)
 
 pub invariant_of-self-2 : goal.invariant_of-self-2
 invariant_of-self-2 c =
@@ -23,7 +23,7 @@ invariant_of-self-2 c =
     let room = has_room (draft_of g cs c.self.inside.key) (ap room_fault c.self.view_is ∙ c.in_ok-room.ensures) in
     let is : kinds_of c.attach.new.places ≡ attached g (places_of cs) c.self.inside.key (Back c.args.place) =
     c.in_ok-attach.ensures.ok ∙ ap (λ (xs : List Container). attached (kinds_of c.in-Some.places) (places_of xs) c.self.inside.key (Back c.args.place)) c.deref.ensures.value
-    ∙ ap (λ (o : Option Layout). attached (kinds_in o) (places_of cs) c.self.inside.key (Back c.args.place)) (sym c.in-Some.is) in
-    let within : c.args.place ≤ length g = omega (arith, c.if-place-len.false, c.len.ensures, ap (λ (o : Option Layout). length (kinds_in o)) c.in-Some.is) in
+    ∙ ap (λ (o : Option PlaceList). attached (kinds_in o) (places_of cs) c.self.inside.key (Back c.args.place)) (sym c.in-Some.is) in
+    let within : c.args.place ≤ length g = omega (arith, c.if-place-len.false, c.len.ensures, ap (λ (o : Option PlaceList). length (kinds_in o)) c.in-Some.is) in
     let built = building_back g (kinds_of c.attach.new.places) cs c.self.inside.key c.self.inside.values c.args.place c.self.invariant wants room (omega (arith, c.if-place-eq0.false)) within is in
     subst (λ (k : Option Key). IsBuilding (kinds_of c.attach.new.places) cs k (c.self.inside.values + 1)) (sym c.in_ok-attach.ensures.used) built

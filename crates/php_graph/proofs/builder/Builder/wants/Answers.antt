@@ -4,7 +4,7 @@ use Rattle.php_graph.specs.declared.container.Container.{Container}
 use Rattle.php_graph.specs.declared.kind.Kind.{Kind}
 use Rattle.php_graph.specs.declared.item.Wants.TheVariants.{ArrayKey, Name}
 use Rattle.php_graph.specs.Building.{wants_of}
-use Rattle.php_graph.specs.Kept.{Layout, kinds_of}
+use Rattle.php_graph.specs.Kept.{PlaceList, kinds_of}
 use Rattle.php_graph.specs.Drafted.{IsDraft, draft_of, kinds_in, places_of}
 use Rattle.php_graph.proofs.DraftKept.{innermost_is, wants_here}
 use Rattle.php_graph.proofs.builder.Builder.wants.Goals as goal
@@ -14,7 +14,7 @@ last_is : (c : In-Some-last) → slice_get c.self.inside.containers.items (lengt
 last_is c = subst (λ (cs : List Container). slice_get cs (length cs - 1) ≡ Some c.in-Some-last.container.now) c.deref.ensures.value (sym c.in-Some-last.ensures.value)
 
 draft_is : (c : In-Some-last) → IsDraft (kinds_of c.in-Some.places) (places_of c.self.inside.containers.items) c.self.inside.key
-draft_is c = subst (λ (o : Option Layout). IsDraft (kinds_in o) (places_of c.self.inside.containers.items) c.self.inside.key) c.in-Some.is c.self.invariant.draft
+draft_is c = subst (λ (o : Option PlaceList). IsDraft (kinds_in o) (places_of c.self.inside.containers.items) c.self.inside.key) c.in-Some.is c.self.invariant.draft
 
 pub kind-kind-requires : goal.kind-kind-requires
 kind-kind-requires c =
@@ -23,7 +23,7 @@ kind-kind-requires c =
     omega (arith, i.low, i.high)
 
 here : (c : After-is_array) → slice_get c.self.inside.containers.items (length c.self.inside.containers.items - 1) ≡ Some c.in-Some-last.container.now → IsDraft (kinds_of c.in-Some.places) (places_of c.self.inside.containers.items) c.self.inside.key → wants_of c.args.self.now ≡ cond c.is_array.result ArrayKey Name
-here c last draft = sym (ap wants_of c.self.view_is) ∙ ap (λ (o : Option Layout). wants_of (draft_of (kinds_in o) c.self.inside.containers.items c.self.inside.key)) c.in-Some.is
+here c last draft = sym (ap wants_of c.self.view_is) ∙ ap (λ (o : Option PlaceList). wants_of (draft_of (kinds_in o) c.self.inside.containers.items c.self.inside.key)) c.in-Some.is
     ∙ wants_here (kinds_of c.in-Some.places) c.self.inside.containers.items c.self.inside.key c.in-Some-last.container.now c.is_array.result c.kind-kind.result.now
     draft last c.if-is_some.ensures c.kind-kind.ensures c.is_array.ensures
 

@@ -3,7 +3,7 @@ use Rattle.std.specs.Option.{option_map}
 use Rattle.php_graph.specs.declared.kind.Kind.{Kind}
 use Rattle.php_graph.specs.declared.places.Place.{Place}
 use Rattle.php_graph.specs.Graph.{lowered_kind, lowered_places}
-use Rattle.php_graph.specs.Kept.{Layout, kinds_at}
+use Rattle.php_graph.specs.Kept.{PlaceList, kinds_at}
 use Rattle.php_graph.proofs.PlaceLemmas.{part_list, low_none, low_list}
 use Rattle.php_graph.proofs.places.Places.lowered.Goals as goal
 use Rattle.php_graph.proofs.places.Places.lowered.Goals.{In_ok-others}
@@ -21,7 +21,7 @@ kinds_made made = option_map (λ (v : Vec Place Global). kinds_at v.items) made
 others_low : (c : In_ok-others) → kinds_made c.in_ok-others.field-0 ≡ lowered_places c.args.by (kinds_at (take ((c.args.to - 1) - c.args.from) (drop c.args.from c.args.self.now.others)))
 others_low c =
     let here = subst (λ (ps : List Place). kinds_made c.in_ok-others.field-0 ≡ lowered_places c.args.by (kinds_at (take ((c.args.to - 1) - c.args.from) (drop c.args.from ps)))) c.deref.ensures.value c.in_ok-others.ensures in
-    subst (λ (l : Layout). kinds_made c.in_ok-others.field-0 ≡ lowered_places c.args.by (kinds_at (take ((c.args.to - 1) - c.args.from) (drop c.args.from l.others)))) c.self.view_is here
+    subst (λ (l : PlaceList). kinds_made c.in_ok-others.field-0 ≡ lowered_places c.args.by (kinds_at (take ((c.args.to - 1) - c.args.from) (drop c.args.from l.others)))) c.self.view_is here
 
 pub returns-in_default-2 : goal.returns-in_default-2
 returns-in_default-2 c =

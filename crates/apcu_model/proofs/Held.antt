@@ -1,0 +1,78 @@
+-- Of the list of held places only its members count.
+use Rattle.std.proofs.Common.{◌≡◌, ℕ, ◌-◌, ◌&&◌, Bool, true, not, if◌then◌else◌, List, ◌++◌, length, map, filter, Option, Some, None, refl, ap, ◌∙◌}
+use Rattle.std.specs.Prelude.{nat_lt, is_some}
+use Rattle.php_graph.specs.declared.kind.Kind.{Kind}
+use Rattle.php_graph.specs.Size.{block_size}
+use Rattle.apcu_model.specs.declared.request.Request.{Request}
+use Rattle.apcu_model.specs.declared.request.Request.TheVariants as request
+use Rattle.apcu_model.specs.declared.request.Reply.TheVariants.{Flag}
+use Rattle.apcu_model.specs.declared.request.StoreAnswer.TheVariants.{TooLarge, Exists, Stored}
+use Rattle.apcu_model.specs.Cache.{Row, Cache, risen, has_key, gap_of}
+use Rattle.apcu_model.specs.Expiry.{is_expired, live_row}
+use Rattle.apcu_model.specs.Walk.{is_in_slot, in_slot_order, slot_of}
+use Rattle.apcu_model.specs.Change.{Insertion, AreAlike, is_held, dropped, swept, expired_dropped, expunged, deleted, cleared, has_gap, with_room, with_row, placed, put_in, inserted}
+use Rattle.apcu_model.specs.Sequential.{cache_after, reply_to, is_stored}
+
+module _ (held other : List ℕ) (same : AreAlike held other) where
+  rows_alike : is_held held ≡ is_held other
+  rows_alike = λ i (row : Row). same row.place i
+
+  dropped_alike : (t : ℕ) (pass : Row → Bool) (c : Cache) → dropped held t pass c ≡ dropped other t pass c
+  dropped_alike t pass c = ap (λ (f : Row → Bool). let x : Cache = record c {
+    rows = filter (λ row. not (pass row)) c.rows;
+    removed = c.removed ++ map {A = Row} {B = Row} (λ row. record row { dtime = t }) (filter f (in_slot_order c.conf (filter pass c.rows)));
+  } in x) rows_alike
+
+  swept_alike : (c : Cache) → swept held c ≡ swept other c
+  swept_alike c = ap (λ (f : Row → Bool). let x : Cache = record c { removed = filter f c.removed } in x) rows_alike
+
+  expired_alike : (t : ℕ) (c : Cache) → expired_dropped held t c ≡ expired_dropped other t c
+  expired_alike t c = ap (λ (x : Cache). if nat_lt 0 c.conf.ttl then x else c) (dropped_alike t (is_expired c.conf t) c)
+
+  expunged_alike : (t : ℕ) (c : Cache) → expunged held t c ≡ expunged other t c
+  expunged_alike t c = ap (λ (x : Cache). let y : Cache = record x { hits = 0; misses = 0; inserts = 0; expunges = risen c.expunges } in y) (dropped_alike t (λ row. true) c)
+
+  deleted_alike : (key : List ℕ) (t : ℕ) (c : Cache) → deleted held key t c ≡ deleted other key t c
+  deleted_alike key t c = ap (λ (x : Cache). if is_some (live_row key t c) then x else c) (dropped_alike t (has_key key) c)
+
+  cleared_alike : (t : ℕ) (c : Cache) → cleared held t c ≡ cleared other t c
+  cleared_alike t c = ap (λ (x : Cache). let y : Cache = record x { hits = 0; misses = 0; inserts = 0; expunges = 0 } in y) (dropped_alike t (λ row. true) c)
+
+  room_alike : (n t : ℕ) (c : Cache) → with_room held n t c ≡ with_room other n t c
+  room_alike n t c =
+      ap (λ (first : Cache). let second = expired_dropped held t first in if has_gap n first then first else if has_gap n second then second else expunged held t second) (swept_alike c)
+      ∙ (ap (λ (second : Cache). let first = swept other c in if has_gap n first then first else if has_gap n second then second else expunged held t second) (expired_alike t (swept other c))
+      ∙ ap (λ (last : Cache). let first = swept other c in let second = expired_dropped other t first in if has_gap n first then first else if has_gap n second then second else last) (expunged_alike t (expired_dropped other t (swept other c))))
+
+  placed_alike : (key : List ℕ) (graph : List Kind) (ttl t n : ℕ) (c : Cache) (place : ℕ) → placed held key graph ttl t n c place ≡ placed other key graph ttl t n c place
+  placed_alike key graph ttl t n c place =
+      let pass : Row → Bool = λ row. is_in_slot c.conf (slot_of c.conf key) row && is_expired c.conf t row in
+      let new : Row = record { key = key; graph = graph; ttl = ttl; ctime = t; mtime = t; atime = t; dtime = 0; hits = 0; place = place; size = n; number = c.next_number } in
+      ap (λ (fresh : Cache). let x : Cache = record (dropped held t (has_key key) fresh) { rows = with_row new fresh.rows; next_number = risen c.next_number; inserts = risen c.inserts } in x) (dropped_alike t pass c)
+      ∙ ap (λ (y : Cache). let x : Cache = record y { rows = with_row new (dropped other t pass c).rows; next_number = risen c.next_number; inserts = risen c.inserts } in x) (dropped_alike t (has_key key) (dropped other t pass c))
+
+  put_alike : (key : List ℕ) (graph : List Kind) (ttl t n : ℕ) (c : Cache) (place : Option ℕ) → put_in held key graph ttl t n c place ≡ put_in other key graph ttl t n c place
+  put_alike key graph ttl t n c None = refl
+  put_alike key graph ttl t n c (Some place) = ap (λ (x : Cache). let i : Insertion = record { answer = Stored; cache = x } in i) (placed_alike key graph ttl t n c place)
+
+  pub inserted_alike : (key : List ℕ) (graph : List Kind) (ttl : ℕ) (exclusive : Bool) (t : ℕ) (c : Cache) → inserted held key graph ttl exclusive t c ≡ inserted other key graph ttl exclusive t c
+  inserted_alike key graph ttl exclusive t c =
+      let n = block_size (length key) graph in
+      ap (λ (room : Cache). if nat_lt (c.conf.words - c.conf.slots) n then record { answer = TooLarge; cache = c } else if exclusive && is_some (live_row key t c) then record { answer = Exists; cache = c } else put_in held key graph ttl t n room (gap_of room n)) (room_alike n t c)
+      ∙ ap (λ (put : Insertion). if nat_lt (c.conf.words - c.conf.slots) n then record { answer = TooLarge; cache = c } else if exclusive && is_some (live_row key t c) then record { answer = Exists; cache = c } else put) (put_alike key graph ttl t n (with_room other n t c) (gap_of (with_room other n t c) n))
+
+  pub cache_alike : (t : ℕ) (r : Request) (c : Cache) → cache_after held t r c ≡ cache_after other t r c
+  cache_alike t (request.Store key graph ttl exclusive) c = ap (λ (i : Insertion). i.cache) (inserted_alike key graph ttl exclusive t c)
+  cache_alike t (request.Fetch key) c = refl
+  cache_alike t (request.Exists key) c = refl
+  cache_alike t (request.Delete key) c = deleted_alike key t c
+  cache_alike t request.Clear c = cleared_alike t c
+  cache_alike t request.Retire c = refl
+
+  pub reply_alike : (t : ℕ) (r : Request) (c : Cache) → reply_to held t r c ≡ reply_to other t r c
+  reply_alike t (request.Store key graph ttl exclusive) c = ap (λ (i : Insertion). Flag (is_stored i.answer)) (inserted_alike key graph ttl exclusive t c)
+  reply_alike t (request.Fetch key) c = refl
+  reply_alike t (request.Exists key) c = refl
+  reply_alike t (request.Delete key) c = refl
+  reply_alike t request.Clear c = refl
+  reply_alike t request.Retire c = refl

@@ -1,0 +1,272 @@
+-- The numbers of rows are all different, and each worker has one window.
+use Rattle.std.proofs.Common.{◌≡◌, ◌≢◌, ℕ, ◌+◌, ◌-◌, ◌^◌, ◌<◌, ◌≤◌, ◌==◌, ◌&&◌, ◌⊎◌, inl, inr, Bool, true, false, not, cond, if◌then◌else◌, List, [], ◌∷◌, ◌++◌, length, map, filter, Option, Some, None, refl, ap, sym, ◌∙◌, subst, arith}
+use Rattle.std.specs.Prelude.{Contains, nat_lt, is_some}
+use Rattle.std.specs.List.{flat_map, list_any, range_with_len}
+use Rattle.std.specs.Map.{lookup}
+use Rattle.std.proofs.lemmas.Bool.{eq-eqb, eqb-true, ne_eqb, false≢true}
+use Rattle.std.proofs.lemmas.Map.Entries.{lookup-filter-keys}
+use Rattle.std.proofs.lemmas.List.Elements.{Contains-append_left, Contains-append_right, Contains-append_cases}
+use Rattle.php_graph.specs.declared.kind.Kind.{Kind}
+use Rattle.php_graph.specs.Size.{block_size}
+use Rattle.apcu_model.specs.declared.conf.Conf.{Conf}
+use Rattle.apcu_model.specs.declared.event.Event.{Event}
+use Rattle.apcu_model.specs.declared.request.Request.{Request}
+use Rattle.apcu_model.specs.declared.request.Request.TheVariants as request
+use Rattle.apcu_model.specs.declared.request.StoreAnswer.TheVariants as answers
+use Rattle.apcu_model.specs.Cache.{Row, Cache, risen, has_key, gap_of}
+use Rattle.apcu_model.specs.Expiry.{is_expired, live_row}
+use Rattle.apcu_model.specs.Walk.{is_in_slot, in_slot_order, slot_of}
+use Rattle.apcu_model.specs.Change.{is_held, dropped, swept, expired_dropped, expunged, deleted, cleared, has_gap, with_room, with_row, placed, put_in}
+use Rattle.apcu_model.specs.Sequential.{cache_after, looked_up, touched}
+use Rattle.apcu_model.specs.History.{Stage, start_of, is_scalar, opened, opened_at, held_places, after_event, after_events, IsNumbered, stage_of}
+use Rattle.apcu_model.proofs.Members.{Contains-cases, Contains-first, Contains-later, Contains-filter, none_in_nil}
+
+map_there : {X Y : Type 0} (f : X → Y) (xs : List X) (y : Y) → Contains (map f xs) y → (x : X) × Contains xs x × (f x ≡ y)
+map_there {X = X} {Y = Y} f [] y h = absurd (none_in_nil y h)
+map_there {X = X} {Y = Y} f (x ∷ xs) y h = go (map_there f xs y) (Contains-cases (f x) (map f xs) y h)
+  where
+    go : (Contains (map f xs) y → (x' : X) × Contains xs x' × (f x' ≡ y)) → (f x ≡ y) ⊎ Contains (map f xs) y → (x' : X) × Contains (x ∷ xs) x' × (f x' ≡ y)
+    go later (inl e) = (x, Contains-first x xs, e)
+    go later (inr r) = let t = later r in (t.0, Contains-later x xs t.0 t.1, t.2)
+
+flat_there : {X Y : Type 0} (f : X → List Y) (xs : List X) (y : Y) → Contains (flat_map f xs) y → (x : X) × Contains (f x) y
+flat_there {X = X} {Y = Y} f [] y h = absurd (none_in_nil y h)
+flat_there {X = X} {Y = Y} f (x ∷ xs) y h = go (flat_there f xs y) (Contains-append_cases (f x) (flat_map f xs) y h)
+  where
+    go : (Contains (flat_map f xs) y → (x' : X) × Contains (f x') y) → Contains (f x) y ⊎ Contains (flat_map f xs) y → (x' : X) × Contains (f x') y
+    go later (inl e) = (x, e)
+    go later (inr r) = later r
+
+-- each row of the second cache stood in the first, with its number and place
+record Sub (c c' : Cache) : Type 0 where
+  pub from : (r : Row) → Contains (c'.rows ++ c'.removed) r → (p : Row) × Contains (c.rows ++ c.removed) p × (p.number ≡ r.number) × (p.place ≡ r.place)
+  pub next : c'.next_number ≡ c.next_number
+
+sub_refl : (c : Cache) → Sub c c
+sub_refl c = record { from = λ r h. (r, h, refl, refl); next = refl }
+
+sub_trans : (a b c : Cache) → Sub a b → Sub b c → Sub a c
+sub_trans a b c f g = record {
+  from = λ r h. let p = g.from r h in let q = f.from p.0 p.1 in (q.0, q.1, q.2 ∙ p.2, q.3 ∙ p.3);
+  next = g.next ∙ f.next;
+}
+
+sub_if : (b : Bool) (c x y : Cache) → Sub c x → Sub c y → Sub c (if b then x else y)
+sub_if true c x y f g = f
+sub_if false c x y f g = g
+
+sub_dropped : (held : List ℕ) (t : ℕ) (pass : Row → Bool) (c : Cache) → Sub c (dropped held t pass c)
+sub_dropped held t pass c = record { from = from; next = refl }
+  where
+    gone : (r : Row) → Contains (map {A = Row} (λ row. record row { dtime = t }) (filter (is_held held) (in_slot_order c.conf (filter pass c.rows)))) r
+        → (p : Row) × Contains (c.rows ++ c.removed) p × (p.number ≡ r.number) × (p.place ≡ r.place)
+    gone r h =
+        let f : Row → Row = λ row. record row { dtime = t } in
+        let x = map_there f (filter (is_held held) (in_slot_order c.conf (filter pass c.rows))) r h in
+        let k = Contains-filter (is_held held) (in_slot_order c.conf (filter pass c.rows)) x.0 x.1 in
+        let s = flat_there (λ slot. filter (is_in_slot c.conf slot) (filter pass c.rows)) (range_with_len 0 c.conf.slots) x.0 k.0 in
+        let a = Contains-filter (is_in_slot c.conf s.0) (filter pass c.rows) x.0 s.1 in
+        let b = Contains-filter pass c.rows x.0 a.0 in
+        (x.0, Contains-append_left c.rows c.removed x.0 b.0, ap (λ (q : Row). q.number) x.2, ap (λ (q : Row). q.place) x.2)
+
+    from : (r : Row) → Contains ((dropped held t pass c).rows ++ (dropped held t pass c).removed) r → (p : Row) × Contains (c.rows ++ c.removed) p × (p.number ≡ r.number) × (p.place ≡ r.place)
+    from r h = elim (Contains-append_cases (dropped held t pass c).rows (dropped held t pass c).removed r h) [
+      | inl l ↦ let k = Contains-filter (λ (row : Row). not (pass row)) c.rows r l in (r, Contains-append_left c.rows c.removed r k.0, refl, refl)
+      | inr l ↦ elim (Contains-append_cases c.removed (map {A = Row} (λ row. record row { dtime = t }) (filter (is_held held) (in_slot_order c.conf (filter pass c.rows)))) r l) [
+        | inl m ↦ (r, Contains-append_right c.rows c.removed r m, refl, refl)
+        | inr m ↦ gone r m
+      ]
+    ]
+
+sub_swept : (held : List ℕ) (c : Cache) → Sub c (swept held c)
+sub_swept held c = record {
+  from = λ r h. elim (Contains-append_cases c.rows (filter (is_held held) c.removed) r h) [
+    | inl l ↦ (r, Contains-append_left c.rows c.removed r l, refl, refl)
+    | inr l ↦ (r, Contains-append_right c.rows c.removed r (Contains-filter (is_held held) c.removed r l).0, refl, refl)
+  ];
+  next = refl;
+}
+
+sub_expired : (held : List ℕ) (t : ℕ) (c : Cache) → Sub c (expired_dropped held t c)
+sub_expired held t c = sub_if (nat_lt 0 c.conf.ttl) c (dropped held t (is_expired c.conf t) c) c (sub_dropped held t (is_expired c.conf t) c) (sub_refl c)
+
+sub_expunged : (held : List ℕ) (t : ℕ) (c : Cache) → Sub c (expunged held t c)
+sub_expunged held t c = let d = sub_dropped held t (λ row. true) c in record { from = d.from; next = d.next }
+
+sub_deleted : (held key : List ℕ) (t : ℕ) (c : Cache) → Sub c (deleted held key t c)
+sub_deleted held key t c = sub_if (is_some (live_row key t c)) c (dropped held t (has_key key) c) c (sub_dropped held t (has_key key) c) (sub_refl c)
+
+sub_cleared : (held : List ℕ) (t : ℕ) (c : Cache) → Sub c (cleared held t c)
+sub_cleared held t c = let d = sub_dropped held t (λ row. true) c in record { from = d.from; next = d.next }
+
+sub_room : (held : List ℕ) (n t : ℕ) (c : Cache) → Sub c (with_room held n t c)
+sub_room held n t c =
+    let first = swept held c in
+    let second = expired_dropped held t first in
+    let f = sub_swept held c in
+    let s = sub_trans c first second f (sub_expired held t first) in
+    sub_if (has_gap n first) c first (if has_gap n second then second else expunged held t second) f
+    (sub_if (has_gap n second) c second (expunged held t second) s (sub_trans c second (expunged held t second) s (sub_expunged held t second)))
+
+record Numbers (c : Cache) : Type 0 where
+  pub below : (p : Row) → Contains (c.rows ++ c.removed) p → p.number < c.next_number
+  pub apart : (p q : Row) → Contains (c.rows ++ c.removed) p → Contains (c.rows ++ c.removed) q → p.number ≡ q.number → p.place ≡ q.place
+
+numbers_sub : (c c' : Cache) → Sub c c' → Numbers c → Numbers c'
+numbers_sub c c' s n = record {
+  below = λ r h. let p = s.from r h in let b = n.below p.0 p.1 in omega (arith, b, p.2, s.next);
+  apart = λ r q h k e. let a = s.from r h in let b = s.from q k in sym a.3 ∙ (n.apart a.0 b.0 a.1 b.1 (a.2 ∙ (e ∙ sym b.2)) ∙ b.3);
+}
+
+-- a row of the list with a new one
+with_there : (new : Row) (rows : List Row) (r : Row) → Contains (with_row new rows) r → (new ≡ r) ⊎ Contains rows r
+with_there new rows r h = go (list_any (has_key new.key) rows) h
+  where
+    picked : (row : Row) → (b : Bool) → (if b then new else row) ≡ r → Contains rows row → (new ≡ r) ⊎ Contains rows r
+    picked row true e c = inl e
+    picked row false e c = inr (subst (Contains rows) e c)
+
+    go : (b : Bool) → Contains (if b then map {A = Row} (λ row. if has_key new.key row then new else row) rows else rows ++ new ∷ []) r → (new ≡ r) ⊎ Contains rows r
+    go true q = let f : Row → Row = λ row. if has_key new.key row then new else row in let x = map_there f rows r q in picked x.0 (has_key new.key x.0) x.2 x.1
+    go false q = elim (Contains-append_cases rows (new ∷ []) r q) [
+      | inl l ↦ inr l
+      | inr l ↦ elim (Contains-cases new [] r l) [ inl e ↦ inl e | inr m ↦ absurd (none_in_nil r m) ]
+    ]
+
+numbers_placed : (held key : List ℕ) (graph : List Kind) (ttl t n : ℕ) (c : Cache) (place : ℕ) → Numbers c → c.next_number < 2 ^ 64 - 1 → Numbers (placed held key graph ttl t n c place)
+numbers_placed held key graph ttl t n c place num small = record { below = below; apart = apart }
+  where
+    cases : (r : Row) → Contains ((placed held key graph ttl t n c place).rows ++ (placed held key graph ttl t n c place).removed) r
+        → ((r.number ≡ c.next_number) × (r.place ≡ place)) ⊎ ((p : Row) × Contains (c.rows ++ c.removed) p × (p.number ≡ r.number) × (p.place ≡ r.place))
+    cases r h =
+        let pass : Row → Bool = λ row. is_in_slot c.conf (slot_of c.conf key) row && is_expired c.conf t row in
+        let f : Cache = dropped held t pass c in
+        let fresh_row : Row = record { key = key; graph = graph; ttl = ttl; ctime = t; mtime = t; atime = t; dtime = 0; hits = 0; place = place; size = n; number = c.next_number } in
+        let s1 = sub_dropped held t pass c in
+        let s2 = sub_trans c f (dropped held t (has_key key) f) s1 (sub_dropped held t (has_key key) f) in
+        elim (Contains-append_cases (with_row fresh_row f.rows) (dropped held t (has_key key) f).removed r h) [
+          | inl l ↦ elim (with_there fresh_row f.rows r l) [
+            | inl e ↦ inl (sym (ap (λ (q : Row). q.number) e), sym (ap (λ (q : Row). q.place) e))
+            | inr m ↦ inr (s1.from r (Contains-append_left f.rows f.removed r m))
+          ]
+          | inr l ↦ inr (s2.from r (Contains-append_right (dropped held t (has_key key) f).rows (dropped held t (has_key key) f).removed r l))
+        ]
+
+    below : (r : Row) → Contains ((placed held key graph ttl t n c place).rows ++ (placed held key graph ttl t n c place).removed) r → r.number < risen c.next_number
+    below r h = elim (cases r h) [
+      | inl e ↦ omega (arith, e.0, small)
+      | inr p ↦ let b = num.below p.0 p.1 in omega (arith, b, p.2, small)
+    ]
+
+    apart : (p q : Row) → Contains ((placed held key graph ttl t n c place).rows ++ (placed held key graph ttl t n c place).removed) p → Contains ((placed held key graph ttl t n c place).rows ++ (placed held key graph ttl t n c place).removed) q → p.number ≡ q.number → p.place ≡ q.place
+    apart p q h k e = elim (cases p h) [
+      | inl a ↦ elim (cases q k) [
+        | inl b ↦ a.1 ∙ sym b.1
+        | inr b ↦ let l = num.below b.0 b.1 in absurd (omega (arith, l, b.2, a.0, e))
+      ]
+      | inr a ↦ elim (cases q k) [
+        | inl b ↦ let l = num.below a.0 a.1 in absurd (omega (arith, l, a.2, b.0, e))
+        | inr b ↦ sym a.3 ∙ (num.apart a.0 b.0 a.1 b.1 (a.2 ∙ (e ∙ sym b.2)) ∙ b.3)
+      ]
+    ]
+
+-- the cache after a request
+record Grown (c c' : Cache) : Type 0 where
+  pub numbers : Numbers c'
+  pub next : c'.next_number ≤ c.next_number + 1
+
+grown_if : (b : Bool) (c x y : Cache) → Grown c x → Grown c y → Grown c (if b then x else y)
+grown_if true c x y f g = f
+grown_if false c x y f g = g
+
+same_grown : (c c' : Cache) → Sub c c' → Numbers c → Grown c c'
+same_grown c c' s n = record { numbers = numbers_sub c c' s n; next = omega (arith, s.next) }
+
+grown_put : (held key : List ℕ) (graph : List Kind) (ttl t n : ℕ) (c room : Cache) (place : Option ℕ) → Sub c room → Numbers c → c.next_number < 2 ^ 64 - 1 → Grown c (put_in held key graph ttl t n room place).cache
+grown_put held key graph ttl t n c room None s num small = same_grown c room s num
+grown_put held key graph ttl t n c room (Some place) s num small = record {
+  numbers = numbers_placed held key graph ttl t n room place (numbers_sub c room s num) (omega (arith, small, s.next));
+  next = omega (arith, s.next);
+}
+
+sub_looked : (key : List ℕ) (t : ℕ) (o : Option Row) (c : Cache) → Sub c (looked_up key t o c)
+sub_looked key t None c = record { from = λ r h. (r, h, refl, refl); next = refl }
+sub_looked key t (Some row) c = record {
+  from = λ r h. elim (Contains-append_cases (map {A = Row} (λ x. if has_key key x then touched t x else x) c.rows) c.removed r h) [
+    | inl l ↦ let f : Row → Row = λ x. if has_key key x then touched t x else x in let x = map_there f c.rows r l in (x.0, Contains-append_left c.rows c.removed x.0 x.1, number x.0 (has_key key x.0) ∙ ap (λ (q : Row). q.number) x.2, place x.0 (has_key key x.0) ∙ ap (λ (q : Row). q.place) x.2)
+    | inr l ↦ (r, Contains-append_right c.rows c.removed r l, refl, refl)
+  ];
+  next = refl;
+}
+  where
+    number : (x : Row) (b : Bool) → x.number ≡ (if b then touched t x else x).number
+    number x true = refl
+    number x false = refl
+
+    place : (x : Row) (b : Bool) → x.place ≡ (if b then touched t x else x).place
+    place x true = refl
+    place x false = refl
+
+grown_after : (held : List ℕ) (t : ℕ) (r : Request) (c : Cache) → Numbers c → c.next_number < 2 ^ 64 - 1 → Grown c (cache_after held t r c)
+grown_after held t (request.Store key graph ttl exclusive) c num small = go (nat_lt (c.conf.words - c.conf.slots) (block_size (length key) graph)) (exclusive && is_some (live_row key t c))
+  where
+    go : (a b : Bool) → Grown c (if a then record { answer = answers.TooLarge; cache = c } else if b then record { answer = answers.Exists; cache = c } else put_in held key graph ttl t (block_size (length key) graph) (with_room held (block_size (length key) graph) t c) (gap_of (with_room held (block_size (length key) graph) t c) (block_size (length key) graph))).cache
+    go true b = same_grown c c (sub_refl c) num
+    go false true = same_grown c c (sub_refl c) num
+    go false false = grown_put held key graph ttl t (block_size (length key) graph) c (with_room held (block_size (length key) graph) t c) (gap_of (with_room held (block_size (length key) graph) t c) (block_size (length key) graph)) (sub_room held (block_size (length key) graph) t c) num small
+grown_after held t (request.Fetch key) c num small = same_grown c (looked_up key t (live_row key t c) c) (sub_looked key t (live_row key t c) c) num
+grown_after held t (request.Exists key) c num small = same_grown c c (sub_refl c) num
+grown_after held t (request.Delete key) c num small = same_grown c (deleted held key t c) (sub_deleted held key t c) num
+grown_after held t request.Clear c num small = same_grown c (cleared held t c) (sub_cleared held t c) num
+grown_after held t request.Retire c num small = same_grown c c (sub_refl c) num
+
+-- one window for each worker
+abbrev Single : List (ℕ × ℕ) → Type 0
+Single ws = (w : ℕ × ℕ) → Contains ws w → lookup (λ x. x == w.0) ws ≡ Some w.1
+
+single_after : (worker : ℕ) (new ws : List (ℕ × ℕ)) → (new ≡ []) ⊎ ((n : ℕ) × (new ≡ (worker, n) ∷ [])) → Single ws → Single (new ++ filter (λ (w : ℕ × ℕ). not (w.0 == worker)) ws)
+single_after worker new ws which single w h = elim which [
+  | inl e ↦ subst (λ l. lookup (λ x. x == w.0) (l ++ filter (λ (w : ℕ × ℕ). not (w.0 == worker)) ws) ≡ Some w.1) (sym e) (old w (subst (λ l. Contains (l ++ filter (λ (w : ℕ × ℕ). not (w.0 == worker)) ws) w) e h))
+  | inr e ↦ subst (λ l. lookup (λ x. x == w.0) (l ++ filter (λ (w : ℕ × ℕ). not (w.0 == worker)) ws) ≡ Some w.1) (sym e.1) (first e.0 w (Contains-cases (worker, e.0) (filter (λ (w : ℕ × ℕ). not (w.0 == worker)) ws) w (subst (λ l. Contains (l ++ filter (λ (w : ℕ × ℕ). not (w.0 == worker)) ws) w) e.1 h)))
+]
+  where
+    other : (w : ℕ × ℕ) → Contains (filter (λ (w : ℕ × ℕ). not (w.0 == worker)) ws) w → w.0 ≢ worker
+    other w c e = let k = Contains-filter (λ (w : ℕ × ℕ). not (w.0 == worker)) ws w c in false≢true (sym (ap not (eq-eqb w.0 worker e)) ∙ k.1)
+
+    old : (w : ℕ × ℕ) → Contains (filter (λ (w : ℕ × ℕ). not (w.0 == worker)) ws) w → lookup (λ x. x == w.0) (filter (λ (w : ℕ × ℕ). not (w.0 == worker)) ws) ≡ Some w.1
+    old w c = lookup-filter-keys (λ x. x == w.0) (λ k. not (k == worker)) true (λ k q. ap not (ne_eqb k worker (λ e. other w c (sym (eqb-true k w.0 q) ∙ e)))) ws ∙ single w (Contains-filter (λ (w : ℕ × ℕ). not (w.0 == worker)) ws w c).0
+
+    first : (n : ℕ) (w : ℕ × ℕ) → ((worker, n) ≡ w) ⊎ Contains (filter (λ (w : ℕ × ℕ). not (w.0 == worker)) ws) w → cond (worker == w.0) (Some n) (lookup (λ x. x == w.0) (filter (λ (w : ℕ × ℕ). not (w.0 == worker)) ws)) ≡ Some w.1
+    first n w (inl e) = rw (eq-eqb worker w.0 (ap (λ (q : ℕ × ℕ). q.0) e)) (ap (λ (q : ℕ × ℕ). Some q.1) e)
+    first n w (inr c) = rw (ne_eqb worker w.0 (λ e. other w c (sym e))) (old w c)
+
+abbrev kept : ℕ → Row → Bool → List (ℕ × ℕ)
+kept worker row b = if b then [] else (worker, row.number) ∷ []
+
+opened_one : (worker t : ℕ) (r : Request) (c : Cache) → (opened worker t r c ≡ []) ⊎ ((n : ℕ) × (opened worker t r c ≡ (worker, n) ∷ []))
+opened_one worker t (request.Fetch key) c = go (live_row key t c)
+  where
+    scalar : (row : Row) (b : Bool) → (kept worker row b ≡ []) ⊎ ((n : ℕ) × (kept worker row b ≡ (worker, n) ∷ []))
+    scalar row true = inl refl
+    scalar row false = inr (row.number, refl)
+
+    go : (o : Option Row) → (opened_at worker o ≡ []) ⊎ ((n : ℕ) × (opened_at worker o ≡ (worker, n) ∷ []))
+    go None = inl refl
+    go (Some row) = scalar row (is_scalar row.graph)
+opened_one worker t (request.Store key graph ttl exclusive) c = inl refl
+opened_one worker t (request.Exists key) c = inl refl
+opened_one worker t (request.Delete key) c = inl refl
+opened_one worker t request.Clear c = inl refl
+opened_one worker t request.Retire c = inl refl
+
+-- from any stage on, for as many events as the numbers last
+grown_all : (m : Stage) (h : List Event) → Numbers m.cache → Single m.windows → m.cache.next_number + length h < 2 ^ 64 - 1 → Numbers (after_events m h).cache × Single (after_events m h).windows
+grown_all m [] num single small = (num, single)
+grown_all m (e ∷ h) num single small =
+    let g = grown_after (held_places m e.mask) e.t e.request m.cache num (omega (arith, small)) in
+    grown_all (after_event m e) h g.numbers (single_after e.worker (opened e.worker e.t e.request m.cache) m.windows (opened_one e.worker e.t e.request m.cache) single) (omega (arith, small, g.next))
+
+pub is_numbered : (conf : Conf) (h : List Event) → length h ≤ 4194304 → IsNumbered (stage_of conf h)
+is_numbered conf h short =
+    let g = grown_all (start_of conf) h (record { below = λ p c. absurd (none_in_nil p c); apart = λ p q c. absurd (none_in_nil p c) }) (λ w c. absurd (none_in_nil w c)) (omega (arith, short)) in
+    record { one = g.1; numbers = g.0.apart }

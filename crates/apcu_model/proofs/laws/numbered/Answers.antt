@@ -1,0 +1,5 @@
+use Rattle.apcu_model.proofs.Numbering.{is_numbered}
+use Rattle.apcu_model.proofs.laws.numbered.Goals as goal
+
+pub returns : goal.returns
+returns c = is_numbered

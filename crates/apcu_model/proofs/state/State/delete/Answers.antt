@@ -1,0 +1,25 @@
+use Rattle.std.proofs.Common.{not, List, [], sym, ap, ◌∙◌}
+use Rattle.std.proofs.lemmas.Bool.{cond-true}
+use Rattle.std.specs.Prelude.{is_some}
+use Rattle.apcu_model.specs.Cache.{Row, Cache, has_key}
+use Rattle.apcu_model.specs.Change.{dropped}
+use Rattle.apcu_model.specs.Expiry.{live_row}
+use Rattle.apcu_model.specs.Rows.{are_apart, cache_of}
+use Rattle.apcu_model.proofs.Apart.{dropped_of, are_apart-filter}
+use Rattle.apcu_model.proofs.state.State.delete.Goals as goal
+
+pub returns-clause-cache : goal.returns-clause-cache
+returns-clause-cache c =
+    let s = c.args.self.now in
+    let key = c.args.key.now in
+    ap (λ (rows : List Row). let d : Cache = record (cache_of s) { rows = rows } in d) c.drop_key.ensures
+    ∙ (sym (dropped_of c.args.t (has_key key) s)
+    ∙ sym (cond-true (is_some (live_row key c.args.t (cache_of s))) (dropped [] c.args.t (has_key key) (cache_of s)) (cache_of s) (sym c.is_live.ensures ∙ c.if-not-is_live.false)))
+
+pub returns-clause-sound : goal.returns-clause-sound
+returns-clause-sound c =
+    let s = c.args.self.now in
+    record {
+      good = c.requires.good;
+      apart = ap are_apart c.drop_key.ensures ∙ are_apart-filter (λ row. not (has_key c.args.key.now row)) s.rows.items c.requires.apart;
+    }

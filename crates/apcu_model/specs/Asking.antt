@@ -1,0 +1,14 @@
+-- What is asked with lent keys and values.
+use Rattle.apcu_model.specs.declared.ask.Ask.{Ask}
+use Rattle.apcu_model.specs.declared.ask.Ask.TheVariants as ask
+use Rattle.apcu_model.specs.declared.request.Request.{Request}
+use Rattle.apcu_model.specs.declared.request.Request.TheVariants as request
+
+-- the request that an ask stands for
+abbrev pub asked : Ask → Request
+asked (ask.Store key value ttl exclusive) = request.Store key.now value.now ttl exclusive
+asked (ask.Fetch key) = request.Fetch key.now
+asked (ask.Exists key) = request.Exists key.now
+asked (ask.Delete key) = request.Delete key.now
+asked ask.Clear = request.Clear
+asked ask.Retire = request.Retire

@@ -1,0 +1,19 @@
+use php_graph::Graph;
+
+/// What a worker asks, lent: the requests with their keys and values by reference. Contracts see
+/// the request that it stands for.
+#[derive(Clone, Copy)]
+pub enum Ask<'a> {
+    Store {
+        key: &'a [u8],
+        value: &'a Graph,
+        /// In seconds; 0 is no limit.
+        ttl: u32,
+        exclusive: bool,
+    },
+    Fetch(&'a [u8]),
+    Exists(&'a [u8]),
+    Delete(&'a [u8]),
+    Clear,
+    Retire,
+}

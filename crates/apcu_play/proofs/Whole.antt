@@ -1,0 +1,79 @@
+-- What was read of a source that tells.
+use Rattle.std.proofs.Common.{◌≡◌, ◌≢◌, ◌<◌, ◌≤◌, ℕ, List, [], ◌∷◌, ◌++◌, length, Option, Some, None, inl, inr, refl, sym, ap, subst, arith, ◌∙◌}
+use Rattle.std.specs.Prelude.{IfSome}
+use Rattle.io_edges.specs.Faults.{Rose}
+use Rattle.apcu_model.specs.declared.conf.Conf.{Conf}
+use Rattle.apcu_play.specs.declared.script.Step.{Step}
+use Rattle.apcu_play.specs.declared.status.Status.{Status}
+use Rattle.apcu_play.specs.declared.status.Status.TheVariants.{Done, Usage, Script, ReadFault, WriteFault, NoMemory, TooLong}
+use Rattle.apcu_play.specs.Grammar.{AreScripts}
+use Rattle.std.proofs.lemmas.List.{append-nil}
+use Rattle.std.specs.Io.KnownBytes.{prepend_known, IsAtEnd}
+use Rattle.apcu_play.specs.Run.{longest_input, WasRead, IsAnswer, Replays, ReplaysPart, IsRefused, IsUnlessMemory, Completes}
+
+all_read : (left input : List ℕ) (after : Option (List ℕ)) → Some left ≡ prepend_known input after → IsAtEnd after → left ≡ input
+all_read left input None taken end = absurd cc
+all_read left input (Some rest) taken end =
+    let e : left ≡ input ++ rest = cc in
+    e ∙ (ap (λ (r : List ℕ). input ++ r) end ∙ append-nil input)
+
+-- it is all that was left
+pub was_read : (left input : List ℕ) (before after : Option (List ℕ)) → before ≡ Some left → WasRead before after input → left ≡ input
+was_read left input before after told read = all_read left input after (sym told ∙ read.taken) read.whole
+
+longer_is : (left : List ℕ) (before : Option (List ℕ)) → before ≡ Some left → IfSome before (λ l. longest_input < length l) → longest_input < length left
+longer_is left before told longer = subst (λ (o : Option (List ℕ)). IfSome o (λ l. longest_input < length l)) told longer
+
+module _ (conf : Conf) (words : ℕ) (before after held_before held_after : Option (List ℕ)) (reads_before reads_after writes_before writes_after : ℕ) where
+  -- what is known of how a run ended
+  pub record Ended (status : Status) : Type 0 where
+    pub replayed : status ≡ Done → Replays conf before after held_before held_after
+    pub usage : status ≡ Usage → words ≢ 1
+    pub script : status ≡ Script → IsRefused before after
+    pub longer : status ≡ TooLong → IfSome before (λ left. longest_input < length left)
+    pub read_fault : status ≡ ReadFault → Rose reads_before reads_after
+    pub write_fault : status ≡ WriteFault → Rose writes_before writes_after
+    pub cut : status ≡ WriteFault → ReplaysPart conf before after held_before held_after
+
+  spelled_is : (input : List ℕ) (printed : List ℕ) → before ≡ Some input → IsAnswer conf before after printed → (length input ≤ longest_input) × ((scripts : List (List Step)) × AreScripts input scripts)
+  spelled_is input printed told answer =
+      let same = was_read input answer.input before after told answer.read in
+      (subst (λ (i : List ℕ). length i ≤ longest_input) (sym same) answer.read.short, (answer.scripts, subst (λ (i : List ℕ). AreScripts i answer.scripts) (sym same) answer.spelled))
+
+  refused_is : (input : List ℕ) → before ≡ Some input → IsRefused before after → (length input ≤ longest_input) × ((scripts : List (List Step)) → AreScripts input scripts → ⊥)
+  refused_is input told refused =
+      let same = was_read input refused.at.input before after told refused.at.read in
+      (subst (λ (i : List ℕ). length i ≤ longest_input) (sym same) refused.at.read.short, λ scripts are. refused.at.nothing scripts (subst (λ (i : List ℕ). AreScripts i scripts) same are))
+
+  done_by : (status : Status) → Ended status → (input : List ℕ) (scripts : List (List Step)) → words ≡ 1 → before ≡ Some input → length input ≤ longest_input → AreScripts input scripts
+      → (Rose reads_before reads_after → ⊥) → (Rose writes_before writes_after → ⊥) → IsUnlessMemory Done status
+  done_by Done e input scripts one told short are no_read no_write = inl refl
+  done_by Usage e input scripts one told short are no_read no_write = absurd (e.usage refl one)
+  done_by Script e input scripts one told short are no_read no_write = absurd ((refused_is input told (e.script refl)).1 scripts are)
+  done_by ReadFault e input scripts one told short are no_read no_write = absurd (no_read (e.read_fault refl))
+  done_by WriteFault e input scripts one told short are no_read no_write = absurd (no_write (e.write_fault refl))
+  done_by NoMemory e input scripts one told short are no_read no_write = inr refl
+  done_by TooLong e input scripts one told short are no_read no_write = let more = longer_is input before told (e.longer refl) in absurd (omega arith)
+
+  refused_by : (status : Status) → Ended status → (input : List ℕ) → words ≡ 1 → before ≡ Some input → length input ≤ longest_input → ((scripts : List (List Step)) → AreScripts input scripts → ⊥)
+      → (Rose reads_before reads_after → ⊥) → IsUnlessMemory Script status
+  refused_by Done e input one told short none no_read = let s = spelled_is input (e.replayed refl).printed told (e.replayed refl).answer in absurd (none s.1.0 s.1.1)
+  refused_by Usage e input one told short none no_read = absurd (e.usage refl one)
+  refused_by Script e input one told short none no_read = inl refl
+  refused_by ReadFault e input one told short none no_read = absurd (no_read (e.read_fault refl))
+  refused_by WriteFault e input one told short none no_read = let s = spelled_is input (e.cut refl).printed told (e.cut refl).answer in absurd (none s.1.0 s.1.1)
+  refused_by NoMemory e input one told short none no_read = inr refl
+  refused_by TooLong e input one told short none no_read = let more = longer_is input before told (e.longer refl) in absurd (omega arith)
+
+  too_long_by : (status : Status) → Ended status → (input : List ℕ) → words ≡ 1 → before ≡ Some input → longest_input < length input → (Rose reads_before reads_after → ⊥) → IsUnlessMemory TooLong status
+  too_long_by Done e input one told long no_read = let s = (spelled_is input (e.replayed refl).printed told (e.replayed refl).answer).0 in absurd (omega arith)
+  too_long_by Usage e input one told long no_read = absurd (e.usage refl one)
+  too_long_by Script e input one told long no_read = let s = (refused_is input told (e.script refl)).0 in absurd (omega arith)
+  too_long_by ReadFault e input one told long no_read = absurd (no_read (e.read_fault refl))
+  too_long_by WriteFault e input one told long no_read = let s = (spelled_is input (e.cut refl).printed told (e.cut refl).answer).0 in absurd (omega arith)
+  too_long_by NoMemory e input one told long no_read = inr refl
+  too_long_by TooLong e input one told long no_read = inl refl
+
+  -- and so what it must come to
+  pub completes : (status : Status) → Ended status → Completes status words before reads_before reads_after writes_before writes_after
+  completes status e = record { done = done_by status e; refused = refused_by status e; too_long = too_long_by status e }

@@ -1,0 +1,110 @@
+-- What workers ask of the cache, and what comes of a journal.
+use Rattle.std.specs.Prelude.{ℕ, ◌==◌, ◌&&◌, Bool, true, false, if◌then◌else◌, List, [], ◌∷◌, ◌++◌, length, map, Option, Some, None, slice_get, slice_set, unwrap_or, is_none, IsTrue, IsSome}
+use Rattle.std.specs.Option.{option_and_then}
+use Rattle.std.specs.List.{list_all}
+use Rattle.apcu_model.specs.declared.conf.Conf.{Conf}
+use Rattle.apcu_model.specs.declared.journal.Mark.{Mark}
+use Rattle.apcu_model.specs.declared.request.Request.{Request}
+use Rattle.apcu_model.specs.declared.request.Request.TheVariants.{Store, Fetch, Retire}
+use Rattle.apcu_model.specs.declared.request.Reply.{Reply}
+use Rattle.apcu_model.specs.declared.event.Event.{Event}
+use Rattle.apcu_model.specs.History.{Stage, start_of, is_legal_mask, reply_in, after_event}
+use Rattle.apcu_play.specs.declared.script.Call.{Call}
+use Rattle.apcu_play.specs.declared.script.Call.TheVariants.{StoreOne, FetchOne}
+use Rattle.apcu_play.specs.declared.script.Step.{Step}
+
+-- What a call does next, after it got some replies: it asks once more, or it is done and leaves the
+-- replies that belong to the calls after it.
+pub data Next : Type 0 where
+  Asks : Request → Next
+  Leaves : List Reply → Next
+
+-- a call on one key asks once
+abbrev pub asks_once : Request → List Reply → Next
+asks_once request [] = Asks request
+asks_once request (reply ∷ replies) = Leaves replies
+
+abbrev pub next_of : Conf → Call → List Reply → Next
+next_of conf (StoreOne key value ttl exclusive) replies = asks_once (Store key value ttl exclusive) replies
+next_of conf (FetchOne key) replies = asks_once (Fetch key) replies
+
+-- a request and its moment
+pub record Wish : Type 0 where
+  pub request : Request
+  pub t : ℕ
+
+-- the call's request, or else what the calls after it want
+abbrev pub continued : ℕ → (List Reply → Option Wish) → Next → Option Wish
+continued t later (Asks request) = Some (record { request = request; t = t })
+continued t later (Leaves others) = later others
+
+-- A worker's next request after these replies: that of the first call that is not done; after the last
+-- call its end, and then nothing.
+abbrev pub wanted : Conf → List Step → List Reply → Option Wish
+wanted conf [] [] = Some (record { request = Retire; t = 0 })
+wanted conf [] (reply ∷ replies) = None
+wanted conf (step ∷ steps) replies = continued step.t (wanted conf steps) (next_of conf step.call replies)
+
+-- After some events: what the cache is, and what each worker was answered.
+pub record Play : Type 0 where
+  pub stage : Stage
+  pub replies : List (List Reply)
+
+-- nothing was asked yet
+abbrev pub nothing_played : Conf → List (List Step) → Play
+nothing_played conf scripts = record { stage = start_of conf; replies = map (λ script. []) scripts }
+
+abbrev pub script_of : List (List Step) → ℕ → Option (List Step)
+script_of scripts worker = slice_get scripts worker
+
+-- the replies that a worker had
+abbrev pub replies_of : Play → ℕ → List Reply
+replies_of p worker = unwrap_or (slice_get p.replies worker) []
+
+-- what a worker wants now
+abbrev pub wish_of : Conf → List (List Step) → Play → ℕ → Option Wish
+wish_of conf scripts p worker = option_and_then (λ script. wanted conf script (replies_of p worker)) (script_of scripts worker)
+
+-- a worker's event
+abbrev pub event_of : Mark → Wish → Event
+event_of mark wish = record { worker = mark.worker; t = wish.t; request = wish.request; mask = mark.mask }
+
+-- the play after an event, which is answered by the cache of one thread
+abbrev pub after_wish : Play → Mark → Wish → Play
+after_wish p mark wish = record {
+  stage = after_event p.stage (event_of mark wish);
+  replies = slice_set p.replies mark.worker (replies_of p mark.worker ++ reply_in p.stage (event_of mark wish) ∷ []);
+}
+
+-- the play after one more mark: its worker wants something, and its mask is legal
+abbrev pub marked : Conf → List (List Step) → Play → Mark → Option Play
+marked conf scripts p mark =
+    if is_legal_mask (length scripts) mark.worker p.stage mark.mask
+    then option_and_then (λ wish. Some (after_wish p mark wish)) (wish_of conf scripts p mark.worker)
+    else None
+
+-- the play of a journal, where each of its marks can be played
+abbrev pub played_from : Conf → List (List Step) → Play → List Mark → Option Play
+played_from conf scripts p [] = Some p
+played_from conf scripts p (mark ∷ marks) = option_and_then (λ q. played_from conf scripts q marks) (marked conf scripts p mark)
+
+abbrev pub played : Conf → List (List Step) → List Mark → Option Play
+played conf scripts journal = played_from conf scripts (nothing_played conf scripts) journal
+
+-- all marks can be played
+abbrev pub IsLegal : Conf → List (List Step) → List Mark → Type 0
+IsLegal conf scripts journal = IsSome (played conf scripts journal)
+
+-- a script and its replies: nothing more is wanted
+abbrev pub are_done : Conf → List (List Step) → List (List Reply) → Bool
+are_done conf [] replies = true
+are_done conf (script ∷ scripts) [] = false
+are_done conf (script ∷ scripts) (replies ∷ others) = is_none (wanted conf script replies) && are_done conf scripts others
+
+-- after a legal journal no worker wants anything
+abbrev pub is_complete_play : Conf → List (List Step) → Option Play → Bool
+is_complete_play conf scripts None = false
+is_complete_play conf scripts (Some p) = are_done conf scripts p.replies
+
+abbrev pub IsComplete : Conf → List (List Step) → List Mark → Type 0
+IsComplete conf scripts journal = IsTrue (is_complete_play conf scripts (played conf scripts journal))

@@ -1,0 +1,40 @@
+ghost use Rattle.std.specs.Prelude.{◌≡◌};
+ghost use Rattle.apcu_play.specs.declared.fault.Stop.TheVariants.{Memory};
+
+use notation::{Fault, Reason};
+use std::alloc::{AllocError, AllocFailed};
+use thiserror::Error;
+
+/// Why no scripts were read.
+#[derive(Debug, Drop, Error)]
+pub enum ScriptFault {
+    /// The bytes spell no scripts: the first fault, and the place of its byte, from 0.
+    #[error("byte {place}: {reason}")]
+    Bad { place: u64, reason: Reason },
+    /// There was no memory for the scripts.
+    #[error("out of memory")]
+    Memory,
+}
+
+// Why reading stopped.
+#[derive(Debug, Drop)]
+pub enum Stop {
+    Memory,
+    Fault(Fault),
+}
+
+impl From<AllocError> for Stop {
+    ghost from_gives = { λ _ e. e ≡ Memory };
+
+    fn from(_e: AllocError) -> Stop {
+        Stop::Memory
+    }
+}
+
+impl<T: Drop> From<AllocFailed<T>> for Stop {
+    ghost from_gives = { λ _ e. e ≡ Memory };
+
+    fn from(_e: AllocFailed<T>) -> Stop {
+        Stop::Memory
+    }
+}

@@ -1,0 +1,64 @@
+ghost use Rattle.std.specs.Prelude.{◌≡◌};
+ghost use Rattle.apcu_play.specs.Message.{message_of, reason_text, script_message};
+ghost use Rattle.apcu_play.specs.Run.{WasTold, IsTold};
+
+use crate::status::Status;
+use io_edges::{Sink, write_all};
+use itoa::Buffer;
+use notation::Reason;
+
+/// Tells a status on `err`, a line. It takes no memory.
+pub fn tell<E: Sink>(err: &mut E, status: Status)
+    ensures { IsTold (message_of status) (E.held err.old) (E.held err.new) (E.faults err.old) (E.faults err.new) }
+{
+    let _all = tell_text(err, status.message());
+}
+
+/// Tells the first fault of a script on `err`, a line with its byte, from 0, and its reason. It takes no memory.
+pub fn tell_fault<E: Sink>(err: &mut E, place: u64, reason: Reason)
+    ensures { IsTold (script_message place reason) (E.held err.old) (E.held err.new) (E.faults err.old) (E.faults err.new) }
+{
+    if !tell_text(err, b"apcu_run: script: byte ") {
+        return;
+    }
+    let mut digits = Buffer::new();
+    if !tell_text(err, digits.format(place).as_bytes()) {
+        return;
+    }
+    let _all = tell_text(err, ending_of(reason));
+}
+
+// Whether all of a text was told.
+fn tell_text<E: Sink>(err: &mut E, text: &[u8]) -> bool
+    ensures { WasTold result text.now (E.held err.old) (E.held err.new) (E.faults err.old) (E.faults err.new) }
+{
+    match write_all(err, text) {
+        Ok(()) => true,
+        Err(_) => false,
+    }
+}
+
+// How the message ends.
+fn ending_of(reason: Reason) -> &'static [u8]
+    ensures { result.now ≡ reason_text reason }
+{
+    match reason {
+        Reason::End => b": end\n",
+        Reason::Tag => b": tag\n",
+        Reason::Number => b": number\n",
+        Reason::Length => b": length\n",
+        Reason::Mark => b": mark\n",
+        Reason::Depth => b": depth\n",
+        Reason::Places => b": places\n",
+        Reason::Target => b": target\n",
+        Reason::Repeat => b": repeat\n",
+        Reason::Class => b": class\n",
+        Reason::Integer => b": integer\n",
+        Reason::Line => b": line\n",
+        Reason::Separator => b": separator\n",
+        Reason::Argument => b": argument\n",
+        Reason::Workers => b": workers\n",
+        Reason::Generator => b": generator\n",
+        Reason::Unbuilt => b": unbuilt\n",
+    }
+}

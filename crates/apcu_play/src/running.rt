@@ -1,0 +1,171 @@
+ghost use Rattle.std.specs.Prelude.{◌≡◌, ◌≢◌, ◌↔◌, ◌⊎◌, ◌+◌, ◌<◌, ◌≤◌, ℕ, List, length, Some, IfOk, IfErr, IfSome, OnErr, IsErrOf};
+ghost use Rattle.std.specs.Io.KnownBytes.{prepend_known, append_known, IsAtEnd};
+ghost use Rattle.io_edges.specs.Faults.{Rose};
+ghost use Rattle.io_edges.specs.Reading.{HasTaken};
+ghost use Rattle.apcu_play.specs.declared.script.Step.{Step};
+ghost use Rattle.apcu_play.specs.Grammar.{AreScripts};
+ghost use Rattle.apcu_play.specs.Message.{message_of};
+ghost use Rattle.apcu_play.specs.Run.{default_conf, longest_input, WasRead, IsAnswer, Replays, ReplaysPart, IsRefusedAt, IsRefused, IsTold, TellsRefusal, Completes};
+
+use crate::fault::ScriptFault;
+use crate::play::play;
+use crate::reading::read_scripts;
+use crate::script::Scripts;
+use crate::status::Status;
+use crate::messages::{tell, tell_fault};
+use apcu_model::Conf;
+use io_edges::{Gate, ReadError, Sink, Source, read_all, write_all};
+use notation::{ByteOut, Reason};
+use std::alloc::Global;
+use std::sync::Wait;
+use std::thread::Threads;
+
+// The most bytes of input.
+const LONGEST_INPUT: usize = 67_108_864;
+
+const DEFAULT_CONF: Conf = Conf {
+    words: 4_194_304,
+    slots: 4096,
+    ttl: 0,
+};
+
+// The whole input.
+fn input_of<S: Source>(alloc: Global, input: &mut S) -> Result<Vec<u8>, Status>
+    ensures read { IfOk result (λ bytes. WasRead (S.left input.old) (S.left input.new) bytes.items) }
+    ensures too_long { IsErrOf result Status.TooLong → HasTaken (S.left input.old) (S.left input.new) (longest_input + 1) }
+    ensures longer { IsErrOf result Status.TooLong → IfSome (S.left input.old) (λ left. longest_input < length left) }
+    ensures fault { IsErrOf result Status.ReadFault → Rose (S.faults input.old) (S.faults input.new) }
+    ensures others { OnErr result ((IsErrOf result Status.TooLong) ⊎ ((IsErrOf result Status.ReadFault) ⊎ (IsErrOf result Status.NoMemory))) }
+{
+    match read_all(alloc, input, LONGEST_INPUT) {
+        Ok(bytes) => Ok(bytes),
+        Err(ReadError::Memory) => Err(Status::NoMemory),
+        Err(ReadError::Fault) => Err(Status::ReadFault),
+        Err(ReadError::TooLong) => Err(Status::TooLong),
+    }
+}
+
+// How a run ended, with the first fault of a script that has one.
+#[derive(Clone, Copy)]
+struct Ending {
+    status: Status,
+    place: u64,
+    reason: Reason,
+}
+
+impl Ending {
+    // An ending other than by a script's fault.
+    fn of(status: Status) -> Ending
+        ensures { result.status ≡ status }
+    {
+        Ending {
+            status,
+            place: 0,
+            reason: Reason::End,
+        }
+    }
+}
+
+// What the input asks for, as it is to be printed.
+fn answer<S: Source>(alloc: Global, input: &mut S) -> Result<ByteOut, Ending>
+    ensures answer { IfOk result (λ out. IsAnswer default_conf (S.left input.old) (S.left input.new) out) }
+    ensures script { IfErr result (λ e. e.status ≡ Status.Script → IsRefusedAt (S.left input.old) (S.left input.new) e.place e.reason) }
+    ensures too_long { IfErr result (λ e. e.status ≡ Status.TooLong → HasTaken (S.left input.old) (S.left input.new) (longest_input + 1)) }
+    ensures longer { IfErr result (λ e. e.status ≡ Status.TooLong → IfSome (S.left input.old) (λ left. longest_input < length left)) }
+    ensures fault { IfErr result (λ e. e.status ≡ Status.ReadFault → Rose (S.faults input.old) (S.faults input.new)) }
+    ensures others { IfErr result (λ e. (e.status ≢ Status.Done) × (e.status ≢ Status.Usage) × (e.status ≢ Status.WriteFault)) }
+{
+    let bytes = match input_of(alloc, input) {
+        Ok(bytes) => bytes,
+        Err(status) => return Err(Ending::of(status)),
+    };
+    match read_scripts(alloc, &bytes) {
+        Ok(scripts) => match play(alloc, &DEFAULT_CONF, scripts) {
+            Ok(out) => Ok(out),
+            Err(_) => Err(Ending::of(Status::NoMemory)),
+        },
+        Err(ScriptFault::Bad { place, reason }) => Err(Ending {
+            status: Status::Script,
+            place,
+            reason,
+        }),
+        Err(ScriptFault::Memory) => Err(Ending::of(Status::NoMemory)),
+    }
+}
+
+// Answers the input on `out`, or tells why not.
+fn outcome<S: Source, K: Sink>(
+    alloc: Global,
+    words: &[String],
+    input: &mut S,
+    out: &mut K,
+) -> Ending
+    ensures replayed { result.status ≡ Status.Done → Replays default_conf (S.left input.old) (S.left input.new) (K.held out.old) (K.held out.new) }
+    ensures usage { (result.status ≡ Status.Usage) ↔ (length words.now ≢ 1) }
+    ensures script { result.status ≡ Status.Script → IsRefusedAt (S.left input.old) (S.left input.new) result.place result.reason }
+    ensures too_long { result.status ≡ Status.TooLong → HasTaken (S.left input.old) (S.left input.new) (longest_input + 1) }
+    ensures longer { result.status ≡ Status.TooLong → IfSome (S.left input.old) (λ left. longest_input < length left) }
+    ensures read_fault { result.status ≡ Status.ReadFault → Rose (S.faults input.old) (S.faults input.new) }
+    ensures write_fault { result.status ≡ Status.WriteFault → Rose (K.faults out.old) (K.faults out.new) }
+    ensures cut { result.status ≡ Status.WriteFault → ReplaysPart default_conf (S.left input.old) (S.left input.new) (K.held out.old) (K.held out.new) }
+    ensures unchanged { result.status ≢ Status.Done → result.status ≢ Status.WriteFault → (K.held out.new ≡ K.held out.old) × (K.faults out.new ≡ K.faults out.old) }
+{
+    if words.len() != 1 {
+        return Ending::of(Status::Usage);
+    }
+    match answer(alloc, input) {
+        Ok(text) => match write_all(out, text.as_slice()) {
+            Ok(()) => Ending::of(Status::Done),
+            Err(_) => Ending::of(Status::WriteFault),
+        },
+        Err(ending) => ending,
+    }
+}
+
+/// Plays the scripts of `input` and prints on `out` what each worker's calls answer and the journal: the
+/// order in which the calls took effect. What went wrong is told on `err`, a line.
+///
+/// `words` are the program's words with its name first; it has no options. Each worker's calls are those
+/// of PHP's APCu functions, one on a line, with their arguments in PHP's serialize notation.
+///
+/// Whatever the script, each reply printed is the one that a cache of one thread gives at that call's place
+/// in the printed journal (`replayed`). Every other status has its cause in a clause of its own, and leaves
+/// `out` as it was, but for `WriteFault`, which leaves the first of what was to be printed.
+pub fn run<R: Threads + Wait + Sync, S: Source, K: Sink, E: Sink, G: Gate + Sync>(
+    rt: &R,
+    alloc: Global,
+    words: &[String],
+    input: &mut S,
+    out: &mut K,
+    err: &mut E,
+    gate: &G,
+) -> Status
+    // What is printed is the output of a journal that is legal and complete for the scripts of the whole input.
+    ensures replayed { result ≡ Status.Done → Replays default_conf (S.left input.old) (S.left input.new) (K.held out.old) (K.held out.new) }
+
+    // Each other status, and when it comes.
+    ensures usage { (result ≡ Status.Usage) ↔ (length words.now ≢ 1) }
+    ensures script { result ≡ Status.Script → IsRefused (S.left input.old) (S.left input.new) }
+    ensures too_long { result ≡ Status.TooLong → HasTaken (S.left input.old) (S.left input.new) (longest_input + 1) }
+    ensures longer { result ≡ Status.TooLong → IfSome (S.left input.old) (λ left. longest_input < length left) }
+    ensures read_fault { result ≡ Status.ReadFault → Rose (S.faults input.old) (S.faults input.new) }
+    ensures write_fault { result ≡ Status.WriteFault → Rose (K.faults out.old) (K.faults out.new) }
+    ensures complete { Completes result (length words.now) (S.left input.old) (S.faults input.old) (S.faults input.new) (K.faults out.old) (K.faults out.new) }
+
+    // What is left on the sinks.
+    ensures cut { result ≡ Status.WriteFault → ReplaysPart default_conf (S.left input.old) (S.left input.new) (K.held out.old) (K.held out.new) }
+    ensures unchanged { result ≢ Status.Done → result ≢ Status.WriteFault → (K.held out.new ≡ K.held out.old) × (K.faults out.new ≡ K.faults out.old) }
+    ensures silent { result ≡ Status.Done → (E.held err.new ≡ E.held err.old) × (E.faults err.new ≡ E.faults err.old) }
+    ensures told { result ≢ Status.Done → result ≢ Status.Script → IsTold (message_of result) (E.held err.old) (E.held err.new) (E.faults err.old) (E.faults err.new) }
+    ensures told_script { result ≡ Status.Script → TellsRefusal (S.left input.old) (S.left input.new) (E.held err.old) (E.held err.new) (E.faults err.old) (E.faults err.new) }
+{
+    let _ = rt;
+    let _ = gate;
+    let ending = outcome(alloc, words, input, out);
+    match ending.status {
+        Status::Done => {}
+        Status::Script => tell_fault(err, ending.place, ending.reason),
+        status => tell(err, status),
+    }
+    ending.status
+}

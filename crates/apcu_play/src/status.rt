@@ -1,0 +1,53 @@
+ghost use Rattle.std.specs.Prelude.{◌≡◌, length};
+ghost use Rattle.apcu_play.specs.Message.{message_of, code_of};
+
+/// How a run ended. Its number is the program's exit status.
+#[derive(Clone, Copy, Debug, PartialEq, Eq)]
+pub enum Status {
+    /// All calls were made, and what they answered was printed.
+    Done,
+    /// The command line is not one of this program.
+    Usage,
+    /// The input spells no scripts. The message has the first fault's place and reason.
+    Script,
+    /// A read of the input failed.
+    ReadFault,
+    /// A write of the output failed.
+    WriteFault,
+    /// There was not enough memory.
+    NoMemory,
+    /// The input is longer than 67,108,864 bytes.
+    TooLong,
+}
+
+impl Status {
+    /// The exit status, from 0 to 6.
+    pub fn code(self) -> u8
+        ensures { result ≡ code_of self }
+    {
+        match self {
+            Status::Done => 0,
+            Status::Usage => 1,
+            Status::Script => 2,
+            Status::ReadFault => 3,
+            Status::WriteFault => 4,
+            Status::NoMemory => 5,
+            Status::TooLong => 6,
+        }
+    }
+
+    /// What is told of it on standard error, a line; nothing where the run is done, and nothing here of a
+    /// script with a fault, of which place and reason are told.
+    pub fn message(self) -> &'static [u8]
+        ensures { result.now ≡ message_of self }
+    {
+        match self {
+            Status::Done | Status::Script => b"",
+            Status::Usage => b"apcu_run: usage\n",
+            Status::ReadFault => b"apcu_run: read fault\n",
+            Status::WriteFault => b"apcu_run: write fault\n",
+            Status::NoMemory => b"apcu_run: out of memory\n",
+            Status::TooLong => b"apcu_run: input too long\n",
+        }
+    }
+}

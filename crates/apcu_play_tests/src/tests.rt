@@ -1,0 +1,272 @@
+ghost use Rattle.std.specs.Prelude.{◌≤◌};
+
+use apcu_play::{Status, run};
+use io_edges::{MemSink, MemSource, NoGate};
+use notation::ByteOut;
+use std::alloc::Global;
+use std::process::Abort;
+use std::sync::Wait;
+use std::test::Fail;
+use std::thread::Threads;
+
+const STORE_AND_FETCH: &[u8] = b"worker\napcu_store s:1:\"a\"; i:5;\napcu_fetch s:1:\"a\";\n";
+
+const PRINTED: &[u8] = b"worker 0\nb:1;\ni:5;b:1;\njournal\n0\n0\n0\n";
+
+// A run: its input, the most bytes of a read and of a write, the numbers from 0 of the reads and writes that
+// fail; how it ends, what it prints and what it tells.
+#[derive(Clone, Copy)]
+struct Run<'a> {
+    input: &'a [u8],
+    piece: usize,
+    fails: [&'a [u64]; 2],
+    status: Status,
+    printed: &'a [u8],
+    told: &'a [u8],
+}
+
+// A run without faults, read seven bytes at a time.
+fn whole<'a>(input: &'a [u8], status: Status, printed: &'a [u8], told: &'a [u8]) -> Run<'a> {
+    Run {
+        input,
+        piece: 7,
+        fails: [[].as_slice(), [].as_slice()],
+        status,
+        printed,
+        told,
+    }
+}
+
+fn expect<R: Threads + Wait + Sync + Abort>(
+    rt: &R,
+    alloc: Global,
+    case: Run<'_>,
+) -> Result<(), Fail> {
+    assert!(rt; case.piece > 0);
+    let words = [String::from_str(alloc, "apcu_run")?];
+    let mut input = MemSource::new(case.input, case.piece, case.fails[0]);
+    let mut out = MemSink::new(alloc, 16384, case.piece, case.fails[1])?;
+    let mut err = MemSink::new(alloc, 64, 64, &[])?;
+    let status = run(rt, alloc, &words, &mut input, &mut out, &mut err, &NoGate);
+    assert_eq!(rt; status, case.status);
+    assert_eq!(rt; out.as_slice(), case.printed);
+    assert_eq!(rt; err.as_slice(), case.told);
+    Ok(())
+}
+
+// A script that stores this value under the key `a`; the value stands at byte 27.
+fn storing(alloc: Global, value: &[u8]) -> Result<ByteOut, Fail> {
+    let mut script = ByteOut::new(alloc);
+    script.push(b"worker\napcu_store s:1:\"a\"; ")?;
+    script.push(value)?;
+    script.push(b"\n")?;
+    Ok(script)
+}
+
+// The value comes back as it was stored.
+fn comes_back(
+    rt: &(impl Threads + Wait + Sync + Abort),
+    alloc: Global,
+    value: &[u8],
+) -> Result<(), Fail> {
+    let mut script = storing(alloc, value)?;
+    script.push(b"apcu_fetch s:1:\"a\";\n")?;
+    let mut printed = ByteOut::new(alloc);
+    printed.push(b"worker 0\nb:1;\n")?;
+    printed.push(value)?;
+    printed.push(b"b:1;\njournal\n0\n0\n0\n")?;
+    let case = whole(script.as_slice(), Status::Done, printed.as_slice(), b"");
+    expect(rt, alloc, case)
+}
+
+// An array in an array, so many of them, around a null.
+fn nested(alloc: Global, levels: usize, ends: &[u8]) -> Result<ByteOut, Fail> {
+    let mut value = ByteOut::new(alloc);
+    for _ in 0..levels {
+        value.push(b"a:1:{i:0;")?;
+    }
+    value.push(b"N;")?;
+    for _ in 0..levels {
+        value.push(ends)?;
+    }
+    Ok(value)
+}
+
+#[test]
+fn scripts(rt: HostRuntime) -> Result<(), Fail> {
+    let absent = b"worker\napcu_fetch s:1:\"a\";\n";
+    for (input, printed) in [
+        (STORE_AND_FETCH, PRINTED),
+        (b"".as_slice(), b"journal\n".as_slice()),
+        (absent, b"worker 0\nb:0;b:0;\njournal\n0\n0\n"),
+    ] {
+        expect(&rt, rt.alloc(), whole(input, Status::Done, printed, b""))?;
+    }
+    Ok(())
+}
+
+#[test]
+fn values(rt: HostRuntime) -> Result<(), Fail> {
+    for value in [
+        b"b:0;".as_slice(),
+        b"N;",
+        b"a:1:{i:0;R:1;}",
+        b"O:1:\"A\":2:{s:1:\"x\";r:1;s:1:\"y\";R:1;}",
+        b"a:4:{i:0;i:1;i:1;R:2;i:2;O:1:\"A\":0:{}i:3;r:3;}",
+    ] {
+        comes_back(&rt, rt.alloc(), value)?;
+    }
+    Ok(())
+}
+
+#[test]
+fn the_most_levels(rt: HostRuntime) -> Result<(), Fail> {
+    let alloc = rt.alloc();
+    let deepest = nested(alloc, 511, b"}")?;
+    comes_back(&rt, alloc, deepest.as_slice())?;
+    let too_deep = nested(alloc, 512, b"")?;
+    expect_refused(&rt, alloc, too_deep.as_slice(), b"apcu_run: script: byte 4635: depth\n")
+}
+
+// A script that stores this value is refused.
+fn expect_refused(
+    rt: &(impl Threads + Wait + Sync + Abort),
+    alloc: Global,
+    value: &[u8],
+    told: &[u8],
+) -> Result<(), Fail> {
+    let script = storing(alloc, value)?;
+    expect(rt, alloc, whole(script.as_slice(), Status::Script, b"", told))
+}
+
+#[test]
+fn lines_with_a_fault(rt: HostRuntime) -> Result<(), Fail> {
+    for (input, told) in [
+        (b"worker\napcu_store s:1:\"a\"; i:5;".as_slice(), b"apcu_run: script: byte 31: end\n".as_slice()),
+        (b"worker\napcu_store s:1:\"a\"; i:5; i:1;\n", b"apcu_run: script: byte 32: unbuilt\n"),
+        (b"worker\napcu_store s:1:\"a\"; i:5;,\n", b"apcu_run: script: byte 31: separator\n"),
+        (b"worker\napcu_store s:1:\"a\";\n", b"apcu_run: script: byte 26: argument\n"),
+        (b"worker\napcu_store i:1; i:5;\n", b"apcu_run: script: byte 18: argument\n"),
+        (b"worker\napcu_fetch a:0:{}\n", b"apcu_run: script: byte 18: unbuilt\n"),
+        (b"worker\nworker\n", b"apcu_run: script: byte 7: unbuilt\n"),
+        (b"worker\napcu_inc s:1:\"a\";\n", b"apcu_run: script: byte 7: unbuilt\n"),
+        (b"worker", b"apcu_run: script: byte 6: end\n"),
+        (b"worker 1\n", b"apcu_run: script: byte 7: argument\n"),
+        (b"apcu_fetch s:1:\"a\";\n", b"apcu_run: script: byte 0: line\n"),
+        (b"worker\n\n", b"apcu_run: script: byte 7: line\n"),
+        (b"\n", b"apcu_run: script: byte 0: line\n"),
+    ] {
+        expect(&rt, rt.alloc(), whole(input, Status::Script, b"", told))?;
+    }
+    Ok(())
+}
+
+#[test]
+fn values_with_a_fault(rt: HostRuntime) -> Result<(), Fail> {
+    for (value, told) in [
+        (b"i:05;".as_slice(), b"apcu_run: script: byte 29: number\n".as_slice()),
+        (b"s:3:\"ab\";", b"apcu_run: script: byte 29: length\n"),
+        (b"d:1.5;", b"apcu_run: script: byte 27: tag\n"),
+        (b"a:1:{i:0;r:1;}", b"apcu_run: script: byte 38: target\n"),
+        (b"s:4294967295:\"a\";", b"apcu_run: script: byte 29: length\n"),
+        (b"a:4294967295:{}", b"apcu_run: script: byte 41: tag\n"),
+        (b"a:1:{i:0;R:2;}", b"apcu_run: script: byte 38: target\n"),
+        (b"R:1;", b"apcu_run: script: byte 29: target\n"),
+        (b"i:9223372036854775808;", b"apcu_run: script: byte 29: number\n"),
+        (b"b:2;", b"apcu_run: script: byte 29: number\n"),
+        (b"a:1:{i:0;i:1;", b"apcu_run: script: byte 40: mark\n"),
+        (b"a:2:{i:0;N;i:0;N;}", b"apcu_run: script: byte 38: repeat\n"),
+        (b"a:1:{s:1:\"5\";N;}", b"apcu_run: script: byte 32: integer\n"),
+        (b"O:1:\"-\":0:{}", b"apcu_run: script: byte 27: class\n"),
+        (b"C:1:\"A\":0:{}", b"apcu_run: script: byte 27: tag\n"),
+    ] {
+        expect_refused(&rt, rt.alloc(), value, told)?;
+    }
+    Ok(())
+}
+
+// The program is called with these words.
+fn expect_usage<R: Threads + Wait + Sync + Abort>(
+    rt: &R,
+    alloc: Global,
+    words: &[&str],
+) -> Result<(), Fail> {
+    let mut owned = Vec::with_capacity(alloc, words.len())?;
+    for word in words {
+        owned.push(String::from_str(alloc, word)?)?;
+    }
+    let mut source = MemSource::new(STORE_AND_FETCH, 64, &[]);
+    let mut out = MemSink::new(alloc, 64, 64, &[])?;
+    let mut err = MemSink::new(alloc, 64, 3, &[])?;
+    let status = run(rt, alloc, &owned, &mut source, &mut out, &mut err, &NoGate);
+    assert_eq!(rt; status, Status::Usage);
+    assert_eq!(rt; out.as_slice(), b"".as_slice());
+    assert_eq!(rt; err.as_slice(), b"apcu_run: usage\n".as_slice());
+    Ok(())
+}
+
+#[test]
+fn command_lines(rt: HostRuntime) -> Result<(), Fail> {
+    for words in [[].as_slice(), &["apcu_run", "--help"]] {
+        expect_usage(&rt, rt.alloc(), words)?;
+    }
+    Ok(())
+}
+
+// The run whose read of this number fails.
+fn unread(piece: usize, at: &[u64]) -> Run<'_> {
+    Run {
+        input: STORE_AND_FETCH,
+        piece,
+        fails: [at, [].as_slice()],
+        status: Status::ReadFault,
+        printed: b"",
+        told: b"apcu_run: read fault\n",
+    }
+}
+
+// The run whose write of this number fails, behind so many bytes.
+fn unwritten(piece: usize, at: &[u64], bytes: usize) -> Run<'_>
+    requires { bytes ≤ 39 }
+{
+    Run {
+        input: STORE_AND_FETCH,
+        piece,
+        fails: [[].as_slice(), at],
+        status: Status::WriteFault,
+        printed: &PRINTED[..bytes],
+        told: b"apcu_run: write fault\n",
+    }
+}
+
+// Each read of one byte fails in turn, and each write of one byte; then the second of each in larger pieces.
+#[test]
+fn faults_in_turn(rt: HostRuntime) -> Result<(), Fail> {
+    for at in 0..=STORE_AND_FETCH.len() {
+        expect(&rt, rt.alloc(), unread(1, &[at as u64]))?;
+    }
+    for at in 0..PRINTED.len() {
+        expect(&rt, rt.alloc(), unwritten(1, &[at as u64], at))?;
+    }
+    Ok(())
+}
+
+#[test]
+fn faults_in_mid_stream(rt: HostRuntime) -> Result<(), Fail> {
+    expect(&rt, rt.alloc(), unread(7, &[1]))?;
+    expect(&rt, rt.alloc(), unwritten(5, &[1], 5))?;
+    assert_eq!(rt; Status::ReadFault.code(), 3);
+    assert_eq!(rt; Status::WriteFault.code(), 4);
+    Ok(())
+}
+
+#[test]
+fn an_input_that_is_too_long(rt: HostRuntime) -> Result<(), Fail> {
+    let bytes = vec![in rt.alloc(); b'\n'; 67_108_865]?;
+    let told = b"apcu_run: input too long\n";
+    let case = Run {
+        piece: 1_048_576,
+        ..whole(&bytes, Status::TooLong, b"", told)
+    };
+    expect(&rt, rt.alloc(), case)
+}

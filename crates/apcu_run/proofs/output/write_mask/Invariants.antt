@@ -1,6 +1,0 @@
-use Rattle.std.proofs.Common.{◌≡◌, ◌++◌}
-use Rattle.apcu_run.specs.Output.{mask_text}
-use Rattle.apcu_run.proofs.output.write_mask.Given as goal
-
-abbrev pub invariant-loop-worker : goal.invariant-loop-worker
-invariant-loop-worker l = l.out ≡ l.initial.out ++ mask_text l.mask l.worker

@@ -1,9 +1,0 @@
-use Rattle.std.proofs.Common.{◌≡◌, ◌++◌, take}
-use Rattle.std.specs.Prelude.{codes}
-use Rattle.std.specs.List.{flat_map}
-use Rattle.apcu_run.specs.Grammar.{ends_line}
-use Rattle.apcu_run.specs.Output.{mark_line}
-use Rattle.apcu_run.proofs.play.write_journal.Given as goal
-
-abbrev pub invariant-loop-i : goal.invariant-loop-i
-invariant-loop-i l = l.out ≡ l.fn.out ++ (codes "journal" ++ ends_line ++ flat_map mark_line (take l.i l.journal.marks))

@@ -1,0 +1,13 @@
+pub mod Lists
+pub mod Books
+pub mod Desks
+pub mod Placing
+pub mod Steps
+pub mod More
+pub mod Cuts
+pub mod First
+pub mod Parts
+pub mod Ruled
+pub mod Holdings
+pub mod PassLists
+pub mod Learning

@@ -1,0 +1,28 @@
+-- Events, and those of one worker in a history.
+use Rattle.std.specs.Prelude.{ℕ, Bool, true, false, ◌==◌, cond, List, [], ◌∷◌}
+use Rattle.apcu_model.specs.declared.event.Event.{Event}
+use Rattle.apcu_model.specs.declared.request.Request.{Request}
+use Rattle.apcu_model.specs.declared.request.Request.TheVariants as request
+
+-- the worker w asks r at the moment t, and meets the workers of the mask
+abbrev pub event : ℕ → ℕ → Request → ℕ → Event
+event w t r mask = record { worker = w; t = t; request = r; mask = mask }
+
+abbrev pub is_fetch : Request → Bool
+is_fetch (request.Fetch key) = true
+is_fetch (request.Store key value ttl exclusive) = false
+is_fetch (request.Exists key) = false
+is_fetch (request.Delete key) = false
+is_fetch request.Clear = false
+is_fetch request.Retire = false
+
+-- the events of the worker w, in order
+abbrev pub events_of : ℕ → List Event → List Event
+events_of w [] = []
+events_of w (e ∷ es) = cond (e.worker == w) (e ∷ events_of w es) (events_of w es)
+
+-- whether the last event of the worker w is a fetch; where it has none, the answer is `before`
+abbrev pub fetched_last : ℕ → List Event → Bool → Bool
+fetched_last w [] before = before
+fetched_last w (e ∷ es) before =
+    fetched_last w es (cond (e.worker == w) (is_fetch e.request) before)

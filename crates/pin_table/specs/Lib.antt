@@ -1,0 +1,11 @@
+pub mod Events
+pub mod Pins
+pub mod Views
+pub mod Order
+pub mod Rule
+pub mod Plays
+pub mod Values
+pub mod Lists
+pub mod Names
+pub mod WriterRest
+pub mod ImageRest

@@ -1,0 +1,292 @@
+-- What a view holds, and how the steps change it.
+use Rattle.std.specs.Prelude.{ℕ, ◌+◌, ◌-◌, Bool, false, ◌==◌, ◌||◌, cond, List, [], ◌∷◌, map, ◌++◌, length, slice_index, slice_set, replicate, bit_or, Option, Some, None}
+use Rattle.seg_words.specs.Windows.{Aside, closed_on, holders}
+use Rattle.seg_words.specs.Blocks.{image_place}
+use Rattle.apcu_model.specs.declared.event.Event.{Event}
+use Rattle.pin_table.specs.declared.views.Known.{Known}
+use Rattle.pin_table.specs.declared.views.Book.{Book}
+use Rattle.pin_table.specs.declared.views.Reader.{Reader}
+use Rattle.pin_table.specs.declared.views.Desk.{Desk}
+use Rattle.pin_table.specs.declared.views.View.{View}
+use Rattle.pin_table.specs.declared.views.View.TheVariants.{Writer, Idle, Copying, Spent}
+use Rattle.pin_table.specs.declared.views.Start.{Start}
+use Rattle.pin_table.specs.Pins.{content_of, refused_in}
+
+-- what stands for a view that is none of the kind that is asked for
+abbrev pub nobody : Known
+nobody = record { worker = 0; left = 0; seen = []; own = [] }
+
+abbrev pub blank : Desk
+blank = record {
+  words = [];
+  book = record { history = []; hand = None; made = 0; budgets = []; closed = [] };
+  windows = [];
+  begun = [];
+  mask = 0;
+  readings = [];
+  pinning = 0;
+}
+
+abbrev pub desk_of : View → Desk
+desk_of (Writer d) = d
+desk_of (Idle p) = blank
+desk_of (Copying c) = blank
+desk_of Spent = blank
+
+abbrev pub known_of : View → Known
+known_of (Writer d) = nobody
+known_of (Idle p) = p
+known_of (Copying c) = c.known
+known_of Spent = nobody
+
+abbrev pub no_reader : Reader
+no_reader = record { known = nobody; block = 0; first = 0; content = [] }
+
+abbrev pub reader_of : View → Reader
+reader_of (Writer d) = no_reader
+reader_of (Idle p) = no_reader
+reader_of (Copying c) = c
+reader_of Spent = no_reader
+
+abbrev pub in_hand : Option Known → Known
+in_hand (Some p) = p
+in_hand None = nobody
+
+abbrev pub is_in_hand : ℕ → Option Known → Bool
+is_in_hand w (Some p) = p.worker == w
+is_in_hand w None = false
+
+abbrev pub is_among : ℕ → List Known → Bool
+is_among w [] = false
+is_among w (p ∷ ps) = (p.worker == w) || is_among w ps
+
+-- the view is that of the pass of the worker w, idle or copying
+abbrev pub carries : ℕ → View → Bool
+carries w (Writer d) = false
+carries w (Idle p) = p.worker == w
+carries w (Copying c) = c.known.worker == w
+carries w Spent = false
+
+-- the block from which a view copies, or 0
+abbrev pub copied_block : View → ℕ
+copied_block (Writer d) = 0
+copied_block (Idle p) = 0
+copied_block (Copying c) = c.block
+copied_block Spent = 0
+
+abbrev pub copied_blocks : List View → List ℕ
+copied_blocks views = map copied_block views
+
+-- a new worker is made
+abbrev pub newcomer : Book → Known
+newcomer b = record { worker = b.made; left = slice_index b.budgets b.made; seen = []; own = [] }
+
+abbrev pub with_newcomer : Book → Book
+with_newcomer b = record {
+  history = b.history;
+  hand = b.hand;
+  made = b.made + 1;
+  budgets = b.budgets;
+  closed = b.closed;
+}
+
+-- a pass comes into the writer's hand, or leaves it
+abbrev pub with_hand : Book → Option Known → Book
+with_hand b h = record {
+  history = b.history;
+  hand = h;
+  made = b.made;
+  budgets = b.budgets;
+  closed = b.closed;
+}
+
+-- the event of the worker in the hand
+abbrev pub with_event : Book → Event → Book
+with_event b e = record {
+  history = b.history ++ e ∷ [];
+  hand = None;
+  made = b.made;
+  budgets = b.budgets;
+  closed = b.closed;
+}
+
+-- the pass after its event: it has seen the history with the event, and has one less left
+abbrev pub after_event : Book → Event → Known
+after_event b e = record {
+  worker = (in_hand b.hand).worker;
+  left = (in_hand b.hand).left - 1;
+  seen = b.history ++ e ∷ [];
+  own = (in_hand b.hand).own ++ e ∷ [];
+}
+
+-- the pass of the worker in the hand, which has seen the whole history
+abbrev pub seen_all : Book → Known
+seen_all b = record {
+  worker = (in_hand b.hand).worker;
+  left = (in_hand b.hand).left;
+  seen = b.history;
+  own = (in_hand b.hand).own;
+}
+
+-- a pass is taken in at the end
+abbrev pub with_closed : Book → Known → Book
+with_closed b p = record {
+  history = b.history;
+  hand = b.hand;
+  made = b.made;
+  budgets = b.budgets;
+  closed = p ∷ b.closed;
+}
+
+-- the blocks that are named: by a window, or as the one that is being pinned
+abbrev pub named_blocks : Desk → List ℕ
+named_blocks d = d.pinning ∷ d.windows
+
+-- what the trait of words sees beside the words
+abbrev pub aside_of : Desk → Aside
+aside_of d = record { windows = d.windows; mask = d.mask; refused = refused_in d.readings }
+
+abbrev pub with_words : Desk → List ℕ → Desk
+with_words d ws = record {
+  words = ws;
+  book = d.book;
+  windows = d.windows;
+  begun = d.begun;
+  mask = d.mask;
+  readings = d.readings;
+  pinning = d.pinning;
+}
+
+abbrev pub with_book : Desk → Book → Desk
+with_book d b = record {
+  words = d.words;
+  book = b;
+  windows = d.windows;
+  begun = d.begun;
+  mask = d.mask;
+  readings = d.readings;
+  pinning = d.pinning;
+}
+
+-- the worker in the hand leaves it, and what its event met is forgotten
+abbrev pub rested : Desk → Book → Desk
+rested d b = record {
+  words = d.words;
+  book = b;
+  windows = d.windows;
+  begun = [];
+  mask = 0;
+  readings = [];
+  pinning = d.pinning;
+}
+
+-- a pass comes into the hand, and its window closes
+abbrev pub taken : Desk → Known → Desk
+taken d p = record {
+  words = d.words;
+  book = with_hand d.book (Some p);
+  windows = slice_set d.windows p.worker 0;
+  begun = slice_set d.windows p.worker 0;
+  mask = 0;
+  readings = [];
+  pinning = d.pinning;
+}
+
+-- a load found that nobody copies the block at `at`, or that n workers do
+abbrev pub freed : Desk → ℕ → Desk
+freed d at = record {
+  words = d.words;
+  book = d.book;
+  windows = closed_on at d.windows;
+  begun = d.begun;
+  mask = d.mask;
+  readings = (at, 0) ∷ d.readings;
+  pinning = d.pinning;
+}
+
+abbrev pub met : Desk → ℕ → ℕ → Desk
+met d at n = record {
+  words = d.words;
+  book = d.book;
+  windows = d.windows;
+  begun = d.begun;
+  mask = bit_or d.mask (holders d.windows at);
+  readings = (at, n) ∷ d.readings;
+  pinning = d.pinning;
+}
+
+-- a load found the pin count n in the block at `at`
+abbrev pub probed : Desk → ℕ → ℕ → Desk
+probed d at n = cond (n == 0) (freed d at) (met d at n)
+
+abbrev pub pinning_at : Desk → ℕ → Desk
+pinning_at d at = record {
+  words = d.words;
+  book = d.book;
+  windows = d.windows;
+  begun = d.begun;
+  mask = d.mask;
+  readings = d.readings;
+  pinning = at;
+}
+
+-- the worker in the hand makes its event, and copies the pinned block from then on
+abbrev pub copied : Desk → Event → Desk
+copied d e = record {
+  words = d.words;
+  book = with_event d.book e;
+  windows = slice_set d.windows (in_hand d.book.hand).worker d.pinning;
+  begun = [];
+  mask = 0;
+  readings = [];
+  pinning = 0;
+}
+
+abbrev pub reader_after : Desk → Event → Reader
+reader_after d e = record {
+  known = after_event d.book e;
+  block = d.pinning;
+  first = image_place d.words d.pinning;
+  content = content_of d.words d.pinning;
+}
+
+-- a pass is taken in at the end
+abbrev pub shut : Desk → Known → Desk
+shut d p = record {
+  words = d.words;
+  book = with_closed d.book p;
+  windows = slice_set d.windows p.worker 0;
+  begun = [];
+  mask = 0;
+  readings = [];
+  pinning = d.pinning;
+}
+
+abbrev pub on_desk : (Desk → Desk) → View → View
+on_desk f (Writer d) = Writer (f d)
+on_desk f (Idle p) = Idle p
+on_desk f (Copying c) = Copying c
+on_desk f Spent = Spent
+
+abbrev pub takes_in : View → View → View
+takes_in v w = on_desk (λ d. taken d (known_of w)) v
+
+abbrev pub closes : View → View → View
+closes v w = on_desk (λ d. shut d (known_of w)) v
+
+abbrev pub from_desk : (Desk → Reader) → View → View
+from_desk f v = Copying (f (desk_of v))
+
+abbrev pub from_book : (Book → Known) → View → View
+from_book f v = Idle (f (desk_of v).book)
+
+abbrev pub first_view : Start → View
+first_view s = Writer (record {
+  words = s.words.items;
+  book = record { history = []; hand = None; made = 0; budgets = s.budgets.items; closed = [] };
+  windows = replicate (length s.budgets.items) 0;
+  begun = [];
+  mask = 0;
+  readings = [];
+  pinning = 0;
+})

@@ -1,0 +1,89 @@
+ghost use Rattle.std.specs.Prelude.{◌≡◌, ℕ, ◌+◌, ◌<◌, ◌≤◌, length, slice_index};
+
+use crate::pass::Pass;
+use crate::rule::{CopyRead, Release};
+use crate::table::PinTable;
+use crate::views::View;
+use atomic_table::Seat;
+use seg_words::PIN_COUNT;
+use std::marker::Model;
+
+/// What a worker has that copies from a pinned block. Nothing of the block's value changes until it is
+/// released; one that is dropped keeps its block for good.
+///
+/// Contracts see the table and what the worker knows: what a pass knows, the block, and the words of the
+/// value's image as they were at the pin.
+#[derive(Drop)]
+pub struct Copying {
+    pub(crate) seat: Seat<u64, View>,
+    pub(crate) worker: u32,
+    pub(crate) left: u32,
+    pub(crate) block: u32,
+    pub(crate) first: u32,
+    pub(crate) len: u32,
+}
+
+impl Model for Copying {
+    ghost use Rattle.std.specs.Prelude.{◌≡◌, ◌+◌, ◌<◌, ◌≤◌, [], length};
+    ghost use Rattle.pin_table.specs.Values.{Copier};
+    ghost use Rattle.pin_table.specs.Views.{reader_of};
+    ghost use Rattle.pin_table.specs.declared.views.View.TheVariants as views;
+
+    ghost Value = { Copier };
+
+    ghost view = { λ p. record { table = p.seat.table_id; copy = reader_of p.seat.me.0 } };
+
+    ghost invariant = { λ p.
+        (p.seat.me ≡ (views.Copying (reader_of p.seat.me.0), []))
+        × (p.worker ≡ (reader_of p.seat.me.0).known.worker)
+        × (p.left ≡ (reader_of p.seat.me.0).known.left)
+        × (p.block ≡ (reader_of p.seat.me.0).block)
+        × (p.first + length (reader_of p.seat.me.0).content ≤ p.seat.table_id.words)
+        × (p.block + 12 ≤ p.first)
+        × (p.len ≡ length (reader_of p.seat.me.0).content)
+        × (p.first ≡ (reader_of p.seat.me.0).first) };
+}
+
+impl Copying {
+    /// The place and the length of the value's image, in words.
+    pub fn range(&self) -> (u32, u32)
+        ensures place { result.0 ≡ self.now.copy.first }
+        ensures length { result.1 ≡ length self.now.copy.content }
+    {
+        (self.first, self.len)
+    }
+
+    /// The word `i` of the image, as it was at the pin.
+    pub fn word(&mut self, table: &PinTable, i: u32) -> u64
+        requires table { self.old.table ≡ table.now }
+        requires place { i < length self.old.copy.content }
+        ensures word { result ≡ slice_index self.old.copy.content i }
+        ensures same { self.new ≡ self.old }
+    {
+        table
+            .table
+            .shared
+            .load::<CopyRead>(&mut self.seat, self.first as usize + i as usize)
+    }
+
+    /// Ends the copy: the block may be given out again, and the worker has its pass back.
+    pub fn release(self, table: &PinTable) -> Pass
+        requires table { self.table ≡ table.now }
+        ensures table { result.table ≡ self.table }
+        ensures known { result.known ≡ self.copy.known }
+    {
+        let Copying {
+            mut seat,
+            worker,
+            left,
+            block,
+            first: _,
+            len: _,
+        } = self;
+        table
+            .table
+            .shared
+            .fetch_sub::<Release>(&mut seat, block as usize + PIN_COUNT as usize, 1);
+        Pass { seat, worker, left }
+    }
+}

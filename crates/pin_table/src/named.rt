@@ -1,0 +1,29 @@
+use std::marker::Brand;
+
+/// The name of one shared table, as a type, so that what stands behind a lock is known by its type.
+///
+/// It has no functions. Its members exist in contracts alone: which table it is, the cache's
+/// configuration, and how many events each worker may make.
+pub trait TableName {
+    ghost use Rattle.std.specs.Prelude.{ℕ, List};
+    ghost use Rattle.atomic_table.specs.Seated.{TableId};
+    ghost use Rattle.apcu_model.specs.declared.conf.Conf.{Conf};
+
+    ghost table: { TableId };
+
+    ghost conf: { Conf };
+
+    ghost budgets: { List ℕ };
+}
+
+// Who calls a function over a name picks the members at the call.
+impl TableName for Brand {
+    ghost use Rattle.std.specs.Prelude.{[]};
+    ghost use Rattle.pin_table.specs.Names.{no_table, no_conf};
+
+    ghost table = { no_table };
+
+    ghost conf = { no_conf };
+
+    ghost budgets = { [] };
+}

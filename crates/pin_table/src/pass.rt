@@ -1,0 +1,78 @@
+ghost use Rattle.std.specs.Prelude.{◌≡◌, false};
+ghost use Rattle.pin_table.specs.Events.{fetched_last};
+
+use crate::views::View;
+use atomic_table::Seat;
+use std::marker::Model;
+
+/// What a worker has that copies nothing: the right to its next events. Where one is dropped, the worker
+/// never ends, and the table is never closed.
+///
+/// Contracts see the table, the worker, how many events are left, the history that the worker has seen
+/// and its own events in it.
+#[derive(Drop)]
+pub struct Pass {
+    pub(crate) seat: Seat<u64, View>,
+    pub(crate) worker: u32,
+    pub(crate) left: u32,
+}
+
+impl Model for Pass {
+    ghost use Rattle.std.specs.Prelude.{◌≡◌, []};
+    ghost use Rattle.pin_table.specs.Values.{Bearer};
+    ghost use Rattle.pin_table.specs.Views.{known_of};
+    ghost use Rattle.pin_table.specs.declared.views.View.TheVariants.{Idle};
+
+    ghost Value = { Bearer };
+
+    ghost view = { λ p. record { table = p.seat.table_id; known = known_of p.seat.me.0 } };
+
+    ghost invariant = { λ p.
+        (p.seat.me ≡ (Idle (known_of p.seat.me.0), []))
+        × (p.worker ≡ (known_of p.seat.me.0).worker)
+        × (p.left ≡ (known_of p.seat.me.0).left) };
+}
+
+impl Pass {
+    /// The worker's number, from 0.
+    pub fn worker(&self) -> u32
+        ensures { result ≡ self.now.known.worker }
+    {
+        self.worker
+    }
+
+    /// How many events the worker may still make.
+    pub fn left(&self) -> u32
+        ensures { result ≡ self.now.known.left }
+    {
+        self.left
+    }
+}
+
+/// What a worker leaves that has ended: it copies nothing, and makes no further event.
+#[derive(Drop)]
+pub struct Ended {
+    pub(crate) pass: Pass,
+}
+
+impl Model for Ended {
+    ghost use Rattle.std.specs.Prelude.{◌≡◌, false};
+    ghost use Rattle.pin_table.specs.Values.{Bearer};
+    ghost use Rattle.pin_table.specs.Events.{fetched_last};
+
+    ghost Value = { Bearer };
+
+    ghost view = { λ e. e.pass };
+
+    ghost invariant = { λ e. fetched_last e.pass.known.worker e.pass.known.own false ≡ false };
+}
+
+impl Ended {
+    // The last event of this pass was no fetch, so no window of its worker is open.
+    pub(crate) fn of(pass: Pass) -> Ended
+        requires { fetched_last pass.known.worker pass.known.own false ≡ false }
+        ensures { result ≡ pass }
+    {
+        Ended { pass }
+    }
+}

@@ -1,0 +1,189 @@
+ghost use Rattle.std.specs.Prelude.{◌≡◌, ℕ, ◌+◌, ◌<◌, ◌≤◌, ◌^◌, true, false, List, [], ◌∷◌, ◌++◌, length, slice_index, slice_get, Some, None, IfOk, IfSome, IfNone, vec_capacity, vec_len};
+ghost use mathlib.Core.List.{IsPrefix};
+ghost use Rattle.pin_table.specs.Events.{events_of, fetched_last};
+ghost use Rattle.pin_table.specs.Views.{with_book, rested, is_among};
+ghost use Rattle.pin_table.specs.Lists.{fresh_book, fresh_desk, fresh, known_list, AllOf};
+ghost use Rattle.pin_table.specs.Order.{DeskInOrder};
+ghost use Rattle.pin_table.specs.Values.{Bearer};
+
+use crate::pass::{Ended, Pass};
+use crate::table::{PinTable, WriterSeat};
+use seg_words::{VecWords, WordsIn};
+use std::alloc::{AllocError, Global};
+use std::marker::Model;
+
+/// The passes of the workers that have not begun, as a list.
+#[derive(Drop)]
+pub struct Passes {
+    list: Vec<Pass>,
+}
+
+impl Model for Passes {
+    ghost use Rattle.std.specs.Prelude.{List};
+    ghost use Rattle.pin_table.specs.Values.{Bearer};
+
+    ghost Value = { List Bearer };
+
+    ghost view = { λ p. p.list.items };
+}
+
+impl Passes {
+    /// Takes the last of them: the pass of the worker with the greatest number.
+    pub fn pop(&mut self) -> Option<Pass>
+        ensures some { IfSome result (λ p. self.old ≡ self.new ++ p ∷ []) }
+        ensures none { IfNone result ((self.old ≡ []) × (self.new ≡ [])) }
+    {
+        self.list.pop()
+    }
+}
+
+/// What the workers leave that have ended, with room for the others. Contracts see the list and how many
+/// more it has room for.
+#[derive(Drop)]
+pub struct EndedList {
+    list: Vec<Ended>,
+}
+
+impl Model for EndedList {
+    ghost use Rattle.std.specs.Prelude.{◌-◌, ◌≤◌, length, vec_len, vec_capacity};
+    ghost use Rattle.pin_table.specs.Lists.{Gathered};
+
+    ghost Value = { Gathered };
+
+    ghost view = { λ e.
+        record { ended = e.list.items; room = vec_capacity e.list - vec_len e.list } };
+}
+
+impl EndedList {
+    /// Adds one at the end. It takes no memory: there is room for every worker of the table.
+    pub fn push(&mut self, ended: Ended)
+        requires { 0 < self.old.room }
+        ensures ended { self.new.ended ≡ self.old.ended ++ ended ∷ [] }
+        ensures room { self.new.room + 1 ≡ self.old.room }
+    {
+        self.list.push_reserved(ended);
+    }
+
+    fn pop(&mut self) -> Option<Ended>
+        ensures some { IfSome result (λ p. self.old.ended ≡ self.new.ended ++ p ∷ []) }
+        ensures none { IfNone result ((self.old.ended ≡ []) × (self.new.ended ≡ [])) }
+        ensures fewer { IfSome result (λ p. length self.new.ended + 1 ≡ length self.old.ended) }
+    {
+        self.list.pop()
+    }
+}
+
+fn fill(table: &PinTable, seat: &mut WriterSeat, budgets: &[u32], list: &mut Vec<Pass>)
+    requires table { seat.old.table ≡ table.now }
+    requires book { seat.old.desk.book ≡ fresh_book budgets.now 0 }
+    requires few { length budgets.now ≤ 64 }
+    requires list { list.old.items ≡ [] }
+    requires room { length budgets.now ≤ vec_capacity list.old }
+    ensures table { seat.new.table ≡ seat.old.table }
+    ensures desk { seat.new.desk
+        ≡ with_book seat.old.desk (fresh_book budgets.now (length budgets.now)) }
+    ensures list { list.new.items ≡ fresh table.now budgets.now (length budgets.now) }
+{
+    let mut i: usize = 0;
+    while i < budgets.len() {
+        let pass = table.make(seat, i as u32, budgets[i]);
+        list.push_reserved(pass);
+        i += 1;
+    }
+}
+
+impl PinTable {
+    /// Shares these words among as many workers as there are budgets: how many events each may make.
+    ///
+    /// It takes all the memory that any call of this crate needs. After an `Err` the words are dropped.
+    pub fn new(
+        alloc: Global,
+        words: VecWords,
+        budgets: &[u32],
+    ) -> Result<(PinTable, WriterSeat, Passes, EndedList), AllocError>
+        requires words { 0 < length (⟦<VecWords as WordsIn>⟧.words words) }
+        requires budgets { length budgets.now ≤ 64 }
+        ensures table { IfOk result (λ r. r.1.table ≡ r.0) }
+        ensures count { IfOk result (λ r.
+            r.0.words ≡ length (⟦<VecWords as WordsIn>⟧.words words)) }
+        ensures desk { IfOk result (λ r.
+            r.1.desk ≡ fresh_desk (⟦<VecWords as WordsIn>⟧.words words) budgets.now) }
+        ensures passes { IfOk result (λ r. r.2 ≡ fresh r.0 budgets.now (length budgets.now)) }
+        ensures ended { IfOk result (λ r. r.3.ended ≡ []) }
+        ensures room { IfOk result (λ r. length budgets.now ≤ r.3.room) }
+    {
+        let words = words.into_words();
+        let count = budgets.len();
+        let mut list = Vec::with_capacity(alloc, count)?;
+        let ended = Vec::with_capacity(alloc, count)?;
+        let windows = Vec::from_elem(alloc, 0u32, count)?;
+        let own = budgets.to_vec(alloc)?;
+        let (table, mut seat) = PinTable::of_words(alloc, words, own, windows)?;
+        fill(&table, &mut seat, budgets, &mut list);
+        Ok((table, seat, Passes { list }, EndedList { list: ended }))
+    }
+
+    /// Tells that the writer's history begins with what a worker has seen that has ended. Nothing changes,
+    /// since its window is closed and no event is under way.
+    #[tactic(auto, using(crate::proofs::Learning::left_alone, crate::proofs::Learning::was_seen, crate::proofs::Learning::was_own, crate::proofs::Learning::saw_own))]
+    pub fn learn(&self, seat: &mut WriterSeat, ended: Ended) -> Ended
+        requires table { seat.old.table ≡ self.now }
+        requires ended { ended.table ≡ self.now }
+        requires hand { seat.old.desk.book.hand ≡ None }
+        ensures table { seat.new.table ≡ seat.old.table }
+        ensures desk { seat.new.desk ≡ rested seat.old.desk seat.old.desk.book }
+        ensures seen { IsPrefix ended.known.seen seat.old.desk.book.history }
+        ensures own { events_of ended.known.worker seat.old.desk.book.history ≡ ended.known.own }
+        ensures made { events_of ended.known.worker ended.known.seen ≡ ended.known.own }
+        ensures same { result ≡ ended }
+    {
+        let Ended { pass } = ended;
+        let worker = pass.worker();
+        let left = pass.left();
+        self.look(seat);
+        self.take(seat, pass);
+        self.look(seat);
+        let pass = self.give_back(seat, worker, left);
+        Ended { pass }
+    }
+
+    /// Gives the words back, once every worker has ended. It takes no memory.
+    pub fn close(self, mut seat: WriterSeat, ended: EndedList) -> VecWords
+        requires table { seat.table ≡ self }
+        requires ended { AllOf self ended.ended }
+        requires hand { seat.desk.book.hand ≡ None }
+        requires every { (w : ℕ) → w < seat.desk.book.made
+            → is_among w (known_list ended.ended) ≡ true }
+        ensures words { ⟦<VecWords as WordsIn>⟧.words result ≡ seat.desk.words }
+        ensures seen { (k : ℕ) (b : Bearer) → slice_get ended.ended k ≡ Some b
+            → IsPrefix b.known.seen seat.desk.book.history }
+        ensures own { (k : ℕ) (b : Bearer) → slice_get ended.ended k ≡ Some b
+            → events_of b.known.worker seat.desk.book.history ≡ b.known.own }
+        ensures made { (k : ℕ) (b : Bearer) → slice_get ended.ended k ≡ Some b
+            → events_of b.known.worker b.known.seen ≡ b.known.own }
+        ensures others { (w : ℕ) → is_among w (known_list ended.ended) ≡ false
+            → events_of w seat.desk.book.history ≡ [] }
+    {
+        gather(&self, &mut seat, ended);
+        VecWords::from_words(self.dissolve(seat))
+    }
+}
+
+fn gather(table: &PinTable, seat: &mut WriterSeat, mut ended: EndedList)
+    requires table { seat.old.table ≡ table.now }
+    requires ended { AllOf table.now ended.ended }
+    requires hand { seat.old.desk.book.hand ≡ None }
+    ensures table { seat.new.table ≡ seat.old.table }
+    ensures words { seat.new.desk.words ≡ seat.old.desk.words }
+    ensures history { seat.new.desk.book.history ≡ seat.old.desk.book.history }
+    ensures made { seat.new.desk.book.made ≡ seat.old.desk.book.made }
+    ensures closed { seat.new.desk.book.closed
+        ≡ known_list ended.ended ++ seat.old.desk.book.closed }
+    ensures order { (copying : List ℕ) × DeskInOrder seat.new.desk copying }
+{
+    while let Some(e) = ended.pop() {
+        let Ended { pass } = e;
+        table.take_in(seat, pass);
+    }
+    table.look(seat);
+}

@@ -1,0 +1,398 @@
+ghost use Rattle.std.specs.Prelude.{cond, ◌==◌, ◌≡◌, ℕ, ◌+◌, ◌-◌, ◌<◌, ◌≤◌, ◌^◌, true, false, [], ◌∷◌, length, List, replicate, slice_index, slice_set, Some, None, IfOk, MatchBool};
+ghost use Rattle.seg_words.specs.declared.layout.TheConstants.{IMAGE_LENGTH};
+ghost use Rattle.seg_words.specs.Windows.{has, is_named, closed_on, held_by};
+ghost use Rattle.seg_words.specs.Blocks.{IsTold, MayStore, MayProbe, image_place};
+ghost use Rattle.pin_table.specs.Events.{is_fetch};
+ghost use Rattle.pin_table.specs.Pins.{IsBlock, MeetsNone, refused_in};
+ghost use Rattle.pin_table.specs.Views.{is_among, desk_of, in_hand, with_words, with_book, with_hand, with_event, after_event, newcomer, with_newcomer, seen_all, rested, taken, shut, probed, pinning_at, copied, reader_after, first_view};
+ghost use Rattle.pin_table.specs.Order.{DeskInOrder};
+ghost use Rattle.std.specs.Mem.Slots.{slots_items, slots_len, IsFull};
+
+use crate::copying::Copying;
+use crate::masks::holders;
+use crate::pass::Pass;
+use crate::rule::{
+    Close, CopyOut, Give, GiveBack, GiveSeen, Look, Make, Pin, Probe, Read, Saying, SharedWords,
+    Take, Write,
+};
+use crate::views::{Start, View};
+use atomic_table::{Closed, Seat, Table};
+use seg_words::PIN_COUNT;
+use std::alloc::{AllocError, Global};
+use std::marker::Model;
+
+/// A row of words that all workers share.
+///
+/// Contracts see the table's name, which its seat and its passes carry as well.
+#[derive(Drop)]
+pub struct PinTable {
+    pub(crate) table: Table<u64, View, Start, SharedWords, Global>,
+    // The memory in which the words are handed back at the end.
+    row: Vec<u64>,
+}
+
+impl Model for PinTable {
+    ghost use Rattle.std.specs.Prelude.{◌≡◌, ◌<◌, ◌^◌, length};
+    ghost use Rattle.atomic_table.specs.Seated.{TableId, table_id_coded};
+
+    ghost Value = { TableId };
+
+    ghost coded = { table_id_coded };
+
+    ghost view = { λ t. t.table.shared.table_id };
+
+    ghost invariant = { λ t.
+        (0 < t.table.shared.table_id.words)
+        × (t.table.shared.table_id.words < 2 ^ 32)
+        × (t.table.shared.table_id.slots ≡ 0)
+        × (length t.row.items ≡ t.table.shared.table_id.words) };
+}
+
+/// The right to write: what stands behind the cache's lock.
+///
+/// Contracts see the table and the desk: the words as the writer knows them, the history of events, the
+/// windows, and what the event under way has met.
+#[derive(Drop)]
+pub struct WriterSeat {
+    seat: Seat<u64, View>,
+    windows: Vec<u32>,
+    pub(crate) mask: u64,
+}
+
+impl Model for WriterSeat {
+    ghost use Rattle.std.specs.Prelude.{◌≡◌, ◌≤◌, [], length};
+    ghost use Rattle.pin_table.specs.Values.{Writing};
+    ghost use Rattle.pin_table.specs.Views.{desk_of};
+    ghost use Rattle.pin_table.specs.declared.views.View.TheVariants.{Writer};
+
+    ghost Value = { Writing };
+
+    ghost view = { λ s. record { table = s.seat.table_id; desk = desk_of s.seat.me.0 } };
+
+    ghost invariant = { λ s.
+        (s.seat.id ≡ 0)
+        × (s.seat.me ≡ (Writer (desk_of s.seat.me.0), []))
+        × (length (desk_of s.seat.me.0).words ≡ s.seat.table_id.words)
+        × (s.windows.items ≡ (desk_of s.seat.me.0).windows)
+        × (length s.windows.items ≤ 64)
+        × (s.mask ≡ (desk_of s.seat.me.0).mask)
+        × ((desk_of s.seat.me.0).pinning ≡ 0) };
+}
+
+fn set_window(windows: &mut Vec<u32>, worker: u32, at: u32)
+    ensures { windows.new.items ≡ slice_set windows.old.items worker at }
+{
+    let v = worker as usize;
+    if v < windows.len() {
+        windows[v] = at;
+    }
+}
+
+fn unless_at(kept: u32, at: u32) -> u32
+    ensures { result ≡ cond (kept == at) 0 kept }
+{
+    if kept == at { 0 } else { kept }
+}
+
+fn close_windows(windows: &mut Vec<u32>, at: u32)
+    ensures { windows.new.items ≡ closed_on at windows.old.items }
+{
+    let mut v: usize = 0;
+    while v < windows.len() {
+        let kept = windows[v];
+        windows[v] = unless_at(kept, at);
+        v += 1;
+    }
+}
+
+fn copy_back(closed: &Closed<u64, Global>, row: &mut Vec<u64>)
+    requires full { IsFull closed.now.words }
+    requires count { slots_len closed.now.words ≡ length row.old.items }
+    requires items { length (slots_items closed.now.words) ≡ length row.old.items }
+    ensures { row.new.items ≡ slots_items closed.now.words }
+{
+    let mut i: usize = 0;
+    while i < row.len() {
+        row[i] = closed.word(i);
+        i += 1;
+    }
+}
+
+impl WriterSeat {
+    // The workers met in the event under way.
+    pub(crate) fn mask(&self) -> u64
+        ensures { result ≡ self.now.desk.mask }
+    {
+        self.mask
+    }
+}
+
+impl PinTable {
+    // The words, and the right to write them. No worker is made.
+    pub(crate) fn of_words(
+        alloc: Global,
+        words: Vec<u64>,
+        budgets: Vec<u32>,
+        windows: Vec<u32>,
+    ) -> Result<(PinTable, WriterSeat), AllocError>
+        requires some_word { 0 < length words.items }
+        requires short { length words.items < 2 ^ 32 }
+        requires few { length budgets.items ≤ 64 }
+        requires windows { windows.items ≡ replicate (length budgets.items) 0 }
+        ensures table { IfOk result (λ r. r.1.table ≡ r.0) }
+        ensures count { IfOk result (λ r. r.0.words ≡ length words.items) }
+        ensures desk { IfOk result (λ r.
+            r.1.desk ≡ desk_of (first_view (record { words = words; budgets = budgets }))) }
+    {
+        let start = Start { words, budgets };
+        let (table, seat) = Table::of_words(alloc, start.words.as_slice(), &start)?;
+        let Start { words, budgets: _ } = start;
+        Ok((
+            PinTable { table, row: words },
+            WriterSeat {
+                seat,
+                windows,
+                mask: 0,
+            },
+        ))
+    }
+
+    /// How many words there are.
+    pub fn len(&self) -> u32
+        ensures { result ≡ self.now.words }
+    {
+        self.table.word_count() as u32
+    }
+
+    // What the rule says of the writer's desk.
+    pub(crate) fn look(&self, seat: &mut WriterSeat)
+        requires table { seat.old.table ≡ self.now }
+        ensures desk { (copying : List ℕ) × DeskInOrder seat.new.desk copying }
+        ensures seat { seat.new ≡ seat.old }
+    {
+        self.table.shared.load::<Look>(&mut seat.seat, 0);
+    }
+
+    // A new worker's pass.
+    pub(crate) fn make(&self, seat: &mut WriterSeat, worker: u32, left: u32) -> Pass
+        requires table { seat.old.table ≡ self.now }
+        requires room { seat.old.desk.book.made < length seat.old.desk.book.budgets }
+        requires worker { worker ≡ seat.old.desk.book.made }
+        requires left { left ≡ slice_index seat.old.desk.book.budgets seat.old.desk.book.made }
+        ensures table { seat.new.table ≡ seat.old.table }
+        ensures desk { seat.new.desk ≡ with_book seat.old.desk (with_newcomer seat.old.desk.book) }
+        ensures pass { (result.table ≡ self.now) × (result.known ≡ newcomer seat.old.desk.book) }
+    {
+        let seat = self.table.shared.split_seat::<Make>(&mut seat.seat);
+        Pass { seat, worker, left }
+    }
+
+    // A pass comes into the writer's hand.
+    pub(crate) fn take(&self, seat: &mut WriterSeat, pass: Pass)
+        requires table { seat.old.table ≡ self.now }
+        requires pass { pass.table ≡ self.now }
+        requires hand { seat.old.desk.book.hand ≡ None }
+        ensures table { seat.new.table ≡ seat.old.table }
+        ensures desk { seat.new.desk ≡ taken seat.old.desk pass.known }
+        ensures whole { length seat.new.desk.words ≡ self.now.words }
+        ensures short { length seat.new.desk.words < 2 ^ 32 }
+    {
+        let Pass {
+            seat: other,
+            worker,
+            left: _,
+        } = pass;
+        self.table.shared.join_seat::<Take>(&mut seat.seat, other);
+        set_window(&mut seat.windows, worker, 0);
+        seat.mask = 0;
+    }
+
+    pub(crate) fn load(&self, seat: &mut WriterSeat, word: u32) -> u64
+        requires table { seat.old.table ≡ self.now }
+        requires place { word < length seat.old.desk.words }
+        ensures word { IsTold seat.old.desk.windows word
+            → result ≡ slice_index seat.old.desk.words word }
+        ensures seat { seat.new ≡ seat.old }
+    {
+        self.table
+            .shared
+            .load::<Read>(&mut seat.seat, word as usize)
+    }
+
+    pub(crate) fn store(&self, seat: &mut WriterSeat, word: u32, new: u64)
+        requires table { seat.old.table ≡ self.now }
+        requires place { word < length seat.old.desk.words }
+        requires apart { MayStore seat.old.desk.words seat.old.desk.windows word }
+        ensures table { seat.new.table ≡ seat.old.table }
+        ensures desk { seat.new.desk
+            ≡ with_words seat.old.desk (slice_set seat.old.desk.words word new) }
+    {
+        self.table
+            .shared
+            .store::<Write>(&mut seat.seat, word as usize, new);
+    }
+
+    // The pin count of a block. It becomes a reading of this event.
+    pub(crate) fn probe(&self, seat: &mut WriterSeat, at: u32) -> u64
+        requires table { seat.old.table ≡ self.now }
+        requires block { MayProbe seat.old.desk.words seat.old.desk.windows at }
+        requires fresh { has at (refused_in seat.old.desk.readings) ≡ false }
+        ensures table { seat.new.table ≡ seat.old.table }
+        ensures desk { seat.new.desk ≡ probed seat.old.desk at result }
+        ensures met { MatchBool (result == 0)
+            (has at (held_by seat.old.desk.mask seat.old.desk.windows) ≡ false)
+            (is_named seat.old.desk.windows at ≡ true) }
+    {
+        let found = self
+            .table
+            .shared
+            .load::<Probe>(&mut seat.seat, at as usize + PIN_COUNT as usize);
+        if found == 0 {
+            close_windows(&mut seat.windows, at);
+        } else {
+            seat.mask |= holders(seat.windows.as_slice(), at);
+        }
+        found
+    }
+
+    // The worker in the hand makes its event.
+    pub(crate) fn give<Q: Saying>(&self, seat: &mut WriterSeat, worker: u32, left: u32) -> Pass
+        requires table { seat.old.table ≡ self.now }
+        requires hand { seat.old.desk.book.hand ≡ Some (in_hand seat.old.desk.book.hand) }
+        requires worker { (in_hand seat.old.desk.book.hand).worker ≡ worker }
+        requires left { (in_hand seat.old.desk.book.hand).left ≡ left + 1 }
+        requires event { Q.event.worker ≡ worker }
+        ensures table { seat.new.table ≡ seat.old.table }
+        ensures desk { seat.new.desk
+            ≡ rested seat.old.desk (with_event seat.old.desk.book Q.event) }
+        ensures pass { result.table ≡ self.now }
+        ensures known { result.known ≡ after_event seat.old.desk.book Q.event }
+    {
+        let own = self.table.shared.split_seat::<Give<Q>>(&mut seat.seat);
+        seat.mask = 0;
+        Pass {
+            seat: own,
+            worker,
+            left,
+        }
+    }
+
+    // The pass leaves the hand as it was.
+    pub(crate) fn give_back(&self, seat: &mut WriterSeat, worker: u32, left: u32) -> Pass
+        requires table { seat.old.table ≡ self.now }
+        requires hand { seat.old.desk.book.hand ≡ Some (in_hand seat.old.desk.book.hand) }
+        requires worker { (in_hand seat.old.desk.book.hand).worker ≡ worker }
+        requires left { (in_hand seat.old.desk.book.hand).left ≡ left }
+        ensures table { seat.new.table ≡ seat.old.table }
+        ensures desk { seat.new.desk ≡ rested seat.old.desk (with_hand seat.old.desk.book None) }
+        ensures pass { result.table ≡ self.now }
+        ensures known { result.known ≡ in_hand seat.old.desk.book.hand }
+    {
+        let own = self.table.shared.split_seat::<GiveBack>(&mut seat.seat);
+        seat.mask = 0;
+        Pass {
+            seat: own,
+            worker,
+            left,
+        }
+    }
+
+    // The pass leaves the hand, and has seen the whole history.
+    pub(crate) fn give_seen(&self, seat: &mut WriterSeat, worker: u32, left: u32) -> Pass
+        requires table { seat.old.table ≡ self.now }
+        requires hand { seat.old.desk.book.hand ≡ Some (in_hand seat.old.desk.book.hand) }
+        requires worker { (in_hand seat.old.desk.book.hand).worker ≡ worker }
+        requires left { (in_hand seat.old.desk.book.hand).left ≡ left }
+        ensures table { seat.new.table ≡ seat.old.table }
+        ensures desk { seat.new.desk ≡ rested seat.old.desk (with_hand seat.old.desk.book None) }
+        ensures pass { result.table ≡ self.now }
+        ensures known { result.known ≡ seen_all seat.old.desk.book }
+    {
+        let own = self.table.shared.split_seat::<GiveSeen>(&mut seat.seat);
+        seat.mask = 0;
+        Pass {
+            seat: own,
+            worker,
+            left,
+        }
+    }
+
+    // A pass is taken in at the end.
+    pub(crate) fn take_in(&self, seat: &mut WriterSeat, pass: Pass)
+        requires table { seat.old.table ≡ self.now }
+        requires pass { pass.table ≡ self.now }
+        requires hand { seat.old.desk.book.hand ≡ None }
+        ensures table { seat.new.table ≡ seat.old.table }
+        ensures desk { seat.new.desk ≡ shut seat.old.desk pass.known }
+    {
+        let Pass {
+            seat: other,
+            worker,
+            left: _,
+        } = pass;
+        self.table.shared.join_seat::<Close>(&mut seat.seat, other);
+        set_window(&mut seat.windows, worker, 0);
+        seat.mask = 0;
+    }
+
+    // The words at the end, in the memory that was kept for them.
+    pub(crate) fn dissolve(self, seat: WriterSeat) -> Vec<u64>
+        requires table { seat.table ≡ self }
+        requires every { (w : ℕ) → w < seat.desk.book.made
+            → is_among w seat.desk.book.closed ≡ true }
+        ensures words { result.items ≡ seat.desk.words }
+        ensures short { length result.items < 2 ^ 32 }
+    {
+        let PinTable { table, mut row } = self;
+        let WriterSeat {
+            seat,
+            windows: _,
+            mask: _,
+        } = seat;
+        let closed = table.close_with(seat);
+        copy_back(&closed, &mut row);
+        closed.free();
+        row
+    }
+
+    // One more pin, and the worker in the hand copies the block from then on.
+    pub(crate) fn copy_out<Q: Saying>(
+        &self,
+        seat: &mut WriterSeat,
+        worker: u32,
+        left: u32,
+        block: u32,
+        first: u32,
+        len: u32,
+    ) -> Copying
+        requires len { len ≡ slice_index seat.old.desk.words (block + IMAGE_LENGTH) }
+        requires first { first ≡ image_place seat.old.desk.words block }
+        requires table { seat.old.table ≡ self.now }
+        requires block { IsBlock seat.old.desk.words block }
+        requires apart { MeetsNone seat.old.desk.words seat.old.desk.windows block }
+        requires hand { seat.old.desk.book.hand ≡ Some (in_hand seat.old.desk.book.hand) }
+        requires worker { (in_hand seat.old.desk.book.hand).worker ≡ worker }
+        requires left { (in_hand seat.old.desk.book.hand).left ≡ left + 1 }
+        requires event { Q.event.worker ≡ worker }
+        requires fetch { is_fetch Q.event.request ≡ true }
+        ensures table { seat.new.table ≡ seat.old.table }
+        ensures desk { seat.new.desk ≡ copied (pinning_at seat.old.desk block) Q.event }
+        ensures copying { result.table ≡ self.now }
+        ensures copy { result.copy ≡ reader_after (pinning_at seat.old.desk block) Q.event }
+    {
+        self.table
+            .shared
+            .fetch_add::<Pin>(&mut seat.seat, block as usize + PIN_COUNT as usize, 1);
+        let own = self.table.shared.split_seat::<CopyOut<Q>>(&mut seat.seat);
+        set_window(&mut seat.windows, worker, block);
+        seat.mask = 0;
+        Copying {
+            seat: own,
+            worker,
+            left,
+            block,
+            first,
+            len,
+        }
+    }
+}

@@ -1,0 +1,322 @@
+ghost use Rattle.std.specs.Prelude.{◌≡◌, ℕ, ◌==◌, ◌+◌, ◌<◌, ◌≤◌, ◌^◌, true, false, [], ◌∷◌, ◌++◌, length, slice_index, slice_set, Some, None, sum, List};
+ghost use mathlib.Core.List.{IsPrefix};
+ghost use Rattle.seg_words.specs.declared.layout.TheConstants.{IMAGE_LENGTH};
+ghost use Rattle.seg_words.specs.Windows.{Frees, Refuses, has, Aside};
+ghost use Rattle.seg_words.specs.Blocks.{MayProbe, image_place};
+ghost use Rattle.apcu_model.specs.declared.request.Request.TheVariants as request;
+ghost use Rattle.pin_table.specs.Events.{event, events_of, is_fetch};
+ghost use Rattle.apcu_model.specs.Asking.{asked};
+ghost use Rattle.pin_table.specs.Pins.{IsBlock, MeetsNone, MayPin};
+ghost use Rattle.pin_table.specs.Views.{in_hand, taken, rested, with_hand, with_event, after_event, seen_all, pinning_at, copied, reader_after, aside_of};
+ghost use Rattle.pin_table.specs.Order.{DeskInOrder};
+
+use crate::copying::Copying;
+use crate::pass::{Ended, Pass};
+use crate::rule::Saying;
+use crate::table::{PinTable, WriterSeat};
+use apcu_model::Ask;
+use seg_words::{HEAD_WORDS, IMAGE_LENGTH, KEY_LENGTH, Segment, WordsIn};
+use std::marker::Brand;
+
+/// All that a writer has beside its words and what its event met. No value of it is made.
+pub struct Beside {
+    pub name: u64,
+    pub worker: u32,
+    pub left: u32,
+    pub seat: WriterSeat,
+}
+
+/// One event's hold on the words, as a segment for all layers that work on one.
+///
+/// It is linear: each way out of an event ends it by one of the five calls that begin with `give`.
+pub struct Writer<'a> {
+    pub table: &'a PinTable,
+    pub seat: &'a mut WriterSeat,
+    pub worker: u32,
+    pub left: u32,
+    ghost same_table: { seat.now.table ≡ table.now },
+    ghost whole: { length seat.now.desk.words ≡ table.now.words },
+    ghost short: { length seat.now.desk.words < 2 ^ 32 },
+}
+
+impl WordsIn for Writer<'_> {
+    type Rest = Beside;
+
+    ghost use Rattle.pin_table.specs.WriterRest.{beside};
+
+    ghost words = { λ w. w.seat.now.desk.words };
+
+    ghost aside = { λ w. aside_of w.seat.now.desk };
+
+    ghost rest = { beside };
+
+    ghost short = { λ w. w.short };
+
+    fn len(&self) -> u32 {
+        self.table.len()
+    }
+
+    fn load(&mut self, i: u32) -> u64 {
+        self.table.load(self.seat, i)
+    }
+}
+
+impl Segment for Writer<'_> {
+    ghost use Rattle.std.specs.Prelude.{◌≡◌, ℕ, ◌==◌, true, false, ◌∷◌};
+    ghost use Rattle.seg_words.specs.Windows.{has, Frees, Refuses};
+    ghost use Rattle.seg_words.specs.Blocks.{MayProbe};
+    ghost use Rattle.pin_table.specs.Views.{aside_of};
+    ghost use Rattle.pin_table.specs.WriterRest.{beside};
+
+    // A load is far cheaper than a store, and many words are written with what they are.
+    fn store(&mut self, i: u32, w: u64) {
+        if self.table.load(self.seat, i) != w {
+            self.table.store(self.seat, i, w);
+        }
+    }
+
+    fn mask(&self) -> u64 {
+        self.seat.mask()
+    }
+
+    // The answer is what one load of the pin count tells, and the event keeps that reading.
+    fn probe(&mut self, at: u32) -> bool
+        requires block { MayProbe self.old.seat.now.desk.words self.old.seat.now.desk.windows at }
+        requires fresh { has at (aside_of self.old.seat.now.desk).refused ≡ false }
+        ensures words { self.new.seat.now.desk.words ≡ self.old.seat.now.desk.words }
+        ensures free { result ≡ true
+            → Frees (aside_of self.old.seat.now.desk) (aside_of self.new.seat.now.desk) at }
+        ensures held { result ≡ false
+            → Refuses (aside_of self.old.seat.now.desk) (aside_of self.new.seat.now.desk) at }
+        ensures rest { beside self.new ≡ beside self.old }
+        ensures reading { (n : ℕ)
+            × (self.new.seat.now.desk.readings ≡ (at, n) ∷ self.old.seat.now.desk.readings)
+            × (result ≡ (n == 0)) }
+    {
+        self.table.probe(self.seat, at) == 0
+    }
+}
+
+impl PinTable {
+    /// Begins an event: the pass comes into the writer's hand, its worker's window closes, and nothing is
+    /// met yet.
+    pub fn writer<'a>(&'a self, seat: &'a mut WriterSeat, pass: Pass) -> Writer<'a>
+        requires table { seat.old.table ≡ self.now }
+        requires pass { pass.table ≡ self.now }
+        requires hand { seat.old.desk.book.hand ≡ None }
+        requires left { 1 ≤ pass.known.left }
+        ensures same_reference { result.seat.ghost_name ≡ seat.entry.ghost_name }
+        ensures table { result.table.now ≡ self.now }
+        ensures desk { result.seat.now.desk ≡ taken seat.old.desk pass.known }
+        ensures worker { result.worker ≡ pass.known.worker }
+        ensures left { result.left ≡ pass.known.left }
+        ensures seen { IsPrefix pass.known.seen seat.old.desk.book.history }
+        ensures own { events_of pass.known.worker seat.old.desk.book.history ≡ pass.known.own }
+        ensures made { events_of pass.known.worker pass.known.seen ≡ pass.known.own }
+        ensures room { length seat.old.desk.book.history + pass.known.left
+            ≤ sum seat.old.desk.book.budgets }
+        ensures order { (copying : List ℕ) × DeskInOrder result.seat.now.desk copying }
+    {
+        let worker = pass.worker();
+        let left = pass.left();
+        self.take(seat, pass);
+        self.look(seat);
+        Writer {
+            table: self,
+            seat,
+            worker,
+            left,
+        }
+    }
+}
+
+impl Writer<'_> {
+    /// Ends the event: it becomes the last of the history, with the mask that its probes gathered. The
+    /// pass that comes back has seen it, and has one event less left.
+    pub fn give_pass(self, ask: Ask<'_>, t: u64) -> Pass
+        requires hand { self.seat.now.desk.book.hand ≡ Some (in_hand self.seat.now.desk.book.hand) }
+        requires worker { (in_hand self.seat.now.desk.book.hand).worker ≡ self.worker }
+        requires left { (in_hand self.seat.now.desk.book.hand).left ≡ self.left }
+        requires budget { 1 ≤ self.left }
+        ensures table { self.exit.1.0.now.table ≡ self.entry.seat.now.table }
+        ensures desk { self.exit.1.0.now.desk
+            ≡ rested self.entry.seat.now.desk (with_event self.entry.seat.now.desk.book
+            (event self.entry.worker t (asked ask.entry) self.entry.seat.now.desk.mask)) }
+        ensures pass { result.table ≡ self.entry.seat.now.table }
+        ensures known { result.known
+            ≡ after_event self.entry.seat.now.desk.book
+            (event self.entry.worker t (asked ask.entry) self.entry.seat.now.desk.mask) }
+        ensures order { (copying : List ℕ) × DeskInOrder self.entry.seat.now.desk copying }
+    {
+        let Writer {
+            table,
+            seat,
+            worker,
+            left,
+        } = self;
+        table.look(seat);
+        let mask = seat.mask;
+        give_as::<Brand>(table, seat, worker, left - 1, ask, t, mask)
+    }
+
+    /// The worker's last event: its end, at the moment 0.
+    pub fn give_ended(self) -> Ended
+        requires hand { self.seat.now.desk.book.hand ≡ Some (in_hand self.seat.now.desk.book.hand) }
+        requires worker { (in_hand self.seat.now.desk.book.hand).worker ≡ self.worker }
+        requires left { (in_hand self.seat.now.desk.book.hand).left ≡ self.left }
+        requires budget { 1 ≤ self.left }
+        ensures table { self.exit.1.0.now.table ≡ self.entry.seat.now.table }
+        ensures desk { self.exit.1.0.now.desk
+            ≡ rested self.entry.seat.now.desk (with_event self.entry.seat.now.desk.book
+            (event self.entry.worker 0 request.Retire self.entry.seat.now.desk.mask)) }
+        ensures ended { result.table ≡ self.entry.seat.now.table }
+        ensures known { result.known
+            ≡ after_event self.entry.seat.now.desk.book
+            (event self.entry.worker 0 request.Retire self.entry.seat.now.desk.mask) }
+        ensures order { (copying : List ℕ) × DeskInOrder self.entry.seat.now.desk copying }
+    {
+        Ended::of(self.give_pass(Ask::Retire, 0))
+    }
+
+    /// There was no event: the history stays, and the pass is as it was when it was taken.
+    pub fn give_back(self) -> Pass
+        requires hand { self.seat.now.desk.book.hand ≡ Some (in_hand self.seat.now.desk.book.hand) }
+        requires worker { (in_hand self.seat.now.desk.book.hand).worker ≡ self.worker }
+        requires left { (in_hand self.seat.now.desk.book.hand).left ≡ self.left }
+        ensures table { self.exit.1.0.now.table ≡ self.entry.seat.now.table }
+        ensures desk { self.exit.1.0.now.desk
+            ≡ rested self.entry.seat.now.desk (with_hand self.entry.seat.now.desk.book None) }
+        ensures pass { result.table ≡ self.entry.seat.now.table }
+        ensures known { result.known ≡ in_hand self.entry.seat.now.desk.book.hand }
+    {
+        let Writer {
+            table,
+            seat,
+            worker,
+            left,
+        } = self;
+        table.give_back(seat, worker, left)
+    }
+
+    /// There was no event, as with `give_back`, but the pass that comes back has seen the whole history.
+    pub fn give_seen(self) -> Pass
+        requires hand { self.seat.now.desk.book.hand ≡ Some (in_hand self.seat.now.desk.book.hand) }
+        requires worker { (in_hand self.seat.now.desk.book.hand).worker ≡ self.worker }
+        requires left { (in_hand self.seat.now.desk.book.hand).left ≡ self.left }
+        ensures table { self.exit.1.0.now.table ≡ self.entry.seat.now.table }
+        ensures desk { self.exit.1.0.now.desk
+            ≡ rested self.entry.seat.now.desk (with_hand self.entry.seat.now.desk.book None) }
+        ensures pass { result.table ≡ self.entry.seat.now.table }
+        ensures known { result.known ≡ seen_all self.entry.seat.now.desk.book }
+    {
+        let Writer {
+            table,
+            seat,
+            worker,
+            left,
+        } = self;
+        table.give_seen(seat, worker, left)
+    }
+
+    /// Ends the event of a fetch, as `give_pass` does, and pins the block at `at`: the worker copies from
+    /// it from then on, until it releases it.
+    pub fn give_copying(self, ask: Ask<'_>, t: u64, at: u32) -> Copying
+        requires hand { self.seat.now.desk.book.hand ≡ Some (in_hand self.seat.now.desk.book.hand) }
+        requires worker { (in_hand self.seat.now.desk.book.hand).worker ≡ self.worker }
+        requires left { (in_hand self.seat.now.desk.book.hand).left ≡ self.left }
+        requires budget { 1 ≤ self.left }
+        requires fetch { is_fetch (asked ask) ≡ true }
+        requires block { MayPin self.seat.now.desk.words self.seat.now.desk.windows at }
+        ensures table { self.exit.1.0.now.table ≡ self.entry.seat.now.table }
+        ensures desk { self.exit.1.0.now.desk
+            ≡ copied (pinning_at self.entry.seat.now.desk at)
+            (event self.entry.worker t (asked ask.entry) self.entry.seat.now.desk.mask) }
+        ensures copying { result.table ≡ self.entry.seat.now.table }
+        ensures copy { result.copy
+            ≡ reader_after (pinning_at self.entry.seat.now.desk at)
+            (event self.entry.worker t (asked ask.entry) self.entry.seat.now.desk.mask) }
+        ensures order { (copying : List ℕ) × DeskInOrder self.entry.seat.now.desk copying }
+    {
+        let Writer {
+            table,
+            seat,
+            worker,
+            left,
+        } = self;
+        table.look(seat);
+        let mask = seat.mask;
+        let bytes = table.load(seat, at + KEY_LENGTH);
+        let len = table.load(seat, at + IMAGE_LENGTH);
+        let first = u64::from(at) + HEAD_WORDS as u64 + (bytes + 7) / 8;
+        copy_as::<Brand>(
+            table,
+            seat,
+            worker,
+            left - 1,
+            at,
+            first as u32,
+            len as u32,
+            ask,
+            t,
+            mask,
+        )
+    }
+}
+
+// Here the event is picked: what was asked, lent as it is, is a request in contracts alone.
+fn give_as<Q: Saying>(
+    table: &PinTable,
+    seat: &mut WriterSeat,
+    worker: u32,
+    left: u32,
+    ask: Ask<'_>,
+    t: u64,
+    mask: u64,
+) -> Pass
+    requires table { seat.old.table ≡ table.now }
+    requires hand { seat.old.desk.book.hand ≡ Some (in_hand seat.old.desk.book.hand) }
+    requires worker { (in_hand seat.old.desk.book.hand).worker ≡ worker }
+    requires left { (in_hand seat.old.desk.book.hand).left ≡ left + 1 }
+    requires event { Q.event ≡ event worker t (asked ask) mask }
+    ensures table { seat.new.table ≡ seat.old.table }
+    ensures desk { seat.new.desk
+        ≡ rested seat.old.desk (with_event seat.old.desk.book
+        (event worker t (asked ask.entry) mask)) }
+    ensures pass { result.table ≡ table.entry.now }
+    ensures known { result.known
+        ≡ after_event seat.old.desk.book (event worker t (asked ask.entry) mask) }
+{
+    table.give::<Q>(seat, worker, left)
+}
+
+fn copy_as<Q: Saying>(
+    table: &PinTable,
+    seat: &mut WriterSeat,
+    worker: u32,
+    left: u32,
+    at: u32,
+    first: u32,
+    len: u32,
+    ask: Ask<'_>,
+    t: u64,
+    mask: u64,
+) -> Copying
+    requires len { len ≡ slice_index seat.old.desk.words (at + IMAGE_LENGTH) }
+    requires first { first ≡ image_place seat.old.desk.words at }
+    requires table { seat.old.table ≡ table.now }
+    requires block { IsBlock seat.old.desk.words at }
+    requires apart { MeetsNone seat.old.desk.words seat.old.desk.windows at }
+    requires hand { seat.old.desk.book.hand ≡ Some (in_hand seat.old.desk.book.hand) }
+    requires worker { (in_hand seat.old.desk.book.hand).worker ≡ worker }
+    requires left { (in_hand seat.old.desk.book.hand).left ≡ left + 1 }
+    requires event { Q.event ≡ event worker t (asked ask) mask }
+    requires fetch { is_fetch (asked ask) ≡ true }
+    ensures table { seat.new.table ≡ seat.old.table }
+    ensures desk { seat.new.desk
+        ≡ copied (pinning_at seat.old.desk at) (event worker t (asked ask.entry) mask) }
+    ensures copying { result.table ≡ table.entry.now }
+    ensures copy { result.copy
+        ≡ reader_after (pinning_at seat.old.desk at) (event worker t (asked ask.entry) mask) }
+{
+    table.copy_out::<Q>(seat, worker, left, at, first, len)
+}

@@ -1,0 +1,22 @@
+ghost use Rattle.std.specs.Prelude.{◌≡◌};
+ghost use Rattle.seg_words.specs.Layout.{words_in};
+
+/// The words of an entry's head. The key follows, eight bytes a word, and then the image of the
+/// value.
+pub const HEAD_WORDS: u32 = 12;
+
+/// Where an entry's head has the length of its key, in bytes.
+pub const KEY_LENGTH: u32 = 2;
+
+/// Where an entry's head has the length of its value's image, in words.
+pub const IMAGE_LENGTH: u32 = 3;
+
+/// Where an entry's head has its pin count: how many workers copy from the block just now.
+pub const PIN_COUNT: u32 = 11;
+
+/// The words that so many bytes take, eight bytes a word.
+pub fn words_in(bytes: u32) -> u32
+    ensures { result ≡ words_in bytes }
+{
+    bytes / 8 + (bytes % 8 + 7) / 8
+}

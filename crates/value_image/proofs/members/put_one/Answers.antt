@@ -1,5 +1,0 @@
-use Rattle.std.proofs.Common.{arith}
-use Rattle.value_image.proofs.members.put_one.Goals as goal
-
-pub store-requires-clause-apart : goal.store-requires-clause-apart
-store-requires-clause-apart g c = c.requires.apart c.args.at (omega arith) (omega arith)

@@ -1,0 +1,242 @@
+ghost use Rattle.std.specs.Prelude.{◌≡◌, ℕ, ◌+◌, ◌<◌, ◌≤◌, IfOk};
+ghost use Rattle.php_graph.specs.Building.{item_fits};
+ghost use Rattle.php_graph.specs.Size.{image_length};
+ghost use Rattle.seg_words.specs.Blocks.{IsTold};
+ghost use Rattle.value_image.specs.Rows.{MayWrite};
+
+use php_graph::{Builder, Bytes, Graph, Item, Key, Wants};
+use seg_words::{Segment, VecWords};
+use std::alloc::{AllocError, Global};
+use std::test::Fail;
+use value_image::{bytes_are_packed, images_are_runs, images_differ, runs_are_written, runs_stand};
+use value_image::{get_bytes, persist, put_bytes, unpersist};
+
+// A step in writing a value.
+#[derive(Clone, Copy)]
+enum Step {
+    Null,
+    Bool(bool),
+    Int(i64),
+    Str(&'static [u8]),
+    Array,
+    Object(&'static [u8]),
+    Number(i64),
+    Name(&'static [u8]),
+    Close,
+    Same(u32),
+    Back(u32),
+}
+
+fn bytes_of(alloc: Global, from: &[u8]) -> Result<Bytes, AllocError> {
+    if from.len() > 100 {
+        return Err(AllocError);
+    }
+    Bytes::of(alloc, from)
+}
+
+fn item_of(alloc: Global, step: &Step) -> Result<Item, AllocError> {
+    Ok(match step {
+        Step::Null => Item::Null,
+        Step::Bool(truth) => Item::Bool(*truth),
+        Step::Int(number) => Item::Int(*number),
+        Step::Str(bytes) => Item::Str(bytes_of(alloc, bytes)?),
+        Step::Array => Item::OpenArray,
+        Step::Object(class) => Item::OpenObject(bytes_of(alloc, class)?),
+        Step::Number(number) => Item::Key(Key::Int(*number)),
+        Step::Name(name) => Item::Key(Key::Str(bytes_of(alloc, name)?)),
+        Step::Close => Item::Close,
+        Step::Same(place) => Item::Same(*place),
+        Step::Back(place) => Item::Back(*place),
+    })
+}
+
+fn fits(wants: Wants, item: &Item) -> bool
+    ensures { result ≡ item_fits wants item.now }
+{
+    match wants {
+        Wants::Value => !matches!(item, Item::Key(_) | Item::Close),
+        Wants::ArrayKey => matches!(item, Item::Key(_) | Item::Close),
+        Wants::Name => matches!(item, Item::Key(Key::Str(_)) | Item::Close),
+        Wants::Done => false,
+    }
+}
+
+// The graph that the steps write, if they write one.
+fn graph_of(alloc: Global, steps: &[Step]) -> Option<Graph> {
+    let mut builder = Builder::new(alloc);
+    for step in steps {
+        let item = item_of(alloc, step).ok()?;
+        if !fits(builder.wants(), &item) {
+            return None;
+        }
+        builder.push(item).ok()?;
+    }
+    match builder.wants() {
+        Wants::Done => Some(builder.seal()),
+        _ => None,
+    }
+}
+
+// Writes the image, and reads the graph from it.
+fn round_trip<S: Segment>(
+    alloc: Global,
+    row: &mut S,
+    at: u32,
+    g: &Graph,
+) -> Result<Graph, AllocError>
+    requires apart { MayWrite (S.words row.old) (S.aside row.old).windows at (image_length g.now) }
+    requires told { (i : ℕ) → at ≤ i → i < at + image_length g.now
+        → IsTold (S.aside row.old).windows i }
+    ensures { IfOk result (λ back. back ≡ g.now) }
+{
+    persist(row, at, g);
+    unpersist(alloc, row, at, g.words() as u32)
+}
+
+// A row with the graph's image at place `at`, and a word behind it.
+fn row_of(alloc: Global, at: u32, g: &Graph) -> Result<Vec<u64>, AllocError> {
+    let words = g.words();
+    if words > 1000 || at > 2 {
+        return Err(AllocError);
+    }
+    let mut row = VecWords::new(alloc, words as u32 + 3)?;
+    persist(&mut row, at, g);
+    Ok(row.into_words())
+}
+
+// What the image of the graph that the steps write is, at place 2.
+fn image(alloc: Global, steps: &[Step]) -> Result<Vec<u64>, AllocError> {
+    match graph_of(alloc, steps) {
+        Some(g) => row_of(alloc, 2, &g),
+        None => Ok(Vec::new(alloc)),
+    }
+}
+
+#[test]
+fn writes_worked_images(rt: HostRuntime) -> Result<(), Fail> {
+    let itself: &[Step] = &[Step::Array, Step::Number(0), Step::Back(1), Step::Close];
+    let object: &[Step] = &[
+        Step::Object(b"A"),
+        Step::Name(b"x"),
+        Step::Same(1),
+        Step::Name(b"y"),
+        Step::Back(1),
+        Step::Close,
+    ];
+    let first: &[u64] = &[0, 0, 12, 1, 2, 0, 0];
+    let second: &[u64] = &[0, 0, 21, 11, 65, 18, 11, 120, 1, 11, 121, 6, 0, 0];
+    for (steps, words) in [(itself, first), (object, second)] {
+        let row = image(rt.alloc(), steps)?;
+        assert_eq!(rt; row.as_slice(), words);
+    }
+    Ok(())
+}
+
+// How many places and words the graph has that comes back from its image, if the two images are the same.
+fn back_from(alloc: Global, g: &Graph) -> Result<Option<(u32, u64)>, AllocError> {
+    let words = g.words();
+    if words > 1000 {
+        return Ok(None);
+    }
+    let mut row = VecWords::new(alloc, words as u32)?;
+    let back = round_trip(alloc, &mut row, 0, g)?;
+    if row_of(alloc, 0, &back)? != row_of(alloc, 0, g)? {
+        return Ok(None);
+    }
+    Ok(Some((back.places(), back.words())))
+}
+
+fn comes_back(alloc: Global, steps: &[Step]) -> Result<Option<(u32, u64)>, AllocError> {
+    match graph_of(alloc, steps) {
+        Some(g) => back_from(alloc, &g),
+        None => Ok(None),
+    }
+}
+
+#[test]
+fn brings_scalars_back(rt: HostRuntime) -> Result<(), Fail> {
+    let scalars = [
+        (Step::Null, 1),
+        (Step::Bool(false), 1),
+        (Step::Bool(true), 1),
+        (Step::Int(i64::MIN), 2),
+        (Step::Int(-1), 2),
+        (Step::Int(i64::MAX), 2),
+        (Step::Str(b""), 1),
+        (Step::Str(b"seven b"), 2),
+        (Step::Str(b"eight by"), 2),
+        (Step::Str(b"nine byte"), 3),
+        (Step::Str(b"\xff\0\0\0\0\0\0\xff\0"), 3),
+    ];
+    for (step, words) in scalars {
+        let back = comes_back(rt.alloc(), &[step])?;
+        assert_eq!(rt; back, Some((1, words)));
+    }
+    Ok(())
+}
+
+#[test]
+fn brings_containers_back(rt: HostRuntime) -> Result<(), Fail> {
+    let empty: &[Step] = &[Step::Array, Step::Close];
+    let bare: &[Step] = &[Step::Object(b"Some\\Class"), Step::Close];
+    let keys: &[Step] = &[
+        Step::Array,
+        Step::Name(b""),
+        Step::Null,
+        Step::Name(b"seven_b"),
+        Step::Bool(true),
+        Step::Name(b"eight_by"),
+        Step::Back(2),
+        Step::Name(b"nine_byte"),
+        Step::Int(7),
+        Step::Number(i64::MIN),
+        Step::Str(b"x"),
+        Step::Close,
+    ];
+    let nested: &[Step] = &[
+        Step::Array,
+        Step::Number(0),
+        Step::Array,
+        Step::Number(5),
+        Step::Object(b"A"),
+        Step::Name(b"me"),
+        Step::Same(3),
+        Step::Name(b""),
+        Step::Back(1),
+        Step::Close,
+        Step::Close,
+        Step::Number(1),
+        Step::Same(3),
+        Step::Number(2),
+        Step::Back(4),
+        Step::Close,
+    ];
+    let containers = [(empty, 1, 1), (bare, 1, 4), (keys, 5, 22), (nested, 5, 26)];
+    for (steps, places, words) in containers {
+        let back = comes_back(rt.alloc(), steps)?;
+        assert_eq!(rt; back, Some((places, words)));
+    }
+    Ok(())
+}
+
+#[test]
+fn brings_bytes_back(rt: HostRuntime) -> Result<(), Fail> {
+    let mut row = VecWords::new(rt.alloc(), 4)?;
+    put_bytes(&mut row, 1, b"abcdefghi");
+    let mut out = [b'-'; 9];
+    get_bytes(&mut row, 1, &mut out);
+    assert_eq!(rt; out.as_slice(), b"abcdefghi".as_slice());
+    let words = row.into_words();
+    let packed: &[u64] = &[0, 0x6867_6665_6463_6261, 0x69, 0];
+    assert_eq!(rt; words.as_slice(), packed);
+    Ok(())
+}
+
+#[test]
+fn states_its_laws() {
+    bytes_are_packed();
+    images_are_runs();
+    images_differ();
+    runs_are_written();
+    runs_stand();
+}
