@@ -1,24 +1,10 @@
 //! Graphs of a few shapes.
 
-ghost use Rattle.std.specs.Prelude.{◌≡◌};
-ghost use Rattle.php_graph.specs.Building.{item_fits};
-
 use php_graph::{Builder, Bytes, Graph, Item, Key, Wants};
 use std::alloc::Global;
 
-fn fits(wants: Wants, item: &Item) -> bool
-    ensures { result ≡ item_fits wants item.now }
-{
-    match wants {
-        Wants::Value => !matches!(item, Item::Key(_) | Item::Close),
-        Wants::ArrayKey => matches!(item, Item::Key(_) | Item::Close),
-        Wants::Name => matches!(item, Item::Key(Key::Str(_)) | Item::Close),
-        Wants::Done => false,
-    }
-}
-
 fn push(builder: &mut Builder, item: Item) -> Option<()> {
-    if !fits(builder.wants(), &item) {
+    if !builder.wants().permits(&item) {
         return None;
     }
     builder.push(item).ok()
@@ -31,12 +17,27 @@ fn seal(builder: Builder) -> Option<Graph> {
     }
 }
 
+/// A value that is one item.
+fn single(alloc: Global, item: Item) -> Option<Graph> {
+    let mut builder = Builder::new(alloc);
+    push(&mut builder, item)?;
+    seal(builder)
+}
+
+/// An integer.
+pub fn integer(alloc: Global) -> Option<Graph> {
+    single(alloc, Item::Int(1234567))
+}
+
+/// A truth value.
+pub fn truth(alloc: Global) -> Option<Graph> {
+    single(alloc, Item::Bool(true))
+}
+
 /// A byte string of so many bytes.
 pub fn string(alloc: Global, len: u32) -> Option<Graph> {
     let bytes = Vec::from_elem(alloc, b'x', len as usize).ok()?;
-    let mut builder = Builder::new(alloc);
-    push(&mut builder, Item::Str(Bytes::from_vec(bytes)))?;
-    seal(builder)
+    single(alloc, Item::Str(Bytes::from_vec(bytes)))
 }
 
 /// An array of so many integers.

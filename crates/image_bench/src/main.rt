@@ -4,8 +4,10 @@
 
 mod graphs;
 mod often;
+mod texts;
 
 use crate::often::{copy_often, graph_often, persist_often, unpersist_often};
+use crate::texts::{read_often, write_often};
 use php_graph::Graph;
 use seg_words::VecWords;
 use std::alloc::Global;
@@ -16,6 +18,8 @@ const MOST_WORDS: u64 = 1 << 20;
 
 fn graph_named(alloc: Global, name: &str) -> Option<Graph> {
     match name {
+        "integer" => graphs::integer(alloc),
+        "truth" => graphs::truth(alloc),
         "string100" => graphs::string(alloc, 100),
         "string10k" => graphs::string(alloc, 10_000),
         "string1m" => graphs::string(alloc, 1_000_000),
@@ -36,6 +40,10 @@ fn do_work(alloc: Global, work: &str, name: &str, rounds: u32) -> Option<()> {
         "unpersist" => {
             let _places = unpersist_often(alloc, &mut row, &g, rounds)?;
         }
+        "read" => {
+            let _places = read_often(alloc, &g, rounds)?;
+        }
+        "write" => write_often(alloc, &g, rounds)?,
         "graph" => {
             let _places = graph_often(alloc, &g, rounds)?;
         }

@@ -3,7 +3,7 @@ use Rattle.std.proofs.Common.{◌≡◌, ℕ, zero, suc, ◌-◌, ◌<◌, ◌�
 use Rattle.std.specs.List.{AllByRecursion, slice_get}
 use Rattle.std.specs.Option.{is_some}
 use Rattle.std.proofs.lemmas.Bool.{false≢true}
-use Rattle.std.proofs.lemmas.List.{reverse-append, reverse-reverse}
+use Rattle.std.proofs.lemmas.List.{reverse-append, reverse-reverse, length-map, length-reverse}
 use Rattle.std.proofs.lemmas.List.Sums.{sum_by-cons}
 use Rattle.php_graph.specs.declared.container.Container.{Container}
 use Rattle.php_graph.specs.declared.key.Key.{Key}
@@ -14,7 +14,7 @@ use Rattle.php_graph.specs.Graph.{kind_at, children_of, is_array}
 use Rattle.php_graph.specs.Building.{with_member, is_container, attached, wants_by, wants_of}
 use Rattle.php_graph.specs.Drafted.{IsDraft, CanTake, CanAttach, is_open_at, places_of, draft_of}
 use Rattle.php_graph.specs.Counted.{children_in}
-use Rattle.php_graph.proofs.DraftLemmas.{kind_at-append_old, place_is, get_or-place}
+use Rattle.php_graph.proofs.DraftLemmas.{kind_at-append_old, place_is, get_or-place, one_kind}
 use Rattle.php_graph.proofs.DraftMade.{open_kind, takes_key}
 
 -- ---- the innermost container
@@ -116,6 +116,32 @@ can_attach g (p ∷ outer) (Some key) d =
     let takes = takes_key g p outer key o.0 o.1 o.2 d.waiting in
     record { kind = o.0; there = o.1; room = omega (arith, children_few g p o.0 o.1, d.members, d.count); named = takes.named }
 
+-- where there is no place, no member is added and no key waits
+pub attached_nothing : (cs : List ℕ) (key : Option Key) (c : Child) → attached [] cs key c ≡ []
+attached_nothing [] key c = refl
+attached_nothing (p ∷ outer) None c = refl
+attached_nothing (zero ∷ outer) (Some key) c = refl
+attached_nothing (suc p ∷ outer) (Some key) c = refl
+
+pub no_key : (cs : List ℕ) (key : Option Key) → CanAttach [] cs key → key ≡ None
+no_key [] key can = can
+no_key (p ∷ outer) None can = refl
+no_key (zero ∷ outer) (Some key) can = absurd (let t : None ≡ Some can.kind = can.there in cc)
+no_key (suc p ∷ outer) (Some key) can = absurd (let t : None ≡ Some can.kind = can.there in cc)
+
+-- where nothing is written, no container is open
+pub none_open : (cs : List ℕ) → AllByRecursion (λ p. is_open_at [] p ≡ true) cs → cs ≡ []
+none_open [] opened = refl
+none_open (p ∷ outer) opened = let o = open_kind [] p (kind_at [] p) refl opened.0 in let low = place_is [] p o.0 o.1 in absurd (omega (arith, low.low, low.high))
+
+pub none_in : (cs : List Container) → AllByRecursion (λ p. is_open_at [] p ≡ true) (places_of cs) → length cs ≡ 0
+none_in cs opened = omega (arith, ap length (none_open (places_of cs) opened), length-map (reverse cs) (λ c. c.place), length-reverse cs)
+
+-- where nothing is written, a value is wanted
+pub wants_first : (cs : List ℕ) (key : Option Key) → IsDraft [] cs key → wants_by [] cs key ≡ Value
+wants_first [] key d = refl
+wants_first (p ∷ outer) key d = let none : p ∷ outer ≡ [] = none_open (p ∷ outer) d.opened in absurd cc
+
 -- ---- what comes next
 
 none_from : (o : Option Key) → false ≡ is_some o → o ≡ None
@@ -123,8 +149,8 @@ none_from None e = refl
 none_from (Some key) e = absurd (false≢true e)
 
 -- what an open container wants where no key waits
-pub wants_here : (g : List Kind) (cs : List Container) (key : Option Key) (c : Container) (b : Bool) (k : Kind) → IsDraft g (places_of cs) key → slice_get cs (length cs - 1) ≡ Some c → false ≡ is_some key → k ≡ get_or g (c.place - 1) k → b ≡ is_array k → wants_of (draft_of g cs key) ≡ cond b ArrayKey Name
+pub wants_here : (g : List Kind) (cs : List Container) (key : Option Key) (c : Container) (b : Bool) (k : Kind) → IsDraft g (places_of cs) key → slice_get cs (length cs - 1) ≡ Some c → false ≡ is_some key → slice_get g (c.place - 1) ≡ Some k → b ≡ is_array k → wants_of (draft_of g cs key) ≡ cond b ArrayKey Name
 wants_here g cs key c b k d last no_key at is =
     let i = innermost_is g cs key c d last in
-    let same : k ≡ i.kind = at ∙ get_or-place g c.place i.kind k i.there in
+    let same : k ≡ i.kind = one_kind g c.place i.kind k i.there at in
     ap (λ (o : Option Key). wants_by g (places_of cs) o) (none_from key no_key) ∙ wants_inside_is g cs c i ∙ ap (λ (x : Bool). cond x ArrayKey Name) (sym (is ∙ ap is_array same))

@@ -114,9 +114,9 @@ has_room d e =
     let second = no_fault (nat_le most_values (values_in d.places)) TooManyPlaces None first.1 in
     record { deep = grind (arith, nat_tests, first.0); few = grind (arith, nat_tests, second.0) }
 
-pub building_value : (g h : List Kind) (offsets offsets' : List ℕ) (cs cs' : List Container) (key : Option Key) (values : ℕ) (kind : Kind) → IsBuilding g offsets cs key values → wants_by g (places_of cs) key ≡ Value → HasRoom g (places_of cs) → IsNewValue g kind
-    → h ≡ attached g (places_of cs) key (Own (length g + 1)) ++ kind ∷ [] → length offsets' ≡ length offsets + 1 → Opens (is_container kind) (length g + 1) cs cs' → IsBuilding h offsets' cs' None (values + 1)
-building_value g h offsets offsets' cs cs' key values kind b wants room new is more opens =
+pub building_value : (g h : List Kind) (cs cs' : List Container) (key : Option Key) (values : ℕ) (kind : Kind) → IsBuilding g cs key values → wants_by g (places_of cs) key ≡ Value → HasRoom g (places_of cs) → IsNewValue g kind
+    → h ≡ attached g (places_of cs) key (Own (length g + 1)) ++ kind ∷ [] → Opens (is_container kind) (length g + 1) cs cs' → IsBuilding h cs' None (values + 1)
+building_value g h cs cs' key values kind b wants room new is opens =
     let n = length g + 1 in
     let g1 = attached g (places_of cs) key (Own n) in
     let len : length g1 ≡ length g = length-attached g (places_of cs) key (Own n) in
@@ -128,7 +128,6 @@ building_value g h offsets offsets' cs cs' key values kind b wants room new is m
     record {
       draft = draft;
       known = after.0;
-      offsets_are = omega (arith, b.offsets_are, ap length is, length-append g1 (kind ∷ []));
       values_are = omega (arith, b.values_are, ap values_in is, values_push g1 kind new.childless, values_after g (places_of cs) key (Own n) b.draft wants (λ e. refl));
     }
 
@@ -144,8 +143,8 @@ front_of xs ys x e = ap reverse e ∙ reverse-append ys (x ∷ [])
 known_closed : (g : List Kind) (r : List Container) (c : Container) (rest : List Container) → r ≡ c ∷ rest → KnowsAll g r None → KnowsAll g rest None
 known_closed g r c rest e known = (subst (λ (xs : List Container). KnowsAll g xs None) e known).1
 
-pub building_closed : (g : List Kind) (offsets : List ℕ) (cs cs' : List Container) (key : Option Key) (values : ℕ) (c : Container) → IsBuilding g offsets cs key values → key ≡ None → cs ≡ cs' ++ c ∷ [] → IsBuilding g offsets cs' key values
-building_closed g offsets cs cs' key values c b no_key e =
+pub building_closed : (g : List Kind) (cs cs' : List Container) (key : Option Key) (values : ℕ) (c : Container) → IsBuilding g cs key values → key ≡ None → cs ≡ cs' ++ c ∷ [] → IsBuilding g cs' key values
+building_closed g cs cs' key values c b no_key e =
     let turned = front_of cs cs' c e in
     let open_here : IsDraft g (c.place ∷ places_of cs') None = subst (λ (k : Option Key). IsDraft g (c.place ∷ places_of cs') k) no_key (subst (λ (xs : List Container). IsDraft g (map (λ c. c.place) xs) key) turned b.draft) in
     let closed = close_drafted g c.place (places_of cs') open_here in
@@ -153,7 +152,6 @@ building_closed g offsets cs cs' key values c b no_key e =
     record {
       draft = subst (IsDraft g (places_of cs')) (sym no_key) closed;
       known = subst (KnowsAll g (reverse cs')) (sym no_key) known;
-      offsets_are = b.offsets_are;
       values_are = b.values_are;
     }
 
@@ -174,9 +172,9 @@ no_back (k ∷ ks) [] None x d wants low high e = cc
 no_back g [] (Some key) x d wants low high e = d.waiting
 no_back g (p ∷ outer) key x d wants low high e = cc
 
-pub building_back : (g h : List Kind) (offsets : List ℕ) (cs : List Container) (key : Option Key) (values x : ℕ) → IsBuilding g offsets cs key values → wants_by g (places_of cs) key ≡ Value → HasRoom g (places_of cs) → 1 ≤ x → x ≤ length g
-    → h ≡ attached g (places_of cs) key (Back x) → IsBuilding h offsets cs None (values + 1)
-building_back g h offsets cs key values x b wants room low high is =
+pub building_back : (g h : List Kind) (cs : List Container) (key : Option Key) (values x : ℕ) → IsBuilding g cs key values → wants_by g (places_of cs) key ≡ Value → HasRoom g (places_of cs) → 1 ≤ x → x ≤ length g
+    → h ≡ attached g (places_of cs) key (Back x) → IsBuilding h cs None (values + 1)
+building_back g h cs key values x b wants room low high is =
     let g1 = attached g (places_of cs) key (Back x) in
     let known = known_attached g [] (reverse cs) key (Back x) b.draft wants b.known in
     let known1 : KnowsAll g1 (reverse cs) None = subst (λ (y : List Kind). KnowsAll y (reverse cs) None) (append-nil g1) known in
@@ -185,7 +183,6 @@ building_back g h offsets cs key values x b wants room low high is =
     record {
       draft = subst (λ (y : List Kind). IsDraft y (places_of cs) None) (sym is) draft;
       known = subst (λ (y : List Kind). KnowsAll y (reverse cs) None) (sym is) known1;
-      offsets_are = omega (arith, b.offsets_are, ap length is, length-attached g (places_of cs) key (Back x));
       values_are = omega (arith, b.values_are, ap values_in is, values_after g (places_of cs) key (Back x) b.draft wants not_top);
     }
 
@@ -253,11 +250,10 @@ pub last_err : (g : List Kind) (cs : List Container) (c y : Container) (r : Resu
 last_err g cs c y (Ok done) i same knows = tt
 last_err g cs c y (Err fault) i same knows = last_knows g cs c y None i same (subst (KnowsKeys y.highest y.seen) (sym (append-nil (keys_of i.kind))) knows)
 
-pub building_refused : (g : List Kind) (offsets : List ℕ) (cs cs' : List Container) (key : Option Key) (values : ℕ) → IsBuilding g offsets cs key values → key ≡ None → places_of cs' ≡ places_of cs → KnowsAll g (reverse cs') None → IsBuilding g offsets cs' key values
-building_refused g offsets cs cs' key values b no_key same known = record {
+pub building_refused : (g : List Kind) (cs cs' : List Container) (key : Option Key) (values : ℕ) → IsBuilding g cs key values → key ≡ None → places_of cs' ≡ places_of cs → KnowsAll g (reverse cs') None → IsBuilding g cs' key values
+building_refused g cs cs' key values b no_key same known = record {
   draft = subst (λ (xs : List ℕ). IsDraft g xs key) (sym same) b.draft;
   known = subst (KnowsAll g (reverse cs')) (sym no_key) known;
-  offsets_are = b.offsets_are;
   values_are = b.values_are;
 }
 
@@ -282,18 +278,17 @@ key_in (k ∷ ks) [] key d (inl e) fits sound = absurd cc
 key_in (k ∷ ks) [] key d (inr e) fits sound = let f = e.0 in absurd cc
 key_in g (p ∷ outer) key d w fits sound = key_drafted g p outer key d fits sound (named_only g p outer key w)
 
-pub building_key : (g : List Kind) (offsets : List ℕ) (cs cs' : List Container) (old : Option Key) (key : Key) (values : ℕ) → IsBuilding g offsets cs old values → old ≡ None → (wants_by g (places_of cs) old ≡ ArrayKey) ⊎ ((wants_by g (places_of cs) old ≡ Name) × (is_name key ≡ true)) → FitsKey key
-    → innermost_fault g (places_of cs) key ≡ None → places_of cs' ≡ places_of cs → KnowsAll g (reverse cs') (Some key) → IsBuilding g offsets cs' (Some key) values
-building_key g offsets cs cs' old key values b no_key wants fits sound same known =
+pub building_key : (g : List Kind) (cs cs' : List Container) (old : Option Key) (key : Key) (values : ℕ) → IsBuilding g cs old values → old ≡ None → (wants_by g (places_of cs) old ≡ ArrayKey) ⊎ ((wants_by g (places_of cs) old ≡ Name) × (is_name key ≡ true)) → FitsKey key
+    → innermost_fault g (places_of cs) key ≡ None → places_of cs' ≡ places_of cs → KnowsAll g (reverse cs') (Some key) → IsBuilding g cs' (Some key) values
+building_key g cs cs' old key values b no_key wants fits sound same known =
     let d = subst (IsDraft g (places_of cs)) no_key b.draft in
     let w = subst (λ (o : Option Key). (wants_by g (places_of cs) o ≡ ArrayKey) ⊎ ((wants_by g (places_of cs) o ≡ Name) × (is_name key ≡ true))) no_key wants in
     record {
       draft = subst (λ (xs : List ℕ). IsDraft g xs (Some key)) (sym same) (key_in g (places_of cs) key d w fits sound);
       known = known;
-      offsets_are = b.offsets_are;
       values_are = b.values_are;
     }
 
-pub popped : (g : List Kind) (offsets : List ℕ) (cs cs' : List Container) (key : Option Key) (values : ℕ) (r : Option Container) → IsBuilding g offsets cs key values → key ≡ None → (p : ℕ) × (outer : List ℕ) × (places_of cs ≡ p ∷ outer) → cs ≡ cs' ++ option_to_list r → IsBuilding g offsets cs' key values
-popped g offsets cs cs' key values (Some c) b no_key some e = building_closed g offsets cs cs' key values c b no_key e
-popped g offsets cs cs' key values None b no_key some e = subst (λ (xs : List Container). IsBuilding g offsets xs key values) (e ∙ append-nil cs') b
+pub popped : (g : List Kind) (cs cs' : List Container) (key : Option Key) (values : ℕ) (r : Option Container) → IsBuilding g cs key values → key ≡ None → (p : ℕ) × (outer : List ℕ) × (places_of cs ≡ p ∷ outer) → cs ≡ cs' ++ option_to_list r → IsBuilding g cs' key values
+popped g cs cs' key values (Some c) b no_key some e = building_closed g cs cs' key values c b no_key e
+popped g cs cs' key values None b no_key some e = subst (λ (xs : List Container). IsBuilding g xs key values) (e ∙ append-nil cs') b

@@ -10,7 +10,7 @@ use Rattle.php_graph.specs.declared.key.Key.TheVariants as keys
 use Rattle.php_graph.specs.declared.child.Child.{Child}
 use Rattle.php_graph.specs.declared.kind.Kind.{Kind}
 use Rattle.php_graph.specs.declared.kind.Kind.TheVariants as kinds
-use Rattle.php_graph.specs.Graph.{kind_at, children_of, keys_of, is_array, is_object, key_eq, has_key, are_distinct, is_array_key, is_class, is_well_formed, FitsKey, FitsKind}
+use Rattle.php_graph.specs.Graph.{kind_at, children_of, keys_of, passes, is_array, is_object, is_object_at, key_eq, has_key, are_distinct, is_array_key, is_class, is_well_formed, FitsKey, FitsKind}
 use Rattle.php_graph.specs.Building.{with_member, is_container, is_name}
 use Rattle.php_graph.specs.Drafted.{places_of}
 use Rattle.std.proofs.lemmas.Bool.{false≢true}
@@ -76,6 +76,22 @@ place_is g (suc k) x e = record { low = omega arith; high = omega (arith, slice_
 pub get_or-place : (g : List Kind) (k : ℕ) (x d : Kind) → kind_at g k ≡ Some x → get_or g (k - 1) d ≡ x
 get_or-place g zero x d e = absurd cc
 get_or-place g (suc k) x d e = let i : suc k - 1 ≡ k = omega arith in rw i (get_or_from_slice_get g k x d e)
+
+-- a place's number from 0
+pub slice_at : (g : List Kind) (k : ℕ) (x : Kind) → kind_at g k ≡ Some x → slice_get g (k - 1) ≡ Some x
+slice_at g zero x e = absurd cc
+slice_at g (suc k) x e = let i : suc k - 1 ≡ k = omega arith in rw i e
+
+pub kind_from : (g : List Kind) (k : ℕ) (x : Kind) → 1 ≤ k → slice_get g (k - 1) ≡ Some x → kind_at g k ≡ Some x
+kind_from g zero x low e = absurd (omega arith)
+kind_from g (suc k) x low e = let i : k ≡ suc k - 1 = omega arith in rw i e
+
+pub object_there : (g : List Kind) (k : ℕ) (x : Kind) → 1 ≤ k → slice_get g (k - 1) ≡ Some x → is_object_at g k ≡ is_object x
+object_there g k x low e = ap (passes is_object) (kind_from g k x low e)
+
+-- there is one kind at a place
+pub one_kind : (g : List Kind) (k : ℕ) (x y : Kind) → kind_at g k ≡ Some x → slice_get g (k - 1) ≡ Some y → y ≡ x
+one_kind g k x y e f = let both : Some y ≡ Some x = sym f ∙ slice_at g k x e in cc
 
 -- ---- a member more
 

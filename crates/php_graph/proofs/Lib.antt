@@ -1,6 +1,7 @@
 pub mod NumberLemmas
 pub mod KeyLemmas
 pub mod SizeLemmas
+pub mod PlaceLemmas
 pub mod EndLemmas
 pub mod DraftLemmas
 pub mod DraftSteps

@@ -1,7 +1,6 @@
 -- A part of a graph is a graph.
 use Rattle.std.proofs.Common.{◌≡◌, ℕ, zero, suc, ◌+◌, ◌-◌, ◌<◌, ◌≤◌, Bool, true, cond, List, [], ◌∷◌, length, map, take, drop, get_or, sum_by, Option, Some, None, refl, sym, ap, subst, ◌∙◌, arith, zero-add}
 use Rattle.std.specs.Prelude.{◌&&◌, nat_lt, count_by, IsTrue, IfOk, IfSome, Result, Ok, Err}
-use Rattle.std.specs.Global.{Vec}
 use Rattle.std.specs.declared.alloc.AllocError.{AllocError}
 use Rattle.std.specs.List.{AllByRecursion, slice_get, list_all}
 use Rattle.std.specs.Option.{option_map}
@@ -18,6 +17,7 @@ use Rattle.php_graph.specs.declared.kind.Kind.TheVariants as kinds
 use Rattle.php_graph.specs.ByteStrings.{AreBytes}
 use Rattle.php_graph.specs.Graph.{kind_at, children_of, passes, is_object, is_object_at, is_array_key, are_distinct, is_class, is_well_formed, FitsKey, FitsKind, is_back, most_values, ends_after, child_end, end_of, levels, IsGraph, lowered_number, lowered_child, lowered_members, lowered_kind, lowered_places, part_of}
 use Rattle.php_graph.specs.Counted.{children_in}
+use Rattle.php_graph.specs.Kept.{PlaceList, kinds_of}
 use Rattle.php_graph.proofs.EndLemmas.{chosen, then_some, EndsAt, own_end, own_makes, back_end, back_makes, grows, own_grows, ends_rise}
 use Rattle.php_graph.proofs.DraftLemmas.{place_is}
 use Rattle.php_graph.proofs.DraftMade.{backs}
@@ -319,8 +319,8 @@ part_from g k e ends low after =
     let count : e - k ≡ (e - 1) - (k - 1) = omega arith in
     rw (ends, count) refl
 
-pub part_ok : (g : List Kind) (k : ℕ) (r : Result (Option (Vec Kind)) AllocError) → IsGraph g → children_in g ≤ most_values → 1 ≤ k → k ≤ length g → IfOk r (λ part. option_map (λ v. v.items) part ≡ part_of g k)
-    → IfOk r (λ part. IfSome part (λ v. IsGraph v.items × (children_in v.items ≤ most_values)))
+pub part_ok : (g : List Kind) (k : ℕ) (r : Result (Option PlaceList) AllocError) → IsGraph g → children_in g ≤ most_values → 1 ≤ k → k ≤ length g → IfOk r (λ part. option_map kinds_of part ≡ part_of g k)
+    → IfOk r (λ part. IfSome part (λ p. IsGraph (kinds_of p) × (children_in (kinds_of p) ≤ most_values)))
 part_ok g k (Ok None) graph few low high part = tt
-part_ok g k (Ok (Some v)) graph few low high part = part_graph g v.items k graph few low high (sym part)
+part_ok g k (Ok (Some p)) graph few low high part = part_graph g (kinds_of p) k graph few low high (sym part)
 part_ok g k (Err e) graph few low high part = tt

@@ -3,6 +3,7 @@ use Rattle.std.specs.Prelude.{◌≡◌, ◌⊎◌, ℕ, suc, ◌+◌, ◌-◌, 
 use Rattle.std.specs.List.{AllByRecursion}
 use Rattle.std.specs.Option.{option_to_list}
 use Rattle.php_graph.specs.Keys.{KnowsKeys}
+use Rattle.php_graph.specs.Kept.{PlaceList, kinds_of}
 use Rattle.php_graph.specs.Counted.{children_in}
 use Rattle.php_graph.specs.declared.key.Key.{Key}
 use Rattle.php_graph.specs.declared.child.Child.{Child}
@@ -16,6 +17,11 @@ use Rattle.php_graph.specs.Building.{Draft, is_container, is_name, key_fault}
 -- the places of open containers, the innermost first
 abbrev pub places_of : List Container → List ℕ
 places_of cs = map (λ c. c.place) (reverse cs)
+
+-- the places so far
+abbrev pub kinds_in : Option PlaceList → List Kind
+kinds_in None = []
+kinds_in (Some layout) = kinds_of layout
 
 abbrev pub draft_of : List Kind → List Container → Option Key → Draft
 draft_of places cs key = record { places = places; containers = places_of cs; key = key }
@@ -71,10 +77,9 @@ KnowsAll g [] key = Unit {0}
 KnowsAll g (c ∷ outer) key = KnowsKeys c.highest c.seen (keys_among (kind_at g c.place) ++ option_to_list key) × KnowsAll g outer None
 
 -- what a builder keeps
-pub record IsBuilding (places : List Kind) (offsets : List ℕ) (containers : List Container) (key : Option Key) (values : ℕ) : Type 0 where
+pub record IsBuilding (places : List Kind) (containers : List Container) (key : Option Key) (values : ℕ) : Type 0 where
   pub draft : IsDraft places (places_of containers) key
   pub known : KnowsAll places (reverse containers) key
-  pub offsets_are : length offsets ≡ length places
   pub values_are : values ≡ values_in places
 
 -- a value that may take the next place, apart from the ranges that its type gives

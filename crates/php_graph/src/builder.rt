@@ -1,6 +1,6 @@
 //! Writing a graph item by item.
 
-ghost use Rattle.std.specs.Prelude.{◌≡◌, ◌<◌, ◌⊎◌, [], vec_len, vec_capacity, true, Some, None, IsTrue, OnOk, OnErr, IfErr, IsErrOf, MatchResult};
+ghost use Rattle.std.specs.Prelude.{length, ◌≡◌, ◌<◌, ◌⊎◌, [], vec_len, vec_capacity, true, Some, None, IsTrue, OnOk, OnErr, IfErr, IsErrOf, MatchResult};
 ghost use Rattle.php_graph.specs.declared.item.BuildFault.{BuildFault};
 ghost use Rattle.php_graph.specs.declared.item.BuildFault.TheVariants.{Memory};
 ghost use Rattle.php_graph.specs.declared.item.Item.TheVariants as items;
@@ -13,13 +13,14 @@ ghost use Rattle.php_graph.specs.Drafted.{IsFresh};
 use crate::bytes::Bytes;
 use crate::child::Child;
 use crate::container::Container;
-use crate::draft_steps::{attach, note_last, open_container, push_place, put};
+use crate::draft_steps::{attach, note_last, open_container, push_place};
 use crate::graph::Graph;
 use crate::item::{BuildFault, Item, Wants};
 use crate::key::Key;
 use crate::kind::Kind;
 use crate::members::Members;
 use crate::numbers::is_class;
+use crate::places::Places;
 use crate::props::Props;
 use std::alloc::{AllocError, Global};
 use std::marker::Model;
@@ -32,39 +33,38 @@ pub const MOST_VALUES: u32 = 16_777_216;
 /// A graph that is being written, item by item, in the order of the notation.
 #[derive(Drop)]
 pub struct Builder {
-    places: Vec<Kind>,
-    /// Room for where the image has each place. It is filled in once the graph is whole.
-    offsets: Vec<u64>,
-    /// The open containers, the outermost first.
+    // None where nothing is written yet. Where the image has each is filled in once the graph is
+    // whole.
+    places: Option<Places>,
+    // The open containers, the outermost first.
     containers: Vec<Container>,
-    /// The key that waits for its value.
+    // The key that waits for its value.
     key: Option<Key>,
-    /// The values so far: places, and members that share one.
+    // The values so far: places, and members that share one.
     values: u32,
     alloc: Global,
 }
 
 impl Model for Builder {
     ghost use Rattle.php_graph.specs.Building.{Draft};
-    ghost use Rattle.php_graph.specs.Drafted.{draft_of, IsBuilding};
+    ghost use Rattle.php_graph.specs.Drafted.{draft_of, kinds_in, IsBuilding};
 
     ghost Value = { Draft };
 
-    ghost view = { λ a. draft_of a.places.items a.containers.items a.key };
+    ghost view = { λ a. draft_of (kinds_in a.places) a.containers.items a.key };
 
-    ghost invariant = { λ a.
-        IsBuilding a.places.items a.offsets.items a.containers.items a.key a.values };
+    ghost invariant = { λ a. IsBuilding (kinds_in a.places) a.containers.items a.key a.values };
 }
 
-// Room for one more offset and one more open container.
-fn make_room(offsets: &mut Vec<u64>, containers: &mut Vec<Container>) -> Result<(), AllocError>
-    ensures offsets { offsets.new.items ≡ offsets.old.items }
-    ensures containers { containers.new.items ≡ containers.old.items }
-    ensures room_there { OnOk result (vec_len offsets.new < vec_capacity offsets.new) }
-    ensures room_here { OnOk result (vec_len containers.new < vec_capacity containers.new) }
+// Room for one more open container, where one opens.
+fn make_room(containers: &mut Vec<Container>, opens: bool) -> Result<(), AllocError>
+    ensures items { containers.new.items ≡ containers.old.items }
+    ensures room { IsTrue opens
+        → OnOk result (vec_len containers.new < vec_capacity containers.new) }
 {
-    offsets.reserve(1)?;
-    containers.reserve(1)?;
+    if opens {
+        containers.reserve(1)?;
+    }
     Ok(())
 }
 
@@ -74,8 +74,7 @@ impl Builder {
         ensures { result ≡ nothing_drafted }
     {
         Builder {
-            places: Vec::new(alloc),
-            offsets: Vec::new(alloc),
+            places: None,
             containers: Vec::new(alloc),
             key: None,
             values: 0,
@@ -83,21 +82,30 @@ impl Builder {
         }
     }
 
+    // How many places there are.
+    fn len(&self) -> usize
+        ensures { result ≡ length self.now.places }
+    {
+        match &self.places {
+            Some(places) => places.len(),
+            None => 0,
+        }
+    }
+
     /// What comes next.
     pub fn wants(&self) -> Wants
         ensures { result ≡ wants_of self.now }
     {
+        let Some(places) = &self.places else {
+            return Wants::Value;
+        };
         let Some(container) = self.containers.last() else {
-            return if self.places.is_empty() {
-                Wants::Value
-            } else {
-                Wants::Done
-            };
+            return Wants::Done;
         };
         if self.key.is_some() {
             return Wants::Value;
         }
-        let kind = &self.places[(container.place - 1) as usize];
+        let kind = places.kind((container.place - 1) as usize);
         if kind.is_array() {
             Wants::ArrayKey
         } else {
@@ -129,12 +137,17 @@ impl Builder {
         ensures err { OnErr result (self.new ≡ self.old) }
     {
         self.room()?;
-        make_room(&mut self.offsets, &mut self.containers)?;
-        let place = self.places.len() as u32 + 1;
+        let place = self.len() as u32 + 1;
         let opens = kind.is_container();
+        make_room(&mut self.containers, opens)?;
         kind.check();
-        push_place(&mut self.places, &self.containers, &mut self.key, kind)?;
-        put(&mut self.offsets, 0);
+        push_place(
+            self.alloc,
+            &mut self.places,
+            &self.containers,
+            &mut self.key,
+            kind,
+        )?;
         open_container(&mut self.containers, place, opens);
         self.values += 1;
         Ok(())
@@ -148,11 +161,14 @@ impl Builder {
         ensures err { OnErr result (self.new ≡ self.old) }
     {
         self.room()?;
-        if place == 0 || place as usize > self.places.len() {
+        let Some(places) = &mut self.places else {
+            return Err(BuildFault::BadNumber);
+        };
+        if place == 0 || place as usize > places.len() {
             return Err(BuildFault::BadNumber);
         }
         attach(
-            &mut self.places,
+            places,
             &self.containers,
             &mut self.key,
             Child::Back(place),
@@ -179,11 +195,14 @@ impl Builder {
     fn has_object(&self, place: u32) -> bool
         ensures { result ≡ is_object_at self.now.places place }
     {
+        let Some(places) = &self.places else {
+            return false;
+        };
         let at = place as usize;
-        if at == 0 || at > self.places.len() {
+        if at == 0 || at > places.len() {
             return false;
         }
-        let kind = &self.places[(place - 1) as usize];
+        let kind = places.kind((place - 1) as usize);
         kind.is_object()
     }
 
@@ -275,12 +294,14 @@ impl Builder {
     {
         let Builder {
             places,
-            offsets,
             containers: _,
             key: _,
             values: _,
             alloc: _,
         } = self;
-        Graph::from_parts(places, offsets)
+        let Some(places) = places else {
+            unreachable!()
+        };
+        Graph::from_parts(places)
     }
 }

@@ -1,12 +1,13 @@
 //! The steps of a builder, over the lists that it keeps.
 
-ghost use Rattle.std.specs.Prelude.{◌≡◌, ◌<◌, ◌+◌, ◌^◌, ◌++◌, ◌∷◌, [], length, reverse, true, OnOk, OnErr, Some, None, vec_len, vec_capacity};
+ghost use Rattle.std.specs.Prelude.{◌≡◌, ◌<◌, ◌+◌, ◌^◌, ◌++◌, ◌∷◌, [], IsTrue, length, reverse, true, OnOk, OnErr, Some, None, vec_len, vec_capacity};
 ghost use Rattle.std.specs.List.{AllByRecursion};
 ghost use Rattle.php_graph.specs.declared.child.Child.TheVariants.{Own};
 ghost use Rattle.php_graph.specs.Graph.{is_array_key, keys_of, FitsKey};
 ghost use Rattle.php_graph.specs.Keys.{KnowsKeys};
+ghost use Rattle.php_graph.specs.Kept.{kinds_of};
 ghost use Rattle.php_graph.specs.Building.{attached, innermost_fault, fault_in, IsAnswer};
-ghost use Rattle.php_graph.specs.Drafted.{Opens, places_of, CanAttach, KnowsAll, is_open_at};
+ghost use Rattle.php_graph.specs.Drafted.{Opens, kinds_in, places_of, CanAttach, KnowsAll, is_open_at};
 
 use crate::child::Child;
 use crate::container::Container;
@@ -14,6 +15,7 @@ use crate::item::BuildFault;
 use crate::key::Key;
 use crate::kind::Kind;
 use crate::numbers::int_of_text;
+use crate::places::Places;
 use std::alloc::{AllocError, Global};
 
 // Puts a value at the end, where there is room for it.
@@ -28,7 +30,7 @@ pub(crate) fn put<T: Drop>(items: &mut Vec<T>, value: T)
 
 // Notes a container that opens at this place, where there is room for it.
 pub(crate) fn open_container(containers: &mut Vec<Container>, place: u32, opens: bool)
-    requires { vec_len containers.old < vec_capacity containers.old }
+    requires { IsTrue opens → vec_len containers.old < vec_capacity containers.old }
     ensures { Opens opens place containers.old.items containers.new.items }
 {
     if opens {
@@ -38,16 +40,16 @@ pub(crate) fn open_container(containers: &mut Vec<Container>, place: u32, opens:
 
 // Gives the innermost open container this member, under the key that waits.
 pub(crate) fn attach(
-    places: &mut Vec<Kind>,
+    places: &mut Places,
     containers: &[Container],
     key: &mut Option<Key>,
     child: Child,
 ) -> Result<(), AllocError>
-    requires { CanAttach places.old.items (places_of containers.now) key.old }
-    ensures ok { OnOk result (places.new.items
-        ≡ attached places.old.items (places_of containers.now) key.old child) }
+    requires { CanAttach (kinds_of places.old) (places_of containers.now) key.old }
+    ensures ok { OnOk result ((kinds_of places.new)
+        ≡ attached (kinds_of places.old) (places_of containers.now) key.old child) }
     ensures used { OnOk result (key.new ≡ None) }
-    ensures err { OnErr result ((places.new.items ≡ places.old.items) × (key.new ≡ key.old)) }
+    ensures err { OnErr result ((places.new ≡ places.old) × (key.new ≡ key.old)) }
 {
     let Some(container) = containers.last() else {
         return Ok(());
@@ -55,8 +57,7 @@ pub(crate) fn attach(
     match key.take() {
         None => Ok(()),
         Some(name) => {
-            let kind = &mut places[(container.place - 1) as usize];
-            match kind.add(name, child) {
+            match places.add((container.place - 1) as usize, name, child) {
                 Ok(()) => Ok(()),
                 Err(name) => {
                     *key = Some(name);
@@ -69,25 +70,31 @@ pub(crate) fn attach(
 
 // Gives a value the next place, as a member of the innermost open container.
 pub(crate) fn push_place(
-    places: &mut Vec<Kind>,
+    alloc: Global,
+    places: &mut Option<Places>,
     containers: &[Container],
     key: &mut Option<Key>,
     kind: Kind,
 ) -> Result<(), AllocError>
-    requires can { CanAttach places.old.items (places_of containers.now) key.old }
-    requires small { length places.old.items + 1 < 2 ^ 32 }
-    ensures ok { OnOk result (places.new.items
-        ≡ attached places.old.items (places_of containers.now) key.old
-        (Own (length places.old.items + 1)) ++ kind ∷ []) }
+    requires can { CanAttach (kinds_in places.old) (places_of containers.now) key.old }
+    requires small { length (kinds_in places.old) + 1 < 2 ^ 32 }
+    ensures ok { OnOk result (kinds_in places.new
+        ≡ attached (kinds_in places.old) (places_of containers.now) key.old
+        (Own (length (kinds_in places.old) + 1)) ++ kind ∷ []) }
     ensures used { OnOk result (key.new ≡ None) }
-    ensures err { OnErr result ((places.new.items ≡ places.old.items) × (key.new ≡ key.old)) }
+    ensures err { OnErr result ((kinds_in places.new ≡ kinds_in places.old)
+        × (key.new ≡ key.old)) }
 {
+    let Some(places) = places else {
+        *places = Some(Places::new(alloc, kind));
+        return Ok(());
+    };
     let place = places.len() as u32 + 1;
     places.push(kind)?;
     match attach(places, containers, key, Child::Own(place)) {
         Ok(()) => Ok(()),
         Err(error) => {
-            let _ = places.pop();
+            places.drop_last();
             Err(error)
         }
     }
@@ -96,27 +103,30 @@ pub(crate) fn push_place(
 // Notes a key of the innermost open container, unless it may not stand there.
 pub(crate) fn note_last(
     alloc: Global,
-    places: &[Kind],
+    places: &Option<Places>,
     containers: &mut Vec<Container>,
     key: &Key,
 ) -> Result<(), BuildFault>
-    requires known { KnowsAll places.now (reverse containers.old.items) None }
-    requires opened { AllByRecursion (λ p. is_open_at places.now p ≡ true)
+    requires known { KnowsAll (kinds_in places.now) (reverse containers.old.items) None }
+    requires opened { AllByRecursion (λ p. is_open_at (kinds_in places.now) p ≡ true)
         (places_of containers.old.items) }
     ensures fits { FitsKey key.now }
     ensures answer { IsAnswer
-        (innermost_fault places.now (places_of containers.old.items) key.now) result }
+        (innermost_fault (kinds_in places.now) (places_of containers.old.items) key.now) result }
     ensures places { places_of containers.new.items ≡ places_of containers.old.items }
-    ensures ok { OnOk result (KnowsAll places.now (reverse containers.new.items) (Some key.now)) }
-    ensures err { OnErr result (KnowsAll places.now (reverse containers.new.items) None) }
+    ensures ok { OnOk result (KnowsAll (kinds_in places.now) (reverse containers.new.items) (Some key.now)) }
+    ensures err { OnErr result (KnowsAll (kinds_in places.now) (reverse containers.new.items) None) }
 {
     key.check();
     let last = containers.len();
     if last == 0 {
         return Ok(());
     }
+    let Some(places) = places else {
+        unreachable!()
+    };
     let container = &mut containers[last - 1];
-    let kind = &places[(container.place - 1) as usize];
+    let kind = places.kind((container.place - 1) as usize);
     note_key(alloc, kind, container, key)
 }
 

@@ -13,6 +13,7 @@ mod kind;
 mod laws;
 mod members;
 mod numbers;
+mod places;
 mod props;
 
 pub use builder::{Builder, LEVELS, MOST_VALUES};
@@ -25,4 +26,5 @@ pub use kind::Kind;
 pub use laws::{graphs_are_written, written_graphs};
 pub use members::Members;
 pub use numbers::{HASH_START, TOP_BIT, hash_of, hash_step, int_of_text, integer_texts};
+pub use places::Place;
 pub use props::Props;

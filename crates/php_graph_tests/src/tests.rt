@@ -391,8 +391,9 @@ fn tables(rt: HostRuntime) -> Result<(), Fail> {
     Ok(())
 }
 
-// A value of an array takes its place, its offset and its member.
+// A value of an array takes its place with its offset, and its member. A graph holds its first place.
 #[test]
 fn small(rt: HostRuntime) {
-    assert!(rt; size_of::<Kind>() + size_of::<u64>() + size_of::<(Key, Child)>() <= 90);
+    assert!(rt; size_of::<Place>() + size_of::<(Key, Child)>() <= 88);
+    assert!(rt; size_of::<Graph>() <= 72);
 }

@@ -1,13 +1,15 @@
 -- From offsets back to numbers.
-use Rattle.std.proofs.Common.{◌≡◌, ℕ, zero, suc, ◌+◌, ◌-◌, ◌<◌, ◌≤◌, List, [], ◌∷◌, length, map, take, slice_index, slice_get, get_or, Some, refl, sym, ap, ap₂, ◌∙◌, subst, arith, add-zero, zero-add}
+use Rattle.std.proofs.Common.{◌≡◌, ℕ, zero, suc, ◌+◌, ◌-◌, ◌<◌, ◌≤◌, List, [], ◌∷◌, length, map, take, slice_index, slice_get, get_or, Some, None, refl, sym, ap, ap₂, ◌∙◌, subst, arith, add-zero, zero-add}
 use Rattle.std.proofs.lemmas.List.{take-take, length-map}
 use Rattle.std.proofs.lemmas.List.Sums.{sum_by-cons, sum_by_more, sum_by-take-le}
 use Rattle.php_graph.specs.declared.child.Child.{Child}
 use Rattle.php_graph.specs.declared.child.Child.TheVariants.{Own, Back}
 use Rattle.php_graph.specs.declared.kind.Kind.{Kind}
 use Rattle.php_graph.specs.declared.kind.Kind.TheVariants as kinds
+use Rattle.php_graph.specs.Graph.{IsGraph, child_end, end_of}
 use Rattle.php_graph.specs.Size.{cells_of, image_length, offset_of}
 use Rattle.php_graph.specs.Kept.{offsets_from}
+use Rattle.value_image.specs.Image.{IsImageOf}
 use Rattle.value_image.specs.Places.{number_of, IsPlaceOf, AllNamePlaces, NamesPlaces}
 use Rattle.value_image.specs.Reading.{renumbered_child, renumbered_member, renumbered_kind, IsBelow, IsTableOf, IsReadOf}
 use Rattle.value_image.proofs.Sealed.{names_places}
@@ -47,6 +49,16 @@ offset_of-below g k place =
     let last = sum_by-take-le cells_of g (length g) in
     let before = image-rising g (k - 1) (length g) (omega (arith, place.0, place.1)) (omega arith) in
     omega arith
+
+-- a graph has a place
+pub some-place : (g : List Kind) → IsGraph g → 1 ≤ length g
+unfolding end_of child_end
+some-place [] graph = absurd (let e : None ≡ Some (0 + 1) = graph.sealed in cc)
+some-place (kind ∷ ks) graph = omega arith
+
+-- an image has a word
+pub image-some : (row : List ℕ) (at len : ℕ) (g : List Kind) → IsImageOf row at len g → 0 < len
+image-some row at len g image = omega (arith, image.length_is, offset_of-below g 1 (omega arith, some-place g image.graph))
 
 pub offsets-rising : (offsets : List ℕ) (g : List Kind) → offsets ≡ offsets_from 0 g → (i j : ℕ) → i < j → j < length offsets → slice_index offsets i < slice_index offsets j
 offsets-rising offsets g e i j lt le =

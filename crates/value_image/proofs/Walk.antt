@@ -1,5 +1,5 @@
 -- An image read place by place.
-use Rattle.std.proofs.Common.{◌≡◌, ℕ, suc, ◌+◌, ◌-◌, ◌*◌, ◌<◌, ◌≤◌, ◌^◌, List, [], ◌∷◌, ◌++◌, length, map, take, drop, slice_get, Some, refl, inl, inr, zero-add, sym, ap, ap₂, ◌∙◌, arith}
+use Rattle.std.proofs.Common.{◌≡◌, ℕ, suc, ◌+◌, ◌-◌, ◌*◌, ◌<◌, ◌≤◌, ◌^◌, List, [], ◌∷◌, ◌++◌, length, map, take, drop, slice_get, Some, refl, inl, inr, zero-add, add-zero, sym, ap, ap₂, subst, ◌∙◌, arith}
 use Rattle.std.specs.List.{flat_map, AllByRecursion}
 use Rattle.std.proofs.lemmas.Bool.{cases_lt}
 use Rattle.std.proofs.lemmas.List.{length-map, length_push, map-append, take_all}
@@ -12,7 +12,8 @@ use Rattle.php_graph.specs.declared.kind.Kind.TheVariants as kinds
 use Rattle.php_graph.specs.ByteStrings.{AreBytes}
 use Rattle.php_graph.specs.Graph.{IsGraph, FitsKind, FitsKey}
 use Rattle.php_graph.specs.Size.{cells_of, image_length, offset_of}
-use Rattle.php_graph.specs.Kept.{offsets_from}
+use Rattle.php_graph.specs.declared.places.Place.{Place}
+use Rattle.php_graph.specs.Kept.{kinds_at, offsets_at, offsets_from}
 use Rattle.seg_words.specs.Windows.{Aside}
 use Rattle.seg_words.specs.Blocks.{IsTold}
 use Rattle.value_image.specs.Rows.{StandsAt}
@@ -22,7 +23,7 @@ use Rattle.value_image.specs.Reading.{itself, renumbered_child, renumbered_membe
 use Rattle.value_image.proofs.ItemRuns.{take_more-get, cells-more, cells-within, get-some, all-get}
 use Rattle.value_image.proofs.Lengths.{length-kind_words}
 use Rattle.value_image.proofs.Sealed.{get-within}
-use Rattle.value_image.proofs.Numbered.{image-rising}
+use Rattle.value_image.proofs.Numbered.{image-rising, image-some}
 
 -- ---- offsets in place of numbers
 
@@ -140,6 +141,24 @@ walk-more g places offsets offset kind kind' places' offsets' offset' walk get e
           ∙ (sym (offsets-push 0 (take (length places) g) kind ∙ ap (λ (o : ℕ). offsets_from 0 (take (length places) g) ++ o ∷ []) (zero-add _)) ∙ ap (offsets_from 0) (sym taken)));
       offset_is = omega (arith, en, walk.offset_is, cells-more cells_of g (length places) kind get, ap image_length taken, ap image_length front);
     }
+
+-- the first place
+pub walk-first : (row : List ℕ) (old : Aside) (at len : ℕ) (g : List Kind) → IsImageOf row at len g → len < 2 ^ 32 → ((i : ℕ) → at ≤ i → i < at + len → IsTold old.windows i)
+    → (kind : Kind) × (slice_get g 0 ≡ Some kind) × IsKindAt row old.windows at (renumbered_kind (offset_of g) kind)
+walk-first row old at len g image short told =
+    let step = walk-next row old at len g [] [] 0 row old image short told (walk-none g) (image-some row at len g image) refl refl in
+    (step.0, step.1, subst (λ (n : ℕ). IsKindAt row old.windows n (renumbered_kind (offset_of g) step.0)) (add-zero at) step.2)
+
+pub walk-one : (g : List Kind) (kind first : Kind) (offset : ℕ) → slice_get g 0 ≡ Some kind → first ≡ renumbered_kind (offset_of g) kind → offset ≡ cells_of kind → IsWalkTo (first ∷ []) (0 ∷ []) offset g
+walk-one g kind first offset get is en = walk-more g [] [] 0 kind first (first ∷ []) (0 ∷ []) offset (walk-none g) get is refl refl (omega (arith, en))
+
+-- one place more stands among the others
+pub walk-push : (g : List Kind) (first : Kind) (ps qs : List Place) (p : Place) (offset offset' : ℕ) (kind : Kind) → IsWalkTo (first ∷ kinds_at ps) (0 ∷ offsets_at ps) offset g → slice_get g (length (first ∷ kinds_at ps)) ≡ Some kind
+    → p.kind ≡ renumbered_kind (offset_of g) kind → p.at ≡ offset → qs ≡ ps ++ p ∷ [] → offset' ≡ offset + cells_of kind → IsWalkTo (first ∷ kinds_at qs) (0 ∷ offsets_at qs) offset' g
+walk-push g first ps qs p offset offset' kind walk get is at e en =
+    let kinds = ap kinds_at e ∙ map-append (λ (q : Place). q.kind) ps (p ∷ []) in
+    let offsets = ap offsets_at e ∙ (map-append (λ (q : Place). q.at) ps (p ∷ []) ∙ ap (λ (o : ℕ). offsets_at ps ++ o ∷ []) at) in
+    walk-more g (first ∷ kinds_at ps) (0 ∷ offsets_at ps) offset kind p.kind (first ∷ kinds_at qs) (0 ∷ offsets_at qs) offset' walk get is (ap (λ (ks : List Kind). first ∷ ks) kinds) (ap (λ (os : List ℕ). 0 ∷ os) offsets) en
 
 -- all places were read
 pub walk-all : (g : List Kind) (places : List Kind) (offsets : List ℕ) (offset len : ℕ) → IsGraph g → len ≡ image_length g → IsWalkTo places offsets offset g → len ≤ offset → IsReadOf places offsets len g

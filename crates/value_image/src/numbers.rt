@@ -1,11 +1,12 @@
 //! The numbers of places, in place of their offsets.
 
-ghost use Rattle.std.specs.Prelude.{◌≡◌, ℕ, ◌+◌, ◌<◌, ◌^◌, List, length, map, slice_index, slice_get, Some, IfOk, OnOk};
+ghost use Rattle.std.specs.Prelude.{◌≡◌, ℕ, ◌+◌, ◌<◌, ◌^◌, ◌∷◌, List, length, map, slice_index, slice_get, Some, IfOk, OnOk};
 ghost use Rattle.php_graph.specs.declared.kind.Kind.{Kind};
+ghost use Rattle.php_graph.specs.Kept.{kinds_at, offsets_at};
 ghost use Rattle.value_image.specs.Places.{number_of};
 ghost use Rattle.value_image.specs.Reading.{AllBelow, IsBelow, IsReadOf, renumbered_child, renumbered_member, renumbered_kind};
 
-use php_graph::{Child, Kind, Members, Props};
+use php_graph::{Child, Kind, Members, Place, Props};
 use std::alloc::{AllocError, Global};
 
 // The member with the number that the table has at its offset.
@@ -54,30 +55,42 @@ fn renumber_place(kind: &mut Kind, table: &[u32])
     }
 }
 
-// Gives all places their numbers.
-fn renumber_places(places: &mut Vec<Kind>, table: &[u32])
-    requires { (i : ℕ) (kind : Kind) → slice_get places.old.items i ≡ Some kind
+// Gives places their numbers.
+fn renumber_places(places: &mut Vec<Place>, table: &[u32])
+    requires { (i : ℕ) (kind : Kind) → slice_get (kinds_at places.old.items) i ≡ Some kind
         → IsBelow (length table.now) kind }
-    ensures { places.new.items ≡ map (renumbered_kind (slice_index table.now)) places.old.items }
+    ensures kinds { kinds_at places.new.items
+        ≡ map (renumbered_kind (slice_index table.now)) (kinds_at places.old.items) }
+    ensures offsets { offsets_at places.new.items ≡ offsets_at places.old.items }
 {
     for i in 0..places.len() {
-        renumber_place(&mut places[i], table);
+        renumber_place(&mut places[i].kind, table);
     }
 }
 
+// The offset of a place but the first, which has the offset 0.
+fn offset_at(others: &[Place], i: usize) -> u64
+    requires { i < length others.now }
+    ensures { result ≡ slice_index (0 ∷ offsets_at others.now) (i + 1) }
+{
+    others[i].at
+}
+
 // A table of so many words that has the number of each place, from 1, at the place's offset.
-fn table_of(alloc: Global, offsets: &[u64], len: u32) -> Result<Vec<u32>, AllocError>
-    requires few { length offsets.now < 2 ^ 32 }
-    requires below { (i : ℕ) → i < length offsets.now → slice_index offsets.now i < len }
-    requires rising { (i j : ℕ) → i < j → j < length offsets.now
-        → slice_index offsets.now i < slice_index offsets.now j }
+fn table_of(alloc: Global, others: &[Place], len: u32) -> Result<Vec<u32>, AllocError>
+    requires few { length others.now + 1 < 2 ^ 32 }
+    requires below { (i : ℕ) → i < length others.now + 1
+        → slice_index (0 ∷ offsets_at others.now) i < len }
+    requires rising { (i j : ℕ) → i < j → j < length others.now + 1
+        → slice_index (0 ∷ offsets_at others.now) i < slice_index (0 ∷ offsets_at others.now) j }
     ensures { IfOk result (λ table. (length table.items ≡ len)
-        × ((i : ℕ) → i < length offsets.now
-        → slice_index table.items (slice_index offsets.now i) ≡ i + 1)) }
+        × ((i : ℕ) → i < length others.now + 1
+        → slice_index table.items (slice_index (0 ∷ offsets_at others.now) i) ≡ i + 1)) }
 {
     let mut table = Vec::from_elem(alloc, 0u32, len as usize)?;
-    for i in 0..offsets.len() {
-        table[offsets[i] as usize] = i as u32 + 1;
+    table[0] = 1;
+    for i in 0..others.len() {
+        table[offset_at(others, i) as usize] = i as u32 + 2;
     }
     Ok(table)
 }
@@ -85,19 +98,23 @@ fn table_of(alloc: Global, offsets: &[u64], len: u32) -> Result<Vec<u32>, AllocE
 // Gives the places that were read their numbers.
 pub(crate) fn number(
     alloc: Global,
-    places: &mut Vec<Kind>,
-    offsets: &[u64],
+    first: &mut Kind,
+    others: &mut Vec<Place>,
     len: u32,
 ) -> Result<(), AllocError>
-    requires { (g : List Kind) × IsReadOf places.old.items offsets.now len g }
-    ensures { (g : List Kind) → IsReadOf places.old.items offsets.now len g
-        → OnOk result (places.new.items ≡ g) }
+    requires { (g : List Kind) × IsReadOf (first.old ∷ kinds_at others.old.items)
+        (0 ∷ offsets_at others.old.items) len g }
+    ensures places { (g : List Kind) → IsReadOf (first.old ∷ kinds_at others.old.items)
+        (0 ∷ offsets_at others.old.items) len g
+        → OnOk result (first.new ∷ kinds_at others.new.items ≡ g) }
+    ensures offsets { offsets_at others.new.items ≡ offsets_at others.old.items }
 {
-    if places.len() == 1 {
-        renumber_places(places, &[1]);
+    if others.is_empty() {
+        renumber_place(first, &[1]);
         return Ok(());
     }
-    let table = table_of(alloc, offsets, len)?;
-    renumber_places(places, table.as_slice());
+    let table = table_of(alloc, others.as_slice(), len)?;
+    renumber_place(first, table.as_slice());
+    renumber_places(others, table.as_slice());
     Ok(())
 }

@@ -1,9 +1,10 @@
 //! The graph of an image.
 
-ghost use Rattle.std.specs.Prelude.{◌≡◌, ◌+◌, ℕ, ◌≤◌, ◌<◌, List, IfOk, length, sum_by};
+ghost use Rattle.std.specs.Prelude.{◌≡◌, ◌+◌, ℕ, ◌≤◌, ◌<◌, ◌∷◌, List, IfOk, length, sum_by};
 ghost use Rattle.seg_words.specs.Kept.{Kept};
 ghost use Rattle.php_graph.specs.declared.child.Child.{Child};
 ghost use Rattle.php_graph.specs.declared.kind.Kind.{Kind};
+ghost use Rattle.php_graph.specs.Kept.{kinds_at, offsets_at};
 ghost use Rattle.seg_words.specs.Layout.{words_in};
 ghost use Rattle.php_graph.specs.Size.{cells_of};
 ghost use Rattle.seg_words.specs.Blocks.{IsTold};
@@ -14,7 +15,7 @@ use crate::numbers::number;
 use crate::read_members::{read_members, read_properties, read_string, read_text};
 use crate::write::{ARRAY, BOOL, NULL, OBJECT};
 use crate::write_members::{INT, STR};
-use php_graph::{Bytes, Graph, Kind, Props};
+use php_graph::{Bytes, Graph, Kind, Place, Props};
 use seg_words::WordsIn;
 use std::alloc::{AllocError, Global};
 
@@ -73,30 +74,33 @@ fn read_place<W: WordsIn>(alloc: Global, from: &mut W, at: u32) -> Result<(Kind,
     }
 }
 
-// The places of the image that the `len` words from place `at` on are, with offsets in place of
-// numbers, and the offset of each.
+// The first place and the others of the image that the `len` words from place `at` on are, with
+// offsets in place of numbers, and the offset of each.
 fn read_places<W: WordsIn>(
     alloc: Global,
     from: &mut W,
     at: u32,
     len: u32,
-) -> Result<(Vec<Kind>, Vec<u64>), AllocError>
+) -> Result<(Kind, Vec<Place>), AllocError>
     requires image { (g : List Kind) × IsImageOf (W.words from.old) at len g }
     requires told { (i : ℕ) → at ≤ i → i < at + len → IsTold (W.aside from.old).windows i }
     ensures places { (g : List Kind) → IsImageOf (W.words from.old) at len g
-        → IfOk result (λ r. IsReadOf r.0.items r.1.items len g) }
+        → IfOk result (λ r. IsReadOf (r.0 ∷ kinds_at r.1.items)
+            (0 ∷ offsets_at r.1.items) len g) }
     ensures kept { Kept W.WordsIn from.old from.new }
 {
-    let mut places = Vec::new(alloc);
-    let mut offsets = Vec::new(alloc);
-    let mut offset = 0u32;
+    let (first, next) = read_place(alloc, from, at)?;
+    let mut others = Vec::new(alloc);
+    let mut offset = next - at;
     while offset < len {
         let (kind, next) = read_place(alloc, from, at + offset)?;
-        places.push(kind)?;
-        offsets.push(u64::from(offset))?;
+        others.push(Place {
+            kind,
+            at: u64::from(offset),
+        })?;
         offset = next - at;
     }
-    Ok((places, offsets))
+    Ok((first, others))
 }
 
 /// The graph whose image the `len` words from place `at` on are. It fails only for want of memory.
@@ -112,7 +116,7 @@ pub fn unpersist<W: WordsIn>(
         → IfOk result (λ answer. answer ≡ g) }
     ensures kept { Kept W.WordsIn from.old from.new }
 {
-    let (mut places, offsets) = read_places(alloc, from, at, len)?;
-    number(alloc, &mut places, offsets.as_slice(), len)?;
-    Ok(Graph::from_places(places, offsets, u64::from(len)))
+    let (mut first, mut others) = read_places(alloc, from, at, len)?;
+    number(alloc, &mut first, &mut others, len)?;
+    Ok(Graph::from_places(first, others, u64::from(len)))
 }

@@ -1,8 +1,11 @@
-use Rattle.std.proofs.Common.{◌≡◌, ◌∙◌, ◌-◌, ap, subst, arith, get_or, set, length, ℕ}
+use Rattle.std.proofs.Common.{◌≡◌, ◌∙◌, ◌-◌, true, ap, sym, subst, arith, get_or, set, length, ℕ, Some, Option}
+use Rattle.std.specs.List.{slice_get, AllByRecursion}
 use Rattle.php_graph.specs.declared.kind.Kind.{Kind}
 use Rattle.php_graph.specs.Building.{fault_in, IsAnswer}
-use Rattle.php_graph.specs.Drafted.{places_of}
-use Rattle.php_graph.proofs.DraftLemmas.{get_or-place}
+use Rattle.php_graph.specs.Drafted.{kinds_in, places_of, is_open_at}
+use Rattle.php_graph.specs.Kept.{PlaceList, kinds_of}
+use Rattle.php_graph.proofs.DraftLemmas.{one_kind}
+use Rattle.php_graph.proofs.DraftKept.{none_in}
 use Rattle.php_graph.proofs.DraftKnown.{IsLast, last_is, last_answer, last_places, last_ok, last_err}
 use Rattle.php_graph.proofs.draft_steps.note_last.Goals as goal
 use Rattle.php_graph.proofs.draft_steps.note_last.Goals.{After-index_mut-container, After-note_key}
@@ -10,30 +13,39 @@ use Rattle.php_graph.proofs.draft_steps.note_last.Goals.{After-index_mut-contain
 number : (c : After-index_mut-container) → c.len-last.result ≡ length c.args.containers.now.items
 number c = omega (arith, c.len-last.ensures, c.args.containers.now.ok.0)
 
-last : (c : After-index_mut-container) → IsLast c.args.places.now c.args.containers.now.items c.index_mut-container.result.now
+last : (c : After-index_mut-container) → IsLast (kinds_in c.args.places.now) c.args.containers.now.items c.index_mut-container.result.now
 last c =
     let n = number c in
-    last_is c.args.places.now c.args.containers.now.items c.index_mut-container.result.now (λ e. c.if-last-eq0.false (n ∙ e))
+    last_is (kinds_in c.args.places.now) c.args.containers.now.items c.index_mut-container.result.now (λ e. c.if-last-eq0.false (n ∙ e))
     (c.index_mut-container.ensures.value ∙ ap (λ (k : ℕ). get_or c.args.containers.now.items (k - 1) c.index_mut-container.result.now) n)
     c.requires.known c.requires.opened
 
-pub bounds-places-container : goal.bounds-places-container
-bounds-places-container c = let i = last (goal.at.bounds-places-container c).After-index_mut-container in omega (arith, i.low, i.high)
+pub unreachable-requires : goal.unreachable-requires
+unreachable-requires c =
+    let n : c.len-last.result ≡ length c.args.containers.now.items = omega (arith, c.len-last.ensures, c.args.containers.now.ok.0) in
+    let opened = subst (λ (o : Option PlaceList). AllByRecursion (λ p. is_open_at (kinds_in o) p ≡ true) (places_of c.args.containers.now.items)) c.in_default.is c.requires.opened in
+    c.if-last-eq0.false (n ∙ none_in c.args.containers.now.items opened)
+
+pub kind-kind-requires : goal.kind-kind-requires
+kind-kind-requires c = let i = last (goal.at.kind-kind-requires c).After-index_mut-container in omega (arith, i.low, i.high, ap (λ (o : Option PlaceList). length (kinds_in o)) c.in-Some.is)
 
 pub note_key-requires : goal.note_key-requires
 note_key-requires c =
     let i = last (goal.at.note_key-requires c).After-index_mut-container in
-    let same = c.index-places-container.is ∙ get_or-place c.args.places.now c.index_mut-container.result.now.place i.kind c.index-places-container.result i.there in
+    let there = subst (λ (o : Option PlaceList). slice_get (kinds_in o) (c.index_mut-container.result.now.place - 1) ≡ Some c.kind-kind.result.now) (sym c.in-Some.is) c.kind-kind.ensures in
+    let same = one_kind (kinds_in c.args.places.now) c.index_mut-container.result.now.place i.kind c.kind-kind.result.now i.there there in
     rw same i.knows
 
-kind_is : (c : After-note_key) (i : IsLast c.args.places.now c.args.containers.now.items c.index_mut-container.result.now) → c.index-places-container.result ≡ i.kind
-kind_is c i = c.index-places-container.is ∙ get_or-place c.args.places.now c.index_mut-container.result.now.place i.kind c.index-places-container.result i.there
+kind_is : (c : After-note_key) (i : IsLast (kinds_in c.args.places.now) c.args.containers.now.items c.index_mut-container.result.now) → c.kind-kind.result.now ≡ i.kind
+kind_is c i =
+    let there = subst (λ (o : Option PlaceList). slice_get (kinds_in o) (c.index_mut-container.result.now.place - 1) ≡ Some c.kind-kind.result.now) (sym c.in-Some.is) c.kind-kind.ensures in
+    one_kind (kinds_in c.args.places.now) c.index_mut-container.result.now.place i.kind c.kind-kind.result.now i.there there
 
 pub returns-clause-answer : goal.returns-clause-answer
 returns-clause-answer c =
     let i = last (goal.at.returns-clause-answer c).After-index_mut-container in
     let same = kind_is (goal.at.returns-clause-answer c).After-note_key i in
-    last_answer c.args.places.now c.args.containers.now.items c.index_mut-container.result.now c.args.key.now c.note_key.result i
+    last_answer (kinds_in c.args.places.now) c.args.containers.now.items c.index_mut-container.result.now c.args.key.now c.note_key.result i
     (subst (λ (k : Kind). IsAnswer (fault_in k c.args.key.now) c.note_key.result) same c.note_key.ensures.answer)
 
 pub returns-clause-places : goal.returns-clause-places
@@ -41,18 +53,18 @@ returns-clause-places c =
     let i = last (goal.at.returns-clause-places c).After-index_mut-container in
     let n = number (goal.at.returns-clause-places c).After-index_mut-container in
     ap (λ (k : ℕ). places_of (set c.args.containers.now.items (k - 1) c.note_key.new.container)) n
-    ∙ last_places c.args.places.now c.args.containers.now.items c.index_mut-container.result.now c.note_key.new.container i c.note_key.ensures.place
+    ∙ last_places (kinds_in c.args.places.now) c.args.containers.now.items c.index_mut-container.result.now c.note_key.new.container i c.note_key.ensures.place
 
 pub returns-clause-ok : goal.returns-clause-ok
 returns-clause-ok c =
     let i = last (goal.at.returns-clause-ok c).After-index_mut-container in
     let n = number (goal.at.returns-clause-ok c).After-index_mut-container in
     let same = kind_is (goal.at.returns-clause-ok c).After-note_key i in
-    rw n (last_ok c.args.places.now c.args.containers.now.items c.index_mut-container.result.now c.note_key.new.container c.args.key.now c.note_key.result i c.note_key.ensures.place (rw same at c.note_key.ensures.ok))
+    rw n (last_ok (kinds_in c.args.places.now) c.args.containers.now.items c.index_mut-container.result.now c.note_key.new.container c.args.key.now c.note_key.result i c.note_key.ensures.place (rw same at c.note_key.ensures.ok))
 
 pub returns-clause-err : goal.returns-clause-err
 returns-clause-err c =
     let i = last (goal.at.returns-clause-err c).After-index_mut-container in
     let n = number (goal.at.returns-clause-err c).After-index_mut-container in
     let same = kind_is (goal.at.returns-clause-err c).After-note_key i in
-    rw n (last_err c.args.places.now c.args.containers.now.items c.index_mut-container.result.now c.note_key.new.container c.note_key.result i c.note_key.ensures.place (rw same at c.note_key.ensures.err))
+    rw n (last_err (kinds_in c.args.places.now) c.args.containers.now.items c.index_mut-container.result.now c.note_key.new.container c.note_key.result i c.note_key.ensures.place (rw same at c.note_key.ensures.err))

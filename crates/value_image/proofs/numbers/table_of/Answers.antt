@@ -8,12 +8,6 @@ overflow_cast-i c = grind (arith, common_steps)
 pub overflow_add-i : goal.overflow_add-i
 overflow_add-i c = grind (arith, common_steps)
 
-pub offset_bounds-offsets-i : goal.offset_bounds-offsets-i
-offset_bounds-offsets-i c = grind (arith, common_steps)
-
-pub bounds-offsets-i : goal.bounds-offsets-i
-bounds-offsets-i c = grind (arith, common_steps)
-
 pub index_mut-requires : goal.index_mut-requires
 index_mut-requires c = grind (arith, common_steps)
 

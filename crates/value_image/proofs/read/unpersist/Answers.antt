@@ -1,5 +1,4 @@
-use Rattle.std.proofs.Common.{◌<◌, ◌^◌, arith}
-use Rattle.value_image.specs.Reading.{IsReadOf}
+use Rattle.std.proofs.Common.{ℕ, ◌<◌, ◌^◌, ◌∷◌, ◌∙◌, List, ap, arith}
 use Rattle.value_image.proofs.Counts.{kept}
 use Rattle.value_image.proofs.read.unpersist.Goals as goal
 
@@ -7,7 +6,7 @@ pub from_places-requires : goal.from_places-requires
 from_places-requires g c =
     let graph = c.requires.image.0 in
     let image = c.requires.image.1 in
-    let read = c.in_ok-places.ensures.places graph image in
-    let whole : IsReadOf c.in_ok-places.places.items c.as_slice.result.now c.args.len graph = rw c.as_slice.ensures.value read in
+    let read = c.in_ok-first.ensures.places graph image in
     let short : c.args.len < 2 ^ 32 = omega arith in
-    kept _ _ _ c.args.len graph image.graph (c.in_ok-number.ensures graph whole) read.offsets_are c.from.ensures image.length_is short
+    let offsets = ap (λ (os : List ℕ). 0 ∷ os) c.in_ok-number.ensures.offsets ∙ read.offsets_are in
+    kept _ _ _ c.args.len graph image.graph (c.in_ok-number.ensures.places graph read) offsets c.from.ensures image.length_is short

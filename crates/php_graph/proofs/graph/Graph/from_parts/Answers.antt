@@ -1,21 +1,23 @@
-use Rattle.std.proofs.Common.{◌∙◌, ◌<◌, ◌^◌, sym, ap, subst, List, arith}
+use Rattle.std.proofs.Common.{◌∙◌, ◌≤◌, ◌<◌, ap, subst, sym, arith, List}
 use Rattle.php_graph.specs.declared.kind.Kind.{Kind}
+use Rattle.php_graph.specs.Graph.{IsGraph, most_values}
+use Rattle.php_graph.specs.Counted.{children_in}
+use Rattle.php_graph.specs.Kept.{kinds_of, offsets_from}
 use Rattle.php_graph.specs.Size.{image_length}
-use Rattle.php_graph.specs.Kept.{offsets_from}
 use Rattle.php_graph.proofs.SizeLemmas.{image_short}
 use Rattle.php_graph.proofs.graph.Graph.from_parts.Goals as goal
 
-pub fill_offsets-words-requires-clause-small : goal.fill_offsets-words-requires-clause-small
-fill_offsets-words-requires-clause-small c = subst (λ (g : List Kind). image_length g < 2 ^ 60) (sym c.deref.ensures.value) (image_short c.args.places.items c.requires.graph c.requires.few)
+pub lay_out-words-requires : goal.lay_out-words-requires
+lay_out-words-requires c = image_short (kinds_of c.args.places) c.requires.graph c.requires.few
 
 pub invariant_of-result : goal.invariant_of-result
 invariant_of-result c =
-    let short = image_short c.args.places.items c.requires.graph c.requires.few in
-    let words = c.fill_offsets-words.ensures.words ∙ ap image_length c.deref.ensures.value in
+    let same = c.lay_out-words.ensures.kinds in
+    let short = image_short (kinds_of c.args.places) c.requires.graph c.requires.few in
     record {
-      graph = c.requires.graph;
-      offsets_are = c.fill_offsets-words.ensures.offsets ∙ ap (offsets_from 0) c.deref.ensures.value;
-      few = c.requires.few;
-      words_are = words;
-      small = omega (arith, short, words);
+      graph = subst IsGraph (sym same) c.requires.graph;
+      offsets_are = c.lay_out-words.ensures.offsets ∙ ap (offsets_from 0) (sym same);
+      few = subst (λ (g : List Kind). children_in g ≤ most_values) (sym same) c.requires.few;
+      words_are = c.lay_out-words.ensures.words ∙ ap image_length (sym same);
+      small = omega (arith, short, c.lay_out-words.ensures.words);
     }
