@@ -40,7 +40,7 @@ fn put_graph(g: &Graph, base: u64, out: &mut ByteOut) -> Result<(), AllocError>
     ensures ok { OnOk result (out.new ≡ out.old ++ text_from base g.now) }
     ensures err { OnErr result (Extends out.old out.new) }
 {
-    g.is_sealed();
+    let _places = g.places();
     let mut frames: Vec<Frame> = Vec::new(out.alloc());
     put_child(g, base, Child::Own(1), &mut frames, out)?;
     'writing: while let Some(frame) = frames.pop() {

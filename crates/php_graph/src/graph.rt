@@ -94,13 +94,6 @@ impl Graph {
         self.words
     }
 
-    /// What `places` says too: each graph is whole and well formed.
-    pub fn is_sealed(&self)
-        ensures { IsGraph self.now }
-    {
-        let _places = &self.places;
-    }
-
     /// Whether the two have equal places: the same values in the same order, shared alike.
     pub fn same(&self, other: &Graph) -> bool
         ensures { IsTrue result ↔ (self.now ≡ other.now) }

@@ -91,7 +91,7 @@ pub(crate) fn stored_of(alloc: Global, graph: Graph) -> Result<Option<Stored>, A
 fn keys_of(alloc: Global, graph: &Graph) -> Result<Option<Keys>, AllocError>
     ensures { IfOk result (λ made. made ≡ keys graph.now) }
 {
-    graph.is_sealed();
+    let _places = graph.places();
     let Kind::Array(members) = graph.kind(1) else {
         return Ok(None);
     };
@@ -124,7 +124,7 @@ fn string_at(graph: &Graph, child: Child) -> Option<&Bytes>
 fn pairs_of(alloc: Global, graph: &Graph) -> Result<Option<Pairs>, AllocError>
     ensures { IfOk result (λ made. made ≡ pairs graph.now) }
 {
-    graph.is_sealed();
+    let _places = graph.places();
     let Kind::Array(members) = graph.kind(1) else {
         return Ok(None);
     };

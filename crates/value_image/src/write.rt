@@ -85,7 +85,6 @@ pub fn persist<S: Segment>(seg: &mut S, at: u32, g: &Graph)
     ensures image { IsImageOf (S.words seg.new) at (image_length g.now) g.now }
     ensures beside { KeptBeside S.WordsIn seg.old seg.new }
 {
-    g.is_sealed();
     let mut next = at;
     for i in 0..g.places() {
         next = put_place(seg, next, g, g.kind(i + 1));
