@@ -10,8 +10,8 @@ ghost use Rattle.apcu_play.specs.Reading.{ends_word, word_len, space_at, one_mor
 ghost use Rattle.apcu_play.specs.Gives.{Gives, ReadsScripts};
 
 use crate::fault::{ScriptFault, Stop};
-use crate::script::{Call, Script, Scripts, Step};
 use crate::keyword::Word;
+use crate::script::{Call, Script, Scripts, Step};
 use notation::{Cursor, Fault, ReadFault, Reason, read_value, readings_are_spellings};
 use php_graph::{Bytes, Graph};
 use std::alloc::Global;

@@ -8,11 +8,11 @@ ghost use Rattle.apcu_play.specs.Message.{message_of};
 ghost use Rattle.apcu_play.specs.Run.{default_conf, longest_input, WasRead, IsAnswer, Replays, ReplaysPart, IsRefusedAt, IsRefused, IsTold, TellsRefusal, Completes};
 
 use crate::fault::ScriptFault;
+use crate::messages::{tell, tell_fault};
 use crate::play::play;
 use crate::reading::read_scripts;
 use crate::script::Scripts;
 use crate::status::Status;
-use crate::messages::{tell, tell_fault};
 use apcu_model::Conf;
 use io_edges::{Gate, ReadError, Sink, Source, read_all, write_all};
 use notation::{ByteOut, Reason};

@@ -125,7 +125,12 @@ fn the_most_levels(rt: HostRuntime) -> Result<(), Fail> {
     let deepest = nested(alloc, 511, b"}")?;
     comes_back(&rt, alloc, deepest.as_slice())?;
     let too_deep = nested(alloc, 512, b"")?;
-    expect_refused(&rt, alloc, too_deep.as_slice(), b"apcu_run: script: byte 4635: depth\n")
+    expect_refused(
+        &rt,
+        alloc,
+        too_deep.as_slice(),
+        b"apcu_run: script: byte 4635: depth\n",
+    )
 }
 
 // A script that stores this value is refused.
@@ -136,23 +141,51 @@ fn expect_refused(
     told: &[u8],
 ) -> Result<(), Fail> {
     let script = storing(alloc, value)?;
-    expect(rt, alloc, whole(script.as_slice(), Status::Script, b"", told))
+    expect(
+        rt,
+        alloc,
+        whole(script.as_slice(), Status::Script, b"", told),
+    )
 }
 
 #[test]
 fn lines_with_a_fault(rt: HostRuntime) -> Result<(), Fail> {
     for (input, told) in [
-        (b"worker\napcu_store s:1:\"a\"; i:5;".as_slice(), b"apcu_run: script: byte 31: end\n".as_slice()),
-        (b"worker\napcu_store s:1:\"a\"; i:5; i:1;\n", b"apcu_run: script: byte 32: unbuilt\n"),
-        (b"worker\napcu_store s:1:\"a\"; i:5;,\n", b"apcu_run: script: byte 31: separator\n"),
-        (b"worker\napcu_store s:1:\"a\";\n", b"apcu_run: script: byte 26: argument\n"),
-        (b"worker\napcu_store i:1; i:5;\n", b"apcu_run: script: byte 18: argument\n"),
-        (b"worker\napcu_fetch a:0:{}\n", b"apcu_run: script: byte 18: unbuilt\n"),
+        (
+            b"worker\napcu_store s:1:\"a\"; i:5;".as_slice(),
+            b"apcu_run: script: byte 31: end\n".as_slice(),
+        ),
+        (
+            b"worker\napcu_store s:1:\"a\"; i:5; i:1;\n",
+            b"apcu_run: script: byte 32: unbuilt\n",
+        ),
+        (
+            b"worker\napcu_store s:1:\"a\"; i:5;,\n",
+            b"apcu_run: script: byte 31: separator\n",
+        ),
+        (
+            b"worker\napcu_store s:1:\"a\";\n",
+            b"apcu_run: script: byte 26: argument\n",
+        ),
+        (
+            b"worker\napcu_store i:1; i:5;\n",
+            b"apcu_run: script: byte 18: argument\n",
+        ),
+        (
+            b"worker\napcu_fetch a:0:{}\n",
+            b"apcu_run: script: byte 18: unbuilt\n",
+        ),
         (b"worker\nworker\n", b"apcu_run: script: byte 7: unbuilt\n"),
-        (b"worker\napcu_inc s:1:\"a\";\n", b"apcu_run: script: byte 7: unbuilt\n"),
+        (
+            b"worker\napcu_inc s:1:\"a\";\n",
+            b"apcu_run: script: byte 7: unbuilt\n",
+        ),
         (b"worker", b"apcu_run: script: byte 6: end\n"),
         (b"worker 1\n", b"apcu_run: script: byte 7: argument\n"),
-        (b"apcu_fetch s:1:\"a\";\n", b"apcu_run: script: byte 0: line\n"),
+        (
+            b"apcu_fetch s:1:\"a\";\n",
+            b"apcu_run: script: byte 0: line\n",
+        ),
         (b"worker\n\n", b"apcu_run: script: byte 7: line\n"),
         (b"\n", b"apcu_run: script: byte 0: line\n"),
     ] {
@@ -164,19 +197,34 @@ fn lines_with_a_fault(rt: HostRuntime) -> Result<(), Fail> {
 #[test]
 fn values_with_a_fault(rt: HostRuntime) -> Result<(), Fail> {
     for (value, told) in [
-        (b"i:05;".as_slice(), b"apcu_run: script: byte 29: number\n".as_slice()),
+        (
+            b"i:05;".as_slice(),
+            b"apcu_run: script: byte 29: number\n".as_slice(),
+        ),
         (b"s:3:\"ab\";", b"apcu_run: script: byte 29: length\n"),
         (b"d:1.5;", b"apcu_run: script: byte 27: tag\n"),
         (b"a:1:{i:0;r:1;}", b"apcu_run: script: byte 38: target\n"),
-        (b"s:4294967295:\"a\";", b"apcu_run: script: byte 29: length\n"),
+        (
+            b"s:4294967295:\"a\";",
+            b"apcu_run: script: byte 29: length\n",
+        ),
         (b"a:4294967295:{}", b"apcu_run: script: byte 41: tag\n"),
         (b"a:1:{i:0;R:2;}", b"apcu_run: script: byte 38: target\n"),
         (b"R:1;", b"apcu_run: script: byte 29: target\n"),
-        (b"i:9223372036854775808;", b"apcu_run: script: byte 29: number\n"),
+        (
+            b"i:9223372036854775808;",
+            b"apcu_run: script: byte 29: number\n",
+        ),
         (b"b:2;", b"apcu_run: script: byte 29: number\n"),
         (b"a:1:{i:0;i:1;", b"apcu_run: script: byte 40: mark\n"),
-        (b"a:2:{i:0;N;i:0;N;}", b"apcu_run: script: byte 38: repeat\n"),
-        (b"a:1:{s:1:\"5\";N;}", b"apcu_run: script: byte 32: integer\n"),
+        (
+            b"a:2:{i:0;N;i:0;N;}",
+            b"apcu_run: script: byte 38: repeat\n",
+        ),
+        (
+            b"a:1:{s:1:\"5\";N;}",
+            b"apcu_run: script: byte 32: integer\n",
+        ),
         (b"O:1:\"-\":0:{}", b"apcu_run: script: byte 27: class\n"),
         (b"C:1:\"A\":0:{}", b"apcu_run: script: byte 27: tag\n"),
     ] {

@@ -54,7 +54,7 @@ module _ (laws : Laws) (old : Core) (key : List ℕ) (graph : List Kind) (ttl t 
       let same : cache_of new ≡ room = cache_made new room (m.room (cache_of old) later whole on) (conf ∙ room_conf whole m later on) (room_counts new.tally whole m after later on) in (
         same,
         added_at (held_blocks later) key graph ttl t (cache_of old) None (m.place_is (cache_of old) later whole on)
-        ∙ ap (λ (c : Cache). let i : Insertion = record { answer = NoRoom; cache = c } in i) (sym same),
+            ∙ ap (λ (c : Cache). let i : Insertion = record { answer = NoRoom; cache = c } in i) (sym same),
       )
 
   -- the row was put
@@ -79,5 +79,5 @@ module _ (laws : Laws) (old : Core) (key : List ℕ) (graph : List Kind) (ttl t 
         same,
         e,
         added_at (held_blocks later) key graph ttl t (cache_of old) (Some at) (m.place_is (cache_of old) later whole on')
-        ∙ ap (λ (c : Cache). let i : Insertion = record { answer = Stored; cache = c } in i) (sym same),
+            ∙ ap (λ (c : Cache). let i : Insertion = record { answer = Stored; cache = c } in i) (sym same),
       )

@@ -168,7 +168,10 @@ fn plays(
     let gaps = MaxRow::new(alloc, 128)?;
     let mut slots = EntrySlots::format(&mut words, &small(), gaps);
     assert_eq!(rt; play(&mut slots, &mut words, &one, steps), steps.len());
-    assert_eq!(rt; (slots.rows(), slots.first_removed()), (rows, first_removed));
+    assert_eq!(rt;
+        (slots.rows(), slots.first_removed()),
+        (rows, first_removed)
+    );
     let items = words.into_words();
     for (place, word) in wanted.iter() {
         assert_eq!(rt; items.get(*place), Some(word), "at {place}");
@@ -179,7 +182,15 @@ fn plays(
 #[test]
 fn writes_the_words_of_an_entry(rt: HostRuntime) -> Result<(), Fail> {
     let steps = [(Step::Sweep, 0), (Step::Put(b'a'), 32)];
-    let head = [(32, 16), (33, 0), (34, 1), (35, 2), (36, 0), (42, 1), (43, 0)];
+    let head = [
+        (32, 16),
+        (33, 0),
+        (34, 1),
+        (35, 2),
+        (36, 0),
+        (42, 1),
+        (43, 0),
+    ];
     plays(&rt, rt.alloc(), &steps, 1, 0, &head)?;
     let noted = [(37, 1), (38, 1), (39, 1), (40, 0), (41, 0)];
     plays(&rt, rt.alloc(), &steps, 1, 0, &noted)?;
@@ -215,7 +226,15 @@ fn removes_in_another_order(rt: HostRuntime) -> Result<(), Fail> {
         (Step::Remove(b'!'), 0),
     ];
     // one is left in the chain; the removed ones stand by their moments
-    let words = [(6, 80), (81, 0), (65, 32), (33, 0), (72, 4), (40, 5), (88, 0)];
+    let words = [
+        (6, 80),
+        (81, 0),
+        (65, 32),
+        (33, 0),
+        (72, 4),
+        (40, 5),
+        (88, 0),
+    ];
     plays(&rt, rt.alloc(), &steps, 1, 64, &words)
 }
 
@@ -250,7 +269,14 @@ fn deletes_at_once(rt: HostRuntime) -> Result<(), Fail> {
         (Step::Delete(b'A'), 0),
         (Step::Put(b'A'), 48),
     ];
-    plays(&rt, rt.alloc(), &steps, 3, 0, &[(6, 32), (33, 64), (65, 48), (49, 0)])
+    plays(
+        &rt,
+        rt.alloc(),
+        &steps,
+        3,
+        0,
+        &[(6, 32), (33, 64), (65, 48), (49, 0)],
+    )
 }
 
 #[test]

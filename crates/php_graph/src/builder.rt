@@ -167,12 +167,7 @@ impl Builder {
         if place == 0 || place as usize > places.len() {
             return Err(BuildFault::BadNumber);
         }
-        attach(
-            places,
-            &self.containers,
-            &mut self.key,
-            Child::Back(place),
-        )?;
+        attach(places, &self.containers, &mut self.key, Child::Back(place))?;
         self.values += 1;
         Ok(())
     }
@@ -299,9 +294,7 @@ impl Builder {
             values: _,
             alloc: _,
         } = self;
-        let Some(places) = places else {
-            unreachable!()
-        };
+        let Some(places) = places else { unreachable!() };
         Graph::from_parts(places)
     }
 }

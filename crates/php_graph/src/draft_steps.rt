@@ -122,9 +122,7 @@ pub(crate) fn note_last(
     if last == 0 {
         return Ok(());
     }
-    let Some(places) = places else {
-        unreachable!()
-    };
+    let Some(places) = places else { unreachable!() };
     let container = &mut containers[last - 1];
     let kind = places.kind((container.place - 1) as usize);
     note_key(alloc, kind, container, key)

@@ -33,7 +33,6 @@ last_joined old new first end last at (Some q) is past even joined l =
       λ k over under. joined.others k (λ e. omega arith) (λ lt e. omega arith) ∙ l.1 k over under,
     )
 
-
 -- the words after the link was set, or left
 pub record Ends (sma : Sma) (ws : List ℕ) (before : Option ℕ) (at first last next head' : ℕ) (ws' : List ℕ) : Type 0 where
   pub alone : first ≡ at → (ws' ≡ relinked_words (merged_words ws first last next) before at) × (head' ≡ relinked_head sma.head before at)

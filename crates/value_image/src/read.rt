@@ -86,7 +86,7 @@ fn read_places<W: WordsIn>(
     requires told { (i : ℕ) → at ≤ i → i < at + len → IsTold (W.aside from.old).windows i }
     ensures places { (g : List Kind) → IsImageOf (W.words from.old) at len g
         → IfOk result (λ r. IsReadOf (r.0 ∷ kinds_at r.1.items)
-            (0 ∷ offsets_at r.1.items) len g) }
+        (0 ∷ offsets_at r.1.items) len g) }
     ensures kept { Kept W.WordsIn from.old from.new }
 {
     let (first, next) = read_place(alloc, from, at)?;
