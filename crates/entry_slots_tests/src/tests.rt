@@ -343,7 +343,6 @@ fn update<S: Segment>(
     slots: &mut EntrySlots,
     seg: &mut S,
     conf: &Conf,
-    gaps: MaxRow,
     key: &[u8],
     g: &Graph,
     n: i64,
