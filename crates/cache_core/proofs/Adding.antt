@@ -5,8 +5,6 @@ use Rattle.seg_words.specs.Windows.{Aside, held_blocks}
 use Rattle.seg_words.specs.Probing.{Goes, goes_on}
 use Rattle.php_graph.specs.declared.kind.Kind.{Kind}
 use Rattle.php_graph.specs.Size.{block_size}
-use Rattle.apcu_model.specs.declared.conf.Conf.{Conf}
-use Rattle.apcu_model.specs.declared.request.StoreAnswer.{StoreAnswer}
 use Rattle.apcu_model.specs.declared.request.StoreAnswer.TheVariants.{NoRoom, Stored}
 use Rattle.apcu_model.specs.Cache.{Cache, risen}
 use Rattle.apcu_model.specs.Change.{Insertion, with_room, placed}
@@ -54,7 +52,7 @@ module _ (laws : Laws) (old : Core) (key : List ℕ) (graph : List Kind) (ttl t 
       let same : cache_of new ≡ room = cache_made new room (m.room (cache_of old) later whole on) (conf ∙ room_conf whole m later on) (room_counts new.tally whole m after later on) in (
         same,
         added_at (held_blocks later) key graph ttl t (cache_of old) None (m.place_is (cache_of old) later whole on)
-        ∙ ap (λ (c : Cache). let i : Insertion = record { answer = NoRoom; cache = c } in i) (sym same),
+            ∙ ap (λ (c : Cache). let i : Insertion = record { answer = NoRoom; cache = c } in i) (sym same),
       )
 
   -- the row was put
@@ -79,5 +77,5 @@ module _ (laws : Laws) (old : Core) (key : List ℕ) (graph : List Kind) (ttl t 
         same,
         e,
         added_at (held_blocks later) key graph ttl t (cache_of old) (Some at) (m.place_is (cache_of old) later whole on')
-        ∙ ap (λ (c : Cache). let i : Insertion = record { answer = Stored; cache = c } in i) (sym same),
+            ∙ ap (λ (c : Cache). let i : Insertion = record { answer = Stored; cache = c } in i) (sym same),
       )

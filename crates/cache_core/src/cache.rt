@@ -36,7 +36,11 @@ impl Core {
         ensures stand { CacheStands S.WordsIn result seg.new }
         ensures beside { KeptBeside S.WordsIn seg.old seg.new }
     {
-        Core { slots: EntrySlots::format(seg, conf), conf: *conf, tally: Tally::new() }
+        Core {
+            slots: EntrySlots::format(seg, conf),
+            conf: *conf,
+            tally: Tally::new(),
+        }
     }
 
     /// What was counted, and the number of rows. Each count stays at its last number once there.

@@ -36,7 +36,12 @@ fn answer(at: u32, scalar: Option<Scalar>) -> Look
 
 impl Core {
     // The place of the row that a look-up of the key finds, and what its first words say.
-    pub(crate) fn find_live<S: Segment>(&self, seg: &mut S, key: &[u8], t: u64) -> Option<(u32, Head)>
+    pub(crate) fn find_live<S: Segment>(
+        &self,
+        seg: &mut S,
+        key: &[u8],
+        t: u64,
+    ) -> Option<(u32, Head)>
         requires short { length key.now < 2 ^ 32 }
         requires stand { CacheStands S.WordsIn self.now seg.old }
         ensures found { IfSome result (λ r.

@@ -15,7 +15,12 @@ impl Tally {
     pub(crate) fn new() -> Tally
         ensures { result ≡ record { hits = 0; misses = 0; inserts = 0; expunges = 0 } }
     {
-        Tally { hits: 0, misses: 0, inserts: 0, expunges: 0 }
+        Tally {
+            hits: 0,
+            misses: 0,
+            inserts: 0,
+            expunges: 0,
+        }
     }
 
     // Room was made. Where all rows went for it, what was counted since the last time is forgotten.
@@ -26,7 +31,12 @@ impl Tally {
         ensures expunges { result.expunges ≡ (if full then risen self.expunges else self.expunges) }
     {
         if full {
-            Tally { hits: 0, misses: 0, inserts: 0, expunges: self.expunges.saturating_add(1) }
+            Tally {
+                hits: 0,
+                misses: 0,
+                inserts: 0,
+                expunges: self.expunges.saturating_add(1),
+            }
         } else {
             self
         }
@@ -36,20 +46,29 @@ impl Tally {
     pub(crate) fn after_insert(self) -> Tally
         ensures { result ≡ record self { inserts = risen self.inserts } }
     {
-        Tally { inserts: self.inserts.saturating_add(1), ..self }
+        Tally {
+            inserts: self.inserts.saturating_add(1),
+            ..self
+        }
     }
 
     // A look-up found a row.
     pub(crate) fn after_hit(self) -> Tally
         ensures { result ≡ record self { hits = risen self.hits } }
     {
-        Tally { hits: self.hits.saturating_add(1), ..self }
+        Tally {
+            hits: self.hits.saturating_add(1),
+            ..self
+        }
     }
 
     // A look-up found none.
     pub(crate) fn after_miss(self) -> Tally
         ensures { result ≡ record self { misses = risen self.misses } }
     {
-        Tally { misses: self.misses.saturating_add(1), ..self }
+        Tally {
+            misses: self.misses.saturating_add(1),
+            ..self
+        }
     }
 }
