@@ -5,8 +5,6 @@ use Rattle.seg_words.specs.Windows.{Aside, held_blocks}
 use Rattle.seg_words.specs.Probing.{Goes, goes_on}
 use Rattle.php_graph.specs.declared.kind.Kind.{Kind}
 use Rattle.php_graph.specs.Size.{block_size}
-use Rattle.apcu_model.specs.declared.conf.Conf.{Conf}
-use Rattle.apcu_model.specs.declared.request.StoreAnswer.{StoreAnswer}
 use Rattle.apcu_model.specs.declared.request.StoreAnswer.TheVariants.{NoRoom, Stored}
 use Rattle.apcu_model.specs.Cache.{Cache, risen}
 use Rattle.apcu_model.specs.Change.{Insertion, with_room, placed}

@@ -1,5 +1,5 @@
 -- A core's cache from its entries and counts.
-use Rattle.std.proofs.Common.{◌≡◌, inl, inr, ℕ, Bool, true, false, cond, List, ◌++◌, filter, refl, sym, ap, ◌∙◌, subst}
+use Rattle.std.proofs.Common.{◌≡◌, inl, inr, ℕ, Bool, true, false, List, ◌++◌, filter, refl, sym, ap, ◌∙◌, subst}
 use Rattle.std.specs.Prelude.{if◌then◌else◌}
 use Rattle.seg_words.specs.Windows.{Aside, held_blocks}
 use Rattle.seg_words.specs.Probing.{Goes}
@@ -9,7 +9,7 @@ use Rattle.apcu_model.specs.declared.conf.Conf.{Conf}
 use Rattle.apcu_model.specs.Cache.{Row, Cache, risen}
 use Rattle.apcu_model.specs.Change.{is_held, swept, with_room, is_expunged}
 use Rattle.entry_slots.specs.Entries.{Entries, entries_of}
-use Rattle.entry_slots.specs.Standing.{Stand, entries}
+use Rattle.entry_slots.specs.Standing.{entries}
 use Rattle.ttl_expunge.specs.Held.{AreHeld, KeepsOpen, Sweeps}
 use Rattle.cache_core.specs.declared.cache.Core.{Core}
 use Rattle.cache_core.specs.declared.tally.Tally.{Tally}

@@ -1,15 +1,11 @@
 -- A value is stored: the tests before, and the ways of an insertion.
-use Rattle.std.proofs.Common.{◌≡◌, ℕ, ◌-◌, ◌<◌, ◌≤◌, Bool, true, false, cond, not, inl, inr, ◌⊎◌, ◌&&◌, List, [], ◌∷◌, length, filter, find, Option, Some, None, refl, sym, ap, ◌∙◌, subst, arith}
+use Rattle.std.proofs.Common.{◌≡◌, ℕ, ◌-◌, Bool, true, false, ◌&&◌, List, length, filter, Option, sym, ap, ◌∙◌}
 use Rattle.std.specs.Prelude.{nat_lt, is_some, if◌then◌else◌}
-use Rattle.std.proofs.lemmas.Bool.{le-ltb, lt-ltb}
-use Rattle.seg_words.specs.Windows.{Aside, held_blocks}
-use Rattle.seg_words.specs.Probing.{Goes}
 use Rattle.php_graph.specs.declared.kind.Kind.{Kind}
 use Rattle.php_graph.specs.Size.{block_size}
-use Rattle.apcu_model.specs.declared.request.StoreAnswer.{StoreAnswer}
-use Rattle.apcu_model.specs.declared.request.StoreAnswer.TheVariants.{TooLarge, Exists, NoRoom, Stored}
+use Rattle.apcu_model.specs.declared.request.StoreAnswer.TheVariants.{TooLarge, Exists}
 use Rattle.apcu_model.specs.Cache.{Row, Cache, gap_of}
-use Rattle.apcu_model.specs.Change.{is_held, swept, expired_dropped, expunged, has_gap, Insertion, with_room, put_in, inserted}
+use Rattle.apcu_model.specs.Change.{is_held, swept, expired_dropped, expunged, has_gap, with_room, put_in, inserted}
 use Rattle.apcu_model.specs.Expiry.{live_row}
 use Rattle.cache_core.specs.Storing.{added}
 use Rattle.cache_core.proofs.Rows.{filter_all, Contains-filter}

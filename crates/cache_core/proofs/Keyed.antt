@@ -1,9 +1,8 @@
 -- The row of a key is dropped, or used.
-use Rattle.std.proofs.Common.{◌≡◌, inl, inr, ℕ, ◌≤◌, Bool, true, false, cond, not, List, [], ◌∷◌, map, filter, Option, Some, refl, sym, ap, ◌∙◌, subst, arith}
+use Rattle.std.proofs.Common.{◌≡◌, inl, inr, ℕ, ◌≤◌, Bool, true, false, cond, List, [], ◌∷◌, map, filter, Option, Some, refl, sym, ap, ◌∙◌, subst, arith}
 use Rattle.std.specs.Prelude.{is_some, if◌then◌else◌}
 use Rattle.std.specs.List.{Contains, count_by}
-use Rattle.std.proofs.lemmas.Bool.{cases_Bool, eq-eqb, eqb-true, false≢true, false_from_ne_true}
-use Rattle.std.proofs.lemmas.Slice.Eq.{bytes_eq-Decides}
+use Rattle.std.proofs.lemmas.Bool.{cases_Bool, eq-eqb, false≢true, false_from_ne_true}
 use Rattle.seg_words.specs.Windows.{Aside, held_blocks}
 use Rattle.seg_words.specs.Probing.{Goes}
 use Rattle.apcu_model.specs.Cache.{Row, Cache, has_key, risen}
@@ -11,7 +10,7 @@ use Rattle.apcu_model.specs.Change.{dropped, deleted, cleared}
 use Rattle.apcu_model.specs.Expiry.{live_row}
 use Rattle.apcu_model.specs.Sequential.{touched, looked_up}
 use Rattle.apcu_model.specs.Walk.{in_slot_order}
-use Rattle.entry_slots.specs.Lists.{is_at, has_place, only_at}
+use Rattle.entry_slots.specs.Lists.{is_at, only_at}
 use Rattle.entry_slots.specs.Entries.{Entries, entries_of, touched_row, touched_in}
 use Rattle.entry_slots.specs.Facts.{IsSound}
 use Rattle.ttl_expunge.specs.Dropping.{dropped_in}
@@ -23,7 +22,7 @@ use Rattle.cache_core.specs.Caching.{cache_of}
 use Rattle.cache_core.specs.Laws.{Laws}
 use Rattle.cache_core.proofs.Caching.{cache_made, whole_made}
 use Rattle.cache_core.proofs.Rows.{counted, count-cons, none_counted, only_none, filter_all, Contains-first, Contains-later, Contains-cases, Contains-filter}
-use Rattle.cache_core.proofs.Replacing.{IsOld, key_is, order_key}
+use Rattle.cache_core.proofs.Replacing.{IsOld, order_key}
 
 -- the row at a place where one row at most is
 only_once : (at : ℕ) (rows : List Row) (row : Row) → Contains rows row → row.place ≡ at → count_by (is_at at) rows ≤ 1 → only_at at rows ≡ row ∷ []

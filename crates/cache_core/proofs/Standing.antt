@@ -1,5 +1,5 @@
 -- Words that stand for entries still do so after a call that only reads.
-use Rattle.std.proofs.Common.{List, ℕ, sym, subst}
+use Rattle.std.proofs.Common.{sym, subst}
 use Rattle.seg_words.specs.Windows.{Aside}
 use Rattle.seg_words.specs.Kept.{Kept}
 use Rattle.seg_words.specs.declared.segment.WordsIn.{Ghosts}

@@ -1,5 +1,5 @@
 -- What the probes of an event do to what is beside the words.
-use Rattle.std.specs.Prelude.{◌≡◌, ◌⊎◌, ℕ, true, List, ◌++◌, Contains, filter}
+use Rattle.std.specs.Prelude.{◌≡◌, ℕ, true, List, ◌++◌, Contains, filter}
 use Rattle.seg_words.specs.Probing.{Goes, IsDecided}
 use Rattle.apcu_model.specs.Change.{is_held}
 use Rattle.seg_words.specs.Windows.{Aside, has, is_named, held_blocks}

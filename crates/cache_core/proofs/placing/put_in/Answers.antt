@@ -1,5 +1,4 @@
-use Rattle.std.proofs.Common.{◌≡◌, ℕ, ◌%◌, ap, ◌∙◌, subst, filter}
-use Rattle.seg_words.specs.Windows.{Aside}
+use Rattle.std.proofs.Common.{◌≡◌, ℕ, ◌%◌, ap, ◌∙◌, filter}
 use Rattle.apcu_model.specs.Walk.{slot_of}
 use Rattle.apcu_model.specs.Expiry.{is_expired}
 use Rattle.entry_slots.specs.Entries.{chain_of}

@@ -1,16 +1,13 @@
-use Rattle.std.proofs.Common.{◌≡◌, ◌≢◌, ◌∙◌, ℕ, ◌+◌, ◌<◌, ◌%◌, true, false, List, sym, ap, subst, length, arith}
+use Rattle.std.proofs.Common.{◌≡◌, ◌∙◌, ◌+◌, ◌<◌, ◌%◌, sym, ap, subst, length, arith}
 use Rattle.std.specs.Prelude.{slice_index, Some, ℤ}
 use Rattle.std.specs.Int.{w64, cast_unsigned, cast_signed}
 use Rattle.std.proofs.lemmas.Int.{to_z-of_z}
 use Rattle.std.proofs.lemmas.Bool.{not-true, not-false, eqb-true, eq-eqb, false≢true}
 use Rattle.seg_words.specs.Windows.{Aside}
 use Rattle.seg_words.specs.Blocks.{IsTold}
-use Rattle.php_graph.specs.declared.kind.Kind.{Kind}
-use Rattle.value_image.specs.Image.{IsImageOf}
-use Rattle.cache_core.specs.declared.scalar.Scalar.{Scalar}
 use Rattle.cache_core.specs.declared.scalar.Scalar.TheVariants as scalars
 use Rattle.cache_core.specs.Looking.{scalar_of, scalar_kind}
-use Rattle.cache_core.proofs.Tags.{IsFirst, first_from, null_is, bool_is, int_kind, other_is}
+use Rattle.cache_core.proofs.Tags.{first_from, null_is, bool_is, int_kind, other_is}
 use Rattle.cache_core.proofs.scalar.read_scalar.Goals as goal
 
 pub load-tag-requires : goal.load-tag-requires

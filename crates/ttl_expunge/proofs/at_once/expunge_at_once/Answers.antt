@@ -1,9 +1,5 @@
-use Rattle.std.proofs.Common.{sym, ap, ◌∙◌, subst}
-use Rattle.seg_words.specs.Windows.{Aside, is_named}
-use Rattle.apcu_model.specs.Walk.{in_slot_order}
+use Rattle.std.proofs.Common.{sym, ap, ◌∙◌}
 use Rattle.entry_slots.specs.Entries.{Entries}
-use Rattle.ttl_expunge.specs.Held.{Drops}
-use Rattle.ttl_expunge.proofs.Asides.{stand_kept}
 use Rattle.ttl_expunge.proofs.Moving.{left_unnamed, all_gone, all_left, none_removed}
 use Rattle.entry_slots.specs.Standing.{entries}
 use Rattle.ttl_expunge.proofs.at_once.expunge_at_once.Goals as goal

@@ -2,7 +2,6 @@ use Rattle.std.proofs.Common.{◌≡◌, ℕ, refl, ap, ◌∙◌, subst, arith}
 use Rattle.std.specs.List.{flat_map, range_with_len}
 use Rattle.entry_slots.specs.Entries.{Entries, chain_of}
 use Rattle.ttl_expunge.specs.Held.{Moves}
-use Rattle.ttl_expunge.proofs.Asides.{stand_kept}
 use Rattle.ttl_expunge.proofs.Moving.{passing_starts, passing_on}
 use Rattle.entry_slots.specs.Standing.{entries}
 use Rattle.ttl_expunge.proofs.at_once.move_held.Goals as goal

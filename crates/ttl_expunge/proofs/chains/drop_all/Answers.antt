@@ -1,7 +1,6 @@
 use Rattle.std.proofs.Common.{refl, ap, ◌∙◌, arith}
 use Rattle.entry_slots.specs.Entries.{Entries}
 use Rattle.ttl_expunge.specs.Which.{passes}
-use Rattle.ttl_expunge.proofs.Asides.{stand_kept}
 use Rattle.ttl_expunge.proofs.Ordering.{expunging_starts, expunging_on, expunging_ends}
 use Rattle.entry_slots.specs.Standing.{entries}
 use Rattle.ttl_expunge.proofs.chains.drop_all.Goals as goal

@@ -1,15 +1,13 @@
-use Rattle.std.proofs.Common.{◌≡◌, ℕ, Bool, refl, sym, ap, ◌∙◌, subst, arith}
+use Rattle.std.proofs.Common.{◌≡◌, ℕ, Bool, refl, sym, ap, ◌∙◌, subst}
 use Rattle.seg_words.specs.Windows.{Aside}
-use Rattle.seg_words.specs.Probing.{Goes, goes_nowhere, goes_on}
-use Rattle.php_graph.specs.Size.{block_size}
-use Rattle.std.specs.Prelude.{length, Option, Some, None}
+use Rattle.seg_words.specs.Probing.{goes_nowhere}
+use Rattle.std.specs.Prelude.{Option}
 use Rattle.entry_slots.specs.Entries.{Entries}
-use Rattle.entry_slots.specs.Standing.{entries}
 use Rattle.ttl_expunge.specs.Room.{MakesRoom}
 use Rattle.cache_core.specs.declared.cache.Core.{Core}
 use Rattle.cache_core.specs.Caching.{cache_of}
 use Rattle.cache_core.proofs.Caching.{whole_made}
-use Rattle.cache_core.proofs.Adding.{IsAfterRoom, none_added, row_added}
+use Rattle.cache_core.proofs.Adding.{none_added, row_added}
 use Rattle.cache_core.proofs.cache.Core.add.Goals as goal
 
 made_as : {s s1 : Entries} {a0 a1 : Aside} {n n' t : ℕ} {r r' : Option ℕ} {full : Bool} → n ≡ n' → r ≡ r' → MakesRoom s s1 a0 a1 n t r full → MakesRoom s s1 a0 a1 n' t r' full

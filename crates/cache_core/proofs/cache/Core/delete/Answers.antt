@@ -1,16 +1,13 @@
-use Rattle.std.proofs.Common.{◌≡◌, Bool, true, refl, sym, ap, ◌∙◌, subst}
+use Rattle.std.proofs.Common.{◌≡◌, Bool, true, refl, sym, ap, subst}
 use Rattle.std.specs.Prelude.{is_some, if◌then◌else◌}
 use Rattle.seg_words.specs.Windows.{Aside, held_blocks}
 use Rattle.seg_words.specs.Probing.{Goes, goes_nowhere}
 use Rattle.apcu_model.specs.Cache.{has_key}
 use Rattle.apcu_model.specs.Change.{dropped}
-use Rattle.apcu_model.specs.Expiry.{live_row}
 use Rattle.entry_slots.specs.Lists.{has_place, only_at}
 use Rattle.entry_slots.specs.Standing.{entries}
-use Rattle.ttl_expunge.specs.Held.{AreRemoved, Drops}
 use Rattle.cache_core.specs.declared.cache.Core.{Core}
 use Rattle.cache_core.specs.Caching.{cache_of}
-use Rattle.cache_core.proofs.Standing.{stand_kept}
 use Rattle.cache_core.proofs.Rows.{place_there, Contains-filter}
 use Rattle.cache_core.proofs.Live.{old_found}
 use Rattle.cache_core.proofs.Keyed.{core_deleted}

@@ -1,7 +1,7 @@
-use Rattle.std.proofs.Common.{◌≡◌, refl, sym, ap, ◌∙◌}
+use Rattle.std.proofs.Common.{refl, sym, ap, ◌∙◌}
 use Rattle.seg_words.specs.Windows.{held_blocks}
 use Rattle.seg_words.specs.Probing.{goes_nowhere, goes_on}
-use Rattle.apcu_model.specs.Change.{Insertion, inserted}
+use Rattle.apcu_model.specs.Change.{Insertion}
 use Rattle.cache_core.specs.Caching.{cache_of}
 use Rattle.cache_core.specs.Storing.{added}
 use Rattle.cache_core.proofs.Insertions.{added_swept}

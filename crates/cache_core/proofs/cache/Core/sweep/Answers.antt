@@ -2,7 +2,6 @@ use Rattle.std.proofs.Common.{refl}
 use Rattle.seg_words.specs.Windows.{held_blocks}
 use Rattle.seg_words.specs.Probing.{goes_nowhere}
 use Rattle.apcu_model.specs.Change.{swept}
-use Rattle.entry_slots.specs.Standing.{entries}
 use Rattle.cache_core.specs.declared.cache.Core.{Core}
 use Rattle.cache_core.specs.Caching.{cache_of}
 use Rattle.cache_core.proofs.Caching.{cache_made, whole_made, swept_later, sweeps_keep, sweeps_held}
