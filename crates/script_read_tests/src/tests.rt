@@ -90,6 +90,7 @@ fn is_call(alloc: Global, expected: Asked, call: &Call) -> Result<bool, Fail> {
 type Row = (u64, Asked, u64);
 
 fn expect_steps(rt: &impl Abort, alloc: Global, text: &[u8], rows: &[Row]) -> Result<(), Fail> {
+    assert!(rt; text.len() < 1000);
     let scripts = read_scripts(alloc, text)?;
     assert_eq!(rt; scripts.len(), 1);
     assert!(rt; !scripts.is_empty());
@@ -168,6 +169,7 @@ fn no_scripts(rt: HostRuntime) -> Result<(), Fail> {
 }
 
 fn refused(rt: &impl Abort, alloc: Global, text: &[u8], place: u64, reason: Reason) {
+    assert!(rt; text.len() < 1000);
     match read_scripts(alloc, text) {
         Err(
             ScriptFault::Bad {
