@@ -168,14 +168,16 @@ pub last_is : (xs tops : List ℕ) (p k : ℕ) (r : Option ℕ) → IsPaged xs t
     → MatchOption r ((i : ℕ) → i < p → get_or xs i 0 ≡ 0) (λ q. (q < p) × (get_or xs q 0 ≢ 0)) × MatchOption r (Unit {0}) (λ q. (i : ℕ) → q < i → i < p → get_or xs i 0 ≡ 0)
 last_is xs tops p k None paged low some between here none there =
     absurd (some (omega (arith, top_least xs tops paged.tops_are k 0 (λ i from to inside. omega (arith, none i from to)))))
-last_is xs tops p k (Some at) paged low some between here none there =
-    ((omega (arith, there.1), there.2), λ i past before. elim (cases_lt i (PAGE * k + PAGE)) [
-      | inl same ↦ none i past same
-      | inr later ↦ elim (cases_lt i (p / PAGE * PAGE)) [
-        | inl earlier ↦ omega (arith, below_top xs tops paged.tops_are i, between (i / PAGE) (omega arith) (omega arith))
-        | inr last ↦ here i last before
-      ]
-    ])
+last_is xs tops p k (Some at) paged low some between here none there = (
+  (omega (arith, there.1), there.2),
+  λ i past before. elim (cases_lt i (PAGE * k + PAGE)) [
+    | inl same ↦ none i past same
+    | inr later ↦ elim (cases_lt i (p / PAGE * PAGE)) [
+      | inl earlier ↦ omega (arith, below_top xs tops paged.tops_are i, between (i / PAGE) (omega arith) (omega arith))
+      | inr last ↦ here i last before
+    ]
+  ],
+)
 
 -- the same, of numbers that were read as a slice
 pub first_seen : (xs seen view tops : List ℕ) (n k : ℕ) (r : Option ℕ) → seen ≡ xs → xs ≡ view → IsPaged xs tops → 1 ≤ n → position (λ value. nat_le n value) tops ≡ Some k
