@@ -9,7 +9,7 @@ use Rattle.sma_blocks.specs.Walk.{merged_words}
 use Rattle.sma_blocks.proofs.Places.{Fill-even}
 use Rattle.sma_blocks.proofs.Done.{may_store_seen}
 use Rattle.sma_blocks.proofs.Readying.{ready_chain}
-use Rattle.sma_blocks.proofs.Keeping.{Laid, Spread, laid_start, spread_start, laid_block, laid_after, lay_alone, lay_count, lay_apart, next_block, last_between, keeps, sizes_count, told_live, in_order}
+use Rattle.sma_blocks.proofs.Keeping.{Spread, laid_start, spread_start, laid_block, laid_after, lay_alone, lay_count, lay_apart, next_block, last_between, keeps, sizes_count, told_live, in_order}
 use Rattle.sma_blocks.specs.Pieces.{pieces}
 use Rattle.sma_blocks.specs.Live.{kept_blocks}
 use Rattle.sma_blocks.proofs.Naming.{Between}
@@ -135,9 +135,9 @@ loop-i-preserved g c =
     let even : first % 2 ≡ 0 = omega (arith, n.even_at, n.even_size) in
     let out = subst (λ (x : ℕ). Between (kept_blocks places (live_blocks ws sma.from)) x c.loop-i.end) (sym (ap (λ (x : ℕ). at + x) size)) n.between in
     let gap = laid_after inv.laid first (g.S.WordsIn.words c.lay.new.seg) c.lay.new.self.sizes c.lay.new.self.head c.lay.new.self.free (omega (arith, n.fits))
-        (λ lt. c.lay.ensures.words lt ∙ ap (λ xs. merged_words xs first c.loop-i.end c.loop-i.self.head) words) c.lay.ensures.sizes c.lay.ensures.head
-        (λ ge. let r = c.lay.ensures.none ge in (r.0 ∙ words, ap (λ (s : Sma). s.sizes) r.1, ap (λ (s : Sma). s.head) r.1, ap (λ (s : Sma). s.free) r.1))
-        even inv.even out (in_order ready) in
+    (λ lt. c.lay.ensures.words lt ∙ ap (λ xs. merged_words xs first c.loop-i.end c.loop-i.self.head) words) c.lay.ensures.sizes c.lay.ensures.head
+    (λ ge. let r = c.lay.ensures.none ge in (r.0 ∙ words, ap (λ (s : Sma). s.sizes) r.1, ap (λ (s : Sma). s.head) r.1, ap (λ (s : Sma). s.free) r.1))
+    even inv.even out (in_order ready) in
     record {
       laid = laid_block gap at n.size (ap (λ (x : ℕ). at + x) size) (in_order ready) n.live n.kept n.even_size;
       spread = n.spread;
@@ -189,11 +189,11 @@ returns g c =
     let new = g.S.WordsIn.words c.lay-2.new.seg in
     let s' = c.lay-2.new.self in
     let gap = laid_after inv.laid sma.from new s'.sizes s'.head s'.free inv.low
-        (subst (λ (x : ℕ). x < c.loop-i.end → new ≡ merged_words (g.S.WordsIn.words c.loop-i.seg) x c.loop-i.end c.loop-i.self.head) from c.lay-2.ensures.words)
-        (subst (λ (x : ℕ). x < c.loop-i.end → IsJoined c.loop-i.self.sizes s'.sizes x c.loop-i.end c.loop-i.end) from c.lay-2.ensures.sizes)
-        (subst (λ (x : ℕ). x < c.loop-i.end → (s'.head ≡ x) × (s'.free ≡ c.loop-i.self.free + (c.loop-i.end - x))) from c.lay-2.ensures.head)
-        (λ ge. let r = c.lay-2.ensures.none (omega arith) in (r.0, ap (λ (s : Sma). s.sizes) r.1, ap (λ (s : Sma). s.head) r.1, ap (λ (s : Sma). s.free) r.1))
-        ready.formatted.even inv.even out (in_order ready) in
+    (subst (λ (x : ℕ). x < c.loop-i.end → new ≡ merged_words (g.S.WordsIn.words c.loop-i.seg) x c.loop-i.end c.loop-i.self.head) from c.lay-2.ensures.words)
+    (subst (λ (x : ℕ). x < c.loop-i.end → IsJoined c.loop-i.self.sizes s'.sizes x c.loop-i.end c.loop-i.end) from c.lay-2.ensures.sizes)
+    (subst (λ (x : ℕ). x < c.loop-i.end → (s'.head ≡ x) × (s'.free ≡ c.loop-i.self.free + (c.loop-i.end - x))) from c.lay-2.ensures.head)
+    (λ ge. let r = c.lay-2.ensures.none (omega arith) in (r.0, ap (λ (s : Sma). s.sizes) r.1, ap (λ (s : Sma). s.head) r.1, ap (λ (s : Sma). s.free) r.1))
+    ready.formatted.even inv.even out (in_order ready) in
     let count : length s'.sizes ≡ length sma.sizes = sizes_count c.loop-i.self.sizes s'.sizes c.loop-i.self.from c.loop-i.end c.lay-2.ensures.sizes (λ ge. ap (λ (s : Sma). s.sizes) (c.lay-2.ensures.none ge).1) ∙ (inv.count ∙ c.clear.ensures.count) in
     let done = keeps sma s' ws new aside places ready (c.lay-2.ensures.from ∙ inv.from) (c.lay-2.ensures.to ∙ inv.to) count gap in
     let beside = c.lay-2.ensures.beside.aside ∙ inv.beside.aside in
