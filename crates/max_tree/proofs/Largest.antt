@@ -1,5 +1,5 @@
 -- The largest number of a list.
-use Rattle.std.proofs.Common.{◌≡◌, ℕ, zero, suc, ◌+◌, ◌<◌, ◌≤◌, List, [], ◌∷◌, length, get_or, arith}
+use Rattle.std.proofs.Common.{◌≡◌, ℕ, zero, suc, ◌<◌, ◌≤◌, List, [], ◌∷◌, length, get_or, arith}
 use Rattle.max_tree.specs.Pages.{largest}
 
 pub largest_bound : (xs : List ℕ) (i : ℕ) → get_or xs i 0 ≤ largest xs

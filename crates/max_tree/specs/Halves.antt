@@ -1,5 +1,5 @@
 -- Two even numbers, of which one is 0, as one number: the sum, and 1 more where it is the second.
-use Rattle.std.specs.Prelude.{◌≡◌, ℕ, ◌+◌, ◌-◌, ◌*◌, ◌/◌, ◌%◌, ◌==◌, if◌then◌else◌, List, [], ◌∷◌}
+use Rattle.std.specs.Prelude.{ℕ, ◌+◌, ◌-◌, ◌*◌, ◌%◌, ◌==◌, if◌then◌else◌, List, [], ◌∷◌}
 
 -- the first or the second of the two numbers that this one tells
 abbrev pub half : ℕ → ℕ → ℕ

@@ -1,5 +1,5 @@
 -- The first gap at or past a place, by the index and the chain.
-use Rattle.std.proofs.Common.{◌≡◌, ◌≢◌, ◌⊎◌, inl, inr, ℕ, ◌+◌, ◌*◌, ◌/◌, ◌%◌, ◌<◌, ◌≤◌, Bool, true, false, cond, leb, List, [], ◌∷◌, length, get_or, slice_index, Option, Some, None, MatchBool, MatchOption, find, option_map, refl, sym, ap, ap₂, ◌∙◌, subst, arith}
+use Rattle.std.proofs.Common.{◌≡◌, ◌≢◌, ◌⊎◌, inl, inr, ℕ, ◌+◌, ◌*◌, ◌/◌, ◌%◌, ◌<◌, ◌≤◌, Bool, true, false, cond, leb, List, [], ◌∷◌, length, get_or, slice_index, Option, Some, None, MatchBool, find, option_map, refl, sym, ap, ap₂, ◌∙◌, subst, arith}
 use Rattle.std.specs.Prelude.{nat_le}
 use Rattle.std.proofs.lemmas.Bool.{cases_lt, cases_eq, cases_Bool, le-leb, lt-leb}
 use Rattle.seg_words.specs.declared.extents.Extent.{Extent}
@@ -8,7 +8,7 @@ use Rattle.seg_words.specs.Gaps.{free_runs}
 use Rattle.sma_blocks.specs.declared.sma.Sma.{Sma}
 use Rattle.sma_blocks.specs.Pieces.{Piece, pieces, Fill}
 use Rattle.sma_blocks.specs.Live.{gaps, live_blocks}
-use Rattle.sma_blocks.specs.Index.{here, size_at, IsIndexed}
+use Rattle.sma_blocks.specs.Index.{here, size_at}
 use Rattle.sma_blocks.specs.Chain.{AreLinked}
 use Rattle.sma_blocks.specs.Ready.{IsReady}
 use Rattle.sma_blocks.specs.Walk.{link_before}

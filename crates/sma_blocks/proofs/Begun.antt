@@ -1,9 +1,8 @@
 -- What formatting leaves, with the index, the chain and the count.
-use Rattle.std.proofs.Common.{◌≡◌, ◌≢◌, ℕ, ◌+◌, ◌-◌, ◌*◌, ◌/◌, ◌%◌, ◌<◌, ◌≤◌, false, List, [], ◌∷◌, length, get_or, slice_index, refl, sym, ap, ◌∙◌, subst, arith}
+use Rattle.std.proofs.Common.{◌≡◌, ◌≢◌, ℕ, ◌+◌, ◌-◌, ◌/◌, ◌%◌, ◌≤◌, false, List, [], ◌∷◌, length, get_or, refl, sym, ap, ◌∙◌, subst, arith}
 use Rattle.std.proofs.lemmas.Bool.{false≢true}
 use Rattle.seg_words.specs.Windows.{Aside, is_named}
 use Rattle.seg_words.specs.Blocks.{MayStore}
-use Rattle.sma_blocks.specs.Pieces.{pieces}
 use Rattle.sma_blocks.specs.Live.{gap_words}
 use Rattle.sma_blocks.specs.Chain.{AreLinked}
 use Rattle.sma_blocks.specs.Ready.{IsReady}

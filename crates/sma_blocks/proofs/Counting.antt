@@ -1,5 +1,5 @@
 -- How many words the gaps have, and the largest of them.
-use Rattle.std.proofs.Common.{◌≡◌, ◌≢◌, ◌⊎◌, inl, inr, ℕ, ◌+◌, ◌-◌, ◌/◌, ◌%◌, ◌<◌, ◌≤◌, Bool, true, false, cond, max, sum_by, List, [], ◌∷◌, ◌++◌, length, get_or, refl, sym, ap, ◌∙◌, subst, arith}
+use Rattle.std.proofs.Common.{◌≡◌, ◌≢◌, inl, inr, ℕ, ◌+◌, ◌/◌, ◌%◌, ◌≤◌, Bool, true, false, cond, max, sum_by, List, [], ◌∷◌, ◌++◌, length, get_or, refl, sym, ap, ◌∙◌, arith}
 use Rattle.std.proofs.lemmas.Bool.{cases_lt, cases_eq, cases_Bool}
 use Rattle.std.proofs.lemmas.List.Sums.{sum_by-cons}
 use Rattle.max_tree.specs.Pages.{largest}
@@ -7,13 +7,11 @@ use Rattle.max_tree.proofs.Largest.{largest_bound, largest_least}
 use Rattle.seg_words.specs.declared.extents.Extent.{Extent}
 use Rattle.sma_blocks.specs.Pieces.{Piece, pieces, Fill, gaps_touch}
 use Rattle.sma_blocks.specs.Live.{lives, gaps, gap_words, largest_of}
-use Rattle.sma_blocks.specs.Index.{here, size_at, IsIndexed}
-use Rattle.sma_blocks.proofs.Filling.{Fill-le}
+use Rattle.sma_blocks.specs.Index.{size_at, IsIndexed}
 use Rattle.sma_blocks.proofs.Lives.{extent_of}
 use Rattle.max_tree.specs.Halves.{other_half}
 use Rattle.sma_blocks.proofs.FreeRuns.{gaps_touch-after}
 use Rattle.sma_blocks.proofs.Merging.{merged_live, merged_gap, live_after_gap}
-use Rattle.sma_blocks.proofs.Places.{Fill-even}
 use Rattle.sma_blocks.proofs.Finding.{here_other, here_live, here_gap, size_outside}
 
 -- the words of all gaps are the sum of their sizes

@@ -1,23 +1,19 @@
 -- The index, the chain and the count after a block was taken.
-use Rattle.std.proofs.Common.{◌≡◌, ◌≢◌, ◌⊎◌, inl, inr, ℕ, ◌+◌, ◌-◌, ◌*◌, ◌/◌, ◌%◌, ◌^◌, ◌<◌, ◌≤◌, Bool, true, false, ltb, cond, List, [], ◌∷◌, ◌++◌, length, get_or, slice_index, Option, Some, None, MatchOption, refl, sym, ap, ◌∙◌, subst, arith}
+use Rattle.std.proofs.Common.{◌≡◌, ◌≢◌, ◌⊎◌, inl, inr, ℕ, ◌+◌, ◌-◌, ◌/◌, ◌%◌, ◌<◌, ◌≤◌, Bool, true, false, ltb, cond, List, [], ◌∷◌, ◌++◌, length, get_or, slice_index, Option, refl, sym, ap, ◌∙◌, subst, arith}
 use Rattle.std.proofs.lemmas.Bool.{cases_lt, cases_eq, lt-ltb, le-ltb}
-use Rattle.std.specs.Prelude.{nat_le}
-use Rattle.std.specs.List.{position}
 use Rattle.max_tree.specs.Halves.{other_half}
 use Rattle.seg_words.specs.Windows.{Aside}
-use Rattle.seg_words.specs.Gaps.{fits}
 use Rattle.sma_blocks.specs.Pieces.{Piece, pieces, Fill, gaps_touch}
-use Rattle.sma_blocks.specs.Live.{gap_words, live_blocks}
+use Rattle.sma_blocks.specs.Live.{gap_words}
 use Rattle.sma_blocks.specs.Index.{here, size_at, IsIndexed, IsShort}
 use Rattle.sma_blocks.specs.Chain.{AreLinked}
 use Rattle.sma_blocks.specs.Walk.{cut_words, relinked_words, relinked_head}
-use Rattle.sma_blocks.proofs.Spans.{Span, IsFilled}
+use Rattle.sma_blocks.proofs.Spans.{Span}
 use Rattle.sma_blocks.proofs.Filling.{Fill-le, Fill-same, edge_whole}
-use Rattle.sma_blocks.proofs.Places.{FitParts}
 use Rattle.sma_blocks.proofs.Changes.{change_pieces, change_full}
 use Rattle.sma_blocks.proofs.Taking.{Room, room_fill, take_change, take_merged, left_over, taken, cut_count, cut_same, cut_link}
-use Rattle.sma_blocks.proofs.Finding.{take_found, here_other, here_live, here_gap, size_at-append, size_outside}
-use Rattle.sma_blocks.proofs.Counting.{gap_words-append, gap_words-le, lone_half}
+use Rattle.sma_blocks.proofs.Finding.{here_other, here_live, here_gap, size_at-append, size_outside}
+use Rattle.sma_blocks.proofs.Counting.{gap_words-append, lone_half}
 use Rattle.sma_blocks.proofs.Linking.{link_split, link_join, link_between, link_small}
 use Rattle.sma_blocks.proofs.Relinking.{IsLastTold, IsLastOf, last_of, relinked_at, relinked_chain}
 

@@ -1,26 +1,24 @@
 -- What taking and giving leave, with the index, the chain and the count.
-use Rattle.std.proofs.Common.{◌≡◌, ◌≢◌, ◌⊎◌, inl, inr, ℕ, ◌+◌, ◌-◌, ◌*◌, ◌/◌, ◌%◌, ◌^◌, ◌<◌, ◌≤◌, true, false, List, length, get_or, set, slice_index, slice_set, Option, Some, None, [], ◌∷◌, zero, suc, MatchOption, refl, sym, ap, ◌∙◌, subst, arith}
-use Rattle.std.proofs.lemmas.Bool.{cases_lt, cases_eq}
+use Rattle.std.proofs.Common.{◌≡◌, ◌≢◌, inl, inr, ℕ, ◌+◌, ◌-◌, ◌*◌, ◌/◌, ◌%◌, ◌^◌, ◌<◌, ◌≤◌, false, List, length, get_or, set, slice_index, Option, Some, None, [], ◌∷◌, zero, suc, MatchOption, sym, ap, ◌∙◌, subst, arith}
+use Rattle.std.proofs.lemmas.Bool.{cases_lt}
 use Rattle.std.specs.Prelude.{nat_le}
 use Rattle.std.specs.List.{position}
 use Rattle.max_tree.specs.Halves.{other_half}
-use Rattle.seg_words.specs.declared.extents.Extent.{Extent}
-use Rattle.seg_words.specs.Windows.{Aside, is_named}
-use Rattle.seg_words.specs.Blocks.{IsTold, MayStore}
-use Rattle.seg_words.specs.Gaps.{fits, is_free}
-use Rattle.std.specs.List.{list_all}
+use Rattle.seg_words.specs.Windows.{Aside}
+use Rattle.seg_words.specs.Blocks.{MayStore}
+use Rattle.seg_words.specs.Gaps.{fits}
 use Rattle.sma_blocks.specs.declared.sma.Sma.{Sma}
 use Rattle.sma_blocks.specs.Pieces.{pieces}
-use Rattle.sma_blocks.specs.Live.{lives, gap_words, live_blocks, with_block, without_block, SameBlocks}
-use Rattle.sma_blocks.specs.Index.{size_at, IsIndexed, IsShort, IsJoined}
+use Rattle.sma_blocks.specs.Live.{lives, gap_words, live_blocks, with_block, SameBlocks}
+use Rattle.sma_blocks.specs.Index.{size_at, IsIndexed, IsShort}
 use Rattle.sma_blocks.specs.Chain.{AreLinked}
 use Rattle.sma_blocks.specs.Ready.{IsReady}
-use Rattle.sma_blocks.specs.Walk.{cut_words, merged_words, link_before, relinked_words, relinked_head}
-use Rattle.sma_blocks.proofs.Spans.{Span, IsFilled, span_of, filled_of}
+use Rattle.sma_blocks.specs.Walk.{cut_words, relinked_words, relinked_head}
+use Rattle.sma_blocks.proofs.Spans.{span_of, filled_of}
 use Rattle.sma_blocks.proofs.Places.{FitParts}
-use Rattle.sma_blocks.proofs.Taking.{Room, take_ready, take_more, take_same, cut_count, cut_first, room_apart}
+use Rattle.sma_blocks.proofs.Taking.{Room, take_ready, take_more, take_same, cut_first}
 use Rattle.sma_blocks.proofs.Finding.{take_found}
-use Rattle.sma_blocks.proofs.Relinking.{IsLastTold, Relinked, relinked, relinked_same, relinked_at, link_inside, link_apart, told_apart}
+use Rattle.sma_blocks.proofs.Relinking.{IsLastTold, Relinked, relinked, relinked_same, relinked_at, link_inside, link_apart}
 use Rattle.sma_blocks.proofs.Cutting.{inside, size_even, index_inside, rest_inside, rest_alone, take_indexed, take_counted, next_small, take_linked}
 use Rattle.sma_blocks.proofs.Readying.{ready_by}
 

@@ -1,10 +1,10 @@
 -- What giving leaves, with the index, the chain and the count.
-use Rattle.std.proofs.Common.{◌≡◌, ◌≢◌, ◌⊎◌, inl, inr, ℕ, ◌+◌, ◌-◌, ◌*◌, ◌/◌, ◌%◌, ◌<◌, ◌≤◌, not, eqb, cond, Bool, true, false, List, length, get_or, slice_index, slice_set, Option, Some, None, [], ◌∷◌, MatchOption, refl, sym, ap, ◌∙◌, subst, arith}
+use Rattle.std.proofs.Common.{◌≡◌, ◌≢◌, inl, inr, ℕ, ◌+◌, ◌-◌, ◌*◌, ◌/◌, ◌%◌, ◌<◌, ◌≤◌, not, eqb, cond, Bool, true, false, List, length, get_or, slice_index, slice_set, Option, Some, None, [], ◌∷◌, MatchOption, refl, sym, ap, ◌∙◌, subst, arith}
 use Rattle.std.proofs.lemmas.Bool.{cases_lt, cases_eq, cases_Bool, and_parts, and_from, false≢true}
 use Rattle.std.specs.List.{filter}
 use Rattle.seg_words.specs.declared.extents.Extent.{Extent}
 use Rattle.seg_words.specs.Windows.{Aside}
-use Rattle.seg_words.specs.Blocks.{IsTold, MayStore}
+use Rattle.seg_words.specs.Blocks.{MayStore}
 use Rattle.seg_words.specs.Gaps.{is_free, meets}
 use Rattle.sma_blocks.specs.declared.sma.Sma.{Sma}
 use Rattle.sma_blocks.specs.Pieces.{pieces}
@@ -13,14 +13,14 @@ use Rattle.sma_blocks.specs.Index.{IsIndexed, IsJoined}
 use Rattle.sma_blocks.specs.Chain.{AreLinked}
 use Rattle.sma_blocks.specs.Ready.{IsReady}
 use Rattle.sma_blocks.specs.Walk.{merged_words, link_before, relinked_words, relinked_head}
-use Rattle.sma_blocks.proofs.Spans.{Span, IsFilled, span_of, filled_of}
+use Rattle.sma_blocks.proofs.Spans.{span_of, filled_of}
 use Rattle.sma_blocks.proofs.Giving.{Around, around_order, give_ready, give_less, give_same, give_apart}
 use Rattle.sma_blocks.proofs.Filling.{Fill-le}
 use Rattle.sma_blocks.proofs.Storing.{merged_count}
 use Rattle.sma_blocks.proofs.Taking.{may_store_after}
 use Rattle.sma_blocks.proofs.Finding.{GapAt, gap_told}
-use Rattle.sma_blocks.proofs.Relinking.{IsLastTold, Relinked, relinked, relinked_same, gap_fill, gap_apart}
-use Rattle.sma_blocks.proofs.Joining.{Parts, first_even, end_even, last_even, give_indexed, give_counted, linked_touching, linked_apart, parts, next_after, next_before, next_alone}
+use Rattle.sma_blocks.proofs.Relinking.{IsLastTold, relinked, relinked_same, gap_fill, gap_apart}
+use Rattle.sma_blocks.proofs.Joining.{Parts, first_even, give_indexed, give_counted, linked_touching, linked_apart, parts, next_after, next_before, next_alone}
 use Rattle.sma_blocks.proofs.Readying.{ready_by}
 use Rattle.sma_blocks.proofs.Done.{indexed_along, same_sma}
 

@@ -1,5 +1,5 @@
 -- The index, the chain and the count after a block was given.
-use Rattle.std.proofs.Common.{◌≡◌, ◌≢◌, ◌⊎◌, inl, inr, ℕ, ◌+◌, ◌-◌, ◌*◌, ◌/◌, ◌%◌, ◌<◌, ◌≤◌, Bool, true, false, cond, List, [], ◌∷◌, ◌++◌, length, get_or, slice_index, Option, MatchBool, refl, sym, ap, ◌∙◌, subst, arith}
+use Rattle.std.proofs.Common.{◌≡◌, ◌≢◌, ◌⊎◌, inl, inr, ℕ, ◌+◌, ◌-◌, ◌/◌, ◌%◌, ◌<◌, ◌≤◌, Bool, true, false, cond, List, [], ◌∷◌, ◌++◌, length, get_or, slice_index, Option, MatchBool, refl, sym, ap, ◌∙◌, subst, arith}
 use Rattle.std.proofs.lemmas.Bool.{cases_lt, cases_eq, false≢true}
 use Rattle.max_tree.specs.Halves.{other_half}
 use Rattle.seg_words.specs.Windows.{Aside}
@@ -8,7 +8,7 @@ use Rattle.sma_blocks.specs.Live.{lives, gap_words, live_blocks}
 use Rattle.sma_blocks.specs.Index.{here, size_at, IsIndexed, IsJoined}
 use Rattle.sma_blocks.specs.Chain.{AreLinked}
 use Rattle.sma_blocks.specs.Walk.{ends_in_gap, merged_words, link_before, relinked_words, relinked_head}
-use Rattle.sma_blocks.proofs.Spans.{Span, IsFilled}
+use Rattle.sma_blocks.proofs.Spans.{Span}
 use Rattle.sma_blocks.proofs.Filling.{Fill-le, Fill-same, Fill-append, pieces-filled}
 use Rattle.sma_blocks.proofs.Places.{Fill-even}
 use Rattle.sma_blocks.proofs.Lives.{extent_of}

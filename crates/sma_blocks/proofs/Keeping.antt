@@ -1,29 +1,29 @@
 -- Gaps laid between the blocks that are kept, from the last one on.
-use Rattle.std.proofs.Common.{◌≡◌, ◌≢◌, ◌⊎◌, inl, inr, ℕ, zero, suc, ◌+◌, ◌-◌, ◌*◌, ◌/◌, ◌%◌, ◌^◌, ◌<◌, ◌≤◌, Bool, true, false, eqb, leb, ◌&&◌, ◌||◌, cond, List, [], ◌∷◌, ◌++◌, length, get_or, slice_index, refl, sym, ap, ◌∙◌, subst, arith}
+use Rattle.std.proofs.Common.{◌≡◌, ◌⊎◌, inl, inr, ℕ, zero, suc, ◌+◌, ◌-◌, ◌/◌, ◌%◌, ◌<◌, ◌≤◌, Bool, true, false, eqb, leb, ◌&&◌, ◌||◌, cond, List, [], ◌∷◌, length, get_or, slice_index, refl, sym, ap, ◌∙◌, subst, arith}
 use Rattle.std.specs.List.{Contains, filter}
 use Rattle.std.proofs.lemmas.Bool.{cases_lt, cases_eq, cases_Bool, and_left, and_right, and_from, le-leb, lt-leb, eq-eqb, eqb-true, or_left, or_right, false≢true}
 use Rattle.max_tree.specs.Halves.{other_half}
 use Rattle.seg_words.specs.declared.extents.Extent.{Extent}
 use Rattle.seg_words.specs.Windows.{Aside, has, is_named}
-use Rattle.seg_words.specs.Blocks.{IsTold, MayStore, image_end}
+use Rattle.seg_words.specs.Blocks.{IsTold, MayStore}
 use Rattle.seg_words.specs.Gaps.{is_free, meets}
 use Rattle.sma_blocks.specs.declared.sma.Sma.{Sma}
-use Rattle.sma_blocks.specs.Pieces.{Piece, pieces, Fill, IsPieceAt, gaps_touch}
+use Rattle.sma_blocks.specs.Pieces.{Piece, pieces, Fill, gaps_touch}
 use Rattle.sma_blocks.specs.Live.{lives, gap_words, live_blocks, IsLive, kept_blocks, SameBlocks}
-use Rattle.sma_blocks.specs.Index.{here, size_at, IsIndexed, IsJoined}
+use Rattle.sma_blocks.specs.Index.{size_at, IsIndexed, IsJoined}
 use Rattle.sma_blocks.specs.Chain.{AreLinked}
 use Rattle.sma_blocks.specs.Ready.{NameLive, AreBlocks, IsReady}
 use Rattle.sma_blocks.specs.Order.{lives_stand, ready_blocks}
 use Rattle.sma_blocks.specs.Walk.{merged_words}
-use Rattle.sma_blocks.proofs.Spans.{Span, IsFilled, span_of, filled_of}
-use Rattle.sma_blocks.proofs.Filling.{Fill-le, Fill-same, pieces-end, pieces-filled, edge_start}
+use Rattle.sma_blocks.proofs.Spans.{IsFilled, span_of}
+use Rattle.sma_blocks.proofs.Filling.{Fill-le, pieces-end, pieces-filled, edge_start}
 use Rattle.sma_blocks.proofs.Lives.{extent_of, lives_between, Contains-cases, Contains-first, Contains-later, meets_apart}
 use Rattle.sma_blocks.proofs.Merging.{merged_after, live_after_gap}
 use Rattle.sma_blocks.proofs.Naming.{Between, names_same, may_store, told_at_edge, ready_from}
 use Rattle.sma_blocks.proofs.Stored.{lives_apart}
 use Rattle.sma_blocks.proofs.Storing.{merged_count, merged_first, merged_link, merged_other}
 use Rattle.sma_blocks.proofs.Changes.{Change, change_full, change_pieces}
-use Rattle.sma_blocks.proofs.Finding.{here_other, here_live, here_gap, size_outside, size_odd}
+use Rattle.sma_blocks.proofs.Finding.{here_other, here_live, here_gap, size_outside}
 use Rattle.sma_blocks.proofs.Counting.{gap_words-le}
 use Rattle.sma_blocks.proofs.Linking.{link_between}
 use Rattle.sma_blocks.proofs.Before.{edge_of_live}

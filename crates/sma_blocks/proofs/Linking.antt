@@ -1,14 +1,14 @@
 -- The chain of gaps, by the pieces.
-use Rattle.std.proofs.Common.{◌≡◌, ◌≢◌, ◌⊎◌, inl, inr, ℕ, ◌+◌, ◌<◌, ◌≤◌, Bool, true, false, cond, List, [], ◌∷◌, ◌++◌, length, slice_index, MatchBool, refl, sym, ap, ◌∙◌, subst, arith}
+use Rattle.std.proofs.Common.{◌≡◌, ◌≢◌, ◌⊎◌, inl, inr, ℕ, ◌+◌, ◌<◌, ◌≤◌, Bool, true, false, cond, List, [], ◌∷◌, ◌++◌, slice_index, MatchBool, refl, sym, ap, ◌∙◌, subst, arith}
 use Rattle.std.specs.List.{Contains}
 use Rattle.std.proofs.lemmas.Bool.{cases_lt, cases_eq, cases_Bool, false≢true}
 use Rattle.seg_words.specs.declared.extents.Extent.{Extent}
-use Rattle.sma_blocks.specs.Pieces.{Piece, word_of, Fill}
+use Rattle.sma_blocks.specs.Pieces.{Piece, Fill}
 use Rattle.sma_blocks.specs.Live.{lives, gaps}
 use Rattle.sma_blocks.specs.Index.{here, size_at}
 use Rattle.sma_blocks.specs.Chain.{IsChain, AreLinked}
 use Rattle.sma_blocks.proofs.Filling.{Fill-le}
-use Rattle.sma_blocks.proofs.Lives.{extent_of, lives_between, Contains-cases, Contains-later}
+use Rattle.sma_blocks.proofs.Lives.{extent_of, lives_between, Contains-cases}
 use Rattle.sma_blocks.proofs.Finding.{here_other, here_live, here_gap, size_outside}
 
 -- a chain over two parts

@@ -5,11 +5,11 @@ use Rattle.seg_words.specs.Windows.{Aside}
 use Rattle.seg_words.specs.Gaps.{free_runs}
 use Rattle.sma_blocks.specs.declared.sma.Sma.{Sma}
 use Rattle.sma_blocks.specs.Pieces.{pieces}
-use Rattle.sma_blocks.specs.Live.{gaps, gap_words, live_blocks}
+use Rattle.sma_blocks.specs.Live.{gap_words, live_blocks}
 use Rattle.sma_blocks.specs.Index.{IsIndexed}
 use Rattle.sma_blocks.specs.Chain.{IsChain, AreLinked}
 use Rattle.sma_blocks.specs.Ready.{IsReady}
-use Rattle.sma_blocks.proofs.Spans.{Span, IsFilled, span_of, filled_of}
+use Rattle.sma_blocks.proofs.Spans.{IsFilled, span_of, filled_of}
 use Rattle.sma_blocks.proofs.Linking.{chain_of}
 use Rattle.sma_blocks.proofs.Telling.{free_runs_of}
 

@@ -1,5 +1,5 @@
 -- The link of the last gap before a place is set.
-use Rattle.std.proofs.Common.{◌≡◌, ◌≢◌, ◌⊎◌, inl, inr, ℕ, ◌+◌, ◌*◌, ◌/◌, ◌%◌, ◌<◌, ◌≤◌, Bool, true, false, List, [], ◌∷◌, ◌++◌, length, get_or, slice_index, slice_set, Option, Some, None, MatchOption, refl, sym, ap, ◌∙◌, subst, arith}
+use Rattle.std.proofs.Common.{◌≡◌, ◌≢◌, inl, inr, ℕ, ◌+◌, ◌*◌, ◌/◌, ◌%◌, ◌<◌, ◌≤◌, true, false, List, [], ◌∷◌, ◌++◌, length, get_or, slice_index, slice_set, Option, Some, None, MatchOption, refl, sym, ap, ◌∙◌, subst, arith}
 use Rattle.std.proofs.lemmas.Bool.{cases_lt, cases_eq, and_from, false≢true}
 use Rattle.std.proofs.lemmas.List.{get_or-set_same, get_or-set_other, length-set}
 use Rattle.seg_words.specs.declared.extents.Extent.{Extent}
@@ -9,9 +9,9 @@ use Rattle.seg_words.specs.Gaps.{is_free}
 use Rattle.sma_blocks.specs.Pieces.{Piece, pieces, Fill, gaps_touch, IsFormatted}
 use Rattle.sma_blocks.specs.Live.{lives, live_blocks, SameBlocks}
 use Rattle.sma_blocks.specs.Ready.{NameLive}
-use Rattle.sma_blocks.specs.Index.{here, size_at, IsIndexed}
+use Rattle.sma_blocks.specs.Index.{size_at, IsIndexed}
 use Rattle.sma_blocks.specs.Chain.{AreLinked}
-use Rattle.sma_blocks.specs.Walk.{IsEdge, link_before, relinked_words, relinked_head}
+use Rattle.sma_blocks.specs.Walk.{link_before, relinked_words, relinked_head}
 use Rattle.sma_blocks.proofs.Spans.{Span, IsFilled}
 use Rattle.sma_blocks.proofs.Filling.{Fill-le, edge_whole}
 use Rattle.sma_blocks.proofs.Lives.{free_outside, is_free-append}

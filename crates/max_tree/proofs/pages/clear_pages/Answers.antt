@@ -1,4 +1,4 @@
-use Rattle.std.proofs.Common.{◌≡◌, ◌+◌, ◌*◌, ◌<◌, ◌≤◌, ℕ, List, length, get_or, sym, subst, arith, inl, inr}
+use Rattle.std.proofs.Common.{◌+◌, ◌*◌, ℕ, List, sym, subst, arith, inl, inr}
 use Rattle.std.proofs.lemmas.Bool.{cases_lt}
 use Rattle.std.proofs.lemmas.List.{get_or_past}
 use Rattle.max_tree.specs.declared.row.TheConstants.{PAGE}

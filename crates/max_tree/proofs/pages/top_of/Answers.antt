@@ -1,4 +1,4 @@
-use Rattle.std.proofs.Common.{◌*◌, ap, ◌∙◌, arith}
+use Rattle.std.proofs.Common.{◌*◌, ap, ◌∙◌}
 use Rattle.max_tree.specs.Pages.{largest}
 use Rattle.max_tree.specs.declared.row.TheConstants.{PAGE}
 use Rattle.max_tree.proofs.Paging.{page_range}

@@ -1,4 +1,4 @@
-use Rattle.std.proofs.Common.{◌≡◌, ◌≢◌, ℕ, ◌+◌, ◌*◌, ◌/◌, ◌%◌, ◌<◌, List, length, get_or, set, Option, Some, None, ap, ap₂, sym, ◌∙◌, subst, refl, arith}
+use Rattle.std.proofs.Common.{length, ap, arith}
 use Rattle.max_tree.proofs.Halving.{pair_inside, cleared_seen}
 use Rattle.max_tree.proofs.pairs.PairRow.clear_at.Goals as goal
 

@@ -1,5 +1,4 @@
-use Rattle.std.proofs.Common.{◌≡◌, ◌≢◌, ℕ, ◌+◌, ◌*◌, ◌/◌, ◌%◌, ◌<◌, List, length, get_or, set, Option, Some, None, ap, ap₂, sym, ◌∙◌, subst, refl, arith}
-use Rattle.max_tree.specs.Halves.{half}
+use Rattle.std.proofs.Common.{◌≡◌, ◌≢◌, ℕ, ◌/◌, ◌%◌, List, length, get_or, ap, sym, ◌∙◌, arith}
 use Rattle.max_tree.proofs.Halving.{pair_inside, halves_at, half_is, half_not}
 use Rattle.max_tree.proofs.pairs.PairRow.get.Goals as goal
 

@@ -1,4 +1,4 @@
-use Rattle.std.proofs.Common.{◌≡◌, ◌≢◌, ℕ, ◌+◌, ◌*◌, ◌/◌, ◌%◌, ◌<◌, List, length, get_or, set, Option, Some, None, ap, ap₂, sym, ◌∙◌, subst, refl, arith}
+use Rattle.std.proofs.Common.{ap, arith}
 use Rattle.max_tree.specs.Pages.{largest}
 use Rattle.max_tree.proofs.Halving.{largest_halves}
 use Rattle.max_tree.proofs.pairs.PairRow.largest.Goals as goal

@@ -1,4 +1,4 @@
-use Rattle.std.proofs.Common.{◌≡◌, ℕ, List, length, ap, inl, inr, arith}
+use Rattle.std.proofs.Common.{length, ap, inl, inr, arith}
 use Rattle.max_tree.proofs.Halving.{pair_inside, none_own, last_own_seen, last_none_seen, last_half_seen}
 use Rattle.max_tree.proofs.pairs.PairRow.last_nonzero_before.Goals as goal
 use Rattle.max_tree.proofs.pairs.PairRow.last_nonzero_before.Goals.{else-p-eq1-via-then-p-eq1+then-own-gt0+else-own-eq0, else-p-eq1-via-then-p-eq1+else-own-gt0, else-p-eq1-via-else-p-eq1}

@@ -1,5 +1,4 @@
-use Rattle.std.proofs.Common.{◌≡◌, ◌≢◌, ℕ, ◌+◌, ◌*◌, ◌/◌, ◌%◌, ◌<◌, List, length, get_or, set, Option, Some, None, ap, ap₂, sym, ◌∙◌, subst, refl, arith}
-use Rattle.std.proofs.lemmas.Bool.{cases_eq}
+use Rattle.std.proofs.Common.{◌+◌, ◌/◌, ◌%◌, length, ap, arith}
 use Rattle.std.proofs.lemmas.List.{length-set}
 use Rattle.max_tree.proofs.Halving.{pair_inside, moved_in_seen, moved_to_seen}
 use Rattle.max_tree.proofs.pairs.PairRow.move_to.Goals as goal

@@ -1,5 +1,3 @@
-use Rattle.std.proofs.Common.{◌≡◌, ◌≢◌, ℕ, ◌+◌, ◌*◌, ◌/◌, ◌%◌, ◌<◌, List, length, get_or, set, Option, Some, ap, sym, ◌∙◌, subst, refl, arith}
-use Rattle.max_tree.specs.Halves.{halves_of}
 use Rattle.max_tree.proofs.Halving.{halves_length, zero_halves}
 use Rattle.max_tree.proofs.pairs.PairRow.new.Goals as goal
 

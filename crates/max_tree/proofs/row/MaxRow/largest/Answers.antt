@@ -1,4 +1,4 @@
-use Rattle.std.proofs.Common.{◌∙◌, ap, sym}
+use Rattle.std.proofs.Common.{◌∙◌, ap}
 use Rattle.max_tree.specs.Pages.{largest}
 use Rattle.max_tree.proofs.Paging.{largest_top}
 use Rattle.max_tree.proofs.row.MaxRow.largest.Goals as goal

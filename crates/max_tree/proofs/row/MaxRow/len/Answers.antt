@@ -1,4 +1,4 @@
-use Rattle.std.proofs.Common.{length, ap, ◌∙◌, arith}
+use Rattle.std.proofs.Common.{length, ap, arith}
 use Rattle.max_tree.proofs.row.MaxRow.len.Goals as goal
 
 pub returns-clause-short : goal.returns-clause-short

@@ -9,7 +9,7 @@ use Rattle.sma_blocks.specs.Walk.{merged_words}
 use Rattle.sma_blocks.proofs.Places.{Fill-even}
 use Rattle.sma_blocks.proofs.Done.{may_store_seen}
 use Rattle.sma_blocks.proofs.Readying.{ready_chain}
-use Rattle.sma_blocks.proofs.Keeping.{Laid, Spread, laid_start, spread_start, laid_block, laid_after, lay_alone, lay_count, lay_apart, next_block, last_between, keeps, sizes_count, told_live, in_order}
+use Rattle.sma_blocks.proofs.Keeping.{Spread, laid_start, spread_start, laid_block, laid_after, lay_alone, lay_count, lay_apart, next_block, last_between, keeps, sizes_count, told_live, in_order}
 use Rattle.sma_blocks.specs.Pieces.{pieces}
 use Rattle.sma_blocks.specs.Live.{kept_blocks}
 use Rattle.sma_blocks.proofs.Naming.{Between}
