@@ -87,7 +87,7 @@ opened_stands e ws old new s at there more h =
       to = h.to;
     }
 
-listed_probed : (e : EntrySlots) (ws : List ℕ) (aside : Aside) (s : Entries) (at : ℕ) → Stands e ws aside s → has_place at (listed s) ≡ true → (windows : List ℕ) → MayProbe ws windows at
+pub listed_probed : (e : EntrySlots) (ws : List ℕ) (aside : Aside) (s : Entries) (at : ℕ) → Stands e ws aside s → has_place at (listed s) ≡ true → (windows : List ℕ) → MayProbe ws windows at
 listed_probed e ws aside s at h there windows =
     let own = listed_at s at h there in
     let w = room own.3 in

@@ -2,6 +2,7 @@
 
 ghost use Rattle.std.specs.Prelude.{◌≡◌, ◌≢◌, ℕ, ◌<◌, ◌≤◌, ◌+◌, true, false, List, [], ◌∷◌, ◌++◌, length, Contains, Some};
 ghost use Rattle.seg_words.specs.declared.extents.Extent.{Extent};
+ghost use Rattle.seg_words.specs.Blocks.{MayProbe};
 ghost use Rattle.seg_words.specs.Windows.{Aside};
 ghost use Rattle.apcu_model.specs.Cache.{Row};
 ghost use Rattle.entry_slots.specs.declared.slots.EntrySlots.{EntrySlots};
@@ -21,11 +22,14 @@ pub fn window_laws()
         → Stands e words old s → Stands e words new s }
 {}
 
-/// No place begins two blocks, and none of a row or a removed row is 0; each of these may be probed, and may be
-/// copied from. All blocks lie apart inside the words. So a walk along a chain meets each place once.
+/// No place begins two blocks, and none of a row or a removed row is 0; each of these may be probed,
+/// whatever the windows, and may be copied from. All blocks lie apart inside the words. So a walk along a chain meets each place once.
 pub fn standing_laws()
     ensures sound { (e : EntrySlots) (words : List ℕ) (aside : Aside) (s : Entries)
         → Stands e words aside s → IsSound s words aside.windows }
+    ensures probed { (e : EntrySlots) (words : List ℕ) (aside : Aside) (s : Entries) (at : ℕ)
+        → Stands e words aside s → has_place at (listed s) ≡ true
+        → (windows : List ℕ) → MayProbe words windows at }
     ensures copied { (e : EntrySlots) (words : List ℕ) (aside : Aside) (s : Entries) (at : ℕ)
         → Stands e words aside s → has_place at (listed s) ≡ true
         → IsCopyable words aside.windows at }

@@ -1,10 +1,13 @@
-use Rattle.entry_slots.proofs.Opening.{sound, listed_copied, block_inside, blocks_lie_apart}
+use Rattle.entry_slots.proofs.Opening.{sound, listed_probed, listed_copied, block_inside, blocks_lie_apart}
 use Rattle.entry_slots.proofs.Places.{listed_one}
 use Rattle.entry_slots.proofs.Walking.{walked, empty}
 use Rattle.entry_slots.proofs.laws.standing_laws.Goals as goal
 
 pub returns-clause-sound : goal.returns-clause-sound
 returns-clause-sound c = sound
+
+pub returns-clause-probed : goal.returns-clause-probed
+returns-clause-probed c = listed_probed
 
 pub returns-clause-copied : goal.returns-clause-copied
 returns-clause-copied c = listed_copied
