@@ -55,7 +55,7 @@ number_read law z b rest h ends =
     let after : drop (number_len bytes) bytes ≡ b ∷ rest = ap (λ (k : ℕ). drop k bytes) len ∙ drop_at text (b ∷ rest) (length text) refl in
     number_of bytes some ∙ ap (λ (t : List ℕ). found (int_of_text t) (drop (number_len bytes) bytes) bytes) run ∙ ap (λ (o : Option ℤ). found o (drop (number_len bytes) bytes) bytes) (law z h) ∙ ap (λ (t : List ℕ). given (z, t)) after
 
-as_read : {A : Type 0} (law : ReadBack) (choose : ℤ → Option A) (z : ℤ) (x : A) (b : ℕ) (rest : List ℕ) → FitsSigned w64 z → ends_number b ≡ true → choose z ≡ Some x → number_as choose (signed_decimal z ++ b ∷ rest) ≡ Ok (x, b ∷ rest)
+pub as_read : {A : Type 0} (law : ReadBack) (choose : ℤ → Option A) (z : ℤ) (x : A) (b : ℕ) (rest : List ℕ) → FitsSigned w64 z → ends_number b ≡ true → choose z ≡ Some x → number_as choose (signed_decimal z ++ b ∷ rest) ≡ Ok (x, b ∷ rest)
 as_read law choose z x b rest h ends e =
     let bytes = signed_decimal z ++ b ∷ rest in
     ap (λ (r : Result (ℤ × List ℕ) Fault). r >>= λ n. found (choose n.0) n.1 bytes) (number_read law z b rest h ends) ∙ ap (λ (o : Option _). found o (b ∷ rest) bytes) e

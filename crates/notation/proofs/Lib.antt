@@ -9,3 +9,4 @@ pub mod Again
 pub mod Spelled
 pub mod Bounds
 pub mod Graphs
+pub mod Apart

@@ -178,7 +178,7 @@ key_read law d (keys.Str s) rest fits want e =
 
 -- ---- numbers are small
 
-own_from : (level : ℕ) (g : List Kind) (x m e : ℕ) → child_end (suc level) g (Own x) m ≡ Some e → x ≡ m
+pub own_from : (level : ℕ) (g : List Kind) (x m e : ℕ) → child_end (suc level) g (Own x) m ≡ Some e → x ≡ m
 unfolding child_end
 own_from level g x m e h = eqb-true x m (if_some (eqb x m) (option_and_then (λ kind. ends_after (child_end level g) (children_of kind) (m + 1)) (kind_at g m)) e h).0
 
@@ -191,19 +191,19 @@ cond_some true true m e h = (refl, some_same m e h)
 cond_some true false m e h = absurd cc
 cond_some false c m e h = absurd cc
 
-shared_at : (level : ℕ) (g : List Kind) (x m e : ℕ) → child_end (suc level) g (Back x) m ≡ Some e → IsShared x m e
+pub shared_at : (level : ℕ) (g : List Kind) (x m e : ℕ) → child_end (suc level) g (Back x) m ≡ Some e → IsShared x m e
 unfolding child_end
 shared_at level g x m e h =
     let b = cond_some (leb 1 x) (ltb x m) m e h in
     record { below = ltb-true x m b.0; same = b.1 }
 
-ends_up : (end : Child → ℕ → Option ℕ) → ((c : Child) (m e : ℕ) → end c m ≡ Some e → m ≤ e) → (cs : List Child) (m e : ℕ) → ends_after end cs m ≡ Some e → m ≤ e
+pub ends_up : (end : Child → ℕ → Option ℕ) → ((c : Child) (m e : ℕ) → end c m ≡ Some e → m ≤ e) → (cs : List Child) (m e : ℕ) → ends_after end cs m ≡ Some e → m ≤ e
 ends_up end up [] m e h = omega (arith, some_same m e h)
 ends_up end up (c ∷ cs) m e h =
     let b = then_some (ends_after end cs) (end c m) e h in
     omega (arith, up c m b.0 b.1, ends_up end up cs b.0 e b.2)
 
-child_up : (level : ℕ) (g : List Kind) (c : Child) (m e : ℕ) → child_end level g c m ≡ Some e → m ≤ e
+pub child_up : (level : ℕ) (g : List Kind) (c : Child) (m e : ℕ) → child_end level g c m ≡ Some e → m ≤ e
 child_up zero g c m e h = absurd (no_level g c m e h)
 child_up (suc level) g (Back x) m e h = let s = shared_at level g x m e h in omega (arith, s.same)
 child_up (suc level) g (Own x) m e h =
@@ -234,11 +234,11 @@ backs_few g (suc k) kind e =
     let at : get_or g k kind ≡ kind = some_same (get_or g k kind) kind (sym (slice_get-get_or g k kind lt) ∙ e) in
     subst (λ (y : Kind). count_by is_back (children_of y) ≤ sum_by (λ k. count_by is_back (children_of k)) g) at (get_or-le-sum_by (λ k. count_by is_back (children_of k)) g k kind lt)
 
-few_members : (level : ℕ) (g : List Kind) (x : ℕ) (kind : Kind) (m e : ℕ) → IsGraph g → kind_at g x ≡ Some kind → ends_after (child_end level g) (children_of kind) m ≡ Some e → e ≤ length g + 1 → length (children_of kind) < 2 ^ 32
+pub few_members : (level : ℕ) (g : List Kind) (x : ℕ) (kind : Kind) (m e : ℕ) → IsGraph g → kind_at g x ≡ Some kind → ends_after (child_end level g) (children_of kind) m ≡ Some e → e ≤ length g + 1 → length (children_of kind) < 2 ^ 32
 few_members level g x kind m e graph there ends small =
     omega (arith, children_few level g (children_of kind) m e ends, backs_few g x kind there, graph.count)
 
-all_at : (g : List Kind) (x : ℕ) (kind : Kind) → AllByRecursion FitsKind g → kind_at g x ≡ Some kind → FitsKind kind
+pub all_at : (g : List Kind) (x : ℕ) (kind : Kind) → AllByRecursion FitsKind g → kind_at g x ≡ Some kind → FitsKind kind
 all_at [] zero kind all e = absurd cc
 all_at [] (suc k) kind all e = absurd cc
 all_at (y ∷ g) zero kind all e = absurd cc
@@ -302,7 +302,7 @@ plain_again value d item text rest more f h begun =
     let t = taken d item more f h in
     record { draft = pushed d item; read = ap (λ (a : Read). a >>= rest_of_value value) (begun t.sound); goes = t.goes }
 
-names_fit : (ps : List (List ℕ × Child)) → AllByRecursion (λ p. AreBytes p.0) ps → AllByRecursion (λ x. FitsKey x.0) (map named ps)
+pub names_fit : (ps : List (List ℕ × Child)) → AllByRecursion (λ p. AreBytes p.0) ps → AllByRecursion (λ x. FitsKey x.0) (map named ps)
 names_fit [] h = tt
 names_fit (p ∷ ps) h = (h.0, names_fit ps h.1)
 
@@ -310,10 +310,10 @@ map_len : (ms : List (Key × Child)) → length (map (λ m. m.1) ms) ≡ length 
 map_len [] = refl
 map_len (m ∷ ms) = ap suc (map_len ms)
 
-held_len : (kind : Kind) → length (children_of kind) ≡ length (members_of kind)
+pub held_len : (kind : Kind) → length (children_of kind) ≡ length (members_of kind)
 held_len kind = ap length (held_by kind) ∙ map_len (members_of kind)
 
-within_at : (g : List Kind) (x : ℕ) (kind : Kind) → kind_at g x ≡ Some kind → x ≤ length g
+pub within_at : (g : List Kind) (x : ℕ) (kind : Kind) → kind_at g x ≡ Some kind → x ≤ length g
 within_at g zero kind e = absurd cc
 within_at g (suc k) kind e = let lt : k < length g = slice_get_within g k kind e in omega arith
 

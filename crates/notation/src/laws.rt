@@ -1,10 +1,10 @@
 //! Laws of texts of values.
 
-ghost use Rattle.std.specs.Prelude.{◌≡◌, ◌++◌, ◌<◌, ◌≤◌, ℕ, List, length, Ok, MatchResult};
+ghost use Rattle.std.specs.Prelude.{◌≡◌, ◌++◌, ◌<◌, ◌≤◌, ◌^◌, ℕ, List, length, Ok, MatchResult};
 ghost use Rattle.std.specs.List.{AllByRecursion};
 ghost use Rattle.php_graph.specs.declared.kind.Kind.{Kind};
 ghost use Rattle.php_graph.specs.Graph.{IsGraph};
-ghost use Rattle.notation.specs.Notation.{text_of};
+ghost use Rattle.notation.specs.Notation.{text_of, text_from};
 ghost use Rattle.notation.specs.Reading.{reading_of};
 
 use php_graph::{graphs_are_written, integer_texts, written_graphs};
@@ -31,12 +31,11 @@ pub fn readings_stay_inside()
         (λ x. length x.1 ≤ length bytes) (λ fault. fault.left ≤ length bytes) }
 {}
 
-/// No text of a value is the front of another: two texts that go on to the same bytes are of one
-/// value, and the same bytes follow them.
+/// No text of a value is the front of another, whatever is added to the numbers of places: two
+/// texts that go on to the same bytes are of one value, and the same bytes follow them.
 pub fn texts_tell_values_apart()
-    ensures { (g h : List Kind) (x y : List ℕ) → IsGraph g → IsGraph h → text_of g ++ x ≡ text_of h
-        ++ y → (g ≡ h) × (x ≡ y) }
+    ensures { (base : ℕ) (g h : List Kind) (x y : List ℕ) → base < 2 ^ 56 → IsGraph g → IsGraph h
+        → text_from base g ++ x ≡ text_from base h ++ y → (g ≡ h) × (x ≡ y) }
 {
     integer_texts();
-    graphs_are_written();
 }

@@ -18,6 +18,3 @@ pub use laws::{readings_are_spellings, readings_stay_inside, texts_tell_values_a
 pub use pieces::write_key;
 pub use reading::read_value;
 pub use writing::write_value;
-
-#[cfg(test)]
-mod tests;

@@ -1,5 +1,5 @@
-use Rattle.notation.proofs.Spelled.{no_front}
+use Rattle.notation.proofs.Apart.{texts_apart}
 use Rattle.notation.proofs.laws.texts_tell_values_apart.Goals as goal
 
 pub returns : goal.returns
-returns c = λ g h x y one other. no_front c.integer_texts.ensures.read g h x y one (c.graphs_are_written.ensures g one) other (c.graphs_are_written.ensures h other)
+returns c = λ base g h x y low one other text. texts_apart c.integer_texts.ensures.read base g h x y low one other text

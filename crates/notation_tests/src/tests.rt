@@ -1,4 +1,6 @@
-use super::*;
+//! Texts of values, read and written.
+
+use notation::{ByteOut, Cursor, ReadFault, Reason, read_value, write_key, write_value};
 use php_graph::{Graph, Kind};
 use std::alloc::Global;
 use std::process::Abort;

@@ -1,0 +1,5 @@
+//! Tests of notation.
+#![tactic(auto)]
+
+#[cfg(test)]
+mod tests;
