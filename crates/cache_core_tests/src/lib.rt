@@ -1,0 +1,7 @@
+//! Tests of the cache over words: the worked cases, and the plain cache as judge.
+#![tactic(auto)]
+
+#[cfg(test)]
+mod play;
+#[cfg(test)]
+mod tests;
