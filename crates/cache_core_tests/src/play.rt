@@ -163,7 +163,11 @@ pub(crate) fn shape(words: u32, ttl: u32) -> Conf
     ensures good { IsGood result }
     ensures words { result.words ≡ words }
 {
-    Conf { words, slots: 32, ttl }
+    Conf {
+        words,
+        slots: 32,
+        ttl,
+    }
 }
 
 // A call, and what both caches answer.
@@ -190,7 +194,14 @@ fn fill(
 {
     for name in 1..31u8 {
         let ttl = if name == 1 { first } else { 0 };
-        let stored = both(rt, alloc, core, seg, plain, (t, name, Act::Store(Value::Int(1), ttl, false)))?;
+        let stored = both(
+            rt,
+            alloc,
+            core,
+            seg,
+            plain,
+            (t, name, Act::Store(Value::Int(1), ttl, false)),
+        )?;
         assert_eq!(rt; stored, Answer::Flag(true));
     }
     Ok(())
@@ -215,7 +226,13 @@ fn one(
         }
         Call::Fill(ttl) => fill(rt, alloc, core, seg, plain, ttl, t)?,
         Call::Counts(hits, misses, inserts, expunges, entries) => {
-            let counts = Counts { hits, misses, inserts, expunges, entries };
+            let counts = Counts {
+                hits,
+                misses,
+                inserts,
+                expunges,
+                entries,
+            };
             assert_eq!(rt; core.counts(), counts);
         }
     }
@@ -242,7 +259,9 @@ pub(crate) fn play(
 
 // Numbers that look like any others.
 fn next(state: u64) -> u64 {
-    state.wrapping_mul(6_364_136_223_846_793_005).wrapping_add(1_442_695_040_888_963_407)
+    state
+        .wrapping_mul(6_364_136_223_846_793_005)
+        .wrapping_add(1_442_695_040_888_963_407)
 }
 
 fn act_of(draw: u64) -> Act {
@@ -258,7 +277,11 @@ fn act_of(draw: u64) -> Act {
         7..=10 => Act::Fetch,
         11 | 12 => Act::Exists,
         13 | 14 => Act::Delete,
-        _ => if (draw >> 24) % 8 == 0 { Act::Clear } else { Act::Fetch },
+        _ => if (draw >> 24) % 8 == 0 {
+            Act::Clear
+        } else {
+            Act::Fetch
+        },
     }
 }
 

@@ -2,6 +2,7 @@ use crate::play::{Act, Answer, Call, Value, many, play};
 use std::test::Fail;
 
 const YES: Answer = Answer::Flag(true);
+
 const NO: Answer = Answer::Flag(false);
 
 // The store of a value without a ttl.

@@ -76,16 +76,21 @@ impl Sma {
     pub fn take<S: Segment>(&mut self, seg: &mut S, n: u32) -> Option<u32>
         requires size { (n % 2 ≡ 0) × (2 ≤ n) }
         requires ready { IsReady self.old (S.words seg.old) (S.aside seg.old) }
-        ensures place { result ≡ first_fit self.old.from self.old.to n (live_blocks (S.words seg.old) self.old.from) }
-        ensures taken { IfSome result (λ at. live_blocks (S.words seg.new) self.old.from ≡ with_block (record { place = at; size = n }) (live_blocks (S.words seg.old) self.old.from)) }
+        ensures place { result ≡ first_fit self.old.from self.old.to n (live_blocks
+            (S.words seg.old) self.old.from) }
+        ensures taken { IfSome result (λ at. live_blocks (S.words seg.new) self.old.from
+            ≡ with_block (record { place = at; size = n }) (live_blocks
+            (S.words seg.old) self.old.from)) }
         ensures word { IfSome result (λ at. slice_index (S.words seg.new) at ≡ n) }
-        ensures others { SameBlocks (S.words seg.old) (S.words seg.new) self.old.from (live_blocks (S.words seg.old) self.old.from) }
+        ensures others { SameBlocks (S.words seg.old) (S.words seg.new) self.old.from (live_blocks
+            (S.words seg.old) self.old.from) }
         ensures none { IfNone result (S.words seg.new ≡ S.words seg.old) }
         ensures same { IfNone result (self.new ≡ self.old) }
         ensures from { self.new.from ≡ self.old.from }
         ensures to { self.new.to ≡ self.old.to }
         ensures ready { IsReady self.new (S.words seg.new) (S.aside seg.new) }
-        ensures chain { IsChain (S.words seg.new) self.new.head (free_runs self.new.from self.new.to (live_blocks (S.words seg.new) self.new.from)) }
+        ensures chain { IsChain (S.words seg.new) self.new.head
+            (free_runs self.new.from self.new.to (live_blocks (S.words seg.new) self.new.from)) }
         ensures beside { KeptBeside S.WordsIn seg.old seg.new }
     {
         fit_laws();
@@ -109,12 +114,15 @@ impl Sma {
         requires live { IsLive (live_blocks (S.words seg.old) self.old.from) at }
         requires unnamed { is_named (S.aside seg.old).windows at ≡ false }
         requires ready { IsReady self.old (S.words seg.old) (S.aside seg.old) }
-        ensures given { live_blocks (S.words seg.new) self.old.from ≡ without_block at (live_blocks (S.words seg.old) self.old.from) }
-        ensures others { SameBlocks (S.words seg.old) (S.words seg.new) self.old.from (without_block at (live_blocks (S.words seg.old) self.old.from)) }
+        ensures given { live_blocks (S.words seg.new) self.old.from ≡ without_block at
+            (live_blocks (S.words seg.old) self.old.from) }
+        ensures others { SameBlocks (S.words seg.old) (S.words seg.new) self.old.from
+            (without_block at (live_blocks (S.words seg.old) self.old.from)) }
         ensures from { self.new.from ≡ self.old.from }
         ensures to { self.new.to ≡ self.old.to }
         ensures ready { IsReady self.new (S.words seg.new) (S.aside seg.new) }
-        ensures chain { IsChain (S.words seg.new) self.new.head (free_runs self.new.from self.new.to (live_blocks (S.words seg.new) self.new.from)) }
+        ensures chain { IsChain (S.words seg.new) self.new.head
+            (free_runs self.new.from self.new.to (live_blocks (S.words seg.new) self.new.from)) }
         ensures beside { KeptBeside S.WordsIn seg.old seg.new }
     {
         let before = self.sizes.last_nonzero_before(at as usize / 2);
@@ -132,16 +140,22 @@ impl Sma {
     /// Keeps the blocks at these rising places live, and makes gaps of all other words. Every window
     /// names one of these blocks.
     pub fn keep<S: Segment>(&mut self, seg: &mut S, places: &[u32])
-        requires live { (i : ℕ) → i < length places.now → IsLive (live_blocks (S.words seg.old) self.old.from) (slice_index places.now i) }
-        requires rising { (i : ℕ) → i + 1 < length places.now → slice_index places.now i < slice_index places.now (i + 1) }
-        requires named { (at : ℕ) → is_named (S.aside seg.old).windows at ≡ true → has at places.now ≡ true }
+        requires live { (i : ℕ) → i < length places.now → IsLive (live_blocks
+            (S.words seg.old) self.old.from) (slice_index places.now i) }
+        requires rising { (i : ℕ) → i + 1 < length places.now
+            → slice_index places.now i < slice_index places.now (i + 1) }
+        requires named { (at : ℕ) → is_named (S.aside seg.old).windows at ≡ true
+            → has at places.now ≡ true }
         requires ready { IsReady self.old (S.words seg.old) (S.aside seg.old) }
-        ensures left { live_blocks (S.words seg.new) self.old.from ≡ kept_blocks places.now (live_blocks (S.words seg.old) self.old.from) }
-        ensures others { SameBlocks (S.words seg.old) (S.words seg.new) self.old.from (kept_blocks places.now (live_blocks (S.words seg.old) self.old.from)) }
+        ensures left { live_blocks (S.words seg.new) self.old.from ≡ kept_blocks places.now
+            (live_blocks (S.words seg.old) self.old.from) }
+        ensures others { SameBlocks (S.words seg.old) (S.words seg.new) self.old.from
+            (kept_blocks places.now (live_blocks (S.words seg.old) self.old.from)) }
         ensures from { self.new.from ≡ self.old.from }
         ensures to { self.new.to ≡ self.old.to }
         ensures ready { IsReady self.new (S.words seg.new) (S.aside seg.new) }
-        ensures chain { IsChain (S.words seg.new) self.new.head (free_runs self.new.from self.new.to (live_blocks (S.words seg.new) self.new.from)) }
+        ensures chain { IsChain (S.words seg.new) self.new.head
+            (free_runs self.new.from self.new.to (live_blocks (S.words seg.new) self.new.from)) }
         ensures beside { KeptBeside S.WordsIn seg.old seg.new }
     {
         self.sizes.clear();
@@ -163,7 +177,8 @@ impl Sma {
     /// How many words are free: the words of all gaps.
     pub fn free_words<S: Segment>(&self, seg: &mut S) -> u32
         requires { IsReady self.now (S.words seg.old) (S.aside seg.old) }
-        ensures value { result ≡ sum_by (λ run. run.size) (free_runs self.now.from self.now.to (live_blocks (S.words seg.old) self.now.from)) }
+        ensures value { result ≡ sum_by (λ run. run.size) (free_runs self.now.from self.now.to
+            (live_blocks (S.words seg.old) self.now.from)) }
         ensures kept { Kept S.WordsIn seg.old seg.new }
     {
         self.free
@@ -172,7 +187,8 @@ impl Sma {
     /// The size of the largest gap, in words; 0 where there is none.
     pub fn largest<S: Segment>(&self, seg: &mut S) -> u32
         requires { IsReady self.now (S.words seg.old) (S.aside seg.old) }
-        ensures value { result ≡ largest_of (free_runs self.now.from self.now.to (live_blocks (S.words seg.old) self.now.from)) }
+        ensures value { result ≡ largest_of (free_runs self.now.from self.now.to (live_blocks
+            (S.words seg.old) self.now.from)) }
         ensures kept { Kept S.WordsIn seg.old seg.new }
     {
         self.sizes.largest()
@@ -188,7 +204,9 @@ impl Sma {
     /// The first gap at or past `at`, as its place and its size; `None` exactly where there is none.
     pub fn gap_from<S: Segment>(&self, seg: &mut S, at: u32) -> Option<(u32, u32)>
         requires { IsReady self.now (S.words seg.old) (S.aside seg.old) }
-        ensures value { result ≡ option_map (λ run. (run.place, run.size)) (find (λ run. nat_le at run.place) (free_runs self.now.from self.now.to (live_blocks (S.words seg.old) self.now.from))) }
+        ensures value { result ≡ option_map (λ run. (run.place, run.size)) (find
+            (λ run. nat_le at run.place) (free_runs self.now.from self.now.to (live_blocks
+            (S.words seg.old) self.now.from))) }
         ensures kept { Kept S.WordsIn seg.old seg.new }
     {
         if self.to <= at || self.to - at < 2 {
@@ -208,13 +226,16 @@ impl Sma {
     fn lay<S: Segment>(&mut self, seg: &mut S, first: u32, last: u32)
         requires inside { last ≤ length (S.words seg.old) }
         requires even { (first % 2 ≡ 0) × (last % 2 ≡ 0) }
-        requires apart { (i : ℕ) → first ≤ i → i < last → MayStore (S.words seg.old) (S.aside seg.old).windows i }
+        requires apart { (i : ℕ) → first ≤ i → i < last → MayStore (S.words seg.old)
+            (S.aside seg.old).windows i }
         requires index { first < last → first / 2 < length self.old.sizes }
         requires alone { first < last → slice_index self.old.sizes (other_half (first / 2)) ≡ 0 }
         requires count { self.old.free + (last - first) < 2 ^ 32 }
-        ensures words { first < last → S.words seg.new ≡ merged_words (S.words seg.old) first last self.old.head }
+        ensures words { first < last → S.words seg.new ≡ merged_words
+            (S.words seg.old) first last self.old.head }
         ensures sizes { first < last → IsJoined self.old.sizes self.new.sizes first last last }
-        ensures head { first < last → (self.new.head ≡ first) × (self.new.free ≡ self.old.free + (last - first)) }
+        ensures head { first < last → (self.new.head ≡ first) × (self.new.free ≡ self.old.free +
+            (last - first)) }
         ensures none { last ≤ first → (S.words seg.new ≡ S.words seg.old) × (self.new ≡ self.old) }
         ensures from { self.new.from ≡ self.old.from }
         ensures to { self.new.to ≡ self.old.to }
@@ -233,8 +254,10 @@ impl Sma {
     fn free_before<S: Segment>(&self, seg: &S, before: Option<usize>, at: u32) -> u32
         requires ready { IsReady self.now (S.words seg.now) (S.aside seg.now) }
         requires live { IsLive (live_blocks (S.words seg.now) self.now.from) at }
-        requires found { MatchOption before ((k : ℕ) → k < at / 2 → slice_index self.now.sizes k ≡ 0) (λ q. (q < at / 2) × (slice_index self.now.sizes q ≢ 0)) }
-        requires last { MatchOption before (Unit {0}) (λ q. (k : ℕ) → q < k → k < at / 2 → slice_index self.now.sizes k ≡ 0) }
+        requires found { MatchOption before ((k : ℕ) → k < at / 2 → slice_index self.now.sizes k
+            ≡ 0) (λ q. (q < at / 2) × (slice_index self.now.sizes q ≢ 0)) }
+        requires last { MatchOption before (Unit {0}) (λ q. (k : ℕ) → q < k → k < at / 2
+            → slice_index self.now.sizes k ≡ 0) }
         ensures free { IsFreeBefore (S.words seg.now) self.now.from result at }
         ensures place { MatchOption before (result ≡ at) (λ q. (result ≡ at) ⊎ (result ≡ 2 * q)) }
     {
@@ -271,9 +294,12 @@ impl Sma {
         requires ready { IsReady self.now (S.words seg.old) (S.aside seg.old) }
         requires edge { IsEdge (S.words seg.old) self.now.from at }
         requires inside { at < self.now.to }
-        ensures is { pieces (S.words seg.old) at ≡ record { place = at; size = result.size; live = not result.is_gap } ∷ pieces (S.words seg.old) (at + result.size) }
+        ensures is { pieces (S.words seg.old) at
+            ≡ record { place = at; size = result.size; live = not result.is_gap } ∷ pieces
+            (S.words seg.old) (at + result.size) }
         ensures edge { IsEdge (S.words seg.old) self.now.from (at + result.size) }
-        ensures size { (2 ≤ result.size) × (result.size % 2 ≡ 0) × (at + result.size ≤ self.now.to) }
+        ensures size { (2 ≤ result.size) × (result.size % 2 ≡ 0) ×
+            (at + result.size ≤ self.now.to) }
         ensures kept { Kept S.WordsIn seg.old seg.new }
     {
         let word = seg.load(at);
@@ -290,7 +316,8 @@ fn shorten(sizes: &mut PairRow, index: usize, size: u32, n: u32)
     requires short { index + n / 2 < 2 ^ 32 }
     requires even { (size % 2 ≡ 0) × (n % 2 ≡ 0) × (2 ≤ n) }
     requires some { slice_index sizes.old index ≢ 0 }
-    requires alone { n < size → other_half (index + n / 2) ≢ index → slice_index sizes.old (other_half (index + n / 2)) ≡ 0 }
+    requires alone { n < size → other_half (index + n / 2) ≢ index → slice_index sizes.old
+        (other_half (index + n / 2)) ≡ 0 }
     ensures { IsShort sizes.old sizes.new index size n }
 {
     if n < size {
@@ -307,7 +334,8 @@ fn join(sizes: &mut PairRow, first: u32, end: u32, last: u32)
     requires order { (first + 2 ≤ end) × (end ≤ last) }
     requires even { (first % 2 ≡ 0) × (end % 2 ≡ 0) × (last % 2 ≡ 0) }
     requires some { end < last → slice_index sizes.old (end / 2) ≢ 0 }
-    requires alone { (end < last → other_half (first / 2) ≢ end / 2) → slice_index sizes.old (other_half (first / 2)) ≡ 0 }
+    requires alone { (end < last → other_half (first / 2) ≢ end / 2) → slice_index sizes.old
+        (other_half (first / 2)) ≡ 0 }
     ensures { IsJoined sizes.old sizes.new first end last }
 {
     if end < last {

@@ -23,7 +23,8 @@ pub fn put<S: Segment>(seg: &mut S, i: u32, w: u64)
 pub fn cut<S: Segment>(seg: &mut S, at: u32, size: u32, n: u32)
     requires inside { at + size ≤ length (S.words seg.old) }
     requires size { (2 ≤ n) × (n ≤ size) × (n < size → n + 2 ≤ size) }
-    requires apart { (i : ℕ) → at ≤ i → i < at + size → MayStore (S.words seg.old) (S.aside seg.old).windows i }
+    requires apart { (i : ℕ) → at ≤ i → i < at + size → MayStore (S.words seg.old)
+        (S.aside seg.old).windows i }
     ensures words { S.words seg.new ≡ cut_words (S.words seg.old) at size n }
     ensures beside { KeptBeside S.WordsIn seg.old seg.new }
 {
@@ -38,7 +39,8 @@ pub fn cut<S: Segment>(seg: &mut S, at: u32, size: u32, n: u32)
 // Makes a gap of the words from `first` up to `last`, with the link `next`.
 pub fn merge<S: Segment>(seg: &mut S, first: u32, last: u32, next: u64)
     requires inside { (first + 2 ≤ last) × (last ≤ length (S.words seg.old)) }
-    requires apart { (i : ℕ) → first ≤ i → i < first + 2 → MayStore (S.words seg.old) (S.aside seg.old).windows i }
+    requires apart { (i : ℕ) → first ≤ i → i < first + 2 → MayStore (S.words seg.old)
+        (S.aside seg.old).windows i }
     ensures words { S.words seg.new ≡ merged_words (S.words seg.old) first last next }
     ensures beside { KeptBeside S.WordsIn seg.old seg.new }
 {
@@ -49,7 +51,8 @@ pub fn merge<S: Segment>(seg: &mut S, first: u32, last: u32, next: u64)
 // The link of the gap at the even place of that number, or the head where there is no such gap.
 pub fn link_of<S: Segment>(seg: &mut S, head: u32, before: Option<usize>) -> u64
     requires inside { MatchOption before (Unit {0}) (λ q. 2 * q + 1 < length (S.words seg.old)) }
-    requires told { MatchOption before (Unit {0}) (λ q. IsTold (S.aside seg.old).windows (2 * q + 1)) }
+    requires told { MatchOption before (Unit {0}) (λ q. IsTold (S.aside seg.old).windows
+        (2 * q + 1)) }
     ensures link { result ≡ link_before (S.words seg.old) head before }
     ensures kept { Kept S.WordsIn seg.old seg.new }
 {
@@ -86,12 +89,16 @@ pub fn next_of<S: Segment>(
     end: u32,
     last: u32,
 ) -> u64
-    requires after { end < last → (end + 1 < length (S.words seg.old)) × IsTold (S.aside seg.old).windows (end + 1) }
-    requires touching { first < at → (first + 1 < length (S.words seg.old)) × IsTold (S.aside seg.old).windows (first + 1) }
+    requires after { end < last → (end + 1 < length (S.words seg.old)) × IsTold
+        (S.aside seg.old).windows (end + 1) }
+    requires touching { first < at → (first + 1 < length (S.words seg.old)) × IsTold
+        (S.aside seg.old).windows (first + 1) }
     requires inside { MatchOption before (Unit {0}) (λ q. 2 * q + 1 < length (S.words seg.old)) }
-    requires told { MatchOption before (Unit {0}) (λ q. IsTold (S.aside seg.old).windows (2 * q + 1)) }
+    requires told { MatchOption before (Unit {0}) (λ q. IsTold (S.aside seg.old).windows
+        (2 * q + 1)) }
     ensures after { end < last → result ≡ slice_index (S.words seg.old) (end + 1) }
-    ensures touching { last ≤ end → first < at → result ≡ slice_index (S.words seg.old) (first + 1) }
+    ensures touching { last ≤ end → first < at → result ≡ slice_index (S.words seg.old)
+        (first + 1) }
     ensures alone { last ≤ end → at ≤ first → result ≡ link_before (S.words seg.old) head before }
     ensures kept { Kept S.WordsIn seg.old seg.new }
 {
@@ -108,8 +115,10 @@ pub fn next_of<S: Segment>(
 // head, gets a new link.
 pub fn link_new<S: Segment>(seg: &mut S, head: &mut u32, before: Option<usize>, first: u32, at: u32)
     requires inside { MatchOption before (Unit {0}) (λ q. 2 * q + 1 < length (S.words seg.old)) }
-    requires apart { MatchOption before (Unit {0}) (λ q. MayStore (S.words seg.old) (S.aside seg.old).windows (2 * q + 1)) }
-    ensures alone { first ≡ at → (S.words seg.new ≡ relinked_words (S.words seg.old) before at) × (head.new ≡ relinked_head head.old before at) }
+    requires apart { MatchOption before (Unit {0}) (λ q. MayStore (S.words seg.old)
+        (S.aside seg.old).windows (2 * q + 1)) }
+    ensures alone { first ≡ at → (S.words seg.new ≡ relinked_words (S.words seg.old) before at) ×
+        (head.new ≡ relinked_head head.old before at) }
     ensures touching { first ≢ at → (S.words seg.new ≡ S.words seg.old) × (head.new ≡ head.old) }
     ensures beside { KeptBeside S.WordsIn seg.old seg.new }
 {
@@ -121,7 +130,8 @@ pub fn link_new<S: Segment>(seg: &mut S, head: &mut u32, before: Option<usize>, 
 // Makes `next` the link of the gap at the even place of that number, or the head where there is none.
 pub fn relink<S: Segment>(seg: &mut S, head: &mut u32, before: Option<usize>, next: u64)
     requires inside { MatchOption before (Unit {0}) (λ q. 2 * q + 1 < length (S.words seg.old)) }
-    requires apart { MatchOption before (Unit {0}) (λ q. MayStore (S.words seg.old) (S.aside seg.old).windows (2 * q + 1)) }
+    requires apart { MatchOption before (Unit {0}) (λ q. MayStore (S.words seg.old)
+        (S.aside seg.old).windows (2 * q + 1)) }
     requires small { next < 2 ^ 32 }
     ensures words { S.words seg.new ≡ relinked_words (S.words seg.old) before next }
     ensures head { head.new ≡ relinked_head head.old before next }

@@ -12,7 +12,8 @@ use std::test::Fail;
 // The index of the first block past a place.
 fn index_past(blocks: &[Extent], place: u32) -> usize
     ensures within { result ≤ length blocks.now }
-    ensures there { (size : ℕ) → insert blocks.now result (record { place = place; size = size }) ≡ with_block (record { place = place; size = size }) blocks.now }
+    ensures there { (size : ℕ) → insert blocks.now result (record { place = place; size = size })
+        ≡ with_block (record { place = place; size = size }) blocks.now }
 {
     for (i, block) in blocks.iter().enumerate() {
         if place < block.place {
