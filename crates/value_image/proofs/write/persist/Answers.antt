@@ -22,7 +22,7 @@ unfolding image_of
 all_written row row' at g i le h = h ∙ ap (λ (xs : List Kind). written row at (flat_map (place_words g) xs)) (take_all i g le)
 
 pub put_place-next-requires-clause-places : goal.put_place-next-requires-clause-places
-put_place-next-requires-clause-places g c = names_places _ c.places.ensures.graph _ _ c.kind.ensures
+put_place-next-requires-clause-places g c = names_places _ c.places-i-end.ensures.graph _ _ c.kind.ensures
 
 pub put_place-next-requires-clause-apart : goal.put_place-next-requires-clause-apart
 put_place-next-requires-clause-apart g c =
@@ -44,4 +44,4 @@ returns-clause-words g c =
 pub returns-clause-image : goal.returns-clause-image
 returns-clause-image g c =
     let words = all_written _ _ _ c.args.g.now c.loop-i.i (omega arith) c.loop-i.invariant.words in
-    subst (λ (row : List ℕ). IsImageOf row c.args.at (image_length c.args.g.now) c.args.g.now) (sym words) (image-written _ c.args.at c.args.g.now c.places.ensures.graph c.requires.inside)
+    subst (λ (row : List ℕ). IsImageOf row c.args.at (image_length c.args.g.now) c.args.g.now) (sym words) (image-written _ c.args.at c.args.g.now c.places-i-end.ensures.graph c.requires.inside)
