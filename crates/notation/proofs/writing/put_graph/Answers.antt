@@ -11,7 +11,7 @@ use Rattle.notation.proofs.writing.put_graph.Goals as goal
 
 pub put_child-requires-clause-ends : goal.put_child-requires-clause-ends
 put_child-requires-clause-ends c =
-    subst (λ (frames : List Frame). EndsSomewhere (levels - length frames) c.args.g.now (Own 1)) (sym c.new-frames.ensures.items) (first_ends c.args.g.now c.places.ensures.graph)
+    subst (λ (frames : List Frame). EndsSomewhere (levels - length frames) c.args.g.now (Own 1)) (sym c.new-frames.ensures.items) (first_ends c.args.g.now c.places-places.ensures.graph)
 
 pub returns-in_err-step-clause-err : goal.returns-in_err-step-clause-err
 returns-in_err-step-clause-err c =
