@@ -9,9 +9,9 @@ use Rattle.std.proofs.lemmas.Grind.{flat_map-append}
 use Rattle.apcu_model.specs.declared.conf.Conf.{Conf}
 use Rattle.apcu_model.specs.declared.journal.Mark.{Mark}
 use Rattle.apcu_model.specs.Cache.{Cache, empty_cache}
-use Rattle.apcu_play.specs.declared.script.Step.{Step}
+use Rattle.script_read.specs.declared.script.Step.{Step}
 use Rattle.apcu_play.specs.Alone.{lines_of, own_mark, marks_for, alone_text}
-use Rattle.apcu_play.specs.Grammar.{ends_line}
+use Rattle.script_read.specs.Grammar.{ends_line}
 use Rattle.apcu_play.specs.Output.{mark_line, journal_lines, IsOutput}
 use Rattle.apcu_play.proofs.Alone.{output_alone, output_none}
 

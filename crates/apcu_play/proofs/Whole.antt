@@ -3,13 +3,15 @@ use Rattle.std.proofs.Common.{◌≡◌, ◌≢◌, ◌<◌, ◌≤◌, ℕ, Lis
 use Rattle.std.specs.Prelude.{IfSome}
 use Rattle.io_edges.specs.Faults.{Rose}
 use Rattle.apcu_model.specs.declared.conf.Conf.{Conf}
-use Rattle.apcu_play.specs.declared.script.Step.{Step}
+use Rattle.script_read.specs.declared.script.Step.{Step}
 use Rattle.apcu_play.specs.declared.status.Status.{Status}
-use Rattle.apcu_play.specs.declared.status.Status.TheVariants.{Done, Usage, Script, ReadFault, WriteFault, NoMemory, TooLong}
-use Rattle.apcu_play.specs.Grammar.{AreScripts}
+use Rattle.apcu_play.specs.declared.status.Status.TheVariants.{Done, Usage, Script, ReadFault, WriteFault, NoMemory, TooLong, TooMany}
+use Rattle.script_read.specs.Grammar.{AreScripts}
 use Rattle.std.proofs.lemmas.List.{append-nil}
 use Rattle.std.specs.Io.KnownBytes.{prepend_known, IsAtEnd}
-use Rattle.apcu_play.specs.Run.{longest_input, WasRead, IsAnswer, Replays, ReplaysPart, IsRefused, IsUnlessMemory, Completes}
+use Rattle.script_read.specs.Ties.{ScriptsAreOne}
+use Rattle.apcu_play.specs.Alone.{all_events}
+use Rattle.apcu_play.specs.Run.{longest_input, most_events, WasRead, IsAnswer, Replays, ReplaysPart, IsRefused, IsCrowded, IsUnlessMemory, Completes}
 
 all_read : (left input : List ℕ) (after : Option (List ℕ)) → Some left ≡ prepend_known input after → IsAtEnd after → left ≡ input
 all_read left input None taken end = absurd cc
@@ -24,12 +26,13 @@ was_read left input before after told read = all_read left input after (sym told
 longer_is : (left : List ℕ) (before : Option (List ℕ)) → before ≡ Some left → IfSome before (λ l. longest_input < length l) → longest_input < length left
 longer_is left before told longer = subst (λ (o : Option (List ℕ)). IfSome o (λ l. longest_input < length l)) told longer
 
-module _ (conf : Conf) (words : ℕ) (before after held_before held_after : Option (List ℕ)) (reads_before reads_after writes_before writes_after : ℕ) where
+module _ (one : ScriptsAreOne) (conf : Conf) (words : ℕ) (before after held_before held_after : Option (List ℕ)) (reads_before reads_after writes_before writes_after : ℕ) where
   -- what is known of how a run ended
   pub record Ended (status : Status) : Type 0 where
     pub replayed : status ≡ Done → Replays conf before after held_before held_after
     pub usage : status ≡ Usage → words ≢ 1
     pub script : status ≡ Script → IsRefused before after
+    pub too_many : status ≡ TooMany → IsCrowded conf before after
     pub longer : status ≡ TooLong → IfSome before (λ left. longest_input < length left)
     pub read_fault : status ≡ ReadFault → Rose reads_before reads_after
     pub write_fault : status ≡ WriteFault → Rose writes_before writes_after
@@ -45,35 +48,67 @@ module _ (conf : Conf) (words : ℕ) (before after held_before held_after : Opti
       let same = was_read input refused.at.input before after told refused.at.read in
       (subst (λ (i : List ℕ). length i ≤ longest_input) (sym same) refused.at.read.short, λ scripts are. refused.at.nothing scripts (subst (λ (i : List ℕ). AreScripts i scripts) same are))
 
+  -- what the input spells makes few events where something was answered, and many where it was too much
+  few_is : (input : List ℕ) (scripts : List (List Step)) (printed : List ℕ) → before ≡ Some input → AreScripts input scripts → IsAnswer conf before after printed → all_events conf.slots scripts ≤ most_events
+  few_is input scripts printed told are answer =
+      let same = was_read input answer.input before after told answer.read in
+      let other = one input answer.scripts scripts (subst (λ (i : List ℕ). AreScripts i answer.scripts) (sym same) answer.spelled) are in
+      subst (λ (s : List (List Step)). all_events conf.slots s ≤ most_events) other answer.few
+
+  many_is : (input : List ℕ) (scripts : List (List Step)) → before ≡ Some input → AreScripts input scripts → IsCrowded conf before after → most_events < all_events conf.slots scripts
+  many_is input scripts told are crowded =
+      let same = was_read input crowded.input before after told crowded.read in
+      let other = one input crowded.scripts scripts (subst (λ (i : List ℕ). AreScripts i crowded.scripts) (sym same) crowded.spelled) are in
+      subst (λ (s : List (List Step)). most_events < all_events conf.slots s) other crowded.many
+
+  crowded_is : (input : List ℕ) → before ≡ Some input → IsCrowded conf before after → (length input ≤ longest_input) × ((scripts : List (List Step)) × AreScripts input scripts)
+  crowded_is input told crowded =
+      let same = was_read input crowded.input before after told crowded.read in
+      (subst (λ (i : List ℕ). length i ≤ longest_input) (sym same) crowded.read.short, (crowded.scripts, subst (λ (i : List ℕ). AreScripts i crowded.scripts) (sym same) crowded.spelled))
+
   done_by : (status : Status) → Ended status → (input : List ℕ) (scripts : List (List Step)) → words ≡ 1 → before ≡ Some input → length input ≤ longest_input → AreScripts input scripts
-      → (Rose reads_before reads_after → ⊥) → (Rose writes_before writes_after → ⊥) → IsUnlessMemory Done status
-  done_by Done e input scripts one told short are no_read no_write = inl refl
-  done_by Usage e input scripts one told short are no_read no_write = absurd (e.usage refl one)
-  done_by Script e input scripts one told short are no_read no_write = absurd ((refused_is input told (e.script refl)).1 scripts are)
-  done_by ReadFault e input scripts one told short are no_read no_write = absurd (no_read (e.read_fault refl))
-  done_by WriteFault e input scripts one told short are no_read no_write = absurd (no_write (e.write_fault refl))
-  done_by NoMemory e input scripts one told short are no_read no_write = inr refl
-  done_by TooLong e input scripts one told short are no_read no_write = let more = longer_is input before told (e.longer refl) in absurd (omega arith)
+      → all_events conf.slots scripts ≤ most_events → ¬ Rose reads_before reads_after → ¬ Rose writes_before writes_after → IsUnlessMemory Done status
+  done_by Done e input scripts alone told short are few no_read no_write = inl refl
+  done_by Usage e input scripts alone told short are few no_read no_write = absurd (e.usage refl alone)
+  done_by Script e input scripts alone told short are few no_read no_write = absurd ((refused_is input told (e.script refl)).1 scripts are)
+  done_by ReadFault e input scripts alone told short are few no_read no_write = absurd (no_read (e.read_fault refl))
+  done_by WriteFault e input scripts alone told short are few no_read no_write = absurd (no_write (e.write_fault refl))
+  done_by NoMemory e input scripts alone told short are few no_read no_write = inr refl
+  done_by TooLong e input scripts alone told short are few no_read no_write = let more = longer_is input before told (e.longer refl) in absurd (omega arith)
+  done_by TooMany e input scripts alone told short are few no_read no_write = let many = many_is input scripts told are (e.too_many refl) in absurd (omega arith)
 
-  refused_by : (status : Status) → Ended status → (input : List ℕ) → words ≡ 1 → before ≡ Some input → length input ≤ longest_input → ((scripts : List (List Step)) → AreScripts input scripts → ⊥)
-      → (Rose reads_before reads_after → ⊥) → IsUnlessMemory Script status
-  refused_by Done e input one told short none no_read = let s = spelled_is input (e.replayed refl).printed told (e.replayed refl).answer in absurd (none s.1.0 s.1.1)
-  refused_by Usage e input one told short none no_read = absurd (e.usage refl one)
-  refused_by Script e input one told short none no_read = inl refl
-  refused_by ReadFault e input one told short none no_read = absurd (no_read (e.read_fault refl))
-  refused_by WriteFault e input one told short none no_read = let s = spelled_is input (e.cut refl).printed told (e.cut refl).answer in absurd (none s.1.0 s.1.1)
-  refused_by NoMemory e input one told short none no_read = inr refl
-  refused_by TooLong e input one told short none no_read = let more = longer_is input before told (e.longer refl) in absurd (omega arith)
+  too_many_by : (status : Status) → Ended status → (input : List ℕ) (scripts : List (List Step)) → words ≡ 1 → before ≡ Some input → length input ≤ longest_input → AreScripts input scripts
+      → most_events < all_events conf.slots scripts → ¬ Rose reads_before reads_after → IsUnlessMemory TooMany status
+  too_many_by Done e input scripts alone told short are many no_read = let few = few_is input scripts (e.replayed refl).printed told are (e.replayed refl).answer in absurd (omega arith)
+  too_many_by Usage e input scripts alone told short are many no_read = absurd (e.usage refl alone)
+  too_many_by Script e input scripts alone told short are many no_read = absurd ((refused_is input told (e.script refl)).1 scripts are)
+  too_many_by ReadFault e input scripts alone told short are many no_read = absurd (no_read (e.read_fault refl))
+  too_many_by WriteFault e input scripts alone told short are many no_read = let few = few_is input scripts (e.cut refl).printed told are (e.cut refl).answer in absurd (omega arith)
+  too_many_by NoMemory e input scripts alone told short are many no_read = inr refl
+  too_many_by TooLong e input scripts alone told short are many no_read = let more = longer_is input before told (e.longer refl) in absurd (omega arith)
+  too_many_by TooMany e input scripts alone told short are many no_read = inl refl
 
-  too_long_by : (status : Status) → Ended status → (input : List ℕ) → words ≡ 1 → before ≡ Some input → longest_input < length input → (Rose reads_before reads_after → ⊥) → IsUnlessMemory TooLong status
-  too_long_by Done e input one told long no_read = let s = (spelled_is input (e.replayed refl).printed told (e.replayed refl).answer).0 in absurd (omega arith)
-  too_long_by Usage e input one told long no_read = absurd (e.usage refl one)
-  too_long_by Script e input one told long no_read = let s = (refused_is input told (e.script refl)).0 in absurd (omega arith)
-  too_long_by ReadFault e input one told long no_read = absurd (no_read (e.read_fault refl))
-  too_long_by WriteFault e input one told long no_read = let s = (spelled_is input (e.cut refl).printed told (e.cut refl).answer).0 in absurd (omega arith)
-  too_long_by NoMemory e input one told long no_read = inr refl
-  too_long_by TooLong e input one told long no_read = inl refl
+  refused_by : (status : Status) → Ended status → (input : List ℕ) → words ≡ 1 → before ≡ Some input → length input ≤ longest_input → ((scripts : List (List Step)) → ¬ AreScripts input scripts)
+      → ¬ Rose reads_before reads_after → IsUnlessMemory Script status
+  refused_by Done e input alone told short none no_read = let s = spelled_is input (e.replayed refl).printed told (e.replayed refl).answer in absurd (none s.1.0 s.1.1)
+  refused_by Usage e input alone told short none no_read = absurd (e.usage refl alone)
+  refused_by Script e input alone told short none no_read = inl refl
+  refused_by ReadFault e input alone told short none no_read = absurd (no_read (e.read_fault refl))
+  refused_by WriteFault e input alone told short none no_read = let s = spelled_is input (e.cut refl).printed told (e.cut refl).answer in absurd (none s.1.0 s.1.1)
+  refused_by NoMemory e input alone told short none no_read = inr refl
+  refused_by TooLong e input alone told short none no_read = let more = longer_is input before told (e.longer refl) in absurd (omega arith)
+  refused_by TooMany e input alone told short none no_read = let s = crowded_is input told (e.too_many refl) in absurd (none s.1.0 s.1.1)
+
+  too_long_by : (status : Status) → Ended status → (input : List ℕ) → words ≡ 1 → before ≡ Some input → longest_input < length input → ¬ Rose reads_before reads_after → IsUnlessMemory TooLong status
+  too_long_by Done e input alone told long no_read = let s = (spelled_is input (e.replayed refl).printed told (e.replayed refl).answer).0 in absurd (omega arith)
+  too_long_by Usage e input alone told long no_read = absurd (e.usage refl alone)
+  too_long_by Script e input alone told long no_read = let s = (refused_is input told (e.script refl)).0 in absurd (omega arith)
+  too_long_by ReadFault e input alone told long no_read = absurd (no_read (e.read_fault refl))
+  too_long_by WriteFault e input alone told long no_read = let s = (spelled_is input (e.cut refl).printed told (e.cut refl).answer).0 in absurd (omega arith)
+  too_long_by NoMemory e input alone told long no_read = inr refl
+  too_long_by TooLong e input alone told long no_read = inl refl
+  too_long_by TooMany e input alone told long no_read = let s = (crowded_is input told (e.too_many refl)).0 in absurd (omega arith)
 
   -- and so what it must come to
-  pub completes : (status : Status) → Ended status → Completes status words before reads_before reads_after writes_before writes_after
-  completes status e = record { done = done_by status e; refused = refused_by status e; too_long = too_long_by status e }
+  pub completes : (status : Status) → Ended status → Completes conf status words before reads_before reads_after writes_before writes_after
+  completes status e = record { done = done_by status e; too_many = too_many_by status e; refused = refused_by status e; too_long = too_long_by status e }

@@ -1,47 +1,69 @@
 -- One worker's script on a cache of its own, without a journal.
-use Rattle.std.specs.Prelude.{ℕ, List, [], ◌∷◌, ◌++◌, codes}
+use Rattle.std.specs.Prelude.{ℕ, ◌+◌, List, [], ◌∷◌, ◌++◌, length, map, replicate, codes, Option, Some, None}
 use Rattle.std.specs.Fmt.{decimal}
+use Rattle.std.specs.List.{flat_map}
 use Rattle.apcu_model.specs.declared.conf.Conf.{Conf}
 use Rattle.apcu_model.specs.declared.journal.Mark.{Mark}
 use Rattle.apcu_model.specs.declared.request.Request.{Request}
-use Rattle.apcu_model.specs.declared.request.Request.TheVariants.{Store, Fetch}
 use Rattle.apcu_model.specs.declared.request.Reply.{Reply}
+use Rattle.apcu_model.specs.declared.request.Reply.TheVariants.{Found, Absent}
+use Rattle.php_graph.specs.declared.kind.Kind.{Kind}
 use Rattle.apcu_model.specs.Cache.{Cache, empty_cache}
 use Rattle.apcu_model.specs.Sequential.{reply_to, cache_after}
-use Rattle.apcu_play.specs.declared.script.Call.{Call}
-use Rattle.apcu_play.specs.declared.script.Call.TheVariants.{StoreOne, FetchOne}
-use Rattle.apcu_play.specs.declared.script.Step.{Step}
-use Rattle.apcu_play.specs.Grammar.{ends_line}
-use Rattle.apcu_play.specs.Output.{reply_text, journal_lines}
+use Rattle.script_read.specs.declared.script.Step.{Step}
+use Rattle.script_read.specs.Calls.{events_of}
+use Rattle.script_read.specs.Grammar.{ends_line}
+use Rattle.script_read.specs.Play.{requests_of}
+use Rattle.apcu_play.specs.Output.{call_text, journal_lines}
 
--- what a call asks
-abbrev pub request_of : Call → Request
-request_of (StoreOne key value ttl exclusive) = Store key value ttl exclusive
-request_of (FetchOne key) = Fetch key
+-- what requests are answered, one after the other at one moment
+abbrev pub answers : Cache → ℕ → List Request → List Reply
+answers c t [] = []
+answers c t (request ∷ more) = reply_to [] t request c ∷ answers (cache_after [] t request c) t more
 
-abbrev pub step_reply : Cache → Step → Reply
-step_reply c step = reply_to [] step.t (request_of step.call) c
+-- and the cache after them
+abbrev pub after_all : Cache → ℕ → List Request → Cache
+after_all c t [] = c
+after_all c t (request ∷ more) = after_all (cache_after [] t request c) t more
+
+-- a fetch's reply by what it found
+abbrev pub fetched : Option (List Kind) → Reply
+fetched None = Absent
+fetched (Some g) = Found g
+
+abbrev pub step_replies : Cache → Step → List Reply
+step_replies c step = answers c step.t (requests_of step.call)
 
 abbrev pub after_step : Cache → Step → Cache
-after_step c step = cache_after [] step.t (request_of step.call) c
+after_step c step = after_all c step.t (requests_of step.call)
 
-abbrev pub replies_to : Cache → List Step → List Reply
-replies_to c [] = []
-replies_to c (step ∷ steps) = step_reply c step ∷ replies_to (after_step c step) steps
-
--- the lines of the replies
+-- the line of each call
 abbrev pub lines_of : Cache → List Step → List ℕ
 lines_of c [] = []
-lines_of c (step ∷ steps) = reply_text (step_reply c step) ++ ends_line ++ lines_of (after_step c step) steps
+lines_of c (step ∷ steps) = call_text step.call (step_replies c step) ++ ends_line ++ lines_of (after_step c step) steps
 
 -- the mark of each event of one worker
 abbrev pub own_mark : Mark
 own_mark = record { worker = 0; mask = 0 }
 
--- a mark for each step, and one for the end
+-- for so many events
+abbrev pub own_marks : ℕ → List Mark
+own_marks count = replicate count own_mark
+
+-- a mark for each request of the calls, and one for the end
 abbrev pub marks_for : List Step → List Mark
 marks_for [] = own_mark ∷ []
-marks_for (step ∷ steps) = own_mark ∷ marks_for steps
+marks_for (step ∷ steps) = own_marks (length (requests_of step.call)) ++ marks_for steps
+
+-- how many events the calls make
+abbrev pub events_in : ℕ → List Step → ℕ
+events_in slots [] = 0
+events_in slots (step ∷ steps) = events_of slots step.call + events_in slots steps
+
+-- how many events all workers may make, the end of each included
+abbrev pub all_events : ℕ → List (List Step) → ℕ
+all_events slots [] = 0
+all_events slots (script ∷ scripts) = (events_in slots script + 1) + all_events slots scripts
 
 -- what is printed for one worker
 abbrev pub alone_text : Conf → List Step → List ℕ

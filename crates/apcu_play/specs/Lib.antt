@@ -1,8 +1,6 @@
-pub mod Play
-pub mod Grammar
+pub mod Replies
+pub mod Notes
 pub mod Output
-pub mod Reading
-pub mod Gives
 pub mod Alone
 pub mod Message
 pub mod Run

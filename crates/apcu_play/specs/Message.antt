@@ -4,7 +4,7 @@ use Rattle.std.specs.Fmt.{decimal}
 use Rattle.notation.specs.declared.fault.Reason.{Reason}
 use Rattle.notation.specs.declared.fault.Reason.TheVariants as reasons
 use Rattle.apcu_play.specs.declared.status.Status.{Status}
-use Rattle.apcu_play.specs.declared.status.Status.TheVariants.{Done, Usage, Script, ReadFault, WriteFault, NoMemory, TooLong}
+use Rattle.apcu_play.specs.declared.status.Status.TheVariants.{Done, Usage, Script, ReadFault, WriteFault, NoMemory, TooLong, TooMany}
 
 abbrev pub code_of : Status → ℕ
 code_of Done = 0
@@ -14,6 +14,7 @@ code_of ReadFault = 3
 code_of WriteFault = 4
 code_of NoMemory = 5
 code_of TooLong = 6
+code_of TooMany = 7
 
 -- what is told of each status but that of a script with a fault
 abbrev pub message_of : Status → List ℕ
@@ -24,6 +25,7 @@ message_of ReadFault = codes "apcu_run: read fault\n"
 message_of WriteFault = codes "apcu_run: write fault\n"
 message_of NoMemory = codes "apcu_run: out of memory\n"
 message_of TooLong = codes "apcu_run: input too long\n"
+message_of TooMany = codes "apcu_run: too many events\n"
 
 -- how a message ends that tells a reason
 abbrev pub reason_text : Reason → List ℕ

@@ -1,61 +1,44 @@
 -- What a run prints.
-use Rattle.std.specs.Prelude.{◌≡◌, ℕ, ◌+◌, Bool, true, false, List, [], ◌∷◌, ◌++◌, codes, Option, Some, None, filter}
+use Rattle.std.specs.Prelude.{◌≡◌, ℕ, ◌+◌, ◌-◌, true, List, length, take, [], ◌∷◌, ◌++◌, map, codes, Option, Some, None, filter}
 use Rattle.std.specs.Fmt.{decimal}
 use Rattle.std.specs.List.{flat_map, range_with_len}
-use Rattle.notation.specs.Notation.{text_of}
 use Rattle.apcu_model.specs.declared.conf.Conf.{Conf}
 use Rattle.apcu_model.specs.declared.journal.Mark.{Mark}
 use Rattle.apcu_model.specs.declared.request.Reply.{Reply}
-use Rattle.apcu_model.specs.declared.request.Reply.TheVariants.{Flag, Found, Absent, Ended}
 use Rattle.apcu_model.specs.History.{is_in_mask}
-use Rattle.apcu_play.specs.declared.script.Call.{Call}
-use Rattle.apcu_play.specs.declared.script.Call.TheVariants.{StoreOne, FetchOne}
-use Rattle.apcu_play.specs.declared.script.Step.{Step}
-use Rattle.apcu_play.specs.Grammar.{ends_line}
-use Rattle.apcu_play.specs.Play.{Next, Asks, Leaves, next_of, Play, played, IsLegal, IsComplete}
+use Rattle.script_read.specs.declared.call.Call.{Call}
+use Rattle.script_read.specs.declared.call.Call.TheVariants.{StoreOne, StoreMany, FetchOne, FetchMany, ExistsOne, ExistsMany, DeleteOne, DeleteMany, Clear, Enabled}
+use Rattle.script_read.specs.declared.script.Step.{Step}
+use Rattle.script_read.specs.Grammar.{ends_line}
+use Rattle.script_read.specs.Play.{Next, Asks, Leaves, next_of, Play, played, IsLegal, IsComplete}
+use Rattle.apcu_play.specs.Replies.{flag_text, done_text, fetched_text, unstored_text, undeleted_text, there_text, found_text}
 
-abbrev pub flag_text : Bool → List ℕ
-flag_text true = codes "b:1;"
-flag_text false = codes "b:0;"
-
--- what a call on one key prints for its reply
-abbrev pub reply_text : Reply → List ℕ
-reply_text (Flag done) = flag_text done
-reply_text (Found g) = text_of g ++ codes "b:1;"
-reply_text Absent = codes "b:0;b:0;"
-reply_text Ended = []
-
--- what `apcu_store` prints for its reply
-abbrev pub stored_text : List Reply → List ℕ
-stored_text (Flag stored ∷ replies) = flag_text stored
-stored_text (Found g ∷ replies) = []
-stored_text (Absent ∷ replies) = []
-stored_text (Ended ∷ replies) = []
-stored_text [] = []
-
--- what `apcu_fetch` prints for its reply: the value and whether it was there
-abbrev pub fetched_text : List Reply → List ℕ
-fetched_text (Found g ∷ replies) = text_of g ++ codes "b:1;"
-fetched_text (Absent ∷ replies) = codes "b:0;b:0;"
-fetched_text (Flag stored ∷ replies) = []
-fetched_text (Ended ∷ replies) = []
-fetched_text [] = []
-
--- what a call prints for the replies that begin with its own
+-- what a call prints for its own replies
 abbrev pub call_text : Call → List Reply → List ℕ
-call_text (StoreOne key value ttl exclusive) replies = stored_text replies
+call_text (StoreOne key value ttl exclusive) replies = done_text replies
+call_text (StoreMany pairs ttl exclusive) replies = unstored_text (map (λ pair. pair.0) pairs) replies
 call_text (FetchOne key) replies = fetched_text replies
+call_text (FetchMany keys) replies = found_text keys replies
+call_text (ExistsOne key) replies = done_text replies
+call_text (ExistsMany keys) replies = there_text keys replies
+call_text (DeleteOne key) replies = done_text replies
+call_text (DeleteMany keys) replies = undeleted_text keys replies
+call_text Clear replies = flag_text true
+call_text Enabled replies = flag_text true
 
--- the replies that are left for later calls
-abbrev pub left_by : Next → List Reply
-left_by (Asks request) = []
-left_by (Leaves replies) = replies
+-- the replies before these others
+abbrev pub before : List Reply → List Reply → List Reply
+before others replies = take (length replies - length others) replies
 
--- a line for each call of a script
+-- the call's line, and the lines of those after it; nothing of a call that is not done
+abbrev pub lines_from : Call → List Reply → (List Reply → List ℕ) → Next → List ℕ
+lines_from call replies later (Asks request) = []
+lines_from call replies later (Leaves others) = call_text call (before others replies) ++ ends_line ++ later others
+
+-- a line for each call of a script, which has its own replies alone
 abbrev pub script_lines : Conf → List Step → List Reply → List ℕ
 script_lines conf [] replies = []
-script_lines conf (step ∷ steps) replies =
-    call_text step.call replies ++ ends_line ++ script_lines conf steps (left_by (next_of conf step.call replies))
+script_lines conf (step ∷ steps) replies = lines_from step.call replies (script_lines conf steps) (next_of conf step.call replies)
 
 -- for each worker, from number w on, its line and the lines of its calls
 abbrev pub worker_lines : Conf → ℕ → List (List Step) → List (List Reply) → List ℕ

@@ -5,14 +5,15 @@ use Rattle.std.specs.Io.KnownBytes.{prepend_known, append_known, IsAtEnd}
 use Rattle.io_edges.specs.Faults.{Rose}
 use Rattle.apcu_model.specs.declared.conf.Conf.{Conf}
 use Rattle.apcu_model.specs.declared.journal.Mark.{Mark}
-use Rattle.apcu_play.specs.declared.script.Step.{Step}
+use Rattle.script_read.specs.declared.script.Step.{Step}
 use Rattle.apcu_play.specs.declared.status.Status.{Status}
-use Rattle.apcu_play.specs.declared.status.Status.TheVariants.{Done, Script, NoMemory, TooLong}
+use Rattle.apcu_play.specs.declared.status.Status.TheVariants.{Done, Script, NoMemory, TooLong, TooMany}
 use Rattle.notation.specs.declared.fault.Reason.{Reason}
-use Rattle.apcu_play.specs.Gives.{IsFirstFault}
+use Rattle.script_read.specs.Gives.{IsFirstFault}
 use Rattle.apcu_play.specs.Message.{script_message}
-use Rattle.apcu_play.specs.Play.{IsLegal, IsComplete}
-use Rattle.apcu_play.specs.Grammar.{AreScripts}
+use Rattle.script_read.specs.Play.{IsLegal, IsComplete}
+use Rattle.script_read.specs.Grammar.{AreScripts}
+use Rattle.apcu_play.specs.Alone.{all_events}
 use Rattle.apcu_play.specs.Output.{output_of}
 
 -- 32 MB in words of 8 bytes, 4096 slots, and no time limit
@@ -22,6 +23,10 @@ default_conf = record { words = 4194304; slots = 4096; ttl = 0 }
 -- the most bytes of input
 abbrev pub longest_input : ℕ
 longest_input = 67108864
+
+-- the most events of a run, each worker's end included
+abbrev pub most_events : ℕ
+most_events = 4194304
 
 -- the input was read to its end, and is not too long
 pub record WasRead (left_before left_after : Option (List ℕ)) (input : List ℕ) : Type 0 where
@@ -37,6 +42,7 @@ pub record IsAnswer (conf : Conf) (left_before left_after : Option (List ℕ)) (
   pub journal : List Mark
   pub read : WasRead left_before left_after input
   pub spelled : AreScripts input scripts
+  pub few : all_events conf.slots scripts ≤ most_events
   pub legal : IsLegal conf scripts journal
   pub complete : IsComplete conf scripts journal
   pub text : printed ≡ output_of conf scripts journal
@@ -59,13 +65,21 @@ pub record ReplaysPart (conf : Conf) (left_before left_after held_before held_af
 pub record IsRefusedAt (left_before left_after : Option (List ℕ)) (place : ℕ) (reason : Reason) : Type 0 where
   pub input : List ℕ
   pub read : WasRead left_before left_after input
-  pub nothing : (scripts : List (List Step)) → AreScripts input scripts → ⊥
+  pub nothing : (scripts : List (List Step)) → ¬ AreScripts input scripts
   pub first : IsFirstFault input place reason
 
 pub record IsRefused (left_before left_after : Option (List ℕ)) : Type 0 where
   pub place : ℕ
   pub reason : Reason
   pub at : IsRefusedAt left_before left_after place reason
+
+-- The whole input spells scripts whose calls, with each worker's end, may make too many events.
+pub record IsCrowded (conf : Conf) (left_before left_after : Option (List ℕ)) : Type 0 where
+  pub input : List ℕ
+  pub scripts : List (List Step)
+  pub read : WasRead left_before left_after input
+  pub spelled : AreScripts input scripts
+  pub many : most_events < all_events conf.slots scripts
 
 -- whether all of a text was told: it stands behind what was held, or only the first of it and a write failed
 abbrev pub WasTold : Bool → List ℕ → Option (List ℕ) → Option (List ℕ) → ℕ → ℕ → Type 0
@@ -90,10 +104,14 @@ abbrev pub IsUnlessMemory : Status → Status → Type 0
 IsUnlessMemory expected status = (status ≡ expected) ⊎ (status ≡ NoMemory)
 
 -- What a source that tells must come to, where the program was called with no words and no fault was counted.
-pub record Completes (status : Status) (words : ℕ) (left_before : Option (List ℕ)) (reads_before reads_after writes_before writes_after : ℕ) : Type 0 where
+pub record Completes (conf : Conf) (status : Status) (words : ℕ) (left_before : Option (List ℕ)) (reads_before reads_after writes_before writes_after : ℕ) : Type 0 where
   pub done : (input : List ℕ) (scripts : List (List Step)) → words ≡ 1 → left_before ≡ Some input → length input ≤ longest_input → AreScripts input scripts
-      → (Rose reads_before reads_after → ⊥) → (Rose writes_before writes_after → ⊥) → IsUnlessMemory Done status
-  pub refused : (input : List ℕ) → words ≡ 1 → left_before ≡ Some input → length input ≤ longest_input → ((scripts : List (List Step)) → AreScripts input scripts → ⊥)
-      → (Rose reads_before reads_after → ⊥) → IsUnlessMemory Script status
+      → all_events conf.slots scripts ≤ most_events
+      → ¬ Rose reads_before reads_after → ¬ Rose writes_before writes_after → IsUnlessMemory Done status
+  pub too_many : (input : List ℕ) (scripts : List (List Step)) → words ≡ 1 → left_before ≡ Some input → length input ≤ longest_input → AreScripts input scripts
+      → most_events < all_events conf.slots scripts
+      → ¬ Rose reads_before reads_after → IsUnlessMemory TooMany status
+  pub refused : (input : List ℕ) → words ≡ 1 → left_before ≡ Some input → length input ≤ longest_input → ((scripts : List (List Step)) → ¬ AreScripts input scripts)
+      → ¬ Rose reads_before reads_after → IsUnlessMemory Script status
   pub too_long : (input : List ℕ) → words ≡ 1 → left_before ≡ Some input → longest_input < length input
-      → (Rose reads_before reads_after → ⊥) → IsUnlessMemory TooLong status
+      → ¬ Rose reads_before reads_after → IsUnlessMemory TooLong status

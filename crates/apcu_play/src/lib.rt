@@ -1,14 +1,14 @@
 //! Plays scripts of apcu calls, and prints what each call answers and the order in which they took effect.
 #![tactic(auto)]
 
-mod fault;
-mod keyword;
+mod calls;
+mod engine;
 mod messages;
+mod notes;
 mod play;
 mod printing;
-mod reading;
+mod replies;
 mod running;
-mod script;
 mod status;
 
 pub use messages::tell;

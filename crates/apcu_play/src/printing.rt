@@ -1,39 +1,12 @@
 ghost use Rattle.std.specs.Prelude.{◌≡◌, ◌++◌, ◌≤◌, OnOk, codes};
 ghost use Rattle.std.specs.Fmt.{decimal};
-ghost use Rattle.apcu_model.specs.declared.request.Reply.TheVariants.{Flag, Found, Absent};
-ghost use Rattle.apcu_play.specs.Grammar.{ends_line};
-ghost use Rattle.apcu_play.specs.Output.{reply_text, mark_line, mask_text};
+ghost use Rattle.script_read.specs.Grammar.{ends_line};
+ghost use Rattle.apcu_play.specs.Output.{mark_line, mask_text};
 
 use apcu_model::Mark;
 use itoa::Buffer;
-use notation::{ByteOut, write_value};
-use php_graph::Graph;
+use notation::ByteOut;
 use std::alloc::AllocError;
-
-// The line of a store: whether the value stands in the cache.
-pub fn write_stored(out: &mut ByteOut, stored: bool) -> Result<(), AllocError>
-    ensures { OnOk result (out.new ≡ out.old ++ reply_text (Flag stored) ++ ends_line) }
-{
-    match stored {
-        true => out.push(b"b:1;\n"),
-        false => out.push(b"b:0;\n"),
-    }
-}
-
-// The line of a fetch that found a value: the value, and that it was there.
-pub fn write_found(out: &mut ByteOut, value: &Graph) -> Result<(), AllocError>
-    ensures { OnOk result (out.new ≡ out.old ++ reply_text (Found value.now) ++ ends_line) }
-{
-    write_value(value, 0, out)?;
-    out.push(b"b:1;\n")
-}
-
-// The line of a fetch that found nothing.
-pub fn write_absent(out: &mut ByteOut) -> Result<(), AllocError>
-    ensures { OnOk result (out.new ≡ out.old ++ reply_text Absent ++ ends_line) }
-{
-    out.push(b"b:0;b:0;\n")
-}
 
 // The line of a worker's number.
 pub fn write_worker(out: &mut ByteOut, worker: u32) -> Result<(), AllocError>

@@ -1,21 +1,18 @@
-ghost use Rattle.std.specs.Prelude.{◌≡◌, ◌≢◌, ◌↔◌, ◌⊎◌, ◌+◌, ◌<◌, ◌≤◌, ℕ, List, length, Some, IfOk, IfErr, IfSome, OnErr, IsErrOf};
+ghost use Rattle.std.specs.Prelude.{◌≡◌, ◌≢◌, ◌↔◌, ◌⊎◌, ◌+◌, ◌<◌, ◌≤◌, ℕ, List, length, Some, IfOk, IfErr, IfSome, OnErr, IsErrOf, Err};
 ghost use Rattle.std.specs.Io.KnownBytes.{prepend_known, append_known, IsAtEnd};
 ghost use Rattle.io_edges.specs.Faults.{Rose};
 ghost use Rattle.io_edges.specs.Reading.{HasTaken};
-ghost use Rattle.apcu_play.specs.declared.script.Step.{Step};
-ghost use Rattle.apcu_play.specs.Grammar.{AreScripts};
-ghost use Rattle.apcu_play.specs.Message.{message_of};
-ghost use Rattle.apcu_play.specs.Run.{default_conf, longest_input, WasRead, IsAnswer, Replays, ReplaysPart, IsRefusedAt, IsRefused, IsTold, TellsRefusal, Completes};
+ghost use Rattle.script_read.specs.Gives.{IsFirstFault, ReadsScripts};
+ghost use Rattle.apcu_play.specs.Message.{message_of, script_message};
+ghost use Rattle.apcu_play.specs.Run.{default_conf, longest_input, WasRead, IsAnswer, Replays, ReplaysPart, IsRefusedAt, IsRefused, IsCrowded, IsTold, TellsRefusal, Completes};
 
-use crate::fault::ScriptFault;
 use crate::messages::{tell, tell_fault};
-use crate::play::play;
-use crate::reading::read_scripts;
-use crate::script::Scripts;
+use crate::play::{PlayFault, play};
 use crate::status::Status;
 use apcu_model::Conf;
 use io_edges::{Gate, ReadError, Sink, Source, read_all, write_all};
 use notation::{ByteOut, Reason};
+use script_read::{ScriptFault, read_scripts, readings_are_scripts};
 use std::alloc::Global;
 use std::sync::Wait;
 use std::thread::Threads;
@@ -66,10 +63,29 @@ impl Ending {
     }
 }
 
+// How a run ends whose input spells no scripts, or finds no memory for them.
+fn ending_of(fault: &ScriptFault) -> Ending
+    ensures script { (bytes : List ℕ) → ReadsScripts bytes (Err fault.now)
+        → result.status ≡ Status.Script → IsFirstFault bytes result.place result.reason }
+    ensures bad { result.status ≡ Status.Script → fault.now ≢ ScriptFault.Memory }
+    ensures others { (result.status ≡ Status.Script) ⊎ (result.status ≡ Status.NoMemory) }
+{
+    match fault {
+        ScriptFault::Bad { place, reason } => Ending {
+            status: Status::Script,
+            place: *place,
+            reason: *reason,
+        },
+        ScriptFault::Memory => Ending::of(Status::NoMemory),
+    }
+}
+
 // What the input asks for, as it is to be printed.
 fn answer<S: Source>(alloc: Global, input: &mut S) -> Result<ByteOut, Ending>
     ensures answer { IfOk result (λ out. IsAnswer default_conf (S.left input.old) (S.left input.new) out) }
     ensures script { IfErr result (λ e. e.status ≡ Status.Script → IsRefusedAt (S.left input.old) (S.left input.new) e.place e.reason) }
+    ensures too_many { IfErr result (λ e. e.status ≡ Status.TooMany
+        → IsCrowded default_conf (S.left input.old) (S.left input.new)) }
     ensures too_long { IfErr result (λ e. e.status ≡ Status.TooLong → HasTaken (S.left input.old) (S.left input.new) (longest_input + 1)) }
     ensures longer { IfErr result (λ e. e.status ≡ Status.TooLong → IfSome (S.left input.old) (λ left. longest_input < length left)) }
     ensures fault { IfErr result (λ e. e.status ≡ Status.ReadFault → Rose (S.faults input.old) (S.faults input.new)) }
@@ -82,14 +98,10 @@ fn answer<S: Source>(alloc: Global, input: &mut S) -> Result<ByteOut, Ending>
     match read_scripts(alloc, &bytes) {
         Ok(scripts) => match play(alloc, &DEFAULT_CONF, scripts) {
             Ok(out) => Ok(out),
-            Err(_) => Err(Ending::of(Status::NoMemory)),
+            Err(PlayFault::TooMany) => Err(Ending::of(Status::TooMany)),
+            Err(PlayFault::Memory) => Err(Ending::of(Status::NoMemory)),
         },
-        Err(ScriptFault::Bad { place, reason }) => Err(Ending {
-            status: Status::Script,
-            place,
-            reason,
-        }),
-        Err(ScriptFault::Memory) => Err(Ending::of(Status::NoMemory)),
+        Err(fault) => Err(ending_of(&fault)),
     }
 }
 
@@ -103,6 +115,8 @@ fn outcome<S: Source, K: Sink>(
     ensures replayed { result.status ≡ Status.Done → Replays default_conf (S.left input.old) (S.left input.new) (K.held out.old) (K.held out.new) }
     ensures usage { (result.status ≡ Status.Usage) ↔ (length words.now ≢ 1) }
     ensures script { result.status ≡ Status.Script → IsRefusedAt (S.left input.old) (S.left input.new) result.place result.reason }
+    ensures too_many { result.status ≡ Status.TooMany
+        → IsCrowded default_conf (S.left input.old) (S.left input.new) }
     ensures too_long { result.status ≡ Status.TooLong → HasTaken (S.left input.old) (S.left input.new) (longest_input + 1) }
     ensures longer { result.status ≡ Status.TooLong → IfSome (S.left input.old) (λ left. longest_input < length left) }
     ensures read_fault { result.status ≡ Status.ReadFault → Rose (S.faults input.old) (S.faults input.new) }
@@ -119,6 +133,23 @@ fn outcome<S: Source, K: Sink>(
             Err(_) => Ending::of(Status::WriteFault),
         },
         Err(ending) => ending,
+    }
+}
+
+// Tells how a run ended, where it is not done.
+fn tell_ending<E: Sink>(err: &mut E, ending: Ending)
+    ensures silent { ending.status ≡ Status.Done
+        → (E.held err.new ≡ E.held err.old) × (E.faults err.new ≡ E.faults err.old) }
+    ensures told { ending.status ≢ Status.Done → ending.status ≢ Status.Script
+        → IsTold (message_of ending.status)
+        (E.held err.old) (E.held err.new) (E.faults err.old) (E.faults err.new) }
+    ensures script { ending.status ≡ Status.Script → IsTold (script_message ending.place ending.reason)
+        (E.held err.old) (E.held err.new) (E.faults err.old) (E.faults err.new) }
+{
+    match ending.status {
+        Status::Done => {}
+        Status::Script => tell_fault(err, ending.place, ending.reason),
+        status => tell(err, status),
     }
 }
 
@@ -146,11 +177,13 @@ pub fn run<R: Threads + Wait + Sync, S: Source, K: Sink, E: Sink, G: Gate + Sync
     // Each other status, and when it comes.
     ensures usage { (result ≡ Status.Usage) ↔ (length words.now ≢ 1) }
     ensures script { result ≡ Status.Script → IsRefused (S.left input.old) (S.left input.new) }
+    ensures too_many { result ≡ Status.TooMany
+        → IsCrowded default_conf (S.left input.old) (S.left input.new) }
     ensures too_long { result ≡ Status.TooLong → HasTaken (S.left input.old) (S.left input.new) (longest_input + 1) }
     ensures longer { result ≡ Status.TooLong → IfSome (S.left input.old) (λ left. longest_input < length left) }
     ensures read_fault { result ≡ Status.ReadFault → Rose (S.faults input.old) (S.faults input.new) }
     ensures write_fault { result ≡ Status.WriteFault → Rose (K.faults out.old) (K.faults out.new) }
-    ensures complete { Completes result (length words.now) (S.left input.old) (S.faults input.old) (S.faults input.new) (K.faults out.old) (K.faults out.new) }
+    ensures complete { Completes default_conf result (length words.now) (S.left input.old) (S.faults input.old) (S.faults input.new) (K.faults out.old) (K.faults out.new) }
 
     // What is left on the sinks.
     ensures cut { result ≡ Status.WriteFault → ReplaysPart default_conf (S.left input.old) (S.left input.new) (K.held out.old) (K.held out.new) }
@@ -159,13 +192,10 @@ pub fn run<R: Threads + Wait + Sync, S: Source, K: Sink, E: Sink, G: Gate + Sync
     ensures told { result ≢ Status.Done → result ≢ Status.Script → IsTold (message_of result) (E.held err.old) (E.held err.new) (E.faults err.old) (E.faults err.new) }
     ensures told_script { result ≡ Status.Script → TellsRefusal (S.left input.old) (S.left input.new) (E.held err.old) (E.held err.new) (E.faults err.old) (E.faults err.new) }
 {
+    readings_are_scripts();
     let _ = rt;
     let _ = gate;
     let ending = outcome(alloc, words, input, out);
-    match ending.status {
-        Status::Done => {}
-        Status::Script => tell_fault(err, ending.place, ending.reason),
-        status => tell(err, status),
-    }
+    tell_ending(err, ending);
     ending.status
 }

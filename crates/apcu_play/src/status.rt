@@ -18,10 +18,12 @@ pub enum Status {
     NoMemory,
     /// The input is longer than 67,108,864 bytes.
     TooLong,
+    /// The calls may make more than 4,194,304 events, each worker's end included.
+    TooMany,
 }
 
 impl Status {
-    /// The exit status, from 0 to 6.
+    /// The exit status, from 0 to 7.
     pub fn code(self) -> u8
         ensures { result ≡ code_of self }
     {
@@ -33,6 +35,7 @@ impl Status {
             Status::WriteFault => 4,
             Status::NoMemory => 5,
             Status::TooLong => 6,
+            Status::TooMany => 7,
         }
     }
 
@@ -48,6 +51,7 @@ impl Status {
             Status::WriteFault => b"apcu_run: write fault\n",
             Status::NoMemory => b"apcu_run: out of memory\n",
             Status::TooLong => b"apcu_run: input too long\n",
+            Status::TooMany => b"apcu_run: too many events\n",
         }
     }
 }

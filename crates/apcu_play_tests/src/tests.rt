@@ -99,10 +99,92 @@ fn scripts(rt: HostRuntime) -> Result<(), Fail> {
         (STORE_AND_FETCH, PRINTED),
         (b"".as_slice(), b"journal\n".as_slice()),
         (absent, b"worker 0\nb:0;b:0;\njournal\n0\n0\n"),
+        (b"worker\napcu_enabled\n", b"worker 0\nb:1;\njournal\n0\n"),
+        (
+            b"worker\napcu_fetch a:0:{}\n",
+            b"worker 0\na:0:{}b:1;\njournal\n0\n",
+        ),
     ] {
         expect(&rt, rt.alloc(), whole(input, Status::Done, printed, b""))?;
     }
     Ok(())
+}
+
+// Two keys with the first two values of the cache, and what comes of them.
+const PAIRS: &[u8] = b"apcu_store a:2:{s:1:\"a\";a:1:{i:0;R:2;}i:7;i:5;} N;\n";
+
+// Behind a store of the pairs, these lines print this; then the journal has so many lines.
+fn behind_the_pairs(
+    rt: &(impl Threads + Wait + Sync + Abort),
+    alloc: Global,
+    lines: &[u8],
+    printed: &[u8],
+    events: u8,
+) -> Result<(), Fail> {
+    let mut script = ByteOut::new(alloc);
+    script.push(b"worker\n")?;
+    script.push(PAIRS)?;
+    script.push(lines)?;
+    let mut wanted = ByteOut::new(alloc);
+    wanted.push(b"worker 0\na:0:{}\n")?;
+    wanted.push(printed)?;
+    wanted.push(b"journal\n")?;
+    for _event in 0..events {
+        wanted.push(b"0\n")?;
+    }
+    let case = whole(script.as_slice(), Status::Done, wanted.as_slice(), b"");
+    expect(rt, alloc, case)
+}
+
+#[test]
+fn keys_of_an_array(rt: HostRuntime) -> Result<(), Fail> {
+    for (lines, printed, events) in [
+        (
+            b"apcu_fetch a:4:{i:0;s:1:\"7\";i:1;s:1:\"a\";i:2;s:1:\"b\";i:3;s:1:\"7\";}\n".as_slice(),
+            b"a:2:{i:7;i:5;s:1:\"a\";a:1:{i:0;R:3;}}b:1;\n".as_slice(),
+            7,
+        ),
+        (
+            b"apcu_exists a:3:{i:0;s:1:\"7\";i:1;s:1:\"b\";i:2;s:1:\"a\";}\n",
+            b"a:2:{i:7;b:1;s:1:\"a\";b:1;}\n",
+            6,
+        ),
+        (
+            b"apcu_delete a:2:{i:0;s:1:\"b\";i:1;s:1:\"a\";}\napcu_exists s:1:\"a\";\n",
+            b"a:1:{i:0;s:1:\"b\";}\nb:0;\n",
+            6,
+        ),
+        (
+            b"apcu_add a:2:{s:1:\"a\";N;s:1:\"b\";N;} N;\n",
+            b"a:1:{s:1:\"a\";i:-1;}\n",
+            5,
+        ),
+        (
+            b"apcu_clear_cache\napcu_exists s:1:\"a\";\n",
+            b"b:1;\nb:0;\n",
+            5,
+        ),
+    ] {
+        behind_the_pairs(&rt, rt.alloc(), lines, printed, events)?;
+    }
+    Ok(())
+}
+
+#[test]
+fn seconds_to_live(rt: HostRuntime) -> Result<(), Fail> {
+    let input = b"worker\n\
+        time i:100;\n\
+        apcu_add s:1:\"a\"; i:1; i:2;\n\
+        apcu_add s:1:\"a\"; i:2;\n\
+        time i:102;\n\
+        apcu_fetch s:1:\"a\";\n\
+        time i:103;\n\
+        apcu_exists s:1:\"a\";\n\
+        apcu_add s:1:\"a\"; i:3;\n\
+        apcu_delete s:1:\"a\";\n";
+    let printed =
+        b"worker 0\nb:1;\nb:0;\ni:1;b:1;\nb:0;\nb:1;\nb:1;\njournal\n0\n0\n0\n0\n0\n0\n0\n";
+    expect(&rt, rt.alloc(), whole(input, Status::Done, printed, b""))
 }
 
 #[test]
@@ -156,8 +238,8 @@ fn lines_with_a_fault(rt: HostRuntime) -> Result<(), Fail> {
             b"apcu_run: script: byte 31: end\n".as_slice(),
         ),
         (
-            b"worker\napcu_store s:1:\"a\"; i:5; i:1;\n",
-            b"apcu_run: script: byte 32: unbuilt\n",
+            b"worker\napcu_store s:1:\"a\"; i:5; N;\n",
+            b"apcu_run: script: byte 32: argument\n",
         ),
         (
             b"worker\napcu_store s:1:\"a\"; i:5;,\n",
@@ -170,10 +252,6 @@ fn lines_with_a_fault(rt: HostRuntime) -> Result<(), Fail> {
         (
             b"worker\napcu_store i:1; i:5;\n",
             b"apcu_run: script: byte 18: argument\n",
-        ),
-        (
-            b"worker\napcu_fetch a:0:{}\n",
-            b"apcu_run: script: byte 18: unbuilt\n",
         ),
         (b"worker\nworker\n", b"apcu_run: script: byte 7: unbuilt\n"),
         (
@@ -287,13 +365,13 @@ fn unwritten(piece: usize, at: &[u64], bytes: usize) -> Run<'_>
     }
 }
 
-// Each read of one byte fails in turn, and each write of one byte; then the second of each in larger pieces.
+// Each read of one byte fails in turn, and each of the first writes; then the second of each in larger pieces.
 #[test]
 fn faults_in_turn(rt: HostRuntime) -> Result<(), Fail> {
     for at in 0..=STORE_AND_FETCH.len() {
         expect(&rt, rt.alloc(), unread(1, &[at as u64]))?;
     }
-    for at in 0..PRINTED.len() {
+    for at in 0..3usize {
         expect(&rt, rt.alloc(), unwritten(1, &[at as u64], at))?;
     }
     Ok(())

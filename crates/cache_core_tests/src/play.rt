@@ -1,14 +1,13 @@
-ghost use Rattle.std.specs.Prelude.{◌≡◌, ℕ, ◌%◌, ◌≤◌, false};
-ghost use Rattle.seg_words.specs.Windows.{has};
+ghost use Rattle.std.specs.Prelude.{◌≡◌, ◌%◌, ◌≤◌};
 ghost use Rattle.apcu_model.specs.Conf.{IsGood};
-ghost use Rattle.cache_core.specs.Caching.{CacheStands};
 
 use apcu_model::{Conf, Counts, Plain, StoreAnswer};
 use cache_core::{Core, Look, Scalar};
 use max_tree::MaxRow;
 use php_graph::{Builder, Bytes, Graph, Item, Kind, Wants};
-use seg_words::{Segment, VecWords, WordsIn};
+use seg_words::{VecWords, WordsIn};
 use std::alloc::Global;
+use std::marker::Model;
 use std::process::Abort;
 use std::test::Fail;
 
@@ -106,55 +105,81 @@ fn found_by(look: Look) -> Option<i64> {
     }
 }
 
-// What the cache over words does.
-fn over_words<S: Segment>(
-    rt: &impl Abort,
-    alloc: Global,
-    core: &mut Core,
-    seg: &mut S,
-    key: &Bytes,
-    act: Act,
-    t: u64,
-) -> Result<Answer, Fail>
-    requires stand { CacheStands S.WordsIn core.old seg.old }
-    requires fresh { (b : ℕ) → has b (S.aside seg.old).refused ≡ false }
-    ensures stand { CacheStands S.WordsIn core.new seg.new }
-{
-    match act {
-        Act::Store(value, ttl, exclusive) => {
-            let value = value_of(rt, alloc, value)?;
-            let answer = core.store(seg, key.as_slice(), &value, ttl, exclusive, t);
-            Ok(Answer::Flag(answer == StoreAnswer::Stored))
-        }
-        Act::Fetch => Ok(Answer::Found(found_by(core.look(seg, key.as_slice(), t)))),
-        Act::Exists => Ok(Answer::Flag(core.exists(seg, key.as_slice(), t))),
-        Act::Delete => Ok(Answer::Flag(core.delete(seg, key.as_slice(), t))),
-        Act::Clear => {
-            core.clear(seg, t);
-            Ok(Answer::Flag(true))
+// A cache over words in memory. Contracts see the cache.
+#[derive(Drop)]
+pub(crate) struct Small {
+    words: VecWords,
+    core: Core,
+}
+
+impl Model for Small {
+    ghost use Rattle.apcu_model.specs.Cache.{Cache};
+    ghost use Rattle.cache_core.specs.Caching.{cache_of, CacheStands};
+
+    ghost Value = { Cache };
+
+    ghost view = { λ s. cache_of s.core };
+
+    ghost invariant = { λ s. CacheStands ⟦<VecWords as WordsIn>⟧ s.core s.words };
+}
+
+impl Small {
+    fn new(alloc: Global, conf: &Conf) -> Result<Small, Fail>
+        requires { IsGood conf.now }
+    {
+        let mut words = VecWords::new(alloc, conf.words)?;
+        let gaps = MaxRow::new(alloc, conf.words as usize / 4 + 1)?;
+        let core = Core::format(&mut words, conf, gaps);
+        Ok(Small { words, core })
+    }
+
+    fn counts(&self) -> Counts {
+        self.core.counts()
+    }
+
+    // What the cache over words does.
+    fn answer(
+        &mut self,
+        rt: &impl Abort,
+        alloc: Global,
+        key: &Bytes,
+        act: Act,
+        t: u64,
+    ) -> Result<Answer, Fail> {
+        let key = key.as_slice();
+        match act {
+            Act::Store(value, ttl, exclusive) => {
+                let value = value_of(rt, alloc, value)?;
+                let answer = self
+                    .core
+                    .store(&mut self.words, key, &value, ttl, exclusive, t);
+                Ok(Answer::Flag(answer == StoreAnswer::Stored))
+            }
+            Act::Fetch => Ok(Answer::Found(found_by(self.core.look(&mut self.words, key, t)))),
+            Act::Exists => Ok(Answer::Flag(self.core.exists(&mut self.words, key, t))),
+            Act::Delete => Ok(Answer::Flag(self.core.delete(&mut self.words, key, t))),
+            Act::Clear => {
+                self.core.clear(&mut self.words, t);
+                Ok(Answer::Flag(true))
+            }
         }
     }
 }
 
 // Both caches do it. They answer the same, and count the same.
-pub(crate) fn both<S: Segment>(
+fn both(
     rt: &impl Abort,
     alloc: Global,
-    core: &mut Core,
-    seg: &mut S,
+    small: &mut Small,
     plain: &mut Plain,
     step: (u64, u8, Act),
-) -> Result<Answer, Fail>
-    requires stand { CacheStands S.WordsIn core.old seg.old }
-    requires fresh { (b : ℕ) → has b (S.aside seg.old).refused ≡ false }
-    ensures stand { CacheStands S.WordsIn core.new seg.new }
-{
+) -> Result<Answer, Fail> {
     let (t, name, act) = step;
     let key = key(alloc, name)?;
-    let answer = over_words(rt, alloc, core, seg, &key, act, t)?;
+    let answer = small.answer(rt, alloc, &key, act, t)?;
     let wanted = plainly(rt, alloc, plain, key, act, t)?;
     assert_eq!(rt; answer, wanted);
-    assert_eq!(rt; core.counts(), plain.counts());
+    assert_eq!(rt; small.counts(), plain.counts());
     Ok(answer)
 }
 
@@ -183,22 +208,17 @@ pub(crate) enum Call {
 fn fill(
     rt: &impl Abort,
     alloc: Global,
-    core: &mut Core,
-    seg: &mut VecWords,
+    small: &mut Small,
     plain: &mut Plain,
     first: u32,
     t: u64,
-) -> Result<(), Fail>
-    requires stand { CacheStands ⟦<VecWords as WordsIn>⟧ core.old seg.old }
-    ensures stand { CacheStands ⟦<VecWords as WordsIn>⟧ core.new seg.new }
-{
+) -> Result<(), Fail> {
     for name in 1..31u8 {
         let ttl = if name == 1 { first } else { 0 };
         let stored = both(
             rt,
             alloc,
-            core,
-            seg,
+            small,
             plain,
             (t, name, Act::Store(Value::Int(1), ttl, false)),
         )?;
@@ -210,21 +230,17 @@ fn fill(
 fn one(
     rt: &impl Abort,
     alloc: Global,
-    core: &mut Core,
-    seg: &mut VecWords,
+    small: &mut Small,
     plain: &mut Plain,
     row: (u64, Call),
-) -> Result<(), Fail>
-    requires stand { CacheStands ⟦<VecWords as WordsIn>⟧ core.old seg.old }
-    ensures stand { CacheStands ⟦<VecWords as WordsIn>⟧ core.new seg.new }
-{
+) -> Result<(), Fail> {
     let (t, call) = row;
     match call {
         Call::Ask(name, act, wanted) => {
-            let answer = both(rt, alloc, core, seg, plain, (t, name, act))?;
+            let answer = both(rt, alloc, small, plain, (t, name, act))?;
             assert_eq!(rt; answer, wanted);
         }
-        Call::Fill(ttl) => fill(rt, alloc, core, seg, plain, ttl, t)?,
+        Call::Fill(ttl) => fill(rt, alloc, small, plain, ttl, t)?,
         Call::Counts(hits, misses, inserts, expunges, entries) => {
             let counts = Counts {
                 hits,
@@ -233,7 +249,7 @@ fn one(
                 expunges,
                 entries,
             };
-            assert_eq!(rt; core.counts(), counts);
+            assert_eq!(rt; small.counts(), counts);
         }
     }
     Ok(())
@@ -247,12 +263,10 @@ pub(crate) fn play(
     rows: &[(u64, Call)],
 ) -> Result<(), Fail> {
     let conf = shape(512, limit);
-    let mut seg = VecWords::new(alloc, conf.words)?;
-    let gaps = MaxRow::new(alloc, conf.words as usize / 4)?;
-    let mut core = Core::format(&mut seg, &conf, gaps);
+    let mut small = Small::new(alloc, &conf)?;
     let mut plain = Plain::new(alloc, &conf);
     for row in rows {
-        one(rt, alloc, &mut core, &mut seg, &mut plain, *row)?;
+        one(rt, alloc, &mut small, &mut plain, *row)?;
     }
     Ok(())
 }
@@ -296,9 +310,7 @@ pub(crate) fn many(
     requires even { (words % 2 ≡ 0) × (512 ≤ words) × (words ≤ 65536) }
 {
     let conf = shape(words, limit);
-    let mut seg = VecWords::new(alloc, conf.words)?;
-    let gaps = MaxRow::new(alloc, conf.words as usize / 4)?;
-    let mut core = Core::format(&mut seg, &conf, gaps);
+    let mut small = Small::new(alloc, &conf)?;
     let mut plain = Plain::new(alloc, &conf);
     let mut draw = u64::from(limit).wrapping_add(7);
     let mut t = 100u64;
@@ -306,7 +318,7 @@ pub(crate) fn many(
         draw = next(draw);
         t = t.wrapping_add((draw >> 60) % 2);
         let step = (t, ((draw >> 33) % 40) as u8, act_of(draw));
-        both(rt, alloc, &mut core, &mut seg, &mut plain, step)?;
+        both(rt, alloc, &mut small, &mut plain, step)?;
     }
     Ok(())
 }

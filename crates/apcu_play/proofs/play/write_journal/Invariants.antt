@@ -1,7 +1,7 @@
 use Rattle.std.proofs.Common.{◌≡◌, ◌++◌, take}
 use Rattle.std.specs.Prelude.{codes}
 use Rattle.std.specs.List.{flat_map}
-use Rattle.apcu_play.specs.Grammar.{ends_line}
+use Rattle.script_read.specs.Grammar.{ends_line}
 use Rattle.apcu_play.specs.Output.{mark_line}
 use Rattle.apcu_play.proofs.play.write_journal.Given as goal
 

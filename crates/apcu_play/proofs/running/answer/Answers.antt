@@ -1,8 +1,11 @@
-use Rattle.std.proofs.Common.{◌≡◌, ◌≤◌, length, ap, arith}
-use Rattle.apcu_play.proofs.Lines.{few_scripts}
+use Rattle.std.proofs.Common.{sym, subst}
+use Rattle.apcu_play.specs.Run.{WasRead}
 use Rattle.apcu_play.proofs.running.answer.Goals as goal
 
-pub play-requires-clause-few : goal.play-requires-clause-few
-play-requires-clause-few g c =
-    let n : length c.deref.result.now ≤ 67108864 = omega (arith, ap length c.deref.ensures.value, c.in-Ok.ensures.read.short) in
-    few_scripts c.deref.result.now c.in-Ok-read_scripts.scripts c.in-Ok-read_scripts.ensures.found n
+pub returns-clause-script : goal.returns-clause-script
+returns-clause-script g c = λ is. record {
+  input = c.deref.result.now;
+  read = subst (λ input. WasRead (g.S.Source.left c.args.input.now) (g.S.Source.left c.input_of.new.input) input) (sym c.deref.ensures.value) c.in-Ok.ensures.read;
+  nothing = λ scripts are. absurd (c.ending_of.ensures.bad is (c.in-Err-read_scripts.ensures.only scripts are));
+  first = c.ending_of.ensures.script c.deref.result.now c.in-Err-read_scripts.ensures.read is;
+}

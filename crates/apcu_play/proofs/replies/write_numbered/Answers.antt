@@ -1,0 +1,20 @@
+use Rattle.std.proofs.Common.{◌≡◌, ℕ, ◌≤◌, List, [], ◌++◌, map, drop, length, sym, ap, ◌∙◌, arith}
+use Rattle.std.proofs.Math.ListN.{drop_of_length-le}
+use Rattle.std.proofs.lemmas.List.{length-map}
+use Rattle.notation.specs.Notation.{array_head}
+use Rattle.apcu_play.specs.Replies.{members_text, numbered}
+use Rattle.apcu_play.proofs.Printed.{numbered_len, on_ok, array_ends}
+use Rattle.apcu_play.proofs.replies.write_numbered.Goals as goal
+
+pub returns : goal.returns
+returns c =
+    let all : List (List ℕ) = map (λ string. string.now) c.args.strings.now in
+    let rest : List (List ℕ) = map (λ string. string.now) (drop c.loop-i.i c.args.strings.now) in
+    let past : length c.args.strings.now ≤ c.loop-i.i = omega (arith, c.loop-i-test.false) in
+    let none : rest ≡ [] = ap (map (λ string. string.now)) (drop_of_length-le c.args.strings.now past) in
+    let count : length c.args.strings.now ≡ length (numbered 0 all) = sym (numbered_len 0 all ∙ length-map c.args.strings.now (λ string. string.now)) in
+    on_ok c.push.result
+    (array_ends c.args.out.now (array_head (length (numbered 0 all))) c.write_head.new.out c.loop-i.out c.push.new.self (members_text (numbered 0 all)) (members_text (numbered c.loop-i.i rest))
+    (c.in_ok-write_head.ensures ∙ ap (λ (n : ℕ). c.args.out.now ++ array_head n) count)
+    c.loop-i.invariant (ap (λ (l : List (List ℕ)). members_text (numbered c.loop-i.i l)) none))
+    c.push.ensures.ok

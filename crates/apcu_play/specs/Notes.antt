@@ -1,0 +1,16 @@
+-- Answers that are noted for keys, and where each key's answer stands.
+use Rattle.std.specs.Prelude.{◌≡◌, ℕ, suc, if◌then◌else◌, List, [], ◌∷◌, Option, Some, None}
+use Rattle.std.specs.Option.{option_map}
+use Rattle.std.specs.Str.{bytes_eq}
+use Rattle.std.specs.BTreeMap.{BTreeMap, get}
+use Rattle.std.specs.Cmp.Lexicographic.{slice_cmp}
+use Rattle.std.specs.Ordering.{nat_cmp}
+
+-- where the answer of a key stands
+abbrev pub note_of : {A : Type 0} → List ℕ → List (List ℕ × A) → Option ℕ
+note_of key [] = None
+note_of key (m ∷ ms) = if bytes_eq m.0 key then Some 0 else option_map suc (note_of key ms)
+
+-- the map knows it of each key
+abbrev pub KnowsNotes : {A : Type 0} → List (List ℕ × A) → BTreeMap (List ℕ) ℕ → Type 0
+KnowsNotes notes places = (key : List ℕ) → get (slice_cmp nat_cmp) places key ≡ note_of key notes

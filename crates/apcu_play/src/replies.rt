@@ -1,0 +1,122 @@
+//! What a call prints for its own replies, in serialize notation.
+
+ghost use Rattle.std.specs.Prelude.{◌≡◌, ℕ, ◌+◌, ◌<◌, ◌^◌, ◌++◌, List, [], length, map, codes, OnOk, Option};
+ghost use Rattle.std.specs.Option.{option_map};
+ghost use Rattle.std.specs.Fmt.{decimal};
+ghost use Rattle.notation.specs.Notation.{array_head, string_text};
+ghost use Rattle.apcu_play.specs.Alone.{fetched};
+ghost use Rattle.apcu_play.specs.Replies.{flag_text, fetched_one, array_text, all_with, numbered, value_members};
+
+use itoa::Buffer;
+use notation::{ByteOut, write_key, write_value};
+use php_graph::{Bytes, Graph};
+use std::alloc::AllocError;
+
+// A truth value.
+pub(crate) fn write_flag(out: &mut ByteOut, done: bool) -> Result<(), AllocError>
+    ensures { OnOk result (out.new ≡ out.old ++ flag_text done) }
+{
+    match done {
+        true => out.push(b"b:1;"),
+        false => out.push(b"b:0;"),
+    }
+}
+
+// What a fetch of one key found: the value and that it was there, or that it was not.
+pub(crate) fn write_fetched(out: &mut ByteOut, found: Option<Graph>) -> Result<(), AllocError>
+    ensures { OnOk result (out.new ≡ out.old ++ fetched_one (fetched found)) }
+{
+    match found {
+        Some(value) => {
+            write_value(&value, 0, out)?;
+            out.push(b"b:1;")
+        }
+        None => out.push(b"b:0;b:0;"),
+    }
+}
+
+// How an array of so many members begins.
+fn write_head(out: &mut ByteOut, count: usize) -> Result<(), AllocError>
+    ensures { OnOk result (out.new ≡ out.old ++ array_head count) }
+{
+    let mut digits = Buffer::new();
+    out.push(b"a:")?;
+    out.push(digits.format(count).as_bytes())?;
+    out.push(b":{")
+}
+
+// An array of these keys, each with the same answer.
+pub(crate) fn write_each(
+    out: &mut ByteOut,
+    keys: &[&Bytes],
+    answer: &[u8],
+) -> Result<(), AllocError>
+    ensures { OnOk result (out.new ≡ out.old ++ array_text
+        (all_with answer.now (map (λ key. key.now) keys.now))) }
+{
+    write_head(out, keys.len())?;
+    for key in keys {
+        write_key(key.as_slice(), out)?;
+        out.push(answer)?;
+    }
+    out.push(b"}")
+}
+
+// An array of these keys, each with true.
+pub(crate) fn write_flags(out: &mut ByteOut, notes: &[(&Bytes, ())]) -> Result<(), AllocError>
+    ensures { OnOk result (out.new ≡ out.old
+        ++ array_text (all_with (codes "b:1;")
+        (map (λ (note : List ℕ × Unit {0}). note.0)
+        (map (λ note. (note.0.now, note.1)) notes.now)))) }
+{
+    write_head(out, notes.len())?;
+    for note in notes {
+        write_key(note.0.as_slice(), out)?;
+        out.push(b"b:1;")?;
+    }
+    out.push(b"}")
+}
+
+// An array of these strings, numbered from 0.
+#[tactic(auto, using(crate::proofs::Printed::numbered_len))]
+pub(crate) fn write_numbered(out: &mut ByteOut, strings: &[&Bytes]) -> Result<(), AllocError>
+    ensures { OnOk result (out.new ≡ out.old ++ array_text
+        (numbered 0 (map (λ string. string.now) strings.now))) }
+{
+    write_head(out, strings.len())?;
+    for (i, string) in strings.iter().enumerate() {
+        let mut digits = Buffer::new();
+        write_key(digits.format(i).as_bytes(), out)?;
+        write_string(out, string.as_slice())?;
+    }
+    out.push(b"}")
+}
+
+// An array of these values under their keys, which is the first value of the reply.
+#[tactic(auto, using(crate::proofs::Printed::members_len))]
+pub(crate) fn write_values(out: &mut ByteOut, values: &[(&Bytes, Graph)]) -> Result<(), AllocError>
+    requires { length values.now < 2 ^ 32 }
+    ensures { OnOk result (out.new ≡ out.old ++ array_text
+        (value_members 1 (map (λ value. (value.0.now, value.1)) values.now))) }
+{
+    write_head(out, values.len())?;
+    let mut base = 1;
+    for value in values {
+        write_key(value.0.as_slice(), out)?;
+        write_value(&value.1, base, out)?;
+        base += u64::from(value.1.places());
+    }
+    out.push(b"}")
+}
+
+// A string.
+fn write_string(out: &mut ByteOut, bytes: &[u8]) -> Result<(), AllocError>
+    ensures { OnOk result (out.new ≡ out.old ++ string_text bytes.now) }
+{
+    let mut digits = Buffer::new();
+    out.push(b"s:")?;
+    out.push(digits.format(bytes.len()).as_bytes())?;
+    out.push(b":\"")?;
+    out.push(bytes)?;
+    out.push(b"\";")
+}
