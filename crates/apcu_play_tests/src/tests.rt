@@ -1,5 +1,3 @@
-ghost use Rattle.std.specs.Prelude.{◌≤◌};
-
 use apcu_play::{Status, run};
 use io_edges::{MemSink, MemSource, NoGate};
 use notation::ByteOut;
@@ -351,16 +349,14 @@ fn unread(piece: usize, at: &[u64]) -> Run<'_> {
     }
 }
 
-// The run whose write of this number fails, behind so many bytes.
-fn unwritten(piece: usize, at: &[u64], bytes: usize) -> Run<'_>
-    requires { bytes ≤ 39 }
-{
+// The run whose write of this number fails, behind these bytes.
+fn unwritten<'a>(piece: usize, at: &'a [u64], printed: &'a [u8]) -> Run<'a> {
     Run {
         input: STORE_AND_FETCH,
         piece,
         fails: [[].as_slice(), at],
         status: Status::WriteFault,
-        printed: &PRINTED[..bytes],
+        printed,
         told: b"apcu_run: write fault\n",
     }
 }
@@ -371,16 +367,15 @@ fn faults_in_turn(rt: HostRuntime) -> Result<(), Fail> {
     for at in 0..=STORE_AND_FETCH.len() {
         expect(&rt, rt.alloc(), unread(1, &[at as u64]))?;
     }
-    for at in 0..3usize {
-        expect(&rt, rt.alloc(), unwritten(1, &[at as u64], at))?;
-    }
-    Ok(())
+    expect(&rt, rt.alloc(), unwritten(1, &[0], b""))?;
+    expect(&rt, rt.alloc(), unwritten(1, &[1], b"w"))?;
+    expect(&rt, rt.alloc(), unwritten(1, &[2], b"wo"))
 }
 
 #[test]
 fn faults_in_mid_stream(rt: HostRuntime) -> Result<(), Fail> {
     expect(&rt, rt.alloc(), unread(7, &[1]))?;
-    expect(&rt, rt.alloc(), unwritten(5, &[1], 5))?;
+    expect(&rt, rt.alloc(), unwritten(5, &[1], b"worke"))?;
     assert_eq!(rt; Status::ReadFault.code(), 3);
     assert_eq!(rt; Status::WriteFault.code(), 4);
     Ok(())
