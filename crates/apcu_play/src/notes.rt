@@ -25,7 +25,7 @@ impl<'a, A> Model for Notes<'a, A> {
     ghost view = { λ n. map (λ note. (note.0.now, note.1)) n.notes.items };
 
     ghost invariant = { λ n.
-      KnowsNotes (map (λ note. (note.0.now, note.1)) n.notes.items) n.places };
+        KnowsNotes (map (λ note. (note.0.now, note.1)) n.notes.items) n.places };
 }
 
 impl<'a, A: Drop> Notes<'a, A> {

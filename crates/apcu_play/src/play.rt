@@ -90,7 +90,14 @@ fn play_alone(
     let mut engine = Engine::new(alloc, conf)?;
     let mut journal = Journal::new(alloc, events)?;
     write_worker(&mut out, 0)?;
-    play_steps(&mut engine, alloc, conf.slots, steps, &mut journal, &mut out)?;
+    play_steps(
+        &mut engine,
+        alloc,
+        conf.slots,
+        steps,
+        &mut journal,
+        &mut out,
+    )?;
     journal.push(mark_of_own());
     write_journal(&mut out, &journal)?;
     Ok(out)
