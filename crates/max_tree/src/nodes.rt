@@ -71,8 +71,10 @@ pub fn last_leaf_before(nodes: &[u32], p: usize) -> Option<usize>
     requires maxima { AreMaxima nodes.now }
     requires complete { IsComplete (length nodes.now) }
     requires leaf { p < length (leaves nodes.now) }
-    ensures found { MatchOption result ((k : ℕ) → k < p → slice_index (leaves nodes.now) k ≡ 0) (λ q. (q < p) × (slice_index (leaves nodes.now) q ≢ 0)) }
-    ensures last { MatchOption result (Unit {0}) (λ q. (k : ℕ) → q < k → k < p → slice_index (leaves nodes.now) k ≡ 0) }
+    ensures found { MatchOption result ((k : ℕ) → k < p → slice_index (leaves nodes.now) k ≡ 0)
+        (λ q. (q < p) × (slice_index (leaves nodes.now) q ≢ 0)) }
+    ensures last { MatchOption result (Unit {0})
+        (λ q. (k : ℕ) → q < k → k < p → slice_index (leaves nodes.now) k ≡ 0) }
 {
     let mut i = nodes.len() / 2 + p;
     while i > 1 {

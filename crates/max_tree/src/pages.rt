@@ -28,8 +28,11 @@ pub fn top_of(numbers: &[u32], k: usize) -> u32
 // The first number of the page that is `n` or more.
 pub fn first_in_page(numbers: &[u32], k: usize, n: u32) -> Option<usize>
     requires { PAGE * k ≤ length numbers.now }
-    ensures none { MatchOption result ((i : ℕ) → PAGE * k ≤ i → i < PAGE * k + PAGE → i < length numbers.now → slice_index numbers.now i < n) (λ at. (i : ℕ) → PAGE * k ≤ i → i < at → slice_index numbers.now i < n) }
-    ensures found { MatchOption result (Unit {0}) (λ at. (PAGE * k ≤ at) × (at < PAGE * k + PAGE) × (at < length numbers.now) × (n ≤ slice_index numbers.now at)) }
+    ensures none { MatchOption result ((i : ℕ) → PAGE * k ≤ i → i < PAGE * k + PAGE
+        → i < length numbers.now → slice_index numbers.now i < n)
+        (λ at. (i : ℕ) → PAGE * k ≤ i → i < at → slice_index numbers.now i < n) }
+    ensures found { MatchOption result (Unit {0}) (λ at. (PAGE * k ≤ at)
+        × (at < PAGE * k + PAGE) × (at < length numbers.now) × (n ≤ slice_index numbers.now at)) }
 {
     let start = PAGE * k;
     let left = numbers.len() - start;
@@ -44,8 +47,11 @@ pub fn first_in_page(numbers: &[u32], k: usize, n: u32) -> Option<usize>
 // The last number that is not 0, of those from `low` up to `high`.
 pub fn last_in(numbers: &[u32], low: usize, high: usize) -> Option<usize>
     requires { (low ≤ high) × (high ≤ length numbers.now) }
-    ensures none { MatchOption result ((i : ℕ) → low ≤ i → i < high → slice_index numbers.now i ≡ 0) (λ at. (i : ℕ) → at < i → i < high → slice_index numbers.now i ≡ 0) }
-    ensures found { MatchOption result (Unit {0}) (λ at. (low ≤ at) × (at < high) × (slice_index numbers.now at ≢ 0)) }
+    ensures none { MatchOption result
+        ((i : ℕ) → low ≤ i → i < high → slice_index numbers.now i ≡ 0)
+        (λ at. (i : ℕ) → at < i → i < high → slice_index numbers.now i ≡ 0) }
+    ensures found { MatchOption result (Unit {0})
+        (λ at. (low ≤ at) × (at < high) × (slice_index numbers.now at ≢ 0)) }
 {
     let mut i = high;
     while i > low {
@@ -62,8 +68,10 @@ fn clear_page(numbers: &mut [u32], k: usize)
     requires { PAGE * k ≤ length numbers.old }
     ensures count { length numbers.new ≡ length numbers.old }
     ensures zeros { (i : ℕ) → PAGE * k ≤ i → i < PAGE * k + PAGE → slice_index numbers.new i ≡ 0 }
-    ensures before { (i : ℕ) → i < PAGE * k → slice_index numbers.new i ≡ slice_index numbers.old i }
-    ensures after { (i : ℕ) → PAGE * k + PAGE ≤ i → slice_index numbers.new i ≡ slice_index numbers.old i }
+    ensures before { (i : ℕ) → i < PAGE * k
+        → slice_index numbers.new i ≡ slice_index numbers.old i }
+    ensures after { (i : ℕ) → PAGE * k + PAGE ≤ i
+        → slice_index numbers.new i ≡ slice_index numbers.old i }
 {
     let start = PAGE * k;
     let left = numbers.len() - start;

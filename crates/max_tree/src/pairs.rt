@@ -23,7 +23,8 @@ impl Model for PairRow {
 
     ghost view = { λ pairs. halves_of pairs.row };
 
-    ghost invariant = { λ pairs. (length pairs.row < 2 ^ 32) × ((i : ℕ) → slice_index pairs.row i ≢ 1) };
+    ghost invariant = { λ pairs.
+        (length pairs.row < 2 ^ 32) × ((i : ℕ) → slice_index pairs.row i ≢ 1) };
 }
 
 impl PairRow {
@@ -84,7 +85,8 @@ impl PairRow {
         ensures count { length self.new ≡ length self.old }
         ensures there { slice_index self.new p ≡ size }
         ensures gone { slice_index self.new gone ≡ 0 }
-        ensures others { (i : ℕ) → i ≢ gone → i ≢ p → slice_index self.new i ≡ slice_index self.old i }
+        ensures others { (i : ℕ) → i ≢ gone → i ≢ p
+            → slice_index self.new i ≡ slice_index self.old i }
     {
         // The larger number first: the other one's way up then ends where the ways meet.
         self.row.set(p / 2, size + (p % 2) as u32);
@@ -115,8 +117,10 @@ impl PairRow {
     /// The last place before `p` of a number that is not 0, if there is one.
     pub fn last_nonzero_before(&self, p: usize) -> Option<usize>
         requires { p < length self.now }
-        ensures found { MatchOption result ((k : ℕ) → k < p → slice_index self.now k ≡ 0) (λ q. (q < p) × (slice_index self.now q ≢ 0)) }
-        ensures last { MatchOption result (Unit {0}) (λ q. (k : ℕ) → q < k → k < p → slice_index self.now k ≡ 0) }
+        ensures found { MatchOption result ((k : ℕ) → k < p → slice_index self.now k ≡ 0)
+            (λ q. (q < p) × (slice_index self.now q ≢ 0)) }
+        ensures last { MatchOption result (Unit {0})
+            (λ q. (k : ℕ) → q < k → k < p → slice_index self.now k ≡ 0) }
     {
         let own = self.row.get(p / 2);
         if p % 2 == 1 && own > 0 && own % 2 == 0 {

@@ -94,8 +94,10 @@ impl MaxRow {
     /// The last place before `p` of a number that is not 0, if there is one.
     pub fn last_nonzero_before(&self, p: usize) -> Option<usize>
         requires { p < length self.now }
-        ensures found { MatchOption result ((k : ℕ) → k < p → slice_index self.now k ≡ 0) (λ q. (q < p) × (slice_index self.now q ≢ 0)) }
-        ensures last { MatchOption result (Unit {0}) (λ q. (k : ℕ) → q < k → k < p → slice_index self.now k ≡ 0) }
+        ensures found { MatchOption result ((k : ℕ) → k < p → slice_index self.now k ≡ 0)
+            (λ q. (q < p) × (slice_index self.now q ≢ 0)) }
+        ensures last { MatchOption result (Unit {0})
+            (λ q. (k : ℕ) → q < k → k < p → slice_index self.now k ≡ 0) }
     {
         let start = p / PAGE * PAGE;
         if let Some(q) = pages::last_in(self.numbers.as_slice(), start, p) {

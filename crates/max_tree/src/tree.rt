@@ -23,7 +23,8 @@ impl Model for MaxTree {
 
     ghost view = { λ tree. leaves tree.nodes.items };
 
-    ghost invariant = { λ tree. (length tree.nodes.items ≡ 2 ^ (tree.depth + 1)) × AreMaxima tree.nodes.items };
+    ghost invariant = { λ tree.
+        (length tree.nodes.items ≡ 2 ^ (tree.depth + 1)) × AreMaxima tree.nodes.items };
 }
 
 // So many zeros.
@@ -98,8 +99,10 @@ impl MaxTree {
     // The last place before `p` of a number that is not 0, if there is one.
     pub fn last_nonzero_before(&self, p: usize) -> Option<usize>
         requires { p < length self.now }
-        ensures found { MatchOption result ((k : ℕ) → k < p → slice_index self.now k ≡ 0) (λ q. (q < p) × (slice_index self.now q ≢ 0)) }
-        ensures last { MatchOption result (Unit {0}) (λ q. (k : ℕ) → q < k → k < p → slice_index self.now k ≡ 0) }
+        ensures found { MatchOption result ((k : ℕ) → k < p → slice_index self.now k ≡ 0)
+            (λ q. (q < p) × (slice_index self.now q ≢ 0)) }
+        ensures last { MatchOption result (Unit {0})
+            (λ q. (k : ℕ) → q < k → k < p → slice_index self.now k ≡ 0) }
     {
         nodes::last_leaf_before(self.nodes.as_slice(), p)
     }

@@ -11,7 +11,8 @@ abbrev pub size_at : List Piece → ℕ → ℕ
 size_at [] place = 0
 size_at (piece ∷ rest) place = here piece place + size_at rest place
 
--- The i-th number is the size of the gap that begins at the word 2 i, or 0; there is one for every two words.
+-- The i-th number is the size of the gap that begins at the word 2 i, or 0; there is one for every
+-- two words.
 pub record IsIndexed (words : List ℕ) (from : ℕ) (numbers : List ℕ) : Type 0 where
   pub room : length words ≤ length numbers + length numbers
   pub told : (i : ℕ) → slice_index numbers i ≡ size_at (pieces words from) (i + i)
@@ -21,11 +22,14 @@ pub record IsShort (old new : List ℕ) (index size n : ℕ) : Type 0 where
   pub count : length new ≡ length old
   pub gone : slice_index new index ≡ 0
   pub rest : n < size → slice_index new (index + n / 2) ≡ size - n
-  pub others : (i : ℕ) → i ≢ index → (n < size → i ≢ index + n / 2) → slice_index new i ≡ slice_index old i
+  pub others : (i : ℕ) → i ≢ index → (n < size → i ≢ index + n / 2)
+      → slice_index new i ≡ slice_index old i
 
--- the numbers after a block, which ended at `end`, and the gaps round it, from `first` up to `last`, became one gap
+-- the numbers after a block, which ended at `end`, and the gaps round it, from `first` up to
+-- `last`, became one gap
 pub record IsJoined (old new : List ℕ) (first end last : ℕ) : Type 0 where
   pub count : length new ≡ length old
   pub there : slice_index new (first / 2) ≡ last - first
   pub gone : end < last → slice_index new (end / 2) ≡ 0
-  pub others : (i : ℕ) → i ≢ first / 2 → (end < last → i ≢ end / 2) → slice_index new i ≡ slice_index old i
+  pub others : (i : ℕ) → i ≢ first / 2 → (end < last → i ≢ end / 2)
+      → slice_index new i ≡ slice_index old i

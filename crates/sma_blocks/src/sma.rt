@@ -24,9 +24,9 @@ struct Part {
 
 /// The shared memory allocator: blocks and gaps that fill the words of a segment from a place on.
 ///
-/// All places and sizes are even numbers of words. The second word of a gap is the place of the next
-/// one, or 0. An index in plain memory finds the gap that a call needs, so that no call walks; it is
-/// made from the row that `format` is handed, and no call takes memory.
+/// All places and sizes are even numbers of words. The second word of a gap is the place of the
+/// next one, or 0. An index in plain memory finds the gap that a call needs, so that no call walks;
+/// it is made from the row that `format` is handed, and no call takes memory.
 #[derive(Drop)]
 pub struct Sma {
     /// The place of the first block or gap.
@@ -108,8 +108,8 @@ impl Sma {
         Some(at)
     }
 
-    /// Makes the block at `at` live no more, and one gap of it and the gaps beside it. No window may
-    /// name the block.
+    /// Makes the block at `at` live no more, and one gap of it and the gaps beside it. No window
+    /// may name the block.
     pub fn give<S: Segment>(&mut self, seg: &mut S, at: u32)
         requires live { IsLive (live_blocks (S.words seg.old) self.old.from) at }
         requires unnamed { is_named (S.aside seg.old).windows at ≡ false }
@@ -137,8 +137,8 @@ impl Sma {
         link_new(seg, &mut self.head, before, first, at);
     }
 
-    /// Keeps the blocks at these rising places live, and makes gaps of all other words. Every window
-    /// names one of these blocks.
+    /// Keeps the blocks at these rising places live, and makes gaps of all other words. Every
+    /// window names one of these blocks.
     pub fn keep<S: Segment>(&mut self, seg: &mut S, places: &[u32])
         requires live { (i : ℕ) → i < length places.now → IsLive (live_blocks
             (S.words seg.old) self.old.from) (slice_index places.now i) }
@@ -201,7 +201,8 @@ impl Sma {
         self.head
     }
 
-    /// The first gap at or past `at`, as its place and its size; `None` exactly where there is none.
+    /// The first gap at or past `at`, as its place and its size; `None` exactly where there is
+    /// none.
     pub fn gap_from<S: Segment>(&self, seg: &mut S, at: u32) -> Option<(u32, u32)>
         requires { IsReady self.now (S.words seg.old) (S.aside seg.old) }
         ensures value { result ≡ option_map (λ run. (run.place, run.size)) (find
@@ -222,7 +223,8 @@ impl Sma {
         if size == 0 { None } else { Some((place, size)) }
     }
 
-    // Makes a gap of the words from `first` up to `last`, if there are any, in front of all other gaps.
+    // Makes a gap of the words from `first` up to `last`, if there are any, in front of all other
+    // gaps.
     fn lay<S: Segment>(&mut self, seg: &mut S, first: u32, last: u32)
         requires inside { last ≤ length (S.words seg.old) }
         requires even { (first % 2 ≡ 0) × (last % 2 ≡ 0) }
@@ -249,8 +251,8 @@ impl Sma {
         }
     }
 
-    // The place from which on the words right before the live block at `at` are free, where `before`
-    // is the last gap before it. It reads the index alone.
+    // The place from which on the words right before the live block at `at` are free, where
+    // `before` is the last gap before it. It reads the index alone.
     fn free_before<S: Segment>(&self, seg: &S, before: Option<usize>, at: u32) -> u32
         requires ready { IsReady self.now (S.words seg.now) (S.aside seg.now) }
         requires live { IsLive (live_blocks (S.words seg.now) self.now.from) at }
@@ -327,8 +329,8 @@ fn shorten(sizes: &mut PairRow, index: usize, size: u32, n: u32)
     }
 }
 
-// One gap from `first` up to `last` is there in place of the gaps among those words, where the block
-// that was given ended at `end`.
+// One gap from `first` up to `last` is there in place of the gaps among those words, where the
+// block that was given ended at `end`.
 fn join(sizes: &mut PairRow, first: u32, end: u32, last: u32)
     requires inside { (first / 2 < length sizes.old) × (end < last → end / 2 < length sizes.old) }
     requires order { (first + 2 ≤ end) × (end ≤ last) }

@@ -18,8 +18,8 @@ pub fn put<S: Segment>(seg: &mut S, i: u32, w: u64)
     }
 }
 
-// Makes a block of the first `n` words of the gap at `at`, and a gap of what is left of it, with its
-// link.
+// Makes a block of the first `n` words of the gap at `at`, and a gap of what is left of it, with
+// its link.
 pub fn cut<S: Segment>(seg: &mut S, at: u32, size: u32, n: u32)
     requires inside { at + size ≤ length (S.words seg.old) }
     requires size { (2 ≤ n) × (n ≤ size) × (n < size → n + 2 ≤ size) }
@@ -78,8 +78,8 @@ pub fn rest_of<S: Segment>(seg: &mut S, at: u32, size: u32, n: u32) -> u64
     seg.load(at + 1)
 }
 
-// Where the next gap begins after the words from `first` up to `last` became one gap: what the link of
-// the last gap among them tells, or else that of the gap before, or the head.
+// Where the next gap begins after the words from `first` up to `last` became one gap: what the link
+// of the last gap among them tells, or else that of the gap before, or the head.
 pub fn next_of<S: Segment>(
     seg: &mut S,
     head: u32,
@@ -111,8 +111,8 @@ pub fn next_of<S: Segment>(
     link_of(seg, head, before)
 }
 
-// Links a gap that begins at `first`: where no gap before it became part of it, the one before, or the
-// head, gets a new link.
+// Links a gap that begins at `first`: where no gap before it became part of it, the one before, or
+// the head, gets a new link.
 pub fn link_new<S: Segment>(seg: &mut S, head: &mut u32, before: Option<usize>, first: u32, at: u32)
     requires inside { MatchOption before (Unit {0}) (λ q. 2 * q + 1 < length (S.words seg.old)) }
     requires apart { MatchOption before (Unit {0}) (λ q. MayStore (S.words seg.old)
@@ -127,7 +127,8 @@ pub fn link_new<S: Segment>(seg: &mut S, head: &mut u32, before: Option<usize>, 
     }
 }
 
-// Makes `next` the link of the gap at the even place of that number, or the head where there is none.
+// Makes `next` the link of the gap at the even place of that number, or the head where there is
+// none.
 pub fn relink<S: Segment>(seg: &mut S, head: &mut u32, before: Option<usize>, next: u64)
     requires inside { MatchOption before (Unit {0}) (λ q. 2 * q + 1 < length (S.words seg.old)) }
     requires apart { MatchOption before (Unit {0}) (λ q. MayStore (S.words seg.old)
