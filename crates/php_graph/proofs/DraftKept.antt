@@ -1,5 +1,5 @@
 -- What a builder keeps, after each item.
-use Rattle.std.proofs.Common.{◌≡◌, ℕ, zero, suc, ◌-◌, ◌<◌, ◌≤◌, Bool, true, false, cond, List, [], ◌∷◌, ◌++◌, length, map, reverse, get_or, set, Option, Some, None, refl, sym, ap, subst, ◌∙◌, arith, length-append}
+use Rattle.std.proofs.Common.{◌≡◌, ℕ, zero, suc, ◌-◌, ◌<◌, ◌≤◌, Bool, true, false, cond, List, [], ◌∷◌, ◌++◌, length, map, reverse, set, Option, Some, None, refl, sym, ap, subst, ◌∙◌, arith, length-append}
 use Rattle.std.specs.List.{AllByRecursion, slice_get}
 use Rattle.std.specs.Option.{is_some}
 use Rattle.std.proofs.lemmas.Bool.{false≢true}
@@ -14,7 +14,7 @@ use Rattle.php_graph.specs.Graph.{kind_at, children_of, is_array}
 use Rattle.php_graph.specs.Building.{with_member, is_container, attached, wants_by, wants_of}
 use Rattle.php_graph.specs.Drafted.{IsDraft, CanTake, CanAttach, is_open_at, places_of, draft_of}
 use Rattle.php_graph.specs.Counted.{children_in}
-use Rattle.php_graph.proofs.DraftLemmas.{kind_at-append_old, place_is, get_or-place, one_kind}
+use Rattle.php_graph.proofs.DraftLemmas.{kind_at-append_old, place_is, one_kind}
 use Rattle.php_graph.proofs.DraftMade.{open_kind, takes_key}
 
 -- ---- the innermost container

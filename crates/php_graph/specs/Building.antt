@@ -1,5 +1,7 @@
 -- Writing a graph item by item.
-use Rattle.std.specs.Prelude.{◌≡◌, ◌⊎◌, Result, Ok, Err, ℕ, zero, suc, ◌+◌, ◌-◌, Bool, true, false, ◌&&◌, ◌||◌, not, nat_le, if◌then◌else◌, List, [], ◌∷◌, ◌++◌, length, map, drop, slice_set, Option, Some, None, FitsSigned}
+use Rattle.std.specs.Prelude.{◌≡◌, ◌⊎◌, Result, Ok, Err, ℕ, zero, suc, ◌+◌, ◌-◌, Bool, true, false}
+use Rattle.std.specs.Prelude.{◌&&◌, ◌||◌, not, nat_le, if◌then◌else◌, List, [], ◌∷◌, ◌++◌, length}
+use Rattle.std.specs.Prelude.{map, drop, slice_set, Option, Some, None, FitsSigned}
 use Rattle.std.specs.Option.{is_none}
 use Rattle.std.specs.Int.{w64}
 use Rattle.php_graph.specs.ByteStrings.{AreBytes}
@@ -14,11 +16,16 @@ use Rattle.php_graph.specs.declared.item.Item.TheVariants as items
 use Rattle.php_graph.specs.declared.item.Wants.{Wants}
 use Rattle.php_graph.specs.declared.item.Wants.TheVariants.{Value, ArrayKey, Name, Done}
 use Rattle.php_graph.specs.declared.item.BuildFault.{BuildFault}
-use Rattle.php_graph.specs.declared.item.BuildFault.TheVariants.{Memory, TooDeep, TooManyPlaces, BadNumber, RepeatedKey, BadClass, IntegerText}
-use Rattle.php_graph.specs.Graph.{kind_at, is_array, is_object, is_array_at, is_object_at, keys_of, has_key, is_array_key, is_class, FitsKey, values_in, levels, most_values}
+use Rattle.php_graph.specs.declared.item.BuildFault.TheVariants.{Memory, TooDeep, TooManyPlaces}
+use Rattle.php_graph.specs.declared.item.BuildFault.TheVariants.{BadNumber, RepeatedKey, BadClass}
+use Rattle.php_graph.specs.declared.item.BuildFault.TheVariants.{IntegerText}
+use Rattle.php_graph.specs.Graph.{kind_at, is_array, is_object, is_array_at, is_object_at, keys_of}
+use Rattle.php_graph.specs.Graph.{has_key, is_array_key, is_class, FitsKey, values_in, levels}
+use Rattle.php_graph.specs.Graph.{most_values}
 
--- A graph that is being written: its places so far, where a container that is open has the members that
--- have begun; the places of the open containers, the innermost first; and a key that waits for its value.
+-- A graph that is being written: its places so far, where a container that is open has the members
+-- that have begun; the places of the open containers, the innermost first; and a key that waits for
+-- its value.
 pub record Draft : Type 0 where
   pub places : List Kind
   pub containers : List ℕ
@@ -82,7 +89,10 @@ FitsItem _ = Unit {0}
 
 -- A key of this container: an array takes no integer's decimal, and neither takes a key again.
 abbrev pub fault_in : Kind → Key → Option BuildFault
-fault_in kind key = if is_array kind && not (is_array_key key) then Some IntegerText else if has_key (keys_of kind) key then Some RepeatedKey else None
+fault_in kind key =
+    if is_array kind && not (is_array_key key) then Some IntegerText
+    else if has_key (keys_of kind) key then Some RepeatedKey
+    else None
 
 abbrev pub fault_among : Option Kind → Key → Option BuildFault
 fault_among None key = None
@@ -97,7 +107,8 @@ abbrev pub innermost_fault : List Kind → List ℕ → Key → Option BuildFaul
 innermost_fault g [] key = None
 innermost_fault g (p ∷ outer) key = key_fault g p key
 
--- what is wrong with a value itself: it names no place that has begun, or no object, or it has no class
+-- what is wrong with a value itself: it names no place that has begun, or no object, or it has no
+-- class
 abbrev pub content_fault : List Kind → Item → Option BuildFault
 content_fault g (items.Same x) = if is_object_at g x then None else Some BadNumber
 content_fault g (items.Back x) = if nat_le 1 x && nat_le x (length g) then None else Some BadNumber
@@ -106,7 +117,10 @@ content_fault g _ = None
 
 -- why there is no room for one more value: it would lie too deep, or there are too many
 abbrev pub room_fault : Draft → Option BuildFault
-room_fault d = if nat_le levels (length d.containers) then Some TooDeep else if nat_le most_values (values_in d.places) then Some TooManyPlaces else None
+room_fault d =
+    if nat_le levels (length d.containers) then Some TooDeep
+    else if nat_le most_values (values_in d.places) then Some TooManyPlaces
+    else None
 
 abbrev pub first_fault : Option BuildFault → Option BuildFault → Option BuildFault
 first_fault None later = later
@@ -121,7 +135,8 @@ fault_of d (items.Key key) = innermost_fault d.places d.containers key
 fault_of d items.Close = None
 fault_of d item = value_fault d item
 
--- What a step answers where this is wrong with it: that very fault, or where nothing is, Ok, unless memory runs out.
+-- What a step answers where this is wrong with it: that very fault, or where nothing is, Ok, unless
+-- memory runs out.
 abbrev pub IsAnswer : Option BuildFault → Result (Unit {0}) BuildFault → Type 0
 IsAnswer fault (Ok done) = fault ≡ None
 IsAnswer fault (Err answered) = ((answered ≡ Memory) × (fault ≡ None)) ⊎ (fault ≡ Some answered)
@@ -138,8 +153,8 @@ abbrev pub changed_at : List Kind → ℕ → (Kind → Kind) → Option Kind �
 changed_at g p change None = g
 changed_at g p change (Some kind) = slice_set g (p - 1) (change kind)
 
--- The places with this member in the innermost open container, under the key that waits. A value at the
--- top is nobody's member.
+-- The places with this member in the innermost open container, under the key that waits. A value at
+-- the top is nobody's member.
 abbrev pub attached : List Kind → List ℕ → Option Key → Child → List Kind
 attached g (p ∷ outer) (Some key) c = changed_at g p (λ kind. with_member kind key c) (kind_at g p)
 attached g _ _ c = g
@@ -157,11 +172,19 @@ is_container kind = is_array kind || is_object kind
 
 -- a value with a place of its own; a container is open from then on
 abbrev pub with_value : Draft → Kind → Draft
-with_value d kind = record { places = with_place d kind; containers = (if is_container kind then next_place d ∷ d.containers else d.containers); key = None }
+with_value d kind = record {
+  places = with_place d kind;
+  containers = (if is_container kind then next_place d ∷ d.containers else d.containers);
+  key = None;
+}
 
 -- a member that shares the value at place x
 abbrev pub with_back : Draft → ℕ → Draft
-with_back d x = record { places = attached d.places d.containers d.key (Back x); containers = d.containers; key = None }
+with_back d x = record {
+  places = attached d.places d.containers d.key (Back x);
+  containers = d.containers;
+  key = None;
+}
 
 -- the draft after an item that fits and is not refused
 abbrev pub pushed : Draft → Item → Draft
@@ -179,7 +202,9 @@ pushed d (items.Back x) = with_back d x
 -- The draft after a list of items, one after the other. None where one does not fit or is refused.
 abbrev pub drafted : Draft → List Item → Option Draft
 drafted d [] = Some d
-drafted d (item ∷ rest) = if item_fits (wants_of d) item && is_none (fault_of d item) then drafted (pushed d item) rest else None
+drafted d (item ∷ rest) =
+    if item_fits (wants_of d) item && is_none (fault_of d item) then drafted (pushed d item) rest
+    else None
 
 -- ---- what one pushes for a graph
 
@@ -199,8 +224,10 @@ kind_items written (Some kinds.Null) = items.Null ∷ []
 kind_items written (Some (kinds.Bool b)) = items.Bool b ∷ []
 kind_items written (Some (kinds.Int n)) = items.Int n ∷ []
 kind_items written (Some (kinds.Str bytes)) = items.Str bytes ∷ []
-kind_items written (Some (kinds.Array ms)) = items.OpenArray ∷ member_items written ms ++ items.Close ∷ []
-kind_items written (Some (kinds.Object class ps)) = items.OpenObject class ∷ member_items written (map named ps) ++ items.Close ∷ []
+kind_items written (Some (kinds.Array ms)) =
+    items.OpenArray ∷ member_items written ms ++ items.Close ∷ []
+kind_items written (Some (kinds.Object class ps)) =
+    items.OpenObject class ∷ member_items written (map named ps) ++ items.Close ∷ []
 kind_items written (Some (kinds.Same x)) = items.Same x ∷ []
 
 -- what one pushes for a member's value, as far as the levels go

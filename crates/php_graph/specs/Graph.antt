@@ -1,5 +1,8 @@
 -- Value graphs: a list of places, numbered from 1 in the order in which they are written.
-use Rattle.std.specs.Prelude.{◌≡◌, ℕ, zero, suc, ◌+◌, ◌-◌, ◌<◌, ◌≤◌, Bool, true, false, ◌&&◌, ◌||◌, not, nat_lt, nat_le, ◌==◌, if◌then◌else◌, IsTrue, List, [], ◌∷◌, length, map, take, drop, sum_by, count_by, slice_get, Option, Some, None, FitsSigned}
+use Rattle.std.specs.Prelude.{◌≡◌, ℕ, zero, suc, ◌+◌, ◌-◌, ◌<◌, ◌≤◌, Bool, true, false, ◌&&◌, ◌||◌}
+use Rattle.std.specs.Prelude.{not, nat_lt, nat_le, ◌==◌, if◌then◌else◌, IsTrue, List, [], ◌∷◌}
+use Rattle.std.specs.Prelude.{length, map, take, drop, sum_by, count_by, slice_get, Option, Some}
+use Rattle.std.specs.Prelude.{None, FitsSigned}
 use Rattle.std.specs.Option.{option_and_then, option_map, is_none}
 use Rattle.std.specs.List.{AllByRecursion, list_all, list_any}
 use Rattle.std.specs.Ordering.{int_eq}
@@ -59,12 +62,16 @@ abbrev pub ends_after : (Child → ℕ → Option ℕ) → List Child → ℕ �
 ends_after end [] m = Some m
 ends_after end (c ∷ cs) m = option_and_then (ends_after end cs) (end c m)
 
--- The number after a member, where m is the next number. A value that is written there has the place m,
--- and its own members follow. One that is shared takes no number, and names one that was taken before.
--- None where a number is another one, and where members lie deeper than the levels.
+-- The number after a member, where m is the next number. A value that is written there has the
+-- place m, and its own members follow. One that is shared takes no number, and names one that was
+-- taken before. None where a number is another one, and where members lie deeper than the levels.
 unfoldable pub child_end : ℕ → List Kind → Child → ℕ → Option ℕ
 child_end zero g c m = None
-child_end (suc level) g (Own x) m = if x == m then option_and_then (λ kind. ends_after (child_end level g) (children_of kind) (m + 1)) (kind_at g m) else None
+child_end (suc level) g (Own x) m =
+    if x == m
+    then option_and_then
+    (λ kind. ends_after (child_end level g) (children_of kind) (m + 1)) (kind_at g m)
+    else None
 child_end (suc level) g (Back x) m = if nat_le 1 x && nat_lt x m then Some m else None
 
 -- how many values may lie in one another: the innermost lies inside 511 containers
@@ -98,7 +105,11 @@ is_array_key (keys.Str bytes) = is_none (int_of_text bytes)
 
 -- 0-9, A-Z, a-z, '_', '\', and from 0x7F on
 abbrev pub is_class_byte : ℕ → Bool
-is_class_byte b = (nat_le 48 b && nat_le b 57) || ((nat_le 65 b && nat_le b 90) || ((nat_le 97 b && nat_le b 122) || (b == 95 || (b == 92 || nat_le 127 b))))
+is_class_byte b =
+    (nat_le 48 b && nat_le b 57)
+    || ((nat_le 65 b && nat_le b 90)
+    || ((nat_le 97 b && nat_le b 122)
+    || (b == 95 || (b == 92 || nat_le 127 b))))
 
 -- the name of a class
 abbrev pub is_class : List ℕ → Bool
@@ -106,7 +117,8 @@ is_class bytes = not (length bytes == 0) && list_all is_class_byte bytes
 
 -- keys and names are there once, and are such as may stand there, and so is a class
 abbrev pub is_well_formed : Kind → Bool
-is_well_formed (kinds.Array ms) = are_distinct (map (λ m. m.0) ms) && list_all (λ m. is_array_key m.0) ms
+is_well_formed (kinds.Array ms) =
+    are_distinct (map (λ m. m.0) ms) && list_all (λ m. is_array_key m.0) ms
 is_well_formed (kinds.Object class ps) = are_distinct (map (λ p. keys.Str p.0) ps) && is_class class
 is_well_formed _ = true
 
@@ -159,7 +171,10 @@ lowered_child by (Back x) = option_map Back (lowered_number by x)
 -- each member with its child lowered, where all of them can be
 abbrev pub lowered_members : {A : Type 0} → ℕ → List (A × Child) → Option (List (A × Child))
 lowered_members by [] = Some []
-lowered_members by (m ∷ ms) = option_and_then (λ c. option_map (λ others. (m.0, c) ∷ others) (lowered_members by ms)) (lowered_child by m.1)
+lowered_members by (m ∷ ms) =
+    option_and_then
+    (λ c. option_map (λ others. (m.0, c) ∷ others) (lowered_members by ms))
+    (lowered_child by m.1)
 
 abbrev pub lowered_kind : ℕ → Kind → Option Kind
 lowered_kind by (kinds.Array ms) = option_map kinds.Array (lowered_members by ms)
@@ -169,9 +184,13 @@ lowered_kind by kind = Some kind
 
 abbrev pub lowered_places : ℕ → List Kind → Option (List Kind)
 lowered_places by [] = Some []
-lowered_places by (kind ∷ ks) = option_and_then (λ k. option_map (λ others. k ∷ others) (lowered_places by ks)) (lowered_kind by kind)
+lowered_places by (kind ∷ ks) =
+    option_and_then
+    (λ k. option_map (λ others. k ∷ others) (lowered_places by ks))
+    (lowered_kind by kind)
 
--- The places of the value that is written at place k, as a graph of their own: all numbers are lowered by
--- k - 1. None where one of them names a place outside that value.
+-- The places of the value that is written at place k, as a graph of their own: all numbers are
+-- lowered by k - 1. None where one of them names a place outside that value.
 unfoldable pub part_of : List Kind → ℕ → Option (List Kind)
-part_of g k = option_and_then (λ e. lowered_places (k - 1) (take (e - k) (drop (k - 1) g))) (end_of g k)
+part_of g k =
+    option_and_then (λ e. lowered_places (k - 1) (take (e - k) (drop (k - 1) g))) (end_of g k)

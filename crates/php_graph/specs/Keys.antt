@@ -1,5 +1,6 @@
 -- What a builder knows of the keys of an open container.
-use Rattle.std.specs.Prelude.{◌≡◌, ℕ, ◌+◌, ◌%◌, ◌^◌, ◌≤◌, Bool, true, nat_lt, if◌then◌else◌, List, [], Option, Some, None}
+use Rattle.std.specs.Prelude.{◌≡◌, ℕ, ◌+◌, ◌%◌, ◌^◌, ◌≤◌, Bool, true, nat_lt, if◌then◌else◌, List}
+use Rattle.std.specs.Prelude.{[], Option, Some, None}
 use Rattle.std.specs.Int.{w64, cast_unsigned}
 use Rattle.std.specs.BTreeSet.{BTreeSet, contains}
 use Rattle.std.specs.Cmp.Lexicographic.{slice_cmp}
@@ -22,8 +23,8 @@ key_cmp (Int a) (Str b) = Less
 key_cmp (Str a) (Int b) = Greater
 key_cmp (Str a) (Str b) = slice_cmp nat_cmp a b
 
--- A key's mark: of an integer its number in their order, from 0, and of a byte string its hash. Equal keys have equal
--- marks.
+-- A key's mark: of an integer its number in their order, from 0, and of a byte string its hash.
+-- Equal keys have equal marks.
 abbrev pub mark_of : Key → ℕ
 mark_of (Int n) = (cast_unsigned w64 n + 2 ^ 63) % 2 ^ 64
 mark_of (Str bytes) = hash_of bytes

@@ -14,15 +14,16 @@ abbrev pub key_cells : Key → ℕ
 key_cells (keys.Int n) = 2
 key_cells (keys.Str bytes) = 1 + words_in (length bytes)
 
--- The words of a place: its tag and what it holds; a member of a container takes a word for its child,
--- and those of its key.
+-- The words of a place: its tag and what it holds; a member of a container takes a word for its
+-- child, and those of its key.
 abbrev pub cells_of : Kind → ℕ
 cells_of kinds.Null = 1
 cells_of (kinds.Bool b) = 1
 cells_of (kinds.Int n) = 2
 cells_of (kinds.Str bytes) = 1 + words_in (length bytes)
 cells_of (kinds.Array ms) = 1 + sum_by (λ m. 1 + key_cells m.0) ms
-cells_of (kinds.Object class ps) = 2 + words_in (length class) + sum_by (λ p. 2 + words_in (length p.0)) ps
+cells_of (kinds.Object class ps) =
+    2 + words_in (length class) + sum_by (λ p. 2 + words_in (length p.0)) ps
 cells_of (kinds.Same x) = 2
 
 -- the words of all places

@@ -1,11 +1,14 @@
 //! Writing a graph item by item.
 
-ghost use Rattle.std.specs.Prelude.{length, ◌≡◌, ◌<◌, ◌⊎◌, [], vec_len, vec_capacity, true, Some, None, IsTrue, OnOk, OnErr, IfErr, IsErrOf, MatchResult};
+ghost use Rattle.std.specs.Prelude.{length, ◌≡◌, ◌<◌, ◌⊎◌, [], vec_len, vec_capacity, true, Some};
+ghost use Rattle.std.specs.Prelude.{None, IsTrue, OnOk, OnErr, IfErr, IsErrOf, MatchResult};
 ghost use Rattle.php_graph.specs.declared.item.BuildFault.{BuildFault};
 ghost use Rattle.php_graph.specs.declared.item.BuildFault.TheVariants.{Memory};
 ghost use Rattle.php_graph.specs.declared.item.Item.TheVariants as items;
 ghost use Rattle.php_graph.specs.declared.item.Wants.TheVariants.{Value, ArrayKey, Name, Done};
-ghost use Rattle.php_graph.specs.Building.{nothing_drafted, wants_of, item_fits, is_name, fault_of, pushed, IsAnswer, room_fault, value_fault, with_value, with_back};
+ghost use Rattle.php_graph.specs.Building.{nothing_drafted, wants_of, item_fits, is_name, fault_of};
+ghost use Rattle.php_graph.specs.Building.{pushed, IsAnswer, room_fault, value_fault, with_value};
+ghost use Rattle.php_graph.specs.Building.{with_back};
 ghost use Rattle.php_graph.specs.declared.kind.Kind.TheVariants as kinds;
 ghost use Rattle.php_graph.specs.Graph.{IsGraph, is_object_at};
 ghost use Rattle.php_graph.specs.Drafted.{IsFresh};
@@ -128,15 +131,14 @@ impl Builder {
         Ok(())
     }
 
-    // A value with a place of its own.
-    fn push_value(&mut self, kind: Kind) -> Result<(), BuildFault>
+    // A value with a place of its own, where there is room for it.
+    fn add_value(&mut self, kind: Kind) -> Result<(), AllocError>
         requires wanted { wants_of self.old ≡ Value }
         requires new_value { IsFresh self.old.places kind }
-        ensures answer { IsAnswer (room_fault self.old) result }
+        requires room { room_fault self.old ≡ None }
         ensures ok { OnOk result (self.new ≡ with_value self.old kind) }
         ensures err { OnErr result (self.new ≡ self.old) }
     {
-        self.room()?;
         let place = self.len() as u32 + 1;
         let opens = kind.is_container();
         make_room(&mut self.containers, opens)?;
@@ -150,6 +152,19 @@ impl Builder {
         )?;
         open_container(&mut self.containers, place, opens);
         self.values += 1;
+        Ok(())
+    }
+
+    // A value with a place of its own.
+    fn push_value(&mut self, kind: Kind) -> Result<(), BuildFault>
+        requires wanted { wants_of self.old ≡ Value }
+        requires new_value { IsFresh self.old.places kind }
+        ensures answer { IsAnswer (room_fault self.old) result }
+        ensures ok { OnOk result (self.new ≡ with_value self.old kind) }
+        ensures err { OnErr result (self.new ≡ self.old) }
+    {
+        self.room()?;
+        self.add_value(kind)?;
         Ok(())
     }
 
@@ -183,7 +198,8 @@ impl Builder {
         if !self.has_object(place) {
             return Err(BuildFault::BadNumber);
         }
-        self.push_value(Kind::Same(place))
+        self.add_value(Kind::Same(place))?;
+        Ok(())
     }
 
     // Whether an object has begun at this place.
@@ -213,7 +229,8 @@ impl Builder {
             return Err(BuildFault::BadClass);
         }
         let props = Props::new(self.alloc)?;
-        self.push_value(Kind::Object(class, props))
+        self.add_value(Kind::Object(class, props))?;
+        Ok(())
     }
 
     // The key of the next member.

@@ -1,13 +1,15 @@
 //! What a builder knows of a container that is open.
 
-ghost use Rattle.std.specs.Prelude.{◌≡◌, ◌++◌, ◌∷◌, [], List, IsTrue, not, false, Err, IfOk, OnOk, OnErr};
+ghost use Rattle.std.specs.Prelude.{◌≡◌, ◌++◌, ◌∷◌, [], List, IsTrue, not, false, Err, IfOk, OnOk};
+ghost use Rattle.std.specs.Prelude.{OnErr};
 ghost use Rattle.std.specs.Ordering.{nat_cmp};
 ghost use Rattle.std.specs.BTreeSet.{contains};
 ghost use Rattle.php_graph.specs.declared.key.Key.{Key};
 ghost use Rattle.php_graph.specs.declared.container.Seen.TheVariants.{Nothing};
 ghost use Rattle.php_graph.specs.Graph.{keys_of, has_key};
 ghost use Rattle.php_graph.specs.Building.{IsAnswer};
-ghost use Rattle.php_graph.specs.Keys.{KnowsKeys, SeesKeys, HasKeys, HasMarks, is_above, raised, mark_of, repeat_fault};
+ghost use Rattle.php_graph.specs.Keys.{KnowsKeys, SeesKeys, HasKeys, HasMarks, is_above, raised};
+ghost use Rattle.php_graph.specs.Keys.{mark_of, repeat_fault};
 
 use crate::item::BuildFault;
 use crate::key::Key;

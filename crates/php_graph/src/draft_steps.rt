@@ -1,13 +1,15 @@
 //! The steps of a builder, over the lists that it keeps.
 
-ghost use Rattle.std.specs.Prelude.{◌≡◌, ◌<◌, ◌+◌, ◌^◌, ◌++◌, ◌∷◌, [], IsTrue, length, reverse, true, OnOk, OnErr, Some, None, vec_len, vec_capacity};
+ghost use Rattle.std.specs.Prelude.{◌≡◌, ◌<◌, ◌+◌, ◌^◌, ◌++◌, ◌∷◌, [], IsTrue, length, reverse};
+ghost use Rattle.std.specs.Prelude.{true, OnOk, OnErr, Some, None, vec_len, vec_capacity};
 ghost use Rattle.std.specs.List.{AllByRecursion};
 ghost use Rattle.php_graph.specs.declared.child.Child.TheVariants.{Own};
 ghost use Rattle.php_graph.specs.Graph.{is_array_key, keys_of, FitsKey};
 ghost use Rattle.php_graph.specs.Keys.{KnowsKeys};
 ghost use Rattle.php_graph.specs.Kept.{kinds_of};
 ghost use Rattle.php_graph.specs.Building.{attached, innermost_fault, fault_in, IsAnswer};
-ghost use Rattle.php_graph.specs.Drafted.{Opens, kinds_in, places_of, CanAttach, KnowsAll, is_open_at};
+ghost use Rattle.php_graph.specs.Drafted.{Opens, kinds_in, places_of, CanAttach, KnowsAll};
+ghost use Rattle.php_graph.specs.Drafted.{is_open_at};
 
 use crate::child::Child;
 use crate::container::Container;
@@ -85,10 +87,31 @@ pub(crate) fn push_place(
     ensures err { OnErr result ((kinds_in places.new ≡ kinds_in places.old)
         × (key.new ≡ key.old)) }
 {
-    let Some(places) = places else {
-        *places = Some(Places::new(alloc, kind));
-        return Ok(());
-    };
+    match places {
+        Some(places) => push_other(places, containers, key, kind),
+        None => {
+            *places = Some(Places::new(alloc, kind));
+            Ok(())
+        }
+    }
+}
+
+// Gives a value that is not the first the next place, as a member of the innermost open container.
+fn push_other(
+    places: &mut Places,
+    containers: &[Container],
+    key: &mut Option<Key>,
+    kind: Kind,
+) -> Result<(), AllocError>
+    requires can { CanAttach (kinds_of places.old) (places_of containers.now) key.old }
+    requires small { length (kinds_of places.old) + 1 < 2 ^ 32 }
+    ensures ok { OnOk result (kinds_of places.new
+        ≡ attached (kinds_of places.old) (places_of containers.now) key.old
+        (Own (length (kinds_of places.old) + 1)) ++ kind ∷ []) }
+    ensures used { OnOk result (key.new ≡ None) }
+    ensures err { OnErr result ((kinds_of places.new ≡ kinds_of places.old)
+        × (key.new ≡ key.old)) }
+{
     let place = places.len() as u32 + 1;
     places.push(kind)?;
     match attach(places, containers, key, Child::Own(place)) {
@@ -114,8 +137,10 @@ pub(crate) fn note_last(
     ensures answer { IsAnswer
         (innermost_fault (kinds_in places.now) (places_of containers.old.items) key.now) result }
     ensures places { places_of containers.new.items ≡ places_of containers.old.items }
-    ensures ok { OnOk result (KnowsAll (kinds_in places.now) (reverse containers.new.items) (Some key.now)) }
-    ensures err { OnErr result (KnowsAll (kinds_in places.now) (reverse containers.new.items) None) }
+    ensures ok { OnOk result
+        (KnowsAll (kinds_in places.now) (reverse containers.new.items) (Some key.now)) }
+    ensures err { OnErr result
+        (KnowsAll (kinds_in places.now) (reverse containers.new.items) None) }
 {
     key.check();
     let last = containers.len();

@@ -1,10 +1,12 @@
 //! Value graphs.
 
-ghost use Rattle.std.specs.Prelude.{◌≡◌, ℕ, ◌+◌, ◌<◌, ◌≤◌, ◌^◌, ◌↔◌, IsTrue, IfOk, IfErr, IfSome, List, [], ◌∷◌, length, Some};
+ghost use Rattle.std.specs.Prelude.{◌≡◌, ℕ, ◌+◌, ◌<◌, ◌≤◌, ◌^◌, ◌↔◌, IsTrue, IfOk, IfErr, IfSome};
+ghost use Rattle.std.specs.Prelude.{List, [], ◌∷◌, length, Some};
 ghost use Rattle.php_graph.specs.ByteStrings.{AreBytes};
 ghost use Rattle.php_graph.specs.declared.kind.Kind.TheVariants.{Str};
 ghost use Rattle.std.specs.Option.{option_map};
-ghost use Rattle.php_graph.specs.Graph.{IsGraph, kind_at, most_values, end_of, part_of, lowered_places};
+ghost use Rattle.php_graph.specs.Graph.{IsGraph, kind_at, most_values, end_of, part_of};
+ghost use Rattle.php_graph.specs.Graph.{lowered_places};
 ghost use Rattle.php_graph.specs.Counted.{children_in};
 ghost use Rattle.php_graph.specs.Kept.{IsKept, kinds_of, kinds_at, offsets_at};
 ghost use Rattle.php_graph.specs.Size.{image_length, offset_of, block_size};

@@ -1,7 +1,9 @@
 //! What stands at a place of a graph.
 
-ghost use Rattle.std.specs.Prelude.{◌≡◌, ◌<◌, ◌+◌, ◌^◌, ◌++◌, ◌∷◌, [], length, true, None, IsTrue, ◌↔◌, IfOk, OnOk, IfErr, OnErr};
-ghost use Rattle.php_graph.specs.Graph.{keys_of, children_of, has_key, is_array, is_object, lowered_kind, FitsKind};
+ghost use Rattle.std.specs.Prelude.{◌≡◌, ◌<◌, ◌+◌, ◌^◌, ◌++◌, ◌∷◌, [], length, true, None, IsTrue};
+ghost use Rattle.std.specs.Prelude.{◌↔◌, IfOk, OnOk, IfErr, OnErr};
+ghost use Rattle.php_graph.specs.Graph.{keys_of, children_of, has_key, is_array, is_object};
+ghost use Rattle.php_graph.specs.Graph.{lowered_kind, FitsKind};
 ghost use Rattle.php_graph.specs.Building.{with_member, is_name, is_container};
 ghost use Rattle.php_graph.specs.Kept.{last_own};
 ghost use Rattle.php_graph.specs.Keys.{HasKeys, HasMarks};

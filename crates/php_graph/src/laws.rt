@@ -6,7 +6,8 @@ ghost use Rattle.php_graph.specs.declared.kind.Kind.{Kind};
 ghost use Rattle.php_graph.specs.declared.item.Item.{Item};
 ghost use Rattle.php_graph.specs.declared.item.Wants.TheVariants.{Done};
 ghost use Rattle.php_graph.specs.Graph.{IsGraph};
-ghost use Rattle.php_graph.specs.Building.{Draft, nothing_drafted, all_drafted, drafted, wants_of, FitsItem, items_of};
+ghost use Rattle.php_graph.specs.Building.{Draft, nothing_drafted, all_drafted, drafted, wants_of};
+ghost use Rattle.php_graph.specs.Building.{FitsItem, items_of};
 
 /// Items that fit and are not refused, and after which nothing is wanted, have written a graph,
 /// and are the items of that graph: there is one way to write each. Where a graph is drafted with

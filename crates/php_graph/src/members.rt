@@ -1,6 +1,7 @@
 //! The members of an array.
 
-ghost use Rattle.std.specs.Prelude.{◌≡◌, ◌<◌, length, slice_set, [], IsTrue, ◌↔◌, slice_get, Some, None, IfOk, OnOk, IfErr, OnErr, ◌+◌, ◌^◌, ◌∷◌, ◌++◌};
+ghost use Rattle.std.specs.Prelude.{◌≡◌, ◌<◌, length, slice_set, [], IsTrue, ◌↔◌, slice_get, Some};
+ghost use Rattle.std.specs.Prelude.{None, IfOk, OnOk, IfErr, OnErr, ◌+◌, ◌^◌, ◌∷◌, ◌++◌};
 ghost use Rattle.php_graph.specs.declared.key.Key.{Key};
 ghost use Rattle.php_graph.specs.declared.child.Child.{Child};
 ghost use Rattle.php_graph.specs.Graph.{lowered_members, has_key};

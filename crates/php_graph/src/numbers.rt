@@ -1,12 +1,14 @@
 //! The decimal text of an integer, and PHP's string hash.
 
-ghost use Rattle.std.specs.Prelude.{◌≡◌, ◌⊎◌, ◌<◌, ◌^◌, List, ℕ, ℤ, true, false, Some, MatchOption, FitsSigned};
+ghost use Rattle.std.specs.Prelude.{◌≡◌, ◌⊎◌, ◌<◌, ◌^◌, List, ℕ, ℤ, true, false, Some, MatchOption};
+ghost use Rattle.std.specs.Prelude.{FitsSigned};
 ghost use Rattle.std.specs.Char.{is_ascii_digit};
 ghost use Rattle.std.specs.List.{list_all};
 ghost use Rattle.std.specs.Int.{w64};
 ghost use Rattle.std.specs.Fmt.{signed_decimal};
 ghost use Rattle.php_graph.specs.Graph.{is_class, is_class_byte};
-ghost use Rattle.php_graph.specs.Numbers.{int_of_text, hash_of, hash_step, is_canonical, digits_after, natural_of, negative_of};
+ghost use Rattle.php_graph.specs.Numbers.{int_of_text, hash_of, hash_step, is_canonical};
+ghost use Rattle.php_graph.specs.Numbers.{digits_after, natural_of, negative_of};
 
 const MINUS: u8 = b'-';
 // Where a digit follows a number above this one, the number is above 2^63.

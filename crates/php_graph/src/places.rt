@@ -1,6 +1,8 @@
 //! The places of a graph, as they stand in memory.
 
-ghost use Rattle.std.specs.Prelude.{◌≡◌, ◌+◌, ◌-◌, ◌<◌, ◌≤◌, ◌^◌, ◌++◌, ◌∷◌, [], IsTrue, ◌↔◌, List, length, take, drop, slice_get, slice_set, slice_index, Some, IfOk, IfErr, OnOk, OnErr, true};
+ghost use Rattle.std.specs.Prelude.{◌≡◌, ◌+◌, ◌-◌, ◌<◌, ◌≤◌, ◌^◌, ◌++◌, ◌∷◌, [], IsTrue, ◌↔◌, List};
+ghost use Rattle.std.specs.Prelude.{length, take, drop, slice_get, slice_set, slice_index, Some};
+ghost use Rattle.std.specs.Prelude.{IfOk, IfErr, OnOk, OnErr, true};
 ghost use Rattle.std.specs.Option.{option_map};
 ghost use Rattle.php_graph.specs.declared.kind.Kind.{Kind};
 ghost use Rattle.php_graph.specs.declared.kind.Kind.TheVariants.{Str};
@@ -151,8 +153,8 @@ impl Places {
         Ok(Places { first, others })
     }
 
-    // The places from the one with this number to before that one, from 0, with all numbers lowered.
-    // None where one of them names a place outside.
+    // The places from the one with this number to before that one, from 0, with all numbers
+    // lowered. None where one of them names a place outside.
     pub(crate) fn lowered(
         &self,
         alloc: Global,

@@ -1,6 +1,8 @@
 //! The properties of an object.
 
-ghost use Rattle.std.specs.Prelude.{◌≡◌, ◌<◌, List, ℕ, length, slice_set, [], IsTrue, ◌↔◌, slice_get, Some, None, IfOk, OnOk, IfErr, OnErr, ◌+◌, ◌^◌, ◌∷◌, ◌++◌, map, sum_by};
+ghost use Rattle.std.specs.Prelude.{◌≡◌, ◌<◌, List, ℕ, length, slice_set, [], IsTrue, ◌↔◌};
+ghost use Rattle.std.specs.Prelude.{slice_get, Some, None, IfOk, OnOk, IfErr, OnErr, ◌+◌, ◌^◌, ◌∷◌};
+ghost use Rattle.std.specs.Prelude.{◌++◌, map, sum_by};
 ghost use Rattle.php_graph.specs.declared.key.Key.TheVariants.{Str};
 ghost use Rattle.php_graph.specs.declared.child.Child.{Child};
 ghost use Rattle.php_graph.specs.Graph.{lowered_members, has_key};

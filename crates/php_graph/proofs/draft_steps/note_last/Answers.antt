@@ -3,7 +3,7 @@ use Rattle.std.specs.List.{slice_get, AllByRecursion}
 use Rattle.php_graph.specs.declared.kind.Kind.{Kind}
 use Rattle.php_graph.specs.Building.{fault_in, IsAnswer}
 use Rattle.php_graph.specs.Drafted.{kinds_in, places_of, is_open_at}
-use Rattle.php_graph.specs.Kept.{PlaceList, kinds_of}
+use Rattle.php_graph.specs.Kept.{PlaceList}
 use Rattle.php_graph.proofs.DraftLemmas.{one_kind}
 use Rattle.php_graph.proofs.DraftKept.{none_in}
 use Rattle.php_graph.proofs.DraftKnown.{IsLast, last_is, last_answer, last_places, last_ok, last_err}

@@ -1,4 +1,4 @@
-use Rattle.std.proofs.Common.{◌≡◌, ◌∙◌, ◌+◌, ap, arith, sym, Some}
+use Rattle.std.proofs.Common.{◌≡◌, ◌+◌, arith, Some}
 use Rattle.php_graph.specs.Graph.{kind_at, end_of}
 use Rattle.php_graph.proofs.DraftLemmas.{IsPlace, place_is, kind_from}
 use Rattle.php_graph.proofs.PartEnds.{leads_first, leads_kind, leads_on, leads_end}

@@ -1,4 +1,4 @@
-use Rattle.std.proofs.Common.{◌≡◌, ◌∙◌, ◌<◌, ap, arith, length, refl, add-one}
+use Rattle.std.proofs.Common.{◌∙◌, ◌<◌, ap, arith, length, refl, add-one}
 use Rattle.std.proofs.lemmas.List.{length-map}
 use Rattle.php_graph.proofs.PlaceLemmas.{laid}
 use Rattle.php_graph.proofs.places.lay_out.Goals as goal

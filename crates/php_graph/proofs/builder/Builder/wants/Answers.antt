@@ -1,7 +1,6 @@
 use Rattle.std.proofs.Common.{◌≡◌, ◌∙◌, ◌-◌, sym, ap, subst, arith, length, List, Some, cond, Bool, Option}
 use Rattle.std.specs.List.{slice_get}
 use Rattle.php_graph.specs.declared.container.Container.{Container}
-use Rattle.php_graph.specs.declared.kind.Kind.{Kind}
 use Rattle.php_graph.specs.declared.item.Wants.TheVariants.{ArrayKey, Name}
 use Rattle.php_graph.specs.Building.{wants_of}
 use Rattle.php_graph.specs.Kept.{PlaceList, kinds_of}

@@ -1,4 +1,4 @@
-use Rattle.std.proofs.Common.{◌≡◌, ◌∙◌, ◌<◌, ◌-◌, arith, ap, zero-add, length, ℕ, List, get_or}
+use Rattle.std.proofs.Common.{◌∙◌, ◌<◌, ◌-◌, arith, ap, zero-add, length, ℕ, List, get_or}
 use Rattle.php_graph.specs.declared.kind.Kind.{Kind}
 use Rattle.php_graph.specs.Size.{offset_of}
 use Rattle.php_graph.specs.Kept.{kinds_of}

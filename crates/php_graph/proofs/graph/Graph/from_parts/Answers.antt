@@ -1,4 +1,4 @@
-use Rattle.std.proofs.Common.{◌∙◌, ◌≤◌, ◌<◌, ap, subst, sym, arith, List}
+use Rattle.std.proofs.Common.{◌∙◌, ◌≤◌, ap, subst, sym, arith, List}
 use Rattle.php_graph.specs.declared.kind.Kind.{Kind}
 use Rattle.php_graph.specs.Graph.{IsGraph, most_values}
 use Rattle.php_graph.specs.Counted.{children_in}

@@ -1,4 +1,4 @@
-use Rattle.std.proofs.Common.{◌≡◌, ◌∙◌, ◌<◌, ◌-◌, ◌∷◌, Some, ap, arith, sym, subst, get_or, set, length}
+use Rattle.std.proofs.Common.{◌≡◌, ◌∙◌, ◌<◌, ◌-◌, ◌∷◌, Some, ap, sym, subst, get_or, set, length}
 use Rattle.std.specs.Prelude.{OnOk, slice_set}
 use Rattle.std.specs.List.{slice_get}
 use Rattle.php_graph.specs.declared.kind.Kind.{Kind}

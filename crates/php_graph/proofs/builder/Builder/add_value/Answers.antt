@@ -1,4 +1,4 @@
-use Rattle.std.proofs.Common.{◌≡◌, ◌∙◌, ◌+◌, sym, ap, subst, List, arith, length, ℕ, Option, ◌++◌, ◌∷◌, []}
+use Rattle.std.proofs.Common.{◌≡◌, ◌∙◌, ◌+◌, sym, ap, subst, List, arith, length, Option, ◌++◌, ◌∷◌, []}
 use Rattle.php_graph.specs.declared.container.Container.{Container}
 use Rattle.php_graph.specs.declared.key.Key.{Key}
 use Rattle.php_graph.specs.declared.child.Child.TheVariants.{Own}
@@ -6,7 +6,7 @@ use Rattle.php_graph.specs.Building.{Draft, wants_of, room_fault, attached, is_c
 use Rattle.php_graph.specs.Drafted.{CanAttach, IsBuilding, IsFresh, IsNewValue, kinds_in, places_of, draft_of}
 use Rattle.php_graph.proofs.DraftKept.{can_attach}
 use Rattle.php_graph.proofs.DraftKnown.{has_room, building_value, opens_is}
-use Rattle.php_graph.proofs.builder.Builder.push_value.Goals as goal
+use Rattle.php_graph.proofs.builder.Builder.add_value.Goals as goal
 
 pub push_place-requires-clause-can : goal.push_place-requires-clause-can
 push_place-requires-clause-can c =
@@ -19,7 +19,7 @@ invariant_of-self-2 c =
     let wants = ap wants_of c.self.view_is ∙ c.requires.wanted in
     let g = kinds_in c.self.inside.places in
     let cs = c.self.inside.containers.items in
-    let room = has_room (draft_of g cs c.self.inside.key) (ap room_fault c.self.view_is ∙ c.in_ok-room.ensures) in
+    let room = has_room (draft_of g cs c.self.inside.key) (ap room_fault c.self.view_is ∙ c.requires.room) in
     let fresh : IsFresh g c.args.kind = subst (λ (d : Draft). IsFresh d.places c.args.kind) (sym c.self.view_is) c.requires.new_value in
     let new : IsNewValue g c.args.kind = record { childless = fresh.childless; well_formed = fresh.well_formed; fits = c.check.ensures fresh.childless; target = fresh.target } in
     let number : c.len.result ≡ length g = c.len.ensures ∙ sym (ap (λ (d : Draft). length d.places) c.self.view_is) in
