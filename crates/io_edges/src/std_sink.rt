@@ -1,7 +1,8 @@
 // A sink over a writer of the runtime.
 ghost use Rattle.std.specs.Prelude.{◌≡◌, ◌≤◌, ◌<◌, length, take, None, IfSome, MatchOption};
 ghost use Rattle.std.specs.Io.KnownBytes.{Appends, Keeps};
-ghost use Rattle.io_edges.specs.Writing.{bytes_taken, TakesWithin, CountsWriteFault, faults_after_write};
+ghost use Rattle.io_edges.specs.Writing.{bytes_taken, TakesWithin, CountsWriteFault};
+ghost use Rattle.io_edges.specs.Writing.{faults_after_write};
 
 use crate::{Put, Sink};
 use std::io::{ErrorKind, Stderr, Stdout, Write};

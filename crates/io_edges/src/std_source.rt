@@ -1,7 +1,8 @@
 // A source over a reader of the runtime.
 ghost use Rattle.std.specs.Prelude.{◌≡◌, ◌≤◌, ◌<◌, length, take, None, Some, IfSome, MatchOption};
 ghost use Rattle.std.specs.Io.KnownBytes.{Consumes, Keeps, IsAtEnd};
-ghost use Rattle.io_edges.specs.Reading.{bytes_given, GivesWithin, EndsOnlyAtEnd, CountsReadFault, faults_after_read};
+ghost use Rattle.io_edges.specs.Reading.{bytes_given, GivesWithin, EndsOnlyAtEnd, CountsReadFault};
+ghost use Rattle.io_edges.specs.Reading.{faults_after_read};
 
 use crate::{Got, Source};
 use std::io::{ErrorKind, Read, Stdin};

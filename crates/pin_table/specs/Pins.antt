@@ -1,5 +1,6 @@
 -- Blocks from which workers copy, and the counts of them in the words. A block of 0 is none.
-use Rattle.std.specs.Prelude.{◌≡◌, ℕ, ◌+◌, ◌<◌, ◌≤◌, ◌==◌, ◌&&◌, ◌⊎◌, Bool, true, false, nat_lt, cond, List, [], ◌∷◌, length, take, drop, slice_index}
+use Rattle.std.specs.Prelude.{◌≡◌, ℕ, ◌+◌, ◌<◌, ◌≤◌, ◌==◌, ◌&&◌, ◌⊎◌, Bool, true, false, nat_lt}
+use Rattle.std.specs.Prelude.{cond, List, [], ◌∷◌, length, take, drop, slice_index}
 use Rattle.seg_words.specs.declared.layout.TheConstants.{IMAGE_LENGTH, PIN_COUNT}
 use Rattle.seg_words.specs.Windows.{is_named}
 use Rattle.seg_words.specs.Blocks.{image_place, image_end}

@@ -1,6 +1,7 @@
 -- What each kind of step tells the seat that makes it: `v` and `w` are the seat before and after,
 -- and `n` is the number that the step found in its word.
-use Rattle.std.specs.Prelude.{◌≡◌, ℕ, ◌-◌, ◌==◌, true, false, MatchBool, List, slice_index, slice_set}
+use Rattle.std.specs.Prelude.{◌≡◌, ℕ, ◌-◌, ◌==◌, true, false, MatchBool, List, slice_index}
+use Rattle.std.specs.Prelude.{slice_set}
 use Rattle.atomic_table.specs.Table.{Me, Step}
 use Rattle.seg_words.specs.declared.layout.TheConstants.{PIN_COUNT}
 use Rattle.seg_words.specs.Windows.{has, is_named, held_by}

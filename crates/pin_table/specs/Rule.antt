@@ -3,7 +3,8 @@
 -- and of one view for each seat: what the thread with that seat knows. A view is that of the writer
 -- (the seat 0, behind the lock), of an idle pass, of a pass that copies from a block, or nothing. A
 -- block is named where a window of the writer has its place, or the writer is just pinning it.
-use Rattle.std.specs.Prelude.{◌≡◌, ℕ, ◌+◌, ◌<◌, ◌≤◌, true, false, List, [], ◌∷◌, length, slice_index, Some}
+use Rattle.std.specs.Prelude.{◌≡◌, ℕ, ◌+◌, ◌<◌, ◌≤◌, true, false, List, [], ◌∷◌, length}
+use Rattle.std.specs.Prelude.{slice_index, Some}
 use mathlib.Core.Option.{some}
 use lib.ListN.{get_elem?}
 use Rattle.atomic_table.specs.Table.{State}
@@ -17,7 +18,8 @@ use Rattle.pin_table.specs.declared.views.View.{View}
 use Rattle.pin_table.specs.declared.views.View.TheVariants.{Writer, Copying}
 use Rattle.pin_table.specs.Events.{events_of, fetched_last}
 use Rattle.pin_table.specs.Pins.{pins_on, AreApart, content_of, freed_in}
-use Rattle.pin_table.specs.Views.{is_in_hand, is_among, known_of, named_blocks, carries, copied_blocks}
+use Rattle.pin_table.specs.Views.{is_in_hand, is_among, known_of, named_blocks, carries}
+use Rattle.pin_table.specs.Views.{copied_blocks}
 use Rattle.pin_table.specs.Order.{Fits, AllPlaced, Carried}
 
 -- First: each word but the pin counts is the writer's word there, and the writer has 0 at the pin

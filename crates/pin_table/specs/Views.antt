@@ -1,5 +1,6 @@
 -- What a view holds, and how the steps change it.
-use Rattle.std.specs.Prelude.{ℕ, ◌+◌, ◌-◌, Bool, false, ◌==◌, ◌||◌, cond, List, [], ◌∷◌, map, ◌++◌, length, slice_index, slice_set, replicate, bit_or, Option, Some, None}
+use Rattle.std.specs.Prelude.{ℕ, ◌+◌, ◌-◌, Bool, false, ◌==◌, ◌||◌, cond, List, [], ◌∷◌, map, ◌++◌}
+use Rattle.std.specs.Prelude.{length, slice_index, slice_set, replicate, bit_or, Option, Some, None}
 use Rattle.seg_words.specs.Windows.{Aside, closed_on, holders}
 use Rattle.seg_words.specs.Blocks.{image_place}
 use Rattle.apcu_model.specs.declared.event.Event.{Event}

@@ -11,7 +11,7 @@ ghost use Rattle.pin_table.specs.Rule.{Rule};
 /// What follows from the words that the rule and the contracts speak of: what steps carry gives the
 /// rule in all seven parts; a block is named exactly where a window has its place; and what one
 /// more event adds to a worker's own events, and to whether its last event is a fetch.
-#[tactic(auto, using(crate::proofs::Parts::rule_of, crate::proofs::Lists::named_there, crate::proofs::Lists::there_named, crate::proofs::Books::events_after, crate::proofs::Books::fetched_after))]
+#[tactic(auto, using(crate::proofs::Used::of_rule_laws))]
 pub fn rule_laws()
     ensures carried { (words : List ℕ) (views : List View) → Carried words views
         → Rule words views }

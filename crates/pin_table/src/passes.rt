@@ -1,4 +1,6 @@
-ghost use Rattle.std.specs.Prelude.{◌≡◌, ℕ, ◌+◌, ◌<◌, ◌≤◌, ◌^◌, true, false, List, [], ◌∷◌, ◌++◌, length, slice_index, slice_get, Some, None, IfOk, IfSome, IfNone, vec_capacity, vec_len};
+ghost use Rattle.std.specs.Prelude.{◌≡◌, ℕ, ◌+◌, ◌<◌, ◌≤◌, ◌^◌, true, false, List, [], ◌∷◌, ◌++◌};
+ghost use Rattle.std.specs.Prelude.{length, slice_index, slice_get, Some, None, IfOk, IfSome};
+ghost use Rattle.std.specs.Prelude.{IfNone, vec_capacity, vec_len};
 ghost use mathlib.Core.List.{IsPrefix};
 ghost use Rattle.pin_table.specs.Events.{events_of, fetched_last};
 ghost use Rattle.pin_table.specs.Views.{with_book, rested, is_among};
@@ -127,7 +129,7 @@ impl PinTable {
 
     /// Tells that the writer's history begins with what a worker has seen that has ended. Nothing
     /// changes, since its window is closed and no event is under way.
-    #[tactic(auto, using(crate::proofs::Learning::left_alone, crate::proofs::Learning::was_seen, crate::proofs::Learning::was_own, crate::proofs::Learning::saw_own))]
+    #[tactic(auto, using(crate::proofs::Used::of_learn))]
     pub fn learn(&self, seat: &mut WriterSeat, ended: Ended) -> Ended
         requires table { seat.old.table ≡ self.now }
         requires ended { ended.table ≡ self.now }

@@ -1,10 +1,15 @@
-ghost use Rattle.std.specs.Prelude.{cond, ◌==◌, ◌≡◌, ℕ, ◌+◌, ◌-◌, ◌<◌, ◌≤◌, ◌^◌, true, false, [], ◌∷◌, length, List, replicate, slice_index, slice_set, Some, None, IfOk, MatchBool};
+ghost use Rattle.std.specs.Prelude.{cond, ◌==◌, ◌≡◌, ℕ, ◌+◌, ◌-◌, ◌<◌, ◌≤◌, ◌^◌, true, false, []};
+ghost use Rattle.std.specs.Prelude.{◌∷◌, length, List, replicate, slice_index, slice_set, Some};
+ghost use Rattle.std.specs.Prelude.{None, IfOk, MatchBool};
 ghost use Rattle.seg_words.specs.declared.layout.TheConstants.{IMAGE_LENGTH};
 ghost use Rattle.seg_words.specs.Windows.{has, is_named, closed_on, held_by};
 ghost use Rattle.seg_words.specs.Blocks.{IsTold, MayStore, MayProbe, image_place};
 ghost use Rattle.pin_table.specs.Events.{is_fetch};
 ghost use Rattle.pin_table.specs.Pins.{IsBlock, MeetsNone, refused_in};
-ghost use Rattle.pin_table.specs.Views.{is_among, desk_of, in_hand, with_words, with_book, with_hand, with_event, after_event, newcomer, with_newcomer, seen_all, rested, taken, shut, probed, pinning_at, copied, reader_after, first_view};
+ghost use Rattle.pin_table.specs.Views.{is_among, desk_of, in_hand, with_words, with_book};
+ghost use Rattle.pin_table.specs.Views.{with_hand, with_event, after_event, newcomer};
+ghost use Rattle.pin_table.specs.Views.{with_newcomer, seen_all, rested, taken, shut, probed};
+ghost use Rattle.pin_table.specs.Views.{pinning_at, copied, reader_after, first_view};
 ghost use Rattle.pin_table.specs.Order.{DeskInOrder};
 ghost use Rattle.std.specs.Mem.Slots.{slots_items, slots_len, IsFull};
 

@@ -1,4 +1,5 @@
-ghost use Rattle.std.specs.Prelude.{◌≡◌, ℕ, ◌==◌, ◌+◌, ◌<◌, ◌≤◌, ◌^◌, true, false, [], ◌∷◌, ◌++◌, length, slice_index, slice_set, Some, None, sum, List};
+ghost use Rattle.std.specs.Prelude.{◌≡◌, ℕ, ◌==◌, ◌+◌, ◌<◌, ◌≤◌, ◌^◌, true, false, [], ◌∷◌, ◌++◌};
+ghost use Rattle.std.specs.Prelude.{length, slice_index, slice_set, Some, None, sum, List};
 ghost use mathlib.Core.List.{IsPrefix};
 ghost use Rattle.seg_words.specs.declared.layout.TheConstants.{IMAGE_LENGTH};
 ghost use Rattle.seg_words.specs.Windows.{Frees, Refuses, has, Aside};
@@ -7,7 +8,8 @@ ghost use Rattle.apcu_model.specs.declared.request.Request.TheVariants as reques
 ghost use Rattle.pin_table.specs.Events.{event, events_of, is_fetch};
 ghost use Rattle.apcu_model.specs.Asking.{asked};
 ghost use Rattle.pin_table.specs.Pins.{IsBlock, MeetsNone, MayPin};
-ghost use Rattle.pin_table.specs.Views.{in_hand, taken, rested, with_hand, with_event, after_event, seen_all, pinning_at, copied, reader_after, aside_of};
+ghost use Rattle.pin_table.specs.Views.{in_hand, taken, rested, with_hand, with_event, after_event};
+ghost use Rattle.pin_table.specs.Views.{seen_all, pinning_at, copied, reader_after, aside_of};
 ghost use Rattle.pin_table.specs.Order.{DeskInOrder};
 
 use crate::copying::Copying;

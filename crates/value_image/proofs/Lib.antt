@@ -1,4 +1,5 @@
 pub mod Runs
+pub mod Digits
 pub mod Packing
 pub mod ItemRuns
 pub mod Lengths

@@ -12,13 +12,12 @@ use Rattle.std.specs.List.{AllByRecursion}
 use borrow.Rule.Slice.PartMut.{put_mid, post_of}
 use Rattle.byteorder.specs.Endian.{little_bytes, little_number, little_from}
 use Rattle.byteorder.specs.Numbers.{length-bytes_low_first, little_from-take, little_from-lt}
-use Rattle.byteorder.proofs.Bytes.{little_from-zeros_after, pow256}
-use Rattle.byteorder.proofs.Slices.{write_step}
 use Rattle.php_graph.specs.ByteStrings.{AreBytes}
 use Rattle.seg_words.specs.Layout.{words_in}
 use Rattle.value_image.specs.Packed.{bytes_of, words_of, word_at}
 use Rattle.value_image.specs.Rows.{written}
 use Rattle.value_image.proofs.Runs.{written-append}
+use Rattle.value_image.proofs.Digits.{little-filled, bytes-bits, take-inner}
 
 -- ---- words of bytes
 
@@ -61,7 +60,7 @@ little-split (suc k) i m xs =
 little-shifted : (k i m : ℕ) (xs : List ℕ) → ((j : ℕ) → slice_index xs j < 256) → little_from i (k + m) xs / 2 ^ (8 * k) ≡ little_from (i + k) m xs
 little-shifted k i m xs small =
     let commuted : 256 ^ k * little_from (i + k) m xs + little_from i k xs ≡ little_from (i + k) m xs * 256 ^ k + little_from i k xs = omega (arith, mul_comm (256 ^ k) (little_from (i + k) m xs)) in
-    ap (λ (n : ℕ). little_from i (k + m) xs / n) (sym (pow256 k))
+    ap (λ (n : ℕ). little_from i (k + m) xs / n) (sym (bytes-bits k))
     ∙ (ap (λ (n : ℕ). n / 256 ^ k) (little-split k i m xs ∙ commuted)
     ∙ div-mul-add (little_from (i + k) m xs) (256 ^ k) (little_from i k xs) (little_from-lt i k xs small))
 
@@ -149,13 +148,25 @@ bytes-last out ws part full left len lt le before cut =
     let rest : post_of (8 * full) (length out - 8 * full) out ≡ [] = drop_all (length out - 8 * full) (drop (8 * full) out) (omega (arith, past)) in
     rw (rest, append-nil, before, cut) (sym (take-bytes_of ws full left (length out) len lt le))
 
+-- the bytes of one word more
+pub bytes-next : (ws : List ℕ) (i w : ℕ) → i < length ws → w ≡ get_or ws i 0 → bytes_of (take i ws) ++ little_bytes 8 w ≡ bytes_of (take (i + 1) ws)
+bytes-next ws i w lt e =
+    ap (λ (x : ℕ). bytes_of (take i ws) ++ little_bytes 8 x) e
+    ∙ sym (ap bytes_of (take_more ws i 0 lt)
+    ∙ (flat_map-append (little_bytes 8) (take i ws) (get_or ws i 0 ∷ [])
+    ∙ ap (λ (b : List ℕ). bytes_of (take i ws) ++ b) (append-nil (little_bytes 8 (get_or ws i 0)))))
+
 -- a buffer with the bytes of one word more
 pub bytes-more : (out ws buf rest : List ℕ) (i w : ℕ) → 8 * i + 8 ≤ length out → i < length ws → w ≡ get_or ws i 0
     → buf ≡ little_bytes 8 w ++ rest → take (8 * i) out ≡ bytes_of (take i ws)
     → take (8 * (i + 1)) (put_mid (8 * i) (length out - 8 * i) out buf) ≡ bytes_of (take (i + 1) ws)
 bytes-more out ws buf rest i w room lt e eb before =
-    let n : 8 * (i + 1) ≡ 8 * i + 8 = omega arith in
-    rw (n, eb) (write_step (little_bytes 8) 8 ws 0 out (little_bytes 8 w) rest (post_of (8 * i) (length out - 8 * i) out) i (omega arith) lt (length-bytes_low_first 0 8 (get_or ws i 0)) (ap (little_bytes 8) e) before)
+    let front = length-take-le (8 * i) out (omega arith) in
+    let own = length-bytes_low_first 0 8 w in
+    let n : 8 * (i + 1) ≡ length (take (8 * i) out) + length (little_bytes 8 w) = omega (arith, front, own) in
+    ap (λ (bs : List ℕ). take (8 * (i + 1)) (put_mid (8 * i) (length out - 8 * i) out bs)) eb
+    ∙ (take-inner (take (8 * i) out) (little_bytes 8 w) rest (post_of (8 * i) (length out - 8 * i) out) (8 * (i + 1)) n
+    ∙ (ap (λ (a : List ℕ). a ++ little_bytes 8 w) before ∙ bytes-next ws i w lt e))
 
 -- ---- and back
 
@@ -198,8 +209,7 @@ tail : (xs : List ℕ) → length xs ≤ 8 → AreSmall xs → take (length xs) 
 tail xs h small =
     let m : length xs + (8 - length xs) ≡ 8 = omega arith in
     let len : length (xs ++ replicate (8 - length xs) 0) ≡ 8 = length-append xs (replicate (8 - length xs) 0) ∙ (ap (λ (k : ℕ). length xs + k) (length-replicate (8 - length xs) 0) ∙ m) in
-    let same : little_number 8 xs ≡ little_number 8 (xs ++ replicate (8 - length xs) 0) =
-    little-short 0 (length xs) 8 xs h (omega arith) ∙ sym (little_from-zeros_after xs (8 - length xs) 8 (sym m)) in
+    let same : little_number 8 xs ≡ little_number 8 (xs ++ replicate (8 - length xs) 0) = sym (little-filled 0 8 xs (8 - length xs)) in
     ap (λ (k : ℕ). take (length xs) (little_bytes 8 k)) same
     ∙ (ap (take (length xs)) (eight (xs ++ replicate (8 - length xs) 0) len (filled_small xs (8 - length xs) small))
     ∙ take_at xs (replicate (8 - length xs) 0) (length xs) refl)

@@ -1,6 +1,7 @@
 -- What is read of an image before its places have numbers: where a graph has a place's number,
 -- there is an offset.
-use Rattle.std.specs.Prelude.{◌≡◌, ℕ, ◌<◌, ◌≤◌, ◌^◌, List, ◌++◌, length, map, slice_index, slice_get, Some, FitsSigned}
+use Rattle.std.specs.Prelude.{◌≡◌, ℕ, ◌<◌, ◌≤◌, ◌^◌, List, ◌++◌, length, map, slice_index}
+use Rattle.std.specs.Prelude.{slice_get, Some, FitsSigned}
 use Rattle.std.specs.List.{flat_map, AllByRecursion}
 use Rattle.std.specs.Int.{w64}
 use Rattle.php_graph.specs.declared.key.Key.{Key}
@@ -14,7 +15,8 @@ use Rattle.php_graph.specs.Size.{offset_of, image_length}
 use Rattle.php_graph.specs.Kept.{offsets_from}
 use Rattle.value_image.specs.Rows.{IsToldAt}
 use Rattle.value_image.specs.Places.{number_of}
-use Rattle.value_image.specs.Image.{string_words, key_words, member_words, property_words, kind_words}
+use Rattle.value_image.specs.Image.{string_words, key_words, member_words, property_words}
+use Rattle.value_image.specs.Image.{kind_words}
 
 -- ---- other numbers
 
@@ -39,7 +41,8 @@ itself x = x
 -- the table has the number of each place at the place's offset
 abbrev pub IsTableOf : List ℕ → List Kind → Type 0
 IsTableOf table g =
-    (k : ℕ) → 1 ≤ k → k ≤ length g → (offset_of g k < length table) × (slice_index table (offset_of g k) ≡ k)
+    (k : ℕ) → 1 ≤ k → k ≤ length g
+    → (offset_of g k < length table) × (slice_index table (offset_of g k) ≡ k)
 
 -- ---- what stands in a row
 
@@ -79,13 +82,15 @@ pub record IsPropertyAt (row windows : List ℕ) (at : ℕ) (p : List ℕ × Chi
   pub fits : FitsProperty p
 
 -- so do all members of an array
-pub record AreMembersAt (row windows : List ℕ) (at count : ℕ) (ms : List (Key × Child)) : Type 0 where
+pub record AreMembersAt (row windows : List ℕ) (at count : ℕ) (ms : List (Key × Child))
+    : Type 0 where
   pub told : IsToldAt row windows at (flat_map (member_words itself) ms)
   pub fits : AllByRecursion FitsMember ms
   pub count_is : count ≡ length ms
 
 -- so do all properties of an object
-pub record ArePropertiesAt (row windows : List ℕ) (at count : ℕ) (ps : List (List ℕ × Child)) : Type 0 where
+pub record ArePropertiesAt (row windows : List ℕ) (at count : ℕ) (ps : List (List ℕ × Child))
+    : Type 0 where
   pub told : IsToldAt row windows at (flat_map (property_words itself) ps)
   pub fits : AllByRecursion FitsProperty ps
   pub count_is : count ≡ length ps
@@ -96,7 +101,8 @@ pub record IsKindAt (row windows : List ℕ) (at : ℕ) (kind : Kind) : Type 0 w
   pub fits : FitsRead kind
 
 -- so do the class and the properties of an object
-pub record IsObjectAt (row windows : List ℕ) (at count : ℕ) (class : List ℕ) (ps : List (List ℕ × Child)) : Type 0 where
+pub record IsObjectAt (row windows : List ℕ) (at count : ℕ) (class : List ℕ)
+    (ps : List (List ℕ × Child)) : Type 0 where
   pub told : IsToldAt row windows at (string_words class ++ flat_map (property_words itself) ps)
   pub fits_class : AreBytes class
   pub fits : AllByRecursion FitsProperty ps

@@ -1,10 +1,12 @@
 //! The numbers of places, in place of their offsets.
 
-ghost use Rattle.std.specs.Prelude.{◌≡◌, ℕ, ◌+◌, ◌<◌, ◌^◌, ◌∷◌, List, length, map, slice_index, slice_get, Some, IfOk, OnOk};
+ghost use Rattle.std.specs.Prelude.{◌≡◌, ℕ, ◌+◌, ◌<◌, ◌^◌, ◌∷◌, List, length, map, slice_index};
+ghost use Rattle.std.specs.Prelude.{slice_get, Some, IfOk, OnOk};
 ghost use Rattle.php_graph.specs.declared.kind.Kind.{Kind};
 ghost use Rattle.php_graph.specs.Kept.{kinds_at, offsets_at};
 ghost use Rattle.value_image.specs.Places.{number_of};
-ghost use Rattle.value_image.specs.Reading.{AllBelow, IsBelow, IsReadOf, renumbered_child, renumbered_member, renumbered_kind};
+ghost use Rattle.value_image.specs.Reading.{AllBelow, IsBelow, IsReadOf, renumbered_child};
+ghost use Rattle.value_image.specs.Reading.{renumbered_member, renumbered_kind};
 
 use php_graph::{Child, Kind, Members, Place, Props};
 use std::alloc::{AllocError, Global};

@@ -7,7 +7,8 @@ ghost use Rattle.seg_words.specs.Layout.{words_in};
 ghost use Rattle.php_graph.specs.Size.{key_cells, cells_of, image_length, offset_of};
 ghost use Rattle.value_image.specs.Rows.{written, MayWrite};
 ghost use Rattle.value_image.specs.Places.{AllNamePlaces, NamesPlaces};
-ghost use Rattle.value_image.specs.Image.{IsImageOf, image_of, place_words, string_words, member_words, property_words};
+ghost use Rattle.value_image.specs.Image.{IsImageOf, image_of, place_words, string_words};
+ghost use Rattle.value_image.specs.Image.{member_words, property_words};
 
 use crate::write_members::{INT, put_members, put_one, put_properties, put_string, put_two};
 use php_graph::{Bytes, Graph, Kind, Members, Props};

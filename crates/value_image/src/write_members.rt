@@ -7,7 +7,8 @@ ghost use Rattle.seg_words.specs.Layout.{words_in};
 ghost use Rattle.php_graph.specs.Size.{key_cells, image_length, offset_of};
 ghost use Rattle.value_image.specs.Rows.{written, MayWrite};
 ghost use Rattle.value_image.specs.Places.{number_of, IsPlaceOf, AllNamePlaces};
-ghost use Rattle.value_image.specs.Image.{string_words, key_words, child_word, member_words, property_words};
+ghost use Rattle.value_image.specs.Image.{string_words, key_words, child_word, member_words};
+ghost use Rattle.value_image.specs.Image.{property_words};
 
 use crate::bytes::put_bytes;
 use php_graph::{Bytes, Child, Graph, Key, Members, Props};

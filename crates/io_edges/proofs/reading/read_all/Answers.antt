@@ -32,3 +32,173 @@ returns-in_err-map_err-in-Took-2-clause-part g c =
       grind (arith, common_steps),
       taken_more _ c.read.new.into _ _ _ _ _ c.in-Took-2.ensures.took.1 refl c.turns.invariant.given c.in-Took-2.ensures.bytes,
     )
+
+pub returns-in_err-buffer-clause-all : goal.returns-in_err-buffer-clause-all
+returns-in_err-buffer-clause-all g c = grind (arith, common_steps)
+
+pub returns-in_err-buffer-clause-given : goal.returns-in_err-buffer-clause-given
+returns-in_err-buffer-clause-given g c = grind (arith, common_steps)
+
+pub returns-in_err-buffer-clause-end : goal.returns-in_err-buffer-clause-end
+returns-in_err-buffer-clause-end g c = grind (arith, common_steps)
+
+pub returns-in_err-buffer-clause-within : goal.returns-in_err-buffer-clause-within
+returns-in_err-buffer-clause-within g c = grind (arith, common_steps)
+
+pub returns-in_err-buffer-clause-too_long : goal.returns-in_err-buffer-clause-too_long
+returns-in_err-buffer-clause-too_long g c = grind (arith, common_steps)
+
+pub returns-in_err-buffer-clause-one_more : goal.returns-in_err-buffer-clause-one_more
+returns-in_err-buffer-clause-one_more g c = grind (arith, common_steps)
+
+pub returns-in_err-buffer-clause-fault : goal.returns-in_err-buffer-clause-fault
+returns-in_err-buffer-clause-fault g c = grind (arith, common_steps)
+
+pub returns-in_err-buffer-clause-calm : goal.returns-in_err-buffer-clause-calm
+returns-in_err-buffer-clause-calm g c = λ _. refl
+
+pub returns-in_err-buffer-clause-never_falls : goal.returns-in_err-buffer-clause-never_falls
+returns-in_err-buffer-clause-never_falls g c = omega arith
+
+pub returns-in_err-buffer-clause-part : goal.returns-in_err-buffer-clause-part
+returns-in_err-buffer-clause-part g c = grind (arith, common_steps)
+
+pub turns-init : goal.turns-init
+turns-init g c = grind (arith, common_steps)
+
+pub overflow_sub-spare : goal.overflow_sub-spare
+overflow_sub-spare g c = omega arith
+
+pub overflow_sub-min : goal.overflow_sub-min
+overflow_sub-min g c = omega arith
+
+pub overflow_add-room : goal.overflow_add-room
+overflow_add-room g c = omega arith
+
+pub slice_bounds-piece-end : goal.slice_bounds-piece-end
+slice_bounds-piece-end g c = grind (arith, common_steps)
+
+pub returns-in-Took-clause-all : goal.returns-in-Took-clause-all
+returns-in-Took-clause-all g c = tt
+
+pub returns-in-Took-clause-given : goal.returns-in-Took-clause-given
+returns-in-Took-clause-given g c = tt
+
+pub returns-in-Took-clause-end : goal.returns-in-Took-clause-end
+returns-in-Took-clause-end g c = tt
+
+pub returns-in-Took-clause-within : goal.returns-in-Took-clause-within
+returns-in-Took-clause-within g c = tt
+
+pub returns-in-Took-clause-too_long : goal.returns-in-Took-clause-too_long
+returns-in-Took-clause-too_long g c = grind (arith, common_steps)
+
+pub returns-in-Took-clause-fault : goal.returns-in-Took-clause-fault
+returns-in-Took-clause-fault g c = grind (arith, common_steps)
+
+pub returns-in-Took-clause-calm : goal.returns-in-Took-clause-calm
+returns-in-Took-clause-calm g c = λ _. c.in-Took.ensures.faults ∙ c.turns.invariant.faults
+
+pub returns-in-Took-clause-never_falls : goal.returns-in-Took-clause-never_falls
+returns-in-Took-clause-never_falls g c = omega (arith, c.in-Took.ensures.faults, c.turns.invariant.faults)
+
+pub slice_bounds-extend_from_slice-end : goal.slice_bounds-extend_from_slice-end
+slice_bounds-extend_from_slice-end g c = grind (arith, common_steps)
+
+pub turns-smaller : goal.turns-smaller
+turns-smaller g c = grind (arith, common_steps)
+
+pub returns-in_err-map_err-in-Took-2-clause-all : goal.returns-in_err-map_err-in-Took-2-clause-all
+returns-in_err-map_err-in-Took-2-clause-all g c =
+    let p = err_from_is_err_and c.from_residual-in_err-map_err-in-Took-2.result c.from_residual-in_err-map_err-in-Took-2.ensures.1 in
+    rw p.1 tt
+
+pub returns-in_err-map_err-in-Took-2-clause-given : goal.returns-in_err-map_err-in-Took-2-clause-given
+returns-in_err-map_err-in-Took-2-clause-given g c =
+    let p = err_from_is_err_and c.from_residual-in_err-map_err-in-Took-2.result c.from_residual-in_err-map_err-in-Took-2.ensures.1 in
+    rw p.1 tt
+
+pub returns-in_err-map_err-in-Took-2-clause-end : goal.returns-in_err-map_err-in-Took-2-clause-end
+returns-in_err-map_err-in-Took-2-clause-end g c =
+    let p = err_from_is_err_and c.from_residual-in_err-map_err-in-Took-2.result c.from_residual-in_err-map_err-in-Took-2.ensures.1 in
+    rw p.1 tt
+
+pub returns-in_err-map_err-in-Took-2-clause-within : goal.returns-in_err-map_err-in-Took-2-clause-within
+returns-in_err-map_err-in-Took-2-clause-within g c =
+    let p = err_from_is_err_and c.from_residual-in_err-map_err-in-Took-2.result c.from_residual-in_err-map_err-in-Took-2.ensures.1 in
+    rw p.1 tt
+
+pub returns-in_err-map_err-in-Took-2-clause-too_long : goal.returns-in_err-map_err-in-Took-2-clause-too_long
+returns-in_err-map_err-in-Took-2-clause-too_long g c = grind (arith, common_steps)
+
+pub returns-in_err-map_err-in-Took-2-clause-one_more : goal.returns-in_err-map_err-in-Took-2-clause-one_more
+returns-in_err-map_err-in-Took-2-clause-one_more g c = grind (arith, common_steps)
+
+pub returns-in_err-map_err-in-Took-2-clause-fault : goal.returns-in_err-map_err-in-Took-2-clause-fault
+returns-in_err-map_err-in-Took-2-clause-fault g c = grind (arith, common_steps)
+
+pub returns-in_err-map_err-in-Took-2-clause-calm : goal.returns-in_err-map_err-in-Took-2-clause-calm
+returns-in_err-map_err-in-Took-2-clause-calm g c = λ _. c.in-Took-2.ensures.faults ∙ c.turns.invariant.faults
+
+pub returns-in_err-map_err-in-Took-2-clause-never_falls : goal.returns-in_err-map_err-in-Took-2-clause-never_falls
+returns-in_err-map_err-in-Took-2-clause-never_falls g c = omega (arith, c.in-Took-2.ensures.faults, c.turns.invariant.faults)
+
+pub returns-in-End-clause-all : goal.returns-in-End-clause-all
+returns-in-End-clause-all g c = grind (arith, common_steps)
+
+pub returns-in-End-clause-given : goal.returns-in-End-clause-given
+returns-in-End-clause-given g c = grind (arith, common_steps)
+
+pub returns-in-End-clause-end : goal.returns-in-End-clause-end
+returns-in-End-clause-end g c = grind (arith, common_steps)
+
+pub returns-in-End-clause-within : goal.returns-in-End-clause-within
+returns-in-End-clause-within g c = grind (arith, common_steps)
+
+pub returns-in-End-clause-too_long : goal.returns-in-End-clause-too_long
+returns-in-End-clause-too_long g c = grind (arith, common_steps)
+
+pub returns-in-End-clause-one_more : goal.returns-in-End-clause-one_more
+returns-in-End-clause-one_more g c = grind (arith, common_steps)
+
+pub returns-in-End-clause-fault : goal.returns-in-End-clause-fault
+returns-in-End-clause-fault g c = grind (arith, common_steps)
+
+pub returns-in-End-clause-calm : goal.returns-in-End-clause-calm
+returns-in-End-clause-calm g c = λ _. c.in-End.ensures.faults ∙ c.turns.invariant.faults
+
+pub returns-in-End-clause-never_falls : goal.returns-in-End-clause-never_falls
+returns-in-End-clause-never_falls g c = omega (arith, c.in-End.ensures.faults, c.turns.invariant.faults)
+
+pub returns-in-End-clause-part : goal.returns-in-End-clause-part
+returns-in-End-clause-part g c = tt
+
+pub returns-in-Failed-clause-all : goal.returns-in-Failed-clause-all
+returns-in-Failed-clause-all g c = tt
+
+pub returns-in-Failed-clause-given : goal.returns-in-Failed-clause-given
+returns-in-Failed-clause-given g c = tt
+
+pub returns-in-Failed-clause-end : goal.returns-in-Failed-clause-end
+returns-in-Failed-clause-end g c = tt
+
+pub returns-in-Failed-clause-within : goal.returns-in-Failed-clause-within
+returns-in-Failed-clause-within g c = tt
+
+pub returns-in-Failed-clause-too_long : goal.returns-in-Failed-clause-too_long
+returns-in-Failed-clause-too_long g c = grind (arith, common_steps)
+
+pub returns-in-Failed-clause-one_more : goal.returns-in-Failed-clause-one_more
+returns-in-Failed-clause-one_more g c = grind (arith, common_steps)
+
+pub returns-in-Failed-clause-fault : goal.returns-in-Failed-clause-fault
+returns-in-Failed-clause-fault g c = grind (arith, common_steps)
+
+pub returns-in-Failed-clause-calm : goal.returns-in-Failed-clause-calm
+returns-in-Failed-clause-calm g c = grind (arith, common_steps)
+
+pub returns-in-Failed-clause-never_falls : goal.returns-in-Failed-clause-never_falls
+returns-in-Failed-clause-never_falls g c = grind (arith, common_steps)
+
+pub returns-in-Failed-clause-part : goal.returns-in-Failed-clause-part
+returns-in-Failed-clause-part g c = grind (arith, common_steps)

@@ -1,0 +1,10 @@
+use Rattle.std.proofs.Common.{◌≡◌, take, drop}
+use Rattle.seg_words.specs.Kept.{Kept}
+use Rattle.value_image.specs.Packed.{bytes_of}
+use Rattle.value_image.proofs.read_members.read_bytes.Given as goal
+
+abbrev pub invariant-loop-i : goal.invariant-loop-i
+invariant-loop-i g l = record {
+  bytes : l.bytes.items ≡ bytes_of (take l.i (drop l.at (g.W.WordsIn.words l.initial.from)));
+  kept : Kept g.W.WordsIn l.initial.from l.from;
+}
