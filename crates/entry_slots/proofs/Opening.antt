@@ -15,7 +15,8 @@ use Rattle.entry_slots.specs.Lists.{is_at, begins_at, has_place}
 use Rattle.entry_slots.specs.Entries.{Entries, listed, blocks_of}
 use Rattle.entry_slots.specs.Standing.{Stands}
 use Rattle.entry_slots.specs.Facts.{OnlyClose, OnlyOpensAt, AreApart, IsCopyable, IsSound}
-use Rattle.entry_slots.proofs.Members.{any_there, counted, same_there}
+use Rattle.seg_words.specs.Members.{any_there, counted}
+use Rattle.entry_slots.proofs.Members.{same_there}
 use Rattle.entry_slots.proofs.Blocks.{Apart, live_apart, live_bounds}
 use Rattle.entry_slots.proofs.Homes.{IsHome, room, home_listed}
 use Rattle.entry_slots.proofs.Places.{at_itself, once}
