@@ -21,8 +21,8 @@ OnlyOpensAt at old new =
     (x : ℕ) → is_named new.windows x ≡ true → (x ≡ at) ⊎ (is_named old.windows x ≡ true)
 
 -- they are one, or no word is in both
-abbrev pub AreApart : Extent → Extent → Type 0
-AreApart one other =
+abbrev pub LieApart : Extent → Extent → Type 0
+LieApart one other =
     (one ≡ other)
     ⊎ ((one.place + one.size ≤ other.place) ⊎ (other.place + other.size ≤ one.place))
 

@@ -12,7 +12,7 @@ ghost use Rattle.entry_slots.specs.Entries.{Entries, chain_of, listed, loose, bl
 ghost use Rattle.entry_slots.specs.Entries.{unlinked_at};
 ghost use Rattle.entry_slots.specs.Entries.{removed_at, freed_at, dropped_at, gone_at};
 ghost use Rattle.entry_slots.specs.Standing.{Stands};
-ghost use Rattle.entry_slots.specs.Facts.{OnlyClose, OnlyOpensAt, AreApart, IsCopyable, IsSound};
+ghost use Rattle.entry_slots.specs.Facts.{OnlyClose, OnlyOpensAt, LieApart, IsCopyable, IsSound};
 ghost use Rattle.entry_slots.specs.Facts.{IsAtRow};
 
 /// Words stand for the same entries where windows close and the mask and the refused places change
@@ -42,7 +42,7 @@ pub fn standing_laws()
         → (0 < block.place) × (block.place + block.size ≤ length words) }
     ensures apart { (e : EntrySlots) (words : List ℕ) (aside : Aside) (s : Entries)
         (one other : Extent) → Stands e words aside s → Contains (blocks_of s) one
-        → Contains (blocks_of s) other → AreApart one other }
+        → Contains (blocks_of s) other → LieApart one other }
     ensures one { (e : EntrySlots) (words : List ℕ) (aside : Aside) (s : Entries) (p q : Row)
         → Stands e words aside s → Contains (listed s) p → Contains (listed s) q
         → p.place ≡ q.place → p ≡ q }
