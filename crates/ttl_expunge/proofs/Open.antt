@@ -1,10 +1,10 @@
 -- The rows under open windows stay.
-use Rattle.std.proofs.Common.{◌≡◌, ◌≢◌, inl, inr, ℕ, zero, suc, ◌+◌, ◌<◌, ◌≤◌, ◌%◌, ◌==◌, Bool, true, false, not, List, [], ◌∷◌, ◌++◌, map, filter, refl, sym, ap, ◌∙◌, subst, arith}
+use Rattle.std.proofs.Common.{◌≡◌, ◌≢◌, inl, inr, ℕ, zero, suc, ◌+◌, ◌<◌, ◌≤◌, ◌%◌, ◌==◌, Bool, true, false, not, List, ◌∷◌, ◌++◌, filter, refl, sym, ap, ◌∙◌, subst, arith}
 use Rattle.std.proofs.lemmas.Bool.{eqb-true, eq-eqb, cases_Bool, false≢true, false_from_ne_true}
 use Rattle.std.specs.List.{Contains, flat_map, range_with_len}
 use Rattle.std.proofs.lemmas.List.Elements.{Contains-append_left, Contains-append_right, Contains-append_cases}
 use Rattle.seg_words.specs.Probing.{Goes, goes_nowhere, held_named}
-use Rattle.seg_words.specs.Windows.{Aside, has, is_named, held_blocks}
+use Rattle.seg_words.specs.Windows.{Aside, is_named, held_blocks}
 use Rattle.php_graph.specs.Numbers.{hash_of}
 use Rattle.apcu_model.specs.declared.conf.Conf.{Conf}
 use Rattle.apcu_model.specs.Cache.{Row}
@@ -16,7 +16,7 @@ use Rattle.entry_slots.specs.Facts.{IsSound}
 use Rattle.ttl_expunge.specs.Held.{AreRemoved, AreHeld, KeepsOpen, Sweeps, Drops}
 use Rattle.ttl_expunge.specs.Dropping.{left_of, dropped_in, dropped_rows}
 use Rattle.entry_slots.specs.Having.{place_from, place_there}
-use Rattle.seg_words.specs.Members.{filter_alike, filter_all, Contains-first, Contains-later, Contains-cases, Contains-filter, Contains-kept, Contains-map}
+use Rattle.seg_words.specs.Members.{filter_alike, filter_all, Contains-filter, Contains-kept, Contains-map}
 use Rattle.apcu_model.specs.Facts.{held_is, dated, dated_held, order_from}
 use Rattle.ttl_expunge.proofs.Ordering.{same_row}
 

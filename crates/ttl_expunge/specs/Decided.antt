@@ -1,5 +1,5 @@
 -- What is decided of rows stays so: facts that proofs here and in the crates above cite.
-use Rattle.std.proofs.Common.{◌≡◌, ℕ, List, filter, sym, ◌∙◌}
+use Rattle.std.proofs.Common.{◌≡◌, List, filter, sym, ◌∙◌}
 use Rattle.seg_words.specs.Windows.{Aside, held_blocks}
 use Rattle.seg_words.specs.Probing.{Goes, stays_decided, stays_held}
 use Rattle.seg_words.specs.Members.{filter_alike}
