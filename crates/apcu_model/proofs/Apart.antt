@@ -11,7 +11,7 @@ use Rattle.apcu_model.specs.Change.{is_held, dropped, with_row, placed}
 use Rattle.apcu_model.specs.Expiry.{is_expired}
 use Rattle.apcu_model.specs.Sequential.{touched}
 use Rattle.apcu_model.specs.Walk.{is_in_slot, slot_of, in_slot_order}
-use Rattle.apcu_model.specs.Rows.{are_apart, touched_at, cache_of}
+use Rattle.apcu_model.specs.Rows.{are_apart, touched_at, cache_in}
 
 -- nobody holds anything
 pub none_held : (rows : List Row) → filter (is_held []) rows ≡ []
@@ -29,8 +29,8 @@ dropped_in t pass c =
     (λ (removed : List Row). let d : Cache = record c { rows = filter (λ row. not (pass row)) c.rows; removed = removed } in d)
     (ap (map {A = Row} {B = Row} (λ row. record row { dtime = t })) (none_held (in_slot_order c.conf (filter pass c.rows))))
 
-pub dropped_of : (t : ℕ) (pass : Row → Bool) (s : State) → dropped [] t pass (cache_of s) ≡ record (cache_of s) { rows = filter (λ row. not (pass row)) s.rows.items }
-dropped_of t pass s = dropped_in t pass (cache_of s)
+pub dropped_of : (t : ℕ) (pass : Row → Bool) (s : State) → dropped [] t pass (cache_in s) ≡ record (cache_in s) { rows = filter (λ row. not (pass row)) s.rows.items }
+dropped_of t pass s = dropped_in t pass (cache_in s)
 
 -- the rows that are left where expired rows of a slot are dropped
 abbrev pub fresh_rows : State → ℕ → ℕ → List Row
@@ -51,7 +51,7 @@ new_row s key graph ttl t n place = record {
   number = s.next_number;
 }
 
-pub placed_of : (key : List ℕ) (graph : List Kind) (ttl t n place : ℕ) (s : State) → placed [] key graph ttl t n (cache_of s) place ≡ record (cache_of s) { rows = with_row (new_row s key graph ttl t n place) (fresh_rows s (slot_of s.conf key) t); next_number = risen s.next_number; inserts = risen s.inserts }
+pub placed_of : (key : List ℕ) (graph : List Kind) (ttl t n place : ℕ) (s : State) → placed [] key graph ttl t n (cache_in s) place ≡ record (cache_in s) { rows = with_row (new_row s key graph ttl t n place) (fresh_rows s (slot_of s.conf key) t); next_number = risen s.next_number; inserts = risen s.inserts }
 placed_of key graph ttl t n place s =
     let new = new_row s key graph ttl t n place in
     let fresh = fresh_rows s (slot_of s.conf key) t in
@@ -60,7 +60,7 @@ placed_of key graph ttl t n place s =
     (dropped_of t (λ row. is_in_slot s.conf (slot_of s.conf key) row && is_expired s.conf t row) s)
     ∙ ap
     (λ (d : Cache). let c : Cache = record d { rows = with_row new fresh; next_number = risen s.next_number; inserts = risen s.inserts } in c)
-    (dropped_in t (has_key key) (record (cache_of s) { rows = fresh }))
+    (dropped_in t (has_key key) (record (cache_in s) { rows = fresh }))
 
 pub key_is : (key : List ℕ) (row : Row) → has_key key row ≡ true → row.key ≡ key
 key_is key row h = (bytes_eq-Decides row.key key).0 h

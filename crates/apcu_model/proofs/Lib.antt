@@ -1,5 +1,4 @@
 pub mod Alone
-pub mod Members
 pub mod Apart
 pub mod Counting
 pub mod Ordering

@@ -19,23 +19,7 @@ use Rattle.apcu_model.specs.Walk.{is_in_slot, in_slot_order, slot_of}
 use Rattle.apcu_model.specs.Change.{is_held, dropped, swept, expired_dropped, expunged, deleted, cleared, has_gap, with_room, with_row, placed, put_in}
 use Rattle.apcu_model.specs.Sequential.{cache_after, looked_up, touched}
 use Rattle.apcu_model.specs.History.{Stage, start_of, is_scalar, opened, opened_at, held_places, after_event, after_events, IsNumbered, stage_of}
-use Rattle.apcu_model.proofs.Members.{Contains-cases, Contains-first, Contains-later, Contains-filter, none_in_nil}
-
-map_there : {X Y : Type 0} (f : X → Y) (xs : List X) (y : Y) → Contains (map f xs) y → (x : X) × Contains xs x × (f x ≡ y)
-map_there {X = X} {Y = Y} f [] y h = absurd (none_in_nil y h)
-map_there {X = X} {Y = Y} f (x ∷ xs) y h = go (map_there f xs y) (Contains-cases (f x) (map f xs) y h)
-  where
-    go : (Contains (map f xs) y → (x' : X) × Contains xs x' × (f x' ≡ y)) → (f x ≡ y) ⊎ Contains (map f xs) y → (x' : X) × Contains (x ∷ xs) x' × (f x' ≡ y)
-    go later (inl e) = (x, Contains-first x xs, e)
-    go later (inr r) = let t = later r in (t.0, Contains-later x xs t.0 t.1, t.2)
-
-flat_there : {X Y : Type 0} (f : X → List Y) (xs : List X) (y : Y) → Contains (flat_map f xs) y → (x : X) × Contains (f x) y
-flat_there {X = X} {Y = Y} f [] y h = absurd (none_in_nil y h)
-flat_there {X = X} {Y = Y} f (x ∷ xs) y h = go (flat_there f xs y) (Contains-append_cases (f x) (flat_map f xs) y h)
-  where
-    go : (Contains (flat_map f xs) y → (x' : X) × Contains (f x') y) → Contains (f x) y ⊎ Contains (flat_map f xs) y → (x' : X) × Contains (f x') y
-    go later (inl e) = (x, e)
-    go later (inr r) = later r
+use Rattle.seg_words.specs.Members.{Contains-cases, Contains-first, Contains-later, Contains-filter, none_in_nil, map_there, flat_there}
 
 -- each row of the second cache stood in the first, with its number and place
 record Sub (c c' : Cache) : Type 0 where

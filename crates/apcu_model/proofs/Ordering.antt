@@ -6,15 +6,7 @@ use Rattle.std.proofs.lemmas.List.{append-nil}
 use Rattle.apcu_model.specs.declared.conf.Conf.{Conf}
 use Rattle.apcu_model.specs.Cache.{Row}
 use Rattle.apcu_model.specs.Walk.{slot_of, is_in_slot, in_slot_order}
-use Rattle.apcu_model.proofs.Members.{Contains-first, Contains-later}
-
-filter_all : {X : Type 0} (p : X → Bool) (xs : List X) → ((x : X) → Contains xs x → p x ≡ true) → filter p xs ≡ xs
-filter_all p [] h = refl
-filter_all p (x ∷ xs) h = ap (λ b. cond b (x ∷ filter p xs) (filter p xs)) (h x (Contains-first x xs)) ∙ ap (λ l. x ∷ l) (filter_all p xs (λ y c. h y (Contains-later x xs y c)))
-
-filter_none : {X : Type 0} (p : X → Bool) (xs : List X) → ((x : X) → Contains xs x → p x ≡ false) → filter p xs ≡ []
-filter_none p [] h = refl
-filter_none p (x ∷ xs) h = ap (λ b. cond b (x ∷ filter p xs) (filter p xs)) (h x (Contains-first x xs)) ∙ filter_none p xs (λ y c. h y (Contains-later x xs y c))
+use Rattle.seg_words.specs.Members.{Contains-first, Contains-later, filter_all, filter_none}
 
 flat_empty : {X : Type 0} (f : ℕ → List X) (n a : ℕ) → ((k : ℕ) → a ≤ k → f k ≡ []) → flat_map f (range_with_len a n) ≡ []
 flat_empty f zero a h = refl

@@ -39,11 +39,26 @@ pub record Cache : Type 0 where
   pub expunges : ℕ
 
 abbrev pub empty_cache : Conf → Cache
-empty_cache conf = record { conf = conf; rows = []; removed = []; next_number = 1; hits = 0; misses = 0; inserts = 0; expunges = 0 }
+empty_cache conf = record {
+  conf = conf;
+  rows = [];
+  removed = [];
+  next_number = 1;
+  hits = 0;
+  misses = 0;
+  inserts = 0;
+  expunges = 0;
+}
 
 -- what it counts, and its rows
 abbrev pub counts_of : Cache → Counts
-counts_of c = record { hits = c.hits; misses = c.misses; inserts = c.inserts; expunges = c.expunges; entries = length c.rows }
+counts_of c = record {
+  hits = c.hits;
+  misses = c.misses;
+  inserts = c.inserts;
+  expunges = c.expunges;
+  entries = length c.rows;
+}
 
 -- one more, but a count stays at the last number of 64 bits
 abbrev pub risen : ℕ → ℕ

@@ -1,11 +1,13 @@
--- How rows leave a cache, how room is made, and how a row comes in. `held` is the list of the places
--- of blocks that somebody copies: a row that is held keeps its block when it is dropped.
-use Rattle.std.specs.Prelude.{◌≡◌, ℕ, ◌-◌, ◌==◌, ◌&&◌, not, nat_lt, Bool, true, if◌then◌else◌, List, [], ◌∷◌, ◌++◌, length, map, filter, Option, Some, None, is_some}
+-- How rows leave a cache, how room is made, and how a row comes in. `held` is the list of the
+-- places of blocks that somebody copies: a row that is held keeps its block when it is dropped.
+use Rattle.std.specs.Prelude.{◌≡◌, ℕ, ◌-◌, ◌==◌, ◌&&◌, not, nat_lt, Bool, true, if◌then◌else◌, List}
+use Rattle.std.specs.Prelude.{[], ◌∷◌, ◌++◌, length, map, filter, Option, Some, None, is_some}
 use Rattle.std.specs.List.{list_any}
 use Rattle.php_graph.specs.declared.kind.Kind.{Kind}
 use Rattle.php_graph.specs.Size.{block_size}
 use Rattle.apcu_model.specs.declared.request.StoreAnswer.{StoreAnswer}
-use Rattle.apcu_model.specs.declared.request.StoreAnswer.TheVariants.{TooLarge, Exists, NoRoom, Stored}
+use Rattle.apcu_model.specs.declared.request.StoreAnswer.TheVariants.{TooLarge, Exists, NoRoom}
+use Rattle.apcu_model.specs.declared.request.StoreAnswer.TheVariants.{Stored}
 use Rattle.apcu_model.specs.Cache.{Row, Cache, risen, has_key, gap_of}
 use Rattle.apcu_model.specs.Expiry.{is_expired, live_row}
 use Rattle.apcu_model.specs.Walk.{is_in_slot, in_slot_order, slot_of}
@@ -15,14 +17,17 @@ is_held held row = list_any (λ place. place == row.place) held
 
 -- the same places stand in both lists
 abbrev pub AreAlike : List ℕ → List ℕ → Type 0
-AreAlike held other = (at : ℕ) → list_any (λ place. place == at) held ≡ list_any (λ place. place == at) other
+AreAlike held other =
+    (at : ℕ) → list_any (λ place. place == at) held ≡ list_any (λ place. place == at) other
 
--- The rows that pass leave the rows. Those of them that are held go to the end of the removed rows, by
--- slot and place, with the time; the others are gone, and so are their blocks.
+-- The rows that pass leave the rows. Those of them that are held go to the end of the removed rows,
+-- by slot and place, with the time; the others are gone, and so are their blocks.
 abbrev pub dropped : List ℕ → ℕ → (Row → Bool) → Cache → Cache
 dropped held t pass c = record c {
   rows = filter (λ row. not (pass row)) c.rows;
-  removed = c.removed ++ map {A = Row} (λ row. record row { dtime = t }) (filter (is_held held) (in_slot_order c.conf (filter pass c.rows)));
+  removed = c.removed
+    ++ map {A = Row} (λ row. record row { dtime = t })
+    (filter (is_held held) (in_slot_order c.conf (filter pass c.rows)));
 }
 
 -- the removed rows that nobody copies any more are gone
@@ -35,7 +40,12 @@ expired_dropped held t c = if nat_lt 0 c.conf.ttl then dropped held t (is_expire
 
 -- all rows are dropped, and what was counted since the last time is forgotten
 abbrev pub expunged : List ℕ → ℕ → Cache → Cache
-expunged held t c = record (dropped held t (λ row. true) c) { hits = 0; misses = 0; inserts = 0; expunges = risen c.expunges }
+expunged held t c = record (dropped held t (λ row. true) c) {
+  hits = 0;
+  misses = 0;
+  inserts = 0;
+  expunges = risen c.expunges;
+}
 
 -- the row that a look-up of the key finds is dropped
 abbrev pub deleted : List ℕ → List ℕ → ℕ → Cache → Cache
@@ -43,13 +53,18 @@ deleted held key t c = if is_some (live_row key t c) then dropped held t (has_ke
 
 -- all rows are dropped, and every count is forgotten
 abbrev pub cleared : List ℕ → ℕ → Cache → Cache
-cleared held t c = record (dropped held t (λ row. true) c) { hits = 0; misses = 0; inserts = 0; expunges = 0 }
+cleared held t c = record (dropped held t (λ row. true) c) {
+  hits = 0;
+  misses = 0;
+  inserts = 0;
+  expunges = 0;
+}
 
 abbrev pub has_gap : ℕ → Cache → Bool
 has_gap n c = is_some (gap_of c n)
 
--- Room for a block of n words: the removed rows are swept; where no gap is large enough yet, expired rows
--- go; and where none is even then, all rows.
+-- Room for a block of n words: the removed rows are swept; where no gap is large enough yet,
+-- expired rows go; and where none is even then, all rows.
 abbrev pub with_room : List ℕ → ℕ → ℕ → Cache → Cache
 with_room held n t c =
     let first = swept held c in
@@ -58,7 +73,8 @@ with_room held n t c =
 
 -- all rows had to go for it: no gap was large enough, not even after the expired rows went
 abbrev pub is_expunged : List ℕ → ℕ → ℕ → Cache → Bool
-is_expunged held n t c = not (has_gap n (swept held c)) && not (has_gap n (expired_dropped held t (swept held c)))
+is_expunged held n t c =
+    not (has_gap n (swept held c)) && not (has_gap n (expired_dropped held t (swept held c)))
 
 -- the counts stay
 pub record KeepsCounts (old new : Cache) : Type 0 where
@@ -86,11 +102,13 @@ pub record Insertion : Type 0 where
   pub answer : StoreAnswer
   pub cache : Cache
 
--- A new row at a place where it fits: the expired rows of its slot are dropped, and so is the old row of
--- its key, in whose place it stands.
+-- A new row at a place where it fits: the expired rows of its slot are dropped, and so is the old
+-- row of its key, in whose place it stands.
 abbrev pub placed : List ℕ → List ℕ → List Kind → ℕ → ℕ → ℕ → Cache → ℕ → Cache
 placed held key graph ttl t n c place =
-    let fresh = dropped held t (λ row. is_in_slot c.conf (slot_of c.conf key) row && is_expired c.conf t row) c in
+    let fresh =
+    dropped held t
+    (λ row. is_in_slot c.conf (slot_of c.conf key) row && is_expired c.conf t row) c in
     let new : Row = record {
       key = key;
       graph = graph;
@@ -113,10 +131,13 @@ placed held key graph ttl t n c place =
 -- after room was made
 abbrev pub put_in : List ℕ → List ℕ → List Kind → ℕ → ℕ → ℕ → Cache → Option ℕ → Insertion
 put_in held key graph ttl t n c None = record { answer = NoRoom; cache = c }
-put_in held key graph ttl t n c (Some place) = record { answer = Stored; cache = placed held key graph ttl t n c place }
+put_in held key graph ttl t n c (Some place) = record {
+  answer = Stored;
+  cache = placed held key graph ttl t n c place;
+}
 
--- A value is stored under a key: never one that an empty segment could not take; with `exclusive` never
--- over a live row; else after room was made, with the old row's block still taken.
+-- A value is stored under a key: never one that an empty segment could not take; with `exclusive`
+-- never over a live row; else after room was made, with the old row's block still taken.
 abbrev pub inserted : List ℕ → List ℕ → List Kind → ℕ → Bool → ℕ → Cache → Insertion
 inserted held key graph ttl exclusive t c =
     let n = block_size (length key) graph in

@@ -1,5 +1,7 @@
 -- Events, and who still copies a value after them.
-use Rattle.std.specs.Prelude.{◌≡◌, ℕ, ◌^◌, ◌==◌, ◌&&◌, ◌||◌, not, nat_lt, if◌then◌else◌, Bool, true, false, List, [], ◌∷◌, ◌++◌, map, filter, Option, Some, None, is_some, Contains}
+use Rattle.std.specs.Prelude.{◌≡◌, ℕ, ◌^◌, ◌==◌, ◌&&◌, ◌||◌, not, nat_lt, if◌then◌else◌, Bool, true}
+use Rattle.std.specs.Prelude.{false, List, [], ◌∷◌, ◌++◌, map, filter, Option, Some, None, is_some}
+use Rattle.std.specs.Prelude.{Contains}
 use Rattle.std.specs.Int.{bit_at}
 use Rattle.std.specs.List.{list_any, list_all, range_with_len}
 use Rattle.std.specs.Map.{lookup}
@@ -9,7 +11,8 @@ use Rattle.apcu_model.specs.declared.conf.Conf.{Conf}
 use Rattle.apcu_model.specs.declared.event.Event.{Event}
 use Rattle.apcu_model.specs.declared.journal.Mark.{Mark}
 use Rattle.apcu_model.specs.declared.request.Request.{Request}
-use Rattle.apcu_model.specs.declared.request.Request.TheVariants.{Store, Fetch, Exists, Delete, Clear, Retire}
+use Rattle.apcu_model.specs.declared.request.Request.TheVariants.{Store, Fetch, Exists, Delete}
+use Rattle.apcu_model.specs.declared.request.Request.TheVariants.{Clear, Retire}
 use Rattle.apcu_model.specs.declared.request.Reply.{Reply}
 use Rattle.apcu_model.specs.Cache.{Row, Cache, empty_cache}
 use Rattle.apcu_model.specs.Expiry.{live_row}
@@ -37,14 +40,19 @@ is_copied mask m number = list_any (λ w. is_in_mask mask w.0 && w.1 == number) 
 
 -- the places of the rows and removed rows that workers of the mask copy
 abbrev pub held_places : Stage → ℕ → List ℕ
-held_places m mask = map {A = Row} (λ row. row.place) (filter (λ row. is_copied mask m row.number) (m.cache.rows ++ m.cache.removed))
+held_places m mask =
+    map {A = Row} (λ row. row.place)
+    (filter (λ row. is_copied mask m row.number) (m.cache.rows ++ m.cache.removed))
 
--- Of `workers` workers, a mask is legal for an event of one where each of its workers is another one that
--- has a window.
+-- Of `workers` workers, a mask is legal for an event of one where each of its workers is another
+-- one that has a window.
 abbrev pub is_legal_mask : ℕ → ℕ → Stage → ℕ → Bool
 is_legal_mask workers worker m mask =
     nat_lt mask (2 ^ 64)
-    && list_all (λ v. not (is_in_mask mask v) || (not (v == worker) && nat_lt v workers && is_some (window_of m v))) (range_with_len 0 64)
+    && list_all
+    (λ v. not (is_in_mask mask v)
+    || (not (v == worker) && nat_lt v workers && is_some (window_of m v)))
+    (range_with_len 0 64)
 
 -- null, a truth value and an integer are answered under the lock, and never copied outside it
 abbrev pub is_scalar_kind : Kind → Bool
@@ -93,7 +101,8 @@ stage_of conf history = after_events (start_of conf) history
 -- each event's mask is legal where the event stands
 abbrev pub all_legal : ℕ → Stage → List Event → Bool
 all_legal workers m [] = true
-all_legal workers m (e ∷ events) = is_legal_mask workers e.worker m e.mask && all_legal workers (after_event m e) events
+all_legal workers m (e ∷ events) =
+    is_legal_mask workers e.worker m e.mask && all_legal workers (after_event m e) events
 
 abbrev pub mark_of : Event → Mark
 mark_of e = record { worker = e.worker; mask = e.mask }
@@ -105,4 +114,5 @@ marks_of events = map mark_of events
 -- Rows and removed rows of one number have one place, and each worker has one window.
 pub record IsNumbered (m : Stage) : Type 0 where
   pub one : (w : ℕ × ℕ) → Contains m.windows w → window_of m w.0 ≡ Some w.1
-  pub numbers : (p q : Row) → Contains (m.cache.rows ++ m.cache.removed) p → Contains (m.cache.rows ++ m.cache.removed) q → p.number ≡ q.number → p.place ≡ q.place
+  pub numbers : (p q : Row) → Contains (m.cache.rows ++ m.cache.removed) p
+      → Contains (m.cache.rows ++ m.cache.removed) q → p.number ≡ q.number → p.place ≡ q.place

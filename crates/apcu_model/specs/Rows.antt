@@ -16,8 +16,8 @@ abbrev pub touched_at : List ℕ → ℕ → Row → Row
 touched_at key t row = if has_key key row then touched t row else row
 
 -- the cache that a state is
-abbrev pub cache_of : State → Cache
-cache_of s = record {
+abbrev pub cache_in : State → Cache
+cache_in s = record {
   conf = s.conf;
   rows = s.rows.items;
   removed = [];
@@ -29,6 +29,6 @@ cache_of s = record {
 }
 
 -- what holds of a state before and after each request
-pub record IsSound (s : State) : Type 0 where
+pub record IsValid (s : State) : Type 0 where
   pub good : IsGood s.conf
   pub apart : are_apart s.rows.items ≡ true

@@ -1,10 +1,12 @@
--- What the cache of one thread answers to a request, and what it leaves. `held` is the list of the places
--- of blocks that are held in this event, t the time.
-use Rattle.std.specs.Prelude.{ℕ, Bool, true, false, if◌then◌else◌, List, map, Option, Some, None, is_some}
+-- What the cache of one thread answers to a request, and what it leaves. `held` is the list of the
+-- places of blocks that are held in this event, t the time.
+use Rattle.std.specs.Prelude.{ℕ, Bool, true, false, if◌then◌else◌, List, map, Option, Some, None}
+use Rattle.std.specs.Prelude.{is_some}
 use Rattle.apcu_model.specs.declared.request.StoreAnswer.{StoreAnswer}
 use Rattle.apcu_model.specs.declared.request.StoreAnswer.TheVariants as answers
 use Rattle.apcu_model.specs.declared.request.Request.{Request}
-use Rattle.apcu_model.specs.declared.request.Request.TheVariants.{Store, Fetch, Exists, Delete, Clear, Retire}
+use Rattle.apcu_model.specs.declared.request.Request.TheVariants.{Store, Fetch, Exists, Delete}
+use Rattle.apcu_model.specs.declared.request.Request.TheVariants.{Clear, Retire}
 use Rattle.apcu_model.specs.declared.request.Reply.{Reply}
 use Rattle.apcu_model.specs.declared.request.Reply.TheVariants.{Flag, Found, Absent, Ended}
 use Rattle.apcu_model.specs.Cache.{Row, Cache, risen, has_key}
@@ -23,7 +25,8 @@ found_in (Some row) = Found row.graph
 found_in None = Absent
 
 abbrev pub reply_to : List ℕ → ℕ → Request → Cache → Reply
-reply_to held t (Store key value ttl exclusive) c = Flag (is_stored (inserted held key value ttl exclusive t c).answer)
+reply_to held t (Store key value ttl exclusive) c =
+    Flag (is_stored (inserted held key value ttl exclusive t c).answer)
 reply_to held t (Fetch key) c = found_in (live_row key t c)
 reply_to held t (Exists key) c = Flag (is_some (live_row key t c))
 reply_to held t (Delete key) c = Flag (is_some (live_row key t c))
@@ -36,11 +39,15 @@ touched t row = record row { hits = risen row.hits; atime = t }
 
 -- a look-up that found a row uses it and counts a hit; one that found none counts a miss
 abbrev pub looked_up : List ℕ → ℕ → Option Row → Cache → Cache
-looked_up key t (Some row) c = record c { rows = map {A = Row} (λ r. if has_key key r then touched t r else r) c.rows; hits = risen c.hits }
+looked_up key t (Some row) c = record c {
+  rows = map {A = Row} (λ r. if has_key key r then touched t r else r) c.rows;
+  hits = risen c.hits;
+}
 looked_up key t None c = record c { misses = risen c.misses }
 
 abbrev pub cache_after : List ℕ → ℕ → Request → Cache → Cache
-cache_after held t (Store key value ttl exclusive) c = (inserted held key value ttl exclusive t c).cache
+cache_after held t (Store key value ttl exclusive) c =
+    (inserted held key value ttl exclusive t c).cache
 cache_after held t (Fetch key) c = looked_up key t (live_row key t c) c
 cache_after held t (Exists key) c = c
 cache_after held t (Delete key) c = deleted held key t c

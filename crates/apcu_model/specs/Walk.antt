@@ -14,4 +14,5 @@ is_in_slot conf slot row = slot_of conf row.key == slot
 
 -- the rows by slot, and in one slot by their place in the list
 abbrev pub in_slot_order : Conf → List Row → List Row
-in_slot_order conf rows = flat_map (λ slot. filter (is_in_slot conf slot) rows) (range_with_len 0 conf.slots)
+in_slot_order conf rows =
+    flat_map (λ slot. filter (is_in_slot conf slot) rows) (range_with_len 0 conf.slots)

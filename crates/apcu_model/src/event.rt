@@ -7,6 +7,7 @@ pub struct Event {
     pub worker: u32,
     /// In seconds.
     pub t: u64,
+    /// What the worker asked for.
     pub request: Request,
     /// A bit for each worker that the cache found still copying a value.
     pub mask: u64,

@@ -1,4 +1,5 @@
-ghost use Rattle.std.specs.Prelude.{◌≡◌, ◌+◌, ◌-◌, ◌<◌, [], ◌∷◌, ◌++◌, length, ◌==◌, IfOk, slice_get, Some};
+ghost use Rattle.std.specs.Prelude.{◌≡◌, ◌+◌, ◌-◌, ◌<◌, [], ◌∷◌, ◌++◌, length, ◌==◌, IfOk};
+ghost use Rattle.std.specs.Prelude.{slice_get, Some};
 
 use std::alloc::{AllocError, Global};
 use std::marker::Model;

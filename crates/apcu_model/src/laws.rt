@@ -1,10 +1,13 @@
-ghost use Rattle.std.specs.Prelude.{◌≡◌, ◌↔◌, ◌<◌, ◌≤◌, ◌&&◌, ℕ, Bool, true, false, List, [], ◌∷◌, ◌++◌, length, map, filter, Contains, IsTrue};
+ghost use Rattle.std.specs.Prelude.{◌≡◌, ◌↔◌, ◌<◌, ◌≤◌, ◌&&◌, ℕ, Bool, true, false, List, [], ◌∷◌};
+ghost use Rattle.std.specs.Prelude.{◌++◌, length, map, filter, Contains, IsTrue};
 ghost use Rattle.apcu_model.specs.declared.conf.Conf.{Conf};
 ghost use Rattle.apcu_model.specs.declared.event.Event.{Event};
 ghost use Rattle.apcu_model.specs.declared.request.Request.{Request};
 ghost use Rattle.apcu_model.specs.Cache.{Row, Cache};
-ghost use Rattle.apcu_model.specs.Change.{AreAlike, ForgetsCounts, KeepsCounts, is_expunged, with_room, with_row};
-ghost use Rattle.apcu_model.specs.History.{IsNumbered, Stage, after_event, after_events, all_legal, held_places, is_legal_mask, mark_of, marks_of, stage_of};
+ghost use Rattle.apcu_model.specs.Change.{AreAlike, ForgetsCounts, KeepsCounts, is_expunged};
+ghost use Rattle.apcu_model.specs.Change.{with_room, with_row};
+ghost use Rattle.apcu_model.specs.History.{IsNumbered, Stage, after_event, after_events, all_legal};
+ghost use Rattle.apcu_model.specs.History.{held_places, is_legal_mask, mark_of, marks_of, stage_of};
 ghost use Rattle.apcu_model.specs.Rows.{are_apart};
 ghost use Rattle.apcu_model.specs.Sequential.{cache_after, reply_to};
 ghost use Rattle.apcu_model.specs.Walk.{in_slot_order, slot_of};

@@ -1,4 +1,5 @@
-ghost use Rattle.std.specs.Prelude.{◌≡◌, ◌<◌, ◌^◌, ◌==◌, ◌++◌, ◌-◌, [], ◌∷◌, length, is_ok, if◌then◌else◌, slice_get, Some};
+ghost use Rattle.std.specs.Prelude.{◌≡◌, ◌<◌, ◌^◌, ◌==◌, ◌++◌, ◌-◌, [], ◌∷◌, length, is_ok};
+ghost use Rattle.std.specs.Prelude.{if◌then◌else◌, slice_get, Some};
 
 use php_graph::{Bytes, Graph};
 use std::alloc::{AllocError, Global};

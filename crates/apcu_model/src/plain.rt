@@ -2,7 +2,8 @@ ghost use Rattle.std.specs.Prelude.{◌≡◌, ℕ, [], MatchOption, IfOk, OnOk,
 ghost use Rattle.apcu_model.specs.Cache.{counts_of, empty_cache};
 ghost use Rattle.apcu_model.specs.Conf.{IsGood};
 ghost use Rattle.apcu_model.specs.Sequential.{cache_after, reply_to};
-ghost use Rattle.apcu_model.specs.declared.request.Request.TheVariants.{Store, Fetch, Exists, Delete, Clear};
+ghost use Rattle.apcu_model.specs.declared.request.Request.TheVariants.{Store, Fetch, Exists};
+ghost use Rattle.apcu_model.specs.declared.request.Request.TheVariants.{Delete, Clear};
 ghost use Rattle.apcu_model.specs.declared.request.Reply.TheVariants.{Flag, Found, Absent};
 
 use crate::conf::Conf;
@@ -22,13 +23,13 @@ pub struct Plain {
 
 impl Model for Plain {
     ghost use Rattle.apcu_model.specs.Cache.{Cache};
-    ghost use Rattle.apcu_model.specs.Rows.{IsSound, cache_of};
+    ghost use Rattle.apcu_model.specs.Rows.{IsValid, cache_in};
 
     ghost Value = { Cache };
 
-    ghost view = { λ p. cache_of p.state };
+    ghost view = { λ p. cache_in p.state };
 
-    ghost invariant = { λ p. IsSound p.state };
+    ghost invariant = { λ p. IsValid p.state };
 }
 
 impl Plain {

@@ -1,4 +1,6 @@
-ghost use Rattle.std.specs.Prelude.{◌≡◌, ◌<◌, ◌≤◌, ◌&&◌, not, true, false, if◌then◌else◌, length, map, filter, find, vec_len, vec_capacity, None, Some, MatchOption, slice_index_or};
+ghost use Rattle.std.specs.Prelude.{◌≡◌, ◌<◌, ◌≤◌, ◌&&◌, not, true, false, if◌then◌else◌, length};
+ghost use Rattle.std.specs.Prelude.{map, filter, find, vec_len, vec_capacity, None, Some};
+ghost use Rattle.std.specs.Prelude.{MatchOption, slice_index_or};
 ghost use Rattle.std.specs.List.{list_any};
 ghost use Rattle.apcu_model.specs.Cache.{Row, extent_of, has_key};
 ghost use Rattle.apcu_model.specs.Change.{with_row};

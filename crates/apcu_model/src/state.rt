@@ -1,9 +1,11 @@
-ghost use Rattle.std.specs.Prelude.{◌≡◌, ℕ, ◌<◌, ◌≤◌, [], is_some, vec_len, vec_capacity, MatchOption, IfOk, OnOk, OnErr};
+ghost use Rattle.std.specs.Prelude.{◌≡◌, ℕ, ◌<◌, ◌≤◌, [], is_some, vec_len, vec_capacity};
+ghost use Rattle.std.specs.Prelude.{MatchOption, IfOk, OnOk, OnErr};
 ghost use Rattle.apcu_model.specs.declared.request.Reply.TheVariants.{Absent, Found};
 ghost use Rattle.apcu_model.specs.Cache.{gap_of};
-ghost use Rattle.apcu_model.specs.Change.{cleared, deleted, expired_dropped, expunged, inserted, placed, put_in, with_room};
+ghost use Rattle.apcu_model.specs.Change.{cleared, deleted, expired_dropped, expunged, inserted};
+ghost use Rattle.apcu_model.specs.Change.{placed, put_in, with_room};
 ghost use Rattle.apcu_model.specs.Expiry.{live_row};
-ghost use Rattle.apcu_model.specs.Rows.{IsSound, cache_of};
+ghost use Rattle.apcu_model.specs.Rows.{IsValid, cache_in};
 ghost use Rattle.apcu_model.specs.Sequential.{found_in, is_stored, looked_up};
 
 use crate::conf::Conf;
@@ -41,7 +43,7 @@ impl State {
     // The least place where a block of so many words fits. The list has room for all blocks.
     fn gap(&self, n: u32, extents: &mut Vec<Extent>) -> Option<u32>
         requires { vec_len self.now.rows ≤ vec_capacity extents.old }
-        ensures place { result ≡ gap_of (cache_of self.now) n }
+        ensures place { result ≡ gap_of (cache_in self.now) n }
         ensures capacity { vec_capacity extents.new ≡ vec_capacity extents.old }
     {
         list_extents(&self.rows, extents);
@@ -50,9 +52,9 @@ impl State {
 
     // Expired rows go, where the cache has a time limit.
     fn expire(&mut self, t: u64)
-        requires { IsSound self.old }
-        ensures cache { cache_of self.new ≡ expired_dropped [] t (cache_of self.old) }
-        ensures sound { IsSound self.new }
+        requires { IsValid self.old }
+        ensures cache { cache_in self.new ≡ expired_dropped [] t (cache_in self.old) }
+        ensures valid { IsValid self.new }
         ensures less { vec_len self.new.rows ≤ vec_len self.old.rows }
         ensures capacity { vec_capacity self.new.rows ≡ vec_capacity self.old.rows }
     {
@@ -63,9 +65,9 @@ impl State {
 
     // All rows go, and what was counted since the last time.
     fn expunge(&mut self)
-        requires { IsSound self.old }
-        ensures cache { (t : ℕ) → cache_of self.new ≡ expunged [] t (cache_of self.old) }
-        ensures sound { IsSound self.new }
+        requires { IsValid self.old }
+        ensures cache { (t : ℕ) → cache_in self.new ≡ expunged [] t (cache_in self.old) }
+        ensures valid { IsValid self.new }
         ensures less { vec_len self.new.rows ≤ vec_len self.old.rows }
         ensures capacity { vec_capacity self.new.rows ≡ vec_capacity self.old.rows }
     {
@@ -78,11 +80,11 @@ impl State {
 
     // Makes room for a block, and answers the least place where it then fits.
     fn make_room(&mut self, n: u32, t: u64, extents: &mut Vec<Extent>) -> Option<u32>
-        requires sound { IsSound self.old }
+        requires valid { IsValid self.old }
         requires listed { vec_len self.old.rows ≤ vec_capacity extents.old }
-        ensures cache { cache_of self.new ≡ with_room [] n t (cache_of self.old) }
-        ensures place { result ≡ gap_of (cache_of self.new) n }
-        ensures sound { IsSound self.new }
+        ensures cache { cache_in self.new ≡ with_room [] n t (cache_in self.old) }
+        ensures place { result ≡ gap_of (cache_in self.new) n }
+        ensures valid { IsValid self.new }
         ensures less { vec_len self.new.rows ≤ vec_len self.old.rows }
         ensures capacity { vec_capacity self.new.rows ≡ vec_capacity self.old.rows }
     {
@@ -101,11 +103,11 @@ impl State {
 
     // The row comes in at a place where it fits.
     fn put(&mut self, draft: Draft, place: u32, t: u64)
-        requires sound { IsSound self.old }
+        requires valid { IsValid self.old }
         requires room { vec_len self.old.rows < vec_capacity self.old.rows }
-        ensures cache { cache_of self.new
-            ≡ placed [] draft.key draft.graph draft.ttl t draft.size (cache_of self.old) place }
-        ensures sound { IsSound self.new }
+        ensures cache { cache_in self.new
+            ≡ placed [] draft.key draft.graph draft.ttl t draft.size (cache_in self.old) place }
+        ensures valid { IsValid self.new }
     {
         let slot = hash_of(draft.key.as_slice()) % u64::from(self.conf.slots);
         drop_expired_in(&mut self.rows, self.conf, slot, t);
@@ -128,15 +130,15 @@ impl State {
 
     // Makes room and puts the row there. Memory is taken before anything changes.
     fn insert(&mut self, draft: Draft, t: u64) -> Result<bool, AllocError>
-        requires { IsSound self.old }
-        ensures reply { let d = draft in let room = with_room [] d.size t (cache_of self.old) in
+        requires { IsValid self.old }
+        ensures reply { let d = draft in let room = with_room [] d.size t (cache_in self.old) in
             IfOk result (λ done. done
             ≡ is_stored (put_in [] d.key d.graph d.ttl t d.size room (gap_of room d.size)).answer) }
-        ensures after { let d = draft in let room = with_room [] d.size t (cache_of self.old) in
-            OnOk result (cache_of self.new
+        ensures after { let d = draft in let room = with_room [] d.size t (cache_in self.old) in
+            OnOk result (cache_in self.new
             ≡ (put_in [] d.key d.graph d.ttl t d.size room (gap_of room d.size)).cache) }
-        ensures err { OnErr result (cache_of self.new ≡ cache_of self.old) }
-        ensures sound { IsSound self.new }
+        ensures err { OnErr result (cache_in self.new ≡ cache_in self.old) }
+        ensures valid { IsValid self.new }
     {
         let mut extents = Vec::with_capacity(self.alloc, self.rows.len())?;
         self.rows.reserve(1)?;
@@ -151,7 +153,7 @@ impl State {
 
     // Whether a look-up finds the key.
     pub(crate) fn is_live(&self, key: &[u8], t: u64) -> bool
-        ensures { result ≡ is_some (live_row key.now t (cache_of self.now)) }
+        ensures { result ≡ is_some (live_row key.now t (cache_in self.now)) }
     {
         live_in(&self.rows, key, t).is_some()
     }
@@ -165,13 +167,13 @@ impl State {
         exclusive: bool,
         t: u64,
     ) -> Result<bool, AllocError>
-        requires { IsSound self.old }
+        requires { IsValid self.old }
         ensures reply { IfOk result (λ done. done
-            ≡ is_stored (inserted [] key value ttl exclusive t (cache_of self.old)).answer) }
-        ensures after { OnOk result (cache_of self.new
-            ≡ (inserted [] key value ttl exclusive t (cache_of self.old)).cache) }
-        ensures err { OnErr result (cache_of self.new ≡ cache_of self.old) }
-        ensures sound { IsSound self.new }
+            ≡ is_stored (inserted [] key value ttl exclusive t (cache_in self.old)).answer) }
+        ensures after { OnOk result (cache_in self.new
+            ≡ (inserted [] key value ttl exclusive t (cache_in self.old)).cache) }
+        ensures err { OnErr result (cache_in self.new ≡ cache_in self.old) }
+        ensures valid { IsValid self.new }
     {
         let size = block_words(key.as_slice().len() as u64, &value);
         if u64::from(self.conf.words - self.conf.slots) < size {
@@ -192,8 +194,8 @@ impl State {
     // The value that a look-up of the key finds.
     pub(crate) fn live_value(&self, key: &[u8], t: u64) -> Option<&Graph>
         ensures { MatchOption result
-            (found_in (live_row key.now t (cache_of self.now)) ≡ Absent)
-            (λ g. found_in (live_row key.now t (cache_of self.now)) ≡ Found g.now) }
+            (found_in (live_row key.now t (cache_in self.now)) ≡ Absent)
+            (λ g. found_in (live_row key.now t (cache_in self.now)) ≡ Found g.now) }
     {
         match live_in(&self.rows, key, t) {
             Some(row) => Some(&row.graph),
@@ -203,10 +205,10 @@ impl State {
 
     // Notes a look-up: a hit and the row's use, or a miss.
     pub(crate) fn note_fetch(&mut self, key: &[u8], t: u64)
-        requires { IsSound self.old }
-        ensures cache { cache_of self.new
-            ≡ looked_up key.now t (live_row key.now t (cache_of self.old)) (cache_of self.old) }
-        ensures sound { IsSound self.new }
+        requires { IsValid self.old }
+        ensures cache { cache_in self.new
+            ≡ looked_up key.now t (live_row key.now t (cache_in self.old)) (cache_in self.old) }
+        ensures valid { IsValid self.new }
     {
         if self.is_live(key, t) {
             touch_in(&mut self.rows, key, t);
@@ -218,10 +220,10 @@ impl State {
 
     // The row that a look-up of the key finds goes. Whether there is one.
     pub(crate) fn delete(&mut self, key: &[u8], t: u64) -> bool
-        requires { IsSound self.old }
-        ensures reply { result ≡ is_some (live_row key.now t (cache_of self.old)) }
-        ensures cache { cache_of self.new ≡ deleted [] key.now t (cache_of self.old) }
-        ensures sound { IsSound self.new }
+        requires { IsValid self.old }
+        ensures reply { result ≡ is_some (live_row key.now t (cache_in self.old)) }
+        ensures cache { cache_in self.new ≡ deleted [] key.now t (cache_in self.old) }
+        ensures valid { IsValid self.new }
     {
         if !self.is_live(key, t) {
             return false;
@@ -232,9 +234,9 @@ impl State {
 
     // All rows go, and all that was counted.
     pub(crate) fn clear(&mut self)
-        requires { IsSound self.old }
-        ensures cache { (t : ℕ) → cache_of self.new ≡ cleared [] t (cache_of self.old) }
-        ensures sound { IsSound self.new }
+        requires { IsValid self.old }
+        ensures cache { (t : ℕ) → cache_in self.new ≡ cleared [] t (cache_in self.old) }
+        ensures valid { IsValid self.new }
     {
         self.rows.clear();
         self.hits = 0;

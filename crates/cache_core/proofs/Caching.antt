@@ -17,7 +17,9 @@ use Rattle.cache_core.specs.Caching.{cache_of, CacheStands}
 use Rattle.cache_core.specs.Laws.{Laws}
 use Rattle.std.specs.List.{Contains}
 use Rattle.std.proofs.lemmas.List.Elements.{Contains-append_left, Contains-append_right, Contains-append_cases}
-use Rattle.cache_core.proofs.Rows.{same_held, held_is, Contains-filter, Contains-kept}
+use Rattle.ttl_expunge.specs.Decided.{same_held}
+use Rattle.apcu_model.specs.Facts.{held_is}
+use Rattle.seg_words.specs.Members.{Contains-filter, Contains-kept}
 use Rattle.cache_core.proofs.Standing.{stand_kept}
 
 -- these are a cache's counts

@@ -8,7 +8,7 @@ use Rattle.apcu_model.specs.Cache.{Row, Cache, gap_of}
 use Rattle.apcu_model.specs.Change.{is_held, swept, expired_dropped, expunged, has_gap, with_room, put_in, inserted}
 use Rattle.apcu_model.specs.Expiry.{live_row}
 use Rattle.cache_core.specs.Storing.{added}
-use Rattle.cache_core.proofs.Rows.{filter_all, Contains-filter}
+use Rattle.seg_words.specs.Members.{filter_all, Contains-filter}
 
 -- the three ways of an insertion
 module _ (held key : List ℕ) (graph : List Kind) (ttl : ℕ) (exclusive : Bool) (t : ℕ) (c : Cache) where

@@ -21,7 +21,8 @@ use Rattle.cache_core.specs.declared.tally.Tally.{Tally}
 use Rattle.cache_core.specs.Caching.{cache_of}
 use Rattle.cache_core.specs.Laws.{Laws}
 use Rattle.cache_core.proofs.Caching.{cache_made, whole_made}
-use Rattle.cache_core.proofs.Rows.{counted, count-cons, none_counted, only_none, filter_all, Contains-first, Contains-later, Contains-cases, Contains-filter}
+use Rattle.seg_words.specs.Members.{counted, count-cons, none_counted, filter_all, Contains-first, Contains-later, Contains-cases, Contains-filter}
+use Rattle.entry_slots.specs.Having.{only_none}
 use Rattle.cache_core.proofs.Replacing.{IsOld, order_key}
 
 -- the row at a place where one row at most is
@@ -62,7 +63,7 @@ touched_keyed {s} key at t o sound =
     only = only_once at s.rows o.row o.there o.place (omega (arith, sound.once at)) ∙ sym o.one
 
     kept : (p : Row → Bool) (rows : List Row) (row : Row) → Contains rows row → p row ≡ true → Contains (filter p rows) row
-    kept = Rattle.cache_core.proofs.Rows.Contains-kept
+    kept = Rattle.seg_words.specs.Members.Contains-kept
 
     same : (row : Row) → Contains s.rows row → is_at at row ≡ has_key key row
     same row c = elim (cases_Bool (has_key key row)) [

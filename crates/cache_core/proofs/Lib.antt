@@ -1,5 +1,4 @@
 pub mod Standing
-pub mod Rows
 pub mod Replacing
 pub mod Live
 pub mod Caching

@@ -25,7 +25,11 @@ use Rattle.ttl_expunge.specs.Held.{AreRemoved, AreHeld, KeepsOpen, Drops}
 use Rattle.ttl_expunge.specs.Dropping.{dropped_in, dropped_rows}
 use Rattle.cache_core.specs.Laws.{Laws}
 use Rattle.cache_core.specs.Placing.{replaced_in, Replaces, Puts}
-use Rattle.cache_core.proofs.Rows.{any-append, counted, none_counted, place_there, without_none, only_none, filter_then, Contains-first, Contains-later, Contains-cases, Contains-filter, Contains-kept, Contains-map, dated, held_is, same_held, dated_held}
+use Rattle.std.proofs.lemmas.List.Folds.{list_any-append}
+use Rattle.seg_words.specs.Members.{counted, none_counted, filter_then, Contains-first, Contains-later, Contains-cases, Contains-filter, Contains-kept, Contains-map}
+use Rattle.entry_slots.specs.Having.{place_there, without_none, only_none}
+use Rattle.apcu_model.specs.Facts.{held_is, dated, dated_held}
+use Rattle.ttl_expunge.specs.Decided.{same_held}
 
 -- what changes where a row is put
 pub built : (s : Entries) (rows : List Row) (number : ℕ) (removed removed' unlinked unlinked' : List Row) (taken : List Extent) → removed ≡ removed' → unlinked ≡ unlinked'
@@ -162,7 +166,7 @@ replaces_old {s} {new} {before} {after} {old} at key graph ttl t o met was now =
       | inr none ↦ absurd (omega (arith, none.1))
     ];
   };
-  refused = record { each = λ b r. ap (λ (x : Entries). has_place b x.removed) now ∙ (any-append (is_at b) s.removed last ∙ here b (met.refused b r)) };
+  refused = record { each = λ b r. ap (λ (x : Entries). has_place b x.removed) now ∙ (list_any-append (is_at b) s.removed last ∙ here b (met.refused b r)) };
 }
   where
     last : List Row

@@ -9,7 +9,7 @@ use Rattle.sma_blocks.specs.Order.{ready_blocks}
 use Rattle.sma_blocks.specs.declared.sma.Sma.{Sma}
 use Rattle.sma_blocks.specs.Live.{live_blocks}
 use Rattle.sma_blocks.specs.Ready.{AreBlocks, IsReady}
-use Rattle.entry_slots.proofs.Members.{Contains-cases, none_in_nil, any_there}
+use Rattle.seg_words.specs.Members.{Contains-cases, none_in_nil, any_there}
 
 -- they are one, or no word is in both
 unfoldable pub Apart : Extent → Extent → Type 0

@@ -8,11 +8,11 @@ use Rattle.php_graph.specs.Numbers.{hash_of}
 use Rattle.apcu_model.specs.Cache.{Row}
 use Rattle.apcu_model.specs.Walk.{is_in_slot, slot_of}
 use Rattle.entry_slots.specs.declared.slots.EntrySlots.{EntrySlots}
-use Rattle.entry_slots.specs.Lists.{is_at, has_place, first_place, next_place}
+use Rattle.entry_slots.specs.Lists.{is_at, has_place, first_place, place_after}
 use Rattle.entry_slots.specs.Entries.{Entries, chain_of}
 use Rattle.entry_slots.specs.Standing.{IsChain, Stands}
 use Rattle.entry_slots.proofs.There.{HasEntryAt}
-use Rattle.entry_slots.proofs.Members.{Contains-first, Contains-later, Contains-filter, Contains-kept, any_there, any_from}
+use Rattle.seg_words.specs.Members.{Contains-first, Contains-later, Contains-filter, Contains-kept, any_there, any_from}
 use Rattle.entry_slots.proofs.Homes.{IsHome, room, home_row, home_removed}
 
 pub chain_first : (ws : List ℕ) (at : ℕ) (rows : List Row) → IsChain ws at rows → at ≡ first_place rows
@@ -20,7 +20,7 @@ chain_first ws at [] h = h
 chain_first ws at (row ∷ rows) h = h.0
 
 -- word 1 of a chain's block is the place of the next
-pub chain_next : (ws : List ℕ) (at first : ℕ) (rows : List Row) → IsChain ws first rows → has_place at rows ≡ true → slice_index ws (at + 1) ≡ next_place at rows
+pub chain_next : (ws : List ℕ) (at first : ℕ) (rows : List Row) → IsChain ws first rows → has_place at rows ≡ true → slice_index ws (at + 1) ≡ place_after at rows
 chain_next ws at first [] h there = absurd (false≢true there)
 chain_next ws at first (row ∷ rows) h there = elim (cases_Bool (is_at at row)) [
   | inl here ↦
@@ -39,7 +39,7 @@ pub small_first : (e : EntrySlots) (ws : List ℕ) (aside : Aside) (rows : List 
 small_first e ws aside [] h = omega arith
 small_first e ws aside (row ∷ rows) h = let w = room (h row (Contains-first row rows)) in omega (arith, w.high, w.short)
 
-pub small_next : (e : EntrySlots) (ws : List ℕ) (aside : Aside) (at : ℕ) (rows : List Row) → AreHome e ws aside rows → next_place at rows < 2 ^ 32
+pub small_next : (e : EntrySlots) (ws : List ℕ) (aside : Aside) (at : ℕ) (rows : List Row) → AreHome e ws aside rows → place_after at rows < 2 ^ 32
 small_next e ws aside at [] h = omega arith
 small_next e ws aside at (row ∷ rows) h = elim (cases_Bool (is_at at row)) [
   | inl here ↦ rw here (small_first e ws aside rows (λ r c. h r (Contains-later row rows r c)))
@@ -54,10 +54,10 @@ pub slot_small : (n slots : ℕ) → 2 ≤ slots → n % slots < slots
 slot_small n slots h = omega arith
 
 -- what follows in a chain, or among the removed rows
-pub next_row : {e : EntrySlots} {ws : List ℕ} {aside : Aside} (s : Entries) (at slot : ℕ) → Stands e ws aside s → slot < e.sma.from → has_place at (chain_of s slot) ≡ true → slice_index ws (at + 1) ≡ next_place at (chain_of s slot)
+pub next_row : {e : EntrySlots} {ws : List ℕ} {aside : Aside} (s : Entries) (at slot : ℕ) → Stands e ws aside s → slot < e.sma.from → has_place at (chain_of s slot) ≡ true → slice_index ws (at + 1) ≡ place_after at (chain_of s slot)
 next_row {ws = ws} s at slot h lt there = chain_next ws at (slice_index ws slot) (chain_of s slot) (h.chains slot (omega (arith, h.from))) there
 
-pub next_removed : {e : EntrySlots} {ws : List ℕ} {aside : Aside} (s : Entries) (at : ℕ) → Stands e ws aside s → has_place at s.removed ≡ true → slice_index ws (at + 1) ≡ next_place at s.removed
+pub next_removed : {e : EntrySlots} {ws : List ℕ} {aside : Aside} (s : Entries) (at : ℕ) → Stands e ws aside s → has_place at s.removed ≡ true → slice_index ws (at + 1) ≡ place_after at s.removed
 next_removed {e = e} {ws = ws} s at h there = chain_next ws at e.removed s.removed h.removed_chain there
 
 in_own_slot : (s : Entries) (at : ℕ) → has_place at s.rows ≡ true → (row : Row) × (has_place at (chain_of s (slot_of s.conf row.key)) ≡ true)

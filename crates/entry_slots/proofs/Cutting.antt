@@ -15,7 +15,7 @@ use Rattle.entry_slots.specs.Entries.{Entries, chain_of}
 use Rattle.entry_slots.specs.Standing.{IsChain, Stands, IsEntry}
 use Rattle.entry_slots.specs.Links.{link_after}
 use Rattle.entry_slots.specs.Laws.{Laws}
-use Rattle.entry_slots.proofs.Members.{Contains-cases, Contains-first, Contains-later, none_in_nil, count-cons, counted}
+use Rattle.seg_words.specs.Members.{Contains-cases, Contains-first, Contains-later, none_in_nil, count-cons, counted}
 use Rattle.entry_slots.proofs.Blocks.{told_slot}
 use Rattle.entry_slots.proofs.Homes.{IsHome, room, told_at}
 use Rattle.entry_slots.proofs.Chains.{AreHome}

@@ -13,7 +13,7 @@ use Rattle.entry_slots.specs.Lists.{is_at, has_place, only_at, without_place}
 use Rattle.entry_slots.specs.Entries.{Entries, chain_of, removed_at, noted_row, noted_at}
 use Rattle.entry_slots.specs.Standing.{IsChain, IsEntry, Stands}
 use Rattle.entry_slots.specs.Laws.{Laws}
-use Rattle.entry_slots.proofs.Members.{Contains-filter, count-cons}
+use Rattle.seg_words.specs.Members.{Contains-filter, count-cons}
 use Rattle.entry_slots.proofs.Homes.{IsHome, room, home_row, home_removed, home_unlinked}
 use Rattle.entry_slots.proofs.Frames.{SameRow, SameBut, entry_kept, entry_noted, chain_kept, rows_apart}
 use Rattle.entry_slots.proofs.Rewriting.{map_there}

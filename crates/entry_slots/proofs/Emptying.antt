@@ -14,7 +14,8 @@ use Rattle.entry_slots.specs.declared.slots.EntrySlots.{EntrySlots}
 use Rattle.entry_slots.specs.Lists.{is_at, has_place}
 use Rattle.entry_slots.specs.Entries.{Entries, IsWhole, blocks_of, without_rows}
 use Rattle.entry_slots.specs.Standing.{Stands}
-use Rattle.entry_slots.proofs.Members.{same_there, any_from, Contains-cases, Contains-first, Contains-later, none_in_nil}
+use Rattle.seg_words.specs.Members.{any_from, Contains-cases, Contains-first, Contains-later, none_in_nil}
+use Rattle.entry_slots.proofs.Members.{same_there}
 
 -- no row and no block, in a segment of this shape
 abbrev pub bare : Conf → ℕ → Entries

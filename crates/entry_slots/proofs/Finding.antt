@@ -1,28 +1,20 @@
 -- Which places rows have.
 use Rattle.std.proofs.Common.{◌≡◌, ◌≢◌, ℕ, Bool, true, false, cond, List, [], ◌∷◌, ◌++◌, Some, sym, subst, refl, ◌∙◌}
-use Rattle.std.specs.List.{Contains, find}
+use Rattle.std.specs.List.{find}
 use Rattle.std.specs.Option.{option_map}
-use Rattle.std.proofs.lemmas.Bool.{eq-eqb, eqb-true, or_left, or_right, false≢true}
+use Rattle.std.proofs.lemmas.Bool.{eq-eqb, or_left, or_right, false≢true}
 use Rattle.std.proofs.lemmas.List.Folds.{list_any-append}
 use Rattle.apcu_model.specs.Cache.{Row, has_key}
 use Rattle.apcu_model.specs.Walk.{is_in_slot}
-use Rattle.entry_slots.specs.Lists.{is_at, has_place, only_at, first_place, next_place}
+use Rattle.entry_slots.specs.Lists.{is_at, has_place, only_at, first_place, place_after}
 use Rattle.entry_slots.specs.Entries.{Entries, chain_of, place_of, unlinked_at}
-use Rattle.entry_slots.proofs.Members.{any_there, any_from, Contains-filter}
+use Rattle.seg_words.specs.Members.{any_there, any_from, Contains-filter}
 
 pub in_left : (at : ℕ) (xs ys : List Row) → has_place at xs ≡ true → has_place at (xs ++ ys) ≡ true
 in_left at xs ys h = list_any-append (is_at at) xs ys ∙ or_left (has_place at xs) (has_place at ys) h
 
 pub in_right : (at : ℕ) (xs ys : List Row) → has_place at ys ≡ true → has_place at (xs ++ ys) ≡ true
 in_right at xs ys h = list_any-append (is_at at) xs ys ∙ or_right (has_place at xs) (has_place at ys) h
-
--- of a list those of its rows
-pub member_there : (rows : List Row) (row : Row) → Contains rows row → has_place row.place rows ≡ true
-member_there rows row c = any_from (is_at row.place) rows row c (eq-eqb row.place row.place refl)
-
--- and no others
-pub some_there : (rows : List Row) (at : ℕ) → has_place at rows ≡ true → (row : Row) × Contains rows row × (row.place ≡ at)
-some_there rows at h = let r = any_there (is_at at) rows h in (r.0, r.1, eqb-true r.0.place at r.2)
 
 -- the row that was found is one of the rows
 found_in : (p : Row → Bool) (rows : List Row) (at : ℕ) → Some at ≡ option_map (λ (row : Row). row.place) (find p rows) → has_place at rows ≡ true
@@ -43,13 +35,13 @@ pub first_there : (rows : List Row) (at : ℕ) → at ≡ first_place rows → a
 first_there [] at e some = absurd (some e)
 first_there (row ∷ rows) at e some = or_left (is_at at row) (has_place at rows) (eq-eqb row.place at (sym e))
 
-pub next_there : (rows : List Row) (at next : ℕ) → next ≡ next_place at rows → next ≢ 0 → has_place next rows ≡ true
+pub next_there : (rows : List Row) (at next : ℕ) → next ≡ place_after at rows → next ≢ 0 → has_place next rows ≡ true
 next_there [] at next e some = absurd (some e)
 next_there (row ∷ rows) at next e some = go (is_at at row) refl (λ k. next_there rows at next k some)
   where
-    go : (b : Bool) → is_at at row ≡ b → (next ≡ next_place at rows → has_place next rows ≡ true) → has_place next (row ∷ rows) ≡ true
-    go true y later = or_right (is_at next row) (has_place next rows) (first_there rows next (subst (λ (b : Bool). next ≡ cond b (first_place rows) (next_place at rows)) y e) some)
-    go false n later = or_right (is_at next row) (has_place next rows) (later (subst (λ (b : Bool). next ≡ cond b (first_place rows) (next_place at rows)) n e))
+    go : (b : Bool) → is_at at row ≡ b → (next ≡ place_after at rows → has_place next rows ≡ true) → has_place next (row ∷ rows) ≡ true
+    go true y later = or_right (is_at next row) (has_place next rows) (first_there rows next (subst (λ (b : Bool). next ≡ cond b (first_place rows) (place_after at rows)) y e) some)
+    go false n later = or_right (is_at next row) (has_place next rows) (later (subst (λ (b : Bool). next ≡ cond b (first_place rows) (place_after at rows)) n e))
 
 pub chain_there : (s : Entries) (slot at : ℕ) → has_place at (chain_of s slot) ≡ true → has_place at s.rows ≡ true
 chain_there s slot at h =

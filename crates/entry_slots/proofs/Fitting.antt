@@ -6,7 +6,8 @@ use Rattle.seg_words.specs.declared.extents.Extent.{Extent}
 use Rattle.seg_words.specs.Gaps.{meets, is_free, fits, first_fit}
 use Rattle.sma_blocks.specs.Live.{with_block}
 use Rattle.entry_slots.specs.Lists.{HaveSame}
-use Rattle.entry_slots.proofs.Members.{Contains-cases, Contains-first, Contains-later, same_there, count-cons, none_in_nil}
+use Rattle.seg_words.specs.Members.{Contains-cases, Contains-first, Contains-later, count-cons, none_in_nil}
+use Rattle.entry_slots.proofs.Members.{same_there}
 
 all_there : {X : Type 0} (p : X → Bool) (xs : List X) (x : X) → list_all p xs ≡ true → Contains xs x → p x ≡ true
 all_there p [] x h c = absurd (none_in_nil x c)

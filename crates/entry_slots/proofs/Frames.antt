@@ -15,7 +15,7 @@ use Rattle.entry_slots.specs.declared.slots.EntrySlots.{EntrySlots}
 use Rattle.entry_slots.specs.Standing.{IsChain, IsEntry}
 use Rattle.entry_slots.specs.Laws.{Laws}
 use Rattle.entry_slots.proofs.Runs.{words_long}
-use Rattle.entry_slots.proofs.Members.{Contains-first, Contains-later}
+use Rattle.seg_words.specs.Members.{Contains-first, Contains-later}
 use Rattle.entry_slots.proofs.Blocks.{Apart, live_apart}
 use Rattle.entry_slots.proofs.Homes.{IsHome}
 

@@ -15,7 +15,8 @@ use Rattle.entry_slots.specs.Lists.{is_at}
 use Rattle.entry_slots.specs.Entries.{Entries, blocks_of}
 use Rattle.entry_slots.specs.Standing.{IsEntry, Stands}
 use Rattle.entry_slots.proofs.There.{HasEntryAt}
-use Rattle.entry_slots.proofs.Members.{Contains-map, same_there, any_there}
+use Rattle.seg_words.specs.Members.{Contains-map, any_there}
+use Rattle.entry_slots.proofs.Members.{same_there}
 use Rattle.entry_slots.proofs.Blocks.{live_bounds, told_in}
 
 -- the row's block is live, and as the row says

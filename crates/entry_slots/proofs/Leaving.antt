@@ -11,7 +11,7 @@ use Rattle.entry_slots.specs.declared.slots.EntrySlots.{EntrySlots}
 use Rattle.entry_slots.specs.Lists.{is_at, has_place, only_at, without_place}
 use Rattle.entry_slots.specs.Entries.{Entries, chain_of, unlinked_at, removed_at, freed_at, dropped_at, gone_at}
 use Rattle.entry_slots.specs.Standing.{Stands}
-use Rattle.entry_slots.proofs.Members.{any_there}
+use Rattle.seg_words.specs.Members.{any_there}
 use Rattle.entry_slots.proofs.Places.{rows_removed, rows_unlinked}
 use Rattle.entry_slots.proofs.Unlinking.{without_none, filter_swap}
 use Rattle.entry_slots.proofs.Linking.{filter_none}

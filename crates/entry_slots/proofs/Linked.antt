@@ -15,7 +15,7 @@ use Rattle.entry_slots.specs.Entries.{Entries, chain_of, blocks_of, fresh_row, l
 use Rattle.entry_slots.specs.Standing.{IsChain, IsEntry, Stands}
 use Rattle.entry_slots.specs.Links.{link_after}
 use Rattle.entry_slots.specs.Laws.{Laws}
-use Rattle.entry_slots.proofs.Members.{Contains-cases, count-append, counted, Contains-filter}
+use Rattle.seg_words.specs.Members.{Contains-cases, count-append, counted, Contains-filter}
 use Rattle.entry_slots.proofs.Homes.{IsHome, home_row, home_removed, home_unlinked}
 use Rattle.entry_slots.proofs.Places.{once, at_itself, count_blocks}
 use Rattle.entry_slots.proofs.Cutting.{Spot, set_change, set_entry}

@@ -12,7 +12,7 @@ use Rattle.apcu_model.specs.Rows.{are_apart}
 use Rattle.apcu_model.specs.Walk.{is_in_slot, slot_of}
 use Rattle.entry_slots.specs.Entries.{Entries, chain_of}
 use Rattle.entry_slots.specs.Laws.{Laws}
-use Rattle.entry_slots.proofs.Members.{Contains-cases, Contains-first, Contains-later, none_in_nil, count-cons, count-append, counted}
+use Rattle.seg_words.specs.Members.{Contains-cases, Contains-first, Contains-later, none_in_nil, count-cons, count-append, counted}
 
 -- ---- lists
 

@@ -14,8 +14,9 @@ use Rattle.entry_slots.specs.declared.slots.EntrySlots.{EntrySlots}
 use Rattle.entry_slots.specs.Lists.{is_at, begins_at, has_place}
 use Rattle.entry_slots.specs.Entries.{Entries, listed, blocks_of}
 use Rattle.entry_slots.specs.Standing.{Stands}
-use Rattle.entry_slots.specs.Facts.{OnlyClose, OnlyOpensAt, AreApart, IsCopyable, IsSound}
-use Rattle.entry_slots.proofs.Members.{any_there, counted, same_there}
+use Rattle.entry_slots.specs.Facts.{OnlyClose, OnlyOpensAt, LieApart, IsCopyable, IsSound}
+use Rattle.seg_words.specs.Members.{any_there, counted}
+use Rattle.entry_slots.proofs.Members.{same_there}
 use Rattle.entry_slots.proofs.Blocks.{Apart, live_apart, live_bounds}
 use Rattle.entry_slots.proofs.Homes.{IsHome, room, home_listed}
 use Rattle.entry_slots.proofs.Places.{at_itself, once}
@@ -128,7 +129,7 @@ block_inside e ws aside s block h c =
     let b = live_bounds e.sma ws aside block h.ready (same_there (live_blocks ws e.sma.from) (blocks_of s) block h.blocks c) in
     (omega (arith, b.0, h.from, h.good.slots_least), b.1)
 
-pub blocks_lie_apart : (e : EntrySlots) (ws : List ℕ) (aside : Aside) (s : Entries) (one other : Extent) → Stands e ws aside s → Contains (blocks_of s) one → Contains (blocks_of s) other → AreApart one other
+pub blocks_lie_apart : (e : EntrySlots) (ws : List ℕ) (aside : Aside) (s : Entries) (one other : Extent) → Stands e ws aside s → Contains (blocks_of s) one → Contains (blocks_of s) other → LieApart one other
 unfolding Apart
 blocks_lie_apart e ws aside s one other h c d =
     let live : List Extent = live_blocks ws e.sma.from in

@@ -14,7 +14,7 @@ use Rattle.entry_slots.specs.Lists.{is_at, begins_at}
 use Rattle.entry_slots.specs.Entries.{Entries, listed, blocks_of}
 use Rattle.entry_slots.specs.Standing.{Stands}
 use Rattle.entry_slots.proofs.Blocks.{blocks_between}
-use Rattle.entry_slots.proofs.Members.{Contains-cases, count-cons, count-append, counted, there, none_in_nil}
+use Rattle.seg_words.specs.Members.{Contains-cases, count-cons, count-append, counted, counted_there, none_in_nil}
 
 pub blocks_once : (ws : List ℕ) (low : ℕ) (es : List Extent) (high x : ℕ) → AreBlocks ws low es high → count_by (begins_at x) es ≤ 1
 blocks_once ws low [] high x h = omega arith
@@ -24,7 +24,7 @@ blocks_once ws low (e ∷ es) high x h =
     none_later : e.place ≡ x → count_by (begins_at x) es < 1
     none_later is = elim (cases_lt (count_by (begins_at x) es) 1) [
       | inl few ↦ few
-      | inr some ↦ let r = there (begins_at x) es some in
+      | inr some ↦ let r = counted_there (begins_at x) es some in
           absurd (omega (arith, (blocks_between ws (e.place + e.size) es high r.0 h.3 r.1).0, eqb-true r.0.place x r.2, h.1))
     ]
 

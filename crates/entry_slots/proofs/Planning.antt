@@ -26,7 +26,7 @@ use Rattle.entry_slots.specs.Links.{link_after, IsLinkTo, IsTarget}
 use Rattle.entry_slots.specs.Written.{head_words, entry_words}
 use Rattle.entry_slots.specs.Laws.{Laws}
 use Rattle.entry_slots.proofs.Runs.{words_long}
-use Rattle.entry_slots.proofs.Members.{Contains-cases, Contains-first, Contains-later, any_from, Contains-kept, none_in_nil}
+use Rattle.seg_words.specs.Members.{Contains-cases, Contains-first, Contains-later, any_from, Contains-kept, none_in_nil}
 use Rattle.entry_slots.proofs.Blocks.{live_bounds, live_word}
 use Rattle.entry_slots.proofs.Homes.{room, home_row}
 use Rattle.entry_slots.proofs.Chains.{home_chain}

@@ -12,7 +12,7 @@ use Rattle.entry_slots.specs.Lists.{is_at}
 use Rattle.entry_slots.specs.Entries.{Entries, chain_of}
 use Rattle.entry_slots.specs.Standing.{IsChain, Stands}
 use Rattle.entry_slots.specs.Links.{link_after}
-use Rattle.entry_slots.proofs.Members.{Contains-first, Contains-later, count-cons, counted, Contains-filter}
+use Rattle.seg_words.specs.Members.{Contains-first, Contains-later, count-cons, counted, Contains-filter}
 use Rattle.entry_slots.proofs.Homes.{IsHome, room, home_removed}
 use Rattle.entry_slots.proofs.Chains.{home_chain}
 use Rattle.entry_slots.proofs.Frames.{chain_kept}

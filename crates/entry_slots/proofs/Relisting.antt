@@ -18,7 +18,7 @@ use Rattle.entry_slots.specs.Entries.{Entries, chain_of, moved_at, off_at, given
 use Rattle.entry_slots.specs.Standing.{IsChain, IsEntry, Stands}
 use Rattle.entry_slots.specs.Links.{IsRemovedLink}
 use Rattle.entry_slots.specs.Laws.{Laws}
-use Rattle.entry_slots.proofs.Members.{Contains-cases, Contains-first, Contains-later, any_there, any_from, count-append, count-cons, counted, none_in_nil, Contains-filter, Contains-kept}
+use Rattle.seg_words.specs.Members.{Contains-cases, Contains-first, Contains-later, any_there, any_from, count-append, count-cons, counted, none_in_nil, Contains-filter, Contains-kept}
 use Rattle.entry_slots.proofs.Homes.{IsHome, room, home_row, home_removed, home_unlinked}
 use Rattle.entry_slots.proofs.Frames.{entry_kept, chain_kept}
 use Rattle.entry_slots.proofs.Chains.{chain_first, small_first}

@@ -13,7 +13,7 @@ use Rattle.entry_slots.specs.Lists.{is_at, has_place}
 use Rattle.entry_slots.specs.Entries.{Entries, chain_of}
 use Rattle.entry_slots.specs.Standing.{IsChain, Stands}
 use Rattle.entry_slots.specs.Links.{link_after, IsRemovedLink}
-use Rattle.entry_slots.proofs.Members.{Contains-first, Contains-later, Contains-filter}
+use Rattle.seg_words.specs.Members.{Contains-first, Contains-later, Contains-filter}
 use Rattle.entry_slots.proofs.Homes.{room, home_removed}
 use Rattle.entry_slots.proofs.Chains.{AreHome}
 use Rattle.entry_slots.proofs.Frames.{chain_kept}

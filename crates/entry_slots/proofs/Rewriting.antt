@@ -12,7 +12,7 @@ use Rattle.entry_slots.specs.declared.slots.EntrySlots.{EntrySlots}
 use Rattle.entry_slots.specs.Entries.{Entries, chain_of}
 use Rattle.entry_slots.specs.Standing.{IsChain, IsEntry, Stands}
 use Rattle.entry_slots.specs.Laws.{Laws}
-use Rattle.entry_slots.proofs.Members.{Contains-cases, Contains-first, Contains-later, none_in_nil, Contains-filter}
+use Rattle.seg_words.specs.Members.{Contains-cases, Contains-first, Contains-later, none_in_nil, Contains-filter}
 use Rattle.entry_slots.proofs.Homes.{IsHome, room, home_row, home_removed, home_unlinked}
 use Rattle.entry_slots.proofs.Changes.{OnlyIn, named_same}
 use Rattle.entry_slots.proofs.Frames.{SameRow, entry_kept, chain_kept, rows_apart}

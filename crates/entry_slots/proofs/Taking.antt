@@ -15,7 +15,7 @@ use Rattle.entry_slots.specs.declared.slots.EntrySlots.{EntrySlots}
 use Rattle.entry_slots.specs.Entries.{Entries, chain_of, blocks_of, with_taken}
 use Rattle.entry_slots.specs.Standing.{Stands, IsChain, IsEntry}
 use Rattle.entry_slots.specs.Laws.{Laws}
-use Rattle.entry_slots.proofs.Members.{Contains-cases, Contains-filter, count-cons}
+use Rattle.seg_words.specs.Members.{Contains-cases, Contains-filter, count-cons}
 use Rattle.entry_slots.proofs.Blocks.{live_bounds}
 use Rattle.entry_slots.proofs.Homes.{IsHome, room, home_row, home_removed, home_unlinked}
 use Rattle.entry_slots.proofs.Frames.{SameRow, entry_kept, chain_kept}

@@ -11,7 +11,7 @@ use Rattle.entry_slots.specs.Entries.{Entries, touched_row, touched_in}
 use Rattle.entry_slots.specs.Standing.{IsEntry, Stands}
 use Rattle.entry_slots.proofs.There.{HasRowAt}
 use Rattle.entry_slots.specs.Laws.{Laws}
-use Rattle.entry_slots.proofs.Members.{any_there}
+use Rattle.seg_words.specs.Members.{any_there}
 use Rattle.entry_slots.proofs.Homes.{IsHome, room, home_row}
 use Rattle.entry_slots.proofs.Changes.{OnlyIn, only_none, only_set}
 use Rattle.entry_slots.proofs.Frames.{SameBut, entry_noted}

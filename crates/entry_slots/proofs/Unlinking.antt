@@ -14,7 +14,7 @@ use Rattle.entry_slots.specs.Entries.{Entries, chain_of, blocks_of, unlinked_at}
 use Rattle.entry_slots.specs.Standing.{IsChain, Stands}
 use Rattle.entry_slots.specs.Links.{IsLinkTo}
 use Rattle.entry_slots.specs.Laws.{Laws}
-use Rattle.entry_slots.proofs.Members.{Contains-first, Contains-later, any_there, any_from, count-cons, count-append, counted, Contains-filter, Contains-kept}
+use Rattle.seg_words.specs.Members.{Contains-first, Contains-later, any_there, any_from, count-cons, count-append, counted, Contains-filter, Contains-kept}
 use Rattle.entry_slots.proofs.Homes.{room, home_row, home_removed, home_unlinked}
 use Rattle.entry_slots.proofs.Chains.{home_chain}
 use Rattle.entry_slots.proofs.Places.{at_itself, count_blocks}

@@ -7,11 +7,11 @@ use Rattle.seg_words.specs.Windows.{Aside}
 use Rattle.apcu_model.specs.Cache.{Row}
 use Rattle.apcu_model.specs.Walk.{is_in_slot}
 use Rattle.entry_slots.specs.declared.slots.EntrySlots.{EntrySlots}
-use Rattle.entry_slots.specs.Lists.{is_at, has_place, first_place, next_place, without_place}
+use Rattle.entry_slots.specs.Lists.{is_at, has_place, first_place, place_after, without_place}
 use Rattle.entry_slots.specs.Entries.{Entries, chain_of}
 use Rattle.entry_slots.specs.Standing.{Stands}
 use Rattle.entry_slots.specs.Facts.{IsAtRow}
-use Rattle.entry_slots.proofs.Members.{Contains-first, Contains-later, Contains-filter, any_there, any_from}
+use Rattle.seg_words.specs.Members.{Contains-first, Contains-later, Contains-filter, any_there, any_from}
 use Rattle.entry_slots.proofs.Homes.{room, home_row}
 use Rattle.entry_slots.proofs.Cutting.{AreDistinct, chain_distinct, distinct_both}
 use Rattle.entry_slots.proofs.Unlinking.{filter_swap, without_middle}
@@ -19,7 +19,7 @@ use Rattle.entry_slots.proofs.Unlinking.{filter_swap, without_middle}
 nowhere : (at : ℕ) (rows : List Row) → ((q : Row) → Contains rows q → q.place ≢ at) → has_place at rows ≡ false
 nowhere at rows other = false_from_ne_true (has_place at rows) (λ t. let r = any_there (is_at at) rows t in other r.0 r.1 (eqb-true r.0.place at r.2))
 
-next_middle : (at : ℕ) (front : List Row) (row : Row) (back : List Row) → ((q : Row) → Contains front q → q.place ≢ at) → row.place ≡ at → next_place at (front ++ row ∷ back) ≡ first_place back
+next_middle : (at : ℕ) (front : List Row) (row : Row) (back : List Row) → ((q : Row) → Contains front q → q.place ≢ at) → row.place ≡ at → place_after at (front ++ row ∷ back) ≡ first_place back
 next_middle at [] row back other e = let here : is_at at row ≡ true = eq-eqb row.place at e in rw here refl
 next_middle at (x ∷ xs) row back other e =
     let no' : is_at at x ≡ false = ne_eqb x.place at (other x (Contains-first x xs)) in
@@ -43,7 +43,7 @@ walked e ws aside s slot front row back h split =
       in_chain = any_from (is_at row.place) (chain_of s slot) row in' (eq-eqb row.place row.place refl);
       passed = nowhere row.place front before;
       ahead = nowhere row.place back (distinct_tail front (row ∷ back) distinct).0;
-      next = ap (next_place row.place) split ∙ next_middle row.place front row back before refl;
+      next = ap (place_after row.place) split ∙ next_middle row.place front row back before refl;
       unlinked = filter_swap (is_in_slot s.conf slot) (λ r. not (is_at row.place r)) s.rows ∙ (ap (without_place row.place) split ∙ without_middle row.place front row back distinct refl);
     }
 

@@ -14,7 +14,7 @@ use Rattle.entry_slots.specs.Lists.{is_at, has_place, first_place}
 use Rattle.entry_slots.proofs.There.{HasEntryAt}
 use Rattle.entry_slots.specs.Entries.{Entries, chain_of, listed}
 use Rattle.entry_slots.specs.Standing.{IsChain, Stands}
-use Rattle.entry_slots.proofs.Members.{Contains-first, Contains-filter, any_from}
+use Rattle.seg_words.specs.Members.{Contains-first, Contains-filter, any_from}
 use Rattle.entry_slots.proofs.Homes.{room}
 use Rattle.entry_slots.proofs.Chains.{chain_first, home_chain}
 use Rattle.entry_slots.proofs.KeyWords.{key_of}

@@ -11,7 +11,7 @@ use Rattle.entry_slots.specs.declared.slots.EntrySlots.{EntrySlots}
 use Rattle.entry_slots.specs.Lists.{is_at, has_place}
 use Rattle.entry_slots.specs.Standing.{IsChain}
 use Rattle.entry_slots.specs.Links.{link_after, IsLinkTo}
-use Rattle.entry_slots.proofs.Members.{Contains-first}
+use Rattle.seg_words.specs.Members.{Contains-first}
 use Rattle.entry_slots.proofs.Homes.{room}
 use Rattle.entry_slots.proofs.Chains.{AreHome}
 use Rattle.entry_slots.proofs.Cutting.{Spot, spot_after}

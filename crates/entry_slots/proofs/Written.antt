@@ -27,7 +27,8 @@ use Rattle.entry_slots.specs.Standing.{IsChain, IsEntry, Stands}
 use Rattle.entry_slots.specs.Written.{head_words, entry_words}
 use Rattle.entry_slots.specs.Laws.{Laws}
 use Rattle.entry_slots.proofs.Runs.{words_long}
-use Rattle.entry_slots.proofs.Members.{same_there, counted, Contains-filter}
+use Rattle.seg_words.specs.Members.{counted, Contains-filter}
+use Rattle.entry_slots.proofs.Members.{same_there}
 use Rattle.entry_slots.proofs.Blocks.{Apart, live_apart, live_bounds}
 use Rattle.entry_slots.proofs.Homes.{IsHome, room, home_row, home_removed, home_unlinked}
 use Rattle.entry_slots.proofs.Changes.{OnlyIn}

@@ -1,5 +1,6 @@
 -- What a step of a call does to the entries.
-use Rattle.entry_slots.specs.Entries.{Entries, with_taken, touched_in, with_number, unlinked_at, noted_at, moved_at, off_at, given_at, linked, without_rows}
+use Rattle.entry_slots.specs.Entries.{Entries, with_taken, touched_in, with_number, unlinked_at}
+use Rattle.entry_slots.specs.Entries.{noted_at, moved_at, off_at, given_at, linked, without_rows}
 use Rattle.entry_slots.specs.declared.standing.Change.{Change}
 use Rattle.entry_slots.specs.declared.standing.Change.TheVariants as change
 

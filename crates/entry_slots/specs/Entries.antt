@@ -1,6 +1,7 @@
--- What entries in hash chains stand for: the rows and removed rows of a cache, and the blocks that are in
--- no list for a while; and how the calls change them.
-use Rattle.std.specs.Prelude.{◌≡◌, ℕ, ◌<◌, ◌==◌, not, if◌then◌else◌, List, [], ◌∷◌, ◌++◌, length, map, filter, find, Contains, ℤ, Option, Some, None, option_map}
+-- What entries in hash chains stand for: the rows and removed rows of a cache, and the blocks that
+-- are in no list for a while; and how the calls change them.
+use Rattle.std.specs.Prelude.{◌≡◌, ℕ, ◌<◌, ◌==◌, not, if◌then◌else◌, List, [], ◌∷◌, ◌++◌, length}
+use Rattle.std.specs.Prelude.{map, filter, find, Contains, ℤ, Option, Some, None, option_map}
 use Rattle.seg_words.specs.declared.extents.Extent.{Extent}
 use Rattle.seg_words.specs.Gaps.{first_fit}
 use Rattle.php_graph.specs.declared.kind.Kind.{Kind}
@@ -27,11 +28,25 @@ pub record Entries : Type 0 where
 
 -- no row, in a segment of this shape
 abbrev pub no_entries : Conf → Entries
-no_entries conf = record { conf = conf; rows = []; removed = []; next_number = 1; unlinked = []; taken = [] }
+no_entries conf = record {
+  conf = conf;
+  rows = [];
+  removed = [];
+  next_number = 1;
+  unlinked = [];
+  taken = [];
+}
 
 -- the entries of a cache, where no block is loose
 abbrev pub entries_of : Cache → Entries
-entries_of c = record { conf = c.conf; rows = c.rows; removed = c.removed; next_number = c.next_number; unlinked = []; taken = [] }
+entries_of c = record {
+  conf = c.conf;
+  rows = c.rows;
+  removed = c.removed;
+  next_number = c.next_number;
+  unlinked = [];
+  taken = [];
+}
 
 -- no block is loose
 abbrev pub IsWhole : Entries → Type 0
@@ -51,7 +66,8 @@ loose s = s.unlinked ++ s.removed
 
 -- all blocks
 abbrev pub blocks_of : Entries → List Extent
-blocks_of s = map extent_of s.rows ++ (map extent_of s.removed ++ (map extent_of s.unlinked ++ s.taken))
+blocks_of s =
+    map extent_of s.rows ++ (map extent_of s.removed ++ (map extent_of s.unlinked ++ s.taken))
 
 -- the least place at which n words fit beside all blocks
 abbrev pub place_for : ℕ → Entries → Option ℕ
@@ -111,8 +127,8 @@ place_of key s = option_map (λ (row : Row). row.place) (find (has_key key) s.ro
 abbrev pub old_place : List ℕ → Entries → ℕ
 old_place key s = found_place (find (has_key key) s.rows)
 
--- A new row in the block at `at`, which was taken: it stands in the place of the row of its key, whose block
--- is loose now, or last where there is none.
+-- A new row in the block at `at`, which was taken: it stands in the place of the row of its key,
+-- whose block is loose now, or last where there is none.
 abbrev pub linked : ℕ → List ℕ → List Kind → ℕ → ℕ → Entries → Entries
 linked at key graph ttl t s = record s {
   rows = with_row (fresh_row key graph ttl t at s.next_number) s.rows;
@@ -123,7 +139,10 @@ linked at key graph ttl t s = record s {
 
 -- the row at this place is in no chain any more
 abbrev pub unlinked_at : ℕ → Entries → Entries
-unlinked_at at s = record s { rows = without_place at s.rows; unlinked = only_at at s.rows ++ s.unlinked }
+unlinked_at at s = record s {
+  rows = without_place at s.rows;
+  unlinked = only_at at s.rows ++ s.unlinked;
+}
 
 -- the row at this place was dropped at the moment t
 abbrev pub noted_row : ℕ → ℕ → Row → Row
@@ -142,11 +161,17 @@ removed_at at t s = record s {
 
 -- the unlinked row at this place is the last of the removed rows
 abbrev pub moved_at : ℕ → Entries → Entries
-moved_at at s = record s { removed = s.removed ++ only_at at s.unlinked; unlinked = without_place at s.unlinked }
+moved_at at s = record s {
+  removed = s.removed ++ only_at at s.unlinked;
+  unlinked = without_place at s.unlinked;
+}
 
 -- the row at this place is no removed one any more, and its block is not given back yet
 abbrev pub off_at : ℕ → Entries → Entries
-off_at at s = record s { removed = without_place at s.removed; unlinked = only_at at s.removed ++ s.unlinked }
+off_at at s = record s {
+  removed = without_place at s.removed;
+  unlinked = only_at at s.removed ++ s.unlinked;
+}
 
 -- the unlinked row at this place is gone, and so is its block
 abbrev pub given_at : ℕ → Entries → Entries
@@ -154,7 +179,10 @@ given_at at s = record s { unlinked = without_place at s.unlinked }
 
 -- the unlinked or removed row at this place is gone, and so is its block
 abbrev pub freed_at : ℕ → Entries → Entries
-freed_at at s = record s { removed = without_place at s.removed; unlinked = without_place at s.unlinked }
+freed_at at s = record s {
+  removed = without_place at s.removed;
+  unlinked = without_place at s.unlinked;
+}
 
 -- the row at this place leaves the rows, and is the last of the removed ones
 abbrev pub dropped_at : ℕ → ℕ → Entries → Entries
@@ -180,7 +208,8 @@ touched_in at t s = record s { rows = map {A = Row} {B = Row} (touched_row at t)
 
 -- the row at this place holds the integer n
 abbrev pub number_row : ℕ → ℤ → ℕ → Row → Row
-number_row at n t row = if is_at at row then (record row { graph = kinds.Int n ∷ []; mtime = t }) else row
+number_row at n t row =
+    if is_at at row then (record row { graph = kinds.Int n ∷ []; mtime = t }) else row
 
 abbrev pub with_number : ℕ → ℤ → ℕ → Entries → Entries
 with_number at n t s = record s { rows = map {A = Row} {B = Row} (number_row at n t) s.rows }

@@ -1,4 +1,5 @@
 pub mod Lists
+pub mod Having
 pub mod Entries
 pub mod Standing
 pub mod Reading

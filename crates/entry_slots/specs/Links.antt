@@ -11,8 +11,8 @@ abbrev pub link_after : ℕ → List Row → ℕ
 link_after first [] = first
 link_after first (row ∷ rows) = link_after (row.place + NEXT) rows
 
--- The word `link` of the chain that begins at the word `first` names the row at `target`; where that is 0, it
--- is the chain's last word.
+-- The word `link` of the chain that begins at the word `first` names the row at `target`; where
+-- that is 0, it is the chain's last word.
 pub record IsLinkTo (words : List ℕ) (first : ℕ) (chain : List Row) (target link : ℕ) : Type 0 where
   pub front : List Row
   pub back : List Row
@@ -25,11 +25,13 @@ pub record IsLinkTo (words : List ℕ) (first : ℕ) (chain : List Row) (target 
 abbrev pub IsTarget : Entries → ℕ → ℕ → Type 0
 IsTarget s slot target = (target ≡ 0) ⊎ (has_place target (chain_of s slot) ≡ true)
 
--- The list of removed rows begins beside the words. The word `link` of it names the row at `target`, or where
--- that is 0 it is the list's last word; link 0 is what begins the list.
+-- The list of removed rows begins beside the words. The word `link` of it names the row at
+-- `target`, or where that is 0 it is the list's last word; link 0 is what begins the list.
 pub record IsRemovedLink (words : List ℕ) (removed : List Row) (target link : ℕ) : Type 0 where
   pub front : List Row
   pub back : List Row
   pub split : removed ≡ front ++ back
-  pub follows : ((front ≡ []) × (link ≡ 0)) ⊎ ((first : Row) × (rows : List Row) × (front ≡ first ∷ rows) × (link ≡ link_after (first.place + NEXT) rows))
+  pub follows : ((front ≡ []) × (link ≡ 0))
+      ⊎ ((first : Row) × (rows : List Row) × (front ≡ first ∷ rows)
+      × (link ≡ link_after (first.place + NEXT) rows))
   pub rest : IsChain words target back

@@ -1,9 +1,11 @@
 -- When words stand for entries.
-use Rattle.std.specs.Prelude.{◌≡◌, ℕ, ◌+◌, ◌<◌, ◌^◌, true, false, List, [], ◌∷◌, length, slice_index, Contains}
+use Rattle.std.specs.Prelude.{◌≡◌, ℕ, ◌+◌, ◌<◌, ◌^◌, true, false, List, [], ◌∷◌, length}
+use Rattle.std.specs.Prelude.{slice_index, Contains}
 use Rattle.seg_words.specs.declared.extents.Extent.{Extent}
 use Rattle.seg_words.specs.declared.segment.WordsIn.{Ghosts}
 use Rattle.seg_words.specs.Windows.{Aside, is_named}
-use Rattle.seg_words.specs.declared.layout.TheConstants.{HEAD_WORDS, KEY_LENGTH, IMAGE_LENGTH, PIN_COUNT}
+use Rattle.seg_words.specs.declared.layout.TheConstants.{HEAD_WORDS, KEY_LENGTH, IMAGE_LENGTH}
+use Rattle.seg_words.specs.declared.layout.TheConstants.{PIN_COUNT}
 use Rattle.seg_words.specs.Blocks.{image_place}
 use Rattle.sma_blocks.specs.Live.{live_blocks}
 use Rattle.sma_blocks.specs.Ready.{IsReady}
@@ -15,19 +17,21 @@ use Rattle.value_image.specs.Image.{IsImageOf}
 use Rattle.apcu_model.specs.Cache.{Row}
 use Rattle.apcu_model.specs.Conf.{IsGood}
 use Rattle.apcu_model.specs.Rows.{are_apart}
-use Rattle.entry_slots.specs.declared.head.TheConstants.{NEXT, TTL, CTIME, MTIME, ATIME, DTIME, HITS, NUMBER}
+use Rattle.entry_slots.specs.declared.head.TheConstants.{NEXT, TTL, CTIME, MTIME, ATIME, DTIME}
+use Rattle.entry_slots.specs.declared.head.TheConstants.{HITS, NUMBER}
 use Rattle.entry_slots.specs.declared.slots.EntrySlots.{EntrySlots}
 use Rattle.entry_slots.specs.Lists.{HaveSame}
 use Rattle.entry_slots.specs.Entries.{Entries, chain_of, blocks_of}
 
--- From the block at `at` on, each head names the place of the next block: these rows, in their order. The
--- last one's is 0.
+-- From the block at `at` on, each head names the place of the next block: these rows, in their
+-- order. The last one's is 0.
 abbrev pub IsChain : List ℕ → ℕ → List Row → Type 0
 IsChain words at [] = at ≡ 0
-IsChain words at (row ∷ rows) = (at ≡ row.place) × IsChain words (slice_index words (row.place + NEXT)) rows
+IsChain words at (row ∷ rows) =
+    (at ≡ row.place) × IsChain words (slice_index words (row.place + NEXT)) rows
 
--- The block of a row: its size, the lengths of its key and its image, what is noted of it, and its pin count,
--- which is 0; then its key, eight bytes a word, the first byte lowest, and its image.
+-- The block of a row: its size, the lengths of its key and its image, what is noted of it, and its
+-- pin count, which is 0; then its key, eight bytes a word, the first byte lowest, and its image.
 pub record IsEntry (words : List ℕ) (row : Row) : Type 0 where
   pub size : slice_index words row.place ≡ row.size
   pub key_length : slice_index words (row.place + KEY_LENGTH) ≡ length row.key
@@ -52,12 +56,14 @@ AreEntries words rows = (row : Row) → Contains rows row → IsEntry words row
 
 -- no window names one of these blocks
 abbrev pub AreUnnamed : List ℕ → List Extent → Type 0
-AreUnnamed windows blocks = (block : Extent) → Contains blocks block → is_named windows block.place ≡ false
+AreUnnamed windows blocks =
+    (block : Extent) → Contains blocks block → is_named windows block.place ≡ false
 
 -- The words, with what is kept beside them, stand for the entries.
 pub record Stands (e : EntrySlots) (words : List ℕ) (aside : Aside) (s : Entries) : Type 0 where
   -- each slot word begins the chain of the rows of its slot
-  pub chains : (slot : ℕ) → slot < s.conf.slots → IsChain words (slice_index words slot) (chain_of s slot)
+  pub chains : (slot : ℕ) → slot < s.conf.slots
+      → IsChain words (slice_index words slot) (chain_of s slot)
   pub removed_chain : IsChain words e.removed s.removed
   -- the rows' blocks are as the rows say
   pub rows : AreEntries words s.rows

@@ -10,7 +10,9 @@ use Rattle.entry_slots.specs.declared.writing.Note.{Note}
 
 -- those before the key
 abbrev pub head_words : List ℕ → List Kind → Note → List ℕ
-head_words key g note = note.next ∷ length key ∷ image_length g ∷ note.ttl ∷ note.now ∷ note.now ∷ note.now ∷ 0 ∷ 0 ∷ note.number ∷ 0 ∷ []
+head_words key g note =
+    note.next ∷ length key ∷ image_length g ∷ note.ttl ∷ note.now ∷ note.now ∷ note.now ∷ 0 ∷ 0
+    ∷ note.number ∷ 0 ∷ []
 
 abbrev pub entry_words : List ℕ → List Kind → Note → List ℕ
 entry_words key g note = head_words key g note ++ (words_of key ++ image_of g)

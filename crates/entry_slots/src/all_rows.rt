@@ -64,9 +64,9 @@ impl EntrySlots {
         self.count
     }
 
-    /// All rows leave at once, and one gap is left: no row may be removed, no block loose, and no window may
-    /// name a row's block. It takes as long as there are slots and gaps,
-    /// however many rows there are.
+    /// All rows leave at once, and one gap is left: no row may be removed, no block loose, and no
+    /// window may name a row's block. It takes as long as there are slots and gaps, however many
+    /// rows there are.
     pub fn free_rows<S: Segment>(&mut self, seg: &mut S)
         requires stand { Stand S.WordsIn self.old seg.old }
         requires whole { IsWhole (entries self.old) }

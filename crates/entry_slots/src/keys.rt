@@ -13,7 +13,8 @@ use byteorder::{ByteOrder, LittleEndian};
 use php_graph::{HASH_START, TOP_BIT, hash_step};
 use seg_words::{Segment, WordsIn};
 
-// The word of a key's eight bytes from byte `8 * i` on, the first byte lowest; past the end they are 0.
+// The word of a key's eight bytes from byte `8 * i` on, the first byte lowest; past the end they
+// are 0.
 pub(crate) fn key_word(key: &[u8], i: u32) -> u64
     requires { i < words_in (length key.now) }
     ensures { result ≡ word_at key.now i }
@@ -26,8 +27,8 @@ pub(crate) fn key_word(key: &[u8], i: u32) -> u64
     }
 }
 
-// The word that has byte `i` of those that stand from a place on. Where that byte is not its first, it is the
-// word of the byte before, and is not loaded again.
+// The word that has byte `i` of those that stand from a place on. Where that byte is not its first,
+// it is the word of the byte before, and is not loaded again.
 fn word_of_byte<S: Segment>(seg: &mut S, at: u32, i: u32, word: u64) -> u64
     requires inside { at + i / 8 < length (S.words seg.old) }
     requires told { IsTold (S.aside seg.old).windows (at + i / 8) }

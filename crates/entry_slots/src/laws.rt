@@ -1,19 +1,22 @@
 //! What the layers above rely on beside the calls.
 
-ghost use Rattle.std.specs.Prelude.{◌≡◌, ◌≢◌, ℕ, ◌<◌, ◌≤◌, ◌+◌, true, false, List, [], ◌∷◌, ◌++◌, length, Contains, Some};
+ghost use Rattle.std.specs.Prelude.{◌≡◌, ◌≢◌, ℕ, ◌<◌, ◌≤◌, ◌+◌, true, false, List, [], ◌∷◌, ◌++◌};
+ghost use Rattle.std.specs.Prelude.{length, Contains, Some};
 ghost use Rattle.seg_words.specs.declared.extents.Extent.{Extent};
 ghost use Rattle.seg_words.specs.Blocks.{MayProbe};
 ghost use Rattle.seg_words.specs.Windows.{Aside};
 ghost use Rattle.apcu_model.specs.Cache.{Row};
 ghost use Rattle.entry_slots.specs.declared.slots.EntrySlots.{EntrySlots};
-ghost use Rattle.entry_slots.specs.Lists.{has_place, first_place, next_place};
-ghost use Rattle.entry_slots.specs.Entries.{Entries, chain_of, listed, loose, blocks_of, place_of, unlinked_at};
+ghost use Rattle.entry_slots.specs.Lists.{has_place, first_place, place_after};
+ghost use Rattle.entry_slots.specs.Entries.{Entries, chain_of, listed, loose, blocks_of, place_of};
+ghost use Rattle.entry_slots.specs.Entries.{unlinked_at};
 ghost use Rattle.entry_slots.specs.Entries.{removed_at, freed_at, dropped_at, gone_at};
 ghost use Rattle.entry_slots.specs.Standing.{Stands};
-ghost use Rattle.entry_slots.specs.Facts.{OnlyClose, OnlyOpensAt, AreApart, IsCopyable, IsSound, IsAtRow};
+ghost use Rattle.entry_slots.specs.Facts.{OnlyClose, OnlyOpensAt, LieApart, IsCopyable, IsSound};
+ghost use Rattle.entry_slots.specs.Facts.{IsAtRow};
 
-/// Words stand for the same entries where windows close and the mask and the refused places change in any
-/// way, and where a window opens on the block of a row or a removed row.
+/// Words stand for the same entries where windows close and the mask and the refused places change
+/// in any way, and where a window opens on the block of a row or a removed row.
 pub fn window_laws()
     ensures closed { (e : EntrySlots) (words : List ℕ) (old new : Aside) (s : Entries)
         → OnlyClose old new → Stands e words old s → Stands e words new s }
@@ -22,8 +25,9 @@ pub fn window_laws()
         → Stands e words old s → Stands e words new s }
 {}
 
-/// No place begins two blocks, and none of a row or a removed row is 0; each of these may be probed,
-/// whatever the windows, and may be copied from. All blocks lie apart inside the words. So a walk along a chain meets each place once.
+/// No place begins two blocks, and none of a row or a removed row is 0; each of these may be
+/// probed, whatever the windows, and may be copied from. All blocks lie apart inside the words. So
+/// a walk along a chain meets each place once.
 pub fn standing_laws()
     ensures sound { (e : EntrySlots) (words : List ℕ) (aside : Aside) (s : Entries)
         → Stands e words aside s → IsSound s words aside.windows }
@@ -38,7 +42,7 @@ pub fn standing_laws()
         → (0 < block.place) × (block.place + block.size ≤ length words) }
     ensures apart { (e : EntrySlots) (words : List ℕ) (aside : Aside) (s : Entries)
         (one other : Extent) → Stands e words aside s → Contains (blocks_of s) one
-        → Contains (blocks_of s) other → AreApart one other }
+        → Contains (blocks_of s) other → LieApart one other }
     ensures one { (e : EntrySlots) (words : List ℕ) (aside : Aside) (s : Entries) (p q : Row)
         → Stands e words aside s → Contains (listed s) p → Contains (listed s) q
         → p.place ≡ q.place → p ≡ q }
@@ -49,8 +53,8 @@ pub fn standing_laws()
         → chain_of s slot ≡ front ++ row ∷ back → IsAtRow s slot front row back }
 {}
 
-/// A row that is unlinked and then removed or freed has left the rows, and nothing else has changed. Its
-/// chain is shorter from the first step on.
+/// A row that is unlinked and then removed or freed has left the rows, and nothing else has
+/// changed. Its chain is shorter from the first step on.
 pub fn leaving_laws()
     ensures drops { (e : EntrySlots) (words : List ℕ) (aside : Aside) (s : Entries) (at t : ℕ)
         → Stands e words aside s → has_place at s.rows ≡ true
@@ -62,8 +66,8 @@ pub fn leaving_laws()
         → length (chain_of (unlinked_at at s) slot) < length (chain_of s slot) }
 {}
 
-/// Which places rows have: those of the rows of a list and no others. So the one that was found by its key,
-/// the first one, the next one, each of a chain, and the one that was unlinked.
+/// Which places rows have: those of the rows of a list and no others. So the one that was found by
+/// its key, the first one, the next one, each of a chain, and the one that was unlinked.
 pub fn place_laws()
     ensures member { (rows : List Row) (row : Row) → Contains rows row
         → has_place row.place rows ≡ true }
@@ -74,7 +78,7 @@ pub fn place_laws()
     ensures first { (rows : List Row) (at : ℕ)
         → at ≡ first_place rows → at ≢ 0 → has_place at rows ≡ true }
     ensures next { (rows : List Row) (at next : ℕ)
-        → next ≡ next_place at rows → next ≢ 0 → has_place next rows ≡ true }
+        → next ≡ place_after at rows → next ≢ 0 → has_place next rows ≡ true }
     ensures chain { (s : Entries) (slot at : ℕ)
         → has_place at (chain_of s slot) ≡ true → has_place at s.rows ≡ true }
     ensures row { (s : Entries) (at : ℕ)

@@ -1,6 +1,7 @@
 //! Reading the words of a block.
 
-ghost use Rattle.std.specs.Prelude.{◌≡◌, ℕ, ◌+◌, ◌<◌, ◌≤◌, ◌^◌, ◌==◌, if◌then◌else◌, length, slice_index};
+ghost use Rattle.std.specs.Prelude.{◌≡◌, ℕ, ◌+◌, ◌<◌, ◌≤◌, ◌^◌, ◌==◌, if◌then◌else◌, length};
+ghost use Rattle.std.specs.Prelude.{slice_index};
 ghost use Rattle.seg_words.specs.Kept.{Kept};
 ghost use Rattle.seg_words.specs.declared.layout.TheConstants.{HEAD_WORDS, PIN_COUNT};
 ghost use Rattle.seg_words.specs.Blocks.{IsTold};

@@ -1,6 +1,7 @@
 //! The list of removed entries.
 
-ghost use Rattle.std.specs.Prelude.{◌≡◌, ◌≢◌, ◌+◌, true, false, slice_index, slice_set, IfSome, IfNone};
+ghost use Rattle.std.specs.Prelude.{◌≡◌, ◌≢◌, ◌+◌, true, false, slice_index, slice_set, IfSome};
+ghost use Rattle.std.specs.Prelude.{IfNone};
 ghost use Rattle.seg_words.specs.Kept.{Kept, KeptBeside};
 ghost use Rattle.entry_slots.specs.declared.head.TheConstants.{NEXT};
 ghost use Rattle.entry_slots.specs.Lists.{has_place};
@@ -69,8 +70,8 @@ impl EntrySlots {
         }
     }
 
-    // The link of the removed list that names the row at `target`, or with 0 the last one; `None` where the
-    // list has no such row.
+    // The link of the removed list that names the row at `target`, or with 0 the last one; `None`
+    // where the list has no such row.
     fn removed_link<S: Segment>(&self, seg: &mut S, target: u32) -> Option<u32>
         requires stand { Stand S.WordsIn self.now seg.old }
         ensures some { IfSome result (λ link.

@@ -1,4 +1,5 @@
-ghost use Rattle.std.specs.Prelude.{◌≡◌, ◌≢◌, ◌⊎◌, ℕ, ◌+◌, ◌*◌, ◌%◌, ◌<◌, ◌≤◌, ◌^◌, true, false, length, slice_index, Contains, IfSome, IfNone};
+ghost use Rattle.std.specs.Prelude.{◌≡◌, ◌≢◌, ◌⊎◌, ℕ, ◌+◌, ◌*◌, ◌%◌, ◌<◌, ◌≤◌, ◌^◌, true, false};
+ghost use Rattle.std.specs.Prelude.{length, slice_index, Contains, IfSome, IfNone};
 ghost use Rattle.seg_words.specs.Kept.{Kept, KeptBeside};
 ghost use Rattle.seg_words.specs.Windows.{is_named};
 ghost use Rattle.php_graph.specs.Numbers.{hash_of};
@@ -6,8 +7,11 @@ ghost use Rattle.apcu_model.specs.Cache.{Row, has_key};
 ghost use Rattle.apcu_model.specs.Walk.{slot_of};
 ghost use Rattle.entry_slots.specs.declared.head.TheConstants.{NEXT};
 ghost use Rattle.entry_slots.specs.Lists.{has_place, first_place, FollowsIn};
-ghost use Rattle.entry_slots.specs.Entries.{chain_of, listed, loose, place_for, block_for, place_of, old_place, IsListed, HoldsInt, FollowsInChain};
-ghost use Rattle.entry_slots.specs.Entries.{with_taken, touched_in, with_number, linked, unlinked_at, removed_at, freed_at};
+ghost use Rattle.entry_slots.specs.Entries.{chain_of, listed, loose, place_for, block_for};
+ghost use Rattle.entry_slots.specs.Entries.{place_of, old_place, IsListed, HoldsInt};
+ghost use Rattle.entry_slots.specs.Entries.{FollowsInChain};
+ghost use Rattle.entry_slots.specs.Entries.{with_taken, touched_in, with_number, linked};
+ghost use Rattle.entry_slots.specs.Entries.{unlinked_at, removed_at, freed_at};
 ghost use Rattle.entry_slots.specs.Standing.{Stand, IsStanding, entries};
 ghost use Rattle.entry_slots.specs.Links.{IsLinkTo, IsTarget};
 ghost use Rattle.entry_slots.specs.Reading.{HeadIn};
@@ -22,25 +26,27 @@ use php_graph::{Graph, hash_of};
 use seg_words::{HEAD_WORDS, IMAGE_LENGTH, KEY_LENGTH, Segment, WordsIn, words_in};
 use sma_blocks::Sma;
 
-/// Entries in hash chains: each of the words before the first block begins the chain of one slot, and a
-/// list of removed entries begins beside them. An entry is a block of twelve words, its key and its value.
+/// Entries in hash chains: each of the words before the first block begins the chain of one slot,
+/// and a list of removed entries begins beside them. An entry is a block of twelve words, its key
+/// and its value.
 ///
 /// It keeps what stands beside the words of a segment. No call takes memory.
 #[derive(Drop)]
 pub struct EntrySlots {
     pub(crate) sma: Sma,
-    /// The place of the first removed entry, or 0.
+    // The place of the first removed entry, or 0.
     pub(crate) removed: u32,
-    /// The number that the next entry gets.
+    // The number that the next entry gets.
     pub(crate) next_number: u64,
-    /// The number of rows.
+    // The number of rows.
     pub(crate) count: u32,
     pub(crate) standing: Standing,
 }
 
 impl EntrySlots {
-    /// Takes a block of `n` words at the least place where they fit beside all blocks; `None` exactly where
-    /// they fit nowhere, and then nothing changed. The block is loose until it is linked.
+    /// Takes a block of `n` words at the least place where they fit beside all blocks; `None`
+    /// exactly where they fit nowhere, and then nothing changed. The block is loose until it is
+    /// linked.
     pub fn take<S: Segment>(&mut self, seg: &mut S, n: u32) -> Option<u32>
         requires size { (n % 2 ≡ 0) × (2 ≤ n) }
         requires stand { Stand S.WordsIn self.old seg.old }
@@ -131,7 +137,8 @@ impl EntrySlots {
         None
     }
 
-    /// Notes that the entry was used at the moment `t`: one hit more, but a count stays at the last number.
+    /// Notes that the entry was used at the moment `t`: one hit more, but a count stays at the last
+    /// number.
     pub fn touch<S: Segment>(&mut self, seg: &mut S, at: u32, t: u64)
         requires stand { Stand S.WordsIn self.old seg.old }
         requires there { has_place at (entries self.old).rows ≡ true }
@@ -146,8 +153,8 @@ impl EntrySlots {
         self.standing = self.standing.then(&Change::Touch(at, t));
     }
 
-    /// Makes `n` the value of a row that holds an integer, changed at the moment `t`. No window may name
-    /// its block.
+    /// Makes `n` the value of a row that holds an integer, changed at the moment `t`. No window may
+    /// name its block.
     pub fn set_int<S: Segment>(&mut self, seg: &mut S, at: u32, n: i64, t: u64)
         requires stand { Stand S.WordsIn self.old seg.old }
         requires int { HoldsInt (entries self.old) at }
@@ -188,9 +195,9 @@ impl EntrySlots {
         }
     }
 
-    /// Makes the block at `at`, which was taken for this key and value, a row of the moment `t`. It stands in
-    /// the place of the row at `replaced`, the one of its key, whose block is loose from now on; with 0, where
-    /// no row has the key, it is last.
+    /// Makes the block at `at`, which was taken for this key and value, a row of the moment `t`. It
+    /// stands in the place of the row at `replaced`, the one of its key, whose block is loose from
+    /// now on; with 0, where no row has the key, it is last.
     pub fn link<S: Segment>(
         &mut self,
         seg: &mut S,
@@ -280,7 +287,8 @@ impl EntrySlots {
         self.free_unlinked(seg, at);
     }
 
-    /// Gives the block of the unlinked row back, as `free` does, but walks no list. No window may name it.
+    /// Gives the block of the unlinked row back, as `free` does, but walks no list. No window may
+    /// name it.
     pub fn free_unlinked<S: Segment>(&mut self, seg: &mut S, at: u32)
         requires stand { Stand S.WordsIn self.old seg.old }
         requires there { has_place at (entries self.old).unlinked ≡ true }
@@ -321,7 +329,8 @@ impl EntrySlots {
         next_of(seg, at)
     }
 
-    // The word that names the entry at `target` in the chain of the slot; with 0 the last word of the chain.
+    // The word that names the entry at `target` in the chain of the slot; with 0 the last word of
+    // the chain.
     fn link_to<S: Segment>(&self, seg: &mut S, slot: u32, target: u32) -> u32
         requires stand { Stand S.WordsIn self.now seg.old }
         requires there { IsTarget (entries self.now) slot target }

@@ -9,6 +9,7 @@ use std::marker::Model;
 /// The entries that the words beside it are said to stand for. It exists only in proofs.
 #[derive(Drop)]
 pub struct Standing {
+    /// They change by `then` alone.
     pub ghost entries: { Entries },
 }
 
@@ -18,18 +19,28 @@ impl Model for Standing {
 
 unsafe impl Send for Standing {}
 
-/// A change of the entries.
+/// A change of the entries, with the place of the block that it is about.
 #[derive(Clone, Copy, Drop)]
 pub enum Change<'a> {
+    /// A block of so many words was taken.
     Take(u32, u32),
+    /// The row was used at this moment.
     Touch(u32, u64),
+    /// The row holds this integer since this moment.
     SetInt(u32, i64, u64),
+    /// The row left its chain.
     Unlink(u32),
+    /// The unlinked row was dropped at this moment.
     Note(u32, u64),
+    /// The unlinked row is the last of the removed ones.
     Move(u32),
+    /// The row is no removed one any more.
     TakeOff(u32),
+    /// The unlinked row is gone, and so is its block.
     Give(u32),
+    /// A row came with this key, value, time to live and moment.
     Link(u32, &'a [u8], &'a Graph, u32, u64),
+    /// All rows are gone.
     Clear,
 }
 

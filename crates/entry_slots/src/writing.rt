@@ -12,18 +12,18 @@ use php_graph::Graph;
 use seg_words::{HEAD_WORDS, Segment, words_in};
 use value_image::{persist, put_bytes};
 
-/// What is noted of a new entry, beside its key and its value.
+// What is noted of a new entry, beside its key and its value.
 #[derive(Clone, Copy)]
 pub(crate) struct Note {
-    /// The place of the entry that follows it in its chain, or 0.
+    // The place of the entry that follows it in its chain, or 0.
     pub(crate) next: u32,
     pub(crate) ttl: u32,
-    /// The moment at which it is stored.
+    // The moment at which it is stored.
     pub(crate) now: u64,
     pub(crate) number: u64,
 }
 
-/// Writes the words of an entry's block from word 1 on.
+// Writes the words of an entry's block from word 1 on.
 pub(crate) fn put_entry<S: Segment>(seg: &mut S, at: u32, key: &[u8], g: &Graph, note: Note)
     requires short { length key.now < 2 ^ 32 }
     requires small { image_length g.now < 2 ^ 32 }

@@ -1,13 +1,11 @@
 -- How many 64-bit words a graph's image takes, and an entry's block.
-use Rattle.std.specs.Prelude.{ℕ, ◌+◌, ◌-◌, ◌/◌, ◌%◌, List, length, sum_by, take}
+use Rattle.std.specs.Prelude.{ℕ, ◌+◌, ◌-◌, ◌%◌, List, length, sum_by, take}
+use Rattle.seg_words.specs.declared.layout.TheConstants.{HEAD_WORDS}
+use Rattle.seg_words.specs.Layout.{words_in}
 use Rattle.php_graph.specs.declared.key.Key.{Key}
 use Rattle.php_graph.specs.declared.key.Key.TheVariants as keys
 use Rattle.php_graph.specs.declared.kind.Kind.{Kind}
 use Rattle.php_graph.specs.declared.kind.Kind.TheVariants as kinds
-
--- the words of n bytes, eight a word
-abbrev pub words_in : ℕ → ℕ
-words_in n = (n + 7) / 8
 
 -- the words of a key: of an integer two, of a byte string its tag and its bytes
 abbrev pub key_cells : Key → ℕ
@@ -34,6 +32,6 @@ image_length g = sum_by cells_of g
 abbrev pub offset_of : List Kind → ℕ → ℕ
 offset_of g k = image_length (take (k - 1) g)
 
--- The block of an entry: twelve words, its key and its image, filled up to an even number.
+-- The block of an entry: its head, its key and its image, filled up to an even number.
 abbrev pub block_size : ℕ → List Kind → ℕ
-block_size key_len g = let n = 12 + words_in key_len + image_length g in n + n % 2
+block_size key_len g = let n = HEAD_WORDS + words_in key_len + image_length g in n + n % 2

@@ -8,6 +8,7 @@ ghost use Rattle.std.specs.Cmp.{partial_order_from_own_ties};
 ghost use Rattle.std.proofs.Common.{rules};
 ghost use Rattle.php_graph.specs.ByteStrings.{AreBytes};
 
+use seg_words::words_in;
 use std::alloc::{AllocError, Global};
 use std::cmp::Ordering;
 use std::marker::Model;
@@ -65,14 +66,14 @@ impl Bytes {
 }
 
 impl Bytes {
-    ghost use Rattle.php_graph.specs.Size.{words_in};
+    ghost use Rattle.seg_words.specs.Layout.{words_in};
 
     // The words of the bytes in an image, eight bytes a word.
     pub(crate) fn cells(&self) -> u64
         ensures cells { result ≡ words_in (length self.now) }
         ensures small { result ≤ 2 ^ 29 }
     {
-        (self.items.len() as u64 + 7) / 8
+        u64::from(words_in(self.items.len() as u32))
     }
 }
 

@@ -14,6 +14,7 @@ ghost use Rattle.php_graph.specs.Size.{image_length, offset_of, block_size};
 use crate::bytes::Bytes;
 use crate::kind::Kind;
 use crate::places::{Place, Places};
+use seg_words::{HEAD_WORDS, words_in};
 use std::alloc::{AllocError, Global};
 use std::marker::Model;
 
@@ -160,13 +161,13 @@ fn part_places(alloc: Global, places: &Places, k: u32) -> Result<Option<Places>,
     places.lowered(alloc, (k - 1) as usize, (end - 1) as usize, k - 1)
 }
 
-/// The words of an entry's block: twelve, its key and the graph's image, filled up to an even
+/// The words of an entry's block: its head, its key and the graph's image, filled up to an even
 /// number.
 pub fn block_words(key_len: u64, g: &Graph) -> u64
     requires { key_len < 2 ^ 32 }
     ensures { result ≡ block_size key_len g.now }
 {
-    let words = 12 + (key_len + 7) / 8 + g.words();
+    let words = u64::from(HEAD_WORDS + words_in(key_len as u32)) + g.words();
     words + words % 2
 }
 

@@ -8,7 +8,7 @@ ghost use Rattle.php_graph.specs.declared.child.Child.{Child};
 ghost use Rattle.php_graph.specs.Graph.{lowered_members, has_key};
 ghost use Rattle.php_graph.specs.Keys.{HasKeys, HasMarks};
 ghost use Rattle.php_graph.specs.Kept.{last_own};
-ghost use Rattle.php_graph.specs.Size.{words_in};
+ghost use Rattle.seg_words.specs.Layout.{words_in};
 
 use crate::bytes::Bytes;
 use crate::child::Child;

@@ -7,14 +7,17 @@ use Rattle.std.proofs.lemmas.List.Elements.{Contains-append_right, filter-append
 use Rattle.seg_words.specs.Windows.{Aside}
 use Rattle.apcu_model.specs.Cache.{Row}
 use Rattle.apcu_model.specs.Walk.{is_in_slot}
-use Rattle.entry_slots.specs.Lists.{is_at, has_place, only_at, without_place, first_place, next_place}
+use Rattle.entry_slots.specs.Lists.{is_at, has_place, only_at, without_place, first_place, place_after}
 use Rattle.ttl_expunge.specs.Lists.{rows_from}
 use Rattle.entry_slots.specs.Entries.{Entries, chain_of}
 use Rattle.entry_slots.specs.Facts.{IsSound}
 use Rattle.ttl_expunge.specs.Held.{AreRemoved, Drops}
 use Rattle.ttl_expunge.specs.Dropping.{left_of}
-use Rattle.ttl_expunge.proofs.Rows.{any-append, count-cons, place_from, place_there, without_middle, next_in, from_in, from_none, alone, filter_alike, filter_all, Contains-first, Contains-filter}
-use Rattle.ttl_expunge.proofs.Dropping.{only_once, drops_on, drops_none, left_one, filter_then}
+use Rattle.std.proofs.lemmas.List.Folds.{list_any-append}
+use Rattle.seg_words.specs.Members.{count-cons, filter_alike, filter_all, Contains-first, Contains-filter, filter_then}
+use Rattle.entry_slots.specs.Having.{place_from, place_there}
+use Rattle.ttl_expunge.proofs.Rows.{without_middle, next_in, from_in, from_none, alone}
+use Rattle.ttl_expunge.proofs.Dropping.{only_once, drops_on, drops_none, left_one}
 
 pub count_kept : {X : Type 0} (p q : X → Bool) (xs : List X) → count_by p (filter q xs) ≤ count_by p xs
 count_kept p q [] = omega arith
@@ -111,7 +114,7 @@ chain_on pass {t} {s} {s'} {aside} {aside'} {slot} {at} {kept} {todo} n drops = 
     )
 
 pub chaining_on : {pass : Row → Bool} {t : ℕ} {first s s' : Entries} {start aside aside' : Aside} {slot at next : ℕ} (w : Chaining pass t first s start aside slot at) → IsNext s slot at w.kept w.todo
-    → Drops s s' aside aside' t (filter pass (only_at at s.rows)) → next ≡ next_place at (chain_of s slot) → Chaining pass t first s' start aside' slot next
+    → Drops s s' aside aside' t (filter pass (only_at at s.rows)) → next ≡ place_after at (chain_of s slot) → Chaining pass t first s' start aside' slot next
 chaining_on {pass} {t} {first} {s} {s'} {start} {aside} {aside'} {slot} {at} {next} w n drops then =
     let k = chain_on pass n drops in
     record {
@@ -134,7 +137,7 @@ chaining_on {pass} {t} {first} {s} {s'} {start} {aside} {aside'} {slot} {at} {ne
     split = w.split ∙ (ap (λ l. w.done ++ l) n.todo_is ∙ sym (append_assoc w.done (n.row ∷ []) n.more))
 
     here : next ≡ first_place n.more
-    here = then ∙ (ap (next_place at) n.chain ∙ next_in at w.kept n.row n.more n.before n.place)
+    here = then ∙ (ap (place_after at) n.chain ∙ next_in at w.kept n.row n.more n.before n.place)
 
 -- what is left to do
 abbrev pub chain_left : Entries → ℕ → ℕ → ℕ
@@ -145,10 +148,10 @@ none_at_zero s words windows slot sound = false_from_ne_true (has_place 0 (chain
     let r = place_from 0 (chain_of s slot) h in
     let listed = (Contains-filter (is_in_slot s.conf slot) s.rows r.0 r.1).0 in
     let is : has_place 0 s.rows ≡ true = subst (λ n. has_place n s.rows ≡ true) r.2 (place_there s.rows r.0 listed) in
-    false≢true (sym sound.placed ∙ (any-append (is_at 0) s.rows s.removed ∙ or_left (has_place 0 s.rows) (has_place 0 s.removed) is)))
+    false≢true (sym sound.placed ∙ (list_any-append (is_at 0) s.rows s.removed ∙ or_left (has_place 0 s.rows) (has_place 0 s.removed) is)))
 
 pub chaining_falls : {pass : Row → Bool} {t : ℕ} {first s s' : Entries} {start aside aside' : Aside} {slot at next : ℕ} {words windows : List ℕ} (w : Chaining pass t first s start aside slot at) → IsNext s slot at w.kept w.todo
-    → Drops s s' aside aside' t (filter pass (only_at at s.rows)) → next ≡ next_place at (chain_of s slot) → IsSound s' words windows → chain_left s' slot next < chain_left s slot at
+    → Drops s s' aside aside' t (filter pass (only_at at s.rows)) → next ≡ place_after at (chain_of s slot) → IsSound s' words windows → chain_left s' slot next < chain_left s slot at
 unfolding chaining_on
 chaining_falls {pass} {t} {first} {s} {s'} {start} {aside} {aside'} {slot} {at} {next} {words} {windows} w n drops then sound' =
     let w' = chaining_on w n drops then in

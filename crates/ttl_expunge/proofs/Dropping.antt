@@ -1,5 +1,5 @@
 -- Rows are dropped, one after the other.
-use Rattle.std.proofs.Common.{◌≡◌, ◌⊎◌, inl, inr, ℕ, ◌≤◌, ◌==◌, Bool, true, false, cond, not, ◌&&◌, ◌||◌, List, [], ◌∷◌, ◌++◌, map, filter, refl, sym, ap, ◌∙◌, subst, append_assoc, arith}
+use Rattle.std.proofs.Common.{◌≡◌, ◌⊎◌, inl, inr, ℕ, ◌≤◌, ◌==◌, Bool, true, false, cond, not, ◌&&◌, ◌||◌, List, [], ◌∷◌, ◌++◌, filter, refl, sym, ap, ◌∙◌, subst, append_assoc, arith}
 use Rattle.std.proofs.lemmas.Bool.{or_left, or_right, eq-eqb, false≢true, false_from_ne_true}
 use Rattle.std.specs.List.{Contains, count_by}
 use Rattle.std.proofs.lemmas.List.{append-nil}
@@ -13,12 +13,12 @@ use Rattle.entry_slots.specs.Entries.{Entries, unlinked_at, removed_at, freed_at
 use Rattle.entry_slots.specs.Facts.{IsSound}
 use Rattle.ttl_expunge.specs.Held.{AreDecided, AreRemoved, Drops}
 use Rattle.ttl_expunge.specs.Dropping.{left_of, dropped_rows}
-use Rattle.ttl_expunge.proofs.Rows.{any-append, none_counted, count-cons, counted, place_from, without_none, only_none, filter_alike, filter_all, Contains-cases}
-use Rattle.ttl_expunge.proofs.Asides.{all_stay, same_held, held_is, flip}
-
--- with the moment at which they were dropped
-abbrev pub dated : ℕ → List Row → List Row
-dated t rows = map {A = Row} (λ row. record row { dtime = t }) rows
+use Rattle.std.proofs.lemmas.List.Folds.{list_any-append}
+use Rattle.seg_words.specs.Members.{none_counted, count-cons, counted, filter_alike, filter_all, Contains-cases, filter_then}
+use Rattle.entry_slots.specs.Having.{place_from, without_none, only_none}
+use Rattle.ttl_expunge.specs.Decided.{all_stay, same_held}
+use Rattle.apcu_model.specs.Facts.{held_is, dated}
+use Rattle.ttl_expunge.proofs.Asides.{flip}
 
 dated-append : (t : ℕ) (xs ys : List Row) → dated t (xs ++ ys) ≡ dated t xs ++ dated t ys
 dated-append t [] ys = refl
@@ -32,15 +32,6 @@ or_false : (b : Bool) → (b || false) ≡ b
 or_false true = refl
 or_false false = refl
 
--- a test after another
-pub filter_then : {X : Type 0} (p q : X → Bool) (xs : List X) → filter q (filter p xs) ≡ filter (λ x. p x && q x) xs
-filter_then p q [] = refl
-filter_then p q (x ∷ xs) = go (p x) (filter_then p q xs)
-  where
-    go : (b : Bool) → filter q (filter p xs) ≡ filter (λ x. p x && q x) xs → filter q (cond b (x ∷ filter p xs) (filter p xs)) ≡ cond (b && q x) (x ∷ filter (λ x. p x && q x) xs) (filter (λ x. p x && q x) xs)
-    go true e = ap (λ l. cond (q x) (x ∷ l) l) e
-    go false e = e
-
 not_or : (a b : Bool) → not (a || b) ≡ (not a && not b)
 not_or true b = refl
 not_or false b = refl
@@ -48,7 +39,7 @@ not_or false b = refl
 left_append : (gone more rows : List Row) → left_of (gone ++ more) rows ≡ left_of more (left_of gone rows)
 left_append gone more rows =
     filter_alike (λ (row : Row). not (has_place row.place (gone ++ more))) (λ (row : Row). not (has_place row.place gone) && not (has_place row.place more)) rows
-    (λ row c. ap not (any-append (is_at row.place) gone more) ∙ not_or (has_place row.place gone) (has_place row.place more))
+    (λ row c. ap not (list_any-append (is_at row.place) gone more) ∙ not_or (has_place row.place gone) (has_place row.place more))
     ∙ sym (filter_then (λ (row : Row). not (has_place row.place gone)) (λ (row : Row). not (has_place row.place more)) rows)
 
 -- what is dropped after other rows
@@ -165,7 +156,7 @@ drops_one {s} {new} {before} {after} {at} {t} o met was dropped = record {
       | inr none ↦ absurd (omega (arith, none.1))
     ];
   };
-  refused = record { each = λ b r. ap (λ (x : Entries). has_place b x.removed) dropped ∙ (any-append (is_at b) s.removed (last) ∙ here b (met.refused b r)) };
+  refused = record { each = λ b r. ap (λ (x : Entries). has_place b x.removed) dropped ∙ (list_any-append (is_at b) s.removed (last) ∙ here b (met.refused b r)) };
 }
   where
     last : List Row

@@ -6,7 +6,7 @@ use Rattle.apcu_model.specs.Cache.{Row}
 use Rattle.apcu_model.specs.Expiry.{is_hard_expired, is_expired}
 use Rattle.ttl_expunge.specs.Which.{passes}
 use Rattle.ttl_expunge.specs.declared.chains.Which.TheVariants.{Expired}
-use Rattle.ttl_expunge.proofs.Rows.{filter_alike}
+use Rattle.seg_words.specs.Members.{filter_alike}
 
 pub expired_rows : (conf : Conf) (ttl t : ℕ) (rows : List Row) → ttl ≡ conf.ttl → filter (passes (Expired ttl) t) rows ≡ filter (is_expired conf t) rows
 expired_rows conf ttl t rows e =

@@ -16,10 +16,11 @@ use Rattle.entry_slots.specs.Facts.{IsSound}
 use Rattle.ttl_expunge.specs.Held.{AreRemoved, AreHeld, KeepsOpen, Sweeps, Drops}
 use Rattle.ttl_expunge.specs.Dropping.{swept_in, dropped_in, dropped_rows}
 use Rattle.ttl_expunge.specs.Room.{with_block, MakesRoom}
-use Rattle.ttl_expunge.proofs.Rows.{Contains-filter, Contains-first, filter_all}
-use Rattle.ttl_expunge.proofs.Asides.{same_held}
-use Rattle.ttl_expunge.proofs.Dropping.{dated, made}
-use Rattle.ttl_expunge.proofs.Open.{in_order, order_from, drops_open, open_on}
+use Rattle.seg_words.specs.Members.{Contains-filter, Contains-first, filter_all}
+use Rattle.ttl_expunge.specs.Decided.{same_held}
+use Rattle.apcu_model.specs.Facts.{dated, order_from}
+use Rattle.ttl_expunge.proofs.Dropping.{made}
+use Rattle.ttl_expunge.proofs.Open.{in_order, drops_open, open_on}
 
 map_both : {X Y : Type 0} (f : X → Y) (xs ys : List X) → map f (xs ++ ys) ≡ map f xs ++ map f ys
 map_both f [] ys = refl

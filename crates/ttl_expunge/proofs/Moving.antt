@@ -8,7 +8,7 @@ use Rattle.seg_words.specs.Probing.{Goes, IsDecided, Met, goes_nowhere, goes_on,
 use Rattle.seg_words.specs.Windows.{Aside, has, is_named, held_blocks}
 use Rattle.apcu_model.specs.Cache.{Row}
 use Rattle.apcu_model.specs.Change.{is_held}
-use Rattle.entry_slots.specs.Lists.{has_place, only_at, first_place, next_place, is_at}
+use Rattle.entry_slots.specs.Lists.{has_place, only_at, first_place, place_after, is_at}
 use Rattle.ttl_expunge.specs.Lists.{rows_from}
 use Rattle.entry_slots.specs.Entries.{Entries, chain_of}
 use Rattle.entry_slots.specs.Facts.{IsSound}
@@ -16,13 +16,17 @@ use Rattle.std.specs.List.{flat_map, range_with_len}
 use Rattle.apcu_model.specs.Walk.{in_slot_order}
 use Rattle.entry_slots.specs.Entries.{without_rows}
 use Rattle.ttl_expunge.specs.Held.{AreDecided, AreRemoved, Drops, Moves}
-use Rattle.ttl_expunge.proofs.Asides.{same_held, all_stay, held_is}
+use Rattle.ttl_expunge.specs.Decided.{same_held, all_stay}
+use Rattle.apcu_model.specs.Facts.{held_is, order_from, dated}
+use Rattle.entry_slots.specs.Having.{place_from, place_there}
+use Rattle.seg_words.specs.Members.{filter_all, filter_none, Contains-first, Contains-cases, Contains-filter, Contains-kept}
+use Rattle.std.proofs.lemmas.List.Folds.{list_any-append}
 use Rattle.ttl_expunge.proofs.Chaining.{IsNext, next_from, chain_on, chain_left, none_at_zero}
 use Rattle.ttl_expunge.proofs.Ordering.{flat_last, chain_beside}
-use Rattle.ttl_expunge.proofs.Open.{order_there, order_from}
+use Rattle.ttl_expunge.proofs.Open.{order_there}
 use Rattle.ttl_expunge.specs.Dropping.{left_of, dropped_rows}
-use Rattle.ttl_expunge.proofs.Rows.{place_from, place_there, next_in, from_in, from_none, filter_all, filter_none, Contains-first, Contains-cases, Contains-filter, Contains-kept, any-append}
-use Rattle.ttl_expunge.proofs.Dropping.{IsOnly, drops_on, drops_one, decided_both, dated, made}
+use Rattle.ttl_expunge.proofs.Rows.{next_in, from_in, from_none}
+use Rattle.ttl_expunge.proofs.Dropping.{IsOnly, drops_on, drops_one, decided_both, made}
 
 -- nothing is dropped, though probed
 pub drops_nothing : {s : Entries} {before after : Aside} {t : ℕ} → Goes before after → AreRemoved after s.removed → Drops s s before after t []
@@ -102,7 +106,7 @@ pub moving_next : {t : ℕ} {first s : Entries} {start aside : Aside} {slot at :
 moving_next {s = s} {slot = slot} {at = at} w sound some = next_from s slot at w.kept w.todo w.chain w.here sound some
 
 pub moving_on : {t : ℕ} {first s s' : Entries} {start aside aside' : Aside} {slot at next : ℕ} (w : Moving t first s start aside slot at) → IsNext s slot at w.kept w.todo
-    → Moves s s' aside aside' t (only_at at s.rows) → next ≡ next_place at (chain_of s slot) → Moving t first s' start aside' slot next
+    → Moves s s' aside aside' t (only_at at s.rows) → next ≡ place_after at (chain_of s slot) → Moving t first s' start aside' slot next
 moving_on {t} {first} {s} {s'} {start} {aside} {aside'} {slot} {at} {next} w n moves then =
     let k = chain_on (is_held (held_blocks aside')) n moves.drops in
     record {
@@ -111,12 +115,12 @@ moving_on {t} {first} {s} {s'} {start} {aside} {aside'} {slot} {at} {next} w n m
       kept = k.0;
       split = w.split ∙ (ap (λ l. w.done ++ l) n.todo_is ∙ sym (append_assoc w.done (n.row ∷ []) n.more));
       chain = k.1;
-      here = then ∙ (ap (next_place at) n.chain ∙ next_in at w.kept n.row n.more n.before n.place);
+      here = then ∙ (ap (place_after at) n.chain ∙ next_in at w.kept n.row n.more n.before n.place);
       moves = subst (λ l. Moves first s' start aside' t l) (ap (λ l. w.done ++ l) n.only) (moves_on w.moves moves);
     }
 
 pub moving_falls : {t : ℕ} {first s s' : Entries} {start aside aside' : Aside} {slot at next : ℕ} {words windows : List ℕ} (w : Moving t first s start aside slot at) → IsNext s slot at w.kept w.todo
-    → Moves s s' aside aside' t (only_at at s.rows) → next ≡ next_place at (chain_of s slot) → IsSound s' words windows → chain_left s' slot next < chain_left s slot at
+    → Moves s s' aside aside' t (only_at at s.rows) → next ≡ place_after at (chain_of s slot) → IsSound s' words windows → chain_left s' slot next < chain_left s slot at
 unfolding moving_on
 moving_falls {t} {first} {s} {s'} {start} {aside} {aside'} {slot} {at} {next} {words} {windows} w n moves then sound' =
     let w' = moving_on w n moves then in
@@ -256,4 +260,4 @@ none_removed s words windows sound h = go s.removed refl h
     go (row ∷ rows) e q =
         let there : Contains s.removed row = subst (λ (l : List Row). Contains l row) (sym e) (Contains-first row rows) in
         let is : has_place 0 s.removed ≡ true = subst (λ n. has_place n s.removed ≡ true) q (place_there s.removed row there) in
-        absurd (false≢true (sym sound.placed ∙ (any-append (is_at 0) s.rows s.removed ∙ or_right (has_place 0 s.rows) (has_place 0 s.removed) is)))
+        absurd (false≢true (sym sound.placed ∙ (list_any-append (is_at 0) s.rows s.removed ∙ or_right (has_place 0 s.rows) (has_place 0 s.removed) is)))

@@ -1,10 +1,10 @@
 -- The rows under open windows stay.
-use Rattle.std.proofs.Common.{◌≡◌, ◌≢◌, inl, inr, ℕ, zero, suc, ◌+◌, ◌<◌, ◌≤◌, ◌%◌, ◌==◌, Bool, true, false, not, List, [], ◌∷◌, ◌++◌, map, filter, refl, sym, ap, ◌∙◌, subst, arith}
+use Rattle.std.proofs.Common.{◌≡◌, ◌≢◌, inl, inr, ℕ, zero, suc, ◌+◌, ◌<◌, ◌≤◌, ◌%◌, ◌==◌, Bool, true, false, not, List, ◌∷◌, ◌++◌, filter, refl, sym, ap, ◌∙◌, subst, arith}
 use Rattle.std.proofs.lemmas.Bool.{eqb-true, eq-eqb, cases_Bool, false≢true, false_from_ne_true}
 use Rattle.std.specs.List.{Contains, flat_map, range_with_len}
 use Rattle.std.proofs.lemmas.List.Elements.{Contains-append_left, Contains-append_right, Contains-append_cases}
 use Rattle.seg_words.specs.Probing.{Goes, goes_nowhere, held_named}
-use Rattle.seg_words.specs.Windows.{Aside, has, is_named, held_blocks}
+use Rattle.seg_words.specs.Windows.{Aside, is_named, held_blocks}
 use Rattle.php_graph.specs.Numbers.{hash_of}
 use Rattle.apcu_model.specs.declared.conf.Conf.{Conf}
 use Rattle.apcu_model.specs.Cache.{Row}
@@ -15,9 +15,9 @@ use Rattle.entry_slots.specs.Entries.{Entries}
 use Rattle.entry_slots.specs.Facts.{IsSound}
 use Rattle.ttl_expunge.specs.Held.{AreRemoved, AreHeld, KeepsOpen, Sweeps, Drops}
 use Rattle.ttl_expunge.specs.Dropping.{left_of, dropped_in, dropped_rows}
-use Rattle.ttl_expunge.proofs.Rows.{place_from, place_there, filter_alike, filter_all, Contains-first, Contains-later, Contains-cases, Contains-filter, Contains-kept, Contains-map}
-use Rattle.ttl_expunge.proofs.Asides.{held_is}
-use Rattle.ttl_expunge.proofs.Dropping.{dated}
+use Rattle.entry_slots.specs.Having.{place_from, place_there}
+use Rattle.seg_words.specs.Members.{filter_alike, filter_all, Contains-filter, Contains-kept, Contains-map}
+use Rattle.apcu_model.specs.Facts.{held_is, dated, dated_held, order_from}
 use Rattle.ttl_expunge.proofs.Ordering.{same_row}
 
 flat_from : {X : Type 0} (f : ℕ → List X) (n a k : ℕ) (x : X) → a ≤ k → k < a + n → Contains (f k) x → Contains (flat_map f (range_with_len a n)) x
@@ -28,14 +28,6 @@ flat_from f (suc n) a k x low high c = elim (cases_Bool (a == k)) [
       let apart : a ≢ k = λ e. false≢true (sym other ∙ eq-eqb a k e) in
       Contains-append_right (f a) (flat_map f (range_with_len (a + 1) n)) x (flat_from f n (a + 1) k x (omega (arith, low, apart)) (omega (arith, high)) c)
 ]
-
-flat_there : {X : Type 0} (f : ℕ → List X) (ns : List ℕ) (x : X) → Contains (flat_map f ns) x → (k : ℕ) × Contains (f k) x
-flat_there f [] x c = absurd (omega (arith, c.1))
-flat_there f (n ∷ ns) x c = elim (Contains-append_cases (f n) (flat_map f ns) x c) [ inl here ↦ (n, here) | inr later ↦ flat_there f ns x later ]
-
--- the same rows, by slot and place
-pub order_from : (conf : Conf) (rows : List Row) (row : Row) → Contains (in_slot_order conf rows) row → Contains rows row
-order_from conf rows row c = let k = flat_there (λ slot. filter (is_in_slot conf slot) rows) (range_with_len 0 conf.slots) row c in (Contains-filter (is_in_slot conf k.0) rows row k.1).0
 
 slot_low : (hash slots : ℕ) → 0 < slots → hash % slots < slots
 slot_low hash slots some = omega arith
@@ -67,13 +59,6 @@ in_order {s} held t pass sound =
     (left_is pass (in_slot_order s.conf (filter pass s.rows)) sound
     (λ row c. Contains-filter pass s.rows row (order_from s.conf (filter pass s.rows) row c))
     (λ row c is. order_there s.conf (filter pass s.rows) row sound.good.slots_least (Contains-kept pass s.rows row c is)))
-
-pub map_there : {X Y : Type 0} (f : X → Y) (xs : List X) (y : Y) → Contains (map f xs) y → (x : X) × Contains xs x × (f x ≡ y)
-map_there f [] y c = absurd (omega (arith, c.1))
-map_there f (x ∷ xs) y c = elim (Contains-cases (f x) (map f xs) y c) [
-  | inl same ↦ (x, Contains-first x xs, same)
-  | inr later ↦ let r = map_there f xs y later in (r.0, Contains-later x xs r.0 r.1, r.2)
-]
 
 pub sweeps_open : (old new : Entries) (before after : Aside) → Sweeps old new before after → KeepsOpen after.windows old new
 sweeps_open old new before after s = record {
@@ -127,12 +112,6 @@ sweeps_held old new before after s = record {
       let f = Contains-filter (is_held (held_blocks after)) old.removed row (subst (λ (x : Entries). Contains x.removed row) s.swept c) in
       sym (held_is (held_blocks after) row) ∙ f.1;
 }
-
-pub dated_held : (held : List ℕ) (t : ℕ) (rows : List Row) (row : Row) → Contains (dated t (filter (is_held held) rows)) row → has row.place held ≡ true
-dated_held held t rows row c =
-    let r = map_there {X = Row} {Y = Row} (λ x. record x { dtime = t }) (filter (is_held held) rows) row c in
-    let f = Contains-filter (is_held held) rows r.0 r.1 in
-    subst (λ n. has n held ≡ true) (ap (λ (x : Row). x.place) r.2) (sym (held_is held r.0) ∙ f.1)
 
 pub drops_held : (old new : Entries) (before after : Aside) (t : ℕ) (gone : List Row) → Drops old new before after t gone → AreHeld before old.removed → AreHeld after new.removed
 drops_held old new before after t gone d was = record {

@@ -11,8 +11,9 @@ use Rattle.entry_slots.specs.Entries.{Entries, chain_of}
 use Rattle.entry_slots.specs.Facts.{IsSound}
 use Rattle.ttl_expunge.specs.Held.{AreRemoved, Drops}
 use Rattle.ttl_expunge.specs.Dropping.{left_of}
-use Rattle.ttl_expunge.proofs.Rows.{count-cons, counted, place_from, filter_alike, Contains-cases, Contains-filter}
-use Rattle.ttl_expunge.proofs.Dropping.{drops_on, drops_none, filter_then}
+use Rattle.seg_words.specs.Members.{count-cons, counted, filter_alike, Contains-cases, Contains-filter, filter_then}
+use Rattle.entry_slots.specs.Having.{place_from}
+use Rattle.ttl_expunge.proofs.Dropping.{drops_on, drops_none}
 use Rattle.ttl_expunge.proofs.Chaining.{filter_swap}
 
 pub flat_last : {X : Type 0} (f : ℕ → List X) (n a k : ℕ) → a + n ≡ k → flat_map f (range_with_len a (suc n)) ≡ flat_map f (range_with_len a n) ++ f k

@@ -8,14 +8,18 @@ use Rattle.seg_words.specs.Probing.{Goes, IsDecided, Met, goes_nowhere, goes_on}
 use Rattle.seg_words.specs.Windows.{Aside, has, held_blocks}
 use Rattle.apcu_model.specs.Cache.{Row}
 use Rattle.apcu_model.specs.Change.{is_held}
-use Rattle.entry_slots.specs.Lists.{is_at, has_place, without_place, first_place, next_place}
+use Rattle.entry_slots.specs.Lists.{is_at, has_place, without_place, first_place, place_after}
 use Rattle.ttl_expunge.specs.Lists.{rows_from}
 use Rattle.entry_slots.specs.Entries.{Entries, freed_at}
 use Rattle.entry_slots.specs.Facts.{IsSound}
 use Rattle.ttl_expunge.specs.Held.{AreDecided, AreRemoved, Sweeps}
 use Rattle.ttl_expunge.specs.Dropping.{swept_in, swept_at}
-use Rattle.ttl_expunge.proofs.Rows.{any-append, none_counted, counted, place_there, without_none, without_middle, next_in, from_in, from_none, alone, Contains-first, Contains-cases}
-use Rattle.ttl_expunge.proofs.Asides.{all_stay, same_held, held_is}
+use Rattle.std.proofs.lemmas.List.Folds.{list_any-append}
+use Rattle.seg_words.specs.Members.{none_counted, counted, Contains-first, Contains-cases}
+use Rattle.entry_slots.specs.Having.{place_there, without_none}
+use Rattle.ttl_expunge.specs.Decided.{all_stay, same_held}
+use Rattle.apcu_model.specs.Facts.{held_is}
+use Rattle.ttl_expunge.proofs.Rows.{without_middle, next_in, from_in, from_none, alone}
 
 -- Some removed rows were probed, and the one at `at` is the next.
 pub record Sweeping (first s : Entries) (start aside : Aside) (at : ℕ) : Type 0 where
@@ -90,7 +94,7 @@ rebuilt s removed removed' unlinked unlinked' p q = cc (p, q)
 
 -- one step
 pub sweeping_on : {first s s' : Entries} {start aside aside' : Aside} {at next : ℕ} {words windows : List ℕ} (w : Sweeping first s start aside at) → IsSound s words windows → at ≢ 0
-    → s' ≡ swept_at (held_blocks aside') at s → Met aside aside' at → next ≡ next_place at s.removed → Sweeping first s' start aside' next
+    → s' ≡ swept_at (held_blocks aside') at s → Met aside aside' at → next ≡ place_after at s.removed → Sweeping first s' start aside' next
 sweeping_on {first} {s} {s'} {start} {aside} {aside'} {at} {next} w sound some given met then =
     let t = turn w sound some in
     let decided : AreDecided aside' (w.done ++ t.row ∷ []) = record {
@@ -107,7 +111,7 @@ sweeping_on {first} {s} {s'} {start} {aside} {aside'} {at} {next} w sound some g
       todo = t.more;
       split = w.split ∙ (ap (λ l. w.done ++ l) t.todo_is ∙ sym (append_assoc w.done (t.row ∷ []) t.more));
       now = now t (has at (held_blocks aside')) refl;
-      here = then ∙ (ap (next_place at) t.removed ∙ next_in at kept t.row t.more t.before t.place);
+      here = then ∙ (ap (place_after at) t.removed ∙ next_in at kept t.row t.more t.before t.place);
       goes = goes_on start aside aside' w.goes met.goes;
       decided = decided;
       refused = record { each = λ b r. subst (λ l. has_place b l ≡ true) (sym (kept_is t)) (refused t b (met.refused b r)) };
@@ -128,8 +132,8 @@ sweeping_on {first} {s} {s'} {start} {aside} {aside'} {at} {next} w sound some g
     refused : (t : IsTurn first s aside at w.done w.todo) (b : ℕ) → ((b ≡ at) × (has at (held_blocks aside') ≡ true)) ⊎ (has b aside.refused ≡ true) → has_place b (kept ++ last t.row) ≡ true
     refused t b (inl (same, held)) =
         let here : has_place b (last t.row) ≡ true = subst (λ n. has_place n (last t.row) ≡ true) (t.place ∙ sym same) (subst (λ l. has_place t.row.place l ≡ true) (sym (last_is t.row true t.place held)) (place_there (t.row ∷ []) t.row (Contains-first t.row []))) in
-        any-append (is_at b) kept (last t.row) ∙ or_right (has_place b kept) (has_place b (last t.row)) here
-    refused t b (inr before) = any-append (is_at b) kept (last t.row) ∙ or_left (has_place b kept) (has_place b (last t.row)) (w.refused.each b before)
+        list_any-append (is_at b) kept (last t.row) ∙ or_right (has_place b kept) (has_place b (last t.row)) here
+    refused t b (inr before) = list_any-append (is_at b) kept (last t.row) ∙ or_left (has_place b kept) (has_place b (last t.row)) (w.refused.each b before)
 
     now : (t : IsTurn first s aside at w.done w.todo) (b : Bool) → has at (held_blocks aside') ≡ b → s' ≡ record first { removed = filter (is_held (held_blocks aside')) (w.done ++ t.row ∷ []) ++ t.more }
     now t true e =
@@ -152,7 +156,7 @@ sweep_left s at = length (rows_from at s.removed)
 
 -- which falls
 pub sweeping_falls : {first s s' : Entries} {start aside aside' : Aside} {at next : ℕ} {words windows words' windows' : List ℕ} → Sweeping first s start aside at → IsSound s words windows → at ≢ 0
-    → s' ≡ swept_at (held_blocks aside') at s → Met aside aside' at → next ≡ next_place at s.removed → IsSound s' words' windows' → sweep_left s' next < sweep_left s at
+    → s' ≡ swept_at (held_blocks aside') at s → Met aside aside' at → next ≡ place_after at s.removed → IsSound s' words' windows' → sweep_left s' next < sweep_left s at
 unfolding turn sweeping_on
 sweeping_falls {first} {s} {s'} {start} {aside} {aside'} {at} {next} {words' = words'} {windows' = windows'} w sound some given met then sound' =
     let t = turn w sound some in
@@ -164,7 +168,7 @@ sweeping_falls {first} {s} {s'} {start} {aside} {aside'} {at} {next} {words' = w
     left : (w' : Sweeping first s' start aside' next) → IsSound s' words' windows' → sweep_left s' next ≤ length w'.todo
     left w' sound' = elim (cases_eq next 0) [
       | inl end ↦
-          let none : rows_from next s'.removed ≡ [] = ap (λ n. rows_from n s'.removed) end ∙ from_none 0 s'.removed (or_parts (has_place 0 s'.rows) (has_place 0 s'.removed) (sym (any-append (is_at 0) s'.rows s'.removed) ∙ sound'.placed)).1 in
+          let none : rows_from next s'.removed ≡ [] = ap (λ n. rows_from n s'.removed) end ∙ from_none 0 s'.removed (or_parts (has_place 0 s'.rows) (has_place 0 s'.removed) (sym (list_any-append (is_at 0) s'.rows s'.removed) ∙ sound'.placed)).1 in
           let empty : sweep_left s' next ≡ 0 = ap length none in
           omega (arith, empty)
       | inr some ↦
@@ -186,7 +190,7 @@ sweeping_ends {first} {s} {start} {aside} {at} w sound end = go w.todo refl
         let place : row.place ≡ 0 = sym (w.here ∙ ap first_place e) ∙ end in
         let removed : s.removed ≡ kept ++ row ∷ more = ap (λ (x : Entries). x.removed) w.now ∙ ap (λ l. kept ++ l) e in
         let there : Contains s.removed row = subst (λ l. Contains l row) (sym removed) (Contains-append_right kept (row ∷ more) row (Contains-first row more)) in
-        let none = (or_parts (has_place 0 s.rows) (has_place 0 s.removed) (sym (any-append (is_at 0) s.rows s.removed) ∙ sound.placed)).1 in
+        let none = (or_parts (has_place 0 s.rows) (has_place 0 s.removed) (sym (list_any-append (is_at 0) s.rows s.removed) ∙ sound.placed)).1 in
         absurd (false≢true (sym none ∙ subst (λ n. has_place n s.removed ≡ true) place (place_there s.removed row there)))
     go [] e =
         let done : w.done ≡ first.removed = sym (w.split ∙ (ap (λ l. w.done ++ l) e ∙ append-nil w.done)) in

@@ -1,5 +1,6 @@
 pub mod Lists
 pub mod Dropping
 pub mod Held
+pub mod Decided
 pub mod Which
 pub mod Room

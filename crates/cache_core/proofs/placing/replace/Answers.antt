@@ -5,7 +5,7 @@ use Rattle.entry_slots.specs.Lists.{is_at, has_place}
 use Rattle.entry_slots.specs.Entries.{Entries, found_place, freed_at, removed_at}
 use Rattle.seg_words.specs.Probing.{Met}
 use Rattle.cache_core.specs.Placing.{Replaces}
-use Rattle.cache_core.proofs.Rows.{any-append}
+use Rattle.std.proofs.lemmas.List.Folds.{list_any-append}
 use Rattle.cache_core.proofs.Standing.{stand_kept}
 use Rattle.cache_core.proofs.Replacing.{old_is, none_is, replaces_none, replaces_old, replaced_free, replaced_held, old_loose, old_fresh}
 use Rattle.entry_slots.specs.Standing.{entries}
@@ -26,7 +26,7 @@ is_let_go-is_free-requires g c =
     let o = old_is c.args.key.now c.in-Some.old sound (sym c.in-Some.is ∙ c.find.ensures.row) in
     record {
       stand = stand_kept c.args.slots.now c.find.ensures.kept c.requires.stand;
-      there = any-append (is_at c.in-Some.old) s.rows s.removed ∙ or_left (has_place c.in-Some.old s.rows) (has_place c.in-Some.old s.removed) o.listed;
+      there = list_any-append (is_at c.in-Some.old) s.rows s.removed ∙ or_left (has_place c.in-Some.old s.rows) (has_place c.in-Some.old s.removed) o.listed;
       fresh = ap (λ (a : Aside). has c.in-Some.old a.refused) c.find.ensures.kept.aside ∙ old_fresh o c.requires.refused;
     }
 
@@ -41,7 +41,7 @@ free-requires-clause-there g c =
     let sound = c.lower_laws.ensures.sound c.args.slots.now (g.S.WordsIn.words c.args.seg.now) (g.S.WordsIn.aside c.args.seg.now) (entries c.args.slots.now) c.requires.stand in
     let o = old_is c.args.key.now c.in-Some.old sound (sym c.in-Some.is ∙ c.find.ensures.row) in
     let s' = entries c.link-2.new.self in
-    any-append (is_at c.in-Some.old) s'.unlinked s'.removed ∙ or_left (has_place c.in-Some.old s'.unlinked) (has_place c.in-Some.old s'.removed) (ap (λ (x : Entries). has_place c.in-Some.old x.unlinked) c.link-2.ensures.linked ∙ old_loose o)
+    list_any-append (is_at c.in-Some.old) s'.unlinked s'.removed ∙ or_left (has_place c.in-Some.old s'.unlinked) (has_place c.in-Some.old s'.removed) (ap (λ (x : Entries). has_place c.in-Some.old x.unlinked) c.link-2.ensures.linked ∙ old_loose o)
 
 pub free-requires-clause-unnamed : goal.free-requires-clause-unnamed
 free-requires-clause-unnamed g c =

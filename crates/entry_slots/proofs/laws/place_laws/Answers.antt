@@ -1,11 +1,12 @@
-use Rattle.entry_slots.proofs.Finding.{member_there, some_there, found_there, first_there, next_there, chain_there, in_left, in_right, unlinks_there}
+use Rattle.entry_slots.specs.Having.{place_there, place_from}
+use Rattle.entry_slots.proofs.Finding.{found_there, first_there, next_there, chain_there, in_left, in_right, unlinks_there}
 use Rattle.entry_slots.proofs.laws.place_laws.Goals as goal
 
 pub returns-clause-member : goal.returns-clause-member
-returns-clause-member c = member_there
+returns-clause-member c = place_there
 
 pub returns-clause-some : goal.returns-clause-some
-returns-clause-some c = some_there
+returns-clause-some c = λ rows at h. place_from at rows h
 
 pub returns-clause-found : goal.returns-clause-found
 returns-clause-found c = found_there

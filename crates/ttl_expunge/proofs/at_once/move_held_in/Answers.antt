@@ -4,7 +4,7 @@ use Rattle.seg_words.specs.Windows.{Aside}
 use Rattle.entry_slots.specs.Lists.{is_at, has_place, only_at}
 use Rattle.entry_slots.specs.Entries.{Entries}
 use Rattle.ttl_expunge.specs.Held.{Moves, AreRemoved}
-use Rattle.ttl_expunge.proofs.Rows.{any-append}
+use Rattle.std.proofs.lemmas.List.Folds.{list_any-append}
 use Rattle.ttl_expunge.proofs.Asides.{stand_kept}
 use Rattle.ttl_expunge.proofs.Moving.{moving_starts, moving_next, moving_on, moving_falls, moving_ends}
 use Rattle.entry_slots.specs.Standing.{entries}
@@ -25,7 +25,7 @@ after-next-requires-clause-there g c =
     let s = entries c.loop-at.slots in
     let sound = c.standing_laws.ensures.sound c.loop-at.slots (g.S.WordsIn.words c.loop-at.seg) (g.S.WordsIn.aside c.loop-at.seg) (entries c.loop-at.slots) c.loop-at.invariant.stand in
     let n = moving_next c.loop-at.invariant.moving sound c.loop-at-test.true in
-    any-append (is_at c.loop-at.at) s.rows s.removed ∙ or_left (has_place c.loop-at.at s.rows) (has_place c.loop-at.at s.removed) n.listed
+    list_any-append (is_at c.loop-at.at) s.rows s.removed ∙ or_left (has_place c.loop-at.at s.rows) (has_place c.loop-at.at s.removed) n.listed
 
 pub move_if_held-requires : goal.move_if_held-requires
 move_if_held-requires g c =

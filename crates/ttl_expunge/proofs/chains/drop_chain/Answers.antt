@@ -5,7 +5,7 @@ use Rattle.entry_slots.specs.Lists.{is_at, has_place, only_at}
 use Rattle.entry_slots.specs.Entries.{Entries}
 use Rattle.ttl_expunge.specs.Held.{Drops, AreRemoved}
 use Rattle.ttl_expunge.specs.Which.{passes}
-use Rattle.ttl_expunge.proofs.Rows.{any-append}
+use Rattle.std.proofs.lemmas.List.Folds.{list_any-append}
 use Rattle.ttl_expunge.proofs.Asides.{stand_kept}
 use Rattle.ttl_expunge.proofs.Chaining.{chaining_starts, next_is, chaining_on, chaining_falls, chaining_ends}
 use Rattle.entry_slots.specs.Standing.{entries}
@@ -26,7 +26,7 @@ after-next-requires-clause-there g c =
     let s = entries c.loop-at.slots in
     let sound = c.standing_laws.ensures.sound c.loop-at.slots (g.S.WordsIn.words c.loop-at.seg) (g.S.WordsIn.aside c.loop-at.seg) (entries c.loop-at.slots) c.loop-at.invariant.stand in
     let n = next_is c.loop-at.invariant.chaining sound c.loop-at-test.true in
-    any-append (is_at c.loop-at.at) s.rows s.removed ∙ or_left (has_place c.loop-at.at s.rows) (has_place c.loop-at.at s.removed) n.listed
+    list_any-append (is_at c.loop-at.at) s.rows s.removed ∙ or_left (has_place c.loop-at.at s.rows) (has_place c.loop-at.at s.removed) n.listed
 
 pub drop_if-requires : goal.drop_if-requires
 drop_if-requires g c =

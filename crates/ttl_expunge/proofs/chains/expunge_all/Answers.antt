@@ -2,7 +2,7 @@ use Rattle.std.proofs.Common.{true, refl, subst, List}
 use Rattle.apcu_model.specs.Cache.{Row}
 use Rattle.apcu_model.specs.Walk.{in_slot_order}
 use Rattle.ttl_expunge.specs.Held.{Drops}
-use Rattle.ttl_expunge.proofs.Rows.{filter_all}
+use Rattle.seg_words.specs.Members.{filter_all}
 use Rattle.entry_slots.specs.Standing.{entries}
 use Rattle.ttl_expunge.proofs.chains.expunge_all.Goals as goal
 

@@ -4,7 +4,7 @@ use Rattle.seg_words.specs.Windows.{Aside, has, is_named, held_blocks}
 use Rattle.entry_slots.specs.Lists.{is_at, has_place, only_at}
 use Rattle.entry_slots.specs.Entries.{Entries, freed_at, removed_at}
 use Rattle.ttl_expunge.specs.Held.{Drops}
-use Rattle.ttl_expunge.proofs.Rows.{any-append}
+use Rattle.std.proofs.lemmas.List.Folds.{list_any-append}
 use Rattle.ttl_expunge.proofs.Dropping.{only_of, freed_one, removed_one, drops_one, only_fresh, only_loose}
 use Rattle.entry_slots.specs.Standing.{entries}
 use Rattle.ttl_expunge.proofs.expunge.drop_row.Goals as goal
@@ -15,7 +15,7 @@ is_let_go-is_free-requires g c =
     let o = only_of c.args.at (c.standing_laws.ensures.sound c.args.slots.now (g.S.WordsIn.words c.args.seg.now) (g.S.WordsIn.aside c.args.seg.now) (entries c.args.slots.now) c.requires.stand) c.requires.there in
     record {
       stand = c.requires.stand;
-      there = any-append (is_at c.args.at) s.rows s.removed ∙ or_left (has_place c.args.at s.rows) (has_place c.args.at s.removed) c.requires.there;
+      there = list_any-append (is_at c.args.at) s.rows s.removed ∙ or_left (has_place c.args.at s.rows) (has_place c.args.at s.removed) c.requires.there;
       fresh = only_fresh o c.requires.refused;
     }
 

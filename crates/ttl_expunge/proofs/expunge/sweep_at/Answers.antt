@@ -4,19 +4,19 @@ use Rattle.seg_words.specs.Probing.{Met}
 use Rattle.seg_words.specs.Windows.{Aside, has, held_blocks}
 use Rattle.entry_slots.specs.Lists.{is_at, has_place}
 use Rattle.entry_slots.specs.Entries.{freed_at}
-use Rattle.ttl_expunge.proofs.Rows.{any-append}
+use Rattle.std.proofs.lemmas.List.Folds.{list_any-append}
 use Rattle.entry_slots.specs.Standing.{entries}
 use Rattle.ttl_expunge.proofs.expunge.sweep_at.Goals as goal
 
 pub is_let_go-requires-clause-there : goal.is_let_go-requires-clause-there
 is_let_go-requires-clause-there g c =
     let s = entries c.args.slots.now in
-    any-append (is_at c.args.at) s.rows s.removed ∙ or_right (has_place c.args.at s.rows) (has_place c.args.at s.removed) c.requires.there
+    list_any-append (is_at c.args.at) s.rows s.removed ∙ or_right (has_place c.args.at s.rows) (has_place c.args.at s.removed) c.requires.there
 
 pub free-requires-clause-there : goal.free-requires-clause-there
 free-requires-clause-there g c =
     let s = entries c.args.slots.now in
-    any-append (is_at c.args.at) s.unlinked s.removed ∙ or_right (has_place c.args.at s.unlinked) (has_place c.args.at s.removed) c.requires.there
+    list_any-append (is_at c.args.at) s.unlinked s.removed ∙ or_right (has_place c.args.at s.unlinked) (has_place c.args.at s.removed) c.requires.there
 
 pub free-requires-clause-unnamed : goal.free-requires-clause-unnamed
 free-requires-clause-unnamed g c = c.is_let_go.ensures.met.decided ∙ not-true (has c.args.at (held_blocks (g.S.WordsIn.aside c.is_let_go.new.seg))) (sym c.is_let_go.ensures.free ∙ c.if-is_let_go.true)

@@ -3,7 +3,7 @@ use Rattle.std.proofs.lemmas.Bool.{or_right}
 use Rattle.seg_words.specs.Probing.{Met}
 use Rattle.seg_words.specs.Windows.{Aside, has}
 use Rattle.entry_slots.specs.Lists.{is_at, has_place}
-use Rattle.ttl_expunge.proofs.Rows.{any-append}
+use Rattle.std.proofs.lemmas.List.Folds.{list_any-append}
 use Rattle.ttl_expunge.proofs.Sweeping.{turn, turn_fresh, sweeping_starts, sweeping_on, sweeping_falls, sweeping_ends}
 use Rattle.ttl_expunge.proofs.Asides.{stand_kept}
 use Rattle.entry_slots.specs.Standing.{entries}
@@ -24,7 +24,7 @@ after-next-requires-clause-there g c =
     let s = entries c.loop-at.slots in
     let sound = c.standing_laws.ensures.sound c.loop-at.slots (g.S.WordsIn.words c.loop-at.seg) (g.S.WordsIn.aside c.loop-at.seg) (entries c.loop-at.slots) c.loop-at.invariant.stand in
     let t = turn c.loop-at.invariant.sweeping sound c.loop-at-test.true in
-    any-append (is_at c.loop-at.at) s.rows s.removed ∙ or_right (has_place c.loop-at.at s.rows) (has_place c.loop-at.at s.removed) t.there
+    list_any-append (is_at c.loop-at.at) s.rows s.removed ∙ or_right (has_place c.loop-at.at s.rows) (has_place c.loop-at.at s.removed) t.there
 
 pub sweep_at-requires : goal.sweep_at-requires
 sweep_at-requires g c =

@@ -1,6 +1,6 @@
 use Rattle.std.proofs.Common.{true, List, sym, ap, ◌∙◌}
 use Rattle.apcu_model.specs.Cache.{Row, Cache}
-use Rattle.apcu_model.specs.Rows.{cache_of}
+use Rattle.apcu_model.specs.Rows.{cache_in}
 use Rattle.apcu_model.proofs.Apart.{dropped_of, none_left}
 use Rattle.apcu_model.proofs.state.State.clear.Goals as goal
 
@@ -8,6 +8,6 @@ pub returns-clause-cache : goal.returns-clause-cache
 returns-clause-cache c = λ t.
     let s = c.args.self.now in
     ap
-    (λ (rows : List Row). let d : Cache = record (cache_of s) { rows = rows; hits = 0; misses = 0; inserts = 0; expunges = 0 } in d)
+    (λ (rows : List Row). let d : Cache = record (cache_in s) { rows = rows; hits = 0; misses = 0; inserts = 0; expunges = 0 } in d)
     (c.clear.ensures.items ∙ sym (none_left s.rows.items))
     ∙ sym (ap (λ (d : Cache). let e : Cache = record d { hits = 0; misses = 0; inserts = 0; expunges = 0 } in e) (dropped_of t (λ row. true) s))

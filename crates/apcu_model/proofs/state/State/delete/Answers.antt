@@ -4,7 +4,7 @@ use Rattle.std.specs.Prelude.{is_some}
 use Rattle.apcu_model.specs.Cache.{Row, Cache, has_key}
 use Rattle.apcu_model.specs.Change.{dropped}
 use Rattle.apcu_model.specs.Expiry.{live_row}
-use Rattle.apcu_model.specs.Rows.{are_apart, cache_of}
+use Rattle.apcu_model.specs.Rows.{are_apart, cache_in}
 use Rattle.apcu_model.proofs.Apart.{dropped_of, are_apart-filter}
 use Rattle.apcu_model.proofs.state.State.delete.Goals as goal
 
@@ -12,12 +12,12 @@ pub returns-clause-cache : goal.returns-clause-cache
 returns-clause-cache c =
     let s = c.args.self.now in
     let key = c.args.key.now in
-    ap (λ (rows : List Row). let d : Cache = record (cache_of s) { rows = rows } in d) c.drop_key.ensures
+    ap (λ (rows : List Row). let d : Cache = record (cache_in s) { rows = rows } in d) c.drop_key.ensures
     ∙ (sym (dropped_of c.args.t (has_key key) s)
-    ∙ sym (cond-true (is_some (live_row key c.args.t (cache_of s))) (dropped [] c.args.t (has_key key) (cache_of s)) (cache_of s) (sym c.is_live.ensures ∙ c.if-not-is_live.false)))
+    ∙ sym (cond-true (is_some (live_row key c.args.t (cache_in s))) (dropped [] c.args.t (has_key key) (cache_in s)) (cache_in s) (sym c.is_live.ensures ∙ c.if-not-is_live.false)))
 
-pub returns-clause-sound : goal.returns-clause-sound
-returns-clause-sound c =
+pub returns-clause-valid : goal.returns-clause-valid
+returns-clause-valid c =
     let s = c.args.self.now in
     record {
       good = c.requires.good;

@@ -3,7 +3,7 @@ use Rattle.std.proofs.lemmas.Bool.{lt-ltb, cond-true}
 use Rattle.apcu_model.specs.Cache.{Row, Cache}
 use Rattle.apcu_model.specs.Change.{dropped}
 use Rattle.apcu_model.specs.Expiry.{is_expired}
-use Rattle.apcu_model.specs.Rows.{are_apart, cache_of}
+use Rattle.apcu_model.specs.Rows.{are_apart, cache_in}
 use Rattle.apcu_model.proofs.Apart.{dropped_of, are_apart-filter}
 use Rattle.apcu_model.proofs.state.State.expire.Goals as goal
 
@@ -12,11 +12,11 @@ returns-then-self-gt0-clause-cache c =
     let s = c.args.self.now in
     let limited : nat_lt 0 s.conf.ttl ≡ true = lt-ltb 0 s.conf.ttl c.if-self-gt0.true in
     let rest = is_expired s.conf c.args.t in
-    ap (λ (rows : List Row). let d : Cache = record (cache_of s) { rows = rows } in d) c.drop_expired.ensures.items
-    ∙ (sym (dropped_of c.args.t rest s) ∙ sym (cond-true (nat_lt 0 s.conf.ttl) (dropped [] c.args.t rest (cache_of s)) (cache_of s) limited))
+    ap (λ (rows : List Row). let d : Cache = record (cache_in s) { rows = rows } in d) c.drop_expired.ensures.items
+    ∙ (sym (dropped_of c.args.t rest s) ∙ sym (cond-true (nat_lt 0 s.conf.ttl) (dropped [] c.args.t rest (cache_in s)) (cache_in s) limited))
 
-pub returns-then-self-gt0-clause-sound : goal.returns-then-self-gt0-clause-sound
-returns-then-self-gt0-clause-sound c =
+pub returns-then-self-gt0-clause-valid : goal.returns-then-self-gt0-clause-valid
+returns-then-self-gt0-clause-valid c =
     let s = c.args.self.now in
     record {
       good = c.requires.good;

@@ -1,6 +1,6 @@
 use Rattle.std.proofs.Common.{ℕ, true, List, sym, ap, ap₂, ◌∙◌}
 use Rattle.apcu_model.specs.Cache.{Row, Cache, risen}
-use Rattle.apcu_model.specs.Rows.{cache_of}
+use Rattle.apcu_model.specs.Rows.{cache_in}
 use Rattle.apcu_model.proofs.Apart.{dropped_of, none_left}
 use Rattle.apcu_model.proofs.state.State.expunge.Goals as goal
 
@@ -8,7 +8,7 @@ pub returns-clause-cache : goal.returns-clause-cache
 returns-clause-cache c = λ t.
     let s = c.args.self.now in
     ap₂
-    (λ (rows : List Row) (expunges : ℕ). let d : Cache = record (cache_of s) { rows = rows; hits = 0; misses = 0; inserts = 0; expunges = expunges } in d)
+    (λ (rows : List Row) (expunges : ℕ). let d : Cache = record (cache_in s) { rows = rows; hits = 0; misses = 0; inserts = 0; expunges = expunges } in d)
     (c.clear.ensures.items ∙ sym (none_left s.rows.items))
     c.saturating_add-self.ensures
     ∙ sym

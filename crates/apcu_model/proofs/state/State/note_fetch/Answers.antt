@@ -4,8 +4,8 @@ use Rattle.apcu_model.specs.Rows.{are_apart, touched_at}
 use Rattle.apcu_model.proofs.Apart.{are_apart-map, touched_key}
 use Rattle.apcu_model.proofs.state.State.note_fetch.Goals as goal
 
-pub returns-then-is_live-clause-sound : goal.returns-then-is_live-clause-sound
-returns-then-is_live-clause-sound c =
+pub returns-then-is_live-clause-valid : goal.returns-then-is_live-clause-valid
+returns-then-is_live-clause-valid c =
     let key = c.args.key.now in
     let old = c.args.self.now.rows.items in
     let new = c.touch_in.new.rows in

@@ -2,7 +2,7 @@ use Rattle.std.proofs.Common.{◌≡◌, ℕ, ◌%◌, ◌&&◌, not, List, refl
 use Rattle.apcu_model.specs.Cache.{Row, Cache}
 use Rattle.apcu_model.specs.Change.{with_row}
 use Rattle.apcu_model.specs.Expiry.{is_expired}
-use Rattle.apcu_model.specs.Rows.{are_apart, cache_of}
+use Rattle.apcu_model.specs.Rows.{are_apart, cache_in}
 use Rattle.apcu_model.specs.Walk.{is_in_slot, slot_of}
 use Rattle.apcu_model.proofs.Apart.{fresh_rows, new_row, placed_of, are_apart-filter, are_apart-with_row}
 use Rattle.apcu_model.proofs.state.State.put.Goals as goal
@@ -11,7 +11,7 @@ pub put_row-requires-clause-apart : goal.put_row-requires-clause-apart
 put_row-requires-clause-apart c =
     let s = c.args.self.now in
     let slot = c.hash_of.result % c.from.result in
-    ap are_apart c.drop_expired_in.ensures.items ∙ are_apart-filter (λ row. not (is_in_slot s.conf slot row && is_expired s.conf c.args.t row)) s.rows.items c.requires.sound.apart
+    ap are_apart c.drop_expired_in.ensures.items ∙ are_apart-filter (λ row. not (is_in_slot s.conf slot row && is_expired s.conf c.args.t row)) s.rows.items c.requires.valid.apart
 
 pub returns-clause-cache : goal.returns-clause-cache
 returns-clause-cache c =
@@ -22,22 +22,22 @@ returns-clause-cache c =
     let rows : c.put_row.new.rows.items ≡ with_row new (fresh_rows s (slot_of s.conf d.key) c.args.t) =
     c.put_row.ensures ∙ ap (with_row new) (c.drop_expired_in.ensures.items ∙ ap (λ (k : ℕ). fresh_rows s k c.args.t) slot) in
     ap
-    (λ (xs : List Row). let e : Cache = record (cache_of s) { rows = xs; next_number = c.saturating_add-self.result; inserts = c.saturating_add-self-2.result } in e)
+    (λ (xs : List Row). let e : Cache = record (cache_in s) { rows = xs; next_number = c.saturating_add-self.result; inserts = c.saturating_add-self-2.result } in e)
     rows
     ∙ (ap₂
-    (λ (number inserts : ℕ). let e : Cache = record (cache_of s) { rows = with_row new (fresh_rows s (slot_of s.conf d.key) c.args.t); next_number = number; inserts = inserts } in e)
+    (λ (number inserts : ℕ). let e : Cache = record (cache_in s) { rows = with_row new (fresh_rows s (slot_of s.conf d.key) c.args.t); next_number = number; inserts = inserts } in e)
     c.saturating_add-self.ensures
     c.saturating_add-self-2.ensures
     ∙ sym (placed_of d.key d.graph d.ttl c.args.t d.size c.args.place s))
 
-pub returns-clause-sound : goal.returns-clause-sound
-returns-clause-sound c =
+pub returns-clause-valid : goal.returns-clause-valid
+returns-clause-valid c =
     let s = c.args.self.now in
     let d = c.args.draft in
     let slot = c.hash_of.result % c.from.result in
     let new = new_row s d.key d.graph d.ttl c.args.t d.size c.args.place in
-    let fresh = ap are_apart c.drop_expired_in.ensures.items ∙ are_apart-filter (λ row. not (is_in_slot s.conf slot row && is_expired s.conf c.args.t row)) s.rows.items c.requires.sound.apart in
+    let fresh = ap are_apart c.drop_expired_in.ensures.items ∙ are_apart-filter (λ row. not (is_in_slot s.conf slot row && is_expired s.conf c.args.t row)) s.rows.items c.requires.valid.apart in
     record {
-      good = c.requires.sound.good;
+      good = c.requires.valid.good;
       apart = ap are_apart c.put_row.ensures ∙ are_apart-with_row new c.drop_expired_in.new.rows.items fresh;
     }

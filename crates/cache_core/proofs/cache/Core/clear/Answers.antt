@@ -4,7 +4,7 @@ use Rattle.entry_slots.specs.Entries.{Entries}
 use Rattle.entry_slots.specs.Standing.{entries}
 use Rattle.ttl_expunge.specs.Dropping.{all_rows}
 use Rattle.cache_core.specs.declared.cache.Core.{Core}
-use Rattle.cache_core.proofs.Rows.{order_from}
+use Rattle.apcu_model.specs.Facts.{order_from}
 use Rattle.cache_core.proofs.Keyed.{core_cleared}
 use Rattle.cache_core.proofs.cache.Core.clear.Goals as goal
 

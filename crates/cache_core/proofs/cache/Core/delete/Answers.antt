@@ -8,7 +8,8 @@ use Rattle.entry_slots.specs.Lists.{has_place, only_at}
 use Rattle.entry_slots.specs.Standing.{entries}
 use Rattle.cache_core.specs.declared.cache.Core.{Core}
 use Rattle.cache_core.specs.Caching.{cache_of}
-use Rattle.cache_core.proofs.Rows.{place_there, Contains-filter}
+use Rattle.entry_slots.specs.Having.{place_there}
+use Rattle.seg_words.specs.Members.{Contains-filter}
 use Rattle.cache_core.proofs.Live.{old_found}
 use Rattle.cache_core.proofs.Keyed.{core_deleted}
 use Rattle.cache_core.proofs.cache.Core.delete.Goals as goal

@@ -11,7 +11,7 @@ use Rattle.cache_core.specs.declared.cache.Core.{Core}
 use Rattle.cache_core.specs.declared.tally.Tally.{Tally}
 use Rattle.cache_core.specs.Caching.{cache_of}
 use Rattle.cache_core.proofs.Standing.{stand_kept}
-use Rattle.cache_core.proofs.Rows.{place_there}
+use Rattle.entry_slots.specs.Having.{place_there}
 use Rattle.cache_core.proofs.Live.{old_found}
 use Rattle.cache_core.proofs.Keyed.{core_touched}
 use Rattle.cache_core.proofs.cache.Core.fetch.Goals as goal

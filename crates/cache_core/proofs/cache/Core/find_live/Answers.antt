@@ -4,7 +4,7 @@ use Rattle.std.proofs.lemmas.List.Elements.{Contains-append_left}
 use Rattle.apcu_model.specs.Expiry.{is_hard_expired}
 use Rattle.entry_slots.specs.Lists.{is_at, has_place}
 use Rattle.entry_slots.specs.Standing.{entries}
-use Rattle.cache_core.proofs.Rows.{any-append}
+use Rattle.std.proofs.lemmas.List.Folds.{list_any-append}
 use Rattle.cache_core.proofs.Standing.{head_kept}
 use Rattle.cache_core.proofs.Replacing.{old_is, none_is}
 use Rattle.cache_core.proofs.Live.{not_live, live_as}
@@ -19,7 +19,7 @@ pub head-head-requires-clause-there : goal.head-head-requires-clause-there
 head-head-requires-clause-there g c =
     let s = entries c.args.self.now.slots in
     let sound = c.standing_laws.ensures.sound c.args.self.now.slots (g.S.WordsIn.words c.args.seg.now) (g.S.WordsIn.aside c.args.seg.now) s c.requires.stand.stand in
-    any-append (is_at c.in-Some.at) s.rows s.removed
+    list_any-append (is_at c.in-Some.at) s.rows s.removed
     ∙ or_left (has_place c.in-Some.at s.rows) (has_place c.in-Some.at s.removed) (old_is c.args.key.now c.in-Some.at sound (sym c.in-Some.is ∙ c.find.ensures.row)).listed
 
 pub returns-then-is_over-clause-none : goal.returns-then-is_over-clause-none

@@ -10,7 +10,7 @@ use Rattle.cache_core.specs.declared.tally.Tally.{Tally}
 use Rattle.cache_core.specs.Caching.{cache_of}
 use Rattle.cache_core.specs.Looking.{look_at, look_of, scalar_of}
 use Rattle.cache_core.proofs.Standing.{stand_kept}
-use Rattle.cache_core.proofs.Rows.{place_there}
+use Rattle.entry_slots.specs.Having.{place_there}
 use Rattle.cache_core.proofs.Live.{old_found}
 use Rattle.cache_core.proofs.Keyed.{core_touched}
 use Rattle.cache_core.proofs.cache.Core.look.Goals as goal

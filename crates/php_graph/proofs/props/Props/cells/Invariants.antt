@@ -1,5 +1,5 @@
 use Rattle.std.proofs.Common.{◌≡◌, ◌+◌, sum_by, drop, length}
-use Rattle.php_graph.specs.Size.{words_in}
+use Rattle.seg_words.specs.Layout.{words_in}
 use Rattle.php_graph.proofs.props.Props.cells.Given as goal
 
 -- the words so far and those of the rest
