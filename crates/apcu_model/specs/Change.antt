@@ -26,8 +26,8 @@ abbrev pub dropped : List ℕ → ℕ → (Row → Bool) → Cache → Cache
 dropped held t pass c = record c {
   rows = filter (λ row. not (pass row)) c.rows;
   removed = c.removed
-    ++ map {A = Row} (λ row. record row { dtime = t })
-    (filter (is_held held) (in_slot_order c.conf (filter pass c.rows)));
+      ++ map {A = Row} (λ row. record row { dtime = t })
+      (filter (is_held held) (in_slot_order c.conf (filter pass c.rows)));
 }
 
 -- the removed rows that nobody copies any more are gone
