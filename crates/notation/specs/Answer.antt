@@ -21,7 +21,8 @@ pub record IsPassedOver (from to : Standing) (g : List Kind) : Type 0 where
   pub spelled : IsSpellingOf text g
   pub there : left from ≡ text ++ left to
 
--- A value is what was read, with the bytes after it; a fault is the first one. Memory may be wanting always.
+-- A value is what was read, with the bytes after it; a fault is the first one. Memory may be
+-- wanting always.
 abbrev pub IsReading : Standing → Standing → Result (List Kind) ReadFault → Type 0
 IsReading from to (Ok g) = reading_of (left from) ≡ Ok (g, left to)
 IsReading from to (Err (Bad place reason)) = IsFirstFault from place reason

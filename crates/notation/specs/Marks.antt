@@ -1,7 +1,9 @@
--- The parts of the notation that lie in no other: marks, numbers, and byte strings with their length before
--- them. Each is read from the front of the bytes, and answers what it says and the bytes after it, or the
--- first fault.
-use Rattle.std.specs.Prelude.{◌≡◌, ℕ, ◌+◌, ◌^◌, Bool, true, false, ◌&&◌, ◌||◌, not, ◌==◌, nat_lt, if◌then◌else◌, List, [], ◌∷◌, length, take, drop, slice_index, Option, Some, None, Result, Ok, Err, ℤ, pos, negsuc}
+-- The parts of the notation that lie in no other: marks, numbers, and byte strings with their
+-- length before them. Each is read from the front of the bytes, and answers what it says and the
+-- bytes after it, or the first fault.
+use Rattle.std.specs.Prelude.{◌≡◌, ℕ, ◌+◌, ◌^◌, Bool, true, false, ◌&&◌, ◌||◌, not, ◌==◌, nat_lt}
+use Rattle.std.specs.Prelude.{if◌then◌else◌, List, [], ◌∷◌, length, take, drop, slice_index, Option}
+use Rattle.std.specs.Prelude.{Some, None, Result, Ok, Err, ℤ, pos, negsuc}
 use Rattle.std.specs.Char.{is_ascii_digit}
 use Rattle.std.specs.List.{position_or_len}
 use Rattle.php_graph.specs.Numbers.{int_of_text}
@@ -50,7 +52,9 @@ found None rest run = fail Number run
 -- the 64-bit integer whose canonical decimal is the longest run
 unfoldable pub number_at : List ℕ → Result (ℤ × List ℕ) Fault
 number_at [] = fail End []
-number_at (b ∷ rest) = found (int_of_text (take (number_len (b ∷ rest)) (b ∷ rest))) (drop (number_len (b ∷ rest)) (b ∷ rest)) (b ∷ rest)
+number_at (b ∷ rest) =
+    found (int_of_text (take (number_len (b ∷ rest)) (b ∷ rest)))
+    (drop (number_len (b ∷ rest)) (b ∷ rest)) (b ∷ rest)
 
 -- a length, a count or the number of a place
 abbrev pub as_natural : ℤ → Option ℕ
@@ -69,10 +73,13 @@ number_as choose bytes = number_at bytes >>= λ n. found (choose n.0) n.1 bytes
 abbrev pub natural_at : List ℕ → Result (ℕ × List ℕ) Fault
 natural_at bytes = number_as as_natural bytes
 
--- So many bytes with a quote behind them, and the bytes after that. The fault is at the number that says how
--- many there are.
+-- So many bytes with a quote behind them, and the bytes after that. The fault is at the number that
+-- says how many there are.
 abbrev pub quoted_at : ℕ → List ℕ → List ℕ → Result (List ℕ × List ℕ) Fault
-quoted_at n number bytes = if nat_lt n (length bytes) && slice_index bytes n == 34 then Ok (take n bytes, drop (n + 1) bytes) else fail Length number
+quoted_at n number bytes =
+    if nat_lt n (length bytes) && slice_index bytes n == 34
+    then Ok (take n bytes, drop (n + 1) bytes)
+    else fail Length number
 
 -- a byte string in quotes, with its length before it
 unfoldable pub sized_at : List ℕ → Result (List ℕ × List ℕ) Fault

@@ -1,5 +1,6 @@
 -- PHP's serialize notation: the one text of each value.
-use Rattle.std.specs.Prelude.{◌≡◌, ℕ, zero, suc, ◌+◌, if◌then◌else◌, List, [], ◌∷◌, ◌++◌, length, map, codes, Option, Some, None, ℤ}
+use Rattle.std.specs.Prelude.{◌≡◌, ℕ, zero, suc, ◌+◌, if◌then◌else◌, List, [], ◌∷◌, ◌++◌, length}
+use Rattle.std.specs.Prelude.{map, codes, Option, Some, None, ℤ}
 use Rattle.std.specs.Fmt.{decimal, signed_decimal}
 use Rattle.php_graph.specs.declared.key.Key.{Key}
 use Rattle.php_graph.specs.declared.key.Key.TheVariants as keys
@@ -28,26 +29,31 @@ array_head count = codes "a:" ++ decimal count ++ codes ":{"
 
 -- for an object the class before that
 abbrev pub object_head : List ℕ → ℕ → List ℕ
-object_head class count = codes "O:" ++ decimal (length class) ++ codes ":\"" ++ class ++ codes "\":" ++ decimal count ++ codes ":{"
+object_head class count =
+    codes "O:" ++ decimal (length class) ++ codes ":\"" ++ class ++ codes "\":" ++ decimal count
+    ++ codes ":{"
 
 -- the members in their order: each key, and the text of what it holds
 abbrev pub member_texts : (Child → List ℕ) → List (Key × Child) → List ℕ
 member_texts written [] = []
 member_texts written (m ∷ ms) = key_text m.0 ++ (written m.1 ++ member_texts written ms)
 
--- A place, where this is the text of what its members hold. The base is added to the number of a place.
+-- A place, where this is the text of what its members hold. The base is added to the number of a
+-- place.
 abbrev pub kind_text : ℕ → (Child → List ℕ) → Option Kind → List ℕ
 kind_text base written None = []
 kind_text base written (Some kinds.Null) = codes "N;"
 kind_text base written (Some (kinds.Bool b)) = if b then codes "b:1;" else codes "b:0;"
 kind_text base written (Some (kinds.Int n)) = integer_text n
 kind_text base written (Some (kinds.Str bytes)) = string_text bytes
-kind_text base written (Some (kinds.Array ms)) = array_head (length ms) ++ (member_texts written ms ++ codes "}")
-kind_text base written (Some (kinds.Object class ps)) = object_head class (length ps) ++ (member_texts written (map named ps) ++ codes "}")
+kind_text base written (Some (kinds.Array ms)) =
+    array_head (length ms) ++ (member_texts written ms ++ codes "}")
+kind_text base written (Some (kinds.Object class ps)) =
+    object_head class (length ps) ++ (member_texts written (map named ps) ++ codes "}")
 kind_text base written (Some (kinds.Same x)) = codes "r:" ++ decimal (x + base) ++ codes ";"
 
--- What a member holds, as far as the levels go: the value that is written there, or the number of the place
--- that it shares.
+-- What a member holds, as far as the levels go: the value that is written there, or the number of
+-- the place that it shares.
 unfoldable pub child_text : ℕ → ℕ → List Kind → Child → List ℕ
 child_text zero base g c = []
 child_text (suc level) base g (Own x) = kind_text base (child_text level base g) (kind_at g x)

@@ -1,5 +1,6 @@
 -- Reading a value from left to right, to its end or to the first fault.
-use Rattle.std.specs.Prelude.{ℕ, zero, suc, Bool, true, false, ◌&&◌, ◌||◌, ◌==◌, if◌then◌else◌, List, [], ◌∷◌, Option, Some, None, Result, Ok}
+use Rattle.std.specs.Prelude.{ℕ, zero, suc, Bool, true, false, ◌&&◌, ◌||◌, ◌==◌, if◌then◌else◌}
+use Rattle.std.specs.Prelude.{List, [], ◌∷◌, Option, Some, None, Result, Ok}
 use Rattle.php_graph.specs.declared.key.Key.{Key}
 use Rattle.php_graph.specs.declared.key.Key.TheVariants as keys
 use Rattle.php_graph.specs.declared.kind.Kind.{Kind}
@@ -12,9 +13,11 @@ use Rattle.php_graph.specs.declared.item.BuildFault.TheVariants as faults
 use Rattle.php_graph.specs.Graph.{levels}
 use Rattle.php_graph.specs.Building.{Draft, nothing_drafted, wants_of, room_fault, fault_of, pushed}
 use Rattle.notation.specs.declared.fault.Reason.{Reason}
-use Rattle.notation.specs.declared.fault.Reason.TheVariants.{End, Tag, Depth, Places, Target, Repeat, Class, Integer}
+use Rattle.notation.specs.declared.fault.Reason.TheVariants.{End, Tag, Depth, Places, Target}
+use Rattle.notation.specs.declared.fault.Reason.TheVariants.{Repeat, Class, Integer}
 use Rattle.notation.specs.declared.fault.Fault.{Fault}
-use Rattle.notation.specs.Marks.{◌>>=◌, fail, mark_at, number_as, as_truth, natural_at, sized_at, string_at, integer_at, count_at}
+use Rattle.notation.specs.Marks.{◌>>=◌, fail, mark_at, number_as, as_truth, natural_at, sized_at}
+use Rattle.notation.specs.Marks.{string_at, integer_at, count_at}
 
 -- the word for what a graph that is being written refuses
 abbrev pub reason_of : BuildFault → Reason
@@ -34,8 +37,8 @@ put_unless (Some fault) d at = fail (reason_of fault) at
 abbrev pub put_at : Draft → Item → List ℕ → Result Draft Fault
 put_at d item at = put_unless (fault_of d item) (pushed d item) at
 
--- What was read of a value: the draft with it, how many members are to come if it is a container, and the
--- bytes that are left.
+-- What was read of a value: the draft with it, how many members are to come if it is a container,
+-- and the bytes that are left.
 abbrev pub Begun : Type 0
 Begun = Draft × Option ℕ × List ℕ
 
@@ -113,7 +116,9 @@ tagged_at d tag rest =
     else back_at d rest
 
 abbrev pub is_tag : ℕ → Bool
-is_tag b = b == 78 || (b == 98 || (b == 105 || (b == 115 || (b == 97 || (b == 79 || (b == 114 || b == 82))))))
+is_tag b =
+    b == 78 || (b == 98 || (b == 105 || (b == 115
+    || (b == 97 || (b == 79 || (b == 114 || b == 82))))))
 
 abbrev pub if_room : Option BuildFault → List ℕ → Result Begun Fault → Result Begun Fault
 if_room None bytes read = read
@@ -122,7 +127,9 @@ if_room (Some fault) bytes read = fail (reason_of fault) bytes
 -- A value up to its members. Whether there is room for it is decided once its letter was read.
 unfoldable pub begun_at : Draft → List ℕ → Result Begun Fault
 begun_at d [] = fail End []
-begun_at d (tag ∷ rest) = if is_tag tag then if_room (room_fault d) (tag ∷ rest) (tagged_at d tag rest) else fail Tag (tag ∷ rest)
+begun_at d (tag ∷ rest) =
+    if is_tag tag then if_room (room_fault d) (tag ∷ rest) (tagged_at d tag rest)
+    else fail Tag (tag ∷ rest)
 
 -- ---- keys
 
@@ -137,8 +144,8 @@ key_tagged_at integers tag rest =
     else if tag == 105 && integers then (integer_at rest >>= λ n. Ok (keys.Int n.0, n.1))
     else fail Tag (tag ∷ rest)
 
--- A key of an array, or a name of an object, by what the innermost container takes. A key is at fault at
--- its first byte.
+-- A key of an array, or a name of an object, by what the innermost container takes. A key is at
+-- fault at its first byte.
 unfoldable pub key_at : Draft → List ℕ → Result (Draft × List ℕ) Fault
 key_at d [] = fail End []
 key_at d (tag ∷ rest) = do
@@ -149,7 +156,8 @@ key_at d (tag ∷ rest) = do
 -- ---- members, and values with them
 
 -- so many members, where this reads what they hold
-abbrev pub members_at : (Draft → List ℕ → Result (Draft × List ℕ) Fault) → ℕ → Draft → List ℕ → Result (Draft × List ℕ) Fault
+abbrev pub members_at : (Draft → List ℕ → Result (Draft × List ℕ) Fault) → ℕ → Draft → List ℕ
+    → Result (Draft × List ℕ) Fault
 members_at value zero d bytes = Ok (d, bytes)
 members_at value (suc n) d bytes = do
   key ← key_at d bytes
@@ -162,12 +170,14 @@ closed_at d bytes = do
   rest ← mark_at 125 bytes
   Ok (pushed d items.Close, rest)
 
-abbrev pub rest_of_value : (Draft → List ℕ → Result (Draft × List ℕ) Fault) → Begun → Result (Draft × List ℕ) Fault
+abbrev pub rest_of_value : (Draft → List ℕ → Result (Draft × List ℕ) Fault) → Begun
+    → Result (Draft × List ℕ) Fault
 rest_of_value value (d, None, bytes) = Ok (d, bytes)
 rest_of_value value (d, Some n, bytes) = members_at value n d bytes >>= λ m. closed_at m.0 m.1
 
 -- a value, where this reads what its members hold
-abbrev pub value_with : (Draft → List ℕ → Result (Draft × List ℕ) Fault) → Draft → List ℕ → Result (Draft × List ℕ) Fault
+abbrev pub value_with : (Draft → List ℕ → Result (Draft × List ℕ) Fault) → Draft → List ℕ
+    → Result (Draft × List ℕ) Fault
 value_with value d bytes = begun_at d bytes >>= rest_of_value value
 
 -- A value, as far as the levels go. No value begins deeper: there is no room for it.

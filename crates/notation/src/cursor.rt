@@ -1,4 +1,5 @@
-ghost use Rattle.std.specs.Prelude.{◌≡◌, ℕ, ◌+◌, ◌<◌, ◌≤◌, length, List, take, drop, slice_get, IsSome};
+ghost use Rattle.std.specs.Prelude.{◌≡◌, ℕ, ◌+◌, ◌<◌, ◌≤◌, length, List, take, drop, slice_get};
+ghost use Rattle.std.specs.Prelude.{IsSome};
 ghost use Rattle.notation.specs.Place.{Standing, left};
 
 use std::marker::Model;

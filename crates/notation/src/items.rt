@@ -1,11 +1,16 @@
 //! The items of a value, each read and put into the graph that is being built.
 
-ghost use Rattle.std.specs.Prelude.{◌≡◌, ◌<◌, ◌^◌, ◌∷◌, List, drop, IsSome, length, IsTrue, OnOk, IfOk, None, Some, Bool, true, false};
+ghost use Rattle.std.specs.Prelude.{◌≡◌, ◌<◌, ◌^◌, ◌∷◌, List, drop, IsSome, length, IsTrue, OnOk};
+ghost use Rattle.std.specs.Prelude.{IfOk, None, Some, Bool, true, false};
 ghost use Rattle.php_graph.specs.declared.item.Wants.TheVariants.{Value};
 ghost use Rattle.php_graph.specs.Graph.{levels};
-ghost use Rattle.php_graph.specs.Building.{wants_of, item_fits, is_value, is_name, pushed, room_fault};
+ghost use Rattle.php_graph.specs.Building.{wants_of, item_fits, is_value, is_name, pushed};
+ghost use Rattle.php_graph.specs.Building.{room_fault};
 ghost use Rattle.notation.specs.Marks.{Gives};
-ghost use Rattle.notation.specs.Reading.{reason_of, put_at, null_at, truth_at, int_at, str_at, same_at, back_at, array_at, object_at, tagged_at, is_tag, begun_at, key_tagged_at, takes_integers, key_at, closed_at};
+ghost use Rattle.notation.specs.Reading.{reason_of, put_at, null_at, truth_at, int_at, str_at};
+ghost use Rattle.notation.specs.Reading.{same_at, back_at, array_at, object_at, tagged_at, is_tag};
+ghost use Rattle.notation.specs.Reading.{begun_at, key_tagged_at, takes_integers, key_at};
+ghost use Rattle.notation.specs.Reading.{closed_at};
 ghost use Rattle.notation.specs.Steps.{opens, opened, IsValueStep, wants_key};
 
 use crate::fault::{Reason, Stop};

@@ -1,13 +1,16 @@
 //! The parts of a text, each appended whole.
 
-ghost use Rattle.std.specs.Prelude.{◌≡◌, ℕ, ◌+◌, ◌<◌, ◌^◌, List, [], ◌∷◌, ◌++◌, length, codes, slice_get, OnOk, OnErr, IfOk, IsSome, MatchOption, Some, None, ℤ};
+ghost use Rattle.std.specs.Prelude.{◌≡◌, ℕ, ◌+◌, ◌<◌, ◌^◌, List, [], ◌∷◌, ◌++◌, length, codes};
+ghost use Rattle.std.specs.Prelude.{slice_get, OnOk, OnErr, IfOk, IsSome, MatchOption, Some, None};
+ghost use Rattle.std.specs.Prelude.{ℤ};
 ghost use Rattle.std.specs.Fmt.{decimal};
 ghost use Rattle.php_graph.specs.Numbers.{int_of_text};
 ghost use Rattle.php_graph.specs.Building.{is_container};
 ghost use Rattle.php_graph.specs.declared.kind.Kind.{Kind};
 ghost use Rattle.php_graph.specs.declared.key.Key.{Key};
 ghost use Rattle.php_graph.specs.declared.child.Child.{Child};
-ghost use Rattle.notation.specs.Notation.{integer_text, string_text, key_text, array_head, object_head};
+ghost use Rattle.notation.specs.Notation.{integer_text, string_text, key_text, array_head};
+ghost use Rattle.notation.specs.Notation.{object_head};
 ghost use Rattle.notation.specs.Keys.{written_key};
 ghost use Rattle.notation.specs.Parts.{start_text, members_of};
 ghost use Rattle.notation.specs.Appending.{Extends, MemberStep};

@@ -1,6 +1,7 @@
 //! Reading values.
 
-ghost use Rattle.std.specs.Prelude.{◌≡◌, ℕ, ◌+◌, ◌<◌, ◌≤◌, ◌++◌, ◌∷◌, List, length, reverse, Option, Some, None, MatchResult, IfOk, OnOk, OnErr};
+ghost use Rattle.std.specs.Prelude.{◌≡◌, ℕ, ◌+◌, ◌<◌, ◌≤◌, ◌++◌, ◌∷◌, List, length, reverse};
+ghost use Rattle.std.specs.Prelude.{Option, Some, None, MatchResult, IfOk, OnOk, OnErr};
 ghost use Rattle.php_graph.specs.declared.kind.Kind.{Kind};
 ghost use Rattle.php_graph.specs.Graph.{IsGraph};
 ghost use Rattle.php_graph.specs.Building.{nothing_drafted};

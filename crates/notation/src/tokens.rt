@@ -1,7 +1,9 @@
 //! The parts of the notation that lie in no other: marks, numbers, and byte strings.
 
 ghost use Rattle.std.specs.Prelude.{◌≡◌, ◌<◌, ◌≤◌, ◌^◌, length, IfOk};
-ghost use Rattle.notation.specs.Marks.{Gives, found, mark_at, ends_number, number_len, number_at, number_as, as_natural, as_truth, natural_at, quoted_at, sized_at, string_at, integer_at, count_at};
+ghost use Rattle.notation.specs.Marks.{Gives, found, mark_at, ends_number, number_len, number_at};
+ghost use Rattle.notation.specs.Marks.{number_as, as_natural, as_truth, natural_at, quoted_at};
+ghost use Rattle.notation.specs.Marks.{sized_at, string_at, integer_at, count_at};
 
 use crate::fault::{Fault, Reason, Stop};
 use php_graph::int_of_text;

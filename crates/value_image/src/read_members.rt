@@ -13,13 +13,13 @@ ghost use Rattle.value_image.specs.Image.{child_word};
 ghost use Rattle.value_image.specs.Reading.{itself, IsStringAt, IsKeyAt, IsMemberAt, IsPropertyAt};
 ghost use Rattle.value_image.specs.Reading.{AreMembersAt, ArePropertiesAt};
 
+use crate::bytes::get_bytes;
 use crate::write_members::INT;
 use php_graph::{Bytes, Child, Key, Members, Props};
 use seg_words::{WordsIn, words_in};
 use std::alloc::{AllocError, Global};
 
-// So many bytes of the words from place `at` on. Memory for them is reserved, but not filled before
-// they come, so each is written once.
+// So many bytes of the words from place `at` on.
 fn read_bytes<W: WordsIn>(
     alloc: Global,
     from: &mut W,
@@ -32,17 +32,8 @@ fn read_bytes<W: WordsIn>(
         bytes ≡ take len (bytes_of (drop at (W.words from.old)))) }
     ensures kept { Kept W.WordsIn from.old from.new }
 {
-    let mut bytes = Vec::with_capacity(alloc, len as usize)?;
-    for i in 0..len / 8 {
-        let word = from.load(at + i);
-        bytes.extend_from_slice(&word.to_le_bytes())?;
-    }
-    let left = (len % 8) as usize;
-    if left == 0 {
-        return Ok(Bytes::from_vec(bytes));
-    }
-    let last = from.load(at + len / 8);
-    bytes.extend_from_slice(&last.to_le_bytes()[..left])?;
+    let mut bytes = Vec::from_elem(alloc, 0u8, len as usize)?;
+    get_bytes(from, at, bytes.as_mut_slice());
     Ok(Bytes::from_vec(bytes))
 }
 

@@ -56,15 +56,6 @@ slice_bounds-copy_from_slice-end-3 c = grind (arith, common_steps)
 pub copy_from_slice-requires : goal.copy_from_slice-requires
 copy_from_slice-requires c = grind (arith, common_steps)
 
-pub slice_bounds-self-count : goal.slice_bounds-self-count
-slice_bounds-self-count c = grind (arith, common_steps)
-
-pub slice_bounds-self-start : goal.slice_bounds-self-start
-slice_bounds-self-start c = grind (arith, common_steps)
-
-pub slice_bounds-self-end : goal.slice_bounds-self-end
-slice_bounds-self-end c = grind (arith, common_steps)
-
 pub invariant_of-self-2 : goal.invariant_of-self-2
 invariant_of-self-2 c = grind (arith, common_steps)
 
