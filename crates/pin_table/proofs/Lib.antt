@@ -11,3 +11,4 @@ pub mod Ruled
 pub mod Holdings
 pub mod PassLists
 pub mod Learning
+pub mod Held

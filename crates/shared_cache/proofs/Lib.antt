@@ -1,0 +1,6 @@
+pub mod Rows
+pub mod Windows
+pub mod Alike
+pub mod Ends
+pub mod Working
+pub mod Passes

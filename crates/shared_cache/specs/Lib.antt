@@ -1,0 +1,4 @@
+pub mod Tied
+pub mod Settled
+pub mod Follows
+pub mod Laws
