@@ -4,3 +4,5 @@ pub mod Alike
 pub mod Ends
 pub mod Working
 pub mod Passes
+pub mod Fetches
+pub mod Copies
