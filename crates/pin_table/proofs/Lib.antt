@@ -11,4 +11,5 @@ pub mod Ruled
 pub mod Holdings
 pub mod PassLists
 pub mod Learning
+pub mod Held
 pub mod Used

@@ -1,0 +1,130 @@
+-- An event keeps what is under the lock, and is told by the pass.
+use Rattle.std.proofs.Common.{◌≡◌, ℕ, zero, suc, ◌+◌, ◌-◌, ◌^◌, ◌<◌, ◌≤◌, ◌==◌, ◌&&◌, Bool, true, false, List, [], ◌∷◌, ◌++◌, length, map, Some, None, refl, ap, sym, ◌∙◌, subst, arith, sum, slice_set, length-append, cond}
+use Rattle.std.proofs.lemmas.Bool.{eq-eqb}
+use mathlib.Core.List.{IsPrefix}
+use Rattle.atomic_table.specs.Seated.{TableId}
+use Rattle.apcu_model.specs.declared.conf.Conf.{Conf}
+use Rattle.apcu_model.specs.declared.event.Event.{Event}
+use Rattle.apcu_model.specs.declared.journal.Mark.{Mark}
+use Rattle.apcu_model.specs.declared.request.Request.{Request}
+use Rattle.apcu_model.specs.declared.request.Reply.{Reply}
+use Rattle.apcu_model.specs.Cache.{Cache}
+use Rattle.apcu_model.specs.History.{Stage, start_of, stage_of, all_legal, is_legal_mask, reply_in, after_event, mark_of, marks_of}
+use Rattle.apcu_model.specs.Journal.{Marks}
+use Rattle.cache_core.specs.declared.cache.Core.{Core}
+use Rattle.cache_core.specs.Caching.{cache_of}
+use Rattle.pin_table.specs.declared.views.Known.{Known}
+use Rattle.pin_table.specs.declared.views.Book.{Book}
+use Rattle.pin_table.specs.declared.views.Desk.{Desk}
+use Rattle.pin_table.specs.Values.{Writing, Bearer}
+use Rattle.pin_table.specs.Events.{event, events_of}
+use Rattle.pin_table.specs.Views.{with_hand, with_event, after_event as known_after, rested, aside_of}
+use Rattle.shared_cache.specs.Laws.{Laws}
+use Rattle.shared_cache.specs.Tied.{AreTied}
+use Rattle.shared_cache.specs.Settled.{CoreStands, Settled}
+use Rattle.shared_cache.specs.Follows.{Follows}
+use Rattle.shared_cache.proofs.Windows.{Running, legal_mask}
+
+length_marks : (h : List Event) → length (marks_of h) ≡ length h
+length_marks [] = refl
+length_marks (e ∷ h) = ap suc (length_marks h)
+
+module _ (t : TableId) (conf : Conf) (budgets : List ℕ) (s : Writing) (c : Core) (j : Marks)
+    (ok : Settled t conf budgets s c j) where
+  -- the history is as long as the journal
+  pub journal_long : length j.marks ≡ length s.desk.book.history
+  journal_long = ap length ok.journal_is ∙ length_marks s.desk.book.history
+
+  -- and no longer than all budgets
+  pub short_history : length s.desk.book.history ≤ 4194304
+  short_history = omega (arith, journal_long, ok.enough, ok.limited)
+
+  -- where a worker may make an event, there is room for its mark
+  pub room_left : (left : ℕ) → 1 ≤ left → length s.desk.book.history + left ≤ sum s.desk.book.budgets → 0 < j.room
+  room_left left some_left within = let b = ap sum ok.budgets_are in omega (arith, journal_long, ok.enough, b, some_left, within)
+
+-- One event of the pass p, from the seat s0 to the seat s1 by the desk d at its end.
+pub record Ends (t : TableId) (conf : Conf) (budgets : List ℕ) (s0 s1 : Writing) (d : Desk) (c0 c1 : Core) (p q : Bearer) (time : ℕ) (r : Request) (j0 j1 : Marks) : Type 0 where
+  pub laws : Laws
+  pub settled : Settled t conf budgets s0 c0 j0
+  pub run : Running d p.known s0.desk.windows
+  pub book : d.book ≡ with_hand s0.desk.book (Some p.known)
+  pub small : d.mask < 2 ^ 64
+  pub table : s1.table ≡ t
+  pub after : s1.desk.book ≡ with_event d.book (event p.known.worker time r d.mask)
+  pub resting : s1.desk ≡ rested s1.desk s1.desk.book
+  pub pass_table : q.table ≡ p.table
+  pub pass_known : q.known ≡ known_after d.book (event p.known.worker time r d.mask)
+  pub seen : IsPrefix p.known.seen s0.desk.book.history
+  pub own : events_of p.known.worker s0.desk.book.history ≡ p.known.own
+  pub some_left : 1 ≤ p.known.left
+  pub tied : AreTied (after_event (stage_of conf s0.desk.book.history) (event p.known.worker time r d.mask)) s1.desk.windows
+  pub stands : CoreStands c1 s1.desk.words (aside_of s1.desk)
+  pub cache : cache_of c1 ≡ (after_event (stage_of conf s0.desk.book.history) (event p.known.worker time r d.mask)).cache
+  pub marks : j1.marks ≡ j0.marks ++ (record { worker = p.known.worker; mask = d.mask }) ∷ []
+  pub room : j1.room + 1 ≡ j0.room
+
+module _ (t : TableId) (conf : Conf) (budgets : List ℕ) (s0 s1 : Writing) (d : Desk) (c0 c1 : Core) (p q : Bearer) (time : ℕ) (r : Request) (j0 j1 : Marks)
+    (h : Ends t conf budgets s0 s1 d c0 c1 p q time r j0 j1) where
+  abbrev pub e : Event
+  e = event p.known.worker time r d.mask
+
+  abbrev pub m : Stage
+  m = stage_of conf s0.desk.book.history
+
+  history : s1.desk.book.history ≡ s0.desk.book.history ++ e ∷ []
+  history = ap (λ (b : Book). b.history) h.after ∙ ap (λ (b : Book). b.history ++ e ∷ []) h.book
+
+  next : stage_of conf s1.desk.book.history ≡ after_event m e
+  next = ap (stage_of conf) history ∙ h.laws.after (start_of conf) s0.desk.book.history e
+
+  seats : length d.book.budgets ≡ length budgets
+  seats = ap (λ (b : Book). length b.budgets) h.book ∙ ap length h.settled.budgets_are
+
+  legal : is_legal_mask (length budgets) p.known.worker m d.mask ≡ true
+  legal = legal_mask (length budgets) m d p.known s0.desk.windows h.run h.settled.tied seats h.small
+
+  all : all_legal (length budgets) (start_of conf) (s0.desk.book.history ++ e ∷ []) ≡ true
+  all = h.laws.legal (length budgets) (start_of conf) s0.desk.book.history e
+      ∙ (ap (λ b. b && is_legal_mask (length budgets) p.known.worker m d.mask) h.settled.legal ∙ legal)
+
+  pub settles : Settled t conf budgets s1 c1 j1
+  settles = record {
+    table = h.table;
+    idle = ap (λ (b : Book). b.hand) h.after;
+    resting = h.resting;
+    budgets_are = ap (λ (b : Book). b.budgets) h.after ∙ (ap (λ (b : Book). b.budgets) h.book ∙ h.settled.budgets_are);
+    made = ap (λ (b : Book). b.made) h.after ∙ (ap (λ (b : Book). b.made) h.book ∙ h.settled.made);
+    stands = h.stands;
+    cache = h.cache ∙ ap (λ (n : Stage). n.cache) (sym next);
+    legal = ap (all_legal (length budgets) (start_of conf)) history ∙ all;
+    tied = subst (λ (n : Stage). AreTied n s1.desk.windows) (sym next) h.tied;
+    journal_is = h.marks ∙ (ap (λ l. l ++ mark_of e ∷ []) h.settled.journal_is ∙ (sym (h.laws.marks s0.desk.book.history e) ∙ ap marks_of (sym history)));
+    enough = let l = ap length h.marks in omega (arith, l, length-append j0.marks (mark_of e ∷ []), h.room, h.settled.enough);
+    limited = h.settled.limited;
+  }
+
+  pub follows : (y : Reply) → y ≡ reply_in m e → Follows conf (length budgets) p q time r y
+  follows y is =
+      let k : q.known ≡ known_after (with_hand s0.desk.book (Some p.known)) e = h.pass_known ∙ ap (λ (b : Book). known_after b e) h.book in
+      let w : q.known.worker ≡ p.known.worker = ap (λ (x : Known). x.worker) k in
+      let mine : (e.worker == p.known.worker) ≡ true = eq-eqb p.known.worker p.known.worker refl in
+      let hist : (p.known.seen ++ h.seen.0) ≡ s0.desk.book.history = h.seen.1 in
+      let saw : q.known.seen ≡ s0.desk.book.history ++ e ∷ [] = ap (λ (x : Known). x.seen) k in
+      let made : q.known.own ≡ p.known.own ++ e ∷ [] = ap (λ (x : Known). x.own) k in
+      record {
+        mask = d.mask;
+        between = h.seen.0;
+        table = h.pass_table;
+        worker = w;
+        left = let l = ap (λ (x : Known). x.left) k in omega (arith, l, h.some_left);
+        own = made;
+        seen = saw ∙ ap (λ l. l ++ e ∷ []) (sym hist);
+        all_own = ap (λ v. events_of v q.known.seen) w
+            ∙ (ap (events_of p.known.worker) saw
+            ∙ (h.laws.own p.known.worker s0.desk.book.history e
+            ∙ (ap (λ b. cond b (events_of p.known.worker s0.desk.book.history ++ e ∷ []) (events_of p.known.worker s0.desk.book.history)) mine
+            ∙ (ap (λ l. l ++ e ∷ []) h.own ∙ sym made))));
+        legal = ap (all_legal (length budgets) (start_of conf)) saw ∙ all;
+        reply = is ∙ ap (λ l. reply_in (stage_of conf l) e) (sym hist);
+      }

@@ -1,0 +1,8 @@
+pub mod Rows
+pub mod Windows
+pub mod Alike
+pub mod Ends
+pub mod Working
+pub mod Passes
+pub mod Fetches
+pub mod Copies

@@ -1,0 +1,118 @@
+-- An event under way.
+use Rattle.std.proofs.Common.{◌≡◌, ℕ, ◌+◌, ◌^◌, ◌<◌, ◌≤◌, true, false, List, [], ◌∷◌, ◌++◌, length, Some, refl, ap, sym, ◌∙◌, subst, sum, slice_set}
+use mathlib.Core.List.{IsPrefix}
+use Rattle.atomic_table.specs.Seated.{TableId}
+use Rattle.std.proofs.lemmas.Bool.{false≢true}
+use Rattle.seg_words.specs.Windows.{Aside, has, is_named, held_by}
+use Rattle.apcu_model.specs.declared.conf.Conf.{Conf}
+use Rattle.apcu_model.specs.declared.event.Event.{Event}
+use Rattle.apcu_model.specs.declared.request.Request.{Request}
+use Rattle.apcu_model.specs.declared.request.Reply.{Reply}
+use Rattle.apcu_model.specs.Cache.{Row, Cache}
+use Rattle.apcu_model.specs.Change.{AreAlike}
+use Rattle.apcu_model.specs.History.{Stage, stage_of, held_places, reply_in, after_event}
+use Rattle.apcu_model.specs.Journal.{Marks}
+use Rattle.apcu_model.specs.Sequential.{cache_after, reply_to}
+use Rattle.entry_slots.specs.Entries.{Entries}
+use Rattle.entry_slots.specs.Standing.{entries}
+use Rattle.ttl_expunge.specs.Held.{AreRemoved, KeepsOpen}
+use Rattle.cache_core.specs.declared.cache.Core.{Core}
+use Rattle.cache_core.specs.Caching.{cache_of}
+use Rattle.pin_table.specs.declared.views.Known.{Known}
+use Rattle.pin_table.specs.declared.views.Book.{Book}
+use Rattle.pin_table.specs.declared.views.Desk.{Desk}
+use Rattle.pin_table.specs.declared.writer.Beside.{Beside}
+use Rattle.pin_table.specs.declared.writer.Writer.{Writer}
+use Rattle.pin_table.specs.Values.{Writing, Bearer}
+use Rattle.pin_table.specs.Order.{DeskInOrder}
+use Rattle.pin_table.specs.Events.{event, events_of}
+use Rattle.pin_table.specs.Views.{with_hand, with_event, after_event as known_after, rested, taken, aside_of}
+use Rattle.pin_table.specs.WriterRest.{beside}
+use Rattle.shared_cache.specs.Laws.{Laws}
+use Rattle.shared_cache.specs.Tied.{AreTied}
+use Rattle.shared_cache.specs.Settled.{CoreStands, Settled}
+use Rattle.shared_cache.specs.Follows.{Follows}
+use Rattle.shared_cache.proofs.Windows.{Running, StayOpen, named_set, tied_after}
+use Rattle.shared_cache.proofs.Alike.{held_alike}
+use Rattle.shared_cache.proofs.Ends.{Ends, short_history}
+
+-- words stand for the same cache where windows close and the mask and refused places change
+pub core_closed : Laws → (c : Core) (words : List ℕ) (old new : Aside) → ((at : ℕ) → is_named new.windows at ≡ true → is_named old.windows at ≡ true)
+    → CoreStands c words old → CoreStands c words new
+core_closed laws c words old new fewer st = record { stand = laws.closed c.slots words old new (entries c.slots) fewer st.stand; whole = st.whole }
+
+-- What is known of the writer w that took the pass p.
+pub record Took (t : TableId) (s : Writing) (p : Bearer) (w : Writer) : Type 0 where
+  pub table : w.seat.now.table ≡ t
+  pub desk : w.seat.now.desk ≡ taken s.desk p.known
+  pub worker : w.worker ≡ p.known.worker
+
+-- the words stand for the cache as the event begins
+pub begun_stands : Laws → (t : TableId) (s : Writing) (p : Bearer) (w : Writer) (c : Core) → Took t s p w → CoreStands c s.desk.words (aside_of s.desk)
+    → CoreStands c w.seat.now.desk.words (aside_of w.seat.now.desk)
+begun_stands laws t s p w c took st = subst (λ (x : Desk). CoreStands c x.words (aside_of x)) (sym took.desk)
+    (core_closed laws c s.desk.words (aside_of s.desk) (aside_of (taken s.desk p.known)) (named_set laws s.desk.windows p.known.worker) st)
+
+-- nothing is refused as the event begins
+pub none_refused : (t : TableId) (s : Writing) (p : Bearer) (w : Writer) → Took t s p w → (b : ℕ) → has b (aside_of w.seat.now.desk).refused ≡ false
+none_refused t s p w took b = ap (λ (x : Desk). has b (aside_of x).refused) took.desk
+
+pub none_removed : (t : TableId) (s : Writing) (p : Bearer) (w : Writer) (removed : List Row) → Took t s p w → AreRemoved (aside_of w.seat.now.desk) removed
+none_removed t s p w removed took = record { each = λ b h. absurd (false≢true (sym (none_refused t s p w took b) ∙ h)) }
+
+-- a call that changed no word left them standing
+pub kept_stands : (c : Core) (old new : List ℕ) (before after : Aside) → new ≡ old → after ≡ before → CoreStands c old before → CoreStands c new after
+kept_stands c old new before after words aside st = subst (λ ws. CoreStands c ws after) (sym words) (subst (CoreStands c old) (sym aside) st)
+
+pub kept_open : (windows : List ℕ) (s : Entries) → KeepsOpen windows s s
+kept_open windows s = record { each = λ row there named. (row, there, refl, refl) }
+
+-- An event of the pass p under way, from the seat s0 on: the writer is w0 as it begins and w as it ends.
+pub record Works (t : TableId) (conf : Conf) (budgets : List ℕ) (s0 : Writing) (w0 w : Writer) (c0 : Core) (p : Bearer) (j0 : Marks) : Type 0 where
+  pub laws : Laws
+  pub settled : Settled t conf budgets s0 c0 j0
+  pub pass : p.table ≡ t
+  pub took : Took t s0 p w0
+  pub rest : beside w ≡ beside w0
+  pub order : (copying : List ℕ) × DeskInOrder w.seat.now.desk copying
+  pub small : w.seat.now.desk.mask < 2 ^ 64
+  pub seen : IsPrefix p.known.seen s0.desk.book.history
+  pub own : events_of p.known.worker s0.desk.book.history ≡ p.known.own
+  pub some_left : 1 ≤ p.known.left
+
+module _ (t : TableId) (conf : Conf) (budgets : List ℕ) (s0 : Writing) (w0 w : Writer) (c0 : Core) (p : Bearer) (j0 : Marks)
+    (h : Works t conf budgets s0 w0 w c0 p j0) where
+  pub worker : w.worker ≡ p.known.worker
+  worker = ap (λ (b : Beside). b.worker) h.rest ∙ h.took.worker
+
+  pub table : w.seat.now.table ≡ t
+  table = ap (λ (b : Beside). b.seat.table) h.rest ∙ h.took.table
+
+  pub book : w.seat.now.desk.book ≡ with_hand s0.desk.book (Some p.known)
+  book = ap (λ (b : Beside). b.seat.desk.book) h.rest ∙ ap (λ (x : Desk). x.book) h.took.desk
+
+  pub run : Running w.seat.now.desk p.known s0.desk.windows
+  run = record {
+    copying = h.order.0;
+    order = h.order.1;
+    hand = ap (λ (b : Book). b.hand) book;
+    begun = ap (λ (b : Beside). b.seat.desk.begun) h.rest ∙ ap (λ (x : Desk). x.begun) h.took.desk;
+  }
+
+  pub alike : AreAlike (held_by w.seat.now.desk.mask w.seat.now.desk.windows) (held_places (stage_of conf s0.desk.book.history) w.seat.now.desk.mask)
+  alike = held_alike h.laws (stage_of conf s0.desk.book.history) w.seat.now.desk p.known s0.desk.windows
+      (h.laws.numbered conf s0.desk.book.history (short_history t conf budgets s0 c0 j0 h.settled)) run h.settled.tied
+
+  -- the cache after the event, by the history
+  pub cache_in : (time : ℕ) (r : Request) (c : Cache) → c ≡ cache_after (held_by w.seat.now.desk.mask w.seat.now.desk.windows) time r (cache_of c0)
+      → c ≡ (after_event (stage_of conf s0.desk.book.history) (event p.known.worker time r w.seat.now.desk.mask)).cache
+  cache_in time r c is = is
+      ∙ (ap (cache_after (held_by w.seat.now.desk.mask w.seat.now.desk.windows) time r) h.settled.cache
+      ∙ h.laws.cache (held_by w.seat.now.desk.mask w.seat.now.desk.windows) (held_places (stage_of conf s0.desk.book.history) w.seat.now.desk.mask) alike time r (stage_of conf s0.desk.book.history).cache)
+
+  -- and the reply
+  pub reply_is : (time : ℕ) (r : Request) (y : Reply) → y ≡ reply_to (held_by w.seat.now.desk.mask w.seat.now.desk.windows) time r (cache_of c0)
+      → y ≡ reply_in (stage_of conf s0.desk.book.history) (event p.known.worker time r w.seat.now.desk.mask)
+  reply_is time r y is = is
+      ∙ (ap (reply_to (held_by w.seat.now.desk.mask w.seat.now.desk.windows) time r) h.settled.cache
+      ∙ h.laws.reply (held_by w.seat.now.desk.mask w.seat.now.desk.windows) (held_places (stage_of conf s0.desk.book.history) w.seat.now.desk.mask) alike time r (stage_of conf s0.desk.book.history).cache)

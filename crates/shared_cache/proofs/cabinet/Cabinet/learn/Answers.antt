@@ -1,0 +1,45 @@
+use Rattle.std.proofs.Common.{◌≡◌, ◌∙◌, refl, sym, ap, subst, true, List, Some, None}
+use mathlib.Core.List.{IsPrefix}
+use Rattle.apcu_model.specs.declared.event.Event.{Event}
+use Rattle.apcu_model.specs.History.{start_of, all_legal}
+use Rattle.pin_table.specs.declared.views.Known.{Known}
+use Rattle.pin_table.specs.declared.views.Book.{Book}
+use Rattle.pin_table.specs.declared.views.Desk.{Desk}
+use Rattle.pin_table.specs.Events.{events_of}
+use Rattle.pin_table.specs.Views.{taken, rested, with_hand, seen_all}
+use Rattle.shared_cache.proofs.Copies.{unchanged}
+use Rattle.shared_cache.proofs.cabinet.Cabinet.learn.Goals as goal
+use Rattle.shared_cache.proofs.cabinet.Cabinet.learn.Given as given
+
+-- the desk as the event begins that does not take place
+begun : (g : given.Over) (c : goal.After-give_seen g) → c.writer-w.result.seat.now.desk ≡ taken c.self.inside.seat.desk c.args.pass.known
+begun g c = c.writer-w.ensures.desk ∙ ap (λ (x : Desk). taken x c.args.pass.known) (c.learn-ended.ensures.desk ∙ sym c.self.invariant.resting)
+
+table : (g : given.Over) (c : goal.After-give_seen g) → c.writer-w.result.seat.now.table ≡ g.N.TableName.table
+table g c = c.writer-w.result.same_table ∙ (c.writer-w.ensures.table ∙ c.requires.table)
+
+pub invariant_of-self : goal.invariant_of-self
+invariant_of-self g c =
+    let desk : c.give_seen.new.self.1.0.desk ≡ rested (taken c.self.inside.seat.desk c.args.pass.known) (with_hand c.self.inside.seat.desk.book None) =
+    c.give_seen.ensures.desk ∙ ap (λ (x : Desk). rested x (with_hand x.book None)) (begun g c) in
+    unchanged c.lower_laws.ensures _ _ _ c.self.inside.seat c.give_seen.new.self.1.0 c.self.inside.core c.self.inside.journal c.args.pass.known.worker c.self.invariant
+    (c.give_seen.ensures.table ∙ table g c) (ap (λ (x : Desk). x.words) desk) (ap (λ (x : Desk). x.book) desk) (ap (λ (x : Desk). x.windows) desk)
+    (desk ∙ sym (ap (λ (x : Desk). rested x x.book) desk))
+
+pub returns-clause-learns : goal.returns-clause-learns
+returns-clause-learns g c =
+    let h : c.learn-ended.new.seat.desk.book.history ≡ c.self.inside.seat.desk.book.history = ap (λ (x : Desk). x.book.history) (c.learn-ended.ensures.desk ∙ sym c.self.invariant.resting) in
+    let k : c.give_seen.result.known ≡ seen_all (with_hand c.self.inside.seat.desk.book (Some c.args.pass.known)) = c.give_seen.ensures.known ∙ ap (λ (x : Desk). seen_all x.book) (begun g c) in
+    let seen : c.give_seen.result.known.seen ≡ c.self.inside.seat.desk.book.history = ap (λ (x : Known). x.seen) k in
+    let own : c.give_seen.result.known.own ≡ c.args.pass.known.own = ap (λ (x : Known). x.own) k in
+    let who : c.give_seen.result.known.worker ≡ c.args.pass.known.worker = ap (λ (x : Known). x.worker) k in
+    record {
+      table = c.give_seen.ensures.pass ∙ (table g c ∙ sym c.requires.pass);
+      worker = who;
+      left = ap (λ (x : Known). x.left) k;
+      own = own;
+      before = subst (IsPrefix c.args.pass.known.seen) (h ∙ sym seen) c.writer-w.ensures.seen;
+      other = subst (IsPrefix c.args.ended.known.seen) (sym seen) c.learn-ended.ensures.seen;
+      all_own = ap (λ v. events_of v c.give_seen.result.known.seen) who ∙ (ap (events_of c.args.pass.known.worker) (seen ∙ sym h) ∙ (c.writer-w.ensures.own ∙ sym own));
+      legal = ap (all_legal _ (start_of g.N.TableName.conf)) seen ∙ c.self.invariant.legal;
+    }

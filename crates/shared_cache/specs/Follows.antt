@@ -1,0 +1,27 @@
+-- One event of a worker.
+use Rattle.std.specs.Prelude.{◌≡◌, ℕ, ◌+◌, true, List, [], ◌∷◌, ◌++◌, length}
+use Rattle.apcu_model.specs.declared.conf.Conf.{Conf}
+use Rattle.apcu_model.specs.declared.event.Event.{Event}
+use Rattle.apcu_model.specs.declared.request.Request.{Request}
+use Rattle.apcu_model.specs.declared.request.Reply.{Reply}
+use Rattle.apcu_model.specs.History.{start_of, stage_of, all_legal, reply_in}
+use Rattle.pin_table.specs.Values.{Bearer}
+use Rattle.pin_table.specs.Events.{event, events_of}
+
+-- The pass q is p after one event more: at the moment t its worker asked for r, and y is the reply
+-- of one thread at that place of the history. What q has seen is what p had seen, then what others
+-- did since, then this event; all of it is legal, and the worker's events in it are its own.
+pub record Follows (conf : Conf) (workers : ℕ) (p q : Bearer) (t : ℕ) (r : Request) (y : Reply)
+    : Type 0 where
+  pub mask : ℕ
+  pub between : List Event
+  pub table : q.table ≡ p.table
+  pub worker : q.known.worker ≡ p.known.worker
+  pub left : q.known.left + 1 ≡ p.known.left
+  pub own : q.known.own ≡ p.known.own ++ event p.known.worker t r mask ∷ []
+  pub seen : q.known.seen
+      ≡ (p.known.seen ++ between) ++ event p.known.worker t r mask ∷ []
+  pub all_own : events_of q.known.worker q.known.seen ≡ q.known.own
+  pub legal : all_legal workers (start_of conf) q.known.seen ≡ true
+  pub reply : y
+      ≡ reply_in (stage_of conf (p.known.seen ++ between)) (event p.known.worker t r mask)

@@ -1,0 +1,224 @@
+//! What stands behind the lock.
+
+ghost use Rattle.std.specs.Prelude.{◌≡◌, ℕ, ◌<◌, ◌≤◌, ◌^◌, true, List, length};
+ghost use Rattle.apcu_model.specs.declared.request.Request.TheVariants as request;
+ghost use Rattle.apcu_model.specs.declared.request.Reply.TheVariants as reply;
+ghost use Rattle.apcu_model.specs.Sequential.{is_stored};
+ghost use Rattle.shared_cache.specs.Settled.{Settled};
+ghost use Rattle.shared_cache.specs.Follows.{Follows};
+ghost use Rattle.shared_cache.specs.Pinned.{IsFetched};
+ghost use Rattle.shared_cache.specs.Learned.{Learns};
+ghost use Rattle.shared_cache.specs.Closing.{AllEnded, IsClosed};
+
+use crate::closed::Closed;
+use crate::lower::lower_laws;
+use crate::noting::note;
+use crate::pinned::Pinned;
+use apcu_model::{Ask, Journal, StoreAnswer};
+use cache_core::{Core, Look};
+use php_graph::Graph;
+use pin_table::{Ended, EndedList, Pass, PinTable, TableName, WriterSeat};
+use std::marker::{Model, PhantomData};
+use value_image::images_are_runs;
+
+// The right to write, the journal, and what the cache keeps beside the words. Contracts see the
+// history.
+#[derive(Drop)]
+pub(crate) struct Cabinet<N: TableName> {
+    seat: WriterSeat,
+    journal: Journal,
+    core: Core,
+    of: PhantomData<N>,
+}
+
+impl<N: TableName> Model for Cabinet<N> {
+    ghost use Rattle.std.specs.Prelude.{List};
+    ghost use Rattle.apcu_model.specs.declared.event.Event.{Event};
+    ghost use Rattle.shared_cache.specs.Settled.{Settled};
+
+    ghost Value = { List Event };
+
+    ghost view = { λ c. c.seat.desk.book.history };
+
+    ghost invariant = { λ c. Settled N.table N.conf N.budgets c.seat c.core c.journal };
+}
+
+impl<N: TableName> Cabinet<N> {
+    pub(crate) fn new(seat: WriterSeat, journal: Journal, core: Core) -> Cabinet<N>
+        requires { Settled N.table N.conf N.budgets seat core journal }
+    {
+        Cabinet {
+            seat,
+            journal,
+            core,
+            of: PhantomData,
+        }
+    }
+
+    // Whether a look-up finds a row of the key. Nothing is counted.
+    pub(crate) fn exists(
+        &mut self,
+        table: &PinTable,
+        pass: Pass,
+        key: &[u8],
+        t: u64,
+    ) -> (Pass, bool)
+        requires table { table.now ≡ N.table }
+        requires pass { pass.table ≡ N.table }
+        requires left { 1 ≤ pass.known.left }
+        requires short { length key.now < 2 ^ 32 }
+        ensures { Follows N.conf (length N.budgets) pass result.0 t
+            (request.Exists key.now) (reply.Flag result.1) }
+    {
+        lower_laws();
+        let mut w = table.writer(&mut self.seat, pass);
+        let found = self.core.exists(&mut w, key, t);
+        note(&mut self.journal, &w);
+        (w.give_pass(Ask::Exists(key), t), found)
+    }
+
+    // Deletes the row that a look-up of the key finds; whether it finds one.
+    pub(crate) fn delete(
+        &mut self,
+        table: &PinTable,
+        pass: Pass,
+        key: &[u8],
+        t: u64,
+    ) -> (Pass, bool)
+        requires table { table.now ≡ N.table }
+        requires pass { pass.table ≡ N.table }
+        requires left { 1 ≤ pass.known.left }
+        requires short { length key.now < 2 ^ 32 }
+        ensures { Follows N.conf (length N.budgets) pass result.0 t
+            (request.Delete key.now) (reply.Flag result.1) }
+    {
+        lower_laws();
+        let mut w = table.writer(&mut self.seat, pass);
+        let found = self.core.delete(&mut w, key, t);
+        note(&mut self.journal, &w);
+        (w.give_pass(Ask::Delete(key), t), found)
+    }
+
+    // Drops all rows, and forgets all that was counted.
+    pub(crate) fn clear(&mut self, table: &PinTable, pass: Pass, t: u64) -> Pass
+        requires table { table.now ≡ N.table }
+        requires pass { pass.table ≡ N.table }
+        requires left { 1 ≤ pass.known.left }
+        ensures { Follows N.conf (length N.budgets) pass result t request.Clear (reply.Flag true) }
+    {
+        lower_laws();
+        let mut w = table.writer(&mut self.seat, pass);
+        self.core.clear(&mut w, t);
+        note(&mut self.journal, &w);
+        w.give_pass(Ask::Clear, t)
+    }
+
+    // Stores a value under a key, or with `exclusive` only where no live row has it; whether it was
+    // stored.
+    pub(crate) fn store(
+        &mut self,
+        table: &PinTable,
+        pass: Pass,
+        key: &[u8],
+        value: &Graph,
+        ttl: u32,
+        exclusive: bool,
+        t: u64,
+    ) -> (Pass, bool)
+        requires table { table.now ≡ N.table }
+        requires pass { pass.table ≡ N.table }
+        requires left { 1 ≤ pass.known.left }
+        requires short { length key.now < 2 ^ 32 }
+        ensures { Follows N.conf (length N.budgets) pass result.0 t
+            (request.Store key.now value.now ttl exclusive) (reply.Flag result.1) }
+    {
+        lower_laws();
+        let mut w = table.writer(&mut self.seat, pass);
+        let answer = self.core.store(&mut w, key, value, ttl, exclusive, t);
+        let stored = was_stored(answer);
+        note(&mut self.journal, &w);
+        let ask = Ask::Store {
+            key,
+            value,
+            ttl,
+            exclusive,
+        };
+        (w.give_pass(ask, t), stored)
+    }
+
+    // A worker's last event.
+    pub(crate) fn retire(&mut self, table: &PinTable, pass: Pass) -> Ended
+        requires table { table.now ≡ N.table }
+        requires pass { pass.table ≡ N.table }
+        requires left { 1 ≤ pass.known.left }
+        ensures { Follows N.conf (length N.budgets) pass result 0 request.Retire reply.Ended }
+    {
+        lower_laws();
+        let last = table.writer(&mut self.seat, pass);
+        note(&mut self.journal, &last);
+        last.give_ended()
+    }
+
+    // Fetches the value of a key, and pins its block where it is copied outside the lock.
+    pub(crate) fn pin(&mut self, table: &PinTable, pass: Pass, key: &[u8], t: u64) -> Pinned
+        requires table { table.now ≡ N.table }
+        requires pass { pass.table ≡ N.table }
+        requires left { 1 ≤ pass.known.left }
+        requires short { length key.now < 2 ^ 32 }
+        ensures { IsFetched N.conf (length N.budgets) pass t key.now result }
+    {
+        lower_laws();
+        let mut w = table.writer(&mut self.seat, pass);
+        images_are_runs();
+        let look = self.core.look(&mut w, key, t);
+        note(&mut self.journal, &w);
+        let ask = Ask::Fetch(key);
+        match look {
+            Look::Miss => Pinned::Miss(w.give_pass(ask, t)),
+            Look::Scalar(scalar) => Pinned::Scalar(w.give_pass(ask, t), scalar),
+            Look::Hit(at) => Pinned::Hit(w.give_copying(ask, t, at)),
+        }
+    }
+
+    // The pass sees all events so far, those of the ended worker among them.
+    pub(crate) fn learn(&mut self, table: &PinTable, pass: Pass, ended: Ended) -> (Pass, Ended)
+        requires table { table.now ≡ N.table }
+        requires pass { pass.table ≡ N.table }
+        requires other { ended.table ≡ N.table }
+        requires left { 1 ≤ pass.known.left }
+        ensures learns { Learns N.conf (length N.budgets) pass result.0 ended }
+        ensures same { result.1 ≡ ended }
+    {
+        lower_laws();
+        let ended = table.learn(&mut self.seat, ended);
+        let w = table.writer(&mut self.seat, pass);
+        (w.give_seen(), ended)
+    }
+
+    // The journal and the counts, once every worker has ended.
+    pub(crate) fn close(self, table: PinTable, ended: EndedList) -> Closed
+        requires table { table ≡ N.table }
+        requires ended { AllEnded N.table (length N.budgets) ended.ended }
+        ensures { IsClosed N.conf (length N.budgets) ended.ended result }
+    {
+        let Cabinet {
+            seat,
+            journal,
+            core,
+            of: _,
+        } = self;
+        let counts = core.counts();
+        let _words = table.close(seat, ended);
+        Closed { journal, counts }
+    }
+}
+
+// Whether a value was stored.
+fn was_stored(answer: StoreAnswer) -> bool
+    ensures { result ≡ is_stored answer }
+{
+    match answer {
+        StoreAnswer::Stored => true,
+        StoreAnswer::TooLarge | StoreAnswer::Exists | StoreAnswer::NoRoom => false,
+    }
+}

@@ -1,0 +1,19 @@
+//! What the crates below promise.
+
+ghost use Rattle.shared_cache.specs.Laws.{Laws};
+
+use apcu_model::{held_alike, numbered, one_event_more};
+use entry_slots::{standing_laws, window_laws};
+use pin_table::rule_laws;
+
+// Gathers the laws of the crates below that the calls here rest on.
+pub(crate) fn lower_laws()
+    ensures { Laws }
+{
+    rule_laws();
+    window_laws();
+    standing_laws();
+    one_event_more();
+    held_alike();
+    numbered();
+}

@@ -1,0 +1,162 @@
+//! How a cache is opened.
+
+ghost use Rattle.std.specs.Prelude.{◌≡◌, ℕ, ◌<◌, ◌≤◌, [], length, sum, IfOk, IfErr, IfSome, IfNone};
+ghost use Rattle.pin_table.specs.Lists.{fresh};
+ghost use Rattle.shared_cache.specs.Opening.{AreBudgets, MayOpen};
+ghost use Rattle.shared_cache.specs.declared.opening.OpenFault.TheVariants.{BadConf, Memory};
+
+use crate::cabinet::Cabinet;
+use crate::lower::lower_laws;
+use crate::shared::Shared;
+use apcu_model::{Conf, Journal};
+use cache_core::Core;
+use max_tree::MaxRow;
+use pin_table::{EndedList, Passes, PinTable, TableName, WriterSeat};
+use seg_words::VecWords;
+use std::alloc::{AllocError, Global};
+use std::marker::Model;
+
+// The most events that the workers of one cache may make, all together.
+const MOST_EVENTS: u64 = 4_194_304;
+
+// The most workers.
+const MOST_WORKERS: usize = 64;
+
+/// Why a cache was not opened.
+#[derive(Clone, Copy, Debug, PartialEq, Eq)]
+pub enum OpenFault {
+    /// The shape is none that a cache can have; or there are more than 64 budgets, one is 0, or
+    /// their sum is above 4,194,304.
+    BadConf,
+    /// There was not enough memory.
+    Memory,
+}
+
+impl From<AllocError> for OpenFault {
+    ghost from_gives = { λ _ e. e ≡ Memory };
+
+    fn from(_e: AllocError) -> OpenFault {
+        OpenFault::Memory
+    }
+}
+
+// How many events the workers may make, all together; None where these are no budgets.
+fn total(budgets: &[u32]) -> Option<u32>
+    ensures some { IfSome result (λ n. n ≡ sum budgets.now) }
+    ensures good { IfSome result (λ _. AreBudgets budgets.now) }
+    ensures none { IfNone result (AreBudgets budgets.now → ⊥) }
+{
+    let mut events = 0u64;
+    for budget in budgets {
+        if *budget == 0 {
+            return None;
+        }
+        events = events.saturating_add(u64::from(*budget));
+        if events > MOST_EVENTS {
+            return None;
+        }
+    }
+    Some(events as u32)
+}
+
+/// A cache before it is shared. Contracts see its table, its shape, and how many events each worker
+/// may make.
+#[derive(Drop)]
+pub struct Fresh {
+    table: PinTable,
+    seat: WriterSeat,
+    passes: Passes,
+    ended: EndedList,
+    journal: Journal,
+    core: Core,
+}
+
+impl Model for Fresh {
+    ghost use Rattle.cache_core.specs.Caching.{cache_of};
+    ghost use Rattle.shared_cache.specs.Opening.{Opened, IsFresh};
+
+    ghost Value = { Opened };
+
+    ghost view = { λ f. record {
+      table = f.table;
+      conf = (cache_of f.core).conf;
+      budgets = f.seat.desk.book.budgets;
+    } };
+
+    ghost invariant = { λ f. IsFresh (record {
+      table = f.table;
+      conf = (cache_of f.core).conf;
+      budgets = f.seat.desk.book.budgets;
+    }) f.seat f.core f.journal f.passes f.ended };
+}
+
+/// Opens an empty cache of this shape for as many workers as there are budgets: how many events
+/// each may make, its end included.
+///
+/// All memory that the cache ever needs is taken here, but for what is copied out of it.
+pub fn open_cache(alloc: Global, conf: &Conf, budgets: &[u32]) -> Result<Fresh, OpenFault>
+    ensures conf { IfOk result (λ f. f.conf ≡ conf.now) }
+    ensures budgets { IfOk result (λ f. f.budgets ≡ budgets.now) }
+    ensures good { IfOk result (λ _. MayOpen conf.now budgets.now) }
+    ensures bad { IfErr result (λ e. e ≡ BadConf → MayOpen conf.now budgets.now → ⊥) }
+    ensures memory { IfErr result (λ e. e ≡ Memory → MayOpen conf.now budgets.now) }
+{
+    if !conf.good() || budgets.len() > MOST_WORKERS {
+        return Err(OpenFault::BadConf);
+    }
+    let Some(events) = total(budgets) else {
+        return Err(OpenFault::BadConf);
+    };
+    Ok(opened(alloc, conf, budgets, events)?)
+}
+
+// The cache, once nothing but memory speaks against it.
+fn opened(alloc: Global, conf: &Conf, budgets: &[u32], events: u32) -> Result<Fresh, AllocError>
+    requires may { MayOpen conf.now budgets.now }
+    requires events { events ≡ sum budgets.now }
+    ensures conf { IfOk result (λ f. f.conf ≡ conf.now) }
+    ensures budgets { IfOk result (λ f. f.budgets ≡ budgets.now) }
+{
+    lower_laws();
+    let journal = Journal::new(alloc, events)?;
+    let mut words = VecWords::new(alloc, conf.words)?;
+    let gaps = MaxRow::new(alloc, conf.words as usize / 4 + 1)?;
+    let core = Core::format(&mut words, conf, gaps);
+    let (table, seat, passes, ended) = PinTable::new(alloc, words, budgets)?;
+    Ok(Fresh {
+        table,
+        seat,
+        passes,
+        ended,
+        journal,
+        core,
+    })
+}
+
+impl Fresh {
+    /// The cache under a name of its table, shared by all who have it, with a pass for each worker,
+    /// the last one's last, and a list that has room for the ends of all. The cache is empty and no
+    /// worker has seen an event. It takes no memory.
+    pub fn name<N: TableName>(self) -> (Shared<N>, Passes, EndedList)
+        requires table { N.table ≡ self.table }
+        requires conf { N.conf ≡ self.conf }
+        requires budgets { N.budgets ≡ self.budgets }
+        ensures passes { result.1 ≡ fresh N.table N.budgets (length N.budgets) }
+        ensures ended { result.2.ended ≡ [] }
+        ensures room { length N.budgets ≤ result.2.room }
+    {
+        let Fresh {
+            table,
+            seat,
+            passes,
+            ended,
+            journal,
+            core,
+        } = self;
+        (
+            Shared::new(table, Cabinet::new(seat, journal, core)),
+            passes,
+            ended,
+        )
+    }
+}

@@ -1,0 +1,178 @@
+//! The cache that workers share, and how it is opened.
+
+ghost use Rattle.std.specs.Prelude.{◌≡◌, ◌<◌, ◌≤◌, ◌^◌, true, List, length, IfOk};
+ghost use Rattle.php_graph.specs.declared.kind.Kind.{Kind};
+ghost use Rattle.value_image.specs.Image.{IsImageOf};
+ghost use Rattle.apcu_model.specs.declared.request.Request.TheVariants as request;
+ghost use Rattle.apcu_model.specs.declared.request.Reply.TheVariants as reply;
+ghost use Rattle.shared_cache.specs.Follows.{Follows};
+ghost use Rattle.shared_cache.specs.Pinned.{IsFetched};
+ghost use Rattle.shared_cache.specs.Learned.{Learns};
+ghost use Rattle.shared_cache.specs.Closing.{AllEnded, IsClosed};
+
+use crate::cabinet::Cabinet;
+use crate::closed::Closed;
+use crate::pinned::Pinned;
+use php_graph::Graph;
+use pin_table::{Copying, Ended, EndedList, Image, Pass, PinTable, TableName};
+use std::alloc::{AllocError, Global};
+use std::marker::Model;
+use std::sync::{Mutex, Wait};
+use value_image::unpersist;
+
+/// A cache that many workers share. Its table, its shape and its budgets are those of its name.
+///
+/// Each call of a worker takes the worker's pass, waits for the lock, is one event, and gives the
+/// pass back with one event less left. What it answers is what the cache of one thread answers at
+/// the end of the history that the pass has then seen. But for `retire` each leaves the worker at
+/// least one event for its end.
+#[derive(Drop)]
+pub struct Shared<N: TableName> {
+    table: PinTable,
+    lock: Mutex<Cabinet<N>>,
+}
+
+impl<N: TableName> Model for Shared<N> {
+    ghost use Rattle.std.specs.Prelude.{◌≡◌};
+    ghost use Rattle.atomic_table.specs.Seated.{TableId, table_id_coded};
+
+    ghost Value = { TableId };
+
+    ghost coded = { table_id_coded };
+
+    ghost view = { λ s. s.table };
+
+    ghost invariant = { λ s. s.table ≡ N.table };
+}
+
+impl<N: TableName> Shared<N> {
+    pub(crate) fn new(table: PinTable, cabinet: Cabinet<N>) -> Shared<N>
+        requires { table ≡ N.table }
+    {
+        Shared {
+            table,
+            lock: Mutex::new(cabinet),
+        }
+    }
+
+    /// Stores a value under a key at the moment `t`, in seconds, or with `exclusive` only where no
+    /// live row has the key; whether it was stored. `ttl` is in seconds, 0 is no limit.
+    pub fn store<R: Wait>(
+        &self,
+        rt: &R,
+        pass: Pass,
+        key: &[u8],
+        value: &Graph,
+        ttl: u32,
+        exclusive: bool,
+        t: u64,
+    ) -> (Pass, bool)
+        requires table { pass.table ≡ N.table }
+        requires left { 2 ≤ pass.known.left }
+        requires short { length key.now < 2 ^ 32 }
+        ensures { Follows N.conf (length N.budgets) pass result.0 t
+            (request.Store key.now value.now ttl exclusive) (reply.Flag result.1) }
+    {
+        self.lock
+            .lock(rt)
+            .store(&self.table, pass, key, value, ttl, exclusive, t)
+    }
+
+    /// Whether a look-up of the key finds a row at the moment `t`, in seconds. Nothing is counted.
+    pub fn exists<R: Wait>(&self, rt: &R, pass: Pass, key: &[u8], t: u64) -> (Pass, bool)
+        requires table { pass.table ≡ N.table }
+        requires left { 2 ≤ pass.known.left }
+        requires short { length key.now < 2 ^ 32 }
+        ensures { Follows N.conf (length N.budgets) pass result.0 t
+            (request.Exists key.now) (reply.Flag result.1) }
+    {
+        self.lock.lock(rt).exists(&self.table, pass, key, t)
+    }
+
+    /// Deletes the row that a look-up of the key finds at the moment `t`, in seconds; whether it
+    /// finds one.
+    pub fn delete<R: Wait>(&self, rt: &R, pass: Pass, key: &[u8], t: u64) -> (Pass, bool)
+        requires table { pass.table ≡ N.table }
+        requires left { 2 ≤ pass.known.left }
+        requires short { length key.now < 2 ^ 32 }
+        ensures { Follows N.conf (length N.budgets) pass result.0 t
+            (request.Delete key.now) (reply.Flag result.1) }
+    {
+        self.lock.lock(rt).delete(&self.table, pass, key, t)
+    }
+
+    /// Drops all rows at the moment `t`, in seconds, and forgets all that was counted.
+    pub fn clear<R: Wait>(&self, rt: &R, pass: Pass, t: u64) -> Pass
+        requires table { pass.table ≡ N.table }
+        requires left { 2 ≤ pass.known.left }
+        ensures { Follows N.conf (length N.budgets) pass result t request.Clear (reply.Flag true) }
+    {
+        self.lock.lock(rt).clear(&self.table, pass, t)
+    }
+
+    /// Fetches the value of a key at the moment `t`, in seconds. Null, a truth value or an integer
+    /// is answered at once; any other value stays in its block until `copy_out` has copied it. It
+    /// takes no memory.
+    pub fn pin<R: Wait>(&self, rt: &R, pass: Pass, key: &[u8], t: u64) -> Pinned
+        requires table { pass.table ≡ N.table }
+        requires left { 2 ≤ pass.known.left }
+        requires short { length key.now < 2 ^ 32 }
+        ensures { IsFetched N.conf (length N.budgets) pass t key.now result }
+    {
+        self.lock.lock(rt).pin(&self.table, pass, key, t)
+    }
+
+    /// Copies the value that a fetch found, and gives its block free. It waits for nobody, and is no
+    /// event. Without memory for the value the fetch stands all the same, and the block is free.
+    pub fn copy_out(&self, alloc: Global, copying: Copying) -> (Pass, Result<Graph, AllocError>)
+        requires table { copying.table ≡ N.table }
+        requires image { (g : List Kind)
+            × IsImageOf copying.copy.content 0 (length copying.copy.content) g }
+        ensures table { result.0.table ≡ copying.table }
+        ensures known { result.0.known ≡ copying.copy.known }
+        ensures graph { (g : List Kind)
+            → IsImageOf copying.copy.content 0 (length copying.copy.content) g
+            → IfOk result.1 (λ v. v ≡ g) }
+    {
+        let mut copying = copying;
+        let (_, len) = copying.range();
+        let mut image = copying.image(&self.table);
+        let value = unpersist(alloc, &mut image, 0, len);
+        let Image {
+            table: _,
+            copying: _,
+        } = image;
+        (copying.release(&self.table), value)
+    }
+
+    /// Ends a worker: its last event, at the moment 0.
+    pub fn retire<R: Wait>(&self, rt: &R, pass: Pass) -> Ended
+        requires table { pass.table ≡ N.table }
+        requires left { 1 ≤ pass.known.left }
+        ensures { Follows N.conf (length N.budgets) pass result 0 request.Retire reply.Ended }
+    {
+        self.lock.lock(rt).retire(&self.table, pass)
+    }
+
+    /// Has a worker see all events so far, those of a worker that has ended among them. It is no
+    /// event, and the ended one comes back as it was.
+    pub fn learn<R: Wait>(&self, rt: &R, pass: Pass, ended: Ended) -> (Pass, Ended)
+        requires table { pass.table ≡ N.table }
+        requires other { ended.table ≡ N.table }
+        requires left { 1 ≤ pass.known.left }
+        ensures learns { Learns N.conf (length N.budgets) pass result.0 ended }
+        ensures same { result.1 ≡ ended }
+    {
+        self.lock.lock(rt).learn(&self.table, pass, ended)
+    }
+
+    /// Gives the journal and the counts, once every worker has ended. It waits for nobody and takes
+    /// no memory.
+    pub fn close(self, ended: EndedList) -> Closed
+        requires { AllEnded N.table (length N.budgets) ended.ended }
+        ensures { IsClosed N.conf (length N.budgets) ended.ended result }
+    {
+        let Shared { table, lock } = self;
+        lock.into_inner().close(table, ended)
+    }
+}
