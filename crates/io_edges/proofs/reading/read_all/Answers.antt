@@ -1,4 +1,4 @@
-use Rattle.std.proofs.Common.{arith, ◌∙◌, ◌≡◌, ◌+◌, ◌++◌, take, length, refl}
+use Rattle.std.proofs.Common.{arith, sym, ◌∙◌, ◌≡◌, ◌+◌, ◌++◌, take, length, refl}
 use Rattle.std.proofs.lemmas.Grind.{common_steps}
 use Rattle.std.proofs.lemmas.Result.{err_from_is_err_and}
 use Rattle.io_edges.proofs.Bytes.{given_more, taken_more}
@@ -34,16 +34,24 @@ returns-in_err-map_err-in-Took-2-clause-part g c =
     )
 
 pub returns-in_err-buffer-clause-all : goal.returns-in_err-buffer-clause-all
-returns-in_err-buffer-clause-all g c = grind (arith, common_steps)
+returns-in_err-buffer-clause-all g c =
+    let p = err_from_is_err_and c.from_residual.result c.from_residual.ensures.1 in
+    rw p.1 tt
 
 pub returns-in_err-buffer-clause-given : goal.returns-in_err-buffer-clause-given
-returns-in_err-buffer-clause-given g c = grind (arith, common_steps)
+returns-in_err-buffer-clause-given g c =
+    let p = err_from_is_err_and c.from_residual.result c.from_residual.ensures.1 in
+    rw p.1 tt
 
 pub returns-in_err-buffer-clause-end : goal.returns-in_err-buffer-clause-end
-returns-in_err-buffer-clause-end g c = grind (arith, common_steps)
+returns-in_err-buffer-clause-end g c =
+    let p = err_from_is_err_and c.from_residual.result c.from_residual.ensures.1 in
+    rw p.1 tt
 
 pub returns-in_err-buffer-clause-within : goal.returns-in_err-buffer-clause-within
-returns-in_err-buffer-clause-within g c = grind (arith, common_steps)
+returns-in_err-buffer-clause-within g c =
+    let p = err_from_is_err_and c.from_residual.result c.from_residual.ensures.1 in
+    rw p.1 tt
 
 pub returns-in_err-buffer-clause-too_long : goal.returns-in_err-buffer-clause-too_long
 returns-in_err-buffer-clause-too_long g c = grind (arith, common_steps)
@@ -94,7 +102,7 @@ pub returns-in-Took-clause-too_long : goal.returns-in-Took-clause-too_long
 returns-in-Took-clause-too_long g c = grind (arith, common_steps)
 
 pub returns-in-Took-clause-fault : goal.returns-in-Took-clause-fault
-returns-in-Took-clause-fault g c = grind (arith, common_steps)
+returns-in-Took-clause-fault g c = λ h. absurd (cc (h))
 
 pub returns-in-Took-clause-calm : goal.returns-in-Took-clause-calm
 returns-in-Took-clause-calm g c = λ _. c.in-Took.ensures.faults ∙ c.turns.invariant.faults
@@ -156,13 +164,13 @@ pub returns-in-End-clause-within : goal.returns-in-End-clause-within
 returns-in-End-clause-within g c = grind (arith, common_steps)
 
 pub returns-in-End-clause-too_long : goal.returns-in-End-clause-too_long
-returns-in-End-clause-too_long g c = grind (arith, common_steps)
+returns-in-End-clause-too_long g c = λ h. absurd (cc (h))
 
 pub returns-in-End-clause-one_more : goal.returns-in-End-clause-one_more
-returns-in-End-clause-one_more g c = grind (arith, common_steps)
+returns-in-End-clause-one_more g c = λ h. absurd (cc (h))
 
 pub returns-in-End-clause-fault : goal.returns-in-End-clause-fault
-returns-in-End-clause-fault g c = grind (arith, common_steps)
+returns-in-End-clause-fault g c = λ h. absurd (cc (h))
 
 pub returns-in-End-clause-calm : goal.returns-in-End-clause-calm
 returns-in-End-clause-calm g c = λ _. c.in-End.ensures.faults ∙ c.turns.invariant.faults
@@ -186,16 +194,16 @@ pub returns-in-Failed-clause-within : goal.returns-in-Failed-clause-within
 returns-in-Failed-clause-within g c = tt
 
 pub returns-in-Failed-clause-too_long : goal.returns-in-Failed-clause-too_long
-returns-in-Failed-clause-too_long g c = grind (arith, common_steps)
+returns-in-Failed-clause-too_long g c = λ h. absurd (cc (h))
 
 pub returns-in-Failed-clause-one_more : goal.returns-in-Failed-clause-one_more
-returns-in-Failed-clause-one_more g c = grind (arith, common_steps)
+returns-in-Failed-clause-one_more g c = λ h. absurd (cc (h))
 
 pub returns-in-Failed-clause-fault : goal.returns-in-Failed-clause-fault
-returns-in-Failed-clause-fault g c = grind (arith, common_steps)
+returns-in-Failed-clause-fault g c = λ _. rw (sym c.turns.invariant.faults) c.in-Failed.ensures.faults.1
 
 pub returns-in-Failed-clause-calm : goal.returns-in-Failed-clause-calm
-returns-in-Failed-clause-calm g c = grind (arith, common_steps)
+returns-in-Failed-clause-calm g c = λ other. absurd (other refl)
 
 pub returns-in-Failed-clause-never_falls : goal.returns-in-Failed-clause-never_falls
 returns-in-Failed-clause-never_falls g c = grind (arith, common_steps)
