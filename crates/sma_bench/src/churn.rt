@@ -1,0 +1,64 @@
+ghost use Rattle.std.specs.Prelude.{◌≡◌, ℕ, ◌<◌, ◌≤◌, false, length};
+ghost use Rattle.seg_words.specs.Windows.{is_named};
+ghost use Rattle.sma_blocks.specs.Live.{live_blocks};
+ghost use Rattle.sma_blocks.specs.Ready.{IsReady};
+ghost use Rattle.sma_bench.specs.Listed.{AreListed};
+
+use crate::fill::BLOCK;
+use seg_words::{Segment, fit_laws, gap_laws};
+use sma_blocks::{Sma, block_laws, list_laws};
+
+/// The next number of a linear congruential generator.
+pub fn drawn(state: u64) -> u64 {
+    state
+        .wrapping_mul(6364136223846793005)
+        .wrapping_add(1442695040888963407)
+}
+
+/// Gives a block and takes one of its size, so many times: a random one of the first so many blocks
+/// of the list. Says the state of the random numbers.
+pub fn pairs<S: Segment>(
+    sma: &mut Sma,
+    seg: &mut S,
+    places: &mut Vec<u32>,
+    among: usize,
+    rounds: u32,
+    first: u64,
+) -> u64
+    requires ready { IsReady sma.old (S.words seg.old) (S.aside seg.old) }
+    requires closed { (at : ℕ) → is_named (S.aside seg.old).windows at ≡ false }
+    requires listed { AreListed (live_blocks (S.words seg.old) sma.old.from) places.old.items }
+    ensures ready { IsReady sma.new (S.words seg.new) (S.aside seg.new) }
+    ensures listed { AreListed (live_blocks (S.words seg.new) sma.new.from) places.new.items }
+    ensures aside { S.aside seg.new ≡ S.aside seg.old }
+{
+    let mut state = first;
+    for _ in 0..rounds {
+        state = drawn(state);
+        if among > 0 && among <= places.len() {
+            pair(sma, seg, places, (state >> 33) as usize % among);
+        }
+    }
+    state
+}
+
+// Gives the block of this index, and takes one of its size, which takes its place in the list.
+fn pair<S: Segment>(sma: &mut Sma, seg: &mut S, places: &mut Vec<u32>, index: usize)
+    requires index { index < length places.old.items }
+    requires ready { IsReady sma.old (S.words seg.old) (S.aside seg.old) }
+    requires closed { (at : ℕ) → is_named (S.aside seg.old).windows at ≡ false }
+    requires listed { AreListed (live_blocks (S.words seg.old) sma.old.from) places.old.items }
+    ensures ready { IsReady sma.new (S.words seg.new) (S.aside seg.new) }
+    ensures listed { AreListed (live_blocks (S.words seg.new) sma.new.from) places.new.items }
+    ensures aside { S.aside seg.new ≡ S.aside seg.old }
+{
+    list_laws();
+    block_laws();
+    fit_laws();
+    gap_laws();
+    sma.give(seg, places[index]);
+    match sma.take(seg, BLOCK) {
+        Some(at) => places[index] = at,
+        None => places.clear(),
+    }
+}

@@ -1,0 +1,113 @@
+//! Measures the allocator: `sma_bench GAPS` fills 32 MB of words with blocks and that many gaps, and
+//! prints nanoseconds: of giving a block and taking one of its size, among 64 blocks, among all, and
+//! among all by a walk; and of a `keep` of 64 blocks. Without arguments it does the same over few
+//! words, and prints nothing.
+#![tactic(auto)]
+
+ghost use Rattle.std.specs.Prelude.{◌≡◌, ◌+◌, ◌*◌, ◌%◌, ◌/◌, ◌^◌, ◌<◌, ◌≤◌};
+
+mod churn;
+mod fill;
+mod walk;
+
+use max_tree::MaxRow;
+use seg_words::VecWords;
+use sma_blocks::Sma;
+use std::time::Instant;
+use std::{env, io};
+
+/// How often each kind of pair is measured.
+const TIMES: u32 = 40;
+/// How many pairs are measured at once by the index, and how many by the walk.
+const PAIRS: u32 = 5000;
+
+const WALKS: u32 = 4;
+
+// The nanoseconds since a moment.
+fn since(rt: &HostRuntime, start: Instant) -> io::Result<u64> {
+    let spent = start.elapsed(rt)?.as_nanos();
+    Ok(u64::try_from(spent).unwrap_or(u64::MAX))
+}
+
+// The nanoseconds of a pair near the front, of one anywhere, and of one anywhere by a walk: the best
+// of several times.
+fn measure_pairs(
+    rt: &HostRuntime,
+    words: u32,
+    from: u32,
+    units: u32,
+    every: u32,
+) -> io::Result<[u64; 3]>
+    requires even { (from % 2 ≡ 0) × (words % 4 ≡ 0) }
+    requires room { from + 2 ≤ words }
+    requires every { 1 ≤ every }
+{
+    let row = MaxRow::new(rt.alloc(), words as usize / 4)?;
+    let mut seg = VecWords::new(rt.alloc(), words)?;
+    let mut sma = Sma::format(&mut seg, from, row);
+    let mut places = Vec::new(rt.alloc());
+    let mut near = u64::MAX;
+    let mut far = u64::MAX;
+    let mut walk = u64::MAX;
+    if !fill::lay_out(&mut sma, &mut seg, &mut places, units, every)? {
+        return Ok([near, far, walk]);
+    }
+    let all = places.len();
+    let mut state = 1;
+    for _ in 0..TIMES {
+        let start = Instant::now(rt)?;
+        state = churn::pairs(&mut sma, &mut seg, &mut places, 64, PAIRS, state);
+        near = near.min(since(rt, start)?);
+        let start = Instant::now(rt)?;
+        state = churn::pairs(&mut sma, &mut seg, &mut places, all, PAIRS, state);
+        far = far.min(since(rt, start)?);
+    }
+    for _ in 0..TIMES {
+        let start = Instant::now(rt)?;
+        state = walk::pairs_by_walk(&mut seg, from, places.as_mut_slice(), WALKS, state);
+        walk = walk.min(since(rt, start)?);
+    }
+    Ok([
+        near / u64::from(PAIRS),
+        far / u64::from(PAIRS),
+        walk / u64::from(WALKS),
+    ])
+}
+
+// The nanoseconds of keeping 64 of the blocks.
+fn measure_keep(rt: &HostRuntime, words: u32, from: u32, units: u32, every: u32) -> io::Result<u64>
+    requires even { (from % 2 ≡ 0) × (words % 4 ≡ 0) }
+    requires room { from + 2 ≤ words }
+    requires every { 1 ≤ every }
+{
+    let row = MaxRow::new(rt.alloc(), words as usize / 4)?;
+    let mut seg = VecWords::new(rt.alloc(), words)?;
+    let mut sma = Sma::format(&mut seg, from, row);
+    let mut places = Vec::new(rt.alloc());
+    if !fill::lay_out(&mut sma, &mut seg, &mut places, units, every)? {
+        return Ok(u64::MAX);
+    }
+    let few = fill::every_so_many(rt.alloc(), places.as_slice(), places.len() / 64 + 1)?;
+    if !fill::are_rising(few.as_slice()) {
+        return Ok(u64::MAX);
+    }
+    let start = Instant::now(rt)?;
+    fill::keep_listed(&mut sma, &mut seg, few.as_slice());
+    since(rt, start)
+}
+
+fn main(rt: HostRuntime) -> io::Result<()> {
+    let mut args = env::args(&rt)?;
+    let _program = args.next();
+    let Some(word) = args.next() else {
+        let _pairs = measure_pairs(&rt, 4096, 64, 90, 3)?;
+        let _keep = measure_keep(&rt, 4096, 64, 90, 3)?;
+        return Ok(());
+    };
+    let gaps = word.as_str().parse::<u32>().unwrap_or(0).max(1);
+    let every = (100_000 / gaps).max(1);
+    let [near, far, walk] = measure_pairs(&rt, 4_194_304, 4096, 100_000, every)?;
+    let keep = measure_keep(&rt, 4_194_304, 4096, 100_000, every)?;
+    println!(rt; "{gaps} {near} {far} {walk} {keep}")?;
+    Ok(())
+}
