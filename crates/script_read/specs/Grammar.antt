@@ -54,7 +54,8 @@ effect_of line = effect_by (form_of line.word) line.arguments
 -- The steps of a script's lines, from this moment on. A line that sets the moment leaves no step.
 abbrev pub steps_after : ℕ → (ℕ → Option (List Step)) → Effect → Option (List Step)
 steps_after t others (Sets u) = others u
-steps_after t others (Calls call) = option_map (λ steps. record { t = t; call = call } ∷ steps) (others t)
+steps_after t others (Calls call) =
+    option_map (λ steps. record { t = t; call = call } ∷ steps) (others t)
 
 abbrev pub steps_of : ℕ → List Line → Option (List Step)
 steps_of t [] = Some []

@@ -15,7 +15,8 @@ use Rattle.script_read.specs.declared.script.Step.{Step}
 -- what a call asks, one request after the other; whether the cache is enabled asks nothing
 abbrev pub requests_of : Call → List Request
 requests_of (StoreOne key value ttl exclusive) = requests.Store key value ttl exclusive ∷ []
-requests_of (StoreMany pairs ttl exclusive) = map (λ pair. requests.Store pair.0 pair.1 ttl exclusive) pairs
+requests_of (StoreMany pairs ttl exclusive) =
+    map (λ pair. requests.Store pair.0 pair.1 ttl exclusive) pairs
 requests_of (FetchOne key) = requests.Fetch key ∷ []
 requests_of (FetchMany keys) = map requests.Fetch keys
 requests_of (ExistsOne key) = requests.Exists key ∷ []
@@ -50,12 +51,13 @@ abbrev pub continued : ℕ → (List Reply → Option Wish) → Next → Option 
 continued t later (Asks request) = Some (record { request = request; t = t })
 continued t later (Leaves others) = later others
 
--- A worker's next request after these replies: that of the first call that is not done; after the last
--- call its end, at the moment 0, and then nothing.
+-- A worker's next request after these replies: that of the first call that is not done; after the
+-- last call its end, at the moment 0, and then nothing.
 abbrev pub wanted : Conf → List Step → List Reply → Option Wish
 wanted conf [] [] = Some (record { request = requests.Retire; t = 0 })
 wanted conf [] (reply ∷ replies) = None
-wanted conf (step ∷ steps) replies = continued step.t (wanted conf steps) (next_of conf step.call replies)
+wanted conf (step ∷ steps) replies =
+    continued step.t (wanted conf steps) (next_of conf step.call replies)
 
 -- After some events: what the cache is, and what each worker was answered.
 pub record Play : Type 0 where
@@ -75,30 +77,39 @@ replies_of p worker = unwrap_or (slice_get p.replies worker) []
 
 -- what a worker wants now
 abbrev pub wish_of : Conf → List (List Step) → Play → ℕ → Option Wish
-wish_of conf scripts p worker = option_and_then (λ script. wanted conf script (replies_of p worker)) (script_of scripts worker)
+wish_of conf scripts p worker =
+    option_and_then (λ script. wanted conf script (replies_of p worker)) (script_of scripts worker)
 
 -- a worker's event
 abbrev pub event_of : Mark → Wish → Event
-event_of mark wish = record { worker = mark.worker; t = wish.t; request = wish.request; mask = mark.mask }
+event_of mark wish = record {
+  worker = mark.worker;
+  t = wish.t;
+  request = wish.request;
+  mask = mark.mask;
+}
 
 -- the play after an event, which is answered by the cache of one thread
 abbrev pub after_wish : Play → Mark → Wish → Play
 after_wish p mark wish = record {
   stage = after_event p.stage (event_of mark wish);
-  replies = slice_set p.replies mark.worker (replies_of p mark.worker ++ reply_in p.stage (event_of mark wish) ∷ []);
+  replies = slice_set p.replies mark.worker
+      (replies_of p mark.worker ++ reply_in p.stage (event_of mark wish) ∷ []);
 }
 
 -- the play after one more mark: its worker wants something, and its mask is legal
 abbrev pub marked : Conf → List (List Step) → Play → Mark → Option Play
 marked conf scripts p mark =
     if is_legal_mask (length scripts) mark.worker p.stage mark.mask
-    then option_and_then (λ wish. Some (after_wish p mark wish)) (wish_of conf scripts p mark.worker)
+    then option_and_then (λ wish. Some (after_wish p mark wish))
+    (wish_of conf scripts p mark.worker)
     else None
 
 -- the play of a journal, where each of its marks can be played
 abbrev pub played_from : Conf → List (List Step) → Play → List Mark → Option Play
 played_from conf scripts p [] = Some p
-played_from conf scripts p (mark ∷ marks) = option_and_then (λ q. played_from conf scripts q marks) (marked conf scripts p mark)
+played_from conf scripts p (mark ∷ marks) =
+    option_and_then (λ q. played_from conf scripts q marks) (marked conf scripts p mark)
 
 abbrev pub played : Conf → List (List Step) → List Mark → Option Play
 played conf scripts journal = played_from conf scripts (nothing_played conf scripts) journal
@@ -111,7 +122,8 @@ IsLegal conf scripts journal = IsSome (played conf scripts journal)
 abbrev pub are_done : Conf → List (List Step) → List (List Reply) → Bool
 are_done conf [] replies = true
 are_done conf (script ∷ scripts) [] = false
-are_done conf (script ∷ scripts) (replies ∷ others) = is_none (wanted conf script replies) && are_done conf scripts others
+are_done conf (script ∷ scripts) (replies ∷ others) =
+    is_none (wanted conf script replies) && are_done conf scripts others
 
 -- after a legal journal no worker wants anything
 abbrev pub is_complete_play : Conf → List (List Step) → Option Play → Bool
@@ -119,4 +131,5 @@ is_complete_play conf scripts None = false
 is_complete_play conf scripts (Some p) = are_done conf scripts p.replies
 
 abbrev pub IsComplete : Conf → List (List Step) → List Mark → Type 0
-IsComplete conf scripts journal = IsTrue (is_complete_play conf scripts (played conf scripts journal))
+IsComplete conf scripts journal =
+    IsTrue (is_complete_play conf scripts (played conf scripts journal))

@@ -35,7 +35,10 @@ behind_word line = drop (word_len line) line
 -- A space before an argument that is due. A line that ends there lacks it.
 unfoldable pub space_at : List ℕ → Result (List ℕ) Fault
 space_at [] = fail reasons.End []
-space_at (b ∷ rest) = if b == 32 then Ok rest else if b == 10 then fail reasons.Argument (b ∷ rest) else fail reasons.Separator (b ∷ rest)
+space_at (b ∷ rest) =
+    if b == 32 then Ok rest
+    else if b == 10 then fail reasons.Argument (b ∷ rest)
+    else fail reasons.Separator (b ∷ rest)
 
 -- an argument too many, whatever it is
 abbrev pub one_more_at : List ℕ → Result (List ℕ) Fault
@@ -45,7 +48,10 @@ one_more_at (b ∷ rest) = fail reasons.Argument (b ∷ rest)
 -- the end of the line
 unfoldable pub end_at : List ℕ → Result (List ℕ) Fault
 end_at [] = fail reasons.End []
-end_at (b ∷ rest) = if b == 10 then Ok rest else if b == 32 then one_more_at rest else fail reasons.Separator (b ∷ rest)
+end_at (b ∷ rest) =
+    if b == 10 then Ok rest
+    else if b == 32 then one_more_at rest
+    else fail reasons.Separator (b ∷ rest)
 
 abbrev pub ends_here : List ℕ → Bool
 ends_here [] = false
@@ -65,12 +71,16 @@ choice_at choose argument = reading_of argument >>= λ v. chosen (choose v.0) ar
 abbrev pub argument_at : {A : Type 0} → (List Kind → Option A) → List ℕ → Result (A × List ℕ) Fault
 argument_at choose bytes = space_at bytes >>= λ argument. choice_at choose argument
 
-abbrev pub optional_at : {A : Type 0} → A → (List Kind → Option A) → List ℕ → Result (A × List ℕ) Fault
-optional_at default choose bytes = if ends_here bytes then Ok (default, bytes) else argument_at choose bytes
+abbrev pub optional_at : {A : Type 0}
+    → A → (List Kind → Option A) → List ℕ → Result (A × List ℕ) Fault
+optional_at default choose bytes =
+    if ends_here bytes then Ok (default, bytes) else argument_at choose bytes
 
 -- an argument that is due, and the end of the line behind it
-abbrev pub last_argument_at : {A : Type 0} → (List Kind → Option A) → List ℕ → Result (A × List ℕ) Fault
-last_argument_at choose bytes = argument_at choose bytes >>= λ x. end_at x.1 >>= λ rest. Ok (x.0, rest)
+abbrev pub last_argument_at : {A : Type 0}
+    → (List Kind → Option A) → List ℕ → Result (A × List ℕ) Fault
+last_argument_at choose bytes =
+    argument_at choose bytes >>= λ x. end_at x.1 >>= λ rest. Ok (x.0, rest)
 
 -- ---- lines
 
@@ -83,12 +93,14 @@ rest_at (Need next) last bytes = do
   rest_at (next v.0) argument v.1
 rest_at (May short next) last bytes =
     if ends_here bytes then rest_at short last bytes
-    else (space_at bytes >>= λ argument. reading_of argument >>= λ v. rest_at (next v.0) argument v.1)
+    else (space_at bytes >>= λ argument.
+    reading_of argument >>= λ v. rest_at (next v.0) argument v.1)
 rest_at (Refuse reason) last bytes = fail reason last
 
 -- the line `worker`, where so many scripts have begun
 abbrev pub worker_at : ℕ → List ℕ → Result (List ℕ) Fault
-worker_at begun line = if nat_lt begun most_workers then end_at (behind_word line) else fail reasons.Unbuilt line
+worker_at begun line =
+    if nat_lt begun most_workers then end_at (behind_word line) else fail reasons.Unbuilt line
 
 -- before the first `worker`: what is refused anyway stays so
 abbrev pub before_worker : Form → Form
@@ -114,16 +126,20 @@ Rest = List Step × List (List Step)
 
 abbrev pub with_effect : ℕ → (ℕ → Result Rest Fault) → Effect → Result Rest Fault
 with_effect t others (Sets u) = others u
-with_effect t others (Calls call) = others t >>= λ more. Ok (record { t = t; call = call } ∷ more.0, more.1)
+with_effect t others (Calls call) =
+    others t >>= λ more. Ok (record { t = t; call = call } ∷ more.0, more.1)
 
--- The lines up to the end of the bytes, at most so many, where so many scripts have begun, from this moment on.
+-- The lines up to the end of the bytes, at most so many, where so many scripts have begun, from
+-- this moment on.
 unfoldable pub lines_at : ℕ → ℕ → ℕ → List ℕ → Result Rest Fault
 lines_at lines begun t [] = Ok ([], [])
 lines_at zero begun t (b ∷ rest) = Ok ([], [])
 lines_at (suc lines) begun t (b ∷ rest) =
     if is_worker (b ∷ rest)
-    then (worker_at begun (b ∷ rest) >>= λ after. lines_at lines (suc begun) 0 after >>= λ more. Ok ([], more.0 ∷ more.1))
-    else (line_at begun (b ∷ rest) >>= λ e. with_effect t (λ u. lines_at lines begun u e.1) e.0)
+    then (worker_at begun (b ∷ rest) >>= λ after.
+    lines_at lines (suc begun) 0 after >>= λ more. Ok ([], more.0 ∷ more.1))
+    else (line_at begun (b ∷ rest) >>= λ e.
+    with_effect t (λ u. lines_at lines begun u e.1) e.0)
 
 -- All of the bytes. Each line takes a byte at least, so there are no more of them than bytes.
 unfoldable pub scripts_at : List ℕ → Result (List (List Step)) Fault

@@ -32,7 +32,8 @@ impl Model for Script {
 
     ghost view = { λ s. s.steps.items };
 
-    ghost invariant = { λ s. (length s.steps.items < 2 ^ 32) × AllByRecursion IsInTime s.steps.items };
+    ghost invariant = { λ s.
+        (length s.steps.items < 2 ^ 32) × AllByRecursion IsInTime s.steps.items };
 }
 
 impl Script {
