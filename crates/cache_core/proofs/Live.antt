@@ -8,6 +8,7 @@ use Rattle.apcu_model.specs.Expiry.{is_hard_expired}
 use Rattle.apcu_model.specs.Rows.{are_apart}
 use Rattle.seg_words.specs.declared.segment.WordsIn.{Ghosts}
 use Rattle.entry_slots.specs.declared.head.Head.{Head}
+use Rattle.entry_slots.specs.declared.spots.Spot.{Spot}
 use Rattle.apcu_model.specs.Cache.{Cache}
 use Rattle.apcu_model.specs.Expiry.{live_row}
 use Rattle.entry_slots.specs.Facts.{IsSound}
@@ -62,3 +63,9 @@ pub old_found : {X R : Type 0} {gh : Ghosts X R} {seg : X} {key : List ℕ} {t a
     → IsOld s key at
 old_found {key = key} {at = at} {s = s} f same sound =
     old_is key at sound (sym (ap (λ rows. option_map (λ (row : Row). row.place) (find (has_key key) rows)) same ∙ (ap (option_map (λ (row : Row). row.place)) f.first ∙ ap (λ n. Some n) f.place)))
+
+-- whether one is found at a spot
+pub spot_found : {X R : Type 0} (gh : Ghosts X R) (seg : X) (key : List ℕ) (t : ℕ) (c : Cache) (r : Option Spot) → IfSome r (λ spot. (head : Head) × IsFound gh seg key t c spot.at head) → IfNone r (live_row key t c ≡ None)
+    → is_some r ≡ is_some (live_row key t c)
+spot_found gh seg key t c None some none = ap is_some (sym none)
+spot_found gh seg key t c (Some spot) some none = ap is_some (sym some.1.live)

@@ -1,5 +1,5 @@
 -- The old row of a key is dropped where a new one is put.
-use Rattle.std.proofs.Common.{◌≡◌, ◌⊎◌, inl, inr, ℕ, ◌<◌, ◌≤◌, ◌%◌, ◌==◌, Bool, true, false, cond, not, ◌&&◌, ◌||◌, List, [], ◌∷◌, ◌++◌, length, map, filter, find, Option, Some, None, refl, sym, ap, ◌∙◌, subst, arith}
+use Rattle.std.proofs.Common.{◌≡◌, ◌≢◌, ◌⊎◌, inl, inr, ℕ, ◌<◌, ◌≤◌, ◌%◌, ◌==◌, Bool, true, false, cond, not, ◌&&◌, ◌||◌, List, [], ◌∷◌, ◌++◌, length, map, filter, find, Option, Some, None, refl, sym, ap, ◌∙◌, subst, arith}
 use Rattle.std.specs.Prelude.{option_map}
 use Rattle.std.proofs.lemmas.Bool.{and_parts, or_parts, or_left, or_right, eqb-true, eq-eqb, false≢true, false_from_ne_true, not-true}
 use Rattle.std.specs.List.{Contains, list_any, count_by}
@@ -19,7 +19,7 @@ use Rattle.apcu_model.specs.Expiry.{is_expired}
 use Rattle.apcu_model.specs.Rows.{are_apart}
 use Rattle.apcu_model.specs.Walk.{slot_of, is_in_slot, in_slot_order}
 use Rattle.entry_slots.specs.Lists.{is_at, has_place, only_at, without_place}
-use Rattle.entry_slots.specs.Entries.{Entries, entries_of, chain_of, with_taken, linked, fresh_row, freed_at, removed_at}
+use Rattle.entry_slots.specs.Entries.{Entries, entries_of, chain_of, with_taken, linked, fresh_row, freed_at, removed_at, found_place, old_place}
 use Rattle.entry_slots.specs.Facts.{IsSound}
 use Rattle.ttl_expunge.specs.Held.{AreRemoved, AreHeld, KeepsOpen, Drops}
 use Rattle.ttl_expunge.specs.Dropping.{dropped_in, dropped_rows}
@@ -109,6 +109,25 @@ none_is s key h = go (find (has_key key) s.rows) h
     go : (r : Option Row) → None ≡ option_map (λ (row : Row). row.place) r → r ≡ None
     go None q = refl
     go (Some row) q = absurd (cc q)
+
+-- the spot of a key is at its row ..
+pub spot_some : (s : Entries) (key : List ℕ) (at : ℕ) → at ≡ old_place key s → at ≢ 0 → Some at ≡ option_map (λ (row : Row). row.place) (find (has_key key) s.rows)
+spot_some s key at is some = go (find (has_key key) s.rows) is
+  where
+    go : (r : Option Row) → at ≡ found_place r → Some at ≡ option_map (λ (row : Row). row.place) r
+    go None q = absurd (some q)
+    go (Some row) q = ap Some q
+
+-- .. or no row has the key
+pub spot_none : {s : Entries} {words windows : List ℕ} (key : List ℕ) (at : ℕ) → IsSound s words windows → at ≡ old_place key s → at ≡ 0 → find (has_key key) s.rows ≡ None
+spot_none {s} {words} {windows} key at sound is none = go (find (has_key key) s.rows) refl is
+  where
+    go : (r : Option Row) → find (has_key key) s.rows ≡ r → at ≡ found_place r → find (has_key key) s.rows ≡ None
+    go None e q = e
+    go (Some row) e q =
+        let c : Contains s.rows row = (one_found key s.rows row sound.apart e).1 in
+        let zero' : has_place 0 s.rows ≡ true = subst (λ n. has_place n s.rows ≡ true) (sym q ∙ none) (place_there s.rows row c) in
+        absurd (false≢true (sym sound.placed ∙ (list_any-append (is_at 0) s.rows s.removed ∙ or_left (has_place 0 s.rows) (has_place 0 s.removed) zero')))
 
 -- where no row has the key
 pub replaces_none : {s new : Entries} {before after : Aside} (at : ℕ) (key : List ℕ) (graph : List Kind) (ttl t : ℕ) → find (has_key key) s.rows ≡ None → after ≡ before → AreRemoved before s.removed

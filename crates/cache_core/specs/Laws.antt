@@ -14,18 +14,33 @@ use Rattle.ttl_expunge.specs.Dropping.{dropped_in, dropped_rows}
 use Rattle.ttl_expunge.specs.Held.{AreHeld, KeepsOpen, Drops}
 
 pub record Laws : Type 0 where
-  -- of all entries that stand: no place is there twice, no two rows have one key, and each block may be probed
-  pub sound : (e : EntrySlots) (words : List ℕ) (aside : Aside) (s : Entries) → Stands e words aside s → IsSound s words aside.windows
+  -- of all entries that stand: no place is there twice, no two rows have one key, and each block
+  -- may be probed
+  pub sound : (e : EntrySlots) (words : List ℕ) (aside : Aside) (s : Entries)
+      → Stands e words aside s → IsSound s words aside.windows
   -- what was dropped is so by the blocks that are held later, in the order of a cache
-  pub later : (s new : Entries) (before after later : Aside) (t : ℕ) (gone : List Row) → Drops s new before after t gone → Goes after later → new ≡ dropped_rows (held_blocks later) t gone s
-  pub order : (s : Entries) (words windows held : List ℕ) (t : ℕ) (pass : Row → Bool) → IsSound s words windows → dropped_rows held t (in_slot_order s.conf (filter pass s.rows)) s ≡ dropped_in held t pass s
+  pub later : (s new : Entries) (before after later : Aside) (t : ℕ) (gone : List Row)
+      → Drops s new before after t gone → Goes after later
+      → new ≡ dropped_rows (held_blocks later) t gone s
+  pub order : (s : Entries) (words windows held : List ℕ) (t : ℕ) (pass : Row → Bool)
+      → IsSound s words windows
+      → dropped_rows held t (in_slot_order s.conf (filter pass s.rows)) s ≡ dropped_in held t pass s
   -- the rows under open windows stay, and removed rows that are held stay so
-  pub keeps : (s new : Entries) (words windows : List ℕ) (before after : Aside) (t : ℕ) (gone : List Row) → IsSound s words windows
-      → ((row : Row) → Contains gone row → Contains s.rows row) → Drops s new before after t gone → KeepsOpen after.windows s new
-  pub held : (s new : Entries) (before after : Aside) (t : ℕ) (gone : List Row) → Drops s new before after t gone → AreHeld before s.removed → AreHeld after new.removed
-  pub joined : (old mid new : Entries) (between after : Aside) → Goes between after → KeepsOpen between.windows old mid → KeepsOpen after.windows mid new → KeepsOpen after.windows old new
+  pub keeps : (s new : Entries) (words windows : List ℕ) (before after : Aside) (t : ℕ)
+      (gone : List Row) → IsSound s words windows
+      → ((row : Row) → Contains gone row → Contains s.rows row)
+      → Drops s new before after t gone → KeepsOpen after.windows s new
+  pub held : (s new : Entries) (before after : Aside) (t : ℕ) (gone : List Row)
+      → Drops s new before after t gone → AreHeld before s.removed → AreHeld after new.removed
+  pub joined : (old mid new : Entries) (between after : Aside) → Goes between after
+      → KeepsOpen between.windows old mid → KeepsOpen after.windows mid new
+      → KeepsOpen after.windows old new
   -- rows of one slot are visited in their own order
-  pub single : (conf : Conf) (rows : List Row) (slot : ℕ) → slot < conf.slots → ((row : Row) → Contains rows row → slot_of conf row.key ≡ slot) → in_slot_order conf rows ≡ rows
+  pub single : (conf : Conf) (rows : List Row) (slot : ℕ) → slot < conf.slots
+      → ((row : Row) → Contains rows row → slot_of conf row.key ≡ slot)
+      → in_slot_order conf rows ≡ rows
   -- what room does to the counts
-  pub kept : (held : List ℕ) (n t : ℕ) (c : Cache) → is_expunged held n t c ≡ false → KeepsCounts c (with_room held n t c)
-  pub forgotten : (held : List ℕ) (n t : ℕ) (c : Cache) → is_expunged held n t c ≡ true → ForgetsCounts c (with_room held n t c)
+  pub kept : (held : List ℕ) (n t : ℕ) (c : Cache) → is_expunged held n t c ≡ false
+      → KeepsCounts c (with_room held n t c)
+  pub forgotten : (held : List ℕ) (n t : ℕ) (c : Cache) → is_expunged held n t c ≡ true
+      → ForgetsCounts c (with_room held n t c)

@@ -35,7 +35,8 @@ look_of None = look.Miss
 look_of (Some row) = look_at row.place (scalar_of row.graph)
 
 -- A look-up of the key finds the row at `at`, and this is what its first words say.
-pub record IsFound {X R : Type 0} (g : Ghosts X R) (seg : X) (key : List ℕ) (t : ℕ) (c : Cache) (at : ℕ) (head : Head) : Type 0 where
+pub record IsFound {X R : Type 0} (g : Ghosts X R) (seg : X) (key : List ℕ) (t : ℕ) (c : Cache)
+    (at : ℕ) (head : Head) : Type 0 where
   pub row : Row
   pub live : live_row key t c ≡ Some row
   pub first : find (has_key key) c.rows ≡ Some row

@@ -12,11 +12,11 @@ use entry_slots::EntrySlots;
 use max_tree::MaxRow;
 use seg_words::{Segment, WordsIn};
 
-/// The cache over the words of a segment. It keeps what stands beside them: the entries, the shape and what is
-/// counted. No call takes memory.
+/// The cache over the words of a segment. It keeps what stands beside them: the entries, the shape
+/// and what is counted. No call takes memory.
 ///
-/// Contracts see it as the cache of one thread (`cache_of`), by the blocks that are held as the call leaves the
-/// segment's windows and mask.
+/// Contracts see it as the cache of one thread (`cache_of`), by the blocks that are held as the
+/// call leaves the segment's windows and mask.
 #[derive(Drop)]
 pub struct Core {
     pub(crate) slots: EntrySlots,

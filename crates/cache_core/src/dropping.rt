@@ -13,11 +13,11 @@ use crate::cache::Core;
 use crate::lower::lower_laws;
 use crate::tally::Tally;
 use seg_words::Segment;
-use ttl_expunge::{drop_row, expunge_at_once};
+use ttl_expunge::{drop_row_at, expunge_at_once};
 
 impl Core {
-    /// Deletes the row that a look-up of the key at the moment `t`, in seconds, finds; whether it finds one. A row
-    /// whose own time is over is not found and stays.
+    /// Deletes the row that a look-up of the key at the moment `t`, in seconds, finds; whether it
+    /// finds one. A row whose own time is over is not found and stays.
     pub fn delete<S: Segment>(&mut self, seg: &mut S, key: &[u8], t: u64) -> bool
         requires short { length key.now < 2 ^ 32 }
         requires stand { CacheStands S.WordsIn self.old seg.old }
@@ -35,10 +35,11 @@ impl Core {
         ensures rest { S.rest seg.new ≡ S.rest seg.old }
     {
         lower_laws();
-        let Some((at, _head)) = self.find_live(seg, key, t) else {
+        let slot = self.slots.slot_of_key(key);
+        let Some(spot) = self.find_spot(seg, key, slot, t) else {
             return false;
         };
-        drop_row(&mut self.slots, seg, at, t);
+        drop_row_at(&mut self.slots, seg, spot, t);
         true
     }
 

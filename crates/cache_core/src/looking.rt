@@ -1,16 +1,21 @@
 //! Look-ups.
 
-ghost use Rattle.std.specs.Prelude.{◌≡◌, ℕ, ◌<◌, ◌^◌, true, length, is_some, option_map, IfSome, IfNone, IfOk, None};
+ghost use Rattle.std.specs.Prelude.{◌≡◌, ℕ, ◌<◌, ◌^◌, true, length, None};
+ghost use Rattle.std.specs.Prelude.{is_some, option_map, IfSome, IfNone, IfOk};
 ghost use Rattle.seg_words.specs.Kept.{Kept, KeptBeside};
 ghost use Rattle.apcu_model.specs.Cache.{Row};
 ghost use Rattle.apcu_model.specs.Expiry.{live_row, is_hard_expired};
 ghost use Rattle.apcu_model.specs.Sequential.{looked_up};
+ghost use Rattle.apcu_model.specs.Walk.{slot_of};
+ghost use Rattle.entry_slots.specs.declared.head.Head.{Head};
+ghost use Rattle.entry_slots.specs.Spots.{IsSpot};
+ghost use Rattle.entry_slots.specs.Standing.{entries};
 ghost use Rattle.cache_core.specs.Caching.{cache_of, CacheStands};
 ghost use Rattle.cache_core.specs.Looking.{look_at, look_of, IsFound};
 
 use crate::cache::Core;
 use crate::scalar::{Look, Scalar, read_scalar};
-use entry_slots::{Head, standing_laws};
+use entry_slots::{Head, Spot, standing_laws};
 use php_graph::Graph;
 use seg_words::{Segment, WordsIn};
 use std::alloc::{AllocError, Global};
@@ -60,6 +65,46 @@ impl Core {
         Some((at, head))
     }
 
+    // Where the row stands that a look-up of the key finds; `slot` is the key's.
+    pub(crate) fn find_spot<S: Segment>(
+        &self,
+        seg: &mut S,
+        key: &[u8],
+        slot: u32,
+        t: u64,
+    ) -> Option<Spot>
+        requires short { length key.now < 2 ^ 32 }
+        requires slot { slot ≡ slot_of self.now.conf key.now }
+        requires stand { CacheStands S.WordsIn self.now seg.old }
+        ensures found { IfSome result (λ spot. (head : Head)
+            × IsFound S.WordsIn seg.old key.now t (cache_of self.now) spot.at head) }
+        ensures spot { IfSome result (λ spot. IsSpot (entries self.now.slots) t spot) }
+        ensures none { IfNone result (live_row key.now t (cache_of self.now) ≡ None) }
+        ensures kept { Kept S.WordsIn seg.old seg.new }
+    {
+        standing_laws();
+        let spot = self.slots.seek(seg, key, slot, self.conf.ttl, t);
+        if spot.at == 0 {
+            return None;
+        }
+        let head = self.slots.head(seg, spot.at);
+        if is_over(head, t) {
+            return None;
+        }
+        Some(spot)
+    }
+
+    // Whether a look-up of the key finds a row; `slot` is the key's.
+    pub(crate) fn exists_in<S: Segment>(&self, seg: &mut S, key: &[u8], slot: u32, t: u64) -> bool
+        requires short { length key.now < 2 ^ 32 }
+        requires slot { slot ≡ slot_of self.now.conf key.now }
+        requires stand { CacheStands S.WordsIn self.now seg.old }
+        ensures found { result ≡ is_some (live_row key.now t (cache_of self.now)) }
+        ensures kept { Kept S.WordsIn seg.old seg.new }
+    {
+        self.find_spot(seg, key, slot, t).is_some()
+    }
+
     /// Whether a look-up of the key at the moment `t`, in seconds, finds a row. Nothing is counted.
     pub fn exists<S: Segment>(&self, seg: &mut S, key: &[u8], t: u64) -> bool
         requires short { length key.now < 2 ^ 32 }
@@ -70,8 +115,9 @@ impl Core {
         self.find_live(seg, key, t).is_some()
     }
 
-    /// Looks a key up at the moment `t`: a row that is found is used and counts a hit, else a miss is counted. A
-    /// row whose own time is over is not found; one that is only stale by the cache's limit is, and is fresh again.
+    /// Looks a key up at the moment `t`: a row that is found is used and counts a hit, else a miss
+    /// is counted. A row whose own time is over is not found; one that is only stale by the cache's
+    /// limit is, and is fresh again.
     pub fn look<S: Segment>(&mut self, seg: &mut S, key: &[u8], t: u64) -> Look
         requires short { length key.now < 2 ^ 32 }
         requires stand { CacheStands S.WordsIn self.old seg.old }
@@ -92,8 +138,8 @@ impl Core {
         answer(at, scalar)
     }
 
-    /// Fetches the value of a key at the moment `t`, as `look` does. Where memory is missing for the value, the
-    /// look-up still stands: the row was used, and a hit is counted.
+    /// Fetches the value of a key at the moment `t`, as `look` does. Where memory is missing for
+    /// the value, the look-up still stands: the row was used, and a hit is counted.
     pub fn fetch<S: Segment>(
         &mut self,
         alloc: Global,

@@ -1,18 +1,21 @@
 //! A new row in a block that was taken for it.
 
 ghost use Rattle.std.specs.Prelude.{◌≡◌, ◌<◌, ◌^◌, length, Contains};
+ghost use Rattle.apcu_model.specs.Walk.{slot_of};
 ghost use Rattle.entry_slots.specs.Entries.{block_for};
+ghost use Rattle.entry_slots.specs.Spots.{IsSpotOf};
 ghost use Rattle.entry_slots.specs.Standing.{Stand, entries};
 ghost use Rattle.ttl_expunge.specs.Held.{AreRemoved};
 ghost use Rattle.cache_core.specs.Placing.{Replaces, Puts};
 
 use crate::lower::lower_laws;
-use entry_slots::EntrySlots;
-use php_graph::{Graph, hash_of};
+use entry_slots::{EntrySlots, Spot};
+use php_graph::Graph;
 use seg_words::Segment;
-use ttl_expunge::{is_let_go, sweep_chain};
+use ttl_expunge::{is_let_go, seek_swept};
 
-// A new row in the block at `at`, in the place of the row of its key, which is dropped.
+// A new row in the block at `at`, in the place of the row of its key, which is dropped. That row,
+// or the end of its chain, is at the spot.
 fn replace<S: Segment>(
     slots: &mut EntrySlots,
     seg: &mut S,
@@ -21,10 +24,12 @@ fn replace<S: Segment>(
     g: &Graph,
     ttl: u32,
     t: u64,
+    spot: Spot,
 )
     requires stand { Stand S.WordsIn slots.old seg.old }
     requires short { length key.now < 2 ^ 32 }
     requires taken { Contains (entries slots.old).taken (block_for at key.now g.now) }
+    requires spot { IsSpotOf (entries slots.old) key.now t spot }
     requires refused { AreRemoved (S.aside seg.old) (entries slots.old).removed }
     ensures replaces { Replaces (entries slots.old) (entries slots.new)
         (S.aside seg.old) (S.aside seg.new) at key.now g.now ttl t }
@@ -32,26 +37,28 @@ fn replace<S: Segment>(
     ensures rest { S.rest seg.new ≡ S.rest seg.old }
 {
     lower_laws();
-    let Some(old) = slots.find(seg, key) else {
-        slots.link(seg, at, key, g, ttl, t, 0);
+    let old = spot.at;
+    if old == 0 {
+        slots.link_at(seg, at, key, g, ttl, t, spot);
         return;
-    };
+    }
     let is_free = is_let_go(slots, seg, old);
-    slots.link(seg, at, key, g, ttl, t, old);
+    slots.link_at(seg, at, key, g, ttl, t, spot);
     if is_free {
-        slots.free(seg, old);
+        slots.free_unlinked(seg, old);
     } else {
         slots.to_removed(seg, old, t);
     }
 }
 
-// A new row in the block at `at`, which was taken for it: the expired rows of its slot are dropped, and so is the
-// row of its key, in whose place it stands. `limit` is the cache's time limit.
+// A new row in the block at `at`, which was taken for it: the expired rows of its slot are dropped,
+// and so is the row of its key, in whose place it stands. `limit` is the cache's time limit.
 pub(crate) fn put_in<S: Segment>(
     slots: &mut EntrySlots,
     seg: &mut S,
     at: u32,
     key: &[u8],
+    slot: u32,
     g: &Graph,
     ttl: u32,
     limit: u32,
@@ -59,6 +66,7 @@ pub(crate) fn put_in<S: Segment>(
 )
     requires stand { Stand S.WordsIn slots.old seg.old }
     requires short { length key.now < 2 ^ 32 }
+    requires slot { slot ≡ slot_of (entries slots.old).conf key.now }
     requires limit { limit ≡ (entries slots.old).conf.ttl }
     requires taken { Contains (entries slots.old).taken (block_for at key.now g.now) }
     requires refused { AreRemoved (S.aside seg.old) (entries slots.old).removed }
@@ -68,8 +76,6 @@ pub(crate) fn put_in<S: Segment>(
     ensures rest { S.rest seg.new ≡ S.rest seg.old }
 {
     lower_laws();
-    let end = slots.slots();
-    let slot = (hash_of(key) % u64::from(end)) as u32;
-    sweep_chain(slots, seg, slot, limit, t);
-    replace(slots, seg, at, key, g, ttl, t);
+    let spot = seek_swept(slots, seg, key, slot, limit, t);
+    replace(slots, seg, at, key, g, ttl, t, spot);
 }

@@ -34,7 +34,8 @@ const BOOL: u64 = 1;
 /// The code of an integer.
 const INT: u64 = 2;
 
-// The value of which the image stands from place `at` on, if its first place is null, a truth value or an integer.
+// The value of which the image stands from place `at` on, if its first place is null, a truth value
+// or an integer.
 pub(crate) fn read_scalar<W: WordsIn>(from: &mut W, at: u32, _len: u32) -> Option<Scalar>
     requires image { (g : List Kind) × IsImageOf (W.words from.old) at _len g }
     requires told { (i : ℕ) → at ≤ i → i < at + _len → IsTold (W.aside from.old).windows i }

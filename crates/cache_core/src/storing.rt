@@ -1,12 +1,14 @@
 //! Storing.
 
-ghost use Rattle.std.specs.Prelude.{◌≡◌, ◌≢◌, ℕ, ◌<◌, ◌^◌, ◌-◌, ◌&&◌, nat_lt, false, List, length, is_some, IfSome, IfNone};
+ghost use Rattle.std.specs.Prelude.{◌≡◌, ◌≢◌, ℕ, ◌<◌, ◌^◌, ◌-◌, ◌&&◌, nat_lt, false, List};
+ghost use Rattle.std.specs.Prelude.{length, is_some, IfSome, IfNone};
 ghost use Rattle.seg_words.specs.Kept.{Kept};
 ghost use Rattle.seg_words.specs.Windows.{Aside, has, held_blocks};
 ghost use Rattle.seg_words.specs.Probing.{Goes};
 ghost use Rattle.php_graph.specs.Size.{block_size};
 ghost use Rattle.apcu_model.specs.Change.{inserted, swept};
 ghost use Rattle.apcu_model.specs.Expiry.{live_row};
+ghost use Rattle.apcu_model.specs.Walk.{slot_of};
 ghost use Rattle.entry_slots.specs.Standing.{entries};
 ghost use Rattle.ttl_expunge.specs.Held.{AreRemoved, AreHeld, KeepsOpen};
 ghost use Rattle.cache_core.specs.Caching.{cache_of, CacheStands};
@@ -22,11 +24,12 @@ use seg_words::{Segment, WordsIn};
 use ttl_expunge::{make_room_next, sweep_removed};
 
 impl Core {
-    /// Stores a value at the moment `t`, in seconds. `ttl` is in seconds, 0 is no limit; an `exclusive` store leaves a
-    /// live row as it is. No place may be refused before in this event.
+    /// Stores a value at the moment `t`, in seconds. `ttl` is in seconds, 0 is no limit; an
+    /// `exclusive` store leaves a live row as it is. No place may be refused before in this event.
     ///
-    /// `TooLarge` where the value could not even fit into an empty segment, then `Exists` where an exclusive store
-    /// meets a live row; nothing changed then. `NoRoom` where no gap is large enough, not even after room was made.
+    /// `TooLarge` where the value could not even fit into an empty segment, then `Exists` where an
+    /// exclusive store meets a live row; nothing changed then. `NoRoom` where no gap is large
+    /// enough, not even after room was made.
     pub fn store<S: Segment>(
         &mut self,
         seg: &mut S,
@@ -56,15 +59,16 @@ impl Core {
         ensures rest { S.rest seg.new ≡ S.rest seg.old }
     {
         lower_laws();
-        if let Some(answer) = self.refusal(seg, key, g, exclusive, t) {
+        let slot = self.slots.slot_of_key(key);
+        if let Some(answer) = self.refusal(seg, key, slot, g, exclusive, t) {
             return answer;
         }
         self.sweep(seg);
-        self.add(seg, key, g, ttl, t)
+        self.add(seg, key, slot, g, ttl, t)
     }
 
-    /// Stores a value as `store` does, after an insertion of the same event that answered `Stored` or `NoRoom`: the
-    /// removed rows that it left are held, and none is swept.
+    /// Stores a value as `store` does, after an insertion of the same event that answered `Stored`
+    /// or `NoRoom`: the removed rows that it left are held, and none is swept.
     pub fn store_next<S: Segment>(
         &mut self,
         seg: &mut S,
@@ -94,10 +98,11 @@ impl Core {
         ensures rest { S.rest seg.new ≡ S.rest seg.old }
     {
         lower_laws();
-        if let Some(answer) = self.refusal(seg, key, g, exclusive, t) {
+        let slot = self.slots.slot_of_key(key);
+        if let Some(answer) = self.refusal(seg, key, slot, g, exclusive, t) {
             return answer;
         }
-        self.add(seg, key, g, ttl, t)
+        self.add(seg, key, slot, g, ttl, t)
     }
 
     // Why the value is not stored, though there may be room for it.
@@ -105,11 +110,13 @@ impl Core {
         &self,
         seg: &mut S,
         key: &[u8],
+        slot: u32,
         g: &Graph,
         exclusive: bool,
         t: u64,
     ) -> Option<StoreAnswer>
         requires short { length key.now < 2 ^ 32 }
+        requires slot { slot ≡ slot_of self.now.conf key.now }
         requires stand { CacheStands S.WordsIn self.now seg.old }
         ensures none { IfNone result ((held : List ℕ) (ttl : ℕ)
             → inserted held key.now g.now ttl exclusive t (cache_of self.now)
@@ -129,7 +136,7 @@ impl Core {
         if !exclusive {
             return None;
         }
-        let live = self.exists(seg, key, t);
+        let live = self.exists_in(seg, key, slot, t);
         if live {
             return Some(StoreAnswer::Exists);
         }
@@ -140,6 +147,7 @@ impl Core {
     fn sweep<S: Segment>(&mut self, seg: &mut S)
         requires stand { CacheStands S.WordsIn self.old seg.old }
         requires fresh { (b : ℕ) → has b (S.aside seg.old).refused ≡ false }
+        ensures conf { self.new.conf ≡ self.old.conf }
         ensures later { (later : Aside) → Goes (S.aside seg.new) later
             → cache_of self.new ≡ swept (held_blocks later) (cache_of self.old) }
         ensures goes { Goes (S.aside seg.old) (S.aside seg.new) }
@@ -159,11 +167,13 @@ impl Core {
         &mut self,
         seg: &mut S,
         key: &[u8],
+        slot: u32,
         g: &Graph,
         ttl: u32,
         t: u64,
     ) -> StoreAnswer
         requires short { length key.now < 2 ^ 32 }
+        requires slot { slot ≡ slot_of self.old.conf key.now }
         requires fits { block_size (length key.now) g.now < 2 ^ 32 }
         requires stand { CacheStands S.WordsIn self.old seg.old }
         requires held { AreHeld (S.aside seg.old) (cache_of self.old).removed }
@@ -187,7 +197,7 @@ impl Core {
         let Some(at) = place else {
             return StoreAnswer::NoRoom;
         };
-        put_in(&mut self.slots, seg, at, key, g, ttl, limit, t);
+        put_in(&mut self.slots, seg, at, key, slot, g, ttl, limit, t);
         self.tally = self.tally.after_insert();
         StoreAnswer::Stored
     }

@@ -35,3 +35,5 @@ pub mod Walking
 pub mod There
 pub mod Leaving
 pub mod Emptying
+pub mod Spotting
+pub mod Besides

@@ -8,3 +8,4 @@ pub mod Links
 pub mod Facts
 pub mod Laws
 pub mod Changes
+pub mod Spots

@@ -2,6 +2,7 @@
 #![tactic(auto)]
 
 mod all_rows;
+mod beside;
 mod head;
 mod keys;
 mod laws;
@@ -9,9 +10,11 @@ mod lower;
 mod reading;
 mod removed;
 mod slots;
+mod spots;
 mod standing;
 mod writing;
 
 pub use head::{ATIME, CTIME, DTIME, HITS, Head, MTIME, NEXT, NUMBER, TTL};
 pub use laws::{leaving_laws, place_laws, standing_laws, window_laws};
 pub use slots::EntrySlots;
+pub use spots::Spot;

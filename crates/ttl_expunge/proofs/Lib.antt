@@ -8,3 +8,5 @@ pub mod Expired
 pub mod Open
 pub mod Making
 pub mod Moving
+mod Spotting
+mod Listing

@@ -20,18 +20,22 @@ swept_at held at s = if has at held then s else freed_at at s
 abbrev pub left_of : List Row → List Row → List Row
 left_of gone rows = filter (λ row. not (has_place row.place gone)) rows
 
--- these rows leave the rows, one after the other: those that are held go to the end of the removed ones
+-- these rows leave the rows, one after the other: those that are held go to the end of the
+-- removed ones
 abbrev pub dropped_rows : List ℕ → ℕ → List Row → Entries → Entries
 dropped_rows held t gone s = record s {
   rows = left_of gone s.rows;
-  removed = s.removed ++ map {A = Row} (λ row. record row { dtime = t }) (filter (is_held held) gone);
+  removed = s.removed
+      ++ map {A = Row} (λ row. record row { dtime = t }) (filter (is_held held) gone);
 }
 
 -- the rows that pass leave the rows, as `dropped` of a cache says
 abbrev pub dropped_in : List ℕ → ℕ → (Row → Bool) → Entries → Entries
 dropped_in held t pass s = record s {
   rows = filter (λ row. not (pass row)) s.rows;
-  removed = s.removed ++ map {A = Row} (λ row. record row { dtime = t }) (filter (is_held held) (in_slot_order s.conf (filter pass s.rows)));
+  removed = s.removed
+      ++ map {A = Row} (λ row. record row { dtime = t })
+      (filter (is_held held) (in_slot_order s.conf (filter pass s.rows)));
 }
 
 -- all rows, in the order in which they are dropped

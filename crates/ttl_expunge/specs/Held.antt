@@ -22,26 +22,29 @@ pub record AreHeld (aside : Aside) (rows : List Row) : Type 0 where
 
 -- the rows under the windows that are open still are there, with their places and numbers
 pub record KeepsOpen (windows : List ℕ) (old new : Entries) : Type 0 where
-  pub each : (row : Row) → Contains (old.rows ++ old.removed) row → is_named windows row.place ≡ true
-      → (kept : Row) × Contains (new.rows ++ new.removed) kept × (kept.place ≡ row.place) × (kept.number ≡ row.number)
+  pub each : (row : Row) → Contains (old.rows ++ old.removed) row
+      → is_named windows row.place ≡ true
+      → (kept : Row) × Contains (new.rows ++ new.removed) kept
+      × (kept.place ≡ row.place) × (kept.number ≡ row.number)
 
--- The removed rows were swept: as the call leaves what is beside the words, those that are held are left.
+-- The removed rows were swept: as the call leaves what is beside the words, those that are held
+-- are left.
 pub record Sweeps (old new : Entries) (before after : Aside) : Type 0 where
   pub swept : new ≡ swept_in (held_blocks after) old
   pub goes : Goes before after
   pub decided : AreDecided after old.removed
   pub refused : AreRemoved after new.removed
 
--- These rows were dropped, one after the other: as the call leaves what is beside the words, those that are held
--- are the last of the removed rows.
+-- These rows were dropped, one after the other: as the call leaves what is beside the words, those
+-- that are held are the last of the removed rows.
 pub record Drops (old new : Entries) (before after : Aside) (t : ℕ) (gone : List Row) : Type 0 where
   pub dropped : new ≡ dropped_rows (held_blocks after) t gone old
   pub goes : Goes before after
   pub decided : AreDecided after gone
   pub refused : AreRemoved after new.removed
 
--- These rows were probed, and those of them that are held were moved to the removed ones. The others are still
--- there, and no window names their blocks.
+-- These rows were probed, and those of them that are held were moved to the removed ones. The
+-- others are still there, and no window names their blocks.
 pub record Moves (old new : Entries) (before after : Aside) (t : ℕ) (seen : List Row) : Type 0 where
   pub drops : Drops old new before after t (filter (is_held (held_blocks after)) seen)
   pub decided : AreDecided after seen

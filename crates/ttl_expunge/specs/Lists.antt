@@ -1,5 +1,5 @@
 -- Words on lists of rows.
-use Rattle.std.specs.Prelude.{ℕ, if◌then◌else◌, List, [], ◌∷◌}
+use Rattle.std.specs.Prelude.{ℕ, if◌then◌else◌, List, [], ◌∷◌, map}
 use Rattle.apcu_model.specs.Cache.{Row}
 use Rattle.entry_slots.specs.Lists.{is_at}
 
@@ -7,3 +7,7 @@ use Rattle.entry_slots.specs.Lists.{is_at}
 abbrev pub rows_from : ℕ → List Row → List Row
 rows_from at [] = []
 rows_from at (row ∷ rows) = if is_at at row then row ∷ rows else rows_from at rows
+
+-- the places of the rows, in their order
+abbrev pub places_of : List Row → List ℕ
+places_of rows = map {A = Row} (λ row. row.place) rows

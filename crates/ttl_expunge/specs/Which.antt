@@ -7,4 +7,5 @@ use Rattle.ttl_expunge.specs.declared.chains.Which.TheVariants.{All, Expired}
 
 abbrev pub passes : Which → ℕ → Row → Bool
 passes All t row = true
-passes (Expired ttl) t row = is_hard_expired t row || (row.ttl == 0 && nat_lt 0 ttl && nat_lt (row.atime + ttl) t)
+passes (Expired ttl) t row =
+    is_hard_expired t row || (row.ttl == 0 && nat_lt 0 ttl && nat_lt (row.atime + ttl) t)

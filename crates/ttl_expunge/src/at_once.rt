@@ -1,16 +1,19 @@
 //! All rows leave at once: only those that somebody still copies are moved one by one.
 
-ghost use Rattle.std.specs.Prelude.{◌≡◌, ℕ, ◌<◌, true};
+ghost use Rattle.std.specs.Prelude.{◌≡◌, ℕ, ◌<◌, ◌≤◌, true, false, take, IfSome};
+ghost use Rattle.seg_words.specs.Kept.{Kept, KeptBeside};
+ghost use Rattle.seg_words.specs.Windows.{is_named};
 ghost use Rattle.entry_slots.specs.Lists.{has_place, only_at};
-ghost use Rattle.entry_slots.specs.Entries.{IsWhole, chain_of};
+ghost use Rattle.entry_slots.specs.Entries.{IsWhole, chain_of, without_rows};
 ghost use Rattle.ttl_expunge.specs.Dropping.{all_rows};
+ghost use Rattle.ttl_expunge.specs.Lists.{places_of};
 ghost use Rattle.ttl_expunge.specs.Held.{AreRemoved, Drops, Moves};
 ghost use Rattle.entry_slots.specs.Standing.{Stand, entries};
 
 use crate::chains::expunge_all;
 use crate::expunge::is_let_go;
 use entry_slots::{EntrySlots, standing_laws};
-use seg_words::Segment;
+use seg_words::{Segment, WordsIn};
 
 // Moves the row at `at` to the removed ones, if somebody still copies from its block.
 fn move_if_held<S: Segment>(slots: &mut EntrySlots, seg: &mut S, at: u32, t: u64)
@@ -64,8 +67,50 @@ fn move_held<S: Segment>(slots: &mut EntrySlots, seg: &mut S, t: u64)
     }
 }
 
-/// Drops all rows, as `expunge_all` does; no block may be loose. Where nobody copies from a row, and no row is
-/// removed, one gap is left in one step; else the rows go one after the other.
+// Notes the places of the removed rows in the array, in the order of the rows. It answers how many they are, or
+// `None` where the array is too short.
+fn removed_places<S: Segment>(
+    slots: &EntrySlots,
+    seg: &mut S,
+    places: &mut [u32; 64],
+) -> Option<usize>
+    requires stand { Stand S.WordsIn slots.now seg.old }
+    ensures few { IfSome result (λ n. n ≤ 64) }
+    ensures noted { IfSome result (λ n.
+        take n places.new ≡ places_of (entries slots.now).removed) }
+    ensures kept { Kept S.WordsIn seg.old seg.new }
+{
+    standing_laws();
+    let mut at = slots.first_removed();
+    for count in 0..64 {
+        if at == 0 {
+            return Some(count);
+        }
+        places[count] = at;
+        at = slots.after(seg, at);
+    }
+    if at == 0 { Some(64) } else { None }
+}
+
+// Frees all rows beside the removed ones, whose places these are.
+fn free_beside<S: Segment>(slots: &mut EntrySlots, seg: &mut S, places: &mut [u32])
+    requires stand { Stand S.WordsIn slots.old seg.old }
+    requires whole { IsWhole (entries slots.old) }
+    requires places { places.old ≡ places_of (entries slots.old).removed }
+    requires unnamed { (at : ℕ) → has_place at (entries slots.old).rows ≡ true
+        → is_named (S.aside seg.old).windows at ≡ false }
+    ensures freed { entries slots.new ≡ without_rows (entries slots.old) }
+    ensures stand { Stand S.WordsIn slots.new seg.new }
+    ensures beside { KeptBeside S.WordsIn seg.old seg.new }
+{
+    standing_laws();
+    places.sort_unstable();
+    slots.free_rows_beside(seg, places);
+}
+
+/// Drops all rows, as `expunge_all` does; no block may be loose. Only the rows that somebody still copies are moved
+/// one by one; all other words are made gaps in one step. Where more than 64 rows are removed then, as it is only
+/// where nobody swept them, the rows go one after the other.
 pub fn expunge_at_once<S: Segment>(slots: &mut EntrySlots, seg: &mut S, t: u64)
     requires stand { Stand S.WordsIn slots.old seg.old }
     requires whole { IsWhole (entries slots.old) }
@@ -77,9 +122,10 @@ pub fn expunge_at_once<S: Segment>(slots: &mut EntrySlots, seg: &mut S, t: u64)
 {
     standing_laws();
     move_held(slots, seg, t);
-    if slots.first_removed() == 0 {
-        slots.free_rows(seg);
-    } else {
+    let mut places = [0; 64];
+    let Some(count) = removed_places(slots, seg, &mut places) else {
         expunge_all(slots, seg, t);
-    }
+        return;
+    };
+    free_beside(slots, seg, &mut places[..count]);
 }

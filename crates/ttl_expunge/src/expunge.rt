@@ -10,8 +10,9 @@ ghost use Rattle.entry_slots.specs.Standing.{Stand, entries};
 use entry_slots::{EntrySlots, standing_laws, window_laws};
 use seg_words::{Segment, probe_laws};
 
-/// Whether the block of the row or removed row at `at` may be given back, since nobody copies from it any more. It
-/// probes the block: after `false` the block is held in this event, and no later probe changes either answer.
+/// Whether the block of the row or removed row at `at` may be given back, since nobody copies from
+/// it any more. It probes the block: after `false` the block is held in this event, and no later
+/// probe changes either answer.
 pub fn is_let_go<S: Segment>(slots: &EntrySlots, seg: &mut S, at: u32) -> bool
     requires stand { Stand S.WordsIn slots.now seg.old }
     requires there { has_place at (listed (entries slots.now)) ≡ true }
@@ -61,8 +62,8 @@ pub fn sweep_removed<S: Segment>(slots: &mut EntrySlots, seg: &mut S)
     }
 }
 
-/// Drops the row at `at`: it is the last of the removed rows where somebody still copies from its block, and
-/// else it is gone.
+/// Drops the row at `at`: it is the last of the removed rows where somebody still copies from its
+/// block, and else it is gone.
 pub fn drop_row<S: Segment>(slots: &mut EntrySlots, seg: &mut S, at: u32, t: u64)
     requires stand { Stand S.WordsIn slots.old seg.old }
     requires there { has_place at (entries slots.old).rows ≡ true }

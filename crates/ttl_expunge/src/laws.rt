@@ -10,8 +10,9 @@ ghost use Rattle.ttl_expunge.specs.Dropping.{dropped_in, dropped_rows};
 ghost use Rattle.ttl_expunge.specs.Held.{AreHeld, KeepsOpen, Drops};
 ghost use Rattle.entry_slots.specs.Facts.{IsSound};
 
-/// What follows where rows were dropped: it is so by the blocks that are held after later probes of the event, and
-/// in the order of a cache; the rows under open windows stay, and removed rows that are held stay so.
+/// What follows where rows were dropped: it is so by the blocks that are held after later probes of
+/// the event, and in the order of a cache; the rows under open windows stay, and removed rows that
+/// are held stay so.
 pub fn drop_laws()
     ensures later { (s new : Entries) (before after later : Aside) (t : ℕ) (gone : List Row)
         → Drops s new before after t gone → Goes after later

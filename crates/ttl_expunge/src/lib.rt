@@ -1,4 +1,5 @@
-//! How rows leave the entries in a segment, and how room is made, while others may still copy from their blocks.
+//! How rows leave the entries in a segment, and how room is made, while others may still copy from
+//! their blocks.
 #![tactic(auto)]
 
 mod at_once;
@@ -6,9 +7,11 @@ mod chains;
 mod expunge;
 mod laws;
 mod room;
+mod spots;
 
 pub use at_once::expunge_at_once;
 pub use chains::{expunge_all, expunge_expired, sweep_chain};
 pub use expunge::{drop_row, is_let_go, sweep_removed};
 pub use laws::drop_laws;
 pub use room::{make_room, make_room_next};
+pub use spots::{drop_row_at, seek_swept};

@@ -27,8 +27,9 @@ fn drop_expired<S: Segment>(slots: &mut EntrySlots, seg: &mut S, ttl: u32, t: u6
     }
 }
 
-/// Makes room for a block of `n` words and takes it: the removed rows are swept; where no gap is large enough
-/// yet, expired rows go; and where none is even then, all rows. The flag tells whether all rows went.
+/// Makes room for a block of `n` words and takes it: the removed rows are swept; where no gap is
+/// large enough yet, expired rows go; and where none is even then, all rows. The flag tells whether
+/// all rows went.
 pub fn make_room<S: Segment>(
     slots: &mut EntrySlots,
     seg: &mut S,
@@ -50,7 +51,8 @@ pub fn make_room<S: Segment>(
     make_room_next(slots, seg, n, ttl, t)
 }
 
-/// The same in an event in which room was made before: all removed rows are held, and none is swept.
+/// The same in an event in which room was made before: all removed rows are held, and none is
+/// swept.
 pub fn make_room_next<S: Segment>(
     slots: &mut EntrySlots,
     seg: &mut S,

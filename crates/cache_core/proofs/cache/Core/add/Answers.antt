@@ -2,6 +2,8 @@ use Rattle.std.proofs.Common.{◌≡◌, ℕ, Bool, refl, sym, ap, ◌∙◌, su
 use Rattle.seg_words.specs.Windows.{Aside}
 use Rattle.seg_words.specs.Probing.{goes_nowhere}
 use Rattle.std.specs.Prelude.{Option}
+use Rattle.apcu_model.specs.declared.conf.Conf.{Conf}
+use Rattle.apcu_model.specs.Walk.{slot_of}
 use Rattle.entry_slots.specs.Entries.{Entries}
 use Rattle.ttl_expunge.specs.Room.{MakesRoom}
 use Rattle.cache_core.specs.declared.cache.Core.{Core}
@@ -19,6 +21,9 @@ make_room_next-place-requires-clause-limit g c = ap (λ (x : Entries). x.conf.tt
 
 pub make_room_next-place-requires-clause-whole : goal.make_room_next-place-requires-clause-whole
 make_room_next-place-requires-clause-whole g c = (ap (λ (x : Entries). x.unlinked) c.requires.stand.whole, ap (λ (x : Entries). x.taken) c.requires.stand.whole)
+
+pub put_in-requires-clause-slot : goal.put_in-requires-clause-slot
+put_in-requires-clause-slot g c = c.requires.slot ∙ ap (λ (k : Conf). slot_of k c.args.key.now) (ap (λ (x : Entries). x.conf) (sym c.requires.stand.whole) ∙ sym c.make_room_next-place.ensures.made.conf_is)
 
 pub put_in-requires-clause-limit : goal.put_in-requires-clause-limit
 put_in-requires-clause-limit g c = ap (λ (x : Entries). x.conf.ttl) (sym c.requires.stand.whole) ∙ sym (ap (λ k. k.ttl) c.make_room_next-place.ensures.made.conf_is)

@@ -2,7 +2,15 @@ use Rattle.std.proofs.Common.{refl, sym, ap, ◌∙◌}
 use Rattle.seg_words.specs.Windows.{held_blocks}
 use Rattle.seg_words.specs.Probing.{goes_nowhere}
 use Rattle.apcu_model.specs.Change.{Insertion}
+use Rattle.apcu_model.specs.Walk.{slot_of}
+use Rattle.entry_slots.specs.Entries.{Entries}
 use Rattle.cache_core.proofs.cache.Core.store_next.Goals as goal
+
+pub refusal-requires-clause-slot : goal.refusal-requires-clause-slot
+refusal-requires-clause-slot g c = c.slot_of_key-slot.ensures.slot ∙ ap (λ (x : Entries). slot_of x.conf c.args.key.now) c.requires.stand.whole
+
+pub add-requires-clause-slot : goal.add-requires-clause-slot
+add-requires-clause-slot g c = c.slot_of_key-slot.ensures.slot ∙ ap (λ (x : Entries). slot_of x.conf c.args.key.now) c.requires.stand.whole
 
 pub returns-in-Some-clause-answer : goal.returns-in-Some-clause-answer
 returns-in-Some-clause-answer g c = ap (λ (i : Insertion). i.answer) (sym (c.in-Some.ensures.some (held_blocks (g.S.WordsIn.aside c.refusal.new.seg)) c.args.ttl))

@@ -18,6 +18,7 @@ returns g c =
     let now = swept (held_blocks after) old in
     let e = swept_later old sweeps whole after (goes_nowhere after after refl) in
     record {
+      conf = refl;
       later = λ later on. cache_made new (swept (held_blocks later) old) (swept_later old sweeps whole later on) refl (record { hits = refl; misses = refl; inserts = refl; expunges = refl });
       goes = sweeps.goes;
       keeps = sweeps_keep sweeps;

@@ -1,0 +1,64 @@
+use Rattle.std.proofs.Common.{◌≡◌, ℕ, ◌+◌, List, sym, ap, ◌∙◌, refl, arith, length, slice_index}
+use Rattle.entry_slots.specs.Standing.{entries}
+use Rattle.entry_slots.proofs.Homes.{row_there, room, told_at}
+use Rattle.entry_slots.proofs.There.{HasEntryAt}
+use Rattle.entry_slots.proofs.Chains.{small_after}
+use Rattle.entry_slots.proofs.Walks.{stands_along}
+use Rattle.entry_slots.proofs.Spotting.{chain_short, listed_there, rest_start, rest_at, rest_next, rest_listed, rest_expired, rest_end, rest_whole, spot_stale}
+use Rattle.entry_slots.proofs.slots.EntrySlots.has_expired.Goals as goal
+
+pub returns-then-spot-clause-expired : goal.returns-then-spot-clause-expired
+returns-then-spot-clause-expired g c = spot_stale c.args.spot c.requires.spot c.if-spot.true
+
+pub loop-passed-init : goal.loop-passed-init
+loop-passed-init g c = record {
+  rest_of = rest_start c.args.spot c.requires.stand c.requires.spot c.if-spot.false;
+  kept = record { words = refl; aside = refl; rest = refl };
+}
+
+pub is_stale-requires : goal.is_stale-requires
+is_stale-requires g c =
+    let s = entries c.args.self.now in
+    let here = rest_at c.loop-passed.invariant.rest_of c.if-at-eq0.false in
+    record {
+      stand = stands_along (g.S.WordsIn.words c.loop-passed.seg) (g.S.WordsIn.aside c.loop-passed.seg) c.requires.stand c.loop-passed.invariant.kept.words c.loop-passed.invariant.kept.aside;
+      there = listed_there s c.loop-passed.at here.row (rest_listed here);
+      limit = c.requires.limit;
+    }
+
+pub returns-then-at-eq0-clause-expired : goal.returns-then-at-eq0-clause-expired
+returns-then-at-eq0-clause-expired g c = rest_end c.requires.stand c.loop-passed.invariant.rest_of c.if-at-eq0.true
+
+pub returns-then-is_stale-clause-expired : goal.returns-then-is_stale-clause-expired
+returns-then-is_stale-clause-expired g c =
+    let here = rest_at c.loop-passed.invariant.rest_of c.if-at-eq0.false in
+    rest_expired here (sym c.if-is_stale.true ∙ c.is_stale.ensures.stale here.row (rest_listed here))
+
+pub next_of-at-requires : goal.next_of-at-requires
+next_of-at-requires g c =
+    let s = entries c.args.self.now in
+    let here = rest_at c.loop-passed.invariant.rest_of c.if-at-eq0.false in
+    let entry : HasEntryAt c.args.self.now (g.S.WordsIn.words c.is_stale.new.seg) (g.S.WordsIn.aside c.is_stale.new.seg) c.loop-passed.at = record {
+      entries = s;
+      stand = stands_along (g.S.WordsIn.words c.is_stale.new.seg) (g.S.WordsIn.aside c.is_stale.new.seg) c.requires.stand (c.is_stale.ensures.kept.words ∙ c.loop-passed.invariant.kept.words) (c.is_stale.ensures.kept.aside ∙ c.loop-passed.invariant.kept.aside);
+      there = listed_there s c.loop-passed.at here.row (rest_listed here);
+    } in
+    let r = row_there entry in
+    let w = room r.1 in
+    record {
+      inside = omega (arith, w.high, w.enough, r.2);
+      told = told_at r.1 c.loop-passed.at 1 r.2 (omega arith) (omega arith);
+      place = small_after entry;
+    }
+
+pub loop-passed-preserved : goal.loop-passed-preserved
+loop-passed-preserved g c =
+    let words = c.is_stale.ensures.kept.words ∙ c.loop-passed.invariant.kept.words in
+    let here = rest_at c.loop-passed.invariant.rest_of c.if-at-eq0.false in
+    record {
+      rest_of = rest_next c.next_of-at.result here (sym c.if-is_stale.false ∙ c.is_stale.ensures.stale here.row (rest_listed here)) (c.next_of-at.ensures.next ∙ ap (λ (w : List ℕ). slice_index w (c.loop-passed.at + 1)) words);
+      kept = record { words = c.next_of-at.ensures.kept.words ∙ words; aside = c.next_of-at.ensures.kept.aside ∙ (c.is_stale.ensures.kept.aside ∙ c.loop-passed.invariant.kept.aside); rest = c.next_of-at.ensures.kept.rest ∙ (c.is_stale.ensures.kept.rest ∙ c.loop-passed.invariant.kept.rest) };
+    }
+
+pub returns-clause-expired : goal.returns-clause-expired
+returns-clause-expired g c = rest_whole c.loop-passed.invariant.rest_of (chain_short (entries c.args.self.now) c.args.spot.slot c.args.self.now.count c.loop-passed._passed c.requires.stand.count c.loop-passed-test.false)

@@ -1,0 +1,217 @@
+//! Where the row of a key stands in its chain. One walk finds it, and the calls that change the
+//! chain there walk no more.
+
+ghost use Rattle.std.specs.Prelude.{◌≡◌, ◌≢◌, ◌⊎◌, ℕ, ◌+◌, ◌<◌, ◌^◌, ◌||◌, true};
+ghost use Rattle.std.specs.Prelude.{length, slice_index, Contains};
+ghost use Rattle.entry_slots.specs.declared.head.TheConstants.{NEXT};
+ghost use Rattle.std.specs.List.{list_any};
+ghost use Rattle.seg_words.specs.Kept.{Kept, KeptBeside};
+ghost use Rattle.apcu_model.specs.declared.conf.Conf.{Conf};
+ghost use Rattle.apcu_model.specs.Cache.{Row};
+ghost use Rattle.apcu_model.specs.Expiry.{is_expired};
+ghost use Rattle.apcu_model.specs.Walk.{slot_of};
+ghost use Rattle.entry_slots.specs.Lists.{has_place};
+ghost use Rattle.entry_slots.specs.Entries.{chain_of, listed, block_for, IsListed};
+ghost use Rattle.entry_slots.specs.Entries.{linked, unlinked_at};
+ghost use Rattle.entry_slots.specs.Standing.{Stand, IsStanding, entries};
+ghost use Rattle.entry_slots.specs.Spots.{IsSpot, IsSpotOf};
+
+use crate::head::{ATIME, CTIME, NEXT, TTL};
+use crate::lower::lower_laws;
+use crate::reading::{count_after, next_of};
+use crate::slots::EntrySlots;
+use crate::standing::Change;
+use crate::writing::{Note, put_entry};
+use php_graph::{Graph, hash_of};
+use seg_words::{Segment, WordsIn};
+
+/// Where the row of a key stands in the chain of its slot, or where a new one would. It is of use
+/// until a row of the chain comes or goes.
+#[derive(Clone, Copy, Debug)]
+pub struct Spot {
+    /// The slot of the key.
+    pub slot: u32,
+    /// The word that names the row; where no row has the key, the last word of the chain.
+    pub link: u32,
+    /// The place of the row's block; 0 where no row has the key.
+    pub at: u32,
+    /// Whether a row before it in the chain was expired at the moment of the walk.
+    pub stale: bool,
+}
+
+// Whether a row of which this is noted is expired; `limit` is the cache's time limit.
+fn is_over(own: u64, ctime: u64, atime: u64, limit: u32, t: u64) -> bool
+    ensures { (conf : Conf) (row : Row) → limit ≡ conf.ttl → own ≡ row.ttl → ctime ≡ row.ctime
+        → atime ≡ row.atime → result ≡ is_expired conf t row }
+{
+    (own > 0 && ctime.saturating_add(own) < t)
+        || (own == 0 && limit > 0 && atime.saturating_add(u64::from(limit)) < t)
+}
+
+// Whether one of the two is so.
+fn either(one: bool, other: bool) -> bool
+    ensures { result ≡ (one || other) }
+{
+    one || other
+}
+
+impl EntrySlots {
+    /// The slot of a key. It takes the key's hash, so ask once.
+    pub fn slot_of_key(&self, key: &[u8]) -> u32
+        requires stand { IsStanding self.now }
+        ensures slot { result ≡ slot_of (entries self.now).conf key.now }
+    {
+        (hash_of(key) % u64::from(self.sma.from)) as u32
+    }
+
+    // Whether the row at a place is expired.
+    fn is_stale<S: Segment>(&self, seg: &mut S, at: u32, limit: u32, t: u64) -> bool
+        requires stand { Stand S.WordsIn self.now seg.old }
+        requires there { has_place at (listed (entries self.now)) ≡ true }
+        requires limit { limit ≡ (entries self.now).conf.ttl }
+        ensures stale { (row : Row) → IsListed (entries self.now) at row
+            → result ≡ is_expired (entries self.now).conf t row }
+        ensures kept { Kept S.WordsIn seg.old seg.new }
+    {
+        let own = seg.load(at + TTL);
+        let ctime = seg.load(at + CTIME);
+        let atime = seg.load(at + ATIME);
+        is_over(own, ctime, atime, limit, t)
+    }
+
+    /// Finds where the row of a key stands, by one walk along the chain of its slot as far as
+    /// there. `limit` is the cache's time limit.
+    pub fn seek<S: Segment>(&self, seg: &mut S, key: &[u8], slot: u32, limit: u32, t: u64) -> Spot
+        requires short { length key.now < 2 ^ 32 }
+        requires stand { Stand S.WordsIn self.now seg.old }
+        requires slot { slot ≡ slot_of (entries self.now).conf key.now }
+        requires limit { limit ≡ (entries self.now).conf.ttl }
+        ensures spot { IsSpotOf (entries self.now) key.now t result }
+        ensures kept { Kept S.WordsIn seg.old seg.new }
+    {
+        let mut link = slot;
+        let mut at = self.first_in(seg, slot);
+        let mut stale = false;
+        for _passed in 0..self.count {
+            if at == 0 {
+                return Spot {
+                    slot,
+                    link,
+                    at,
+                    stale,
+                };
+            }
+            if self.key_is(seg, at, key) {
+                return Spot {
+                    slot,
+                    link,
+                    at,
+                    stale,
+                };
+            }
+            let over = self.is_stale(seg, at, limit, t);
+            stale = either(stale, over);
+            link = at + NEXT;
+            at = next_of(seg, at);
+        }
+        Spot {
+            slot,
+            link,
+            at: 0,
+            stale,
+        }
+    }
+
+    /// Whether a row of the chain is expired. The walk that found the spot is gone on with: the
+    /// rows before it are not read again.
+    pub fn has_expired<S: Segment>(&self, seg: &mut S, spot: Spot, limit: u32, t: u64) -> bool
+        requires stand { Stand S.WordsIn self.now seg.old }
+        requires spot { IsSpot (entries self.now) t spot }
+        requires limit { limit ≡ (entries self.now).conf.ttl }
+        ensures expired { result ≡ list_any (is_expired (entries self.now).conf t)
+            (chain_of (entries self.now) spot.slot) }
+        ensures kept { Kept S.WordsIn seg.old seg.new }
+    {
+        if spot.stale {
+            return true;
+        }
+        let mut at = spot.at;
+        for _passed in 0..self.count {
+            if at == 0 {
+                return false;
+            }
+            if self.is_stale(seg, at, limit, t) {
+                return true;
+            }
+            at = next_of(seg, at);
+        }
+        false
+    }
+
+    // What follows the row at the place of a spot; nothing follows the place 0.
+    fn behind_spot<S: Segment>(&self, seg: &mut S, at: u32) -> u32
+        requires stand { Stand S.WordsIn self.now seg.old }
+        requires there { (at ≡ 0) ⊎ (has_place at (entries self.now).rows ≡ true) }
+        ensures next { at ≢ 0 → result ≡ slice_index (S.words seg.old) (at + NEXT) }
+        ensures none { at ≡ 0 → result ≡ 0 }
+        ensures kept { Kept S.WordsIn seg.old seg.new }
+    {
+        if at == 0 {
+            return 0;
+        }
+        next_of(seg, at)
+    }
+
+    /// Makes the block at `at`, which was taken for this key and value, a row of the moment `t`, as
+    /// `link` does: in the place of the row at the spot, whose block is loose from now on, or last
+    /// where there is none.
+    pub fn link_at<S: Segment>(
+        &mut self,
+        seg: &mut S,
+        at: u32,
+        key: &[u8],
+        g: &Graph,
+        ttl: u32,
+        t: u64,
+        spot: Spot,
+    )
+        requires short { length key.now < 2 ^ 32 }
+        requires stand { Stand S.WordsIn self.old seg.old }
+        requires taken { Contains (entries self.old).taken (block_for at key.now g.now) }
+        requires spot { IsSpotOf (entries self.old) key.now t spot }
+        ensures linked { entries self.new ≡ linked at key.now g.now ttl t (entries self.old) }
+        ensures stand { Stand S.WordsIn self.new seg.new }
+        ensures beside { KeptBeside S.WordsIn seg.old seg.new }
+    {
+        lower_laws();
+        let _places = g.places();
+        let note = Note {
+            next: self.behind_spot(seg, spot.at),
+            ttl,
+            now: t,
+            number: self.next_number,
+        };
+        put_entry(seg, at, key, g, note);
+        seg.store(spot.link, u64::from(at));
+        self.next_number = self.next_number.saturating_add(1);
+        self.count = count_after(self.count, spot.at);
+        self.standing = self.standing.then(&Change::Link(at, key, g, ttl, t));
+    }
+
+    /// Takes the row at the spot out of its chain, as `unlink` does. Its block is loose from now
+    /// on.
+    pub fn unlink_at<S: Segment>(&mut self, seg: &mut S, spot: Spot)
+        requires stand { Stand S.WordsIn self.old seg.old }
+        requires spot { (t : ℕ) × IsSpot (entries self.old) t spot }
+        requires there { has_place spot.at (entries self.old).rows ≡ true }
+        ensures unlinked { entries self.new ≡ unlinked_at spot.at (entries self.old) }
+        ensures stand { Stand S.WordsIn self.new seg.new }
+        ensures beside { KeptBeside S.WordsIn seg.old seg.new }
+    {
+        lower_laws();
+        let next = self.behind_spot(seg, spot.at);
+        seg.store(spot.link, u64::from(next));
+        self.count -= 1;
+        self.standing = self.standing.then(&Change::Unlink(spot.at));
+    }
+}
