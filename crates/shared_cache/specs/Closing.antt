@@ -1,21 +1,15 @@
 -- What is left of a cache once all its workers have ended.
-use Rattle.std.specs.Prelude.{◌≡◌, ℕ, ◌<◌, true, false, List, [], length, slice_get, Some}
+use Rattle.std.specs.Prelude.{◌≡◌, ℕ, true, false, List, [], slice_get, Some}
 use mathlib.Core.List.{IsPrefix}
-use Rattle.atomic_table.specs.Seated.{TableId}
 use Rattle.apcu_model.specs.declared.conf.Conf.{Conf}
 use Rattle.apcu_model.specs.declared.event.Event.{Event}
 use Rattle.apcu_model.specs.Cache.{counts_of}
 use Rattle.apcu_model.specs.History.{start_of, stage_of, all_legal, marks_of}
 use Rattle.pin_table.specs.Values.{Bearer}
 use Rattle.pin_table.specs.Events.{events_of}
-use Rattle.pin_table.specs.Lists.{AllOf, known_list}
+use Rattle.pin_table.specs.Lists.{known_list}
 use Rattle.pin_table.specs.Views.{is_among}
 use Rattle.shared_cache.specs.declared.closed.Closed.{Closed}
-
--- each worker of this table has ended
-pub record AllEnded (t : TableId) (workers : ℕ) (ended : List Bearer) : Type 0 where
-  pub table : AllOf t ended
-  pub every : (w : ℕ) → w < workers → is_among w (known_list ended) ≡ true
 
 -- The journal holds the marks of one legal history, which begins with what each of them has seen.
 -- The events of each in it are its own, and no other worker has one. The counts are those of the

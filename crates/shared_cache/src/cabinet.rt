@@ -8,7 +8,9 @@ ghost use Rattle.shared_cache.specs.Settled.{Settled};
 ghost use Rattle.shared_cache.specs.Follows.{Follows};
 ghost use Rattle.shared_cache.specs.Pinned.{IsFetched};
 ghost use Rattle.shared_cache.specs.Learned.{Learns};
-ghost use Rattle.shared_cache.specs.Closing.{AllEnded, IsClosed};
+ghost use Rattle.pin_table.specs.Lists.{AllOf, known_list};
+ghost use Rattle.pin_table.specs.Views.{is_among};
+ghost use Rattle.shared_cache.specs.Closing.{IsClosed};
 
 use crate::closed::Closed;
 use crate::lower::lower_laws;
@@ -198,7 +200,9 @@ impl<N: TableName> Cabinet<N> {
     // The journal and the counts, once every worker has ended.
     pub(crate) fn close(self, table: PinTable, ended: EndedList) -> Closed
         requires table { table ≡ N.table }
-        requires ended { AllEnded N.table (length N.budgets) ended.ended }
+        requires ended { AllOf N.table ended.ended }
+        requires every { (w : ℕ) → w < length N.budgets
+            → is_among w (known_list ended.ended) ≡ true }
         ensures { IsClosed N.conf (length N.budgets) ended.ended result }
     {
         let Cabinet {

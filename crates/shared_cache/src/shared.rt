@@ -1,6 +1,6 @@
 //! The cache that workers share, and how it is opened.
 
-ghost use Rattle.std.specs.Prelude.{◌≡◌, ◌<◌, ◌≤◌, ◌^◌, true, List, length, IfOk};
+ghost use Rattle.std.specs.Prelude.{◌≡◌, ℕ, ◌<◌, ◌≤◌, ◌^◌, true, List, length, IfOk};
 ghost use Rattle.php_graph.specs.declared.kind.Kind.{Kind};
 ghost use Rattle.value_image.specs.Image.{IsImageOf};
 ghost use Rattle.apcu_model.specs.declared.request.Request.TheVariants as request;
@@ -8,7 +8,9 @@ ghost use Rattle.apcu_model.specs.declared.request.Reply.TheVariants as reply;
 ghost use Rattle.shared_cache.specs.Follows.{Follows};
 ghost use Rattle.shared_cache.specs.Pinned.{IsFetched};
 ghost use Rattle.shared_cache.specs.Learned.{Learns};
-ghost use Rattle.shared_cache.specs.Closing.{AllEnded, IsClosed};
+ghost use Rattle.pin_table.specs.Lists.{AllOf, known_list};
+ghost use Rattle.pin_table.specs.Views.{is_among};
+ghost use Rattle.shared_cache.specs.Closing.{IsClosed};
 
 use crate::cabinet::Cabinet;
 use crate::closed::Closed;
@@ -169,7 +171,9 @@ impl<N: TableName> Shared<N> {
     /// Gives the journal and the counts, once every worker has ended. It waits for nobody and takes
     /// no memory.
     pub fn close(self, ended: EndedList) -> Closed
-        requires { AllEnded N.table (length N.budgets) ended.ended }
+        requires table { AllOf N.table ended.ended }
+        requires every { (w : ℕ) → w < length N.budgets
+            → is_among w (known_list ended.ended) ≡ true }
         ensures { IsClosed N.conf (length N.budgets) ended.ended result }
     {
         let Shared { table, lock } = self;

@@ -1,0 +1,7 @@
+//! Tests of `shared_cache`, over what it makes public.
+#![tactic(auto)]
+
+#[cfg(test)]
+mod steps;
+#[cfg(test)]
+mod tests;
