@@ -11,12 +11,11 @@ const STORE_AND_FETCH: &[u8] = b"worker\napcu_store s:1:\"a\"; i:5;\napcu_fetch 
 
 const PRINTED: &[u8] = b"worker 0\nb:1;\ni:5;b:1;\njournal\n0\n0\n0\n";
 
-// A run: the values of the three options, where it has them; the input, the most bytes of a read
-// and of a write, the numbers from 0 of the reads and writes that fail; how it ends, what it prints
-// and what it tells.
+// A run: the values of the three options, the input, the most bytes of a read and of a write, the
+// numbers from 0 of the reads and writes that fail; how it ends, what it prints and what it tells.
 #[derive(Clone, Copy)]
 struct Run<'a> {
-    values: Option<[&'static str; 3]>,
+    values: [&'static str; 3],
     input: &'a [u8],
     piece: usize,
     fails: [&'a [u64]; 2],
@@ -34,7 +33,7 @@ const LARGER: [&str; 3] = ["1M", "32", "0"];
 // A run without faults, read seven bytes at a time.
 fn whole<'a>(input: &'a [u8], status: Status, printed: &'a [u8], told: &'a [u8]) -> Run<'a> {
     Run {
-        values: Some(SMALL),
+        values: SMALL,
         input,
         piece: 7,
         fails: [[].as_slice(), [].as_slice()],
@@ -45,13 +44,12 @@ fn whole<'a>(input: &'a [u8], status: Status, printed: &'a [u8], told: &'a [u8])
 }
 
 // The program's name, and the options with these values.
-fn words_of(alloc: Global, values: Option<[&'static str; 3]>) -> Result<Vec<String>, Fail> {
+fn words_of(alloc: Global, values: [&'static str; 3]) -> Result<Vec<String>, Fail> {
     let mut words = Vec::new(alloc);
     words.push(String::from_str(alloc, "apcu_run")?)?;
-    if let Some([size, slots, ttl]) = values {
-        for word in ["--shm-size", size, "--slots", slots, "--ttl", ttl] {
-            words.push(String::from_str(alloc, word)?)?;
-        }
+    for (i, name) in ["--shm-size", "--slots", "--ttl"].iter().enumerate() {
+        words.push(String::from_str(alloc, name)?)?;
+        words.push(String::from_str(alloc, values[i])?)?;
     }
     Ok(words)
 }
@@ -61,12 +59,22 @@ fn expect<R: Threads + Wait + Sync + Abort>(
     alloc: Global,
     case: Run<'_>,
 ) -> Result<(), Fail> {
-    assert!(rt; case.piece > 0);
     let words = words_of(alloc, case.values)?;
+    expect_of(rt, alloc, &words, case)
+}
+
+// The same of a program that is called with these words.
+fn expect_of<R: Threads + Wait + Sync + Abort>(
+    rt: &R,
+    alloc: Global,
+    words: &[String],
+    case: Run<'_>,
+) -> Result<(), Fail> {
+    assert!(rt; case.piece > 0);
     let mut input = MemSource::new(case.input, case.piece, case.fails[0]);
     let mut out = MemSink::new(alloc, 16384, case.piece, case.fails[1])?;
     let mut err = MemSink::new(alloc, 64, 64, &[])?;
-    let status = run(rt, alloc, &words, &mut input, &mut out, &mut err, &NoGate);
+    let status = run(rt, alloc, words, &mut input, &mut out, &mut err, &NoGate);
     assert_eq!(rt; status, case.status);
     assert_eq!(rt; out.as_slice(), case.printed);
     assert_eq!(rt; err.as_slice(), case.told);
@@ -95,7 +103,7 @@ fn comes_back(
     printed.push(value)?;
     printed.push(b"b:1;\njournal\n0\n0\n0\n")?;
     let case = Run {
-        values: Some(LARGER),
+        values: LARGER,
         ..whole(script.as_slice(), Status::Done, printed.as_slice(), b"")
     };
     expect(rt, alloc, case)
@@ -347,7 +355,7 @@ fn sizes_slots_and_limits(rt: HostRuntime) -> Result<(), Fail> {
         ("1M", "1048", "10"),
     ] {
         let case = Run {
-            values: Some([size, slots, ttl]),
+            values: [size, slots, ttl],
             ..whole(b"", Status::Done, b"journal\n", b"")
         };
         expect(&rt, rt.alloc(), case)?;
@@ -379,7 +387,7 @@ fn faulty_sizes_slots_and_limits(rt: HostRuntime) -> Result<(), Fail> {
         ("4096", "32", "-1"),
     ] {
         let case = Run {
-            values: Some([size, slots, ttl]),
+            values: [size, slots, ttl],
             ..whole(STORE_AND_FETCH, Status::Usage, b"", b"apcu_run: usage\n")
         };
         expect(&rt, rt.alloc(), case)?;
@@ -450,11 +458,10 @@ fn command_lines(rt: HostRuntime) -> Result<(), Fail> {
 
 #[test]
 fn no_options(rt: HostRuntime) -> Result<(), Fail> {
-    let case = Run {
-        values: None,
-        ..whole(STORE_AND_FETCH, Status::Done, PRINTED, b"")
-    };
-    expect(&rt, rt.alloc(), case)
+    let alloc = rt.alloc();
+    let words = [String::from_str(alloc, "apcu_run")?];
+    let case = whole(STORE_AND_FETCH, Status::Done, PRINTED, b"");
+    expect_of(&rt, alloc, &words, case)
 }
 
 // A script as pieces of text, and of so many bytes `z`.
@@ -500,7 +507,7 @@ fn expect_lines<R: Threads + Wait + Sync + Abort>(
         wanted.push(b"0\n")?;
     }
     let case = Run {
-        values: Some(["4096", "32", ttl]),
+        values: ["4096", "32", ttl],
         ..whole(script, Status::Done, wanted.as_slice(), b"")
     };
     expect(rt, alloc, case)
@@ -676,7 +683,7 @@ fn a_row_expires(rt: HostRuntime) -> Result<(), Fail> {
 // The run whose read of this number fails.
 fn unread(piece: usize, at: &[u64]) -> Run<'_> {
     Run {
-        values: Some(SMALL),
+        values: SMALL,
         input: STORE_AND_FETCH,
         piece,
         fails: [at, [].as_slice()],
@@ -689,7 +696,7 @@ fn unread(piece: usize, at: &[u64]) -> Run<'_> {
 // The run whose write of this number fails, behind these bytes.
 fn unwritten<'a>(piece: usize, at: &'a [u64], printed: &'a [u8]) -> Run<'a> {
     Run {
-        values: Some(SMALL),
+        values: SMALL,
         input: STORE_AND_FETCH,
         piece,
         fails: [[].as_slice(), at],
