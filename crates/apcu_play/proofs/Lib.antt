@@ -5,3 +5,4 @@ pub mod Telling
 pub mod Whole
 pub mod Noting
 pub mod Printed
+pub mod ProgramWords

@@ -4,25 +4,25 @@ use Rattle.std.proofs.Math.Seq.{take-append-add}
 use Rattle.std.proofs.lemmas.List.{take-append-le}
 use Rattle.std.specs.Io.KnownBytes.{append_known}
 use Rattle.io_edges.specs.Faults.{Rose}
-use Rattle.apcu_play.specs.Run.{WasTold, IsTold}
+use Rattle.apcu_play.specs.Run.{WasTold, TellsMessage}
 
 append_known-append : (held : Option (List ℕ)) (a b : List ℕ) → append_known (append_known held a) b ≡ append_known held (a ++ b)
 append_known-append None a b = refl
 append_known-append (Some bytes) a b = ap (λ (l : List ℕ). Some l) (append_assoc bytes a b)
 
 -- the first part failed
-pub first_failed : (a b : List ℕ) (before after : Option (List ℕ)) (faults_before faults_after : ℕ) → WasTold false a before after faults_before faults_after → IsTold (a ++ b) before after faults_before faults_after
+pub first_failed : (a b : List ℕ) (before after : Option (List ℕ)) (faults_before faults_after : ℕ) → WasTold false a before after faults_before faults_after → TellsMessage (a ++ b) before after faults_before faults_after
 first_failed a b before after faults_before faults_after t = record {
   all = false;
   told = (t.0, omega (arith, t.1, length-append a b), t.2 ∙ ap (append_known before) (sym (take-append-le t.0 a b (omega (arith, t.1)))), t.3);
 }
 
 -- the first part was told whole, and then the rest as it was
-pub then_told : (a b : List ℕ) (before mid after : Option (List ℕ)) (faults_before faults_mid faults_after : ℕ) → WasTold true a before mid faults_before faults_mid → IsTold b mid after faults_mid faults_after
-    → IsTold (a ++ b) before after faults_before faults_after
+pub then_told : (a b : List ℕ) (before mid after : Option (List ℕ)) (faults_before faults_mid faults_after : ℕ) → WasTold true a before mid faults_before faults_mid → TellsMessage b mid after faults_mid faults_after
+    → TellsMessage (a ++ b) before after faults_before faults_after
 then_told a b before mid after faults_before faults_mid faults_after whole rest = by_all rest.all rest.told
   where
-    by_all : (all : Bool) → WasTold all b mid after faults_mid faults_after → IsTold (a ++ b) before after faults_before faults_after
+    by_all : (all : Bool) → WasTold all b mid after faults_mid faults_after → TellsMessage (a ++ b) before after faults_before faults_after
     by_all true t = record { all = true; told = (t.0 ∙ (ap (λ (h : Option (List ℕ)). append_known h b) whole.0 ∙ append_known-append before a b), t.1 ∙ whole.1) }
     by_all false t = record {
       all = false;

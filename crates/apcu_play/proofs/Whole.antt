@@ -11,7 +11,7 @@ use Rattle.std.proofs.lemmas.List.{append-nil}
 use Rattle.std.specs.Io.KnownBytes.{prepend_known, IsAtEnd}
 use Rattle.script_read.specs.Ties.{ScriptsAreOne}
 use Rattle.apcu_play.specs.Alone.{all_events}
-use Rattle.apcu_play.specs.Run.{longest_input, most_events, WasRead, IsAnswer, Replays, ReplaysPart, IsRefused, IsCrowded, IsUnlessMemory, Completes}
+use Rattle.apcu_play.specs.Run.{longest_input, most_events, WasRead, AnswersInput, Replays, ReplaysPart, IsRefused, IsCrowded, IsUnlessMemory, Completes}
 
 all_read : (left input : List ℕ) (after : Option (List ℕ)) → Some left ≡ prepend_known input after → IsAtEnd after → left ≡ input
 all_read left input None taken end = absurd cc
@@ -26,11 +26,11 @@ was_read left input before after told read = all_read left input after (sym told
 longer_is : (left : List ℕ) (before : Option (List ℕ)) → before ≡ Some left → IfSome before (λ l. longest_input < length l) → longest_input < length left
 longer_is left before told longer = subst (λ (o : Option (List ℕ)). IfSome o (λ l. longest_input < length l)) told longer
 
-module _ (one : ScriptsAreOne) (conf : Conf) (words : ℕ) (before after held_before held_after : Option (List ℕ)) (reads_before reads_after writes_before writes_after : ℕ) where
+module _ (one : ScriptsAreOne) (conf : Conf) (before after held_before held_after : Option (List ℕ)) (reads_before reads_after writes_before writes_after : ℕ) where
   -- what is known of how a run ended
   pub record Ended (status : Status) : Type 0 where
     pub replayed : status ≡ Done → Replays conf before after held_before held_after
-    pub usage : status ≡ Usage → words ≢ 1
+    pub usage : status ≢ Usage
     pub script : status ≡ Script → IsRefused before after
     pub too_many : status ≡ TooMany → IsCrowded conf before after
     pub longer : status ≡ TooLong → IfSome before (λ left. longest_input < length left)
@@ -38,7 +38,7 @@ module _ (one : ScriptsAreOne) (conf : Conf) (words : ℕ) (before after held_be
     pub write_fault : status ≡ WriteFault → Rose writes_before writes_after
     pub cut : status ≡ WriteFault → ReplaysPart conf before after held_before held_after
 
-  spelled_is : (input : List ℕ) (printed : List ℕ) → before ≡ Some input → IsAnswer conf before after printed → (length input ≤ longest_input) × ((scripts : List (List Step)) × AreScripts input scripts)
+  spelled_is : (input : List ℕ) (printed : List ℕ) → before ≡ Some input → AnswersInput conf before after printed → (length input ≤ longest_input) × ((scripts : List (List Step)) × AreScripts input scripts)
   spelled_is input printed told answer =
       let same = was_read input answer.input before after told answer.read in
       (subst (λ (i : List ℕ). length i ≤ longest_input) (sym same) answer.read.short, (answer.scripts, subst (λ (i : List ℕ). AreScripts i answer.scripts) (sym same) answer.spelled))
@@ -49,7 +49,7 @@ module _ (one : ScriptsAreOne) (conf : Conf) (words : ℕ) (before after held_be
       (subst (λ (i : List ℕ). length i ≤ longest_input) (sym same) refused.at.read.short, λ scripts are. refused.at.nothing scripts (subst (λ (i : List ℕ). AreScripts i scripts) same are))
 
   -- what the input spells makes few events where something was answered, and many where it was too much
-  few_is : (input : List ℕ) (scripts : List (List Step)) (printed : List ℕ) → before ≡ Some input → AreScripts input scripts → IsAnswer conf before after printed → all_events conf.slots scripts ≤ most_events
+  few_is : (input : List ℕ) (scripts : List (List Step)) (printed : List ℕ) → before ≡ Some input → AreScripts input scripts → AnswersInput conf before after printed → all_events conf.slots scripts ≤ most_events
   few_is input scripts printed told are answer =
       let same = was_read input answer.input before after told answer.read in
       let other = one input answer.scripts scripts (subst (λ (i : List ℕ). AreScripts i answer.scripts) (sym same) answer.spelled) are in
@@ -66,49 +66,77 @@ module _ (one : ScriptsAreOne) (conf : Conf) (words : ℕ) (before after held_be
       let same = was_read input crowded.input before after told crowded.read in
       (subst (λ (i : List ℕ). length i ≤ longest_input) (sym same) crowded.read.short, (crowded.scripts, subst (λ (i : List ℕ). AreScripts i crowded.scripts) (sym same) crowded.spelled))
 
-  done_by : (status : Status) → Ended status → (input : List ℕ) (scripts : List (List Step)) → words ≡ 1 → before ≡ Some input → length input ≤ longest_input → AreScripts input scripts
+  done_by : (status : Status) → Ended status → (input : List ℕ) (scripts : List (List Step)) → before ≡ Some input → length input ≤ longest_input → AreScripts input scripts
       → all_events conf.slots scripts ≤ most_events → ¬ Rose reads_before reads_after → ¬ Rose writes_before writes_after → IsUnlessMemory Done status
-  done_by Done e input scripts alone told short are few no_read no_write = inl refl
-  done_by Usage e input scripts alone told short are few no_read no_write = absurd (e.usage refl alone)
-  done_by Script e input scripts alone told short are few no_read no_write = absurd ((refused_is input told (e.script refl)).1 scripts are)
-  done_by ReadFault e input scripts alone told short are few no_read no_write = absurd (no_read (e.read_fault refl))
-  done_by WriteFault e input scripts alone told short are few no_read no_write = absurd (no_write (e.write_fault refl))
-  done_by NoMemory e input scripts alone told short are few no_read no_write = inr refl
-  done_by TooLong e input scripts alone told short are few no_read no_write = let more = longer_is input before told (e.longer refl) in absurd (omega arith)
-  done_by TooMany e input scripts alone told short are few no_read no_write = let many = many_is input scripts told are (e.too_many refl) in absurd (omega arith)
+  done_by Done e input scripts told short are few no_read no_write = inl refl
+  done_by Usage e input scripts told short are few no_read no_write = absurd (e.usage refl)
+  done_by Script e input scripts told short are few no_read no_write = absurd ((refused_is input told (e.script refl)).1 scripts are)
+  done_by ReadFault e input scripts told short are few no_read no_write = absurd (no_read (e.read_fault refl))
+  done_by WriteFault e input scripts told short are few no_read no_write = absurd (no_write (e.write_fault refl))
+  done_by NoMemory e input scripts told short are few no_read no_write = inr refl
+  done_by TooLong e input scripts told short are few no_read no_write = let more = longer_is input before told (e.longer refl) in absurd (omega arith)
+  done_by TooMany e input scripts told short are few no_read no_write = let many = many_is input scripts told are (e.too_many refl) in absurd (omega arith)
 
-  too_many_by : (status : Status) → Ended status → (input : List ℕ) (scripts : List (List Step)) → words ≡ 1 → before ≡ Some input → length input ≤ longest_input → AreScripts input scripts
+  too_many_by : (status : Status) → Ended status → (input : List ℕ) (scripts : List (List Step)) → before ≡ Some input → length input ≤ longest_input → AreScripts input scripts
       → most_events < all_events conf.slots scripts → ¬ Rose reads_before reads_after → IsUnlessMemory TooMany status
-  too_many_by Done e input scripts alone told short are many no_read = let few = few_is input scripts (e.replayed refl).printed told are (e.replayed refl).answer in absurd (omega arith)
-  too_many_by Usage e input scripts alone told short are many no_read = absurd (e.usage refl alone)
-  too_many_by Script e input scripts alone told short are many no_read = absurd ((refused_is input told (e.script refl)).1 scripts are)
-  too_many_by ReadFault e input scripts alone told short are many no_read = absurd (no_read (e.read_fault refl))
-  too_many_by WriteFault e input scripts alone told short are many no_read = let few = few_is input scripts (e.cut refl).printed told are (e.cut refl).answer in absurd (omega arith)
-  too_many_by NoMemory e input scripts alone told short are many no_read = inr refl
-  too_many_by TooLong e input scripts alone told short are many no_read = let more = longer_is input before told (e.longer refl) in absurd (omega arith)
-  too_many_by TooMany e input scripts alone told short are many no_read = inl refl
+  too_many_by Done e input scripts told short are many no_read = let few = few_is input scripts (e.replayed refl).printed told are (e.replayed refl).answer in absurd (omega arith)
+  too_many_by Usage e input scripts told short are many no_read = absurd (e.usage refl)
+  too_many_by Script e input scripts told short are many no_read = absurd ((refused_is input told (e.script refl)).1 scripts are)
+  too_many_by ReadFault e input scripts told short are many no_read = absurd (no_read (e.read_fault refl))
+  too_many_by WriteFault e input scripts told short are many no_read = let few = few_is input scripts (e.cut refl).printed told are (e.cut refl).answer in absurd (omega arith)
+  too_many_by NoMemory e input scripts told short are many no_read = inr refl
+  too_many_by TooLong e input scripts told short are many no_read = let more = longer_is input before told (e.longer refl) in absurd (omega arith)
+  too_many_by TooMany e input scripts told short are many no_read = inl refl
 
-  refused_by : (status : Status) → Ended status → (input : List ℕ) → words ≡ 1 → before ≡ Some input → length input ≤ longest_input → ((scripts : List (List Step)) → ¬ AreScripts input scripts)
+  refused_by : (status : Status) → Ended status → (input : List ℕ) → before ≡ Some input → length input ≤ longest_input → ((scripts : List (List Step)) → ¬ AreScripts input scripts)
       → ¬ Rose reads_before reads_after → IsUnlessMemory Script status
-  refused_by Done e input alone told short none no_read = let s = spelled_is input (e.replayed refl).printed told (e.replayed refl).answer in absurd (none s.1.0 s.1.1)
-  refused_by Usage e input alone told short none no_read = absurd (e.usage refl alone)
-  refused_by Script e input alone told short none no_read = inl refl
-  refused_by ReadFault e input alone told short none no_read = absurd (no_read (e.read_fault refl))
-  refused_by WriteFault e input alone told short none no_read = let s = spelled_is input (e.cut refl).printed told (e.cut refl).answer in absurd (none s.1.0 s.1.1)
-  refused_by NoMemory e input alone told short none no_read = inr refl
-  refused_by TooLong e input alone told short none no_read = let more = longer_is input before told (e.longer refl) in absurd (omega arith)
-  refused_by TooMany e input alone told short none no_read = let s = crowded_is input told (e.too_many refl) in absurd (none s.1.0 s.1.1)
+  refused_by Done e input told short none no_read = let s = spelled_is input (e.replayed refl).printed told (e.replayed refl).answer in absurd (none s.1.0 s.1.1)
+  refused_by Usage e input told short none no_read = absurd (e.usage refl)
+  refused_by Script e input told short none no_read = inl refl
+  refused_by ReadFault e input told short none no_read = absurd (no_read (e.read_fault refl))
+  refused_by WriteFault e input told short none no_read = let s = spelled_is input (e.cut refl).printed told (e.cut refl).answer in absurd (none s.1.0 s.1.1)
+  refused_by NoMemory e input told short none no_read = inr refl
+  refused_by TooLong e input told short none no_read = let more = longer_is input before told (e.longer refl) in absurd (omega arith)
+  refused_by TooMany e input told short none no_read = let s = crowded_is input told (e.too_many refl) in absurd (none s.1.0 s.1.1)
 
-  too_long_by : (status : Status) → Ended status → (input : List ℕ) → words ≡ 1 → before ≡ Some input → longest_input < length input → ¬ Rose reads_before reads_after → IsUnlessMemory TooLong status
-  too_long_by Done e input alone told long no_read = let s = (spelled_is input (e.replayed refl).printed told (e.replayed refl).answer).0 in absurd (omega arith)
-  too_long_by Usage e input alone told long no_read = absurd (e.usage refl alone)
-  too_long_by Script e input alone told long no_read = let s = (refused_is input told (e.script refl)).0 in absurd (omega arith)
-  too_long_by ReadFault e input alone told long no_read = absurd (no_read (e.read_fault refl))
-  too_long_by WriteFault e input alone told long no_read = let s = (spelled_is input (e.cut refl).printed told (e.cut refl).answer).0 in absurd (omega arith)
-  too_long_by NoMemory e input alone told long no_read = inr refl
-  too_long_by TooLong e input alone told long no_read = inl refl
-  too_long_by TooMany e input alone told long no_read = let s = (crowded_is input told (e.too_many refl)).0 in absurd (omega arith)
+  too_long_by : (status : Status) → Ended status → (input : List ℕ) → before ≡ Some input → longest_input < length input → ¬ Rose reads_before reads_after → IsUnlessMemory TooLong status
+  too_long_by Done e input told long no_read = let s = (spelled_is input (e.replayed refl).printed told (e.replayed refl).answer).0 in absurd (omega arith)
+  too_long_by Usage e input told long no_read = absurd (e.usage refl)
+  too_long_by Script e input told long no_read = let s = (refused_is input told (e.script refl)).0 in absurd (omega arith)
+  too_long_by ReadFault e input told long no_read = absurd (no_read (e.read_fault refl))
+  too_long_by WriteFault e input told long no_read = let s = (spelled_is input (e.cut refl).printed told (e.cut refl).answer).0 in absurd (omega arith)
+  too_long_by NoMemory e input told long no_read = inr refl
+  too_long_by TooLong e input told long no_read = inl refl
+  too_long_by TooMany e input told long no_read = let s = (crowded_is input told (e.too_many refl)).0 in absurd (omega arith)
 
   -- and so what it must come to
-  pub completes : (status : Status) → Ended status → Completes conf status words before reads_before reads_after writes_before writes_after
+  pub completes : (status : Status) → Ended status → Completes conf status before reads_before reads_after writes_before writes_after
   completes status e = record { done = done_by status e; too_many = too_many_by status e; refused = refused_by status e; too_long = too_long_by status e }
+
+-- the same of the cache that the words tell, if they tell one
+pub completes_if : (one : ScriptsAreOne) (told : Option Conf) (before after held_before held_after : Option (List ℕ)) (reads_before reads_after writes_before writes_after : ℕ) (status : Status)
+    → IfSome told (λ conf. status ≡ Done → Replays conf before after held_before held_after)
+    → (status ≡ Usage → told ≡ None)
+    → (status ≡ Script → IsRefused before after)
+    → IfSome told (λ conf. status ≡ TooMany → IsCrowded conf before after)
+    → (status ≡ TooLong → IfSome before (λ left. longest_input < length left))
+    → (status ≡ ReadFault → Rose reads_before reads_after)
+    → (status ≡ WriteFault → Rose writes_before writes_after)
+    → IfSome told (λ conf. status ≡ WriteFault → ReplaysPart conf before after held_before held_after)
+    → IfSome told (λ conf. Completes conf status before reads_before reads_after writes_before writes_after)
+completes_if one None before after held_before held_after reads_before reads_after writes_before writes_after status replayed usage script too_many longer read_fault write_fault cut = tt
+completes_if one (Some conf) before after held_before held_after reads_before reads_after writes_before writes_after status replayed usage script too_many longer read_fault write_fault cut =
+    completes one conf before after held_before held_after reads_before reads_after writes_before writes_after status
+    (record {
+      replayed = replayed;
+      usage = λ is. absurd (some_is_not_none (usage is));
+      script = script;
+      too_many = too_many;
+      longer = longer;
+      read_fault = read_fault;
+      write_fault = write_fault;
+      cut = cut;
+    })
+  where
+    some_is_not_none : Some conf ≡ None → ⊥
+    some_is_not_none e = cc

@@ -40,7 +40,8 @@ after_step c step = after_all c step.t (requests_of step.call)
 -- the line of each call
 abbrev pub lines_of : Cache → List Step → List ℕ
 lines_of c [] = []
-lines_of c (step ∷ steps) = call_text step.call (step_replies c step) ++ ends_line ++ lines_of (after_step c step) steps
+lines_of c (step ∷ steps) =
+    call_text step.call (step_replies c step) ++ ends_line ++ lines_of (after_step c step) steps
 
 -- the mark of each event of one worker
 abbrev pub own_mark : Mark
@@ -67,4 +68,6 @@ all_events slots (script ∷ scripts) = (events_in slots script + 1) + all_event
 
 -- what is printed for one worker
 abbrev pub alone_text : Conf → List Step → List ℕ
-alone_text conf steps = codes "worker " ++ decimal 0 ++ ends_line ++ lines_of (empty_cache conf) steps ++ journal_lines (marks_for steps)
+alone_text conf steps =
+    codes "worker " ++ decimal 0 ++ ends_line ++ lines_of (empty_cache conf) steps
+    ++ journal_lines (marks_for steps)

@@ -3,4 +3,5 @@ pub mod Notes
 pub mod Output
 pub mod Alone
 pub mod Message
+pub mod Options
 pub mod Run

@@ -49,4 +49,5 @@ reason_text reasons.Unbuilt = codes ": unbuilt\n"
 
 -- what is told of the first fault of a script: its byte, from 0, and the reason
 unfoldable pub script_message : ℕ → Reason → List ℕ
-script_message place reason = codes "apcu_run: script: byte " ++ (decimal place ++ reason_text reason)
+script_message place reason =
+    codes "apcu_run: script: byte " ++ (decimal place ++ reason_text reason)

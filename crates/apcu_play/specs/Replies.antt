@@ -52,7 +52,8 @@ array_text members = array_head (length members) ++ (members_text members ++ cod
 abbrev pub undone : List (List ℕ) → List Reply → List (List ℕ)
 undone [] replies = []
 undone (key ∷ keys) [] = []
-undone (key ∷ keys) (reply ∷ replies) = if is_done reply then undone keys replies else key ∷ undone keys replies
+undone (key ∷ keys) (reply ∷ replies) =
+    if is_done reply then undone keys replies else key ∷ undone keys replies
 
 -- these keys, each with the same answer
 abbrev pub all_with : List ℕ → List (List ℕ) → List Member
@@ -71,7 +72,8 @@ numbered i (key ∷ keys) = (decimal i, string_text key) ∷ numbered (i + 1) ke
 abbrev pub undeleted_text : List (List ℕ) → List Reply → List ℕ
 undeleted_text keys replies = array_text (numbered 0 (undone keys replies))
 
--- An answer is noted for a key: a key that has one keeps its place in the order, with the later answer.
+-- An answer is noted for a key: a key that has one keeps its place in the order, with the later
+-- answer.
 abbrev pub noted : {A : Type 0} → List ℕ → A → List (List ℕ × A) → List (List ℕ × A)
 noted key answer [] = (key, answer) ∷ []
 noted key answer (m ∷ ms) = if bytes_eq m.0 key then (key, answer) ∷ ms else m ∷ noted key answer ms
@@ -82,10 +84,12 @@ noted_if key None notes = notes
 noted_if key (Some answer) notes = noted key answer notes
 
 -- the answers to these keys, noted one after the other behind those that are noted
-abbrev pub all_noted : {A : Type 0} → (Reply → Option A) → List (List ℕ × A) → List (List ℕ) → List Reply → List (List ℕ × A)
+abbrev pub all_noted : {A : Type 0}
+    → (Reply → Option A) → List (List ℕ × A) → List (List ℕ) → List Reply → List (List ℕ × A)
 all_noted answer_in notes [] replies = notes
 all_noted answer_in notes (key ∷ keys) [] = notes
-all_noted answer_in notes (key ∷ keys) (reply ∷ replies) = all_noted answer_in (noted_if key (answer_in reply) notes) keys replies
+all_noted answer_in notes (key ∷ keys) (reply ∷ replies) =
+    all_noted answer_in (noted_if key (answer_in reply) notes) keys replies
 
 -- the key is there
 abbrev pub there_in : Reply → Option (Unit {0})
@@ -93,7 +97,8 @@ there_in reply = if is_done reply then Some tt else None
 
 -- what a look for several keys prints: those that are there, each with true
 abbrev pub there_text : List (List ℕ) → List Reply → List ℕ
-there_text keys replies = array_text (all_with (codes "b:1;") (map (λ note. note.0) (all_noted there_in [] keys replies)))
+there_text keys replies =
+    array_text (all_with (codes "b:1;") (map (λ note. note.0) (all_noted there_in [] keys replies)))
 
 -- a value that was found
 abbrev pub value_in : Reply → Option (List Kind)
@@ -105,6 +110,8 @@ abbrev pub value_members : ℕ → List (List ℕ × List Kind) → List Member
 value_members base [] = []
 value_members base (m ∷ ms) = (m.0, text_from base m.1) ∷ value_members (base + length m.1) ms
 
--- what a fetch of several keys prints: those that were found with their values, and that it was done
+-- what a fetch of several keys prints: those that were found with their values, and that it was
+-- done
 abbrev pub found_text : List (List ℕ) → List Reply → List ℕ
-found_text keys replies = array_text (value_members 1 (all_noted value_in [] keys replies)) ++ codes "b:1;"
+found_text keys replies =
+    array_text (value_members 1 (all_noted value_in [] keys replies)) ++ codes "b:1;"

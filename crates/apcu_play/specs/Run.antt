@@ -1,5 +1,5 @@
--- What a run promises. `left` is what a source has left, `held` what a sink holds, before and after the
--- run; a source or a sink may not tell.
+-- What a run promises. `left` is what a source has left, `held` what a sink holds, before and after
+-- the run; a source or a sink may not tell.
 use Rattle.std.specs.Prelude.{◌≡◌, ◌⊎◌, Bool, true, false, ℕ, ◌<◌, ◌≤◌, List, length, take, Option, Some}
 use Rattle.std.specs.Io.KnownBytes.{prepend_known, append_known, IsAtEnd}
 use Rattle.io_edges.specs.Faults.{Rose}
@@ -16,10 +16,6 @@ use Rattle.script_read.specs.Grammar.{AreScripts}
 use Rattle.apcu_play.specs.Alone.{all_events}
 use Rattle.apcu_play.specs.Output.{output_of}
 
--- 32 MB in words of 8 bytes, 4096 slots, and no time limit
-abbrev pub default_conf : Conf
-default_conf = record { words = 4194304; slots = 4096; ttl = 0 }
-
 -- the most bytes of input
 abbrev pub longest_input : ℕ
 longest_input = 67108864
@@ -34,9 +30,11 @@ pub record WasRead (left_before left_after : Option (List ℕ)) (input : List �
   pub whole : IsAtEnd left_after
   pub short : length input ≤ longest_input
 
--- The whole input spells these scripts, and this is the output of a journal that is legal and complete for
--- them: each event once, in its worker's order, with the reply that the cache of one thread gives there.
-pub record IsAnswer (conf : Conf) (left_before left_after : Option (List ℕ)) (printed : List ℕ) : Type 0 where
+-- The whole input spells these scripts, and this is the output of a journal that is legal and
+-- complete for them: each event once, in its worker's order, with the reply that the cache of one
+-- thread gives there.
+pub record AnswersInput
+    (conf : Conf) (left_before left_after : Option (List ℕ)) (printed : List ℕ) : Type 0 where
   pub input : List ℕ
   pub scripts : List (List Step)
   pub journal : List Mark
@@ -48,21 +46,25 @@ pub record IsAnswer (conf : Conf) (left_before left_after : Option (List ℕ)) (
   pub text : printed ≡ output_of conf scripts journal
 
 -- all of it was written
-pub record Replays (conf : Conf) (left_before left_after held_before held_after : Option (List ℕ)) : Type 0 where
+pub record Replays
+    (conf : Conf) (left_before left_after held_before held_after : Option (List ℕ)) : Type 0 where
   pub printed : List ℕ
-  pub answer : IsAnswer conf left_before left_after printed
+  pub answer : AnswersInput conf left_before left_after printed
   pub written : held_after ≡ append_known held_before printed
 
 -- only the first of it was written
-pub record ReplaysPart (conf : Conf) (left_before left_after held_before held_after : Option (List ℕ)) : Type 0 where
+pub record ReplaysPart
+    (conf : Conf) (left_before left_after held_before held_after : Option (List ℕ)) : Type 0 where
   pub printed : List ℕ
   pub count : ℕ
-  pub answer : IsAnswer conf left_before left_after printed
+  pub answer : AnswersInput conf left_before left_after printed
   pub fewer : count < length printed
   pub written : held_after ≡ append_known held_before (take count printed)
 
--- The whole input spells no scripts: its first fault, from left to right, is at this place and of this reason.
-pub record IsRefusedAt (left_before left_after : Option (List ℕ)) (place : ℕ) (reason : Reason) : Type 0 where
+-- The whole input spells no scripts: its first fault, from left to right, is at this place and of
+-- this reason.
+pub record IsRefusedAt
+    (left_before left_after : Option (List ℕ)) (place : ℕ) (reason : Reason) : Type 0 where
   pub input : List ℕ
   pub read : WasRead left_before left_after input
   pub nothing : (scripts : List (List Step)) → ¬ AreScripts input scripts
@@ -81,37 +83,60 @@ pub record IsCrowded (conf : Conf) (left_before left_after : Option (List ℕ)) 
   pub spelled : AreScripts input scripts
   pub many : most_events < all_events conf.slots scripts
 
--- whether all of a text was told: it stands behind what was held, or only the first of it and a write failed
+-- whether all of a text was told: it stands behind what was held, or only the first of it and a
+-- write failed
 abbrev pub WasTold : Bool → List ℕ → Option (List ℕ) → Option (List ℕ) → ℕ → ℕ → Type 0
-WasTold true text held_before held_after faults_before faults_after = (held_after ≡ append_known held_before text) × (faults_after ≡ faults_before)
+WasTold true text held_before held_after faults_before faults_after =
+    (held_after ≡ append_known held_before text) × (faults_after ≡ faults_before)
 WasTold false text held_before held_after faults_before faults_after =
-    (count : ℕ) × (count < length text) × (held_after ≡ append_known held_before (take count text)) × Rose faults_before faults_after
+    (count : ℕ)
+    × (count < length text)
+    × (held_after ≡ append_known held_before (take count text))
+    × Rose faults_before faults_after
 
 -- the message was told, or the first of it where a write failed
-pub record IsTold (message : List ℕ) (held_before held_after : Option (List ℕ)) (faults_before faults_after : ℕ) : Type 0 where
+pub record TellsMessage
+    (message : List ℕ) (held_before held_after : Option (List ℕ)) (faults_before faults_after : ℕ)
+    : Type 0 where
   pub all : Bool
   pub told : WasTold all message held_before held_after faults_before faults_after
 
 -- a script's first fault was told
-pub record TellsRefusal (left_before left_after held_before held_after : Option (List ℕ)) (faults_before faults_after : ℕ) : Type 0 where
+pub record TellsRefusal
+    (left_before left_after held_before held_after : Option (List ℕ))
+    (faults_before faults_after : ℕ)
+    : Type 0 where
   pub place : ℕ
   pub reason : Reason
   pub refused : IsRefusedAt left_before left_after place reason
-  pub told : IsTold (script_message place reason) held_before held_after faults_before faults_after
+  pub told :
+      TellsMessage (script_message place reason) held_before held_after faults_before faults_after
 
 -- this status, if memory was found
 abbrev pub IsUnlessMemory : Status → Status → Type 0
 IsUnlessMemory expected status = (status ≡ expected) ⊎ (status ≡ NoMemory)
 
--- What a source that tells must come to, where the program was called with no words and no fault was counted.
-pub record Completes (conf : Conf) (status : Status) (words : ℕ) (left_before : Option (List ℕ)) (reads_before reads_after writes_before writes_after : ℕ) : Type 0 where
-  pub done : (input : List ℕ) (scripts : List (List Step)) → words ≡ 1 → left_before ≡ Some input → length input ≤ longest_input → AreScripts input scripts
+-- What a run on this cache must come to where its source tells and no fault was counted.
+pub record Completes
+    (conf : Conf) (status : Status) (left_before : Option (List ℕ))
+    (reads_before reads_after writes_before writes_after : ℕ)
+    : Type 0 where
+  pub done : (input : List ℕ) (scripts : List (List Step))
+      → left_before ≡ Some input → length input ≤ longest_input → AreScripts input scripts
       → all_events conf.slots scripts ≤ most_events
-      → ¬ Rose reads_before reads_after → ¬ Rose writes_before writes_after → IsUnlessMemory Done status
-  pub too_many : (input : List ℕ) (scripts : List (List Step)) → words ≡ 1 → left_before ≡ Some input → length input ≤ longest_input → AreScripts input scripts
+      → ¬ Rose reads_before reads_after → ¬ Rose writes_before writes_after
+      → IsUnlessMemory Done status
+  pub too_many : (input : List ℕ) (scripts : List (List Step))
+      → left_before ≡ Some input → length input ≤ longest_input → AreScripts input scripts
       → most_events < all_events conf.slots scripts
-      → ¬ Rose reads_before reads_after → IsUnlessMemory TooMany status
-  pub refused : (input : List ℕ) → words ≡ 1 → left_before ≡ Some input → length input ≤ longest_input → ((scripts : List (List Step)) → ¬ AreScripts input scripts)
-      → ¬ Rose reads_before reads_after → IsUnlessMemory Script status
-  pub too_long : (input : List ℕ) → words ≡ 1 → left_before ≡ Some input → longest_input < length input
-      → ¬ Rose reads_before reads_after → IsUnlessMemory TooLong status
+      → ¬ Rose reads_before reads_after
+      → IsUnlessMemory TooMany status
+  pub refused : (input : List ℕ)
+      → left_before ≡ Some input → length input ≤ longest_input
+      → ((scripts : List (List Step)) → ¬ AreScripts input scripts)
+      → ¬ Rose reads_before reads_after
+      → IsUnlessMemory Script status
+  pub too_long : (input : List ℕ)
+      → left_before ≡ Some input → longest_input < length input
+      → ¬ Rose reads_before reads_after
+      → IsUnlessMemory TooLong status

@@ -92,7 +92,8 @@ fn store_all<'a>(
     t: u64,
 ) -> Result<Vec<&'a Bytes>, AllocError>
     ensures refused { IfOk result (λ refused. map (λ key. key.now) refused.items
-        ≡ undone (map (λ pair. pair.0) pairs.now) (answers engine.old t (map (λ pair. Store pair.0 pair.1 ttl exclusive) pairs.now))) }
+        ≡ undone (map (λ pair. pair.0) pairs.now)
+        (answers engine.old t (map (λ pair. Store pair.0 pair.1 ttl exclusive) pairs.now))) }
     ensures after { OnOk result (engine.new
         ≡ after_all engine.old t (map (λ pair. Store pair.0 pair.1 ttl exclusive) pairs.now)) }
 {

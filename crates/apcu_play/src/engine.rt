@@ -57,8 +57,10 @@ impl Engine {
         t: u64,
     ) -> bool
         requires { length key.now < 2 ^ 32 }
-        ensures reply { Flag result ≡ reply_to [] t (Store key.now value.now ttl exclusive) self.old }
-        ensures after { self.new ≡ cache_after [] t (Store key.now value.now ttl exclusive) self.old }
+        ensures reply { Flag result
+            ≡ reply_to [] t (Store key.now value.now ttl exclusive) self.old }
+        ensures after { self.new
+            ≡ cache_after [] t (Store key.now value.now ttl exclusive) self.old }
     {
         let answer = self
             .core
@@ -74,7 +76,8 @@ impl Engine {
         t: u64,
     ) -> Result<Option<Graph>, AllocError>
         requires { length key.now < 2 ^ 32 }
-        ensures reply { IfOk result (λ found. fetched found ≡ reply_to [] t (Fetch key.now) self.old) }
+        ensures reply { IfOk result (λ found.
+            fetched found ≡ reply_to [] t (Fetch key.now) self.old) }
         ensures after { self.new ≡ cache_after [] t (Fetch key.now) self.old }
     {
         self.core.fetch(alloc, &mut self.words, key, t)

@@ -1,10 +1,12 @@
-//! Plays scripts of apcu calls, and prints what each call answers and the order in which they took effect.
+//! Plays scripts of apcu calls, and prints what each call answers and the order in which they took
+//! effect.
 #![tactic(auto)]
 
 mod calls;
 mod engine;
 mod messages;
 mod notes;
+mod options;
 mod play;
 mod printing;
 mod replies;

@@ -1,6 +1,6 @@
 ghost use Rattle.std.specs.Prelude.{◌≡◌};
 ghost use Rattle.apcu_play.specs.Message.{message_of, reason_text, script_message};
-ghost use Rattle.apcu_play.specs.Run.{WasTold, IsTold};
+ghost use Rattle.apcu_play.specs.Run.{WasTold, TellsMessage};
 
 use crate::status::Status;
 use io_edges::{Sink, write_all};
@@ -9,14 +9,17 @@ use notation::Reason;
 
 /// Tells a status on `err`, a line. It takes no memory.
 pub fn tell<E: Sink>(err: &mut E, status: Status)
-    ensures { IsTold (message_of status) (E.held err.old) (E.held err.new) (E.faults err.old) (E.faults err.new) }
+    ensures { TellsMessage (message_of status)
+        (E.held err.old) (E.held err.new) (E.faults err.old) (E.faults err.new) }
 {
     let _all = tell_text(err, status.message());
 }
 
-/// Tells the first fault of a script on `err`, a line with its byte, from 0, and its reason. It takes no memory.
+/// Tells the first fault of a script on `err`, a line with its byte, from 0, and its reason. It
+/// takes no memory.
 pub fn tell_fault<E: Sink>(err: &mut E, place: u64, reason: Reason)
-    ensures { IsTold (script_message place reason) (E.held err.old) (E.held err.new) (E.faults err.old) (E.faults err.new) }
+    ensures { TellsMessage (script_message place reason)
+        (E.held err.old) (E.held err.new) (E.faults err.old) (E.faults err.new) }
 {
     if !tell_text(err, b"apcu_run: script: byte ") {
         return;
@@ -30,7 +33,8 @@ pub fn tell_fault<E: Sink>(err: &mut E, place: u64, reason: Reason)
 
 // Whether all of a text was told.
 fn tell_text<E: Sink>(err: &mut E, text: &[u8]) -> bool
-    ensures { WasTold result text.now (E.held err.old) (E.held err.new) (E.faults err.old) (E.faults err.new) }
+    ensures { WasTold result text.now
+        (E.held err.old) (E.held err.new) (E.faults err.old) (E.faults err.new) }
 {
     match write_all(err, text) {
         Ok(()) => true,

@@ -1,4 +1,5 @@
-//! Answers that are noted for the keys of a call: a key that comes again keeps its place, with the later answer.
+//! Answers that are noted for the keys of a call: a key that comes again keeps its place, with the
+//! later answer.
 
 ghost use Rattle.std.specs.Prelude.{◌≡◌, [], map, OnOk};
 ghost use Rattle.apcu_play.specs.Replies.{noted};

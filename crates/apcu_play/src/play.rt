@@ -49,8 +49,9 @@ fn events_of(steps: &[Step], slots: u32) -> Option<u32>
     Some(events as u32)
 }
 
-/// Plays the scripts and gathers what is printed: the replies of each worker, then the journal. Nothing is played
-/// where the calls may make more than 4,194,304 events, each worker's end included.
+/// Plays the scripts and gathers what is printed: the replies of each worker, then the journal.
+/// Nothing is played where the calls may make more than 4,194,304 events, each worker's end
+/// included.
 pub fn play(alloc: Global, conf: &Conf, scripts: Scripts) -> Result<ByteOut, PlayFault>
     requires good { IsGood conf.now }
     requires alone { length scripts ≤ 1 }

@@ -1,12 +1,15 @@
-ghost use Rattle.std.specs.Prelude.{◌≡◌, ◌≢◌, ◌↔◌, ◌⊎◌, ◌+◌, ◌<◌, ◌≤◌, ℕ, List, length, Some, IfOk, IfErr, IfSome, OnErr, IsErrOf, Err};
+ghost use Rattle.std.specs.Prelude.{◌≡◌, ◌≢◌, ◌↔◌, ◌⊎◌, ◌+◌, ◌<◌, ◌≤◌, ℕ, List, length, Some, None, IfOk, IfErr, IfSome, OnErr, IsErrOf, Err};
 ghost use Rattle.std.specs.Io.KnownBytes.{prepend_known, append_known, IsAtEnd};
 ghost use Rattle.io_edges.specs.Faults.{Rose};
 ghost use Rattle.io_edges.specs.Reading.{HasTaken};
+ghost use Rattle.apcu_model.specs.Conf.{IsGood};
 ghost use Rattle.script_read.specs.Gives.{IsFirstFault, ReadsScripts};
 ghost use Rattle.apcu_play.specs.Message.{message_of, script_message};
-ghost use Rattle.apcu_play.specs.Run.{default_conf, longest_input, WasRead, IsAnswer, Replays, ReplaysPart, IsRefusedAt, IsRefused, IsCrowded, IsTold, TellsRefusal, Completes};
+ghost use Rattle.apcu_play.specs.Options.{conf_of};
+ghost use Rattle.apcu_play.specs.Run.{longest_input, WasRead, AnswersInput, Replays, ReplaysPart, IsRefusedAt, IsRefused, IsCrowded, TellsMessage, TellsRefusal, Completes};
 
 use crate::messages::{tell, tell_fault};
+use crate::options::told_conf;
 use crate::play::{PlayFault, play};
 use crate::status::Status;
 use apcu_model::Conf;
@@ -20,19 +23,18 @@ use std::thread::Threads;
 // The most bytes of input.
 const LONGEST_INPUT: usize = 67_108_864;
 
-const DEFAULT_CONF: Conf = Conf {
-    words: 4_194_304,
-    slots: 4096,
-    ttl: 0,
-};
-
 // The whole input.
 fn input_of<S: Source>(alloc: Global, input: &mut S) -> Result<Vec<u8>, Status>
-    ensures read { IfOk result (λ bytes. WasRead (S.left input.old) (S.left input.new) bytes.items) }
-    ensures too_long { IsErrOf result Status.TooLong → HasTaken (S.left input.old) (S.left input.new) (longest_input + 1) }
-    ensures longer { IsErrOf result Status.TooLong → IfSome (S.left input.old) (λ left. longest_input < length left) }
-    ensures fault { IsErrOf result Status.ReadFault → Rose (S.faults input.old) (S.faults input.new) }
-    ensures others { OnErr result ((IsErrOf result Status.TooLong) ⊎ ((IsErrOf result Status.ReadFault) ⊎ (IsErrOf result Status.NoMemory))) }
+    ensures read { IfOk result (λ bytes.
+        WasRead (S.left input.old) (S.left input.new) bytes.items) }
+    ensures too_long { IsErrOf result Status.TooLong
+        → HasTaken (S.left input.old) (S.left input.new) (longest_input + 1) }
+    ensures longer { IsErrOf result Status.TooLong
+        → IfSome (S.left input.old) (λ left. longest_input < length left) }
+    ensures fault { IsErrOf result Status.ReadFault
+        → Rose (S.faults input.old) (S.faults input.new) }
+    ensures others { OnErr result ((IsErrOf result Status.TooLong)
+        ⊎ ((IsErrOf result Status.ReadFault) ⊎ (IsErrOf result Status.NoMemory))) }
 {
     match read_all(alloc, input, LONGEST_INPUT) {
         Ok(bytes) => Ok(bytes),
@@ -81,22 +83,29 @@ fn ending_of(fault: &ScriptFault) -> Ending
 }
 
 // What the input asks for, as it is to be printed.
-fn answer<S: Source>(alloc: Global, input: &mut S) -> Result<ByteOut, Ending>
-    ensures answer { IfOk result (λ out. IsAnswer default_conf (S.left input.old) (S.left input.new) out) }
-    ensures script { IfErr result (λ e. e.status ≡ Status.Script → IsRefusedAt (S.left input.old) (S.left input.new) e.place e.reason) }
+fn answer<S: Source>(alloc: Global, conf: &Conf, input: &mut S) -> Result<ByteOut, Ending>
+    requires good { IsGood conf.now }
+    ensures answer { IfOk result (λ out.
+        AnswersInput conf.now (S.left input.old) (S.left input.new) out) }
+    ensures script { IfErr result (λ e. e.status ≡ Status.Script
+        → IsRefusedAt (S.left input.old) (S.left input.new) e.place e.reason) }
     ensures too_many { IfErr result (λ e. e.status ≡ Status.TooMany
-        → IsCrowded default_conf (S.left input.old) (S.left input.new)) }
-    ensures too_long { IfErr result (λ e. e.status ≡ Status.TooLong → HasTaken (S.left input.old) (S.left input.new) (longest_input + 1)) }
-    ensures longer { IfErr result (λ e. e.status ≡ Status.TooLong → IfSome (S.left input.old) (λ left. longest_input < length left)) }
-    ensures fault { IfErr result (λ e. e.status ≡ Status.ReadFault → Rose (S.faults input.old) (S.faults input.new)) }
-    ensures others { IfErr result (λ e. (e.status ≢ Status.Done) × (e.status ≢ Status.Usage) × (e.status ≢ Status.WriteFault)) }
+        → IsCrowded conf.now (S.left input.old) (S.left input.new)) }
+    ensures too_long { IfErr result (λ e. e.status ≡ Status.TooLong
+        → HasTaken (S.left input.old) (S.left input.new) (longest_input + 1)) }
+    ensures longer { IfErr result (λ e. e.status ≡ Status.TooLong
+        → IfSome (S.left input.old) (λ left. longest_input < length left)) }
+    ensures fault { IfErr result (λ e. e.status ≡ Status.ReadFault
+        → Rose (S.faults input.old) (S.faults input.new)) }
+    ensures others { IfErr result (λ e. (e.status ≢ Status.Done)
+        × (e.status ≢ Status.Usage) × (e.status ≢ Status.WriteFault)) }
 {
     let bytes = match input_of(alloc, input) {
         Ok(bytes) => bytes,
         Err(status) => return Err(Ending::of(status)),
     };
     match read_scripts(alloc, &bytes) {
-        Ok(scripts) => match play(alloc, &DEFAULT_CONF, scripts) {
+        Ok(scripts) => match play(alloc, conf, scripts) {
             Ok(out) => Ok(out),
             Err(PlayFault::TooMany) => Err(Ending::of(Status::TooMany)),
             Err(PlayFault::Memory) => Err(Ending::of(Status::NoMemory)),
@@ -105,29 +114,30 @@ fn answer<S: Source>(alloc: Global, input: &mut S) -> Result<ByteOut, Ending>
     }
 }
 
-// Answers the input on `out`, or tells why not.
-fn outcome<S: Source, K: Sink>(
-    alloc: Global,
-    words: &[String],
-    input: &mut S,
-    out: &mut K,
-) -> Ending
-    ensures replayed { result.status ≡ Status.Done → Replays default_conf (S.left input.old) (S.left input.new) (K.held out.old) (K.held out.new) }
-    ensures usage { (result.status ≡ Status.Usage) ↔ (length words.now ≢ 1) }
-    ensures script { result.status ≡ Status.Script → IsRefusedAt (S.left input.old) (S.left input.new) result.place result.reason }
+// Answers the input on `out` by a cache of this shape, or tells why not.
+fn outcome_on<S: Source, K: Sink>(alloc: Global, conf: &Conf, input: &mut S, out: &mut K) -> Ending
+    requires good { IsGood conf.now }
+    ensures replayed { result.status ≡ Status.Done → Replays conf.now
+        (S.left input.old) (S.left input.new) (K.held out.old) (K.held out.new) }
+    ensures no_usage { result.status ≢ Status.Usage }
+    ensures script { result.status ≡ Status.Script
+        → IsRefusedAt (S.left input.old) (S.left input.new) result.place result.reason }
     ensures too_many { result.status ≡ Status.TooMany
-        → IsCrowded default_conf (S.left input.old) (S.left input.new) }
-    ensures too_long { result.status ≡ Status.TooLong → HasTaken (S.left input.old) (S.left input.new) (longest_input + 1) }
-    ensures longer { result.status ≡ Status.TooLong → IfSome (S.left input.old) (λ left. longest_input < length left) }
-    ensures read_fault { result.status ≡ Status.ReadFault → Rose (S.faults input.old) (S.faults input.new) }
-    ensures write_fault { result.status ≡ Status.WriteFault → Rose (K.faults out.old) (K.faults out.new) }
-    ensures cut { result.status ≡ Status.WriteFault → ReplaysPart default_conf (S.left input.old) (S.left input.new) (K.held out.old) (K.held out.new) }
-    ensures unchanged { result.status ≢ Status.Done → result.status ≢ Status.WriteFault → (K.held out.new ≡ K.held out.old) × (K.faults out.new ≡ K.faults out.old) }
+        → IsCrowded conf.now (S.left input.old) (S.left input.new) }
+    ensures too_long { result.status ≡ Status.TooLong
+        → HasTaken (S.left input.old) (S.left input.new) (longest_input + 1) }
+    ensures longer { result.status ≡ Status.TooLong
+        → IfSome (S.left input.old) (λ left. longest_input < length left) }
+    ensures read_fault { result.status ≡ Status.ReadFault
+        → Rose (S.faults input.old) (S.faults input.new) }
+    ensures write_fault { result.status ≡ Status.WriteFault
+        → Rose (K.faults out.old) (K.faults out.new) }
+    ensures cut { result.status ≡ Status.WriteFault → ReplaysPart conf.now
+        (S.left input.old) (S.left input.new) (K.held out.old) (K.held out.new) }
+    ensures unchanged { result.status ≢ Status.Done → result.status ≢ Status.WriteFault
+        → (K.held out.new ≡ K.held out.old) × (K.faults out.new ≡ K.faults out.old) }
 {
-    if words.len() != 1 {
-        return Ending::of(Status::Usage);
-    }
-    match answer(alloc, input) {
+    match answer(alloc, conf, input) {
         Ok(text) => match write_all(out, text.as_slice()) {
             Ok(()) => Ending::of(Status::Done),
             Err(_) => Ending::of(Status::WriteFault),
@@ -136,14 +146,49 @@ fn outcome<S: Source, K: Sink>(
     }
 }
 
+// Answers the input on `out` by the cache that the words tell, or tells why not.
+fn outcome<S: Source, K: Sink>(
+    alloc: Global,
+    words: &[String],
+    input: &mut S,
+    out: &mut K,
+) -> Ending
+    ensures replayed { IfSome (conf_of words.now) (λ conf. result.status ≡ Status.Done
+        → Replays conf (S.left input.old) (S.left input.new) (K.held out.old) (K.held out.new)) }
+    ensures usage { (result.status ≡ Status.Usage) ↔ (conf_of words.now ≡ None) }
+    ensures script { result.status ≡ Status.Script
+        → IsRefusedAt (S.left input.old) (S.left input.new) result.place result.reason }
+    ensures too_many { IfSome (conf_of words.now) (λ conf. result.status ≡ Status.TooMany
+        → IsCrowded conf (S.left input.old) (S.left input.new)) }
+    ensures too_long { result.status ≡ Status.TooLong
+        → HasTaken (S.left input.old) (S.left input.new) (longest_input + 1) }
+    ensures longer { result.status ≡ Status.TooLong
+        → IfSome (S.left input.old) (λ left. longest_input < length left) }
+    ensures read_fault { result.status ≡ Status.ReadFault
+        → Rose (S.faults input.old) (S.faults input.new) }
+    ensures write_fault { result.status ≡ Status.WriteFault
+        → Rose (K.faults out.old) (K.faults out.new) }
+    ensures cut { IfSome (conf_of words.now) (λ conf. result.status ≡ Status.WriteFault
+        → ReplaysPart conf (S.left input.old) (S.left input.new)
+        (K.held out.old) (K.held out.new)) }
+    ensures unchanged { result.status ≢ Status.Done → result.status ≢ Status.WriteFault
+        → (K.held out.new ≡ K.held out.old) × (K.faults out.new ≡ K.faults out.old) }
+{
+    match told_conf(words) {
+        Some(conf) => outcome_on(alloc, &conf, input, out),
+        None => Ending::of(Status::Usage),
+    }
+}
+
 // Tells how a run ended, where it is not done.
 fn tell_ending<E: Sink>(err: &mut E, ending: Ending)
     ensures silent { ending.status ≡ Status.Done
         → (E.held err.new ≡ E.held err.old) × (E.faults err.new ≡ E.faults err.old) }
     ensures told { ending.status ≢ Status.Done → ending.status ≢ Status.Script
-        → IsTold (message_of ending.status)
+        → TellsMessage (message_of ending.status)
         (E.held err.old) (E.held err.new) (E.faults err.old) (E.faults err.new) }
-    ensures script { ending.status ≡ Status.Script → IsTold (script_message ending.place ending.reason)
+    ensures script { ending.status ≡ Status.Script
+        → TellsMessage (script_message ending.place ending.reason)
         (E.held err.old) (E.held err.new) (E.faults err.old) (E.faults err.new) }
 {
     match ending.status {
@@ -153,15 +198,21 @@ fn tell_ending<E: Sink>(err: &mut E, ending: Ending)
     }
 }
 
-/// Plays the scripts of `input` and prints on `out` what each worker's calls answer and the journal: the
-/// order in which the calls took effect. What went wrong is told on `err`, a line.
+/// Plays the scripts of `input` and prints on `out` what each worker's calls answer and the
+/// journal: the order in which the calls took effect. What went wrong is told on `err`, a line.
 ///
-/// `words` are the program's words with its name first; it has no options. Each worker's calls are those
-/// of PHP's APCu functions, one on a line, with their arguments in PHP's serialize notation.
+/// `words` are the program's words with its name first: the name alone, or the name and then
+/// exactly `--shm-size`, SIZE, `--slots`, N, `--ttl`, N. SIZE is one to ten digits with at most one
+/// of `K`, `M`, `G`, `k`, `m` and `g` behind them, a multiple of 16 bytes from 256 to 134,217,728
+/// (PHP's `apc.shm_size`, 32M where it is left out); the slots an even number from 2 to 1,048,576
+/// that leaves 16 of the segment's words of 8 bytes (4096); the last the seconds of PHP's `apc.ttl`
+/// (0). A script's calls are those of PHP's APCu functions, one on a line, with their arguments in
+/// PHP's serialize notation.
 ///
-/// Whatever the script, each reply printed is the one that a cache of one thread gives at that call's place
-/// in the printed journal (`replayed`). Every other status has its cause in a clause of its own, and leaves
-/// `out` as it was, but for `WriteFault`, which leaves the first of what was to be printed.
+/// Whatever the script, each reply printed is the one that a cache of one thread gives at that
+/// call's place in the printed journal (`replayed`). Every other status has its cause in a clause
+/// of its own, and leaves `out` as it was, but for `WriteFault`, which leaves the first of what was
+/// to be printed.
 pub fn run<R: Threads + Wait + Sync, S: Source, K: Sink, E: Sink, G: Gate + Sync>(
     rt: &R,
     alloc: Global,
@@ -171,26 +222,39 @@ pub fn run<R: Threads + Wait + Sync, S: Source, K: Sink, E: Sink, G: Gate + Sync
     err: &mut E,
     gate: &G,
 ) -> Status
-    // What is printed is the output of a journal that is legal and complete for the scripts of the whole input.
-    ensures replayed { result ≡ Status.Done → Replays default_conf (S.left input.old) (S.left input.new) (K.held out.old) (K.held out.new) }
+    // What is printed is the output of a journal that is legal and complete for the scripts of the
+    // whole input, on the cache that the words tell.
+    ensures replayed { IfSome (conf_of words.now) (λ conf. result ≡ Status.Done
+        → Replays conf (S.left input.old) (S.left input.new) (K.held out.old) (K.held out.new)) }
 
     // Each other status, and when it comes.
-    ensures usage { (result ≡ Status.Usage) ↔ (length words.now ≢ 1) }
+    ensures usage { (result ≡ Status.Usage) ↔ (conf_of words.now ≡ None) }
     ensures script { result ≡ Status.Script → IsRefused (S.left input.old) (S.left input.new) }
-    ensures too_many { result ≡ Status.TooMany
-        → IsCrowded default_conf (S.left input.old) (S.left input.new) }
-    ensures too_long { result ≡ Status.TooLong → HasTaken (S.left input.old) (S.left input.new) (longest_input + 1) }
-    ensures longer { result ≡ Status.TooLong → IfSome (S.left input.old) (λ left. longest_input < length left) }
-    ensures read_fault { result ≡ Status.ReadFault → Rose (S.faults input.old) (S.faults input.new) }
+    ensures too_many { IfSome (conf_of words.now) (λ conf. result ≡ Status.TooMany
+        → IsCrowded conf (S.left input.old) (S.left input.new)) }
+    ensures too_long { result ≡ Status.TooLong
+        → HasTaken (S.left input.old) (S.left input.new) (longest_input + 1) }
+    ensures longer { result ≡ Status.TooLong
+        → IfSome (S.left input.old) (λ left. longest_input < length left) }
+    ensures read_fault { result ≡ Status.ReadFault
+        → Rose (S.faults input.old) (S.faults input.new) }
     ensures write_fault { result ≡ Status.WriteFault → Rose (K.faults out.old) (K.faults out.new) }
-    ensures complete { Completes default_conf result (length words.now) (S.left input.old) (S.faults input.old) (S.faults input.new) (K.faults out.old) (K.faults out.new) }
+    ensures complete { IfSome (conf_of words.now) (λ conf. Completes conf result (S.left input.old)
+        (S.faults input.old) (S.faults input.new) (K.faults out.old) (K.faults out.new)) }
 
     // What is left on the sinks.
-    ensures cut { result ≡ Status.WriteFault → ReplaysPart default_conf (S.left input.old) (S.left input.new) (K.held out.old) (K.held out.new) }
-    ensures unchanged { result ≢ Status.Done → result ≢ Status.WriteFault → (K.held out.new ≡ K.held out.old) × (K.faults out.new ≡ K.faults out.old) }
-    ensures silent { result ≡ Status.Done → (E.held err.new ≡ E.held err.old) × (E.faults err.new ≡ E.faults err.old) }
-    ensures told { result ≢ Status.Done → result ≢ Status.Script → IsTold (message_of result) (E.held err.old) (E.held err.new) (E.faults err.old) (E.faults err.new) }
-    ensures told_script { result ≡ Status.Script → TellsRefusal (S.left input.old) (S.left input.new) (E.held err.old) (E.held err.new) (E.faults err.old) (E.faults err.new) }
+    ensures cut { IfSome (conf_of words.now) (λ conf. result ≡ Status.WriteFault
+        → ReplaysPart conf (S.left input.old) (S.left input.new)
+        (K.held out.old) (K.held out.new)) }
+    ensures unchanged { result ≢ Status.Done → result ≢ Status.WriteFault
+        → (K.held out.new ≡ K.held out.old) × (K.faults out.new ≡ K.faults out.old) }
+    ensures silent { result ≡ Status.Done
+        → (E.held err.new ≡ E.held err.old) × (E.faults err.new ≡ E.faults err.old) }
+    ensures told { result ≢ Status.Done → result ≢ Status.Script → TellsMessage (message_of result)
+        (E.held err.old) (E.held err.new) (E.faults err.old) (E.faults err.new) }
+    ensures told_script { result ≡ Status.Script → TellsRefusal
+        (S.left input.old) (S.left input.new)
+        (E.held err.old) (E.held err.new) (E.faults err.old) (E.faults err.new) }
 {
     readings_are_scripts();
     let _ = rt;

@@ -6,7 +6,7 @@ ghost use Rattle.apcu_play.specs.Message.{message_of, code_of};
 pub enum Status {
     /// All calls were made, and what they answered was printed.
     Done,
-    /// The command line is not one of this program.
+    /// The words are not those of this program, or an option's value is out of its range.
     Usage,
     /// The input spells no scripts. The message has the first fault's place and reason.
     Script,
@@ -39,8 +39,8 @@ impl Status {
         }
     }
 
-    /// What is told of it on standard error, a line; nothing where the run is done, and nothing here of a
-    /// script with a fault, of which place and reason are told.
+    /// What is told of it on standard error, a line; nothing where the run is done, and nothing
+    /// here of a script with a fault, of which place and reason are told.
     pub fn message(self) -> &'static [u8]
         ensures { result.now ≡ message_of self }
     {

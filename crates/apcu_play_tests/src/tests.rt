@@ -11,10 +11,11 @@ const STORE_AND_FETCH: &[u8] = b"worker\napcu_store s:1:\"a\"; i:5;\napcu_fetch 
 
 const PRINTED: &[u8] = b"worker 0\nb:1;\ni:5;b:1;\njournal\n0\n0\n0\n";
 
-// A run: its input, the most bytes of a read and of a write, the numbers from 0 of the reads and writes that
-// fail; how it ends, what it prints and what it tells.
+// A run: the values of the three options, the input, the most bytes of a read and of a write, the
+// numbers from 0 of the reads and writes that fail; how it ends, what it prints and what it tells.
 #[derive(Clone, Copy)]
 struct Run<'a> {
+    values: [&'static str; 3],
     input: &'a [u8],
     piece: usize,
     fails: [&'a [u64]; 2],
@@ -23,9 +24,16 @@ struct Run<'a> {
     told: &'a [u8],
 }
 
+// 512 words, of which 480 are for blocks.
+const SMALL: [&str; 3] = ["4096", "32", "0"];
+
+// A megabyte.
+const LARGER: [&str; 3] = ["1M", "32", "0"];
+
 // A run without faults, read seven bytes at a time.
 fn whole<'a>(input: &'a [u8], status: Status, printed: &'a [u8], told: &'a [u8]) -> Run<'a> {
     Run {
+        values: SMALL,
         input,
         piece: 7,
         fails: [[].as_slice(), [].as_slice()],
@@ -35,17 +43,38 @@ fn whole<'a>(input: &'a [u8], status: Status, printed: &'a [u8], told: &'a [u8])
     }
 }
 
+// The program's name, and the options with these values.
+fn words_of(alloc: Global, values: [&'static str; 3]) -> Result<Vec<String>, Fail> {
+    let mut words = Vec::new(alloc);
+    words.push(String::from_str(alloc, "apcu_run")?)?;
+    for (i, name) in ["--shm-size", "--slots", "--ttl"].iter().enumerate() {
+        words.push(String::from_str(alloc, name)?)?;
+        words.push(String::from_str(alloc, values[i])?)?;
+    }
+    Ok(words)
+}
+
 fn expect<R: Threads + Wait + Sync + Abort>(
     rt: &R,
     alloc: Global,
     case: Run<'_>,
 ) -> Result<(), Fail> {
+    let words = words_of(alloc, case.values)?;
+    expect_of(rt, alloc, &words, case)
+}
+
+// The same of a program that is called with these words.
+fn expect_of<R: Threads + Wait + Sync + Abort>(
+    rt: &R,
+    alloc: Global,
+    words: &[String],
+    case: Run<'_>,
+) -> Result<(), Fail> {
     assert!(rt; case.piece > 0);
-    let words = [String::from_str(alloc, "apcu_run")?];
     let mut input = MemSource::new(case.input, case.piece, case.fails[0]);
     let mut out = MemSink::new(alloc, 16384, case.piece, case.fails[1])?;
     let mut err = MemSink::new(alloc, 64, 64, &[])?;
-    let status = run(rt, alloc, &words, &mut input, &mut out, &mut err, &NoGate);
+    let status = run(rt, alloc, words, &mut input, &mut out, &mut err, &NoGate);
     assert_eq!(rt; status, case.status);
     assert_eq!(rt; out.as_slice(), case.printed);
     assert_eq!(rt; err.as_slice(), case.told);
@@ -73,7 +102,10 @@ fn comes_back(
     printed.push(b"worker 0\nb:1;\n")?;
     printed.push(value)?;
     printed.push(b"b:1;\njournal\n0\n0\n0\n")?;
-    let case = whole(script.as_slice(), Status::Done, printed.as_slice(), b"");
+    let case = Run {
+        values: LARGER,
+        ..whole(script.as_slice(), Status::Done, printed.as_slice(), b"")
+    };
     expect(rt, alloc, case)
 }
 
@@ -138,7 +170,9 @@ fn behind_the_pairs(
 fn keys_of_an_array(rt: HostRuntime) -> Result<(), Fail> {
     for (lines, printed, events) in [
         (
-            b"apcu_fetch a:4:{i:0;s:1:\"7\";i:1;s:1:\"a\";i:2;s:1:\"b\";i:3;s:1:\"7\";}\n".as_slice(),
+            b"apcu_fetch a:4:{i:0;s:1:\"7\";i:1;s:1:\"a\";\
+            i:2;s:1:\"b\";i:3;s:1:\"7\";}\n"
+                .as_slice(),
             b"a:2:{i:7;i:5;s:1:\"a\";a:1:{i:0;R:3;}}b:1;\n".as_slice(),
             7,
         ),
@@ -309,6 +343,58 @@ fn values_with_a_fault(rt: HostRuntime) -> Result<(), Fail> {
     Ok(())
 }
 
+#[test]
+fn sizes_slots_and_limits(rt: HostRuntime) -> Result<(), Fail> {
+    for (size, slots, ttl) in [
+        ("256", "2", "0"),
+        ("256", "16", "4294967295"),
+        ("0000004096", "00000000000000000032", "0"),
+        ("4k", "32", "00000000000000000010"),
+        ("1K", "32", "0"),
+        ("1m", "1048", "10"),
+        ("1M", "1048", "10"),
+    ] {
+        let case = Run {
+            values: [size, slots, ttl],
+            ..whole(b"", Status::Done, b"journal\n", b"")
+        };
+        expect(&rt, rt.alloc(), case)?;
+    }
+    Ok(())
+}
+
+#[test]
+fn faulty_sizes_slots_and_limits(rt: HostRuntime) -> Result<(), Fail> {
+    for (size, slots, ttl) in [
+        ("4096", "31", "0"),
+        ("4097", "32", "0"),
+        ("4104", "32", "0"),
+        ("240", "2", "0"),
+        ("256", "18", "0"),
+        ("4096", "0", "0"),
+        ("128M", "1048578", "0"),
+        ("134217744", "32", "0"),
+        ("1G", "32", "0"),
+        ("00000004096", "32", "0"),
+        ("", "32", "0"),
+        ("K", "32", "0"),
+        ("4kk", "32", "0"),
+        ("4x", "32", "0"),
+        ("+4096", "32", "0"),
+        ("4096", "", "0"),
+        ("4096", "000000000000000000032", "0"),
+        ("4096", "32", "4294967296"),
+        ("4096", "32", "-1"),
+    ] {
+        let case = Run {
+            values: [size, slots, ttl],
+            ..whole(STORE_AND_FETCH, Status::Usage, b"", b"apcu_run: usage\n")
+        };
+        expect(&rt, rt.alloc(), case)?;
+    }
+    Ok(())
+}
+
 // The program is called with these words.
 fn expect_usage<R: Threads + Wait + Sync + Abort>(
     rt: &R,
@@ -331,15 +417,273 @@ fn expect_usage<R: Threads + Wait + Sync + Abort>(
 
 #[test]
 fn command_lines(rt: HostRuntime) -> Result<(), Fail> {
-    for words in [[].as_slice(), &["apcu_run", "--help"]] {
+    for words in [
+        [].as_slice(),
+        &["apcu_run", "--help"],
+        &["apcu_run", "--slots", "32"],
+        &["apcu_run", "--shm-size", "4096", "--slots", "32", "--ttl"],
+        &[
+            "apcu_run",
+            "--slots",
+            "32",
+            "--shm-size",
+            "4096",
+            "--ttl",
+            "0",
+        ],
+        &[
+            "apcu_run",
+            "--shm-size",
+            "4096",
+            "--slots",
+            "32",
+            "--tt",
+            "0",
+        ],
+        &[
+            "apcu_run",
+            "--shm-size",
+            "4096",
+            "--slots",
+            "32",
+            "--ttl",
+            "0",
+            "0",
+        ],
+    ] {
         expect_usage(&rt, rt.alloc(), words)?;
     }
     Ok(())
 }
 
+#[test]
+fn no_options(rt: HostRuntime) -> Result<(), Fail> {
+    let alloc = rt.alloc();
+    let words = [String::from_str(alloc, "apcu_run")?];
+    let case = whole(STORE_AND_FETCH, Status::Done, PRINTED, b"");
+    expect_of(&rt, alloc, &words, case)
+}
+
+// A script as pieces of text, and of so many bytes `z`.
+#[derive(Clone, Copy)]
+enum Piece {
+    Text(&'static [u8]),
+    Zs(usize),
+}
+
+fn script_of(alloc: Global, pieces: &[Piece]) -> Result<ByteOut, Fail> {
+    let mut script = ByteOut::new(alloc);
+    script.push(b"worker\n")?;
+    for piece in pieces {
+        match *piece {
+            Piece::Text(text) => script.push(text)?,
+            Piece::Zs(len) => push_zs(&mut script, len)?,
+        }
+    }
+    Ok(script)
+}
+
+fn push_zs(script: &mut ByteOut, len: usize) -> Result<(), Fail> {
+    for _ in 0..len {
+        script.push(b"z")?;
+    }
+    Ok(())
+}
+
+// What a script in a small segment prints in front of its journal.
+fn expect_lines<R: Threads + Wait + Sync + Abort>(
+    rt: &R,
+    alloc: Global,
+    ttl: &'static str,
+    script: &[u8],
+    printed: &[u8],
+    events: usize,
+) -> Result<(), Fail> {
+    let mut wanted = ByteOut::new(alloc);
+    wanted.push(b"worker 0\n")?;
+    wanted.push(printed)?;
+    wanted.push(b"journal\n")?;
+    for _event in 0..events {
+        wanted.push(b"0\n")?;
+    }
+    let case = Run {
+        values: ["4096", "32", ttl],
+        ..whole(script, Status::Done, wanted.as_slice(), b"")
+    };
+    expect(rt, alloc, case)
+}
+
+#[test]
+fn what_a_small_segment_holds(rt: HostRuntime) -> Result<(), Fail> {
+    use Piece::{Text, Zs};
+    for (pieces, printed, events) in [
+        // 482 words are too many, 480 are all.
+        (
+            [
+                Text(b"apcu_store s:1:\"k\"; i:1;\napcu_store s:1:\"a\"; s:3729:\"".as_slice()),
+                Zs(3729),
+                Text(b"\";\napcu_exists s:1:\"k\";\n"),
+            ]
+            .as_slice(),
+            b"b:1;\nb:0;\nb:1;\n".as_slice(),
+            4,
+        ),
+        (
+            &[
+                Text(b"apcu_store s:1:\"a\"; s:3728:\""),
+                Zs(3728),
+                Text(b"\";\n"),
+            ],
+            b"b:1;\n",
+            2,
+        ),
+        // One value of two that is too large.
+        (
+            &[
+                Text(b"apcu_store a:2:{s:1:\"a\";i:1;s:1:\"b\";s:3729:\""),
+                Zs(3729),
+                Text(b"\";}\n"),
+            ],
+            b"a:1:{s:1:\"b\";i:-1;}\n",
+            3,
+        ),
+        // Two gaps side by side are one, whichever came first.
+        (
+            &[
+                Text(b"apcu_store s:1:\"a\"; s:1168:\""),
+                Zs(1168),
+                Text(b"\";\napcu_store s:1:\"b\"; s:1168:\""),
+                Zs(1168),
+                Text(b"\";\napcu_store s:1:\"c\"; s:1168:\""),
+                Zs(1168),
+                Text(
+                    b"\";\n\
+                    apcu_delete s:1:\"a\";\napcu_delete s:1:\"b\";\n\
+                    apcu_store s:1:\"d\"; s:2448:\"",
+                ),
+                Zs(2448),
+                Text(b"\";\napcu_exists s:1:\"c\";\n"),
+            ],
+            b"b:1;\nb:1;\nb:1;\nb:1;\nb:1;\nb:1;\nb:1;\n",
+            8,
+        ),
+        (
+            &[
+                Text(b"apcu_store s:1:\"a\"; s:1168:\""),
+                Zs(1168),
+                Text(b"\";\napcu_store s:1:\"b\"; s:1168:\""),
+                Zs(1168),
+                Text(b"\";\napcu_store s:1:\"c\"; s:1168:\""),
+                Zs(1168),
+                Text(
+                    b"\";\n\
+                    apcu_delete s:1:\"b\";\napcu_delete s:1:\"a\";\n\
+                    apcu_store s:1:\"d\"; s:2448:\"",
+                ),
+                Zs(2448),
+                Text(b"\";\napcu_exists s:1:\"c\";\n"),
+            ],
+            b"b:1;\nb:1;\nb:1;\nb:1;\nb:1;\nb:1;\nb:1;\n",
+            8,
+        ),
+        // Values of two keys are numbered one behind the other.
+        (
+            &[Text(
+                b"apcu_store s:1:\"a\"; a:1:{i:0;R:1;}\n\
+                apcu_store s:1:\"5\"; O:1:\"A\":1:{s:1:\"x\";r:1;}\n\
+                apcu_fetch a:2:{i:0;s:1:\"a\";i:1;s:1:\"5\";}\n",
+            )],
+            b"b:1;\nb:1;\na:2:{s:1:\"a\";a:1:{i:0;R:2;}i:5;O:1:\"A\":1:{s:1:\"x\";r:3;}}b:1;\n",
+            5,
+        ),
+    ] {
+        let script = script_of(rt.alloc(), pieces)?;
+        expect_lines(&rt, rt.alloc(), "0", script.as_slice(), printed, events)?;
+    }
+    Ok(())
+}
+
+// Thirty rows of 16 words fill the segment, `k01` with this behind its value; then come these
+// lines.
+fn behind_thirty(alloc: Global, first: &[u8], lines: &[u8]) -> Result<ByteOut, Fail> {
+    let mut script = ByteOut::new(alloc);
+    script.push(b"worker\ntime i:100;\napcu_store s:3:\"k01\"; i:1;")?;
+    script.push(first)?;
+    script.push(b"\n")?;
+    for i in 2..=30u8 {
+        script.push(b"apcu_store s:3:\"k")?;
+        script.push(&[b'0' + i / 10, b'0' + i % 10])?;
+        script.push(b"\"; i:1;\n")?;
+    }
+    script.push(lines)?;
+    Ok(script)
+}
+
+#[test]
+fn a_full_segment_makes_room(rt: HostRuntime) -> Result<(), Fail> {
+    let alloc = rt.alloc();
+    for (ttl, first, lines, printed, events) in [
+        // All rows go.
+        (
+            "0",
+            b"".as_slice(),
+            b"apcu_store s:3:\"k31\"; i:1;\n\
+            apcu_fetch s:3:\"k01\";\n\
+            apcu_exists a:3:{i:0;s:3:\"k02\";i:1;s:3:\"k30\";i:2;s:3:\"k31\";}\n"
+                .as_slice(),
+            b"b:1;\nb:0;b:0;\na:1:{s:3:\"k31\";b:1;}\n".as_slice(),
+            36,
+        ),
+        // One row is expired, and goes alone.
+        (
+            "10",
+            b" i:5;",
+            b"time i:106;\n\
+            apcu_store s:3:\"k31\"; i:1;\n\
+            apcu_fetch s:3:\"k02\";\n\
+            apcu_fetch s:3:\"k01\";\n\
+            apcu_exists a:3:{i:0;s:3:\"k03\";i:1;s:3:\"k30\";i:2;s:3:\"k31\";}\n",
+            b"b:1;\ni:1;b:1;\nb:0;b:0;\na:3:{s:3:\"k03\";b:1;s:3:\"k30\";b:1;s:3:\"k31\";b:1;}\n",
+            37,
+        ),
+    ] {
+        let script = behind_thirty(alloc, first, lines)?;
+        let mut wanted = ByteOut::new(alloc);
+        for _ in 0..30 {
+            wanted.push(b"b:1;\n")?;
+        }
+        wanted.push(printed)?;
+        expect_lines(
+            &rt,
+            alloc,
+            ttl,
+            script.as_slice(),
+            wanted.as_slice(),
+            events,
+        )?;
+    }
+    Ok(())
+}
+
+#[test]
+fn a_row_expires(rt: HostRuntime) -> Result<(), Fail> {
+    let script = b"worker\n\
+        time i:100;\n\
+        apcu_store s:1:\"a\"; i:1; i:10;\n\
+        time i:110;\n\
+        apcu_fetch s:1:\"a\";\n\
+        time i:111;\n\
+        apcu_fetch s:1:\"a\";\n\
+        apcu_add s:1:\"a\"; i:2;\n\
+        apcu_add s:1:\"a\"; i:2;\n";
+    let printed = b"b:1;\ni:1;b:1;\nb:0;b:0;\nb:1;\nb:0;\n";
+    expect_lines(&rt, rt.alloc(), "0", script, printed, 6)
+}
+
 // The run whose read of this number fails.
 fn unread(piece: usize, at: &[u64]) -> Run<'_> {
     Run {
+        values: SMALL,
         input: STORE_AND_FETCH,
         piece,
         fails: [at, [].as_slice()],
@@ -352,6 +696,7 @@ fn unread(piece: usize, at: &[u64]) -> Run<'_> {
 // The run whose write of this number fails, behind these bytes.
 fn unwritten<'a>(piece: usize, at: &'a [u64], printed: &'a [u8]) -> Run<'a> {
     Run {
+        values: SMALL,
         input: STORE_AND_FETCH,
         piece,
         fails: [[].as_slice(), at],
@@ -361,15 +706,19 @@ fn unwritten<'a>(piece: usize, at: &'a [u64], printed: &'a [u8]) -> Run<'a> {
     }
 }
 
-// Each read of one byte fails in turn, and each of the first writes; then the second of each in larger pieces.
+// Each read of one byte fails in turn, and each write of one.
 #[test]
 fn faults_in_turn(rt: HostRuntime) -> Result<(), Fail> {
     for at in 0..=STORE_AND_FETCH.len() {
         expect(&rt, rt.alloc(), unread(1, &[at as u64]))?;
     }
-    expect(&rt, rt.alloc(), unwritten(1, &[0], b""))?;
-    expect(&rt, rt.alloc(), unwritten(1, &[1], b"w"))?;
-    expect(&rt, rt.alloc(), unwritten(1, &[2], b"wo"))
+    let mut printed = ByteOut::new(rt.alloc());
+    for (at, byte) in PRINTED.iter().enumerate() {
+        let fails = [at as u64];
+        expect(&rt, rt.alloc(), unwritten(1, &fails, printed.as_slice()))?;
+        printed.push(&[*byte])?;
+    }
+    Ok(())
 }
 
 #[test]

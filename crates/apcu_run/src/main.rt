@@ -9,7 +9,8 @@ use std::io::ErrorKind;
 use std::process::ExitCode;
 use std::rt::Env;
 
-// The program's words, its name first. A word that is not UTF-8 makes the command line as faulty as none.
+// The program's words, its name first. A word that is not UTF-8 makes the command line as faulty as
+// none.
 fn words_of<R: Env + AllocGlobal>(rt: &R) -> Result<Vec<String>, AllocError> {
     match env::args(rt) {
         Ok(words) => words.collect(rt.alloc()),
