@@ -10,9 +10,9 @@ ghost use Rattle.pin_table.specs.Order.{Carried};
 ghost use Rattle.pin_table.specs.Rule.{Rule};
 
 /// What follows from the words that the rule and the contracts speak of: what steps carry gives the
-/// rule in all seven parts; a block is named exactly where a window has its place; it is held
-/// exactly where it is named by the window of a worker that was met; and what one more event adds to
-/// a worker's own events, and to whether its last event is a fetch.
+/// rule in all seven parts; a block is named exactly where a window has its place, and held exactly
+/// where that is the window of a worker that was met; and what one more event adds to a worker's
+/// own events, and to whether its last event is a fetch.
 #[tactic(auto, using(crate::proofs::Parts::rule_of, crate::proofs::Lists::named_there, crate::proofs::Lists::there_named, crate::proofs::Lists::held_bit, crate::proofs::Held::bit_held, crate::proofs::Books::events_after, crate::proofs::Books::fetched_after))]
 pub fn rule_laws()
     ensures carried { (words : List ℕ) (views : List View) → Carried words views
