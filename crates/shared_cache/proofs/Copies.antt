@@ -1,13 +1,11 @@
 -- The event of a fetch that pins a block, an event that did not take place, and the start.
-use Rattle.std.proofs.Common.{◌≡◌, ◌≢◌, ℕ, zero, suc, ◌+◌, ◌^◌, ◌<◌, ◌≤◌, true, false, List, [], ◌∷◌, ◌++◌, length, Some, None, refl, ap, sym, ◌∙◌, subst, sum, slice_set, set, replicate, arith}
+use Rattle.std.proofs.Common.{◌≡◌, ℕ, zero, suc, ◌+◌, ◌<◌, ◌≤◌, true, List, [], ◌∷◌, ◌++◌, length, Some, None, ap, sym, ◌∙◌, subst, sum, slice_set, replicate, arith}
 use mathlib.Core.Option.{some, some-injective, some-ne-none}
-use mathlib.Core.List.{IsPrefix}
 use lib.ListN.{get_elem?}
 use Rattle.atomic_table.specs.Seated.{TableId}
-use Rattle.seg_words.specs.Windows.{Aside, is_named, nothing_aside}
+use Rattle.seg_words.specs.Windows.{is_named, nothing_aside}
 use Rattle.apcu_model.specs.declared.conf.Conf.{Conf}
 use Rattle.apcu_model.specs.declared.event.Event.{Event}
-use Rattle.apcu_model.specs.declared.request.Request.{Request}
 use Rattle.apcu_model.specs.declared.request.Request.TheVariants as request
 use Rattle.apcu_model.specs.declared.request.Reply.TheVariants as reply
 use Rattle.apcu_model.specs.Cache.{Cache, empty_cache}
@@ -19,21 +17,17 @@ use Rattle.cache_core.specs.declared.cache.Core.{Core}
 use Rattle.cache_core.specs.declared.scalar.Look.TheVariants as look
 use Rattle.cache_core.specs.Caching.{cache_of}
 use Rattle.cache_core.specs.Looking.{look_of}
-use Rattle.pin_table.specs.declared.views.Known.{Known}
 use Rattle.pin_table.specs.declared.views.Book.{Book}
 use Rattle.pin_table.specs.declared.views.Desk.{Desk}
 use Rattle.pin_table.specs.declared.views.Reader.{Reader}
-use Rattle.pin_table.specs.declared.writer.Beside.{Beside}
 use Rattle.pin_table.specs.declared.writer.Writer.{Writer}
 use Rattle.pin_table.specs.Values.{Writing, Bearer, Copier}
-use Rattle.pin_table.specs.Events.{event, events_of}
-use Rattle.pin_table.specs.Pins.{content_of}
+use Rattle.pin_table.specs.Events.{event}
 use Rattle.pin_table.specs.Lists.{fresh_desk}
 use Rattle.pin_table.specs.Views.{with_hand, with_event, after_event as known_after, rested, copied, pinning_at, reader_after, in_hand, aside_of}
 use Rattle.shared_cache.specs.Laws.{Laws}
-use Rattle.shared_cache.specs.Tied.{IsTied, AreTied}
+use Rattle.shared_cache.specs.Tied.{AreTied}
 use Rattle.shared_cache.specs.Settled.{CoreStands, Settled}
-use Rattle.shared_cache.specs.Follows.{Follows}
 use Rattle.shared_cache.specs.Pinned.{FollowsFound, bearer_of}
 use Rattle.shared_cache.proofs.Windows.{Running, set_other, from_before, named_set}
 use Rattle.shared_cache.proofs.Ends.{Ends}

@@ -1,35 +1,27 @@
 -- What a look-up finds, and the event of a value that is copied outside the lock.
-use Rattle.std.proofs.Common.{◌≡◌, ◌≢◌, ℕ, zero, suc, ◌+◌, ◌^◌, ◌<◌, ◌≤◌, ◌==◌, ◌&&◌, ◌||◌, ◌⊎◌, ⊎_elim, inl, inr, Bool, true, false, not, cond, List, [], ◌∷◌, ◌++◌, length, take, drop, set, slice_set, slice_index, map, filter, find, Option, Some, None, refl, ap, sym, ◌∙◌, subst, arith}
-use Rattle.std.specs.Prelude.{Contains, option_map, if◌then◌else◌}
-use Rattle.std.specs.List.{list_any}
-use Rattle.std.specs.Option.{option_and_then}
+use Rattle.std.proofs.Common.{◌≡◌, ◌≢◌, ℕ, zero, suc, ◌+◌, ◌<◌, ◌==◌, ◌&&◌, ◌⊎◌, ⊎_elim, inl, inr, Bool, true, false, not, cond, List, [], ◌∷◌, ◌++◌, length, take, drop, slice_set, slice_index, map, filter, find, Option, Some, None, refl, ap, sym, ◌∙◌, subst, arith}
+use Rattle.std.specs.Prelude.{Contains, if◌then◌else◌}
 use Rattle.std.specs.Map.{lookup}
 use Rattle.std.proofs.lemmas.Bool.{eq-eqb, eqb-true, ne_eqb}
 use Rattle.std.proofs.lemmas.List.Elements.{Contains-append_left, Contains-append_right, Contains-append_cases}
 use Rattle.std.proofs.lemmas.Map.Entries.{lookup-filter-keys}
 use mathlib.Core.Option.{some}
-use mathlib.Core.List.{IsPrefix}
 use lib.ListN.{get_elem?}
-use Rattle.atomic_table.specs.Seated.{TableId}
 use Rattle.atomic_table.proofs.Lists.{at_set}
-use Rattle.seg_words.specs.Windows.{Aside, is_named, held_by}
-use Rattle.seg_words.specs.Blocks.{image_place, image_end}
+use Rattle.seg_words.specs.Windows.{Aside, is_named}
+use Rattle.seg_words.specs.Blocks.{image_place}
 use Rattle.php_graph.specs.declared.kind.Kind.{Kind}
 use Rattle.php_graph.specs.declared.kind.Kind.TheVariants as kinds
 use Rattle.php_graph.specs.Graph.{IsGraph, end_of, child_end}
 use Rattle.php_graph.specs.Size.{image_length}
 use Rattle.value_image.specs.Image.{IsImageOf, image_of}
 use Rattle.value_image.specs.Rows.{StandsAt}
-use Rattle.apcu_model.specs.declared.conf.Conf.{Conf}
-use Rattle.apcu_model.specs.declared.event.Event.{Event}
-use Rattle.apcu_model.specs.declared.request.Request.{Request}
 use Rattle.apcu_model.specs.declared.request.Request.TheVariants as request
-use Rattle.apcu_model.specs.declared.request.Reply.{Reply}
 use Rattle.apcu_model.specs.declared.request.Reply.TheVariants as reply
 use Rattle.apcu_model.specs.Cache.{Row, Cache, has_key}
 use Rattle.apcu_model.specs.Expiry.{live_row, is_hard_expired}
 use Rattle.apcu_model.specs.Sequential.{touched, looked_up, found_in}
-use Rattle.apcu_model.specs.History.{Stage, stage_of, window_of, is_scalar, opened, opened_at, after_event}
+use Rattle.apcu_model.specs.History.{Stage, window_of, is_scalar, opened, opened_at, after_event}
 use Rattle.entry_slots.specs.Lists.{is_at, has_place}
 use Rattle.entry_slots.specs.Entries.{listed}
 use Rattle.entry_slots.specs.Standing.{IsEntry, entries}
@@ -37,7 +29,6 @@ use Rattle.ttl_expunge.specs.Held.{KeepsOpen}
 use Rattle.cache_core.specs.declared.cache.Core.{Core}
 use Rattle.cache_core.specs.declared.scalar.Scalar.{Scalar}
 use Rattle.cache_core.specs.declared.scalar.Scalar.TheVariants as scalars
-use Rattle.cache_core.specs.declared.scalar.Look.{Look}
 use Rattle.cache_core.specs.declared.scalar.Look.TheVariants as look
 use Rattle.cache_core.specs.Caching.{cache_of}
 use Rattle.cache_core.specs.Looking.{scalar_kind, scalar_of, look_at, look_of}
@@ -47,7 +38,7 @@ use Rattle.shared_cache.specs.Laws.{Laws}
 use Rattle.shared_cache.specs.Pinned.{graph_of}
 use Rattle.shared_cache.specs.Tied.{IsTied, AreTied}
 use Rattle.shared_cache.specs.Settled.{CoreStands}
-use Rattle.shared_cache.proofs.Rows.{Contains-cases, Contains-later, Contains-first, Contains-map, any_from}
+use Rattle.shared_cache.proofs.Rows.{Contains-later, Contains-first, Contains-map, any_from}
 
 found_there : {X : Type 0} (p : X → Bool) (xs : List X) (x : X) → find p xs ≡ Some x → Contains xs x
 found_there p [] x h = absurd (cc h)

@@ -1,39 +1,28 @@
 -- An event that opens no window of the segment.
-use Rattle.std.proofs.Common.{◌≡◌, ℕ, ◌+◌, ◌^◌, ◌<◌, ◌≤◌, true, false, List, [], ◌∷◌, ◌++◌, length, Some, refl, ap, sym, ◌∙◌, subst, sum, slice_set}
-use mathlib.Core.List.{IsPrefix}
+use Rattle.std.proofs.Common.{◌≡◌, ℕ, ◌+◌, List, [], ◌∷◌, ◌++◌, length, refl, ap, sym, ◌∙◌, subst}
 use Rattle.atomic_table.specs.Seated.{TableId}
-use Rattle.std.proofs.lemmas.Bool.{false≢true}
-use Rattle.seg_words.specs.Windows.{Aside, has, is_named, held_by}
+use Rattle.seg_words.specs.Windows.{held_by}
 use Rattle.apcu_model.specs.declared.conf.Conf.{Conf}
 use Rattle.apcu_model.specs.declared.event.Event.{Event}
 use Rattle.apcu_model.specs.declared.request.Request.{Request}
 use Rattle.apcu_model.specs.declared.request.Reply.{Reply}
-use Rattle.apcu_model.specs.Cache.{Row, Cache}
-use Rattle.apcu_model.specs.Change.{AreAlike}
-use Rattle.apcu_model.specs.History.{Stage, stage_of, held_places, reply_in, after_event}
+use Rattle.apcu_model.specs.Cache.{Cache}
+use Rattle.apcu_model.specs.History.{Stage, stage_of, after_event}
 use Rattle.apcu_model.specs.Journal.{Marks}
 use Rattle.apcu_model.specs.Sequential.{cache_after, reply_to}
-use Rattle.entry_slots.specs.Entries.{Entries}
 use Rattle.entry_slots.specs.Standing.{entries}
-use Rattle.ttl_expunge.specs.Held.{AreRemoved, KeepsOpen}
+use Rattle.ttl_expunge.specs.Held.{KeepsOpen}
 use Rattle.cache_core.specs.declared.cache.Core.{Core}
 use Rattle.cache_core.specs.Caching.{cache_of}
-use Rattle.pin_table.specs.declared.views.Known.{Known}
-use Rattle.pin_table.specs.declared.views.Book.{Book}
 use Rattle.pin_table.specs.declared.views.Desk.{Desk}
-use Rattle.pin_table.specs.declared.writer.Beside.{Beside}
 use Rattle.pin_table.specs.declared.writer.Writer.{Writer}
 use Rattle.pin_table.specs.Values.{Writing, Bearer}
-use Rattle.pin_table.specs.Order.{DeskInOrder}
-use Rattle.pin_table.specs.Events.{event, events_of}
-use Rattle.pin_table.specs.Views.{with_hand, with_event, after_event as known_after, rested, taken, aside_of}
-use Rattle.pin_table.specs.WriterRest.{beside}
-use Rattle.shared_cache.specs.Laws.{Laws}
+use Rattle.pin_table.specs.Events.{event}
+use Rattle.pin_table.specs.Views.{with_event, after_event as known_after, rested, aside_of}
 use Rattle.shared_cache.specs.Tied.{AreTied}
 use Rattle.shared_cache.specs.Settled.{CoreStands, Settled}
 use Rattle.shared_cache.specs.Follows.{Follows}
-use Rattle.shared_cache.proofs.Windows.{Running, StayOpen, named_set, tied_after}
-use Rattle.shared_cache.proofs.Alike.{held_alike}
+use Rattle.shared_cache.proofs.Windows.{Running, StayOpen, tied_after}
 use Rattle.shared_cache.proofs.Ends.{Ends, short_history}
 use Rattle.shared_cache.proofs.Working.{Works, worker, table, book, run, cache_in, reply_is, core_closed}
 use Rattle.shared_cache.proofs.Ends as all_ends

@@ -1,28 +1,26 @@
 -- The writer's windows, and the masks that its probes gather.
-use Rattle.std.proofs.Common.{◌≡◌, ◌≢◌, ℕ, zero, suc, ◌+◌, ◌^◌, ◌<◌, ◌≤◌, ◌==◌, ◌&&◌, ◌||◌, ◌⊎◌, ⊎_elim, inl, inr, Bool, true, false, not, cond, ltb, List, [], ◌∷◌, ◌++◌, length, set, slice_set, map, filter, Option, Some, None, refl, ap, sym, ◌∙◌, subst, arith}
+use Rattle.std.proofs.Common.{◌≡◌, ◌≢◌, ℕ, zero, suc, ◌^◌, ◌<◌, ◌==◌, ◌&&◌, ◌||◌, ⊎_elim, Bool, true, false, not, cond, ltb, List, [], ◌∷◌, ◌++◌, length, set, slice_set, filter, Option, Some, None, refl, ap, sym, ◌∙◌, subst, arith}
 use Rattle.std.specs.Prelude.{Contains, is_some, nat_lt}
 use Rattle.std.specs.Int.{bit_at}
-use Rattle.std.specs.List.{list_any, list_all, range_with_len}
+use Rattle.std.specs.List.{list_all, range_with_len}
 use Rattle.std.specs.Map.{lookup}
 use Rattle.std.proofs.lemmas.Bool.{and_from, eqb-true, ne_eqb, lt-ltb}
 use Rattle.std.proofs.lemmas.Map.Entries.{lookup-filter-keys}
-use mathlib.Core.Option.{some, none, some-injective, some-ne-none}
+use mathlib.Core.Option.{some, some-injective, some-ne-none}
 use lib.ListN.{get_elem?}
 use Rattle.atomic_table.proofs.Lists.{at_set}
-use Rattle.seg_words.specs.Windows.{Aside, is_named}
-use Rattle.php_graph.specs.declared.kind.Kind.{Kind}
+use Rattle.seg_words.specs.Windows.{is_named}
 use Rattle.apcu_model.specs.declared.event.Event.{Event}
 use Rattle.apcu_model.specs.declared.request.Request.{Request}
 use Rattle.apcu_model.specs.declared.request.Request.TheVariants as request
 use Rattle.apcu_model.specs.Cache.{Row, Cache}
 use Rattle.apcu_model.specs.Expiry.{live_row}
 use Rattle.apcu_model.specs.History.{Stage, window_of, is_in_mask, is_legal_mask, is_scalar, opened, opened_at, after_event}
-use Rattle.entry_slots.specs.Entries.{Entries}
 use Rattle.pin_table.specs.declared.views.Known.{Known}
 use Rattle.pin_table.specs.declared.views.Desk.{Desk}
 use Rattle.pin_table.specs.Order.{DeskInOrder}
 use Rattle.shared_cache.specs.Laws.{Laws}
-use Rattle.shared_cache.specs.Tied.{IsTied, AreTied}
+use Rattle.shared_cache.specs.Tied.{AreTied}
 
 all_pass : (p : ℕ → Bool) → ((n : ℕ) → p n ≡ true) → (ns : List ℕ) → list_all p ns ≡ true
 all_pass p passes [] = refl

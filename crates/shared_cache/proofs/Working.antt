@@ -1,16 +1,15 @@
 -- An event under way.
-use Rattle.std.proofs.Common.{◌≡◌, ℕ, ◌+◌, ◌^◌, ◌<◌, ◌≤◌, true, false, List, [], ◌∷◌, ◌++◌, length, Some, refl, ap, sym, ◌∙◌, subst, sum, slice_set}
+use Rattle.std.proofs.Common.{◌≡◌, ℕ, ◌^◌, ◌<◌, ◌≤◌, true, false, List, Some, refl, ap, sym, ◌∙◌, subst}
 use mathlib.Core.List.{IsPrefix}
 use Rattle.atomic_table.specs.Seated.{TableId}
 use Rattle.std.proofs.lemmas.Bool.{false≢true}
 use Rattle.seg_words.specs.Windows.{Aside, has, is_named, held_by}
 use Rattle.apcu_model.specs.declared.conf.Conf.{Conf}
-use Rattle.apcu_model.specs.declared.event.Event.{Event}
 use Rattle.apcu_model.specs.declared.request.Request.{Request}
 use Rattle.apcu_model.specs.declared.request.Reply.{Reply}
 use Rattle.apcu_model.specs.Cache.{Row, Cache}
 use Rattle.apcu_model.specs.Change.{AreAlike}
-use Rattle.apcu_model.specs.History.{Stage, stage_of, held_places, reply_in, after_event}
+use Rattle.apcu_model.specs.History.{stage_of, held_places, reply_in, after_event}
 use Rattle.apcu_model.specs.Journal.{Marks}
 use Rattle.apcu_model.specs.Sequential.{cache_after, reply_to}
 use Rattle.entry_slots.specs.Entries.{Entries}
@@ -18,7 +17,6 @@ use Rattle.entry_slots.specs.Standing.{entries}
 use Rattle.ttl_expunge.specs.Held.{AreRemoved, KeepsOpen}
 use Rattle.cache_core.specs.declared.cache.Core.{Core}
 use Rattle.cache_core.specs.Caching.{cache_of}
-use Rattle.pin_table.specs.declared.views.Known.{Known}
 use Rattle.pin_table.specs.declared.views.Book.{Book}
 use Rattle.pin_table.specs.declared.views.Desk.{Desk}
 use Rattle.pin_table.specs.declared.writer.Beside.{Beside}
@@ -26,15 +24,13 @@ use Rattle.pin_table.specs.declared.writer.Writer.{Writer}
 use Rattle.pin_table.specs.Values.{Writing, Bearer}
 use Rattle.pin_table.specs.Order.{DeskInOrder}
 use Rattle.pin_table.specs.Events.{event, events_of}
-use Rattle.pin_table.specs.Views.{with_hand, with_event, after_event as known_after, rested, taken, aside_of}
+use Rattle.pin_table.specs.Views.{with_hand, taken, aside_of}
 use Rattle.pin_table.specs.WriterRest.{beside}
 use Rattle.shared_cache.specs.Laws.{Laws}
-use Rattle.shared_cache.specs.Tied.{AreTied}
 use Rattle.shared_cache.specs.Settled.{CoreStands, Settled}
-use Rattle.shared_cache.specs.Follows.{Follows}
-use Rattle.shared_cache.proofs.Windows.{Running, StayOpen, named_set, tied_after}
+use Rattle.shared_cache.proofs.Windows.{Running, named_set}
 use Rattle.shared_cache.proofs.Alike.{held_alike}
-use Rattle.shared_cache.proofs.Ends.{Ends, short_history}
+use Rattle.shared_cache.proofs.Ends.{short_history}
 
 -- words stand for the same cache where windows close and the mask and refused places change
 pub core_closed : Laws → (c : Core) (words : List ℕ) (old new : Aside) → ((at : ℕ) → is_named new.windows at ≡ true → is_named old.windows at ≡ true)

@@ -41,12 +41,14 @@ pub record Laws : Type 0 where
       → Stands e words aside s → has_place at (listed s) ≡ true → IsCopyable words aside.windows at
   -- what comes of one event more
   pub own : (w : ℕ) (es : List Event) (e : Event)
-      → events_of w (es ++ e ∷ []) ≡ cond (e.worker == w) (events_of w es ++ e ∷ []) (events_of w es)
+      → events_of w (es ++ e ∷ [])
+      ≡ cond (e.worker == w) (events_of w es ++ e ∷ []) (events_of w es)
   pub after : (m : Stage) (events : List Event) (e : Event)
       → after_events m (events ++ e ∷ []) ≡ after_event (after_events m events) e
   pub legal : (workers : ℕ) (m : Stage) (events : List Event) (e : Event)
       → all_legal workers m (events ++ e ∷ [])
-      ≡ (all_legal workers m events && is_legal_mask workers e.worker (after_events m events) e.mask)
+      ≡ (all_legal workers m events
+      && is_legal_mask workers e.worker (after_events m events) e.mask)
   pub marks : (events : List Event) (e : Event)
       → marks_of (events ++ e ∷ []) ≡ marks_of events ++ mark_of e ∷ []
   -- of held places only the members count

@@ -1,5 +1,5 @@
 -- What a worker learns of another one's end.
-use Rattle.std.specs.Prelude.{◌≡◌, ℕ, true, List}
+use Rattle.std.specs.Prelude.{◌≡◌, ℕ, true}
 use mathlib.Core.List.{IsPrefix}
 use Rattle.apcu_model.specs.declared.conf.Conf.{Conf}
 use Rattle.apcu_model.specs.History.{start_of, all_legal}

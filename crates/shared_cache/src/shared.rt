@@ -124,8 +124,8 @@ impl<N: TableName> Shared<N> {
         self.lock.lock(rt).pin(&self.table, pass, key, t)
     }
 
-    /// Copies the value that a fetch found, and gives its block free. It waits for nobody, and is no
-    /// event. Without memory for the value the fetch stands all the same, and the block is free.
+    /// Copies the value that a fetch found, and gives its block free. It waits for nobody, and is
+    /// no event. Without memory for the value the fetch stands all the same, and the block is free.
     pub fn copy_out(&self, alloc: Global, copying: Copying) -> (Pass, Result<Graph, AllocError>)
         requires table { copying.table ≡ N.table }
         requires image { (g : List Kind)

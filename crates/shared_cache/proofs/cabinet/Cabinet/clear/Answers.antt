@@ -1,4 +1,4 @@
-use Rattle.std.proofs.Common.{◌≡◌, ◌∙◌, refl}
+use Rattle.std.proofs.Common.{◌∙◌, refl}
 use Rattle.apcu_model.specs.declared.request.Request.TheVariants as request
 use Rattle.cache_core.specs.Caching.{cache_of}
 use Rattle.shared_cache.proofs.Passes.{Passes}

@@ -1,9 +1,7 @@
-use Rattle.std.proofs.Common.{◌≡◌, ◌∙◌, refl, ap}
+use Rattle.std.proofs.Common.{◌∙◌, refl, ap}
 use Rattle.apcu_model.specs.declared.request.Request.TheVariants as request
 use Rattle.apcu_model.specs.declared.request.Reply.TheVariants as reply
-use Rattle.pin_table.specs.Views.{aside_of}
 use Rattle.entry_slots.specs.Standing.{entries}
-use Rattle.shared_cache.specs.Settled.{CoreStands}
 use Rattle.shared_cache.proofs.Passes.{Passes}
 use Rattle.shared_cache.proofs.Working.{Took, begun_stands, kept_stands, kept_open}
 use Rattle.shared_cache.proofs.Passes as passes

@@ -1,9 +1,7 @@
-use Rattle.std.proofs.Common.{◌≡◌, ◌∙◌, refl, sym, ap, subst, true, List, Some, None}
+use Rattle.std.proofs.Common.{◌≡◌, ◌∙◌, sym, ap, subst, Some, None}
 use mathlib.Core.List.{IsPrefix}
-use Rattle.apcu_model.specs.declared.event.Event.{Event}
 use Rattle.apcu_model.specs.History.{start_of, all_legal}
 use Rattle.pin_table.specs.declared.views.Known.{Known}
-use Rattle.pin_table.specs.declared.views.Book.{Book}
 use Rattle.pin_table.specs.declared.views.Desk.{Desk}
 use Rattle.pin_table.specs.Events.{events_of}
 use Rattle.pin_table.specs.Views.{taken, rested, with_hand, seen_all}

@@ -1,19 +1,17 @@
-use Rattle.std.proofs.Common.{◌≡◌, ◌∙◌, refl, sym, ap, length}
+use Rattle.std.proofs.Common.{◌∙◌}
 use Rattle.apcu_model.specs.declared.request.Request.TheVariants as request
 use Rattle.apcu_model.specs.declared.request.Reply.TheVariants as reply
 use Rattle.cache_core.specs.Caching.{cache_of}
 use Rattle.pin_table.specs.Views.{aside_of}
-use Rattle.shared_cache.specs.Settled.{CoreStands, Settled}
-use Rattle.shared_cache.specs.Pinned.{IsFetched, graph_of}
+use Rattle.shared_cache.specs.Pinned.{graph_of}
 use Rattle.shared_cache.proofs.Passes.{Passes}
 use Rattle.shared_cache.proofs.Passes as passes
 use Rattle.shared_cache.proofs.Working.{Took, begun_stands}
-use Rattle.shared_cache.proofs.Fetches.{Images, look_keeps, miss_of, scalar_found, hit_of, used_in, may_pin}
+use Rattle.shared_cache.proofs.Fetches.{look_keeps, miss_of, scalar_found, hit_of, used_in, may_pin}
 use Rattle.shared_cache.proofs.Copies.{Copies}
 use Rattle.shared_cache.proofs.Copies as copies
 use Rattle.shared_cache.proofs.cabinet.Cabinet.pin.Goals as goal
 use Rattle.shared_cache.proofs.cabinet.Cabinet.pin.Goals.{in-Miss, in-Scalar, in-Hit}
-use Rattle.shared_cache.proofs.cabinet.Cabinet.pin.Given as given
 
 pub look-look-requires-clause-stand : goal.look-look-requires-clause-stand
 look-look-requires-clause-stand g c =

@@ -1,6 +1,5 @@
-use Rattle.std.proofs.Common.{◌≡◌, ◌∙◌, refl}
+use Rattle.std.proofs.Common.{◌∙◌, refl}
 use Rattle.apcu_model.specs.declared.request.Request.TheVariants as request
-use Rattle.pin_table.specs.Views.{aside_of}
 use Rattle.shared_cache.proofs.Passes.{Passes}
 use Rattle.shared_cache.proofs.Working.{Took, begun_stands}
 use Rattle.shared_cache.proofs.Passes as passes
