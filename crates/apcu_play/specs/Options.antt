@@ -54,8 +54,8 @@ words_by bytes =
     then Some (bytes / 8)
     else None
 
-abbrev pub words_in : List ℕ → Option ℕ
-words_in text = option_and_then words_by (bytes_in text)
+abbrev pub words_told : List ℕ → Option ℕ
+words_told text = option_and_then words_by (bytes_in text)
 
 -- ---- slots
 
@@ -84,7 +84,7 @@ conf_by slots ttl words = option_and_then (conf_with words ttl) (slots_in words 
 
 -- the cache that three values tell
 abbrev pub conf_in : List ℕ → List ℕ → List ℕ → Option Conf
-conf_in size slots ttl = option_and_then (conf_by slots ttl) (words_in size)
+conf_in size slots ttl = option_and_then (conf_by slots ttl) (words_told size)
 
 -- the names of the options, in their order
 abbrev pub are_names : List ℕ → List ℕ → List ℕ → Bool

@@ -4,7 +4,7 @@ ghost use Rattle.std.specs.Prelude.{◌≡◌, ◌<◌, ◌≤◌, ◌+◌, ◌%
 ghost use Rattle.std.specs.Char.{is_ascii_digit};
 ghost use Rattle.std.specs.List.{list_all};
 ghost use Rattle.apcu_model.specs.Conf.{IsGood};
-ghost use Rattle.apcu_play.specs.Options.{number_in, unit_of, bytes_in, words_in, slots_in, conf_in, are_names, conf_of};
+ghost use Rattle.apcu_play.specs.Options.{number_in, unit_of, bytes_in, words_told, slots_in, conf_in, are_names, conf_of};
 
 use apcu_model::Conf;
 
@@ -74,8 +74,8 @@ fn bytes_in(text: &[u8]) -> Option<u64>
 }
 
 // The words of a segment of this size.
-fn words_in(text: &[u8]) -> Option<u32>
-    ensures is { result ≡ words_in text.now }
+fn words_told(text: &[u8]) -> Option<u32>
+    ensures is { result ≡ words_told text.now }
     ensures even { IfSome result (λ words. words % 2 ≡ 0) }
     ensures least { IfSome result (λ words. 32 ≤ words) }
     ensures most { IfSome result (λ words. words ≤ 16777216) }
@@ -109,7 +109,7 @@ fn conf_in(size: &[u8], slots: &[u8], ttl: &[u8]) -> Option<Conf>
     ensures is { result ≡ conf_in size.now slots.now ttl.now }
     ensures good { IfSome result (λ conf. IsGood conf) }
 {
-    let words = words_in(size)?;
+    let words = words_told(size)?;
     let slots = slots_in(words, slots)?;
     let ttl = number_in(ttl, 20, 4_294_967_295)?;
     Some(Conf { words, slots, ttl })
