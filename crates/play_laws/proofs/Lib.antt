@@ -1,1 +1,3 @@
 mod OwnLemmas
+mod Wanted
+mod WholeLemmas
