@@ -4,4 +4,5 @@ pub mod Left
 pub mod Mending
 pub mod Largest
 pub mod Paging
+pub mod Topping
 pub mod Halving

@@ -14,7 +14,7 @@ use Rattle.max_tree.proofs.Steps.{position_found, position_none, zero_at}
 pub page_at : (xs : List ℕ) (k j : ℕ) → j < PAGE → get_or (page xs k) j 0 ≡ get_or xs (PAGE * k + j) 0
 page_at xs k j inside = get_or-take PAGE (drop (PAGE * k) xs) j 0 inside ∙ get_or-drop (PAGE * k) xs j 0
 
-page_length : (xs : List ℕ) (k : ℕ) → length (page xs k) ≤ PAGE
+pub page_length : (xs : List ℕ) (k : ℕ) → length (page xs k) ≤ PAGE
 page_length xs k = omega (arith, length-take PAGE (drop (PAGE * k) xs))
 
 -- no number is larger than the top of its page

@@ -1,4 +1,4 @@
-ghost use Rattle.std.specs.Prelude.{◌≡◌, ◌≢◌, ℕ, ◌+◌, ◌*◌, ◌<◌, ◌≤◌, length, slice_index, MatchOption, min};
+ghost use Rattle.std.specs.Prelude.{◌≡◌, ◌≢◌, ℕ, ◌+◌, ◌*◌, ◌/◌, ◌<◌, ◌≤◌, length, slice_index, slice_set, MatchOption, min};
 ghost use Rattle.max_tree.specs.Pages.{largest, page, IsPaged};
 
 use crate::row::PAGE;
@@ -23,6 +23,23 @@ pub fn top_of(numbers: &[u32], k: usize) -> u32
     let start = PAGE * k;
     let left = numbers.len() - start;
     largest_of(&numbers[start..start + left.min(PAGE)])
+}
+
+// The largest number of the page of `p`, where `top` was it before the number at `p` was written in
+// place of `old`. Only where `old` was the top does it look at the page.
+pub fn top_after(numbers: &[u32], p: usize, old: u32, top: u32) -> u32
+    requires inside { p < length numbers.now }
+    requires before { top ≡ largest (page (slice_set numbers.now p old) (p / PAGE)) }
+    ensures { result ≡ largest (page numbers.now (p / PAGE)) }
+{
+    let value = numbers[p];
+    if value >= top {
+        value
+    } else if old < top {
+        top
+    } else {
+        top_of(numbers, p / PAGE)
+    }
 }
 
 // The first number of the page that is `n` or more.

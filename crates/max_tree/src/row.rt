@@ -66,9 +66,13 @@ impl MaxRow {
         requires { p < length self.old }
         ensures { self.new ≡ slice_set self.old p value }
     {
+        let old = self.numbers[p];
         self.numbers[p] = value;
-        let top = pages::top_of(self.numbers.as_slice(), p / PAGE);
-        self.tops.set(p / PAGE, top);
+        let top = self.tops.get(p / PAGE);
+        let new = pages::top_after(self.numbers.as_slice(), p, old, top);
+        if new != top {
+            self.tops.set(p / PAGE, new);
+        }
     }
 
     /// Makes all numbers 0, in time of the pages and of the numbers that were not 0.
