@@ -4,15 +4,14 @@ use Rattle.std.specs.Prelude.{◌==◌, ◌&&◌, if◌then◌else◌, slice_get
 use Rattle.std.specs.Option.{option_and_then}
 use Rattle.std.proofs.lemmas.Bool.Decides.{eqb_tells}
 use Rattle.std.proofs.lemmas.List.{append-nil, map-append, length-append, length-map}
-use Rattle.std.proofs.lemmas.Option.{slice_get_cases, slice_get_past, slice_get_within}
+use Rattle.std.proofs.lemmas.Option.{slice_get_cases, slice_get_past}
 use Rattle.apcu_model.specs.declared.conf.Conf.{Conf}
 use Rattle.apcu_model.specs.declared.event.Event.{Event}
-use Rattle.apcu_model.specs.declared.journal.Mark.{Mark}
 use Rattle.apcu_model.specs.declared.request.Reply.{Reply}
 use Rattle.apcu_model.specs.History.{Stage, start_of, stage_of, reply_in, after_event, after_events, all_legal, is_legal_mask, mark_of, marks_of}
 use Rattle.pin_table.specs.Events.{events_of}
 use Rattle.script_read.specs.declared.script.Step.{Step}
-use Rattle.script_read.specs.Play.{Wish, Play, wanted, script_of, replies_of, wish_of, after_wish, marked, played_from, played, nothing_played, IsLegal, IsComplete, are_done, is_complete_play}
+use Rattle.script_read.specs.Play.{Wish, Play, wanted, replies_of, wish_of, after_wish, marked, played_from, played, IsLegal, IsComplete, are_done, is_complete_play}
 use Rattle.play_laws.specs.Own.{own_replies, wish_in, all_asked}
 use Rattle.play_laws.specs.Whole.{IsPlayedOut, replies_from, told_by}
 use Rattle.play_laws.proofs.OwnLemmas.{one-more, length-own_replies}
@@ -143,6 +142,7 @@ after_it conf scripts done e script at =
     ∙ replies_grow conf 0 scripts done e w script at (omega arith) in
     ap (λ (m : Stage). play m (slice_set (replies_from conf 0 scripts done) w (replies_of (told_by conf scripts done) w ++ reply_in (stage_of conf done) e ∷ []))) stage
     ∙ ap (λ (r : List (List Reply)). play (stage_of conf (done ++ e ∷ [])) r) replies
+
 marked_by : (conf : Conf) (scripts : List (List Step)) (done : List Event) (e : Event) (rest : List Event) (script : List Step) → slice_get scripts e.worker ≡ Some script
     → map wish_in (events_of e.worker (done ++ e ∷ rest)) ≡ all_asked script → is_legal_mask (length scripts) e.worker (stage_of conf done) e.mask ≡ true
     → marked conf scripts (told_by conf scripts done) (mark_of e) ≡ Some (told_by conf scripts (done ++ e ∷ []))
@@ -180,8 +180,8 @@ goes_on conf scripts done (e ∷ rest) legal asked others =
     let legal_on : all_legal (length scripts) (stage_of conf (done ++ e ∷ [])) rest ≡ true =
     ap (λ (m : Stage). all_legal (length scripts) m rest) (after-joined (start_of conf) done (e ∷ [])) ∙ parts.1 in
     let later = goes_on conf scripts (done ++ e ∷ []) rest legal_on
-        (λ w script at. ap (λ (h : List Event). map wish_in (events_of w h)) joined ∙ asked w script at)
-        (λ w past. ap (events_of w) joined ∙ others w past) in
+    (λ w script at. ap (λ (h : List Event). map wish_in (events_of w h)) joined ∙ asked w script at)
+    (λ w past. ap (events_of w) joined ∙ others w past) in
     ap (option_and_then (λ (q : Play). played_from conf scripts q (marks_of rest))) one ∙ (later ∙ ap (λ (h : List Event). Some (told_by conf scripts h)) joined)
 
 nothing_told : (conf : Conf) (w : ℕ) (scripts : List (List Step)) → map (λ script. []) scripts ≡ replies_from conf w scripts []
@@ -192,6 +192,7 @@ pub played_is_told : (conf : Conf) (scripts : List (List Step)) (history : List 
 played_is_told conf scripts history out =
     ap (λ (r : List (List Reply)). played_from conf scripts (play (start_of conf) r) (marks_of history)) (nothing_told conf 0 scripts)
     ∙ goes_on conf scripts [] history out.legal out.asked out.others
+
 pub is_legal : (conf : Conf) (scripts : List (List Step)) (history : List Event) → IsPlayedOut conf scripts history → IsLegal conf scripts (marks_of history)
 is_legal conf scripts history out = subst (λ (o : Option Play). IsSome o) (sym (played_is_told conf scripts history out)) refl
 
