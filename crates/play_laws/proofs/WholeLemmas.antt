@@ -4,15 +4,14 @@ use Rattle.std.specs.Prelude.{◌==◌, ◌&&◌, if◌then◌else◌, slice_get
 use Rattle.std.specs.Option.{option_and_then}
 use Rattle.std.proofs.lemmas.Bool.Decides.{eqb_tells}
 use Rattle.std.proofs.lemmas.List.{append-nil, map-append, length-append, length-map}
-use Rattle.std.proofs.lemmas.Option.{slice_get_cases, slice_get_past, slice_get_within}
+use Rattle.std.proofs.lemmas.Option.{slice_get_cases, slice_get_past}
 use Rattle.apcu_model.specs.declared.conf.Conf.{Conf}
 use Rattle.apcu_model.specs.declared.event.Event.{Event}
-use Rattle.apcu_model.specs.declared.journal.Mark.{Mark}
 use Rattle.apcu_model.specs.declared.request.Reply.{Reply}
 use Rattle.apcu_model.specs.History.{Stage, start_of, stage_of, reply_in, after_event, after_events, all_legal, is_legal_mask, mark_of, marks_of}
 use Rattle.pin_table.specs.Events.{events_of}
 use Rattle.script_read.specs.declared.script.Step.{Step}
-use Rattle.script_read.specs.Play.{Wish, Play, wanted, script_of, replies_of, wish_of, after_wish, marked, played_from, played, nothing_played, IsLegal, IsComplete, are_done, is_complete_play}
+use Rattle.script_read.specs.Play.{Wish, Play, wanted, replies_of, wish_of, after_wish, marked, played_from, played, IsLegal, IsComplete, are_done, is_complete_play}
 use Rattle.play_laws.specs.Own.{own_replies, wish_in, all_asked}
 use Rattle.play_laws.specs.Whole.{IsPlayedOut, replies_from, told_by}
 use Rattle.play_laws.proofs.OwnLemmas.{one-more, length-own_replies}
