@@ -1,0 +1,4 @@
+mod Numbers
+mod Fair
+mod Lines
+mod Legal
