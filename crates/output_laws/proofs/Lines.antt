@@ -112,8 +112,7 @@ unfolding mask_text
 mask_told one other n r s few e =
     let range = range_with_len 0 n in
     let small : Small range = small_range 0 n (omega arith) in
-    let told = texts_told (filter (is_in_mask one) range) (filter (is_in_mask other) range) r s (small_some (is_in_mask one) range small) (small_some (is_in_mask other) range small) e in
-    (
+    let told = texts_told (filter (is_in_mask one) range) (filter (is_in_mask other) range) r s (small_some (is_in_mask one) range small) (small_some (is_in_mask other) range small) e in (
       λ k below. sym (test_told (is_in_mask one) n k below) ∙ (ap (among k) told.0 ∙ test_told (is_in_mask other) n k below),
       told.1,
     )

@@ -65,8 +65,7 @@ number_told a b r s small small' cut cut' e =
     let read : (n : ℕ) (t : List ℕ) → n < 2 ^ 64 → IsCut t → front (decimal n ++ t) ≡ decimal n =
     λ n t little c. front-digits (decimal n) t (decimal_digits n little) ∙ (ap (λ (l : List ℕ). decimal n ++ l) c.nothing ∙ append-nil (decimal n)) in
     let rest : (n : ℕ) (t : List ℕ) → n < 2 ^ 64 → IsCut t → back (decimal n ++ t) ≡ t =
-    λ n t little c. back-digits (decimal n) t (decimal_digits n little) ∙ c.all in
-    (
+    λ n t little c. back-digits (decimal n) t (decimal_digits n little) ∙ c.all in (
       decimal_injective a b small small' (sym (read a r small cut) ∙ (ap front e ∙ read b s small' cut')),
       sym (rest a r small cut) ∙ (ap back e ∙ rest b s small' cut'),
     )
