@@ -1,6 +1,6 @@
 -- The marks of a legal journal, and its output.
 use Rattle.std.proofs.Common.{◌≡◌, ℕ, ◌<◌, ◌≤◌, ◌^◌, Bool, true, false, List, [], ◌∷◌, ◌++◌, length, Option, Some, None, refl, sym, ap, subst, ◌∙◌, arith}
-use Rattle.std.specs.Prelude.{◌==◌, ◌&&◌, ◌||◌, not, nat_lt, if◌then◌else◌, is_some, slice_get, IsSome}
+use Rattle.std.specs.Prelude.{◌==◌, ◌&&◌, ◌||◌, not, nat_lt, if◌then◌else◌, is_some, IsSome}
 use Rattle.std.specs.Option.{option_and_then}
 use Rattle.std.specs.List.{list_all, range_with_len}
 use Rattle.std.proofs.lemmas.Option.{slice_get_within}
@@ -12,7 +12,7 @@ use Rattle.script_read.specs.declared.script.Step.{Step}
 use Rattle.script_read.specs.Play.{Wish, Play, wanted, replies_of, script_of, wish_of, after_wish, marked, played_from, played, nothing_played, IsLegal}
 use Rattle.apcu_play.specs.Output.{worker_lines, journal_lines, play_text, output_of}
 use Rattle.output_laws.proofs.Numbers.{both_true}
-use Rattle.output_laws.proofs.Fair.{AreFair}
+use Rattle.output_laws.specs.InRange.{AreInRange}
 use Rattle.output_laws.proofs.Lines.{journal_told}
 
 record Comes {A B : Type 0} (f : A → Option B) (o : Option A) : Type 0 where
@@ -33,7 +33,7 @@ mask_fair workers worker mask p legal =
     let parts = both_true (nat_lt mask (2 ^ 64)) (list_all (λ v. not (is_in_mask mask v) || (not (v == worker) && nat_lt v workers && is_some (window_of p.stage v))) (range_with_len 0 64)) legal in
     ltb-true mask (2 ^ 64) parts.0
 
-fair_from : (conf : Conf) (scripts : List (List Step)) (p : Play) (marks : List Mark) → length scripts ≤ 64 → IsSome (played_from conf scripts p marks) → AreFair marks
+fair_from : (conf : Conf) (scripts : List (List Step)) (p : Play) (marks : List Mark) → length scripts ≤ 64 → IsSome (played_from conf scripts p marks) → AreInRange marks
 fair_from conf scripts p [] few legal = tt
 fair_from conf scripts p (mark ∷ marks) few legal =
     let one = and_then_some (λ (q : Play). played_from conf scripts q marks) (marked conf scripts p mark) legal in
@@ -57,12 +57,15 @@ output_ends conf scripts journal (Some p) some e = record {
   is = ap (play_text conf scripts journal) e;
 }
 
+-- any journal that stands at the end of an output is its journal
+pub ends_tell : (conf : Conf) (scripts : List (List Step)) (journal other : List Mark) (before : List ℕ) → length scripts ≤ 64 → IsLegal conf scripts journal → AreInRange other
+    → output_of conf scripts journal ≡ before ++ journal_lines other → journal ≡ other
+ends_tell conf scripts journal other before few legal fair e =
+    let ends = output_ends conf scripts journal (played conf scripts journal) legal refl in
+    journal_told ends.before before journal other (fair_from conf scripts (nothing_played conf scripts) journal few legal) fair (sym ends.is ∙ e)
+
 pub outputs_tell : (conf other_conf : Conf) (scripts other_scripts : List (List Step)) (journal other : List Mark) → length scripts ≤ 64 → length other_scripts ≤ 64
     → IsLegal conf scripts journal → IsLegal other_conf other_scripts other → output_of conf scripts journal ≡ output_of other_conf other_scripts other → journal ≡ other
 outputs_tell conf other_conf scripts other_scripts journal other few few' legal legal' e =
-    let one = output_ends conf scripts journal (played conf scripts journal) legal refl in
-    let two = output_ends other_conf other_scripts other (played other_conf other_scripts other) legal' refl in
-    journal_told one.before two.before journal other
-    (fair_from conf scripts (nothing_played conf scripts) journal few legal)
-    (fair_from other_conf other_scripts (nothing_played other_conf other_scripts) other few' legal')
-    (sym one.is ∙ (e ∙ two.is))
+    let ends = output_ends other_conf other_scripts other (played other_conf other_scripts other) legal' refl in
+    ends_tell conf scripts journal other ends.before few legal (fair_from other_conf other_scripts (nothing_played other_conf other_scripts) other few' legal') (e ∙ ends.is)

@@ -1,4 +1,3 @@
 mod Numbers
-mod Fair
 mod Lines
 mod Legal

@@ -1,6 +1,6 @@
 -- The lines of a journal tell its marks, and stand apart from what was printed before them.
 use Rattle.std.proofs.Common.{◌≡◌, ℕ, zero, suc, ◌+◌, ◌<◌, ◌≤◌, ◌^◌, Bool, true, false, cond, List, [], ◌∷◌, ◌++◌, length, refl, sym, ap, ap₂, subst, ◌∙◌, append_assoc, inl, inr, arith}
-use Rattle.std.specs.Prelude.{◌==◌, ◌&&◌, ◌||◌, not, nat_lt, codes, filter}
+use Rattle.std.specs.Prelude.{◌==◌, ◌&&◌, ◌||◌, not, codes, filter}
 use Rattle.std.specs.Fmt.{decimal}
 use Rattle.std.specs.Int.{bit_at}
 use Rattle.std.specs.List.{flat_map, range_with_len, list_all, list_any}
@@ -12,8 +12,8 @@ use Rattle.apcu_model.specs.declared.journal.Mark.{Mark}
 use Rattle.apcu_model.specs.History.{is_in_mask}
 use Rattle.script_read.specs.Grammar.{ends_line}
 use Rattle.apcu_play.specs.Output.{mask_text, mark_line, journal_lines}
-use Rattle.output_laws.proofs.Fair.{AreFair}
-use Rattle.output_laws.proofs.Numbers.{is_digit, front, back, both_true, all-joined, decimal_digits, IsCut, number_told}
+use Rattle.output_laws.specs.InRange.{AreInRange}
+use Rattle.output_laws.proofs.Numbers.{is_digit, both_true, all-joined, decimal_digits, IsCut, number_told}
 
 -- ---- the workers of a mask
 
@@ -145,7 +145,7 @@ line_more mark rest =
     let a = ap length (line_split mark rest) in
     omega (arith, a, length-append (decimal mark.worker) (mask_text mark.mask 64 ++ 10 ∷ rest), length-append (mask_text mark.mask 64) (10 ∷ rest))
 
-pub marks_told : (marks others : List Mark) → AreFair marks → AreFair others → flat_map mark_line marks ≡ flat_map mark_line others → marks ≡ others
+pub marks_told : (marks others : List Mark) → AreInRange marks → AreInRange others → flat_map mark_line marks ≡ flat_map mark_line others → marks ≡ others
 marks_told [] [] fair fair' e = refl
 marks_told [] (o ∷ others) fair fair' e = let n = ap length e in absurd (omega (arith, n, line_more o (flat_map mark_line others)))
 marks_told (m ∷ marks) [] fair fair' e = let n = ap length e in absurd (omega (arith, n, line_more m (flat_map mark_line marks)))
@@ -187,7 +187,7 @@ mask_quiet : (mask n : ℕ) → n ≤ 64 → list_all quiet (mask_text mask n) �
 unfolding mask_text
 mask_quiet mask n few = texts_quiet (filter (is_in_mask mask) (range_with_len 0 n)) (small_some (is_in_mask mask) (range_with_len 0 n) (small_range 0 n (omega arith)))
 
-lines_quiet : (marks : List Mark) → AreFair marks → list_all quiet (flat_map mark_line marks) ≡ true
+lines_quiet : (marks : List Mark) → AreInRange marks → list_all quiet (flat_map mark_line marks) ≡ true
 lines_quiet [] fair = refl
 lines_quiet (m ∷ marks) fair =
     all-joined quiet (mark_line m) (flat_map mark_line marks)
@@ -216,6 +216,6 @@ apart (x ∷ xs) [] lines others q q' e =
     absurd cc
 
 -- a text that ends in a journal tells it
-pub journal_told : (before other_before : List ℕ) (journal other : List Mark) → AreFair journal → AreFair other → before ++ journal_lines journal ≡ other_before ++ journal_lines other → journal ≡ other
+pub journal_told : (before other_before : List ℕ) (journal other : List Mark) → AreInRange journal → AreInRange other → before ++ journal_lines journal ≡ other_before ++ journal_lines other → journal ≡ other
 journal_told before other_before journal other fair fair' e =
     marks_told journal other fair fair' (apart before other_before (flat_map mark_line journal) (flat_map mark_line other) (lines_quiet journal fair) (lines_quiet other fair') e)
