@@ -1,0 +1,6 @@
+use output_laws::outputs_tell_journals;
+
+#[test]
+fn states_its_laws() {
+    outputs_tell_journals();
+}
