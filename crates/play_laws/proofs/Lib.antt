@@ -1,0 +1,3 @@
+mod OwnLemmas
+mod Wanted
+mod WholeLemmas

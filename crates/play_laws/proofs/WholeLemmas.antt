@@ -1,0 +1,224 @@
+-- A history in which workers play their scripts is the play that it tells.
+use Rattle.std.proofs.Common.{◌≡◌, ◌≢◌, ℕ, zero, suc, ◌+◌, ◌<◌, ◌≤◌, Bool, true, false, cond, List, [], ◌∷◌, ◌++◌, length, map, Option, Some, None, inl, inr, refl, sym, ap, subst, ◌∙◌, append_assoc, arith}
+use Rattle.std.specs.Prelude.{◌==◌, ◌&&◌, if◌then◌else◌, slice_get, slice_set, unwrap_or, is_none, IsTrue, IsSome}
+use Rattle.std.specs.Option.{option_and_then}
+use Rattle.std.proofs.lemmas.Bool.Decides.{eqb_tells}
+use Rattle.std.proofs.lemmas.List.{append-nil, map-append, length-append, length-map}
+use Rattle.std.proofs.lemmas.Option.{slice_get_cases, slice_get_past}
+use Rattle.apcu_model.specs.declared.conf.Conf.{Conf}
+use Rattle.apcu_model.specs.declared.event.Event.{Event}
+use Rattle.apcu_model.specs.declared.request.Reply.{Reply}
+use Rattle.apcu_model.specs.History.{Stage, start_of, stage_of, reply_in, after_event, after_events, all_legal, is_legal_mask, mark_of, marks_of}
+use Rattle.pin_table.specs.Events.{events_of}
+use Rattle.script_read.specs.declared.script.Step.{Step}
+use Rattle.script_read.specs.Play.{Wish, Play, wanted, replies_of, wish_of, after_wish, marked, played_from, played, IsLegal, IsComplete, are_done, is_complete_play}
+use Rattle.play_laws.specs.Own.{own_replies, wish_in, all_asked}
+use Rattle.play_laws.specs.Whole.{IsPlayedOut, replies_from, told_by}
+use Rattle.play_laws.proofs.OwnLemmas.{one-more, length-own_replies}
+use Rattle.play_laws.proofs.Wanted.{wanted_in_turn}
+
+-- ---- numbers, tests and lists
+
+same_true : (a b : ℕ) → a ≡ b → (a == b) ≡ true
+same_true a b e = elim (eqb_tells a b) [
+  | inl t ↦ t.0
+  | inr t ↦ absurd (t.1 e)
+]
+
+other_false : (a b : ℕ) → a ≢ b → (a == b) ≡ false
+other_false a b d = elim (eqb_tells a b) [
+  | inl t ↦ absurd (d t.1)
+  | inr t ↦ t.0
+]
+
+both_true : (a b : Bool) → (a && b) ≡ true → (a ≡ true) × (b ≡ true)
+both_true true b e = (refl, e)
+both_true false b e = absurd cc
+
+true_both : (a b : Bool) → a ≡ true → b ≡ true → (a && b) ≡ true
+true_both a b p q = rw p q
+
+-- the element at a seam
+at_seam : {A : Type 0} (xs : List A) (y : A) (ys : List A) → slice_get (xs ++ y ∷ ys) (length xs) ≡ Some y
+at_seam [] y ys = refl
+at_seam (x ∷ xs) y ys = at_seam xs y ys
+
+-- ---- one worker's events and replies
+
+after-joined : (m : Stage) (es more : List Event) → after_events m (es ++ more) ≡ after_events (after_events m es) more
+after-joined m [] more = refl
+after-joined m (e ∷ es) more = after-joined (after_event m e) es more
+
+cond_joined : {A : Type 0} (b : Bool) (x : A) (xs ys : List A) → cond b (x ∷ (xs ++ ys)) (xs ++ ys) ≡ cond b (x ∷ xs) xs ++ ys
+cond_joined true x xs ys = refl
+cond_joined false x xs ys = refl
+
+events-joined : (w : ℕ) (es more : List Event) → events_of w (es ++ more) ≡ events_of w es ++ events_of w more
+events-joined w [] more = refl
+events-joined w (e ∷ es) more =
+    ap (λ (l : List Event). cond (e.worker == w) (e ∷ l) l) (events-joined w es more) ∙ cond_joined (e.worker == w) e (events_of w es) (events_of w more)
+
+-- those of the event's own worker
+own_events : (w : ℕ) (done : List Event) (e : Event) (rest : List Event) → e.worker ≡ w → events_of w (done ++ e ∷ rest) ≡ events_of w done ++ e ∷ events_of w rest
+own_events w done e rest own =
+    events-joined w done (e ∷ rest) ∙ ap (λ (b : Bool). events_of w done ++ cond b (e ∷ events_of w rest) (events_of w rest)) (same_true e.worker w own)
+
+-- the event of a worker is answered among its own replies
+own_grows : (conf : Conf) (w : ℕ) (done : List Event) (e : Event) → e.worker ≡ w → own_replies conf w (done ++ e ∷ []) ≡ own_replies conf w done ++ reply_in (stage_of conf done) e ∷ []
+own_grows conf w done e own =
+    one-more conf w done e ∙ ap (λ (b : Bool). own_replies conf w done ++ cond b (reply_in (stage_of conf done) e ∷ []) []) (same_true e.worker w own)
+
+-- and among no others
+own_stays : (conf : Conf) (w : ℕ) (done : List Event) (e : Event) → e.worker ≢ w → own_replies conf w (done ++ e ∷ []) ≡ own_replies conf w done
+own_stays conf w done e other =
+    one-more conf w done e
+    ∙ (ap (λ (b : Bool). own_replies conf w done ++ cond b (reply_in (stage_of conf done) e ∷ []) []) (other_false e.worker w other)
+    ∙ append-nil (own_replies conf w done))
+
+-- ---- the replies of all workers
+
+pub replies_at : (conf : Conf) (w : ℕ) (scripts : List (List Step)) (history : List Event) (k v : ℕ) (script : List Step) → slice_get scripts k ≡ Some script → v ≡ w + k
+    → slice_get (replies_from conf w scripts history) k ≡ Some (own_replies conf v history)
+replies_at conf w [] history k v script at is = absurd cc
+replies_at conf w (s ∷ scripts) history zero v script at is =
+    ap (λ (n : ℕ). Some (own_replies conf n history)) (omega arith)
+replies_at conf w (s ∷ scripts) history (suc k) v script at is = replies_at conf (w + 1) scripts history k v script at (omega arith)
+
+-- an event of a worker before these leaves their replies
+replies_stay : (conf : Conf) (w : ℕ) (scripts : List (List Step)) (done : List Event) (e : Event) → e.worker < w → replies_from conf w scripts (done ++ e ∷ []) ≡ replies_from conf w scripts done
+replies_stay conf w [] done e before = refl
+replies_stay conf w (s ∷ scripts) done e before =
+    let first = own_stays conf w done e (λ same. absurd (omega (arith, same))) in
+    let later = replies_stay conf (w + 1) scripts done e (omega arith) in
+    ap (λ (r : List Reply). r ∷ replies_from conf (w + 1) scripts (done ++ e ∷ [])) first ∙ ap (λ (r : List (List Reply)). own_replies conf w done ∷ r) later
+
+-- an event of one of these workers adds its reply
+replies_grow : (conf : Conf) (w : ℕ) (scripts : List (List Step)) (done : List Event) (e : Event) (k : ℕ) (script : List Step) → slice_get scripts k ≡ Some script → e.worker ≡ w + k
+    → slice_set (replies_from conf w scripts done) k (own_replies conf e.worker done ++ reply_in (stage_of conf done) e ∷ []) ≡ replies_from conf w scripts (done ++ e ∷ [])
+replies_grow conf w [] done e k script at is = absurd cc
+replies_grow conf w (s ∷ scripts) done e zero script at is =
+    let same : e.worker ≡ w = omega arith in
+    let first : own_replies conf e.worker done ++ reply_in (stage_of conf done) e ∷ [] ≡ own_replies conf w (done ++ e ∷ []) =
+    ap (λ (n : ℕ). own_replies conf n done ++ reply_in (stage_of conf done) e ∷ []) same ∙ sym (own_grows conf w done e same) in
+    let later = replies_stay conf (w + 1) scripts done e (omega arith) in
+    ap (λ (r : List Reply). r ∷ replies_from conf (w + 1) scripts done) first ∙ ap (λ (r : List (List Reply)). own_replies conf w (done ++ e ∷ []) ∷ r) (sym later)
+replies_grow conf w (s ∷ scripts) done e (suc k) script at is =
+    let first = own_stays conf w done e (λ same. absurd (omega (arith, same))) in
+    let later = replies_grow conf (w + 1) scripts done e k script at (omega arith) in
+    ap (λ (r : List (List Reply)). own_replies conf w done ∷ r) later ∙ ap (λ (r : List Reply). r ∷ replies_from conf (w + 1) scripts (done ++ e ∷ [])) (sym first)
+
+-- ---- one event is one mark
+
+abbrev play : Stage → List (List Reply) → Play
+play m r = record { stage = m; replies = r }
+
+-- what the event asks is what its worker wants
+wants_it : (conf : Conf) (scripts : List (List Step)) (done : List Event) (e : Event) (rest : List Event) (script : List Step) → slice_get scripts e.worker ≡ Some script
+    → map wish_in (events_of e.worker (done ++ e ∷ rest)) ≡ all_asked script → wish_of conf scripts (told_by conf scripts done) e.worker ≡ Some (wish_in e)
+wants_it conf scripts done e rest script at asked =
+    let w = e.worker in
+    let before = map wish_in (events_of w done) in
+    let found : replies_of (told_by conf scripts done) w ≡ own_replies conf w done =
+    ap (λ (o : Option (List Reply)). unwrap_or o []) (replies_at conf 0 scripts done w w script at (omega arith)) in
+    let split : all_asked script ≡ before ++ wish_in e ∷ map wish_in (events_of w rest) =
+    sym asked ∙ (ap (map wish_in) (own_events w done e rest refl) ∙ map-append wish_in (events_of w done) (e ∷ events_of w rest)) in
+    let many : length (own_replies conf w done) ≡ length before = length-own_replies conf w done ∙ sym (length-map (events_of w done) wish_in) in
+    ap (option_and_then (λ (s : List Step). wanted conf s (replies_of (told_by conf scripts done) w))) at
+    ∙ (ap (wanted conf script) found
+    ∙ (wanted_in_turn conf script (own_replies conf w done)
+    ∙ (ap (slice_get (all_asked script)) many
+    ∙ (ap (λ (l : List Wish). slice_get l (length before)) split
+    ∙ at_seam before (wish_in e) (map wish_in (events_of w rest))))))
+
+after_it : (conf : Conf) (scripts : List (List Step)) (done : List Event) (e : Event) (script : List Step) → slice_get scripts e.worker ≡ Some script
+    → after_wish (told_by conf scripts done) (mark_of e) (wish_in e) ≡ told_by conf scripts (done ++ e ∷ [])
+after_it conf scripts done e script at =
+    let w = e.worker in
+    let found : replies_of (told_by conf scripts done) w ≡ own_replies conf w done =
+    ap (λ (o : Option (List Reply)). unwrap_or o []) (replies_at conf 0 scripts done w w script at (omega arith)) in
+    let stage : after_event (stage_of conf done) e ≡ stage_of conf (done ++ e ∷ []) = sym (after-joined (start_of conf) done (e ∷ [])) in
+    let replies : slice_set (replies_from conf 0 scripts done) w (replies_of (told_by conf scripts done) w ++ reply_in (stage_of conf done) e ∷ []) ≡ replies_from conf 0 scripts (done ++ e ∷ []) =
+    ap (λ (r : List Reply). slice_set (replies_from conf 0 scripts done) w (r ++ reply_in (stage_of conf done) e ∷ [])) found
+    ∙ replies_grow conf 0 scripts done e w script at (omega arith) in
+    ap (λ (m : Stage). play m (slice_set (replies_from conf 0 scripts done) w (replies_of (told_by conf scripts done) w ++ reply_in (stage_of conf done) e ∷ []))) stage
+    ∙ ap (λ (r : List (List Reply)). play (stage_of conf (done ++ e ∷ [])) r) replies
+
+marked_by : (conf : Conf) (scripts : List (List Step)) (done : List Event) (e : Event) (rest : List Event) (script : List Step) → slice_get scripts e.worker ≡ Some script
+    → map wish_in (events_of e.worker (done ++ e ∷ rest)) ≡ all_asked script → is_legal_mask (length scripts) e.worker (stage_of conf done) e.mask ≡ true
+    → marked conf scripts (told_by conf scripts done) (mark_of e) ≡ Some (told_by conf scripts (done ++ e ∷ []))
+marked_by conf scripts done e rest script at asked legal =
+    let p = told_by conf scripts done in
+    ap (λ (b : Bool). if b then option_and_then (λ (wish : Wish). Some (after_wish p (mark_of e) wish)) (wish_of conf scripts p e.worker) else None) legal
+    ∙ (ap (option_and_then (λ (wish : Wish). Some (after_wish p (mark_of e) wish))) (wants_it conf scripts done e rest script at asked)
+    ∙ ap Some (after_it conf scripts done e script at))
+
+-- the script of an event's worker
+record HasScript (scripts : List (List Step)) (w : ℕ) : Type 0 where
+  pub script : List Step
+  pub at : slice_get scripts w ≡ Some script
+
+script_of_event : (scripts : List (List Step)) (done : List Event) (e : Event) (rest : List Event) → ((w : ℕ) → length scripts ≤ w → events_of w (done ++ e ∷ rest) ≡ []) → HasScript scripts e.worker
+script_of_event scripts done e rest others = elim (slice_get_cases scripts e.worker).1 [
+  | inl there ↦ record { script = there.0; at = there.2 }
+  | inr past ↦
+      let none = ap length (sym (own_events e.worker done e rest refl) ∙ others e.worker past.0) in
+      absurd (omega (arith, none, length-append (events_of e.worker done) (e ∷ events_of e.worker rest)))
+]
+
+-- ---- all events
+
+goes_on : (conf : Conf) (scripts : List (List Step)) (done rest : List Event) → all_legal (length scripts) (stage_of conf done) rest ≡ true
+    → ((w : ℕ) (script : List Step) → slice_get scripts w ≡ Some script → map wish_in (events_of w (done ++ rest)) ≡ all_asked script)
+    → ((w : ℕ) → length scripts ≤ w → events_of w (done ++ rest) ≡ [])
+    → played_from conf scripts (told_by conf scripts done) (marks_of rest) ≡ Some (told_by conf scripts (done ++ rest))
+goes_on conf scripts done [] legal asked others = ap (λ (h : List Event). Some (told_by conf scripts h)) (sym (append-nil done))
+goes_on conf scripts done (e ∷ rest) legal asked others =
+    let parts = both_true (is_legal_mask (length scripts) e.worker (stage_of conf done) e.mask) (all_legal (length scripts) (after_event (stage_of conf done) e) rest) legal in
+    let has = script_of_event scripts done e rest others in
+    let one = marked_by conf scripts done e rest has.script has.at (asked e.worker has.script has.at) parts.0 in
+    let joined : (done ++ e ∷ []) ++ rest ≡ done ++ e ∷ rest = append_assoc done (e ∷ []) rest in
+    let legal_on : all_legal (length scripts) (stage_of conf (done ++ e ∷ [])) rest ≡ true =
+    ap (λ (m : Stage). all_legal (length scripts) m rest) (after-joined (start_of conf) done (e ∷ [])) ∙ parts.1 in
+    let later = goes_on conf scripts (done ++ e ∷ []) rest legal_on
+    (λ w script at. ap (λ (h : List Event). map wish_in (events_of w h)) joined ∙ asked w script at)
+    (λ w past. ap (events_of w) joined ∙ others w past) in
+    ap (option_and_then (λ (q : Play). played_from conf scripts q (marks_of rest))) one ∙ (later ∙ ap (λ (h : List Event). Some (told_by conf scripts h)) joined)
+
+nothing_told : (conf : Conf) (w : ℕ) (scripts : List (List Step)) → map (λ script. []) scripts ≡ replies_from conf w scripts []
+nothing_told conf w [] = refl
+nothing_told conf w (s ∷ scripts) = ap (λ (r : List (List Reply)). [] ∷ r) (nothing_told conf (w + 1) scripts)
+
+pub played_is_told : (conf : Conf) (scripts : List (List Step)) (history : List Event) → IsPlayedOut conf scripts history → played conf scripts (marks_of history) ≡ Some (told_by conf scripts history)
+played_is_told conf scripts history out =
+    ap (λ (r : List (List Reply)). played_from conf scripts (play (start_of conf) r) (marks_of history)) (nothing_told conf 0 scripts)
+    ∙ goes_on conf scripts [] history out.legal out.asked out.others
+
+pub is_legal : (conf : Conf) (scripts : List (List Step)) (history : List Event) → IsPlayedOut conf scripts history → IsLegal conf scripts (marks_of history)
+is_legal conf scripts history out = subst (λ (o : Option Play). IsSome o) (sym (played_is_told conf scripts history out)) refl
+
+-- ---- nothing more is wanted
+
+done_from : (conf : Conf) (w : ℕ) (scripts : List (List Step)) (history : List Event)
+    → ((k v : ℕ) (script : List Step) → slice_get scripts k ≡ Some script → v ≡ w + k → map wish_in (events_of v history) ≡ all_asked script)
+    → are_done conf scripts (replies_from conf w scripts history) ≡ true
+done_from conf w [] history asked = refl
+done_from conf w (s ∷ scripts) history asked =
+    let own = own_replies conf w history in
+    let many : length own ≡ length (all_asked s) =
+    length-own_replies conf w history ∙ (sym (length-map (events_of w history) wish_in) ∙ ap length (asked 0 w s refl (omega arith))) in
+    let none : wanted conf s own ≡ None = wanted_in_turn conf s own ∙ slice_get_past (all_asked s) (length own) (omega (arith, many)) in
+    true_both (is_none (wanted conf s own)) (are_done conf scripts (replies_from conf (w + 1) scripts history)) (ap (λ (o : Option Wish). is_none o) none)
+    (done_from conf (w + 1) scripts history (λ k v script at is. asked (suc k) v script at (omega arith)))
+
+pub is_complete : (conf : Conf) (scripts : List (List Step)) (history : List Event) → IsPlayedOut conf scripts history → IsComplete conf scripts (marks_of history)
+is_complete conf scripts history out =
+    subst (λ (o : Option Play). IsTrue (is_complete_play conf scripts o)) (sym (played_is_told conf scripts history out))
+    (done_from conf 0 scripts history (λ k v script at is. out.asked v script (ap (slice_get scripts) (is ∙ omega arith) ∙ at)))
+
+-- ---- a worker's replies in the play
+
+pub replies_told : (conf : Conf) (scripts : List (List Step)) (history : List Event) (w : ℕ) → w < length scripts → replies_of (told_by conf scripts history) w ≡ own_replies conf w history
+replies_told conf scripts history w inside = elim (slice_get_cases scripts w).1 [
+  | inl there ↦ ap (λ (o : Option (List Reply)). unwrap_or o []) (replies_at conf 0 scripts history w w there.0 there.2 (omega arith))
+  | inr past ↦ absurd (omega (arith, past.0))
+]

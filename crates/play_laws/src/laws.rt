@@ -1,0 +1,48 @@
+ghost use Rattle.std.specs.Prelude.{◌≡◌, ℕ, ◌<◌, ◌==◌, cond, List, [], ◌∷◌, ◌++◌, length, Some, slice_get};
+ghost use Rattle.apcu_model.specs.declared.conf.Conf.{Conf};
+ghost use Rattle.apcu_model.specs.declared.event.Event.{Event};
+ghost use Rattle.apcu_model.specs.declared.request.Reply.{Reply};
+ghost use Rattle.apcu_model.specs.History.{stage_of, reply_in, marks_of};
+ghost use Rattle.pin_table.specs.Events.{events_of};
+ghost use Rattle.script_read.specs.declared.script.Step.{Step};
+ghost use Rattle.script_read.specs.Play.{IsLegal, IsComplete, played, replies_of, wanted};
+ghost use Rattle.play_laws.specs.Own.{own_replies, all_asked};
+ghost use Rattle.play_laws.specs.Whole.{IsPlayedOut, told_by};
+
+/// What comes of one event more, and of more events of others: a worker's own replies grow by the
+/// reply of its own event alone, which is that of one thread at the event's place. There are as
+/// many of them as the worker has events.
+pub fn one_event_own()
+    ensures more { (conf : Conf) (w : ℕ) (history : List Event) (e : Event)
+        → own_replies conf w (history ++ e ∷ [])
+        ≡ own_replies conf w history
+        ++ cond (e.worker == w) (reply_in (stage_of conf history) e ∷ []) [] }
+    ensures others { (conf : Conf) (w : ℕ) (history between : List Event)
+        → events_of w between ≡ []
+        → own_replies conf w (history ++ between) ≡ own_replies conf w history }
+    ensures count { (conf : Conf) (w : ℕ) (history : List Event)
+        → length (own_replies conf w history) ≡ length (events_of w history) }
+{}
+
+/// After some replies a script wants the next of all that it asks, whatever the replies are.
+pub fn scripts_ask_in_turn()
+    ensures { (conf : Conf) (script : List Step) (replies : List Reply)
+        → wanted conf script replies ≡ slice_get (all_asked script) (length replies) }
+{}
+
+/// A history of events in which each mask is legal, each worker asks all that its script asks, in
+/// order, and its end, and nobody else asks, is a play: that of the journal of its marks. The play
+/// ends in the cache that one thread would have after these events, and each worker was answered
+/// its own replies. No worker wants anything after it.
+pub fn histories_are_plays()
+    ensures play { (conf : Conf) (scripts : List (List Step)) (history : List Event)
+        → IsPlayedOut conf scripts history
+        → played conf scripts (marks_of history) ≡ Some (told_by conf scripts history) }
+    ensures replies { (conf : Conf) (scripts : List (List Step)) (history : List Event) (w : ℕ)
+        → w < length scripts
+        → replies_of (told_by conf scripts history) w ≡ own_replies conf w history }
+    ensures legal { (conf : Conf) (scripts : List (List Step)) (history : List Event)
+        → IsPlayedOut conf scripts history → IsLegal conf scripts (marks_of history) }
+    ensures complete { (conf : Conf) (scripts : List (List Step)) (history : List Event)
+        → IsPlayedOut conf scripts history → IsComplete conf scripts (marks_of history) }
+{}
