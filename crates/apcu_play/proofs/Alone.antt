@@ -22,7 +22,8 @@ use Rattle.script_read.specs.declared.script.Step.{Step}
 use Rattle.script_read.specs.Grammar.{ends_line}
 use Rattle.script_read.specs.Play.{Next, Asks, Leaves, asks_each, next_of, requests_of, continued, wanted, Wish, Play, nothing_played, marked, played_from, played, after_wish, event_of, are_done, is_complete_play, IsLegal, IsComplete}
 use Rattle.apcu_play.specs.Alone.{answers, after_all, step_replies, after_step, lines_of, own_mark, own_marks, marks_for, alone_text}
-use Rattle.apcu_play.specs.Output.{call_text, before, lines_from, script_lines, worker_lines, journal_lines, play_text, output_of, IsOutput}
+use Rattle.reply_text.specs.Lines.{call_text, before, lines_from, script_lines}
+use Rattle.apcu_play.specs.Output.{worker_lines, journal_lines, play_text, output_of, IsOutput}
 
 -- ---- what a script wants, as one list
 

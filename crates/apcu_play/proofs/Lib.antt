@@ -3,6 +3,4 @@ pub mod Masks
 pub mod Finish
 pub mod Telling
 pub mod Whole
-pub mod Noting
-pub mod Printed
 pub mod ProgramWords

@@ -1,20 +1,19 @@
 -- One worker's script on a cache of its own, without a journal.
-use Rattle.std.specs.Prelude.{ℕ, ◌+◌, List, [], ◌∷◌, ◌++◌, length, map, replicate, codes, Option, Some, None}
+use Rattle.std.specs.Prelude.{ℕ, ◌+◌, List, [], ◌∷◌, ◌++◌, length, map, replicate, codes}
 use Rattle.std.specs.Fmt.{decimal}
 use Rattle.std.specs.List.{flat_map}
 use Rattle.apcu_model.specs.declared.conf.Conf.{Conf}
 use Rattle.apcu_model.specs.declared.journal.Mark.{Mark}
 use Rattle.apcu_model.specs.declared.request.Request.{Request}
 use Rattle.apcu_model.specs.declared.request.Reply.{Reply}
-use Rattle.apcu_model.specs.declared.request.Reply.TheVariants.{Found, Absent}
-use Rattle.php_graph.specs.declared.kind.Kind.{Kind}
 use Rattle.apcu_model.specs.Cache.{Cache, empty_cache}
 use Rattle.apcu_model.specs.Sequential.{reply_to, cache_after}
 use Rattle.script_read.specs.declared.script.Step.{Step}
 use Rattle.script_read.specs.Calls.{events_of}
 use Rattle.script_read.specs.Grammar.{ends_line}
 use Rattle.script_read.specs.Play.{requests_of}
-use Rattle.apcu_play.specs.Output.{call_text, journal_lines}
+use Rattle.reply_text.specs.Lines.{call_text}
+use Rattle.apcu_play.specs.Output.{journal_lines}
 
 -- what requests are answered, one after the other at one moment
 abbrev pub answers : Cache → ℕ → List Request → List Reply
@@ -25,11 +24,6 @@ answers c t (request ∷ more) = reply_to [] t request c ∷ answers (cache_afte
 abbrev pub after_all : Cache → ℕ → List Request → Cache
 after_all c t [] = c
 after_all c t (request ∷ more) = after_all (cache_after [] t request c) t more
-
--- a fetch's reply by what it found
-abbrev pub fetched : Option (List Kind) → Reply
-fetched None = Absent
-fetched (Some g) = Found g
 
 abbrev pub step_replies : Cache → Step → List Reply
 step_replies c step = answers c step.t (requests_of step.call)

@@ -1,5 +1,3 @@
-pub mod Replies
-pub mod Notes
 pub mod Output
 pub mod Alone
 pub mod Message

@@ -4,16 +4,15 @@ ghost use Rattle.std.specs.Prelude.{◌≡◌, ℕ, ◌<◌, ◌≤◌, ◌^◌,
 ghost use Rattle.apcu_model.specs.declared.request.Request.TheVariants.{Store, Fetch, Exists, Delete};
 ghost use Rattle.apcu_play.specs.Alone.{answers, after_all};
 ghost use Rattle.script_read.specs.Play.{requests_of};
-ghost use Rattle.apcu_play.specs.Output.{call_text};
-ghost use Rattle.apcu_play.specs.Replies.{undone, all_noted, there_in, value_in};
+ghost use Rattle.reply_text.specs.Lines.{call_text};
+ghost use Rattle.reply_text.specs.Replies.{undone, all_noted, there_in, value_in};
 
 use crate::engine::Engine;
-use crate::notes::Notes;
-use crate::replies::{
-    write_each, write_fetched, write_flag, write_flags, write_numbered, write_values,
-};
 use notation::ByteOut;
 use php_graph::{Bytes, Graph};
+use reply_text::{
+    Notes, write_each, write_fetched, write_flag, write_flags, write_numbered, write_values,
+};
 use script_read::Call;
 use std::alloc::{AllocError, Global};
 

@@ -7,7 +7,7 @@ ghost use Rattle.apcu_model.specs.Expiry.{live_row};
 ghost use Rattle.apcu_model.specs.Sequential.{cache_after, reply_to};
 ghost use Rattle.apcu_model.specs.declared.request.Request.TheVariants.{Store, Fetch, Exists, Delete, Clear};
 ghost use Rattle.apcu_model.specs.declared.request.Reply.TheVariants.{Flag};
-ghost use Rattle.apcu_play.specs.Alone.{fetched};
+ghost use Rattle.reply_text.specs.Replies.{fetched};
 
 use apcu_model::{Conf, StoreAnswer};
 use cache_core::Core;

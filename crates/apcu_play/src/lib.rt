@@ -5,11 +5,9 @@
 mod calls;
 mod engine;
 mod messages;
-mod notes;
 mod options;
 mod play;
 mod printing;
-mod replies;
 mod running;
 mod status;
 

@@ -1,7 +1,7 @@
 use Rattle.std.proofs.Common.{◌≡◌, ◌++◌, map, drop}
 use Rattle.apcu_model.specs.declared.request.Request.TheVariants.{Delete}
 use Rattle.apcu_play.specs.Alone.{answers, after_all}
-use Rattle.apcu_play.specs.Replies.{undone}
+use Rattle.reply_text.specs.Replies.{undone}
 use Rattle.apcu_play.proofs.calls.delete_all.Given as goal
 
 abbrev pub invariant-loop-key : goal.invariant-loop-key

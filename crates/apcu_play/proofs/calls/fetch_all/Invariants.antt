@@ -1,7 +1,7 @@
 use Rattle.std.proofs.Common.{◌≡◌, [], map, drop}
 use Rattle.apcu_model.specs.declared.request.Request.TheVariants.{Fetch}
 use Rattle.apcu_play.specs.Alone.{answers, after_all}
-use Rattle.apcu_play.specs.Replies.{all_noted, value_in}
+use Rattle.reply_text.specs.Replies.{all_noted, value_in}
 use Rattle.apcu_play.proofs.calls.fetch_all.Given as goal
 
 abbrev pub invariant-loop-key : goal.invariant-loop-key

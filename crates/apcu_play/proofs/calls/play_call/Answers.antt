@@ -3,8 +3,8 @@ use Rattle.std.proofs.lemmas.Grind.{common_steps}
 use Rattle.std.proofs.lemmas.List.{length-map}
 use Rattle.apcu_model.specs.declared.request.Request.TheVariants.{Fetch}
 use Rattle.apcu_play.specs.Alone.{answers}
-use Rattle.apcu_play.specs.Replies.{value_in}
-use Rattle.apcu_play.proofs.Printed.{all_noted_len}
+use Rattle.reply_text.specs.Replies.{value_in}
+use Rattle.reply_text.proofs.Printed.{all_noted_len}
 use Rattle.apcu_play.proofs.calls.play_call.Goals as goal
 
 pub write_values-requires : goal.write_values-requires

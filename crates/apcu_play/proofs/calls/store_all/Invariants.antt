@@ -1,7 +1,7 @@
 use Rattle.std.proofs.Common.{◌≡◌, ◌++◌, map, drop}
 use Rattle.apcu_model.specs.declared.request.Request.TheVariants.{Store}
 use Rattle.apcu_play.specs.Alone.{answers, after_all}
-use Rattle.apcu_play.specs.Replies.{undone}
+use Rattle.reply_text.specs.Replies.{undone}
 use Rattle.apcu_play.proofs.calls.store_all.Given as goal
 
 abbrev pub invariant-loop-pair : goal.invariant-loop-pair

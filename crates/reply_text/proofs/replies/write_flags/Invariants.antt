@@ -1,7 +1,7 @@
 use Rattle.std.proofs.Common.{◌≡◌, ◌++◌, ℕ, List, map, drop}
 use Rattle.std.specs.Prelude.{codes}
-use Rattle.apcu_play.specs.Replies.{members_text, all_with}
-use Rattle.apcu_play.proofs.replies.write_flags.Given as goal
+use Rattle.reply_text.specs.Replies.{members_text, all_with}
+use Rattle.reply_text.proofs.replies.write_flags.Given as goal
 
 abbrev pub invariant-loop-note : goal.invariant-loop-note
 invariant-loop-note l =

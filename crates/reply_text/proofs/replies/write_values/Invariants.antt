@@ -1,6 +1,6 @@
 use Rattle.std.proofs.Common.{◌≡◌, ◌++◌, ◌+◌, ◌*◌, ◌≤◌, ◌<◌, ◌^◌, map, drop, length}
-use Rattle.apcu_play.specs.Replies.{members_text, value_members}
-use Rattle.apcu_play.proofs.replies.write_values.Given as goal
+use Rattle.reply_text.specs.Replies.{members_text, value_members}
+use Rattle.reply_text.proofs.replies.write_values.Given as goal
 
 abbrev pub invariant-loop-value : goal.invariant-loop-value
 invariant-loop-value l = record {

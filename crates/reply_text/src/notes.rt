@@ -2,7 +2,7 @@
 //! later answer.
 
 ghost use Rattle.std.specs.Prelude.{◌≡◌, [], map, OnOk};
-ghost use Rattle.apcu_play.specs.Replies.{noted};
+ghost use Rattle.reply_text.specs.Replies.{noted};
 
 use php_graph::Bytes;
 use std::alloc::{AllocError, Global};
@@ -11,7 +11,7 @@ use std::marker::Model;
 
 // Keys with their answers, in the order in which the keys first had one. Contracts see the list.
 #[derive(Drop)]
-pub(crate) struct Notes<'a, A> {
+pub struct Notes<'a, A> {
     notes: Vec<(&'a Bytes, A)>,
     places: BTreeMap<Bytes, usize>,
     alloc: Global,
@@ -19,7 +19,7 @@ pub(crate) struct Notes<'a, A> {
 
 impl<'a, A> Model for Notes<'a, A> {
     ghost use Rattle.std.specs.Prelude.{List, ℕ, map};
-    ghost use Rattle.apcu_play.specs.Notes.{KnowsNotes};
+    ghost use Rattle.reply_text.specs.Notes.{KnowsNotes};
 
     ghost Value = { List (List ℕ × A) };
 
@@ -31,7 +31,7 @@ impl<'a, A> Model for Notes<'a, A> {
 
 impl<'a, A: Drop> Notes<'a, A> {
     // Nothing is noted.
-    pub(crate) fn new(alloc: Global) -> Notes<'a, A>
+    pub fn new(alloc: Global) -> Notes<'a, A>
         ensures { result ≡ [] }
     {
         Notes {
@@ -42,7 +42,7 @@ impl<'a, A: Drop> Notes<'a, A> {
     }
 
     // Notes an answer for a key.
-    pub(crate) fn note(&mut self, key: &'a Bytes, answer: A) -> Result<(), AllocError>
+    pub fn note(&mut self, key: &'a Bytes, answer: A) -> Result<(), AllocError>
         ensures { OnOk result (self.new ≡ noted key.now answer self.old) }
     {
         match self.places.get(key) {
@@ -61,7 +61,7 @@ impl<'a, A: Drop> Notes<'a, A> {
     }
 
     // All notes, in their order.
-    pub(crate) fn as_slice(&self) -> &[(&'a Bytes, A)]
+    pub fn as_slice(&self) -> &[(&'a Bytes, A)]
         ensures { map (λ note. (note.0.now, note.1)) result.now ≡ self.now }
     {
         &self.notes

@@ -1,6 +1,6 @@
 use Rattle.std.proofs.Common.{◌≡◌, ◌++◌, map, drop}
-use Rattle.apcu_play.specs.Replies.{members_text, numbered}
-use Rattle.apcu_play.proofs.replies.write_numbered.Given as goal
+use Rattle.reply_text.specs.Replies.{members_text, numbered}
+use Rattle.reply_text.proofs.replies.write_numbered.Given as goal
 
 abbrev pub invariant-loop-i : goal.invariant-loop-i
 invariant-loop-i l =

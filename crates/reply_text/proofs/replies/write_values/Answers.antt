@@ -3,9 +3,9 @@ use Rattle.std.proofs.Math.ListN.{drop_of_length-le}
 use Rattle.std.proofs.lemmas.List.{length-map}
 use Rattle.php_graph.specs.declared.kind.Kind.{Kind}
 use Rattle.notation.specs.Notation.{array_head}
-use Rattle.apcu_play.specs.Replies.{members_text, value_members}
-use Rattle.apcu_play.proofs.Printed.{members_len, on_ok, array_ends}
-use Rattle.apcu_play.proofs.replies.write_values.Goals as goal
+use Rattle.reply_text.specs.Replies.{members_text, value_members}
+use Rattle.reply_text.proofs.Printed.{members_len, on_ok, array_ends}
+use Rattle.reply_text.proofs.replies.write_values.Goals as goal
 
 pub returns : goal.returns
 returns c =

@@ -5,7 +5,7 @@ use Rattle.php_graph.specs.declared.kind.Kind.{Kind}
 use Rattle.std.specs.Prelude.{Option, Some, None, Result, Ok, Err, OnOk, codes}
 use Rattle.std.proofs.lemmas.List.{append-nil}
 use Rattle.apcu_model.specs.declared.request.Reply.{Reply}
-use Rattle.apcu_play.specs.Replies.{numbered, value_members, noted, noted_if, all_noted}
+use Rattle.reply_text.specs.Replies.{numbered, value_members, noted, noted_if, all_noted}
 
 pub numbered_len : (i : ℕ) (keys : List (List ℕ)) → length (numbered i keys) ≡ length keys
 numbered_len i [] = refl

@@ -1,10 +1,10 @@
 use Rattle.std.proofs.Common.{◌≡◌, ℕ, ◌<◌, List, [], ◌∷◌, ◌++◌, map, Option, Some, None, length, sym, ap, ◌∙◌, subst, arith}
 use Rattle.std.specs.Option.{option_copied}
 use Rattle.std.proofs.lemmas.List.{map-set, map-append, length-map}
-use Rattle.apcu_play.specs.Notes.{note_of, KnowsNotes}
-use Rattle.apcu_play.specs.Replies.{noted}
-use Rattle.apcu_play.proofs.Noting.{note_within, noted_there, noted_new, known_place, knows_set, knows_more}
-use Rattle.apcu_play.proofs.notes.Notes.note.Goals as goal
+use Rattle.reply_text.specs.Notes.{note_of, KnowsNotes}
+use Rattle.reply_text.specs.Replies.{noted}
+use Rattle.reply_text.proofs.Noting.{note_within, noted_there, noted_new, known_place, knows_set, knows_more}
+use Rattle.reply_text.proofs.notes.Notes.note.Goals as goal
 
 pub index_mut-requires : goal.index_mut-requires
 index_mut-requires g c =

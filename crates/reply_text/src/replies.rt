@@ -4,8 +4,7 @@ ghost use Rattle.std.specs.Prelude.{◌≡◌, ℕ, ◌+◌, ◌<◌, ◌^◌, �
 ghost use Rattle.std.specs.Option.{option_map};
 ghost use Rattle.std.specs.Fmt.{decimal};
 ghost use Rattle.notation.specs.Notation.{array_head, string_text};
-ghost use Rattle.apcu_play.specs.Alone.{fetched};
-ghost use Rattle.apcu_play.specs.Replies.{flag_text, fetched_one, array_text, all_with, numbered, value_members};
+ghost use Rattle.reply_text.specs.Replies.{flag_text, fetched, fetched_one, array_text, all_with, numbered, value_members};
 
 use itoa::Buffer;
 use notation::{ByteOut, write_key, write_value};
@@ -13,7 +12,7 @@ use php_graph::{Bytes, Graph};
 use std::alloc::AllocError;
 
 // A truth value.
-pub(crate) fn write_flag(out: &mut ByteOut, done: bool) -> Result<(), AllocError>
+pub fn write_flag(out: &mut ByteOut, done: bool) -> Result<(), AllocError>
     ensures { OnOk result (out.new ≡ out.old ++ flag_text done) }
 {
     match done {
@@ -23,7 +22,7 @@ pub(crate) fn write_flag(out: &mut ByteOut, done: bool) -> Result<(), AllocError
 }
 
 // What a fetch of one key found: the value and that it was there, or that it was not.
-pub(crate) fn write_fetched(out: &mut ByteOut, found: Option<Graph>) -> Result<(), AllocError>
+pub fn write_fetched(out: &mut ByteOut, found: Option<Graph>) -> Result<(), AllocError>
     ensures { OnOk result (out.new ≡ out.old ++ fetched_one (fetched found)) }
 {
     match found {
@@ -46,11 +45,7 @@ fn write_head(out: &mut ByteOut, count: usize) -> Result<(), AllocError>
 }
 
 // An array of these keys, each with the same answer.
-pub(crate) fn write_each(
-    out: &mut ByteOut,
-    keys: &[&Bytes],
-    answer: &[u8],
-) -> Result<(), AllocError>
+pub fn write_each(out: &mut ByteOut, keys: &[&Bytes], answer: &[u8]) -> Result<(), AllocError>
     ensures { OnOk result (out.new ≡ out.old ++ array_text
         (all_with answer.now (map (λ key. key.now) keys.now))) }
 {
@@ -63,7 +58,7 @@ pub(crate) fn write_each(
 }
 
 // An array of these keys, each with true.
-pub(crate) fn write_flags(out: &mut ByteOut, notes: &[(&Bytes, ())]) -> Result<(), AllocError>
+pub fn write_flags(out: &mut ByteOut, notes: &[(&Bytes, ())]) -> Result<(), AllocError>
     ensures { OnOk result (out.new ≡ out.old
         ++ array_text (all_with (codes "b:1;")
         (map (λ (note : List ℕ × Unit {0}). note.0)
@@ -79,7 +74,7 @@ pub(crate) fn write_flags(out: &mut ByteOut, notes: &[(&Bytes, ())]) -> Result<(
 
 // An array of these strings, numbered from 0.
 #[tactic(auto, using(crate::proofs::Printed::numbered_len))]
-pub(crate) fn write_numbered(out: &mut ByteOut, strings: &[&Bytes]) -> Result<(), AllocError>
+pub fn write_numbered(out: &mut ByteOut, strings: &[&Bytes]) -> Result<(), AllocError>
     ensures { OnOk result (out.new ≡ out.old ++ array_text
         (numbered 0 (map (λ string. string.now) strings.now))) }
 {
@@ -94,7 +89,7 @@ pub(crate) fn write_numbered(out: &mut ByteOut, strings: &[&Bytes]) -> Result<()
 
 // An array of these values under their keys, which is the first value of the reply.
 #[tactic(auto, using(crate::proofs::Printed::members_len))]
-pub(crate) fn write_values(out: &mut ByteOut, values: &[(&Bytes, Graph)]) -> Result<(), AllocError>
+pub fn write_values(out: &mut ByteOut, values: &[(&Bytes, Graph)]) -> Result<(), AllocError>
     requires { length values.now < 2 ^ 32 }
     ensures { OnOk result (out.new ≡ out.old ++ array_text
         (value_members 1 (map (λ value. (value.0.now, value.1)) values.now))) }

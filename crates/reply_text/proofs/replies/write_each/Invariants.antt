@@ -1,6 +1,6 @@
 use Rattle.std.proofs.Common.{◌≡◌, ◌++◌, map, drop}
-use Rattle.apcu_play.specs.Replies.{members_text, all_with}
-use Rattle.apcu_play.proofs.replies.write_each.Given as goal
+use Rattle.reply_text.specs.Replies.{members_text, all_with}
+use Rattle.reply_text.proofs.replies.write_each.Given as goal
 
 abbrev pub invariant-loop-key : goal.invariant-loop-key
 invariant-loop-key l =

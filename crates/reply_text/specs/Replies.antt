@@ -30,6 +30,11 @@ abbrev pub fetched_one : Reply → List ℕ
 fetched_one (Found g) = text_of g ++ codes "b:1;"
 fetched_one _ = codes "b:0;b:0;"
 
+-- a fetch's reply by what it found
+abbrev pub fetched : Option (List Kind) → Reply
+fetched None = Absent
+fetched (Some g) = Found g
+
 abbrev pub fetched_text : List Reply → List ℕ
 fetched_text [] = []
 fetched_text (reply ∷ replies) = fetched_one reply

@@ -9,8 +9,8 @@ use Rattle.std.specs.BTreeMap.{BTreeMap, get, is_at, Updates}
 use Rattle.std.proofs.lemmas.Bool.{false≢true}
 use Rattle.std.proofs.lemmas.Map.Text.{is_eq-slice_cmp}
 use Rattle.std.proofs.lemmas.Slice.Eq.{bytes_eq-Decides}
-use Rattle.apcu_play.specs.Replies.{noted}
-use Rattle.apcu_play.specs.Notes.{note_of, KnowsNotes}
+use Rattle.reply_text.specs.Replies.{noted}
+use Rattle.reply_text.specs.Notes.{note_of, KnowsNotes}
 
 within_step : (n : ℕ) (b : Bool) (o : Option ℕ) (i : ℕ) → cond b (Some 0) (option_map suc o) ≡ Some i → ((j : ℕ) → o ≡ Some j → j < n) → i < suc n
 within_step n true o i e below = let z : 0 ≡ i = cc in omega (arith, z)

@@ -1,0 +1,40 @@
+-- What the calls of a script print.
+use Rattle.std.specs.Prelude.{ℕ, ◌-◌, true, List, [], ◌∷◌, ◌++◌, length, take, map}
+use Rattle.apcu_model.specs.declared.conf.Conf.{Conf}
+use Rattle.apcu_model.specs.declared.request.Reply.{Reply}
+use Rattle.script_read.specs.declared.call.Call.{Call}
+use Rattle.script_read.specs.declared.call.Call.TheVariants.{StoreOne, StoreMany, FetchOne, FetchMany, ExistsOne, ExistsMany, DeleteOne, DeleteMany, Clear, Enabled}
+use Rattle.script_read.specs.declared.script.Step.{Step}
+use Rattle.script_read.specs.Grammar.{ends_line}
+use Rattle.script_read.specs.Play.{Next, Asks, Leaves, next_of}
+use Rattle.reply_text.specs.Replies.{flag_text, done_text, fetched_text, unstored_text, undeleted_text, there_text, found_text}
+
+-- what a call prints for its own replies
+abbrev pub call_text : Call → List Reply → List ℕ
+call_text (StoreOne key value ttl exclusive) replies = done_text replies
+call_text (StoreMany pairs ttl exclusive) replies =
+    unstored_text (map (λ pair. pair.0) pairs) replies
+call_text (FetchOne key) replies = fetched_text replies
+call_text (FetchMany keys) replies = found_text keys replies
+call_text (ExistsOne key) replies = done_text replies
+call_text (ExistsMany keys) replies = there_text keys replies
+call_text (DeleteOne key) replies = done_text replies
+call_text (DeleteMany keys) replies = undeleted_text keys replies
+call_text Clear replies = flag_text true
+call_text Enabled replies = flag_text true
+
+-- the replies before these others
+abbrev pub before : List Reply → List Reply → List Reply
+before others replies = take (length replies - length others) replies
+
+-- the call's line, and the lines of those after it; nothing of a call that is not done
+abbrev pub lines_from : Call → List Reply → (List Reply → List ℕ) → Next → List ℕ
+lines_from call replies later (Asks request) = []
+lines_from call replies later (Leaves others) =
+    call_text call (before others replies) ++ ends_line ++ later others
+
+-- a line for each call of a script, which has its own replies alone
+abbrev pub script_lines : Conf → List Step → List Reply → List ℕ
+script_lines conf [] replies = []
+script_lines conf (step ∷ steps) replies =
+    lines_from step.call replies (script_lines conf steps) (next_of conf step.call replies)

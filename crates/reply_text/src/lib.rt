@@ -1,0 +1,10 @@
+//! What calls of a script print for their replies, in serialize notation.
+#![tactic(auto)]
+
+mod notes;
+mod replies;
+
+pub use notes::Notes;
+pub use replies::{
+    write_each, write_fetched, write_flag, write_flags, write_numbered, write_values,
+};
