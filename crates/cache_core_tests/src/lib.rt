@@ -2,6 +2,10 @@
 #![tactic(auto)]
 
 #[cfg(test)]
+mod held;
+#[cfg(test)]
 mod play;
 #[cfg(test)]
 mod tests;
+#[cfg(test)]
+mod windows;

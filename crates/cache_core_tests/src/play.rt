@@ -1,11 +1,13 @@
-ghost use Rattle.std.specs.Prelude.{◌≡◌, ◌%◌, ◌≤◌};
+ghost use Rattle.std.specs.Prelude.{◌≡◌, ◌%◌, ◌≤◌, ℕ, false};
 ghost use Rattle.apcu_model.specs.Conf.{IsGood};
+ghost use Rattle.seg_words.specs.Windows.{has};
+ghost use Rattle.cache_core.specs.Caching.{CacheStands};
 
 use apcu_model::{Conf, Counts, Plain, StoreAnswer};
 use cache_core::{Core, Look, Scalar};
 use max_tree::MaxRow;
 use php_graph::{Builder, Bytes, Graph, Item, Kind, Wants};
-use seg_words::{VecWords, WordsIn};
+use seg_words::{Segment, VecWords, WordsIn};
 use std::alloc::Global;
 use std::marker::Model;
 use std::process::Abort;
@@ -38,7 +40,7 @@ fn value_of(rt: &impl Abort, alloc: Global, value: Value) -> Result<Graph, Fail>
 }
 
 // The key of this number.
-fn key(alloc: Global, name: u8) -> Result<Bytes, Fail> {
+pub(crate) fn key(alloc: Global, name: u8) -> Result<Bytes, Fail> {
     Ok(Bytes::of(alloc, &[b'k', b'0' + name / 10, b'0' + name % 10])?)
 }
 
@@ -70,7 +72,7 @@ fn number_of(value: &Graph) -> i64 {
 }
 
 // What the plain cache does.
-fn plainly(
+pub(crate) fn plainly(
     rt: &impl Abort,
     alloc: Global,
     plain: &mut Plain,
@@ -137,7 +139,6 @@ impl Small {
         self.core.counts()
     }
 
-    // What the cache over words does.
     fn answer(
         &mut self,
         rt: &impl Abort,
@@ -146,22 +147,38 @@ impl Small {
         act: Act,
         t: u64,
     ) -> Result<Answer, Fail> {
-        let key = key.as_slice();
-        match act {
-            Act::Store(value, ttl, exclusive) => {
-                let value = value_of(rt, alloc, value)?;
-                let answer = self
-                    .core
-                    .store(&mut self.words, key, &value, ttl, exclusive, t);
-                Ok(Answer::Flag(answer == StoreAnswer::Stored))
-            }
-            Act::Fetch => Ok(Answer::Found(found_by(self.core.look(&mut self.words, key, t)))),
-            Act::Exists => Ok(Answer::Flag(self.core.exists(&mut self.words, key, t))),
-            Act::Delete => Ok(Answer::Flag(self.core.delete(&mut self.words, key, t))),
-            Act::Clear => {
-                self.core.clear(&mut self.words, t);
-                Ok(Answer::Flag(true))
-            }
+        answer_of(rt, alloc, &mut self.core, &mut self.words, key, act, t)
+    }
+}
+
+// What a cache over words does.
+pub(crate) fn answer_of<S: Segment>(
+    rt: &impl Abort,
+    alloc: Global,
+    core: &mut Core,
+    words: &mut S,
+    key: &Bytes,
+    act: Act,
+    t: u64,
+) -> Result<Answer, Fail>
+    requires stand { CacheStands S.WordsIn core.old words.old }
+    requires fresh { (b : ℕ) → has b (S.aside words.old).refused ≡ false }
+    ensures stand { CacheStands S.WordsIn core.new words.new }
+    ensures rest { S.rest words.new ≡ S.rest words.old }
+{
+    let key = key.as_slice();
+    match act {
+        Act::Store(value, ttl, exclusive) => {
+            let value = value_of(rt, alloc, value)?;
+            let answer = core.store(words, key, &value, ttl, exclusive, t);
+            Ok(Answer::Flag(answer == StoreAnswer::Stored))
+        }
+        Act::Fetch => Ok(Answer::Found(found_by(core.look(words, key, t)))),
+        Act::Exists => Ok(Answer::Flag(core.exists(words, key, t))),
+        Act::Delete => Ok(Answer::Flag(core.delete(words, key, t))),
+        Act::Clear => {
+            core.clear(words, t);
+            Ok(Answer::Flag(true))
         }
     }
 }
@@ -272,13 +289,13 @@ pub(crate) fn play(
 }
 
 // Numbers that look like any others.
-fn next(state: u64) -> u64 {
+pub(crate) fn next(state: u64) -> u64 {
     state
         .wrapping_mul(6_364_136_223_846_793_005)
         .wrapping_add(1_442_695_040_888_963_407)
 }
 
-fn act_of(draw: u64) -> Act {
+pub(crate) fn act_of(draw: u64) -> Act {
     match (draw >> 20) % 16 {
         0..=6 => {
             let value = if (draw >> 24) % 2 == 0 {

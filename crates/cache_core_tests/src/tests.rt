@@ -1,4 +1,5 @@
 use crate::play::{Act, Answer, Call, Value, many, play};
+use crate::windows::{many_held, room_is_held};
 use std::test::Fail;
 
 const YES: Answer = Answer::Flag(true);
@@ -113,4 +114,16 @@ fn answers_as_the_plain_cache(rt: HostRuntime) -> Result<(), Fail> {
     many(&rt, rt.alloc(), 512, 0, 2_000)?;
     many(&rt, rt.alloc(), 1_024, 2, 2_000)?;
     many(&rt, rt.alloc(), 2_048, 4, 2_000)
+}
+
+// So it is where blocks are held for workers.
+#[test]
+fn answers_as_the_plain_cache_with_windows(rt: HostRuntime) -> Result<(), Fail> {
+    many_held(&rt, rt.alloc(), 0, 2_000)?;
+    many_held(&rt, rt.alloc(), 3, 2_000)
+}
+
+#[test]
+fn keeps_what_is_held(rt: HostRuntime) -> Result<(), Fail> {
+    room_is_held(&rt, rt.alloc())
 }
