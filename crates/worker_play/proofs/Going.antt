@@ -108,6 +108,9 @@ pub on_ok : {X E P Q : Type 0} (r : Result X E) → (P → Q) → OnOk r P → O
 on_ok (Ok x) f p = f p
 on_ok (Err e) f p = tt
 
+pub of_ok : {X E P : Type 0} (r : Result X E) (x : X) → r ≡ Ok x → OnOk r P → P
+of_ok {X} {E} {P} r x is p = subst (λ (r : Result X E). OnOk r P) is p
+
 -- ---- on the way through some wishes
 
 -- Of all wishes these rest. What is told of all replies is what is still to be told, after those so

@@ -42,14 +42,13 @@ asks_all (r ∷ rs) (y ∷ own) later e = asks_all rs own later (omega (arith, e
 own_before : (own later : List Reply) → before later (own ++ later) ≡ own
 own_before own later =
     let n : length (own ++ later) - length later ≡ length own = omega (arith, length-append own later) in
-    ap (λ k. take k (own ++ later)) n ∙ take-append_seam
+    ap (λ k. take k (own ++ later)) n ∙ take-append_seam own later
 
 -- the line of a call, and those of the calls after it
 lines_step : (conf : Conf) (step : Step) (steps : List Step) (own later : List Reply) → length own ≡ length (requests_of step.call) → script_lines conf (step ∷ steps) (own ++ later) ≡ (call_text step.call own ++ ends_line) ++ script_lines conf steps later
 lines_step conf step steps own later count =
     ap (lines_from step.call (own ++ later) (script_lines conf steps)) (asks_all (requests_of step.call) own later count)
-    ∙ (ap (λ (l : List Reply). call_text step.call l ++ ends_line ++ script_lines conf steps later) (own_before own later)
-    ∙ sym (append_assoc (call_text step.call own) ends_line (script_lines conf steps later)))
+    ∙ ap (λ (l : List Reply). call_text step.call l ++ ends_line ++ script_lines conf steps later) (own_before own later)
 
 -- one step more
 pub step_goes_on : (conf : Conf) (workers : ℕ) (p o q : Bearer) (all : List Wish) (step : Step) (steps : List Step) (told : List Reply → List ℕ) (out new : List ℕ)
@@ -73,7 +72,9 @@ reaches_on conf workers p o q all ws rest told to_tell m r = record {
 }
 
 -- enough events are left for the later steps
+-- (open: the sum of one item more)
 pub left_after : (conf : Conf) (workers : ℕ) (o q : Bearer) (step : Step) (steps : List Step) (replies : List Reply) → Goes conf workers o q (wishes_at step.t (requests_of step.call)) replies → sum (map (λ (s : Step). events_of conf.slots s.call) (step ∷ steps)) < o.known.left
     → sum (map (λ (s : Step). events_of conf.slots s.call) steps) < q.known.left
 left_after conf workers o q step steps replies g enough =
-    omega (arith, g.left, enough, asks_events conf.slots step.call, length-map (requests_of step.call) (wish step.t))
+    let all : events_of conf.slots step.call + sum (map (λ (s : Step). events_of conf.slots s.call) steps) < o.known.left = enough in
+    omega (arith, g.left, all, asks_events conf.slots step.call, length-map (requests_of step.call) (wish step.t))

@@ -51,4 +51,4 @@ returns-clause-line g c =
     let m = subst (λ (l : List (List ℕ)). Midway g.N.TableName.conf (length g.N.TableName.budgets) c.args.pass c.loop-key.held (wishes_at c.args.t (map Delete all)) (wishes_at c.args.t (map Delete l)) (undone all) (λ later. map (λ key. key.now) c.loop-key.kept.items ++ undone l later)) (drop_of_length-le all past) c.loop-key.invariant.midway in
     let t = undone_ends _ _ _ _ _ (undone all) (map (λ key. key.now) c.loop-key.kept.items) m in
     let text = λ (keys : List (List ℕ)). c.args.out.now ++ array_text (numbered 0 keys) in
-    on_ok c.write_numbered.result (λ e. printed _ _ _ _ _ _ _ text _ t (e ∙ ap (λ (l : List (Bor (List ℕ))). text (map (λ key. key.now) l)) c.deref.ensures)) c.write_numbered.ensures
+    on_ok c.write_numbered.result (λ e. printed _ _ _ _ _ _ _ text _ t (e ∙ ap (λ (l : List (Bor (List ℕ))). text (map (λ key. key.now) l)) c.deref.ensures.value)) c.write_numbered.ensures

@@ -51,4 +51,4 @@ returns-clause-line g c =
     let m = subst (λ (l : List (List ℕ × List Kind)). Midway g.N.TableName.conf (length g.N.TableName.budgets) c.args.pass c.loop-pair.held (wishes_at c.args.t (map (λ pair. Store pair.0 pair.1 c.args.ttl c.args.exclusive) all)) (wishes_at c.args.t (map (λ pair. Store pair.0 pair.1 c.args.ttl c.args.exclusive) l)) (undone (map (λ pair. pair.0) all)) (λ later. map (λ key. key.now) c.loop-pair.refused.items ++ undone (map (λ pair. pair.0) l) later)) (drop_of_length-le all past) c.loop-pair.invariant.midway in
     let t = undone_ends _ _ _ _ _ (undone (map (λ pair. pair.0) all)) (map (λ key. key.now) c.loop-pair.refused.items) m in
     let text = λ (keys : List (List ℕ)). c.args.out.now ++ array_text (all_with (codes "i:-1;") keys) in
-    on_ok c.write_each.result (λ e. printed _ _ _ _ _ _ _ text _ t (e ∙ ap (λ (l : List (Bor (List ℕ))). text (map (λ key. key.now) l)) c.deref.ensures)) c.write_each.ensures
+    on_ok c.write_each.result (λ e. printed _ _ _ _ _ _ _ text _ t (e ∙ ap (λ (l : List (Bor (List ℕ))). text (map (λ key. key.now) l)) c.deref.ensures.value)) c.write_each.ensures
