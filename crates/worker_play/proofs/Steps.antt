@@ -1,8 +1,10 @@
 -- Scripts, call by call.
-use Rattle.std.proofs.Common.{◌≡◌, ℕ, suc, ◌+◌, ◌-◌, ◌<◌, List, [], ◌∷◌, ◌++◌, length, map, take, refl, sym, ap, ◌∙◌, append_assoc, length-append, arith}
-use Rattle.std.specs.Prelude.{sum}
+use Rattle.std.proofs.Common.{◌≡◌, ℕ, ◌+◌, ◌-◌, ◌<◌, List, [], ◌∷◌, ◌++◌, length, map, take, drop, Some, refl, sym, ap, subst, ◌∙◌, append_assoc, length-append, arith}
+use Rattle.std.specs.Prelude.{sum, slice_get}
+use Rattle.std.proofs.lemmas.Option.{slice_get_within, get_or_from_slice_get}
+use Rattle.std.proofs.lemmas.List.Sums.{sum-map, sum_by-cons}
 use Rattle.std.proofs.Math.Seq.{take-append_seam}
-use Rattle.std.proofs.lemmas.List.{append-nil, length-map}
+use Rattle.std.proofs.lemmas.List.{append-nil, length-map, drop_more}
 use Rattle.apcu_model.specs.declared.conf.Conf.{Conf}
 use Rattle.apcu_model.specs.declared.request.Request.{Request}
 use Rattle.apcu_model.specs.declared.request.Request.TheVariants as requests
@@ -17,7 +19,7 @@ use Rattle.script_read.specs.Play.{Wish, Leaves, asks_each, requests_of}
 use Rattle.play_laws.specs.Own.{asked_by}
 use Rattle.reply_text.specs.Lines.{call_text, before, lines_from, script_lines}
 use Rattle.worker_play.specs.Goes.{wish, wishes_at, Goes, Reaches, Tells}
-use Rattle.worker_play.proofs.Going.{Midway, goes_on, more}
+use Rattle.worker_play.proofs.Going.{Midway, goes_on, more, ends}
 
 -- a call asks once for each of its events
 pub asks_events : (slots : ℕ) (call : Call) → length (requests_of call) ≡ events_of slots call
@@ -71,10 +73,25 @@ reaches_on conf workers p o q all ws rest told to_tell m r = record {
   goes = more conf workers p o q m.0 r.made m.1 r.replies m.2 r.goes;
 }
 
--- enough events are left for the later steps
--- (open: the sum of one item more)
+-- the sum of one item more
+sum_step : (f : Step → ℕ) (step : Step) (steps : List Step) → sum (map f (step ∷ steps)) ≡ f step + sum (map f steps)
+sum_step f step steps = sum-map f (step ∷ steps) ∙ (sum_by-cons f step steps ∙ ap (λ (n : ℕ). f step + n) (sym (sum-map f steps)))
+
+-- enough events are left for the next step
+pub left_now : (conf : Conf) (step : Step) (steps : List Step) (n : ℕ) → sum (map (λ (s : Step). events_of conf.slots s.call) (step ∷ steps)) < n → length (requests_of step.call) < n
+left_now conf step steps n enough =
+    omega (arith, enough, sum_step (λ (s : Step). events_of conf.slots s.call) step steps, asks_events conf.slots step.call)
+
+-- and for those after it
 pub left_after : (conf : Conf) (workers : ℕ) (o q : Bearer) (step : Step) (steps : List Step) (replies : List Reply) → Goes conf workers o q (wishes_at step.t (requests_of step.call)) replies → sum (map (λ (s : Step). events_of conf.slots s.call) (step ∷ steps)) < o.known.left
     → sum (map (λ (s : Step). events_of conf.slots s.call) steps) < q.known.left
 left_after conf workers o q step steps replies g enough =
-    let all : events_of conf.slots step.call + sum (map (λ (s : Step). events_of conf.slots s.call) steps) < o.known.left = enough in
-    omega (arith, g.left, all, asks_events conf.slots step.call, length-map (requests_of step.call) (wish step.t))
+    omega (arith, g.left, enough, sum_step (λ (s : Step). events_of conf.slots s.call) step steps, asks_events conf.slots step.call, length-map (requests_of step.call) (wish step.t))
+
+-- the step that a script has at a place
+pub step_item : {A : Type 0} (xs : List A) (i : ℕ) (x : A) → slice_get xs i ≡ Some x → drop i xs ≡ x ∷ drop (i + 1) xs
+step_item xs i x is = drop_more xs i x (slice_get_within xs i x is) ∙ ap (λ y. y ∷ drop (i + 1) xs) (get_or_from_slice_get xs i x x is)
+
+-- all steps were met
+pub steps_end : (conf : Conf) (workers : ℕ) (p q : Bearer) (all : List Wish) (told : List Reply → List ℕ) (out : List ℕ) → Midway conf workers p q all [] told (λ later. out ++ script_lines conf [] later) → Tells conf workers p q all told out
+steps_end conf workers p q all told out m = subst (λ (l : List ℕ). Tells conf workers p q all told l) (append-nil out) (ends conf workers p q all [] told (λ later. out ++ script_lines conf [] later) m refl)

@@ -1,10 +1,8 @@
-use Rattle.std.proofs.Common.{◌≡◌, ℕ, ◌<◌, ◌≤◌, ◌+◌, ◌++◌, List, [], ◌∷◌, length, map, drop, sym, ap, ◌∙◌, subst, arith, Bor}
-use Rattle.std.specs.Prelude.{codes}
+use Rattle.std.proofs.Common.{ℕ, ◌≤◌, ◌+◌, ◌++◌, List, ◌∷◌, length, map, drop, ap, ◌∙◌, subst, arith, Bor}
 use Rattle.std.proofs.Math.ListN.{drop_of_length-le}
-use Rattle.php_graph.specs.declared.kind.Kind.{Kind}
 use Rattle.apcu_model.specs.declared.request.Request.TheVariants.{Delete}
-use Rattle.reply_text.specs.Replies.{undone, array_text, all_with, numbered}
-use Rattle.worker_play.specs.Goes.{wish, wishes_at}
+use Rattle.reply_text.specs.Replies.{undone, array_text, numbered}
+use Rattle.worker_play.specs.Goes.{wishes_at}
 use Rattle.worker_play.proofs.Going.{Midway, reached, on_ok}
 use Rattle.worker_play.proofs.Keys.{undone_begins, undone_goes_on, undone_ends, printed, drop_item, two_left, rest_left, reached_one}
 use Rattle.worker_play.proofs.calls.delete_all.Goals as goal

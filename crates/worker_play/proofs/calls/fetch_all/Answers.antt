@@ -1,10 +1,10 @@
-use Rattle.std.proofs.Common.{◌≡◌, ℕ, ◌<◌, ◌≤◌, ◌+◌, ◌++◌, List, [], ◌∷◌, length, map, drop, sym, ap, ◌∙◌, subst, append_assoc, arith}
+use Rattle.std.proofs.Common.{ℕ, ◌≤◌, ◌+◌, ◌++◌, List, [], ◌∷◌, length, map, drop, ap, ◌∙◌, subst, append_assoc, arith}
 use Rattle.std.specs.Prelude.{codes}
 use Rattle.std.proofs.Math.ListN.{drop_of_length-le}
 use Rattle.php_graph.specs.declared.kind.Kind.{Kind}
 use Rattle.apcu_model.specs.declared.request.Request.TheVariants.{Fetch}
-use Rattle.reply_text.specs.Replies.{all_noted, value_in, array_text, all_with, value_members}
-use Rattle.worker_play.specs.Goes.{wish, wishes_at}
+use Rattle.reply_text.specs.Replies.{all_noted, value_in, array_text, value_members}
+use Rattle.worker_play.specs.Goes.{wishes_at}
 use Rattle.worker_play.proofs.Going.{Midway, reached, on_ok, of_ok}
 use Rattle.worker_play.proofs.Keys.{noted_begins, noted_goes_on, noted_ends, printed, drop_item, two_left, rest_left, reached_one}
 use Rattle.std.proofs.lemmas.Grind.{common_steps}

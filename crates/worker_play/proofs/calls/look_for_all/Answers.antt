@@ -1,10 +1,9 @@
-use Rattle.std.proofs.Common.{◌≡◌, ℕ, ◌<◌, ◌≤◌, ◌+◌, ◌++◌, List, [], ◌∷◌, length, map, drop, sym, ap, ◌∙◌, subst, arith}
+use Rattle.std.proofs.Common.{ℕ, ◌≤◌, ◌+◌, ◌++◌, List, [], ◌∷◌, length, map, drop, ap, ◌∙◌, subst, arith}
 use Rattle.std.specs.Prelude.{codes}
 use Rattle.std.proofs.Math.ListN.{drop_of_length-le}
-use Rattle.php_graph.specs.declared.kind.Kind.{Kind}
 use Rattle.apcu_model.specs.declared.request.Request.TheVariants.{Exists}
-use Rattle.reply_text.specs.Replies.{all_noted, there_in, array_text, all_with, value_members}
-use Rattle.worker_play.specs.Goes.{wish, wishes_at}
+use Rattle.reply_text.specs.Replies.{all_noted, there_in, array_text, all_with}
+use Rattle.worker_play.specs.Goes.{wishes_at}
 use Rattle.worker_play.proofs.Going.{Midway, reached, on_ok}
 use Rattle.worker_play.proofs.Keys.{noted_begins, noted_goes_on, noted_ends, printed, drop_item, two_left, rest_left, reached_one}
 use Rattle.worker_play.proofs.calls.look_for_all.Goals as goal

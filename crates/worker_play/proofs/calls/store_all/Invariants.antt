@@ -1,5 +1,4 @@
-use Rattle.std.proofs.Common.{◌≡◌, ◌<◌, ◌++◌, ℕ, List, length, map, drop}
-use Rattle.php_graph.specs.declared.kind.Kind.{Kind}
+use Rattle.std.proofs.Common.{◌≡◌, ◌<◌, ◌++◌, length, map, drop}
 use Rattle.apcu_model.specs.declared.request.Request.TheVariants.{Store}
 use Rattle.reply_text.specs.Replies.{undone}
 use Rattle.worker_play.specs.Goes.{wishes_at, IsWhole}
