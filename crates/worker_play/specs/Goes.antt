@@ -1,0 +1,53 @@
+-- A pass after some events of its worker, and what is told of their replies.
+use Rattle.std.specs.Prelude.{◌≡◌, ℕ, ◌+◌, true, List, ◌++◌, length, map}
+use mathlib.Core.List.{IsPrefix}
+use Rattle.apcu_model.specs.declared.conf.Conf.{Conf}
+use Rattle.apcu_model.specs.declared.request.Request.{Request}
+use Rattle.apcu_model.specs.declared.request.Reply.{Reply}
+use Rattle.apcu_model.specs.History.{start_of, all_legal}
+use Rattle.pin_table.specs.Values.{Bearer}
+use Rattle.pin_table.specs.Events.{events_of}
+use Rattle.script_read.specs.Play.{Wish}
+use Rattle.play_laws.specs.Own.{own_replies, wish_in}
+
+-- a request at a moment
+abbrev pub wish : ℕ → Request → Wish
+wish t r = record { request = r; t = t }
+
+abbrev pub wishes_at : ℕ → List Request → List Wish
+wishes_at t requests = map (wish t) requests
+
+-- in what the pass has seen its worker's events are its own, all of them
+abbrev pub IsWhole : Bearer → Type 0
+IsWhole p = events_of p.known.worker p.known.seen ≡ p.known.own
+
+-- The pass q is p after these wishes more of its worker, each of which was one event, with these
+-- replies: those of one thread at the events' places in what q has seen. Besides, q has seen what
+-- others did; where what p had seen was legal, all of it is.
+pub record Goes (conf : Conf) (workers : ℕ) (p q : Bearer) (wishes : List Wish)
+    (replies : List Reply) : Type 0 where
+  pub table : q.table ≡ p.table
+  pub worker : q.known.worker ≡ p.known.worker
+  pub left : q.known.left + length wishes ≡ p.known.left
+  pub count : length replies ≡ length wishes
+  pub own : map wish_in q.known.own ≡ map wish_in p.known.own ++ wishes
+  pub replies_are : own_replies conf q.known.worker q.known.seen
+      ≡ own_replies conf p.known.worker p.known.seen ++ replies
+  pub seen : IsPrefix p.known.seen q.known.seen
+  pub all_own : IsWhole q
+  pub legal : all_legal workers (start_of conf) p.known.seen ≡ true
+      → all_legal workers (start_of conf) q.known.seen ≡ true
+
+-- Some first of these wishes were made.
+pub record Reaches (conf : Conf) (workers : ℕ) (p q : Bearer) (wishes : List Wish) : Type 0 where
+  pub made : List Wish
+  pub later : List Wish
+  pub parts : made ++ later ≡ wishes
+  pub replies : List Reply
+  pub goes : Goes conf workers p q made replies
+
+-- All of these wishes were made, and what is told of their replies is this.
+abbrev pub Tells : {A : Type 0} → Conf → ℕ → Bearer → Bearer → List Wish → (List Reply → A) → A
+    → Type 0
+Tells conf workers p q wishes told a =
+    (replies : List Reply) × Goes conf workers p q wishes replies × (a ≡ told replies)

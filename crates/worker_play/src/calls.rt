@@ -1,0 +1,237 @@
+//! The calls of a script: for each the events that it asks, in order, and what it prints for their
+//! replies. Where memory is missing only some first of the events were made.
+
+ghost use Rattle.std.specs.Prelude.{◌≡◌, ◌<◌, ◌^◌, ◌++◌, [], length, map, codes, OnOk};
+ghost use Rattle.apcu_model.specs.declared.request.Request.TheVariants.{Store, Fetch, Exists, Delete};
+ghost use Rattle.script_read.specs.Play.{requests_of};
+ghost use Rattle.reply_text.specs.Replies.{unstored_text, found_text, there_text, undeleted_text};
+ghost use Rattle.reply_text.specs.Lines.{call_text};
+ghost use Rattle.worker_play.specs.Goes.{wishes_at, IsWhole, Reaches, Tells};
+
+use crate::events::{clear, delete, exists, fetch, store};
+use crate::noting::{note_there, note_undone, note_value, write_found};
+use io_edges::Gate;
+use notation::ByteOut;
+use php_graph::{Bytes, Graph};
+use pin_table::{Pass, TableName};
+use reply_text::{Notes, write_each, write_fetched, write_flag, write_flags, write_numbered};
+use script_read::Call;
+use shared_cache::Shared;
+use std::alloc::{AllocError, Global};
+use std::sync::Wait;
+
+// Plays a call, and prints what it answers. `number` is that of the call in its script.
+pub(crate) fn play_call<N: TableName, G: Gate, R: Wait>(
+    rt: &R,
+    alloc: Global,
+    shared: &Shared<N>,
+    gate: &G,
+    number: u32,
+    pass: Pass,
+    call: &Call,
+    t: u64,
+    out: &mut ByteOut,
+) -> (Pass, Result<(), AllocError>)
+    requires table { pass.table ≡ N.table }
+    requires whole { IsWhole pass }
+    requires left { length (requests_of call.now) < pass.known.left }
+    ensures reaches { Reaches N.conf (length N.budgets) pass result.0
+        (wishes_at t (requests_of call.now)) }
+    ensures line { OnOk result.1 (Tells N.conf (length N.budgets) pass result.0
+        (wishes_at t (requests_of call.now))
+        (λ replies. out.old ++ call_text call.now replies) out.new) }
+{
+    match call {
+        Call::StoreOne {
+            key,
+            value,
+            ttl,
+            exclusive,
+        } => {
+            let (pass, stored) = store(rt, shared, pass, key, value, *ttl, *exclusive, t);
+            (pass, write_flag(out, stored))
+        }
+        Call::StoreMany {
+            pairs,
+            ttl,
+            exclusive,
+        } => store_all(
+            rt,
+            alloc,
+            shared,
+            pass,
+            pairs.as_slice(),
+            *ttl,
+            *exclusive,
+            t,
+            out,
+        ),
+        Call::FetchOne(key) => {
+            let (pass, found) = fetch(rt, alloc, shared, gate, number, pass, key, t);
+            match found {
+                Ok(found) => (pass, write_fetched(out, found)),
+                Err(e) => (pass, Err(e)),
+            }
+        }
+        Call::FetchMany(keys) => {
+            let count = keys.len();
+            prove!(count <= u32::MAX);
+            fetch_all(
+                rt,
+                alloc,
+                shared,
+                gate,
+                number,
+                pass,
+                keys.as_slice(),
+                t,
+                out,
+            )
+        }
+        Call::ExistsOne(key) => {
+            let (pass, there) = exists(rt, shared, pass, key, t);
+            (pass, write_flag(out, there))
+        }
+        Call::ExistsMany(keys) => { look_for_all(rt, alloc, shared, pass, keys.as_slice(), t, out) }
+        Call::DeleteOne(key) => {
+            let (pass, deleted) = delete(rt, shared, pass, key, t);
+            (pass, write_flag(out, deleted))
+        }
+        Call::DeleteMany(keys) => delete_all(rt, alloc, shared, pass, keys.as_slice(), t, out),
+        Call::Clear => {
+            let pass = clear(rt, shared, pass, t);
+            (pass, write_flag(out, true))
+        }
+        Call::Enabled => (pass, write_flag(out, true)),
+    }
+}
+
+// Stores all pairs in their order, and prints the keys that were not stored.
+fn store_all<N: TableName, R: Wait>(
+    rt: &R,
+    alloc: Global,
+    shared: &Shared<N>,
+    pass: Pass,
+    pairs: &[(Bytes, Graph)],
+    ttl: u32,
+    exclusive: bool,
+    t: u64,
+    out: &mut ByteOut,
+) -> (Pass, Result<(), AllocError>)
+    requires table { pass.table ≡ N.table }
+    requires whole { IsWhole pass }
+    requires left { length pairs.now < pass.known.left }
+    ensures reaches { Reaches N.conf (length N.budgets) pass result.0
+        (wishes_at t (map (λ pair. Store pair.0 pair.1 ttl exclusive) pairs.now)) }
+    ensures line { OnOk result.1 (Tells N.conf (length N.budgets) pass result.0
+        (wishes_at t (map (λ pair. Store pair.0 pair.1 ttl exclusive) pairs.now))
+        (λ replies. out.old ++ unstored_text (map (λ pair. pair.0) pairs.now) replies) out.new) }
+{
+    let mut held = pass;
+    let mut refused = Vec::new(alloc);
+    for pair in pairs {
+        let (next, stored) = store(rt, shared, held, &pair.0, &pair.1, ttl, exclusive, t);
+        held = next;
+        if let Err(e) = note_undone(&mut refused, &pair.0, stored) {
+            return (held, Err(e));
+        }
+    }
+    (held, write_each(out, &refused, b"i:-1;"))
+}
+
+// Fetches all keys in their order, each value before the next key, and prints those that were
+// found.
+fn fetch_all<N: TableName, G: Gate, R: Wait>(
+    rt: &R,
+    alloc: Global,
+    shared: &Shared<N>,
+    gate: &G,
+    number: u32,
+    pass: Pass,
+    keys: &[Bytes],
+    t: u64,
+    out: &mut ByteOut,
+) -> (Pass, Result<(), AllocError>)
+    requires table { pass.table ≡ N.table }
+    requires whole { IsWhole pass }
+    requires left { length keys.now < pass.known.left }
+    requires few { length keys.now < 2 ^ 32 }
+    ensures reaches { Reaches N.conf (length N.budgets) pass result.0
+        (wishes_at t (map Fetch keys.now)) }
+    ensures line { OnOk result.1 (Tells N.conf (length N.budgets) pass result.0
+        (wishes_at t (map Fetch keys.now))
+        (λ replies. out.old ++ found_text keys.now replies) out.new) }
+{
+    let mut held = pass;
+    let mut values = Notes::new(alloc);
+    for key in keys {
+        let (next, found) = fetch(rt, alloc, shared, gate, number, held, key, t);
+        held = next;
+        if let Err(e) = note_value(&mut values, key, found) {
+            return (held, Err(e));
+        }
+    }
+    (held, write_found(out, &values))
+}
+
+// Looks for all keys in their order, and prints those that are there.
+fn look_for_all<N: TableName, R: Wait>(
+    rt: &R,
+    alloc: Global,
+    shared: &Shared<N>,
+    pass: Pass,
+    keys: &[Bytes],
+    t: u64,
+    out: &mut ByteOut,
+) -> (Pass, Result<(), AllocError>)
+    requires table { pass.table ≡ N.table }
+    requires whole { IsWhole pass }
+    requires left { length keys.now < pass.known.left }
+    ensures reaches { Reaches N.conf (length N.budgets) pass result.0
+        (wishes_at t (map Exists keys.now)) }
+    ensures line { OnOk result.1 (Tells N.conf (length N.budgets) pass result.0
+        (wishes_at t (map Exists keys.now))
+        (λ replies. out.old ++ there_text keys.now replies) out.new) }
+{
+    let mut held = pass;
+    let mut there = Notes::new(alloc);
+    for key in keys {
+        let (next, found) = exists(rt, shared, held, key, t);
+        held = next;
+        if let Err(e) = note_there(&mut there, key, found) {
+            return (held, Err(e));
+        }
+    }
+    (held, write_flags(out, there.as_slice()))
+}
+
+// Deletes all keys in their order, and prints those that were not deleted.
+fn delete_all<N: TableName, R: Wait>(
+    rt: &R,
+    alloc: Global,
+    shared: &Shared<N>,
+    pass: Pass,
+    keys: &[Bytes],
+    t: u64,
+    out: &mut ByteOut,
+) -> (Pass, Result<(), AllocError>)
+    requires table { pass.table ≡ N.table }
+    requires whole { IsWhole pass }
+    requires left { length keys.now < pass.known.left }
+    ensures reaches { Reaches N.conf (length N.budgets) pass result.0
+        (wishes_at t (map Delete keys.now)) }
+    ensures line { OnOk result.1 (Tells N.conf (length N.budgets) pass result.0
+        (wishes_at t (map Delete keys.now))
+        (λ replies. out.old ++ undeleted_text keys.now replies) out.new) }
+{
+    let mut held = pass;
+    let mut kept = Vec::new(alloc);
+    for key in keys {
+        let (next, deleted) = delete(rt, shared, held, key, t);
+        held = next;
+        if let Err(e) = note_undone(&mut kept, key, deleted) {
+            return (held, Err(e));
+        }
+    }
+    (held, write_numbered(out, &kept))
+}

@@ -1,0 +1,130 @@
+//! The events of a worker, each on one key: the pass goes on by one wish and its reply.
+
+ghost use Rattle.std.specs.Prelude.{◌≡◌, ◌≤◌, true, List, [], ◌∷◌, length, IfOk};
+ghost use Rattle.php_graph.specs.declared.kind.Kind.{Kind};
+ghost use Rattle.apcu_model.specs.declared.request.Request.TheVariants as request;
+ghost use Rattle.apcu_model.specs.declared.request.Reply.{Reply};
+ghost use Rattle.apcu_model.specs.declared.request.Reply.TheVariants.{Flag, Found};
+ghost use Rattle.reply_text.specs.Replies.{fetched};
+ghost use Rattle.worker_play.specs.Goes.{wish, IsWhole, Goes};
+
+use crate::scalar::graph_of_scalar;
+use io_edges::{Gate, Point};
+use php_graph::{Bytes, Graph};
+use pin_table::{Pass, TableName};
+use play_laws::one_event_own;
+use shared_cache::{Pinned, Shared};
+use std::alloc::{AllocError, Global};
+use std::sync::Wait;
+
+// Whether a value was stored.
+pub(crate) fn store<N: TableName, R: Wait>(
+    rt: &R,
+    shared: &Shared<N>,
+    pass: Pass,
+    key: &Bytes,
+    value: &Graph,
+    ttl: u32,
+    exclusive: bool,
+    t: u64,
+) -> (Pass, bool)
+    requires table { pass.table ≡ N.table }
+    requires whole { IsWhole pass }
+    requires left { 2 ≤ pass.known.left }
+    ensures { Goes N.conf (length N.budgets) pass result.0
+        (wish t (request.Store key.now value.now ttl exclusive) ∷ []) (Flag result.1 ∷ []) }
+{
+    one_event_own();
+    shared.store(rt, pass, key.as_slice(), value, ttl, exclusive, t)
+}
+
+// Whether a key is there.
+pub(crate) fn exists<N: TableName, R: Wait>(
+    rt: &R,
+    shared: &Shared<N>,
+    pass: Pass,
+    key: &Bytes,
+    t: u64,
+) -> (Pass, bool)
+    requires table { pass.table ≡ N.table }
+    requires whole { IsWhole pass }
+    requires left { 2 ≤ pass.known.left }
+    ensures { Goes N.conf (length N.budgets) pass result.0
+        (wish t (request.Exists key.now) ∷ []) (Flag result.1 ∷ []) }
+{
+    one_event_own();
+    shared.exists(rt, pass, key.as_slice(), t)
+}
+
+// Whether a key was deleted.
+pub(crate) fn delete<N: TableName, R: Wait>(
+    rt: &R,
+    shared: &Shared<N>,
+    pass: Pass,
+    key: &Bytes,
+    t: u64,
+) -> (Pass, bool)
+    requires table { pass.table ≡ N.table }
+    requires whole { IsWhole pass }
+    requires left { 2 ≤ pass.known.left }
+    ensures { Goes N.conf (length N.budgets) pass result.0
+        (wish t (request.Delete key.now) ∷ []) (Flag result.1 ∷ []) }
+{
+    one_event_own();
+    shared.delete(rt, pass, key.as_slice(), t)
+}
+
+// Drops all rows.
+pub(crate) fn clear<N: TableName, R: Wait>(rt: &R, shared: &Shared<N>, pass: Pass, t: u64) -> Pass
+    requires table { pass.table ≡ N.table }
+    requires whole { IsWhole pass }
+    requires left { 2 ≤ pass.known.left }
+    ensures { Goes N.conf (length N.budgets) pass result
+        (wish t request.Clear ∷ []) (Flag true ∷ []) }
+{
+    one_event_own();
+    shared.clear(rt, pass, t)
+}
+
+// The value of a key, which is copied without the lock. The fetch stands where memory is missing
+// for the copy. `number` is that of the call in its script.
+pub(crate) fn fetch<N: TableName, G: Gate, R: Wait>(
+    rt: &R,
+    alloc: Global,
+    shared: &Shared<N>,
+    gate: &G,
+    number: u32,
+    pass: Pass,
+    key: &Bytes,
+    t: u64,
+) -> (Pass, Result<Option<Graph>, AllocError>)
+    requires table { pass.table ≡ N.table }
+    requires whole { IsWhole pass }
+    requires left { 2 ≤ pass.known.left }
+    ensures { (y : Reply) × Goes N.conf (length N.budgets) pass result.0
+        (wish t (request.Fetch key.now) ∷ []) (y ∷ [])
+        × IfOk result.1 (λ found. fetched found ≡ y) }
+{
+    one_event_own();
+    let worker = pass.worker();
+    match shared.pin(rt, pass, key.as_slice(), t) {
+        Pinned::Miss(pass) => (pass, Ok(None)),
+        Pinned::Scalar(pass, scalar) => {
+            let value = graph_of_scalar(alloc, scalar);
+            (pass, some_of(value))
+        }
+        Pinned::Hit(copying) => {
+            gate.reached(worker, Point::Pinned(number));
+            let (pass, value) = shared.copy_out(alloc, copying);
+            (pass, some_of(value))
+        }
+    }
+}
+
+// What was found, where a copy has its value.
+fn some_of(value: Result<Graph, AllocError>) -> Result<Option<Graph>, AllocError>
+    ensures { (g : List Kind) → IfOk value (λ v. v ≡ g)
+        → IfOk result (λ found. fetched found ≡ Found g) }
+{
+    Ok(Some(value?))
+}

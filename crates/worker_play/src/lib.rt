@@ -1,0 +1,11 @@
+//! One worker of many plays its script on a shared cache: the events of each call in order, and
+//! what each call prints for its own replies.
+#![tactic(auto)]
+
+mod calls;
+mod events;
+mod noting;
+mod scalar;
+mod script;
+
+pub use script::{PlayFault, play_script};

@@ -1,0 +1,145 @@
+//! A worker's script.
+
+ghost use Rattle.std.specs.Prelude.{◌≡◌, ℕ, ◌<◌, ◌++◌, List, [], length, map, sum, IfOk, OnOk};
+ghost use Rattle.script_read.specs.Calls.{events_of};
+ghost use Rattle.script_read.specs.Grammar.{ends_line};
+ghost use Rattle.script_read.specs.Play.{requests_of};
+ghost use Rattle.play_laws.specs.Own.{asked_by};
+ghost use Rattle.reply_text.specs.Lines.{call_text, script_lines};
+ghost use Rattle.worker_play.specs.Goes.{wishes_at, IsWhole, Reaches, Tells};
+ghost use Rattle.worker_play.specs.declared.script.PlayFault.TheVariants.{Memory};
+
+use crate::calls::play_call;
+use apcu_model::Conf;
+use io_edges::{Gate, Point};
+use notation::ByteOut;
+use pin_table::{Pass, TableName};
+use script_read::{Script, Step};
+use shared_cache::Shared;
+use std::alloc::{AllocError, Global};
+use std::sync::Wait;
+
+/// Why a worker's script was not played to its end.
+#[derive(Clone, Copy, Debug, PartialEq, Eq)]
+pub enum PlayFault {
+    /// There was not enough memory.
+    Memory,
+}
+
+impl From<AllocError> for PlayFault {
+    ghost from_gives = { λ _ e. e ≡ Memory };
+
+    fn from(_e: AllocError) -> PlayFault {
+        PlayFault::Memory
+    }
+}
+
+// A step and its line. The gate is reached before the call, and after it where it was played.
+fn play_step<N: TableName, G: Gate, R: Wait>(
+    rt: &R,
+    alloc: Global,
+    shared: &Shared<N>,
+    gate: &G,
+    number: u32,
+    pass: Pass,
+    step: &Step,
+    out: &mut ByteOut,
+) -> (Pass, Result<(), AllocError>)
+    requires table { pass.table ≡ N.table }
+    requires whole { IsWhole pass }
+    requires left { length (requests_of step.now.call) < pass.known.left }
+    ensures reaches { Reaches N.conf (length N.budgets) pass result.0
+        (wishes_at step.now.t (requests_of step.now.call)) }
+    ensures line { OnOk result.1 (Tells N.conf (length N.budgets) pass result.0
+        (wishes_at step.now.t (requests_of step.now.call))
+        (λ replies. out.old ++ (call_text step.now.call replies ++ ends_line)) out.new) }
+{
+    gate.reached(pass.worker(), Point::Before(number));
+    let (pass, played) = play_call(
+        rt, alloc, shared, gate, number, pass, &step.call, step.t, out,
+    );
+    match played {
+        Ok(()) => {
+            let ended = out.push(b"\n");
+            gate.reached(pass.worker(), Point::After(number));
+            (pass, ended)
+        }
+        Err(e) => (pass, Err(e)),
+    }
+}
+
+// All steps of a script, with their lines.
+fn play_steps<N: TableName, G: Gate, R: Wait>(
+    rt: &R,
+    alloc: Global,
+    shared: &Shared<N>,
+    gate: &G,
+    pass: Pass,
+    script: &Script,
+    out: &mut ByteOut,
+) -> (Pass, Result<(), AllocError>)
+    requires table { pass.table ≡ N.table }
+    requires whole { IsWhole pass }
+    requires left { sum (map (λ step. events_of N.conf.slots step.call) script.now)
+        < pass.known.left }
+    ensures reaches { Reaches N.conf (length N.budgets) pass result.0 (asked_by script.now) }
+    ensures lines { OnOk result.1 (Tells N.conf (length N.budgets) pass result.0
+        (asked_by script.now)
+        (λ replies. out.old ++ script_lines N.conf script.now replies) out.new) }
+{
+    let mut held = pass;
+    for number in 0..script.len() {
+        let (next, played) = play_step(
+            rt,
+            alloc,
+            shared,
+            gate,
+            number,
+            held,
+            script.at(number),
+            out,
+        );
+        held = next;
+        if let Err(e) = played {
+            return (held, Err(e));
+        }
+    }
+    (held, Ok(()))
+}
+
+/// Plays a worker's script on the shared cache, and gives what its calls print: a line for each, for
+/// the worker's own replies. The gate is told of each call before and after it, and of each value
+/// that is copied, between its fetch and its copy.
+///
+/// The pass has made no event, and may make one more than all calls of the script may. It comes back
+/// with the events that are left. Its worker's events are then what the calls asked, in their order,
+/// and its replies are those of one thread at the events' places in what the pass has seen.
+///
+/// Without memory the worker stops: some first of the events were made, and they stand.
+pub fn play_script<N: TableName, G: Gate, R: Wait>(
+    rt: &R,
+    alloc: Global,
+    conf: &Conf,
+    shared: &Shared<N>,
+    pass: Pass,
+    script: &Script,
+    gate: &G,
+) -> (Pass, Result<ByteOut, PlayFault>)
+    requires conf { conf.now ≡ N.conf }
+    requires table { pass.table ≡ N.table }
+    requires no_event { pass.known.own ≡ [] }
+    requires none_seen { IsWhole pass }
+    requires left { sum (map (λ step. events_of conf.now.slots step.call) script.now)
+        < pass.known.left }
+    ensures reaches { Reaches N.conf (length N.budgets) pass result.0 (asked_by script.now) }
+    ensures lines { IfOk result.1 (λ out. Tells N.conf (length N.budgets) pass result.0
+        (asked_by script.now) (script_lines conf.now script.now) out) }
+{
+    let _ = conf;
+    let mut out = ByteOut::new(alloc);
+    let (pass, played) = play_steps(rt, alloc, shared, gate, pass, script, &mut out);
+    match played {
+        Ok(()) => (pass, Ok(out)),
+        Err(_) => (pass, Err(PlayFault::Memory)),
+    }
+}
