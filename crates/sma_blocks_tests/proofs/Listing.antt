@@ -1,9 +1,11 @@
--- A block put into the list of live blocks.
-use Rattle.std.proofs.Common.{◌≡◌, ℕ, zero, suc, ◌<◌, ◌≤◌, true, false, ltb, List, [], ◌∷◌, length, get_or, refl, ap, arith}
-use Rattle.std.specs.List.{insert}
-use Rattle.std.proofs.lemmas.Bool.{lt-ltb, le-ltb}
+-- A block put into the list of live blocks, and places of live blocks.
+use Rattle.std.proofs.Common.{◌≡◌, inl, inr, ℕ, zero, suc, ◌<◌, ◌≤◌, true, false, eqb, ltb, ◌||◌, List, [], ◌∷◌, ◌++◌, length, get_or, refl, sym, ap, ◌∙◌, arith}
+use Rattle.std.specs.List.{insert, list_any, All}
+use Rattle.std.proofs.lemmas.Bool.{lt-ltb, le-ltb, eqb-true, eq-eqb, cases_Bool, false≢true, false_from_ne_true}
+use Rattle.std.proofs.lemmas.List.Elements.{All-push, Contains-get_or}
 use Rattle.seg_words.specs.declared.extents.Extent.{Extent}
-use Rattle.sma_blocks.specs.Live.{with_block}
+use Rattle.seg_words.specs.Windows.{has}
+use Rattle.sma_blocks.specs.Live.{IsLive, with_block}
 
 -- a block is put before the first that lies past it
 pub with_block-insert : (e d : Extent) (xs : List Extent) (i : ℕ) → i ≤ length xs → ((k : ℕ) → k < i → (get_or xs k d).place ≤ e.place) → (i < length xs → e.place < (get_or xs i d).place) → insert xs i e ≡ with_block e xs
@@ -15,3 +17,20 @@ with_block-insert e d (x ∷ xs) zero within before after =
 with_block-insert e d (x ∷ xs) (suc i) within before after =
     let not_past : ltb e.place x.place ≡ false = le-ltb e.place x.place (before 0 (omega arith)) in
     rw not_past (ap (λ ys. x ∷ ys) (with_block-insert e d xs i (omega arith) (λ k lt. before (suc k) (omega arith)) (λ lt. after (omega arith))))
+
+flip : (a b : ℕ) → eqb a b ≡ eqb b a
+flip a b = elim (cases_Bool (eqb a b)) [
+  | inl t ↦ t ∙ sym (eq-eqb b a (sym (eqb-true a b t)))
+  | inr f ↦ f ∙ sym (false_from_ne_true (eqb b a) (λ t. false≢true (sym f ∙ eq-eqb a b (sym (eqb-true b a t)))))
+]
+
+-- whether a place is among some, as std's search tells it
+pub any_has : (x : ℕ) (l : List ℕ) → list_any (λ y. eqb y x) l ≡ has x l
+any_has x [] = refl
+any_has x (y ∷ ys) = ap (λ b. b || list_any (λ z. eqb z x) ys) (flip y x) ∙ ap (λ b. eqb x y || b) (any_has x ys)
+
+-- the place of one more block put at the end of places of live blocks
+pub live_push : (blocks : List Extent) (places : List ℕ) (i : ℕ) (d : Extent) → i < length blocks → All (IsLive blocks) places
+    → All (IsLive blocks) (places ++ (get_or blocks i d).place ∷ [])
+live_push blocks places i d low live =
+    All-push (IsLive blocks) places (get_or blocks i d).place live ((get_or blocks i d).size, Contains-get_or blocks i d low)

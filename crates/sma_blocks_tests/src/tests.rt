@@ -1,6 +1,6 @@
-ghost use Rattle.std.specs.Prelude.{◌≡◌, ℕ, ◌+◌, ◌%◌, ◌<◌, ◌≤◌, true, false, [], length, insert, IfOk, OnOk};
-ghost use Rattle.seg_words.specs.Windows.{is_named};
-ghost use Rattle.sma_blocks.specs.Live.{live_blocks, with_block, without_block};
+ghost use Rattle.std.specs.Prelude.{◌≡◌, ℕ, ◌+◌, ◌%◌, ◌<◌, ◌≤◌, true, false, [], length, slice_index, insert, IfOk, OnOk, All};
+ghost use Rattle.seg_words.specs.Windows.{has, is_named};
+ghost use Rattle.sma_blocks.specs.Live.{IsLive, live_blocks, with_block, without_block, kept_blocks};
 ghost use Rattle.sma_blocks.specs.Ready.{IsReady};
 
 use max_tree::MaxRow;
@@ -77,6 +77,86 @@ fn give_listed<S: Segment>(
     without_place(alloc, blocks, at)
 }
 
+// The places of the blocks whose index, modulo 64, is a bit of the number.
+fn places_of(alloc: Global, blocks: &[Extent], which: u64) -> Result<Vec<u32>, AllocError>
+    ensures { IfOk result (λ places. All (IsLive blocks.now) places.items) }
+{
+    let mut places = Vec::new(alloc);
+    for i in 0..blocks.len() {
+        let bits = which >> (i % 64);
+        if bits % 2 == 1 {
+            places.push(blocks[i].place)?;
+        }
+    }
+    Ok(places)
+}
+
+// Whether each place but the first lies past the one before.
+fn are_rising(places: &[u32]) -> bool
+    ensures { result ≡ true → (i : ℕ) → i + 1 < length places.now
+        → slice_index places.now i < slice_index places.now (i + 1) }
+{
+    let mut i = 1;
+    while i < places.len() {
+        if places[i] <= places[i - 1] {
+            return false;
+        }
+        i += 1;
+    }
+    true
+}
+
+// Those places, if they rise.
+fn rising_places_of(alloc: Global, blocks: &[Extent], which: u64) -> Result<Vec<u32>, AllocError>
+    ensures live { IfOk result (λ places. All (IsLive blocks.now) places.items) }
+    ensures rising { IfOk result (λ places. (i : ℕ) → i + 1 < length places.items
+        → slice_index places.items i < slice_index places.items (i + 1)) }
+{
+    let places = places_of(alloc, blocks, which)?;
+    if are_rising(places.as_slice()) {
+        return Ok(places);
+    }
+    Ok(Vec::new(alloc))
+}
+
+// Whether the place stands in the list.
+fn stands(places: &[u32], at: u32) -> bool
+    ensures { result ≡ has at places.now }
+{
+    places.contains(&at)
+}
+
+// The blocks that stand at one of the places.
+fn with_places(alloc: Global, blocks: &[Extent], places: &[u32]) -> Result<Vec<Extent>, AllocError>
+    ensures { IfOk result (λ kept. kept.items ≡ kept_blocks places.now blocks.now) }
+{
+    blocks
+        .iter()
+        .copied()
+        .filter(|block| stands(places, block.place))
+        .collect(alloc)
+}
+
+// Keeps the blocks whose index, modulo 64, is a bit of the number, and says the list that is left.
+fn keep_listed<S: Segment>(
+    alloc: Global,
+    sma: &mut Sma,
+    seg: &mut S,
+    blocks: &[Extent],
+    which: u64,
+) -> Result<Vec<Extent>, AllocError>
+    requires ready { IsReady sma.old (S.words seg.old) (S.aside seg.old) }
+    requires closed { (at : ℕ) → is_named (S.aside seg.old).windows at ≡ false }
+    requires listed { blocks.now ≡ live_blocks (S.words seg.old) sma.old.from }
+    ensures ready { IsReady sma.new (S.words seg.new) (S.aside seg.new) }
+    ensures listed { IfOk result (λ kept. kept.items ≡ live_blocks (S.words seg.new) sma.new.from) }
+    ensures aside { S.aside seg.new ≡ S.aside seg.old }
+{
+    let places = rising_places_of(alloc, blocks, which)?;
+    sma.keep(seg, places.as_slice());
+    with_places(alloc, blocks, places.as_slice())
+}
+
 // A call and what it must answer, or a word and what it must be.
 #[derive(Clone, Copy)]
 enum Step {
@@ -84,6 +164,8 @@ enum Step {
     Take(u32, Option<u32>),
     // The block of this index given.
     Give(u32),
+    // The blocks kept whose index, modulo 64, is a bit of the number.
+    Keep(u64),
     // So many words taken, wherever the plain list has the least place.
     TakeLeast(u32),
     Free(u32),
@@ -127,6 +209,11 @@ fn play_one<S: Segment>(
                 let kept = give_listed(alloc, sma, seg, blocks, index as usize)?;
                 *blocks = kept;
             }
+            Ok(true)
+        },
+        Step::Keep(which) => {
+            let kept = keep_listed(alloc, sma, seg, blocks, which)?;
+            *blocks = kept;
             Ok(true)
         },
         Step::Free(words) => Ok(sma.free_words(seg) == words),
@@ -249,6 +336,85 @@ fn merges_in_either_order(rt: HostRuntime) -> Result<(), Fail> {
     Ok(())
 }
 
+#[test]
+fn keeps_blocks(rt: HostRuntime) -> Result<(), Fail> {
+    let full = [
+        Step::Take(8, Some(32)),
+        Step::Take(8, Some(40)),
+        Step::Take(8, Some(48)),
+        Step::Take(8, Some(56)),
+    ];
+    let some = [
+        Step::Keep(0b0110),
+        Step::FirstGap(32),
+        Step::Word(32, 9),
+        Step::Word(33, 56),
+        Step::Word(40, 8),
+        Step::Word(56, 9),
+        Step::Word(57, 0),
+        Step::Free(16),
+        Step::Largest(8),
+        Step::Take(10, None),
+        Step::Take(8, Some(32)),
+        Step::Take(8, Some(56)),
+        Step::Take(2, None),
+    ];
+    let none = [
+        Step::Keep(0),
+        Step::FirstGap(32),
+        Step::Word(32, 33),
+        Step::Word(33, 0),
+        Step::Free(32),
+        Step::Largest(32),
+        Step::GapFrom(33, None),
+        Step::Take(32, Some(32)),
+    ];
+    let all = [
+        Step::Keep(0b1111),
+        Step::FirstGap(0),
+        Step::Free(0),
+        Step::Largest(0),
+        Step::Take(2, None),
+        Step::Give(0),
+        Step::Take(8, Some(32)),
+    ];
+    let gaps_before = [
+        Step::Give(1),
+        Step::Keep(0b010),
+        Step::Word(32, 17),
+        Step::Word(33, 56),
+        Step::Word(57, 0),
+        Step::Largest(16),
+        Step::GapFrom(33, Some((56, 8))),
+        Step::Take(16, Some(32)),
+        Step::Take(8, Some(56)),
+    ];
+    for (i, then) in [&some[..], &none[..], &all[..], &gaps_before[..]]
+        .iter()
+        .enumerate()
+    {
+        let steps = joined(rt.alloc(), &full, then)?;
+        assert_eq!(rt;
+            play_fresh(rt.alloc(), 64, steps.as_slice())?,
+            steps.len(),
+            "row {i}"
+        );
+    }
+    Ok(())
+}
+
+// The one steps and then the others.
+fn joined(alloc: Global, first: &[Step], then: &[Step]) -> Result<Vec<Step>, AllocError> {
+    let mut steps = Vec::new(alloc);
+    for step in first {
+        steps.push(*step)?;
+    }
+    for step in then {
+        steps.push(*step)?;
+    }
+    Ok(steps)
+}
+
 // So many calls, drawn by a linear congruential generator.
 fn draw(alloc: Global, count: u32) -> Result<Vec<Step>, AllocError> {
     let mut steps = Vec::new(alloc);
@@ -257,7 +423,9 @@ fn draw(alloc: Global, count: u32) -> Result<Vec<Step>, AllocError> {
         state = state
             .wrapping_mul(6364136223846793005)
             .wrapping_add(1442695040888963407);
-        if state >> 63 == 0 {
+        if state >> 57 == 0 {
+            steps.push(Step::Keep(state >> 8))?;
+        } else if state >> 63 == 0 {
             steps.push(Step::TakeLeast((state / 65536 % 20) as u32 * 2 + 2))?;
         } else {
             steps.push(Step::Give((state / 65536 % 32) as u32))?;
