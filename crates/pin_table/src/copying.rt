@@ -1,4 +1,4 @@
-ghost use Rattle.std.specs.Prelude.{◌≡◌, ℕ, ◌+◌, ◌<◌, ◌≤◌, length, slice_index};
+ghost use Rattle.std.specs.Prelude.{◌≡◌, ℕ, ◌+◌, ◌-◌, ◌<◌, ◌≤◌, length, slice_index};
 
 use crate::pass::Pass;
 use crate::rule::{CopyRead, Release};
@@ -53,6 +53,18 @@ impl Copying {
         (self.first, self.len)
     }
 
+    // The word at this place of the table, which is one of the image.
+    fn word_at(&mut self, table: &PinTable, place: usize) -> u64
+        requires table { self.old.table ≡ table.now }
+        requires from { self.old.copy.first ≤ place }
+        requires to { place < self.old.copy.first + length self.old.copy.content }
+        ensures word { result
+            ≡ slice_index self.old.copy.content (place - self.old.copy.first) }
+        ensures same { self.new ≡ self.old }
+    {
+        table.table.shared.load::<CopyRead>(&mut self.seat, place)
+    }
+
     /// The word `i` of the image, as it was at the pin.
     pub fn word(&mut self, table: &PinTable, i: u32) -> u64
         requires table { self.old.table ≡ table.now }
@@ -60,10 +72,29 @@ impl Copying {
         ensures word { result ≡ slice_index self.old.copy.content i }
         ensures same { self.new ≡ self.old }
     {
-        table
-            .table
-            .shared
-            .load::<CopyRead>(&mut self.seat, self.first as usize + i as usize)
+        self.word_at(table, self.first as usize + i as usize)
+    }
+
+    /// The eight words of the image from the word `i` on, as they were at the pin. Where the image
+    /// begins is read once for all eight.
+    pub fn eight(&mut self, table: &PinTable, i: u32) -> [u64; 8]
+        requires table { self.old.table ≡ table.now }
+        requires place { i + 8 ≤ length self.old.copy.content }
+        ensures each { (k : ℕ) → k < 8
+            → slice_index result k ≡ slice_index self.old.copy.content (i + k) }
+        ensures same { self.new ≡ self.old }
+    {
+        let place = self.first as usize + i as usize;
+        [
+            self.word_at(table, place),
+            self.word_at(table, place + 1),
+            self.word_at(table, place + 2),
+            self.word_at(table, place + 3),
+            self.word_at(table, place + 4),
+            self.word_at(table, place + 5),
+            self.word_at(table, place + 6),
+            self.word_at(table, place + 7),
+        ]
     }
 
     /// Ends the copy: the block may be given out again, and the worker has its pass back.

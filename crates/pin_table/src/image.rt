@@ -54,4 +54,8 @@ impl WordsIn for Image<'_> {
     fn load(&mut self, i: u32) -> u64 {
         self.copying.word(self.table, i)
     }
+
+    fn load_eight(&mut self, i: u32) -> [u64; 8] {
+        self.copying.eight(self.table, i)
+    }
 }

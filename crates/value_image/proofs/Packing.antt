@@ -4,7 +4,7 @@ use Rattle.std.proofs.Math.Seq.{take-append-add, take-add}
 use Rattle.std.proofs.lemmas.Bool.{cases_lt}
 use Rattle.std.proofs.lemmas.Nat.{le_bytes_8, div-mul-add}
 use Rattle.std.proofs.Math.Nat.{mul_assoc, mul_comm}
-use Rattle.std.proofs.lemmas.List.{take-append-le, take_at, take_all, take_more, take-append-drop, get_or_past, get_or-drop, get_or-take, drop_all, append-nil, length-drop, length-take, length-take-le, length-replicate}
+use Rattle.std.proofs.lemmas.List.{take-append-le, take_at, take_all, take_more, take-append-drop, get_or_past, get_or-drop, get_or-take, ext_get_or, drop_all, append-nil, length-drop, length-take, length-take-le, length-replicate}
 use Rattle.std.proofs.lemmas.List.FromFn.{get_or-map-range_with_len, length-map-range_with_len}
 use Rattle.std.proofs.lemmas.Grind.{flat_map-append}
 use Rattle.std.specs.Int.{w64, from_le_bytes}
@@ -155,6 +155,19 @@ bytes-next ws i w lt e =
     ∙ sym (ap bytes_of (take_more ws i 0 lt)
     ∙ (flat_map-append (little_bytes 8) (take i ws) (get_or ws i 0 ∷ [])
     ∙ ap (λ (b : List ℕ). bytes_of (take i ws) ++ b) (append-nil (little_bytes 8 (get_or ws i 0)))))
+
+-- the bytes of eight words more
+pub bytes-eight : (ws eight : List ℕ) (i : ℕ) → length eight ≡ 8 → 8 * i + 8 ≤ length ws → ((k : ℕ) → k < 8 → slice_index eight k ≡ get_or ws (8 * i + k) 0)
+    → bytes_of (take (8 * i) ws) ++ bytes_of eight ≡ bytes_of (take (8 * (i + 1)) ws)
+bytes-eight ws eight i len room each =
+    let past = length-drop (8 * i) ws in
+    let size : length (take 8 (drop (8 * i) ws)) ≡ 8 = length-take-le 8 (drop (8 * i) ws) (omega (arith, past)) in
+    let same : eight ≡ take 8 (drop (8 * i) ws) = ext_get_or 0 eight (take 8 (drop (8 * i) ws)) (len ∙ sym size)
+    (λ k lt. each k (omega (arith, lt, len)) ∙ sym (get_or-take 8 (drop (8 * i) ws) k 0 (omega (arith, lt, len)) ∙ get_or-drop (8 * i) ws k 0)) in
+    let n : 8 * i + 8 ≡ 8 * (i + 1) = omega arith in
+    ap (λ (x : List ℕ). bytes_of (take (8 * i) ws) ++ bytes_of x) same
+    ∙ (sym (flat_map-append (little_bytes 8) (take (8 * i) ws) (take 8 (drop (8 * i) ws)))
+    ∙ ap bytes_of (sym (take-add (8 * i) 8 ws) ∙ ap (λ (j : ℕ). take j ws) n))
 
 -- a buffer with the bytes of one word more
 pub bytes-more : (out ws buf rest : List ℕ) (i w : ℕ) → 8 * i + 8 ≤ length out → i < length ws → w ≡ get_or ws i 0

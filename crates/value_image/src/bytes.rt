@@ -1,6 +1,8 @@
 //! Byte strings as words.
 
-ghost use Rattle.std.specs.Prelude.{◌≡◌, ◌+◌, ◌/◌, ◌%◌, ℕ, ◌≤◌, ◌<◌, length, take, drop};
+ghost use Rattle.std.specs.Prelude.{◌≡◌, ◌+◌, ◌/◌, ◌%◌, ℕ, ◌≤◌, ◌<◌, ◌++◌, length, take, drop};
+ghost use Rattle.std.specs.Prelude.{vec_len, vec_capacity, IfOk};
+ghost use Rattle.byteorder.specs.Endian.{little_bytes};
 ghost use Rattle.seg_words.specs.Kept.{Kept, KeptBeside};
 ghost use Rattle.seg_words.specs.Layout.{words_in};
 ghost use Rattle.seg_words.specs.Blocks.{IsTold};
@@ -9,6 +11,7 @@ ghost use Rattle.value_image.specs.Rows.{written, MayWrite};
 
 use byteorder::{ByteOrder, LittleEndian};
 use seg_words::{Segment, WordsIn};
+use std::alloc::{AllocError, Global};
 
 /// Writes the bytes from place `at` on, eight a word, the last word filled with zeros. It takes no
 /// memory.
@@ -60,4 +63,81 @@ pub fn get_bytes<W: WordsIn>(from: &mut W, at: u32, out: &mut [u8])
         let word = from.load(at + full as u32);
         out[8 * full..].copy_from_slice(&word.to_le_bytes()[..left]);
     }
+}
+
+// Adds the first bytes of a word, the lowest first. There is room for them.
+fn push_part(out: &mut Vec<u8>, word: u64, count: u32)
+    requires part { count ≤ 8 }
+    requires room { vec_len out.old + count ≤ vec_capacity out.old }
+    ensures bytes { out.new.items ≡ out.old.items ++ take count (little_bytes 8 word) }
+    ensures len { vec_len out.new ≡ vec_len out.old + count }
+    ensures capacity { vec_capacity out.new ≡ vec_capacity out.old }
+{
+    let bytes = word.to_le_bytes();
+    'bytes: for k in 0..count {
+        out.push_reserved(bytes[k as usize]);
+    }
+}
+
+// Adds the bytes of a word, the lowest first. There is room for them. Written out, it becomes a
+// single store.
+fn push_word(out: &mut Vec<u8>, word: u64)
+    requires { vec_len out.old + 8 ≤ vec_capacity out.old }
+    ensures bytes { out.new.items ≡ out.old.items ++ little_bytes 8 word }
+    ensures len { vec_len out.new ≡ vec_len out.old + 8 }
+    ensures capacity { vec_capacity out.new ≡ vec_capacity out.old }
+{
+    let bytes = word.to_le_bytes();
+    out.push_reserved(bytes[0]);
+    out.push_reserved(bytes[1]);
+    out.push_reserved(bytes[2]);
+    out.push_reserved(bytes[3]);
+    out.push_reserved(bytes[4]);
+    out.push_reserved(bytes[5]);
+    out.push_reserved(bytes[6]);
+    out.push_reserved(bytes[7]);
+}
+
+// Adds the bytes of eight words. There is room for them.
+fn push_eight(out: &mut Vec<u8>, words: &[u64; 8])
+    requires { vec_len out.old + 64 ≤ vec_capacity out.old }
+    ensures bytes { out.new.items ≡ out.old.items ++ bytes_of words.now }
+    ensures len { vec_len out.new ≡ vec_len out.old + 64 }
+    ensures capacity { vec_capacity out.new ≡ vec_capacity out.old }
+{
+    'words: for k in 0..8 {
+        push_word(out, words[k]);
+    }
+}
+
+// So many bytes of the words from place `at` on. Each word is loaded once, eight at a time while
+// there are eight, and goes from there into the memory that is handed out.
+pub(crate) fn bytes_at<W: WordsIn>(
+    alloc: Global,
+    from: &mut W,
+    at: u32,
+    len: u32,
+) -> Result<Vec<u8>, AllocError>
+    requires inside { at + words_in len ≤ length (W.words from.old) }
+    requires told { (i : ℕ) → at ≤ i → i < at + words_in len → IsTold (W.aside from.old).windows i }
+    ensures bytes { IfOk result (λ bytes.
+        bytes.items ≡ take len (bytes_of (drop at (W.words from.old)))) }
+    ensures kept { Kept W.WordsIn from.old from.new }
+{
+    let mut bytes = Vec::with_capacity(alloc, len as usize)?;
+    let full = len / 8;
+    'eights: for i in 0..full / 8 {
+        let words = from.load_eight(at + 8 * i);
+        push_eight(&mut bytes, &words);
+    }
+    'words: for i in full / 8 * 8..full {
+        let word = from.load(at + i);
+        push_word(&mut bytes, word);
+    }
+    let left = len % 8;
+    if left != 0 {
+        let word = from.load(at + full);
+        push_part(&mut bytes, word, left);
+    }
+    Ok(bytes)
 }

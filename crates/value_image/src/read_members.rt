@@ -13,7 +13,7 @@ ghost use Rattle.value_image.specs.Image.{child_word};
 ghost use Rattle.value_image.specs.Reading.{itself, IsStringAt, IsKeyAt, IsMemberAt, IsPropertyAt};
 ghost use Rattle.value_image.specs.Reading.{AreMembersAt, ArePropertiesAt};
 
-use crate::bytes::get_bytes;
+use crate::bytes::bytes_at;
 use crate::write_members::INT;
 use php_graph::{Bytes, Child, Key, Members, Props};
 use seg_words::{WordsIn, words_in};
@@ -32,8 +32,7 @@ fn read_bytes<W: WordsIn>(
         bytes ≡ take len (bytes_of (drop at (W.words from.old)))) }
     ensures kept { Kept W.WordsIn from.old from.new }
 {
-    let mut bytes = Vec::from_elem(alloc, 0u8, len as usize)?;
-    get_bytes(from, at, bytes.as_mut_slice());
+    let bytes = bytes_at(alloc, from, at, len)?;
     Ok(Bytes::from_vec(bytes))
 }
 

@@ -1,9 +1,9 @@
-use Rattle.std.proofs.Common.{◌≡◌, ◌+◌, ◌<◌, ℕ, suc, [], ◌∷◌, List, length, map, slice_index, refl, ap, ap₂, sym, subst, ◌∙◌, arith}
+use Rattle.std.proofs.Common.{◌≡◌, ◌+◌, ◌<◌, ℕ, suc, [], ◌∷◌, List, length, map, slice_index, refl, ap, ap₂, subst, ◌∙◌, arith}
 use Rattle.std.proofs.lemmas.List.{length-map}
 use Rattle.php_graph.specs.declared.kind.Kind.{Kind}
 use Rattle.php_graph.specs.declared.places.Place.{Place}
 use Rattle.php_graph.specs.Kept.{kinds_at, offsets_at}
-use Rattle.value_image.specs.Reading.{IsBelow, IsReadOf, IsTableOf, renumbered_kind}
+use Rattle.value_image.specs.Reading.{IsReadOf, IsTableOf, renumbered_kind}
 use Rattle.value_image.proofs.Numbered.{offsets-below, offsets-rising, table-many, read-one, read-below, read-back}
 use Rattle.value_image.proofs.numbers.number.Goals as goal
 

@@ -1,9 +1,9 @@
-use Rattle.std.proofs.Common.{◌≡◌, ◌<◌, ℕ, List, length, map, set, slice_index, slice_get, slice_set, get_or, Some, ap, ap₂, sym, ◌∙◌, arith}
+use Rattle.std.proofs.Common.{◌≡◌, ◌<◌, ℕ, List, length, slice_index, slice_get, slice_set, get_or, Some, ap, ap₂, sym, ◌∙◌, arith}
 use Rattle.std.proofs.lemmas.List.{length-map, map-set, get_or-map}
 use Rattle.std.proofs.Math.Seq.{map-set_same}
 use Rattle.php_graph.specs.declared.kind.Kind.{Kind}
 use Rattle.php_graph.specs.declared.places.Place.{Place}
-use Rattle.php_graph.specs.Kept.{kinds_at, offsets_at}
+use Rattle.php_graph.specs.Kept.{kinds_at}
 use Rattle.value_image.specs.Reading.{renumbered_kind}
 use Rattle.value_image.proofs.Mixed.{mixed, length-mixed, get-mixed, set-mixed, get-read}
 use Rattle.value_image.proofs.numbers.renumber_places.Goals as goal

@@ -1,5 +1,4 @@
-use Rattle.std.proofs.Common.{ℕ, ◌+◌, ◌<◌, ◌^◌, List, refl, arith, sym, subst, ◌∙◌}
-use Rattle.php_graph.specs.declared.kind.Kind.{Kind}
+use Rattle.std.proofs.Common.{ℕ, ◌<◌, ◌^◌, List, refl, arith, sym, subst, ◌∙◌}
 use Rattle.php_graph.specs.Size.{offset_of}
 use Rattle.value_image.specs.Image.{IsImageOf}
 use Rattle.value_image.specs.Reading.{renumbered_kind}

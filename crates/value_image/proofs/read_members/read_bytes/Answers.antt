@@ -2,12 +2,6 @@ use Rattle.std.proofs.Common.{arith}
 use Rattle.std.proofs.lemmas.Grind.{common_steps}
 use Rattle.value_image.proofs.read_members.read_bytes.Goals as goal
 
-pub get_bytes-requires-clause-inside : goal.get_bytes-requires-clause-inside
-get_bytes-requires-clause-inside g c = grind (arith, common_steps)
-
-pub get_bytes-requires-clause-told : goal.get_bytes-requires-clause-told
-get_bytes-requires-clause-told g c = grind (arith, common_steps)
-
 pub from_vec-requires : goal.from_vec-requires
 from_vec-requires g c = grind (arith, common_steps)
 

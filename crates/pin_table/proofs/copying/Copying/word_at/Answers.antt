@@ -1,10 +1,10 @@
-use Rattle.std.proofs.Common.{◌≡◌, ◌+◌, length, ap, sym, ◌∙◌, arith}
+use Rattle.std.proofs.Common.{◌≡◌, length, ap, sym, ◌∙◌, arith}
 use Rattle.atomic_table.specs.Seated.{TableId}
 use Rattle.pin_table.specs.declared.views.Reader.{Reader}
 use Rattle.pin_table.specs.Values.{Copier}
 use Rattle.pin_table.specs.Views.{reader_of}
 use Rattle.pin_table.proofs.Ruled as ruled
-use Rattle.pin_table.proofs.copying.Copying.word.Goals as goal
+use Rattle.pin_table.proofs.copying.Copying.word_at.Goals as goal
 
 pub load-requires : goal.load-requires
 load-requires c =
@@ -12,6 +12,6 @@ load-requires c =
     let t : c.self.inside.seat.table_id ≡ c.table.inside.table.shared.table_id = ap (λ (w : Copier). w.table) c.self.view_is ∙ (c.requires.table ∙ sym c.table.view_is) in
     let n = ap (λ (v : Reader). length v.content) d in (
       t,
-      omega (arith, c.requires.place, n, c.self.invariant.4, ap (λ (z : TableId). z.words) t),
-      rw (c.self.invariant.0) (ruled.copies _ c.self.inside.seat.id (reader_of c.self.inside.seat.me.0) (c.self.inside.first + c.args.i) (omega (arith, c.self.invariant.7)) (omega (arith, c.requires.place, n, c.self.invariant.7))),
+      omega (arith, c.requires.to, n, c.self.invariant.4, c.self.invariant.7, ap (λ (z : TableId). z.words) t, ap (λ (v : Reader). v.first) d),
+      rw (c.self.invariant.0) (ruled.copies _ c.self.inside.seat.id (reader_of c.self.inside.seat.me.0) c.args.place (omega (arith, c.requires.from, ap (λ (v : Reader). v.first) d)) (omega (arith, c.requires.to, n, ap (λ (v : Reader). v.first) d))),
     )

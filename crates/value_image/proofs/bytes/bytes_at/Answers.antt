@@ -1,0 +1,72 @@
+use Rattle.std.proofs.Common.{rules, ◌≡◌, ℕ, ◌+◌, ◌*◌, ◌/◌, ◌%◌, ◌<◌, ◌++◌, List, ap, sym, ◌∙◌, arith, length, take, drop, get_or, slice_index, Vec, Global}
+use Rattle.std.proofs.lemmas.List.{get_or-drop, length-drop}
+use Rattle.seg_words.specs.Blocks.{IsTold}
+use Rattle.byteorder.specs.Endian.{little_bytes}
+use Rattle.value_image.specs.Packed.{bytes_of}
+use Rattle.value_image.proofs.Packing.{take-bytes_of, take-bytes_of-whole, bytes-next, bytes-eight}
+use Rattle.value_image.proofs.bytes.bytes_at.Goals as goal
+use Rattle.value_image.proofs.bytes.bytes_at.Goals.{then-left-ne0, else-left-ne0}
+
+pub eights-preserved : goal.eights-preserved
+eights-preserved g c =
+    let row = g.W.WordsIn.words c.args.from.now in
+    let rest = length-drop c.args.at row in
+    let eight : length c.load_eight-words.result ≡ 8 = search rules in
+    let told : (k : ℕ) → k < 8 → IsTold (g.W.WordsIn.aside c.eights.from).windows (c.args.at + 8 * c.eights.i + k) =
+    (λ k lt. rw c.eights.invariant.kept.aside (c.requires.told (c.args.at + 8 * c.eights.i + k) (omega (arith, lt)) (omega (arith, lt)))) in
+    let each : (k : ℕ) → k < 8 → slice_index c.load_eight-words.result k ≡ get_or (drop c.args.at row) (8 * c.eights.i + k) 0 =
+    (λ k lt.
+    let place : c.args.at + 8 * c.eights.i + k ≡ c.args.at + (8 * c.eights.i + k) = omega arith in
+    c.load_eight-words.ensures.each k lt (told k lt)
+    ∙ (ap (λ (r : List ℕ). get_or r (c.args.at + 8 * c.eights.i + k) 0) c.eights.invariant.kept.words
+    ∙ (ap (λ (j : ℕ). get_or row j 0) place ∙ sym (get_or-drop c.args.at row (8 * c.eights.i + k) 0)))) in
+    record {
+      bytes = c.push_eight.ensures.bytes
+          ∙ (ap (λ (b : List ℕ). b ++ bytes_of c.load_eight-words.result) c.eights.invariant.bytes
+          ∙ bytes-eight (drop c.args.at row) c.load_eight-words.result c.eights.i eight (omega (arith, c.requires.inside, rest)) each);
+      len = omega (arith, c.push_eight.ensures.len, c.eights.invariant.len);
+      room = c.push_eight.ensures.capacity ∙ c.eights.invariant.room;
+      kept = record { words = c.load_eight-words.ensures.words ∙ c.eights.invariant.kept.words; aside = c.load_eight-words.ensures.aside ∙ c.eights.invariant.kept.aside; rest = c.load_eight-words.ensures.rest ∙ c.eights.invariant.kept.rest };
+    }
+
+pub words-preserved : goal.words-preserved
+words-preserved g c =
+    let row = g.W.WordsIn.words c.eights.from in
+    let rest = length-drop c.args.at row in
+    let long : length row ≡ length (g.W.WordsIn.words c.args.from.now) = ap (λ (r : List ℕ). length r) c.eights.invariant.kept.words in
+    let told : IsTold (g.W.WordsIn.aside c.words.from).windows (c.args.at + c.words.i) = rw (c.words.invariant.kept.aside, c.eights.invariant.kept.aside) (c.requires.told (c.args.at + c.words.i) (omega arith) (omega arith)) in
+    let w = c.load-word.ensures.word told
+    ∙ (ap (λ (r : List ℕ). get_or r (c.args.at + c.words.i) 0) c.words.invariant.kept.words ∙ sym (get_or-drop c.args.at row c.words.i 0)) in
+    record {
+      bytes = c.push_word.ensures.bytes
+          ∙ (ap (λ (b : List ℕ). b ++ little_bytes 8 c.load-word.result) c.words.invariant.bytes
+          ∙ bytes-next (drop c.args.at row) c.words.i c.load-word.result (omega (arith, c.requires.inside, rest, long)) w);
+      len = omega (arith, c.push_word.ensures.len, c.words.invariant.len);
+      room = c.push_word.ensures.capacity ∙ c.words.invariant.room;
+      kept = record { words = c.load-word.ensures.words ∙ c.words.invariant.kept.words; aside = c.load-word.ensures.aside ∙ c.words.invariant.kept.aside; rest = c.load-word.ensures.rest ∙ c.words.invariant.kept.rest };
+    }
+
+pub returns-clause-bytes : goal.returns-clause-bytes
+returns-clause-bytes g c =
+    let ws = drop c.args.at (g.W.WordsIn.words c.eights.from) in
+    let first = drop c.args.at (g.W.WordsIn.words c.args.from.now) in
+    let full : c.words.i ≡ c.args.len / 8 = omega (arith, c.words-test.false, c.words.auto.i) in
+    let long : length (g.W.WordsIn.words c.eights.from) ≡ length (g.W.WordsIn.words c.args.from.now) = ap (λ (r : List ℕ). length r) c.eights.invariant.kept.words in
+    let rest = length-drop c.args.at (g.W.WordsIn.words c.eights.from) in
+    let same = ap (λ (r : List ℕ). take c.args.len (bytes_of (drop c.args.at r))) c.eights.invariant.kept.words in
+    elim c.if-left-ne0.branch [
+      | then-left-ne0 w ↦
+          let told : IsTold (g.W.WordsIn.aside c.words.from).windows (c.args.at + c.args.len / 8) = rw (c.words.invariant.kept.aside, c.eights.invariant.kept.aside) (c.requires.told (c.args.at + c.args.len / 8) (omega arith) (omega arith)) in
+          let word = w.load-word-then-left-ne0.ensures.word told
+          ∙ (ap (λ (r : List ℕ). get_or r (c.args.at + c.args.len / 8) 0) c.words.invariant.kept.words ∙ sym (get_or-drop c.args.at (g.W.WordsIn.words c.eights.from) (c.args.len / 8) 0)) in
+          let before = c.words.invariant.bytes ∙ ap (λ (k : ℕ). bytes_of (take k ws)) full in
+          ap (λ (v : Vec ℕ Global). v.items) w.bytes-is
+          ∙ (w.push_part.ensures.bytes
+          ∙ (ap (λ (b : List ℕ). b ++ take (c.args.len % 8) (little_bytes 8 w.load-word-then-left-ne0.result)) before
+          ∙ (ap (λ (x : ℕ). bytes_of (take (c.args.len / 8) ws) ++ take (c.args.len % 8) (little_bytes 8 x)) word
+          ∙ (sym (take-bytes_of ws (c.args.len / 8) (c.args.len % 8) c.args.len (omega arith) (omega (arith, c.requires.inside, rest, long)) (omega arith)) ∙ same))))
+      | else-left-ne0 w ↦
+          ap (λ (v : Vec ℕ Global). v.items) w.bytes-is
+          ∙ (c.words.invariant.bytes
+          ∙ (sym (take-bytes_of-whole ws c.words.i c.args.len (omega arith) (omega (arith, c.requires.inside, rest, long))) ∙ same))
+    ]
