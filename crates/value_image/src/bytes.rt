@@ -66,6 +66,7 @@ pub fn get_bytes<W: WordsIn>(from: &mut W, at: u32, out: &mut [u8])
 }
 
 // Adds the first bytes of a word, the lowest first. There is room for them.
+#[inline(always)]
 fn push_part(out: &mut Vec<u8>, word: u64, count: u32)
     requires part { count ≤ 8 }
     requires room { vec_len out.old + count ≤ vec_capacity out.old }
@@ -81,6 +82,7 @@ fn push_part(out: &mut Vec<u8>, word: u64, count: u32)
 
 // Adds the bytes of a word, the lowest first. There is room for them. Written out, it becomes a
 // single store.
+#[inline(always)]
 fn push_word(out: &mut Vec<u8>, word: u64)
     requires { vec_len out.old + 8 ≤ vec_capacity out.old }
     ensures bytes { out.new.items ≡ out.old.items ++ little_bytes 8 word }
@@ -99,6 +101,7 @@ fn push_word(out: &mut Vec<u8>, word: u64)
 }
 
 // Adds the bytes of eight words. There is room for them.
+#[inline(always)]
 fn push_eight(out: &mut Vec<u8>, words: &[u64; 8])
     requires { vec_len out.old + 64 ≤ vec_capacity out.old }
     ensures bytes { out.new.items ≡ out.old.items ++ bytes_of words.now }
