@@ -1,12 +1,13 @@
-//! Work for measurements: `pin_bench WORK ROUNDS` stores a text of 64 KB in a block, pins it, and so many times
-//! fetches it through its image, loads each word of it, or reads it from words in memory. It prints nothing. Without
-//! arguments it fetches once.
+//! Work for measurements: `pin_bench WORK ROUNDS` stores a text of 64 KB in a block, pins it, and so
+//! many times fetches it through its image, loads each word of it, loads and stores each word, takes
+//! memory for it, or reads it from words in memory. It prints nothing. Without arguments it fetches
+//! once.
 #![tactic(auto)]
 
 mod often;
 mod pinned;
 
-use crate::often::{fetch_often, load_often, read_often};
+use crate::often::{fetch_often, load_often, read_often, reserve_often, store_often};
 use crate::pinned::{pinned, text};
 use std::alloc::Global;
 use std::{env, io};
@@ -19,6 +20,13 @@ fn do_work(alloc: Global, work: &str, rounds: u32) -> Option<()> {
     match work {
         "read" => {
             let _places = read_often(alloc, &g, rounds)?;
+        }
+        "memory" => {
+            let _room = reserve_often(alloc, TEXT_BYTES, rounds)?;
+        }
+        "stores" => {
+            let (table, mut copying) = pinned(alloc, &g)?;
+            let _last = store_often(alloc, &table, &mut copying, rounds)?;
         }
         "loads" => {
             let (table, mut copying) = pinned(alloc, &g)?;

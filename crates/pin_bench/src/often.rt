@@ -47,7 +47,9 @@ pub fn fetch_often(
     Some(places)
 }
 
-// The sum of the words of the pinned block's image, each loaded once.
+// The sum of the words of the pinned block's image, each loaded once. The table is behind a
+// reference, as a worker has it: without the hint it would become a local of the caller.
+#[inline(never)]
 fn load_all(table: &PinTable, copying: &mut Copying) -> u64
     requires table { copying.old.table ≡ table.now }
     ensures { copying.new ≡ copying.old }
@@ -68,6 +70,45 @@ pub fn load_often(table: &PinTable, copying: &mut Copying, rounds: u32) -> u64
         sum = sum.wrapping_add(load_all(table, copying));
     }
     sum
+}
+
+// Loads each word of the pinned block's image once, and stores it into the row.
+#[inline(never)]
+fn store_all(table: &PinTable, copying: &mut Copying, row: &mut [u64])
+    requires table { copying.old.table ≡ table.now }
+    requires row { length row.old ≡ length copying.old.copy.content }
+    ensures same { copying.new ≡ copying.old }
+    ensures row { length row.new ≡ length row.old }
+{
+    for i in 0..copying.range().1 {
+        row[i as usize] = copying.word(table, i);
+    }
+}
+
+/// Stores each word of the pinned block's image into memory that is there, so many times.
+pub fn store_often(
+    alloc: Global,
+    table: &PinTable,
+    copying: &mut Copying,
+    rounds: u32,
+) -> Option<u64>
+    requires table { copying.old.table ≡ table.now }
+{
+    let mut row = Vec::from_elem(alloc, 0u64, copying.range().1 as usize).ok()?;
+    'rounds: for _ in 0..rounds {
+        store_all(table, copying, row.as_mut_slice());
+    }
+    row.pop()
+}
+
+/// Takes memory for so many bytes, and lets it go, so many times.
+pub fn reserve_often(alloc: Global, bytes: u32, rounds: u32) -> Option<u64> {
+    let mut room: u64 = 0;
+    'rounds: for _ in 0..rounds {
+        let row = Vec::<u8>::with_capacity(alloc, bytes as usize).ok()?;
+        room = row.capacity() as u64;
+    }
+    Some(room)
 }
 
 /// Reads the value from words in memory so many times.

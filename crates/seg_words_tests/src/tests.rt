@@ -142,6 +142,24 @@ fn stores_and_loads(rt: HostRuntime) -> Result<(), Fail> {
     Ok(())
 }
 
+// Eight words from a place on, as any row of words gives them.
+fn eight_from<W: WordsIn>(row: &mut W, i: u32) -> [u64; 8]
+    requires { i + 8 ≤ length (W.words row.old) }
+{
+    row.load_eight(i)
+}
+
+#[test]
+fn loads_eight_words(rt: HostRuntime) -> Result<(), Fail> {
+    let words = Vec::from_array(rt.alloc(), [3u64, 1, 4, 1, 5, 9, 2, 6, 5])?;
+    let mut row = VecWords::from_words(words);
+    let first = row.load_eight(0);
+    assert_eq!(rt; first, [3, 1, 4, 1, 5, 9, 2, 6]);
+    let last = eight_from(&mut row, 1);
+    assert_eq!(rt; last, [1, 4, 1, 5, 9, 2, 6, 5]);
+    Ok(())
+}
+
 #[test]
 fn serves_by_its_bound(rt: HostRuntime) -> Result<(), Fail> {
     let mut words = VecWords::new(rt.alloc(), 14)?;
