@@ -221,6 +221,56 @@ fn brings_containers_back(rt: HostRuntime) -> Result<(), Fail> {
     Ok(())
 }
 
+// A byte string of so many bytes, no two of them alike.
+fn text_of(alloc: Global, len: usize) -> Option<Graph> {
+    if len > 100 {
+        return None;
+    }
+    let mut text = [0u8; 100];
+    for i in 0..100 {
+        text[i] = i as u8;
+    }
+    let item = Item::Str(Bytes::of(alloc, &text[..len]).ok()?);
+    let mut builder = Builder::new(alloc);
+    if !fits(builder.wants(), &item) {
+        return None;
+    }
+    builder.push(item).ok()?;
+    match builder.wants() {
+        Wants::Done => Some(builder.seal()),
+        _ => None,
+    }
+}
+
+fn text_back(alloc: Global, len: usize) -> Result<Option<(u32, u64)>, AllocError> {
+    match text_of(alloc, len) {
+        Some(g) => back_from(alloc, &g),
+        None => Ok(None),
+    }
+}
+
+// Texts are read eight words at a time, then word by word, then the last bytes.
+#[test]
+fn brings_texts_of_each_length_back(rt: HostRuntime) -> Result<(), Fail> {
+    let texts = [
+        (0, 1),
+        (1, 2),
+        (7, 2),
+        (8, 2),
+        (9, 3),
+        (63, 9),
+        (64, 9),
+        (65, 10),
+        (72, 10),
+        (100, 14),
+    ];
+    for (len, words) in texts {
+        let back = text_back(rt.alloc(), len)?;
+        assert_eq!(rt; back, Some((1, words)));
+    }
+    Ok(())
+}
+
 #[test]
 fn brings_bytes_back(rt: HostRuntime) -> Result<(), Fail> {
     let mut row = VecWords::new(rt.alloc(), 4)?;
