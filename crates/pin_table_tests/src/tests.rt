@@ -14,9 +14,10 @@ fn one_block(alloc: Global) -> Result<VecWords, AllocError>
 {
     let mut items = Vec::from_elem(alloc, 0u64, 32)?;
     items[4] = 3;
-    items[5] = 4;
+    items[5] = 9;
     items[15] = 9;
     items[18] = 12;
+    items[23] = 6;
     Ok(VecWords::from_words(items))
 }
 
@@ -121,21 +122,22 @@ fn ends(table: &PinTable, seat: &mut WriterSeat, pass: Pass) -> Ended
     table.learn(seat, ended)
 }
 
-// The four words of the image, as one copies them, and how many the image says it has.
-fn copied(table: &PinTable, copying: &mut Copying) -> (u64, u64, u32)
+// Words of the image, one by one and eight at a time, and how many the image says it has.
+fn copied(table: &PinTable, copying: &mut Copying) -> (u64, u64, [u64; 8], u32)
     requires table { copying.old.table ≡ table.now }
-    requires length { length copying.old.copy.content ≡ 4 }
+    requires length { length copying.old.copy.content ≡ 9 }
     ensures { copying.new ≡ copying.old }
 {
     let first = copying.word(table, 0);
     let mut image = copying.image(table);
-    let last = image.load(3);
+    let fourth = image.load(3);
+    let eight = image.load_eight(1);
     let count = image.len();
     let pin_table::Image {
         table: _,
         copying: _,
     } = image;
-    (first, last, count)
+    (first, fourth, eight, count)
 }
 
 #[test]
@@ -153,9 +155,9 @@ fn pins_probes_and_releases(rt: HostRuntime) -> Result<(), Fail> {
     let mut copying = crosses(pins(&table, &mut seat, first), &table);
     let (second, free, mask) = probes(&table, &mut seat, second);
     assert_eq!(rt; (free, mask), (false, 1));
-    assert_eq!(rt; copying.range(), (15, 4));
+    assert_eq!(rt; copying.range(), (15, 9));
     let seen = copied(&table, &mut copying);
-    assert_eq!(rt; seen, (9, 12, 4));
+    assert_eq!(rt; seen, (9, 12, [0, 0, 12, 0, 0, 0, 0, 6], 9));
     let first = copying.release(&table);
     let (second, free, mask) = probes(&table, &mut seat, second);
     assert_eq!(rt; (free, mask, first.left(), second.left()), (true, 0, 3, 1));
