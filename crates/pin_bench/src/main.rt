@@ -1,7 +1,7 @@
-//! Work for measurements: `pin_bench WORK ROUNDS` stores a text of 64 KB in a block, pins it, and so
-//! many times fetches it through its image, loads each word of it, loads and stores each word, takes
-//! memory for it, or reads it from words in memory. It prints nothing. Without arguments it fetches
-//! once.
+//! Work for measurements: `pin_bench WORK ROUNDS` stores a text of 64 KB in a block, pins it, and
+//! so many times fetches it through its image, loads each word of it, loads and stores each word,
+//! takes memory for it, or reads it from words in memory. It prints nothing. Without arguments it
+//! fetches once.
 #![tactic(auto)]
 
 mod often;
