@@ -5,4 +5,5 @@ use Rattle.std.specs.Prelude.{ℕ, List, replicate, slice_set}
 -- three are not 0
 abbrev pub one_block : List ℕ
 one_block =
-    slice_set (slice_set (slice_set (slice_set (slice_set (replicate 32 0) 4 3) 5 9) 15 9) 18 12) 23 6
+    slice_set (slice_set (slice_set (slice_set (slice_set (replicate 32 0) 4 3) 5 9) 15 9) 18 12)
+    23 6
