@@ -43,6 +43,10 @@ live_inside span ws aside at h live =
     let b = lives_between ws span.from (pieces ws span.from) (length ws) (record { place = at; size = live.0 }) h.formatted.full live.1 in
     (b.0, omega (arith, b.1, b.2, h.end))
 
+-- the words before are as free where the words were only read
+pub free_seen : {seen ws : List ℕ} (from first at : ℕ) → seen ≡ ws → IsFreeBefore seen from first at → IsFreeBefore ws from first at
+free_seen from first at same free = subst (λ xs. IsFreeBefore xs from first at) same free
+
 pub before_edge : (ws : List ℕ) (from first place : ℕ) → IsFreeBefore ws from first place → IsEdge ws from place
 before_edge ws from first place h = record { passed = h.front ++ h.tail; before = Fill-append ws from h.front first h.tail place h.before h.between; after = h.after }
 
