@@ -13,7 +13,8 @@ use Rattle.sma_blocks.specs.Ready.{NameLive}
 use Rattle.sma_blocks.specs.Walk.{IsEdge, ends_in_gap, IsFreeBefore, IsFreeAfter, merged_words}
 use Rattle.sma_blocks.proofs.Storing.{merged_count, merged_first, merged_other}
 use Rattle.sma_blocks.proofs.Filling.{Fill-le, Fill-append, pieces-filled, edge_whole}
-use Rattle.sma_blocks.proofs.Lives.{extent_of, lives-append, lives_between, Contains-cases, without_block_between}
+use Rattle.sma_blocks.proofs.Lives.{extent_of, lives-append, lives_between, without_block_between}
+use Rattle.seg_words.specs.Members.{Contains-cases}
 use Rattle.sma_blocks.proofs.Naming.{between, may_store, names_less, ready_from}
 use Rattle.sma_blocks.proofs.Merging.{merged_front, merged_back, merged_after, merged_join, merged_gap, merged_live}
 use Rattle.sma_blocks.proofs.Places.{blocks_at, Fill-even, piece_seen}
