@@ -40,12 +40,12 @@ has_index x (y ∷ ys) h = elim (cases_eq x y) [
       let r = has_index x ys later in (suc r.0, omega (arith, r.1), r.2)
 ]
 
-index_has : (xs : List ℕ) (k : ℕ) → k < length xs → has (get_or xs k 0) xs ≡ true
+pub index_has : (xs : List ℕ) (k : ℕ) → k < length xs → has (get_or xs k 0) xs ≡ true
 index_has [] k inside = absurd (omega arith)
 index_has (y ∷ ys) zero inside = or_left (eqb y y) (has y ys) (eq-eqb y y refl)
 index_has (y ∷ ys) (suc k) inside = or_right (eqb (get_or ys k 0) y) (has (get_or ys k 0) ys) (index_has ys k (omega arith))
 
-rises : (xs : List ℕ) → ((i : ℕ) → i + 1 < length xs → get_or xs i 0 < get_or xs (i + 1) 0) → (j k : ℕ) → k < j → j < length xs → get_or xs k 0 < get_or xs j 0
+pub rises : (xs : List ℕ) → ((i : ℕ) → i + 1 < length xs → get_or xs i 0 < get_or xs (i + 1) 0) → (j k : ℕ) → k < j → j < length xs → get_or xs k 0 < get_or xs j 0
 rises xs up zero k low inside = absurd (omega arith)
 rises xs up (suc j) k low inside =
     let step : get_or xs j 0 < get_or xs (suc j) 0 = (let e : j + 1 ≡ suc j = omega arith in omega (arith, up j (omega arith), ap (λ (n : ℕ). get_or xs n 0) e)) in
@@ -55,7 +55,7 @@ rises xs up (suc j) k low inside =
     ]
 
 -- blocks
-blocks_low : (ws : List ℕ) (low : ℕ) (es : List Extent) (high : ℕ) (f : Extent) → AreBlocks ws low es high → Contains es f → (low ≤ f.place) × (2 ≤ f.size) × (slice_index ws f.place ≡ f.size)
+pub blocks_low : (ws : List ℕ) (low : ℕ) (es : List Extent) (high : ℕ) (f : Extent) → AreBlocks ws low es high → Contains es f → (low ≤ f.place) × (2 ≤ f.size) × (slice_index ws f.place ≡ f.size)
 blocks_low ws low [] high f h c = absurd (omega (arith, c.1))
 blocks_low ws low (e ∷ es) high f h c = elim (Contains-cases e es f c) [
   | inl same ↦
