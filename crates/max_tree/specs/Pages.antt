@@ -15,8 +15,8 @@ page numbers k = take PAGE (drop (PAGE * k) numbers)
 abbrev pub AreTops : List ℕ → List ℕ → Type 0
 AreTops numbers tops = (k : ℕ) → slice_index tops k ≡ largest (page numbers k)
 
--- There are fewer than 2 ^ 32 numbers, and a top for every page, which is the page's largest number;
--- there are at most twice as many tops as pages.
+-- There are fewer than 2 ^ 32 numbers, and a top for every page, which is the page's largest
+-- number; there are at most twice as many tops as pages, and one.
 pub record IsPaged (numbers tops : List ℕ) : Type 0 where
   pub short : length numbers < 2 ^ 32
   pub room : length numbers ≤ PAGE * length tops

@@ -12,7 +12,8 @@ pub const PAGE: usize = 32;
 
 /// A row of numbers in pages, with the largest number of each page in a tree.
 ///
-/// It takes memory for one number of 32 bits each, and at most an eighth and 6 more, as `weight` says.
+/// It takes memory for one number of 32 bits each, and at most an eighth and 6 more, as `weight`
+/// says.
 #[derive(Drop)]
 pub struct MaxRow {
     numbers: Vec<u32>,
@@ -53,8 +54,8 @@ impl MaxRow {
         self.numbers.len()
     }
 
-    /// For how many numbers of 32 bits it has memory: one each, and the largest of pages and of pages
-    /// together, of which there are at least a sixteenth as many and at most an eighth and 6.
+    /// For how many numbers of 32 bits it has memory: one each, and the largest of pages and of
+    /// pages together, of which there are at least a sixteenth as many and at most an eighth and 6.
     pub fn weight(&self) -> usize
         ensures least { length self.now + length self.now / 16 ≤ result }
         ensures most { result ≤ length self.now + length self.now / 8 + 6 }

@@ -125,8 +125,8 @@ impl Sma {
             (free_runs self.new.from self.new.to (live_blocks (S.words seg.new) self.new.from)) }
         ensures beside { KeptBeside S.WordsIn seg.old seg.new }
     {
-        // The words of the block first: they are the farthest from the processor, and come while the
-        // index is read.
+        // The words of the block first: they are the farthest from the processor, and come while
+        // the index is read.
         let given = self.part_at(seg, at);
         let end = at + given.size;
         let last = self.free_after(seg, end);
