@@ -67,25 +67,27 @@ page_range xs start len left inside is = elim (cases_lt (length xs - start) len)
 ]
 
 -- zeros are in pages of zeros
-pub none_paged : (xs tops : List ℕ) → length xs < 2 ^ 32 → length xs ≤ PAGE * length tops → ((i : ℕ) → get_or xs i 0 ≡ 0) → ((k : ℕ) → get_or tops k 0 ≡ 0) → IsPaged xs tops
-none_paged xs tops short room none zeros = record {
+pub none_paged : (xs tops : List ℕ) → length xs < 2 ^ 32 → length xs ≤ PAGE * length tops → length tops ≤ 2 * ((length xs + (PAGE - 1)) / PAGE) + 1 → ((i : ℕ) → get_or xs i 0 ≡ 0) → ((k : ℕ) → get_or tops k 0 ≡ 0) → IsPaged xs tops
+none_paged xs tops short room few none zeros = record {
   short = short;
   room = room;
+  few = few;
   tops_are = λ k.
       let low : largest (page xs k) ≤ 0 = largest_least (page xs k) 0 (λ j inside. omega (arith, page_at xs k j (omega (arith, page_length xs k)), none (PAGE * k + j))) in
       omega (arith, zeros k);
 }
 
-pub zeros_paged : (xs tops : List ℕ) (count : ℕ) → xs ≡ replicate count 0 → length xs < 2 ^ 32 → length xs ≤ PAGE * length tops → ((k : ℕ) → get_or tops k 0 ≡ 0) → IsPaged xs tops
-zeros_paged xs tops count are short room zeros =
-    none_paged xs tops short room (λ i. ap (λ (ys : List ℕ). get_or ys i 0) are ∙ zero_at count i) zeros
+pub zeros_paged : (xs tops : List ℕ) (count : ℕ) → xs ≡ replicate count 0 → length xs < 2 ^ 32 → length xs ≤ PAGE * length tops → length tops ≤ 2 * ((length xs + (PAGE - 1)) / PAGE) + 1 → ((k : ℕ) → get_or tops k 0 ≡ 0) → IsPaged xs tops
+zeros_paged xs tops count are short room few zeros =
+    none_paged xs tops short room few (λ i. ap (λ (ys : List ℕ). get_or ys i 0) are ∙ zero_at count i) zeros
 
 pub cleared_paged : (xs new tops tops' : List ℕ) → IsPaged xs tops → length new ≡ length xs → ((i : ℕ) → get_or new i 0 ≡ 0) → tops' ≡ replicate (length tops) 0 → IsPaged new tops'
 cleared_paged xs new tops tops' paged count none are =
     let room = paged.room in
     let short = paged.short in
+    let few = paged.few in
     let same : length tops' ≡ length tops = ap length are ∙ length-replicate (length tops) 0 in
-    none_paged new tops' (omega arith) (omega arith) none (λ k. ap (λ (ys : List ℕ). get_or ys k 0) are ∙ zero_at (length tops) k)
+    none_paged new tops' (omega arith) (omega arith) (omega arith) none (λ k. ap (λ (ys : List ℕ). get_or ys k 0) are ∙ zero_at (length tops) k)
 
 -- a page whose top is not 0 begins among the numbers
 pub page_some : (xs tops : List ℕ) (k : ℕ) → IsPaged xs tops → 0 < get_or tops k 0 → PAGE * k ≤ length xs
@@ -106,9 +108,11 @@ pub set_paged : (xs tops : List ℕ) (p v top : ℕ) → IsPaged xs tops → p <
 set_paged xs tops p v top paged inside is =
     let room = paged.room in
     let short = paged.short in
+    let few = paged.few in
     record {
       short = omega (arith, length-set xs p v);
       room = omega (arith, length-set xs p v, length-set tops (p / PAGE) top);
+      few = omega (arith, length-set xs p v, length-set tops (p / PAGE) top);
       tops_are = λ k. elim (cases_eq k (p / PAGE)) [
         | inl same ↦
             let there : p / PAGE < length tops = omega arith in

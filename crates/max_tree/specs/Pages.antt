@@ -1,5 +1,5 @@
 -- Numbers in pages of so many, each with the largest number of its page.
-use Rattle.std.specs.Prelude.{◌≡◌, ℕ, ◌*◌, ◌^◌, ◌<◌, ◌≤◌, max, List, [], ◌∷◌, length, take, drop, slice_index}
+use Rattle.std.specs.Prelude.{◌≡◌, ℕ, ◌+◌, ◌-◌, ◌*◌, ◌/◌, ◌^◌, ◌<◌, ◌≤◌, max, List, [], ◌∷◌, length, take, drop, slice_index}
 use Rattle.max_tree.specs.declared.row.TheConstants.{PAGE}
 
 -- the largest of these numbers, or 0
@@ -15,8 +15,10 @@ page numbers k = take PAGE (drop (PAGE * k) numbers)
 abbrev pub AreTops : List ℕ → List ℕ → Type 0
 AreTops numbers tops = (k : ℕ) → slice_index tops k ≡ largest (page numbers k)
 
--- There are fewer than 2 ^ 32 numbers, and a top for every page, which is the page's largest number
+-- There are fewer than 2 ^ 32 numbers, and a top for every page, which is the page's largest
+-- number; there are at most twice as many tops as pages, and one.
 pub record IsPaged (numbers tops : List ℕ) : Type 0 where
   pub short : length numbers < 2 ^ 32
   pub room : length numbers ≤ PAGE * length tops
+  pub few : length tops ≤ 2 * ((length numbers + (PAGE - 1)) / PAGE) + 1
   pub tops_are : AreTops numbers tops

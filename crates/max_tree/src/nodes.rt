@@ -29,9 +29,12 @@ pub fn set_leaf(nodes: &mut [u32], p: usize, value: u32)
 {
     let mut i = nodes.len() / 2 + p;
     nodes[i] = value;
+    // The number above is worked out from the one below and its neighbour, so that no step waits
+    // for a store of the step before.
+    let mut largest = value;
     while i > 1 {
+        largest = largest.max(nodes[i + 1 - 2 * (i % 2)]);
         i /= 2;
-        let largest = nodes[2 * i].max(nodes[2 * i + 1]);
         if nodes[i] == largest {
             return;
         }

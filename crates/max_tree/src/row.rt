@@ -1,4 +1,4 @@
-ghost use Rattle.std.specs.Prelude.{◌≡◌, ◌≢◌, ℕ, ◌+◌, ◌^◌, ◌<◌, ◌≤◌, nat_le, length, replicate, slice_index, slice_set, IfOk, MatchOption};
+ghost use Rattle.std.specs.Prelude.{◌≡◌, ◌≢◌, ℕ, ◌+◌, ◌/◌, ◌^◌, ◌<◌, ◌≤◌, nat_le, length, replicate, slice_index, slice_set, IfOk, MatchOption};
 ghost use Rattle.std.specs.List.{position};
 ghost use Rattle.max_tree.specs.Pages.{largest};
 
@@ -12,7 +12,8 @@ pub const PAGE: usize = 32;
 
 /// A row of numbers in pages, with the largest number of each page in a tree.
 ///
-/// It takes memory for one number of 32 bits each, and at most an eighth more.
+/// It takes memory for one number of 32 bits each, and at most an eighth and 6 more, as `weight`
+/// says.
 #[derive(Drop)]
 pub struct MaxRow {
     numbers: Vec<u32>,
@@ -41,7 +42,7 @@ impl MaxRow {
         ensures zeros { IfOk result (λ row. (i : ℕ) → slice_index row i ≡ 0) }
     {
         let numbers = zeros(alloc, count)?;
-        let tops = MaxTree::new(alloc, count / PAGE + 1)?;
+        let tops = MaxTree::new(alloc, count.div_ceil(PAGE))?;
         Ok(MaxRow { numbers, tops })
     }
 
@@ -51,6 +52,15 @@ impl MaxRow {
         ensures short { result < 2 ^ 32 }
     {
         self.numbers.len()
+    }
+
+    /// For how many numbers of 32 bits it has memory: one each, and the largest of pages and of
+    /// pages together, of which there are at least a sixteenth as many and at most an eighth and 6.
+    pub fn weight(&self) -> usize
+        ensures least { length self.now + length self.now / 16 ≤ result }
+        ensures most { result ≤ length self.now + length self.now / 8 + 6 }
+    {
+        self.numbers.len() + self.tops.weight()
     }
 
     /// The number at `p`.

@@ -1,4 +1,4 @@
-ghost use Rattle.std.specs.Prelude.{◌≡◌, ◌≢◌, ℕ, ◌+◌, ◌^◌, ◌<◌, ◌≤◌, nat_le, length, replicate, slice_index, slice_set, IfOk, MatchOption};
+ghost use Rattle.std.specs.Prelude.{◌≡◌, ◌≢◌, ℕ, ◌+◌, ◌*◌, ◌^◌, ◌<◌, ◌≤◌, nat_le, length, replicate, slice_index, slice_set, IfOk, MatchOption};
 ghost use Rattle.std.specs.List.{position};
 ghost use Rattle.max_tree.specs.Pages.{largest};
 
@@ -16,7 +16,7 @@ pub struct MaxTree {
 
 // Clauses see the row.
 impl Model for MaxTree {
-    ghost use Rattle.std.specs.Prelude.{◌≡◌, ℕ, ◌+◌, ◌^◌, List, length};
+    ghost use Rattle.std.specs.Prelude.{◌≡◌, ℕ, ◌+◌, ◌*◌, ◌^◌, List, length};
     ghost use Rattle.max_tree.specs.Nodes.{leaves, AreMaxima};
 
     ghost Value = { List ℕ };
@@ -38,6 +38,7 @@ pub fn zeros(alloc: Global, count: usize) -> Result<Vec<u32>, AllocError>
 fn depth_for(count: usize) -> u32
     requires { count ≤ 2 ^ 31 }
     ensures enough { count ≤ 2 ^ result }
+    ensures few { 2 ^ result ≤ 2 * count + 1 }
     ensures low { result < 32 }
 {
     let mut depth = 0;
@@ -52,6 +53,7 @@ impl MaxTree {
     pub fn new(alloc: Global, count: usize) -> Result<MaxTree, AllocError>
         requires { count ≤ 2 ^ 31 }
         ensures enough { IfOk result (λ row. count ≤ length row) }
+        ensures few { IfOk result (λ row. length row ≤ 2 * count + 1) }
         ensures zeros { IfOk result (λ row. (i : ℕ) → slice_index row i ≡ 0) }
     {
         let depth = depth_for(count);
@@ -64,6 +66,13 @@ impl MaxTree {
         ensures { result ≡ length self.now }
     {
         nodes::count_leaves(self.nodes.as_slice())
+    }
+
+    // How many nodes there are: two for each number.
+    pub fn weight(&self) -> usize
+        ensures { result ≡ length self.now + length self.now }
+    {
+        self.nodes.len()
     }
 
     // The number at `p`.

@@ -224,11 +224,24 @@ fn finds_numbers_of_pairs(rt: HostRuntime) -> Result<(), Fail> {
     Ok(())
 }
 
+// A count of numbers, and for how many a row of them has memory: each number, and two for each page
+// of 32, where the pages are as many as the next power of two.
+const WEIGHTS: [(usize, usize); 7] = [
+    (0, 2),
+    (1, 3),
+    (32, 34),
+    (33, 37),
+    (1024, 1088),
+    (1025, 1153),
+    (2048, 2176),
+];
+
 #[test]
 fn counts_numbers(rt: HostRuntime) -> Result<(), Fail> {
-    for count in [0, 1, 32, 33, 1000] {
+    for (count, weight) in WEIGHTS {
         let row = MaxRow::new(rt.alloc(), count)?;
         assert_eq!(rt; row.len(), count);
+        assert_eq!(rt; row.weight(), weight);
     }
     Ok(())
 }

@@ -1,6 +1,6 @@
 -- Places of live blocks after a block was taken, given or kept.
-use Rattle.std.proofs.Common.{◌≡◌, ◌≢◌, inl, inr, ℕ, zero, suc, ◌+◌, ◌-◌, ◌<◌, ◌≤◌, true, false, max, min, eqb, ltb, ◌||◌, Option, Some, None, List, [], ◌∷◌, ◌++◌, length, get_or, set, refl, sym, ap, ◌∙◌, subst, length-append, arith}
-use Rattle.std.proofs.lemmas.Bool.{lt-ltb, ltb-true, ltb-false, eqb-true, eq-eqb, or_right, cases_Bool, false≢true}
+use Rattle.std.proofs.Common.{◌≡◌, ◌≢◌, inl, inr, ℕ, ◌+◌, ◌<◌, ◌≤◌, true, false, max, min, eqb, ltb, Option, Some, None, List, [], ◌∷◌, ◌++◌, length, get_or, set, sym, ap, ◌∙◌, subst, length-append, arith}
+use Rattle.std.proofs.lemmas.Bool.{lt-ltb, ltb-true, ltb-false, eqb-true, eq-eqb, cases_Bool, false≢true}
 use Rattle.std.proofs.lemmas.List.{get_or_append_left, get_or-set_same, get_or-set_other, length-set}
 use Rattle.std.specs.List.{Contains}
 use Rattle.std.proofs.Math.Seq.{get_or-append_seam}
@@ -10,6 +10,7 @@ use Rattle.seg_words.specs.Windows.{has}
 use Rattle.std.specs.Option.{IfSome, IfNone}
 use Rattle.sma_blocks.specs.Live.{IsLive, live_blocks, with_block, without_block}
 use Rattle.sma_blocks.specs.Ready.{AreBlocks}
+use Rattle.sma_blocks.proofs.Keeping.{index_has, rises, blocks_low}
 use Rattle.sma_bench.specs.Listed.{AreLive, AreListed}
 
 -- where all blocks stay, so do those that are listed
@@ -28,12 +29,6 @@ live_push blocks places at live there = λ i low. elim (cases_Bool (ltb i (lengt
         let end : i ≡ length places = omega (arith, length-append places (at ∷ [])) in
         subst (λ n. IsLive blocks (get_or (places ++ at ∷ []) n 0)) (sym end) (subst (IsLive blocks) (sym (get_or-append_seam places at [] 0)) there)
 
--- each block has two words or more
-pub size_enough : (ws : List ℕ) (low : ℕ) (es : List Extent) (high : ℕ) → AreBlocks ws low es high → (e : Extent) → Contains es e → 2 ≤ e.size
-size_enough ws low [] high h e (k, lt, is) = absurd (omega arith)
-size_enough ws low (x ∷ es) high h e (zero, lt, is) = subst (λ (v : Extent). 2 ≤ v.size) is h.1
-size_enough ws low (x ∷ es) high h e (suc k, lt, is) = size_enough ws (x.place + x.size) es high h.3 e (k, omega arith, is)
-
 -- no block begins where words are free
 pub fresh : (ws : List ℕ) (low : ℕ) (es : List Extent) (high at n : ℕ) → AreBlocks ws low es high → 1 ≤ n
     → ((e : Extent) → Contains es e → meets at n e ≡ true → is_free at n es ≡ false)
@@ -41,7 +36,7 @@ pub fresh : (ws : List ℕ) (low : ℕ) (es : List Extent) (high at n : ℕ) →
 fresh ws low es high at n blocks some taken free p live same =
     let e : Extent = record { place = at; size = live.0 } in
     let there : Contains es e = subst (λ q. Contains es (record { place = q; size = live.0 })) (sym same) live.1 in
-    let two : 2 ≤ live.0 = size_enough ws low es high blocks e there in
+    let two : 2 ≤ live.0 = (blocks_low ws low es high e blocks there).1 in
     let met : meets at n e ≡ true = lt-ltb (max at at) (min (at + n) (at + live.0)) (omega (arith, two, some)) in
     false≢true (sym (taken e there met) ∙ free)
 
@@ -89,25 +84,9 @@ paired old left new places k at low h stays kept now apart = record { live = liv
       ]
     ]
 
--- a place that stands in the list
-pub has_at : (places : List ℕ) (i : ℕ) → i < length places → has (get_or places i 0) places ≡ true
-has_at [] i low = absurd (omega arith)
-has_at (x ∷ xs) zero low = ap (λ b. b || has x xs) (eq-eqb x x refl)
-has_at (x ∷ xs) (suc i) low = or_right (eqb (get_or xs i 0) x) (has (get_or xs i 0) xs) (has_at xs i (omega arith))
-
 -- places that rise are those of different blocks
-rises : (places : List ℕ) → ((i : ℕ) → i + 1 < length places → get_or places i 0 < get_or places (i + 1) 0) → (i d : ℕ) → i + suc d < length places → get_or places i 0 < get_or places (i + suc d) 0
-rises places rising i zero low = omega (arith, rising i (omega arith))
-rises places rising i (suc d) low =
-    let step = rising (i + suc d) (omega arith) in
-    let far : (i + suc d) + 1 ≡ i + suc (suc d) = omega arith in
-    omega (arith, rises places rising i d (omega arith), subst (λ n. get_or places (i + suc d) 0 < get_or places n 0) far step)
-
 apart_rising : (places : List ℕ) → ((i : ℕ) → i + 1 < length places → get_or places i 0 < get_or places (i + 1) 0) → (i j : ℕ) → j < length places → i < j → get_or places i 0 ≢ get_or places j 0
-apart_rising places rising i j lj lt same =
-    let far : i + suc (j - (i + 1)) ≡ j = omega (arith, lt) in
-    let less = rises places rising i (j - (i + 1)) (omega (arith, lj, lt)) in
-    omega (arith, same, subst (λ n. get_or places i 0 < get_or places n 0) far less)
+apart_rising places rising i j lj lt same = omega (arith, same, rises places rising j i lt lj)
 
 -- the places that are kept are listed
 pub kept_listed : (old new : List Extent) (places : List ℕ) → AreLive old places
@@ -115,7 +94,7 @@ pub kept_listed : (old new : List Extent) (places : List ℕ) → AreLive old pl
     → ((other : Extent) → Contains old other → has other.place places ≡ true → Contains new other)
     → AreListed new places
 kept_listed old new places live rising stays = record {
-  live = λ i low. let l = live i low in (l.0, stays (record { place = get_or places i 0; size = l.0 }) l.1 (has_at places i low));
+  live = λ i low. let l = live i low in (l.0, stays (record { place = get_or places i 0; size = l.0 }) l.1 (index_has places i low));
   apart = alone;
 }
   where

@@ -4,9 +4,44 @@ ghost use Rattle.sma_blocks.specs.Live.{live_blocks};
 ghost use Rattle.sma_blocks.specs.Ready.{IsReady};
 ghost use Rattle.sma_bench.specs.Listed.{AreListed};
 
+use crate::clock::since;
 use crate::fill::BLOCK;
 use seg_words::{Segment, fit_laws, gap_laws};
 use sma_blocks::{Sma, block_laws, list_laws};
+use std::io;
+use std::time::Instant;
+
+// How often each kind of pair is measured.
+const TIMES: u32 = 40;
+// How many pairs are measured at once.
+const PAIRS: u32 = 5000;
+
+/// The nanoseconds of a pair among the first 64 blocks of the list, and of one among all: the best
+/// of several times.
+pub fn time_pairs<S: Segment>(
+    rt: &HostRuntime,
+    sma: &mut Sma,
+    seg: &mut S,
+    places: &mut Vec<u32>,
+) -> io::Result<[u64; 2]>
+    requires ready { IsReady sma.old (S.words seg.old) (S.aside seg.old) }
+    requires closed { (at : ℕ) → is_named (S.aside seg.old).windows at ≡ false }
+    requires listed { AreListed (live_blocks (S.words seg.old) sma.old.from) places.old.items }
+{
+    let mut near = u64::MAX;
+    let mut far = u64::MAX;
+    let all = places.len();
+    let mut state = 1;
+    for _ in 0..TIMES {
+        let start = Instant::now(rt)?;
+        state = pairs(sma, seg, places, 64, PAIRS, state);
+        near = near.min(since(rt, start)?);
+        let start = Instant::now(rt)?;
+        state = pairs(sma, seg, places, all, PAIRS, state);
+        far = far.min(since(rt, start)?);
+    }
+    Ok([near / u64::from(PAIRS), far / u64::from(PAIRS)])
+}
 
 /// The next number of a linear congruential generator.
 pub fn drawn(state: u64) -> u64 {
@@ -15,9 +50,9 @@ pub fn drawn(state: u64) -> u64 {
         .wrapping_add(1442695040888963407)
 }
 
-/// Gives a block and takes one of its size, so many times: a random one of the first so many blocks
-/// of the list. Says the state of the random numbers.
-pub fn pairs<S: Segment>(
+// Gives a block and takes one of its size, so many times: a random one of the first so many blocks
+// of the list. Says the state of the random numbers.
+fn pairs<S: Segment>(
     sma: &mut Sma,
     seg: &mut S,
     places: &mut Vec<u32>,

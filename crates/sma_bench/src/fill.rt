@@ -5,18 +5,21 @@ ghost use Rattle.sma_blocks.specs.Live.{live_blocks};
 ghost use Rattle.sma_blocks.specs.Ready.{IsReady};
 ghost use Rattle.sma_bench.specs.Listed.{AreLive, AreListed};
 
+use crate::clock::since;
 use seg_words::Segment;
 use sma_blocks::{Sma, list_laws};
 use std::alloc::{AllocError, Global};
+use std::io;
+use std::time::Instant;
 
 /// How many words a block has.
 pub const BLOCK: u32 = 12;
 /// How many words a gap has that is made between blocks: too few for a block.
 pub const GAP: u32 = 4;
 
-/// Takes three blocks for each unit, and in every so many units another one before the third, which
-/// is not listed.
-pub fn fill<S: Segment>(
+// Takes three blocks for each unit, and in every so many units another one before the third, which
+// is not listed.
+fn fill<S: Segment>(
     sma: &mut Sma,
     seg: &mut S,
     places: &mut Vec<u32>,
@@ -80,8 +83,8 @@ fn leave<S: Segment>(sma: &mut Sma, seg: &mut S, places: &[u32], n: u32)
     let _taken = sma.take(seg, n);
 }
 
-/// Whether each place but the first lies past the one before.
-pub fn are_rising(places: &[u32]) -> bool
+// Whether each place but the first lies past the one before.
+fn are_rising(places: &[u32]) -> bool
     ensures { result ≡ true → (i : ℕ) → i + 1 < length places.now
         → slice_index places.now i < slice_index places.now (i + 1) }
 {
@@ -95,8 +98,8 @@ pub fn are_rising(places: &[u32]) -> bool
     true
 }
 
-/// Keeps the blocks at these places, and makes gaps of all else.
-pub fn keep_listed<S: Segment>(sma: &mut Sma, seg: &mut S, places: &[u32])
+// Keeps the blocks at these places, and makes gaps of all else.
+fn keep_listed<S: Segment>(sma: &mut Sma, seg: &mut S, places: &[u32])
     requires ready { IsReady sma.old (S.words seg.old) (S.aside seg.old) }
     requires closed { (at : ℕ) → is_named (S.aside seg.old).windows at ≡ false }
     requires live { AreLive (live_blocks (S.words seg.old) sma.old.from) places.now }
@@ -108,6 +111,26 @@ pub fn keep_listed<S: Segment>(sma: &mut Sma, seg: &mut S, places: &[u32])
 {
     list_laws();
     sma.keep(seg, places);
+}
+
+/// The nanoseconds of keeping the blocks at these places, or the largest number where they do not
+/// rise.
+pub fn time_keep<S: Segment>(
+    rt: &HostRuntime,
+    sma: &mut Sma,
+    seg: &mut S,
+    places: &[u32],
+) -> io::Result<u64>
+    requires ready { IsReady sma.old (S.words seg.old) (S.aside seg.old) }
+    requires closed { (at : ℕ) → is_named (S.aside seg.old).windows at ≡ false }
+    requires live { AreLive (live_blocks (S.words seg.old) sma.old.from) places.now }
+{
+    if !are_rising(places) {
+        return Ok(u64::MAX);
+    }
+    let start = Instant::now(rt)?;
+    keep_listed(sma, seg, places);
+    since(rt, start)
 }
 
 /// Takes blocks as `fill` does, and keeps those that it lists; whether it did so.

@@ -7,27 +7,14 @@
 ghost use Rattle.std.specs.Prelude.{◌≡◌, ◌+◌, ◌*◌, ◌%◌, ◌/◌, ◌^◌, ◌<◌, ◌≤◌};
 
 mod churn;
+mod clock;
 mod fill;
 mod walk;
 
 use max_tree::MaxRow;
 use seg_words::VecWords;
 use sma_blocks::Sma;
-use std::time::Instant;
 use std::{env, io};
-
-/// How often each kind of pair is measured.
-const TIMES: u32 = 40;
-/// How many pairs are measured at once by the index, and how many by the walk.
-const PAIRS: u32 = 5000;
-
-const WALKS: u32 = 4;
-
-// The nanoseconds since a moment.
-fn since(rt: &HostRuntime, start: Instant) -> io::Result<u64> {
-    let spent = start.elapsed(rt)?.as_nanos();
-    Ok(u64::try_from(spent).unwrap_or(u64::MAX))
-}
 
 // The nanoseconds of a pair near the front, of one anywhere, and of one anywhere by a walk: the best
 // of several times.
@@ -46,32 +33,12 @@ fn measure_pairs(
     let mut seg = VecWords::new(rt.alloc(), words)?;
     let mut sma = Sma::format(&mut seg, from, row);
     let mut places = Vec::new(rt.alloc());
-    let mut near = u64::MAX;
-    let mut far = u64::MAX;
-    let mut walk = u64::MAX;
     if !fill::lay_out(&mut sma, &mut seg, &mut places, units, every)? {
-        return Ok([near, far, walk]);
+        return Ok([u64::MAX; 3]);
     }
-    let all = places.len();
-    let mut state = 1;
-    for _ in 0..TIMES {
-        let start = Instant::now(rt)?;
-        state = churn::pairs(&mut sma, &mut seg, &mut places, 64, PAIRS, state);
-        near = near.min(since(rt, start)?);
-        let start = Instant::now(rt)?;
-        state = churn::pairs(&mut sma, &mut seg, &mut places, all, PAIRS, state);
-        far = far.min(since(rt, start)?);
-    }
-    for _ in 0..TIMES {
-        let start = Instant::now(rt)?;
-        state = walk::pairs_by_walk(&mut seg, from, places.as_mut_slice(), WALKS, state);
-        walk = walk.min(since(rt, start)?);
-    }
-    Ok([
-        near / u64::from(PAIRS),
-        far / u64::from(PAIRS),
-        walk / u64::from(WALKS),
-    ])
+    let [near, far] = churn::time_pairs(rt, &mut sma, &mut seg, &mut places)?;
+    let walk = walk::time_walk(rt, &mut seg, from, places.as_mut_slice())?;
+    Ok([near, far, walk])
 }
 
 // The nanoseconds of keeping 64 of the blocks.
@@ -88,12 +55,7 @@ fn measure_keep(rt: &HostRuntime, words: u32, from: u32, units: u32, every: u32)
         return Ok(u64::MAX);
     }
     let few = fill::every_so_many(rt.alloc(), places.as_slice(), places.len() / 64 + 1)?;
-    if !fill::are_rising(few.as_slice()) {
-        return Ok(u64::MAX);
-    }
-    let start = Instant::now(rt)?;
-    fill::keep_listed(&mut sma, &mut seg, few.as_slice());
-    since(rt, start)
+    fill::time_keep(rt, &mut sma, &mut seg, few.as_slice())
 }
 
 fn main(rt: HostRuntime) -> io::Result<()> {

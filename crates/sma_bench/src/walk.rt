@@ -3,8 +3,16 @@
 ghost use Rattle.std.specs.Prelude.{◌≡◌, ◌<◌, ◌≤◌, ◌^◌, length};
 
 use crate::churn::drawn;
+use crate::clock::since;
 use crate::fill::BLOCK;
 use seg_words::{Segment, VecWords, WordsIn};
+use std::io;
+use std::time::Instant;
+
+// How often the pairs are measured.
+const TIMES: u32 = 40;
+// How many pairs are measured at once.
+const PAIRS: u32 = 4;
 
 // What begins at a place.
 #[derive(Clone, Copy)]
@@ -83,8 +91,25 @@ fn take(words: &mut VecWords, from: u32, n: u64) -> Option<u32>
     None
 }
 
-/// Gives a block and takes one of its size, so many times, each by a walk.
-pub fn pairs_by_walk(
+/// The nanoseconds of a pair by a walk: the best of several times.
+pub fn time_walk(
+    rt: &HostRuntime,
+    words: &mut VecWords,
+    from: u32,
+    places: &mut [u32],
+) -> io::Result<u64> {
+    let mut best = u64::MAX;
+    let mut state = 1;
+    for _ in 0..TIMES {
+        let start = Instant::now(rt)?;
+        state = pairs_by_walk(words, from, places, PAIRS, state);
+        best = best.min(since(rt, start)?);
+    }
+    Ok(best / u64::from(PAIRS))
+}
+
+// Gives a block and takes one of its size, so many times, each by a walk.
+fn pairs_by_walk(
     words: &mut VecWords,
     from: u32,
     places: &mut [u32],

@@ -7,7 +7,8 @@ use Rattle.sma_blocks.specs.Pieces.{Piece, pieces, IsPieceAt, Fill, gaps_touch, 
 use Rattle.sma_blocks.specs.Live.{lives}
 use Rattle.sma_blocks.specs.Walk.{IsEdge, ends_in_gap, IsFreeBefore}
 use Rattle.sma_blocks.proofs.Filling.{Fill-le, pieces-filled, edge_whole}
-use Rattle.sma_blocks.proofs.Lives.{extent_of, Contains-cases}
+use Rattle.sma_blocks.proofs.Lives.{extent_of}
+use Rattle.seg_words.specs.Members.{Contains-cases}
 use Rattle.sma_blocks.proofs.Merging.{merged_front, merged_back, merged_gap}
 use Rattle.sma_blocks.proofs.Places.{Fill-even}
 use Rattle.sma_blocks.specs.Index.{here, size_at, IsIndexed}

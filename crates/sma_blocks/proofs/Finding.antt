@@ -1,9 +1,8 @@
 -- The gap that the index finds is the first one that is large enough.
-use Rattle.std.proofs.Common.{◌≡◌, ◌≢◌, ◌⊎◌, inl, inr, ℕ, ◌+◌, ◌/◌, ◌%◌, ◌<◌, ◌≤◌, Bool, true, false, not, eqb, ◌&&◌, cond, ltb, List, [], ◌∷◌, ◌++◌, length, get_or, Some, None, refl, sym, ap, ap₂, ◌∙◌, subst, arith}
+use Rattle.std.proofs.Common.{◌≡◌, ◌≢◌, ◌⊎◌, inl, inr, ℕ, ◌+◌, ◌/◌, ◌%◌, ◌<◌, ◌≤◌, Bool, true, false, not, eqb, ◌&&◌, cond, List, [], ◌∷◌, ◌++◌, length, get_or, Some, None, refl, sym, ap, ap₂, ◌∙◌, subst, arith}
 use Rattle.std.specs.Prelude.{nat_le}
-use Rattle.std.specs.List.{position, position_or_len}
-use Rattle.std.proofs.lemmas.List.Sums.{fails_before_first}
-use Rattle.std.proofs.lemmas.Bool.{cases_lt, cases_eq, cases_Bool, leb-true, leb-false, lt-ltb, false_from_ne_true}
+use Rattle.std.specs.List.{position}
+use Rattle.std.proofs.lemmas.Bool.{cases_lt, cases_eq, cases_Bool, leb-true, leb-false, false_from_ne_true}
 use Rattle.std.proofs.lemmas.Bool.Decides.{nat_tests}
 use Rattle.std.proofs.lemmas.List.{get_or_past}
 use Rattle.std.proofs.lemmas.List.Quantifiers.{position-Some}
@@ -17,6 +16,7 @@ use Rattle.sma_blocks.specs.Walk.{IsEdge}
 use Rattle.sma_blocks.proofs.Filling.{Fill-le, Fill-append, pieces-filled, edge_start}
 use Rattle.sma_blocks.proofs.Places.{FitParts, FitNone, Fill-even, none_in_block, none_in_gap, none_fits}
 use Rattle.sma_blocks.proofs.Taking.{Room}
+use Rattle.max_tree.proofs.Paging.{position_None}
 use Rattle.sma_blocks.specs.Index.{here, size_at, IsIndexed}
 
 pub here_other : (p : Piece) (q : ℕ) → p.place ≢ q → here p q ≡ 0
@@ -121,16 +121,6 @@ module _ (parts : FitParts) (ws : List ℕ) (from to n : ℕ) (formatted : IsFor
         | inr gap ↦ inr (gap, omega (arith, small a even, here_gap p a place gap))
       ] in
       find_none ps (a + p.size) (edge_behind ws from a p ps h filled) behind (pass a p ps h is place passed none) (λ q e. omega (arith, small q e))
-
--- none passes where there is no position
-position_None : (p : ℕ → Bool) (xs : List ℕ) → position p xs ≡ None → (k : ℕ) → k < length xs → p (get_or xs k 0) ≡ false
-position_None p xs nowhere k inside = elim (cases_lt (position_or_len p xs) (length xs)) [
-  | inl found ↦
-      let t : ltb (position_or_len p xs) (length xs) ≡ true = lt-ltb _ _ found in
-      let is : position p xs ≡ Some (position_or_len p xs) = rw t refl in
-      cc
-  | inr past ↦ fails_before_first p xs k 0 (omega arith)
-]
 
 below_first : FitParts → (from to n b : ℕ) (es : List Extent) → b < from → fits from to n es b ≡ false
 below_first parts from to n b es lt =

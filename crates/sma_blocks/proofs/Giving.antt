@@ -13,7 +13,8 @@ use Rattle.sma_blocks.specs.Ready.{NameLive}
 use Rattle.sma_blocks.specs.Walk.{IsEdge, ends_in_gap, IsFreeBefore, IsFreeAfter, merged_words}
 use Rattle.sma_blocks.proofs.Storing.{merged_count, merged_first, merged_other}
 use Rattle.sma_blocks.proofs.Filling.{Fill-le, Fill-append, pieces-filled, edge_whole}
-use Rattle.sma_blocks.proofs.Lives.{extent_of, lives-append, lives_between, Contains-cases, without_block_between}
+use Rattle.sma_blocks.proofs.Lives.{extent_of, lives-append, lives_between, without_block_between}
+use Rattle.seg_words.specs.Members.{Contains-cases}
 use Rattle.sma_blocks.proofs.Naming.{between, may_store, names_less, ready_from}
 use Rattle.sma_blocks.proofs.Merging.{merged_front, merged_back, merged_after, merged_join, merged_gap, merged_live}
 use Rattle.sma_blocks.proofs.Places.{blocks_at, Fill-even, piece_seen}
@@ -42,6 +43,10 @@ pub live_inside : (span : Span) (ws : List ℕ) (aside : Aside) (at : ℕ) → I
 live_inside span ws aside at h live =
     let b = lives_between ws span.from (pieces ws span.from) (length ws) (record { place = at; size = live.0 }) h.formatted.full live.1 in
     (b.0, omega (arith, b.1, b.2, h.end))
+
+-- the words before are as free where the words were only read
+pub free_seen : {seen ws : List ℕ} (from first at : ℕ) → seen ≡ ws → IsFreeBefore seen from first at → IsFreeBefore ws from first at
+free_seen from first at same free = subst (λ xs. IsFreeBefore xs from first at) same free
 
 pub before_edge : (ws : List ℕ) (from first place : ℕ) → IsFreeBefore ws from first place → IsEdge ws from place
 before_edge ws from first place h = record { passed = h.front ++ h.tail; before = Fill-append ws from h.front first h.tail place h.before h.between; after = h.after }

@@ -17,7 +17,8 @@ use Rattle.sma_blocks.specs.Order.{lives_stand, ready_blocks}
 use Rattle.sma_blocks.specs.Walk.{merged_words}
 use Rattle.sma_blocks.proofs.Spans.{IsFilled, span_of}
 use Rattle.sma_blocks.proofs.Filling.{Fill-le, pieces-end, pieces-filled, edge_start}
-use Rattle.sma_blocks.proofs.Lives.{extent_of, lives_between, Contains-cases, Contains-first, Contains-later, meets_apart}
+use Rattle.sma_blocks.proofs.Lives.{extent_of, lives_between, meets_apart}
+use Rattle.seg_words.specs.Members.{Contains-cases, Contains-first, Contains-later, Contains-filter, Contains-kept, filter_alike, filter_none}
 use Rattle.sma_blocks.proofs.Merging.{merged_after, live_after_gap}
 use Rattle.sma_blocks.proofs.Naming.{Between, names_same, may_store, told_at_edge, ready_from}
 use Rattle.sma_blocks.proofs.Stored.{lives_apart}
@@ -30,43 +31,6 @@ use Rattle.sma_blocks.proofs.Before.{edge_of_live}
 use Rattle.sma_blocks.proofs.Readying.{ready_by}
 
 -- lists
-filter_alike : (p q : Extent → Bool) (xs : List Extent) → ((e : Extent) → Contains xs e → p e ≡ q e) → filter p xs ≡ filter q xs
-filter_alike p q [] h = refl
-filter_alike p q (x ∷ xs) h =
-    let first : p x ≡ q x = h x (Contains-first x xs) in
-    let rest = filter_alike p q xs (λ e c. h e (Contains-later x xs e c)) in
-    ap (λ (b : Bool). cond b (x ∷ filter p xs) (filter p xs)) first ∙ ap (λ (ys : List Extent). cond (q x) (x ∷ ys) ys) rest
-
-filter_none : (p : Extent → Bool) (xs : List Extent) → ((e : Extent) → Contains xs e → p e ≡ false) → filter p xs ≡ []
-filter_none p [] h = refl
-filter_none p (x ∷ xs) h =
-    ap (λ (b : Bool). cond b (x ∷ filter p xs) (filter p xs)) (h x (Contains-first x xs)) ∙ filter_none p xs (λ e c. h e (Contains-later x xs e c))
-
-pub filter_in : (p : Extent → Bool) (xs : List Extent) (e : Extent) → Contains xs e → p e ≡ true → Contains (filter p xs) e
-filter_in p [] e c t = absurd (omega (arith, c.1))
-filter_in p (x ∷ xs) e c t = go (p x) refl (λ d. filter_in p xs e d t)
-  where
-    go : (b : Bool) → p x ≡ b → (Contains xs e → Contains (filter p xs) e) → Contains (cond b (x ∷ filter p xs) (filter p xs)) e
-    go true is rest = elim (Contains-cases x xs e c) [
-      | inl same ↦ subst (λ (y : Extent). Contains (x ∷ filter p xs) y) same (Contains-first x (filter p xs))
-      | inr later ↦ Contains-later x (filter p xs) e (rest later)
-    ]
-    go false is rest = elim (Contains-cases x xs e c) [
-      | inl same ↦ absurd (false≢true (sym is ∙ (ap p same ∙ t)))
-      | inr later ↦ rest later
-    ]
-
-pub filter_of : (p : Extent → Bool) (xs : List Extent) (e : Extent) → Contains (filter p xs) e → Contains xs e × (p e ≡ true)
-filter_of p [] e c = absurd (omega (arith, c.1))
-filter_of p (x ∷ xs) e c = go (p x) refl c (λ d. filter_of p xs e d)
-  where
-    go : (b : Bool) → p x ≡ b → Contains (cond b (x ∷ filter p xs) (filter p xs)) e → (Contains (filter p xs) e → Contains xs e × (p e ≡ true)) → Contains (x ∷ xs) e × (p e ≡ true)
-    go true is d rest = elim (Contains-cases x (filter p xs) e d) [
-      | inl same ↦ (subst (λ (y : Extent). Contains (x ∷ xs) y) same (Contains-first x xs), sym (ap p same) ∙ is)
-      | inr later ↦ let r = rest later in (Contains-later x xs e r.0, r.1)
-    ]
-    go false is d rest = let r = rest d in (Contains-later x xs e r.0, r.1)
-
 has_index : (x : ℕ) (xs : List ℕ) → has x xs ≡ true → (k : ℕ) × (k < length xs) × (get_or xs k 0 ≡ x)
 has_index x [] h = absurd (false≢true h)
 has_index x (y ∷ ys) h = elim (cases_eq x y) [
@@ -76,12 +40,12 @@ has_index x (y ∷ ys) h = elim (cases_eq x y) [
       let r = has_index x ys later in (suc r.0, omega (arith, r.1), r.2)
 ]
 
-index_has : (xs : List ℕ) (k : ℕ) → k < length xs → has (get_or xs k 0) xs ≡ true
+pub index_has : (xs : List ℕ) (k : ℕ) → k < length xs → has (get_or xs k 0) xs ≡ true
 index_has [] k inside = absurd (omega arith)
 index_has (y ∷ ys) zero inside = or_left (eqb y y) (has y ys) (eq-eqb y y refl)
 index_has (y ∷ ys) (suc k) inside = or_right (eqb (get_or ys k 0) y) (has (get_or ys k 0) ys) (index_has ys k (omega arith))
 
-rises : (xs : List ℕ) → ((i : ℕ) → i + 1 < length xs → get_or xs i 0 < get_or xs (i + 1) 0) → (j k : ℕ) → k < j → j < length xs → get_or xs k 0 < get_or xs j 0
+pub rises : (xs : List ℕ) → ((i : ℕ) → i + 1 < length xs → get_or xs i 0 < get_or xs (i + 1) 0) → (j k : ℕ) → k < j → j < length xs → get_or xs k 0 < get_or xs j 0
 rises xs up zero k low inside = absurd (omega arith)
 rises xs up (suc j) k low inside =
     let step : get_or xs j 0 < get_or xs (suc j) 0 = (let e : j + 1 ≡ suc j = omega arith in omega (arith, up j (omega arith), ap (λ (n : ℕ). get_or xs n 0) e)) in
@@ -91,7 +55,7 @@ rises xs up (suc j) k low inside =
     ]
 
 -- blocks
-blocks_low : (ws : List ℕ) (low : ℕ) (es : List Extent) (high : ℕ) (f : Extent) → AreBlocks ws low es high → Contains es f → (low ≤ f.place) × (2 ≤ f.size) × (slice_index ws f.place ≡ f.size)
+pub blocks_low : (ws : List ℕ) (low : ℕ) (es : List Extent) (high : ℕ) (f : Extent) → AreBlocks ws low es high → Contains es f → (low ≤ f.place) × (2 ≤ f.size) × (slice_index ws f.place ≡ f.size)
 blocks_low ws low [] high f h c = absurd (omega (arith, c.1))
 blocks_low ws low (e ∷ es) high f h c = elim (Contains-cases e es f c) [
   | inl same ↦
@@ -159,7 +123,7 @@ past_same old places from first end between lt ordered = filter_alike (λ (b : E
       and_left (has e.place places) (leb first e.place) none ∙ sym (and_left (has e.place places) (leb end e.place) none)
   | inl kept ↦
       let wide = (blocks_low old from (live_blocks old from) (length old) e ordered c).1 in
-      ap (λ (b : Bool). has e.place places && b) (elim (between e (filter_in (λ (b : Extent). has b.place places) (live_blocks old from) e c kept)) [
+      ap (λ (b : Bool). has e.place places && b) (elim (between e (Contains-kept (λ (b : Extent). has b.place places) (live_blocks old from) e c kept)) [
         | inl l ↦ lt-leb first e.place (omega arith) ∙ sym (lt-leb end e.place (omega arith))
         | inr r ↦ le-leb first e.place (omega arith) ∙ sym (le-leb end e.place r)
       ])
@@ -303,7 +267,7 @@ laid_start sma ws aside places sizes ready named zeros =
       inside = λ j taken. refl;
       names = λ at is.
           let held = ready.windows at is in
-          record { size = held.size; live = filter_in (λ (b : Extent). has b.place places) (live_blocks ws sma.from) (record { place = at; size = held.size }) held.live (named at is); inside = held.inside };
+          record { size = held.size; live = Contains-kept (λ (b : Extent). has b.place places) (live_blocks ws sma.from) (record { place = at; size = held.size }) held.live (named at is); inside = held.inside };
       full = subst (λ (ps : List Piece). Fill ws sma.to ps (length ws)) (sym none) ready.end;
       merged = ap (gaps_touch true) none;
       blocks = ap lives none ∙ sym (filter_none (λ (b : Extent). has b.place places && leb sma.to b.place) (live_blocks ws sma.from) (λ e c.
@@ -356,7 +320,7 @@ next_block sma ws aside places i end at ready lives_all up inside is spread =
       fits = fits;
       kept = ap (λ (x : ℕ). has x places) is ∙ index_has places i inside;
       between = λ f c.
-          let f_live = filter_of (λ (b : Extent). has b.place places) (live_blocks ws sma.from) f c in
+          let f_live = Contains-filter (λ (b : Extent). has b.place places) (live_blocks ws sma.from) f c in
           let k = has_index f.place places f_live.1 in
           let f_bounds = lives_between ws sma.from (pieces ws sma.from) (length ws) f full f_live.0 in
           elim (cases_lt i k.0) [
@@ -396,7 +360,7 @@ next_block sma ws aside places i end at ready lives_all up inside is spread =
 pub last_between : (sma : Sma) (ws : List ℕ) (places : List ℕ) (i end : ℕ) → i ≡ 0 → Spread places (live_blocks ws sma.from) i end → Between (kept_blocks places (live_blocks ws sma.from)) sma.from end
 unfolding Between
 last_between sma ws places i end is spread = λ f c.
-    let f_live = filter_of (λ (b : Extent). has b.place places) (live_blocks ws sma.from) f c in
+    let f_live = Contains-filter (λ (b : Extent). has b.place places) (live_blocks ws sma.from) f c in
     let k = has_index f.place places f_live.1 in
     inr (omega (arith, spread.upper k.0 (omega arith) k.1, k.2))
 

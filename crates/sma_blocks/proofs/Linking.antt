@@ -8,7 +8,8 @@ use Rattle.sma_blocks.specs.Live.{lives, gaps}
 use Rattle.sma_blocks.specs.Index.{here, size_at}
 use Rattle.sma_blocks.specs.Chain.{IsChain, AreLinked}
 use Rattle.sma_blocks.proofs.Filling.{Fill-le}
-use Rattle.sma_blocks.proofs.Lives.{extent_of, lives_between, Contains-cases}
+use Rattle.sma_blocks.proofs.Lives.{extent_of, lives_between}
+use Rattle.seg_words.specs.Members.{Contains-cases}
 use Rattle.sma_blocks.proofs.Finding.{here_other, here_live, here_gap, size_outside}
 
 -- a chain over two parts

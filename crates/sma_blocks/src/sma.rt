@@ -125,11 +125,13 @@ impl Sma {
             (free_runs self.new.from self.new.to (live_blocks (S.words seg.new) self.new.from)) }
         ensures beside { KeptBeside S.WordsIn seg.old seg.new }
     {
-        let before = self.sizes.last_nonzero_before(at as usize / 2);
-        let first = self.free_before(seg, before, at);
+        // The words of the block first: they are the farthest from the processor, and come while
+        // the index is read.
         let given = self.part_at(seg, at);
         let end = at + given.size;
         let last = self.free_after(seg, end);
+        let before = self.sizes.last_nonzero_before(at as usize / 2);
+        let first = self.free_before(seg, before, at);
         let next = next_of(seg, self.head, before, at, first, end, last);
         join(&mut self.sizes, first, end, last);
         self.free += given.size;

@@ -18,17 +18,6 @@ with_block-insert e d (x ∷ xs) (suc i) within before after =
     let not_past : ltb e.place x.place ≡ false = le-ltb e.place x.place (before 0 (omega arith)) in
     rw not_past (ap (λ ys. x ∷ ys) (with_block-insert e d xs i (omega arith) (λ k lt. before (suc k) (omega arith)) (λ lt. after (omega arith))))
 
-flip : (a b : ℕ) → eqb a b ≡ eqb b a
-flip a b = elim (cases_Bool (eqb a b)) [
-  | inl t ↦ t ∙ sym (eq-eqb b a (sym (eqb-true a b t)))
-  | inr f ↦ f ∙ sym (false_from_ne_true (eqb b a) (λ t. false≢true (sym f ∙ eq-eqb a b (sym (eqb-true b a t)))))
-]
-
--- whether a place is among some, as std's search tells it
-pub any_has : (x : ℕ) (l : List ℕ) → list_any (λ y. eqb y x) l ≡ has x l
-any_has x [] = refl
-any_has x (y ∷ ys) = ap (λ b. b || list_any (λ z. eqb z x) ys) (flip y x) ∙ ap (λ b. eqb x y || b) (any_has x ys)
-
 -- the place of one more block put at the end of places of live blocks
 pub live_push : (blocks : List Extent) (places : List ℕ) (i : ℕ) (d : Extent) → i < length blocks → All (IsLive blocks) places
     → All (IsLive blocks) (places ++ (get_or blocks i d).place ∷ [])

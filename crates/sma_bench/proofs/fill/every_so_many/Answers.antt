@@ -1,4 +1,4 @@
-use Rattle.std.proofs.Common.{◌≡◌, ℕ, List, sym, ap, ◌∙◌, subst}
+use Rattle.std.proofs.Common.{ℕ, List, sym, subst}
 use Rattle.sma_bench.specs.Listed.{AreLive}
 use Rattle.sma_bench.proofs.Listing.{live_push}
 use Rattle.sma_bench.proofs.fill.every_so_many.Goals.{then-i-step-eq0+in_ok-push, else-i-step-eq0}

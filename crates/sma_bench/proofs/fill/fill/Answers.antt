@@ -1,4 +1,4 @@
-use Rattle.std.proofs.Common.{◌≡◌, ℕ, List, sym, subst}
+use Rattle.std.proofs.Common.{ℕ, List, sym, subst}
 use Rattle.sma_blocks.specs.Live.{live_blocks}
 use Rattle.sma_bench.specs.Listed.{AreLive}
 use Rattle.sma_bench.proofs.fill.fill.Goals.{then-unit-every-eq0, else-unit-every-eq0}

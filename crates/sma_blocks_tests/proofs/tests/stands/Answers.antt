@@ -1,5 +1,5 @@
 use Rattle.std.proofs.Common.{◌∙◌}
-use Rattle.sma_blocks_tests.proofs.Listing.{any_has}
+use Rattle.seg_words.specs.Members.{any_has}
 use Rattle.sma_blocks_tests.proofs.tests.stands.Goals as goal
 
 pub returns : goal.returns

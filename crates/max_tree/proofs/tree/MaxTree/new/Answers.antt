@@ -15,6 +15,13 @@ returns-clause-enough c =
     let count : length (leaves c.in_ok-nodes.nodes.items) ≡ 2 ^ depth = ap length are ∙ length-replicate (2 ^ depth) 0 in
     omega (arith, c.depth_for-depth.ensures.enough)
 
+pub returns-clause-few : goal.returns-clause-few
+returns-clause-few c =
+    let depth = c.depth_for-depth.result in
+    let are = ap (λ (xs : List ℕ). leaves xs) c.in_ok-nodes.ensures ∙ zero_leaves depth _ (shifted_two depth c.depth_for-depth.ensures.low) in
+    let count : length (leaves c.in_ok-nodes.nodes.items) ≡ 2 ^ depth = ap length are ∙ length-replicate (2 ^ depth) 0 in
+    omega (arith, c.depth_for-depth.ensures.few)
+
 pub returns-clause-zeros : goal.returns-clause-zeros
 returns-clause-zeros c = λ i.
     let depth = c.depth_for-depth.result in
