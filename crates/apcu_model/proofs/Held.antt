@@ -1,7 +1,8 @@
 -- Of the list of held places only its members count.
-use Rattle.std.proofs.Common.{◌≡◌, ℕ, ◌-◌, ◌&&◌, Bool, true, not, if◌then◌else◌, List, ◌++◌, length, map, filter, Option, Some, None, refl, ap, ◌∙◌}
-use Rattle.std.specs.Prelude.{nat_lt, is_some}
+use Rattle.std.proofs.Common.{◌≡◌, ℕ, ◌-◌, ◌&&◌, Bool, true, not, if◌then◌else◌, List, ◌++◌, length, map, filter, Option, Some, None, refl, ap, ◌∙◌, ◌∷◌, []}
+use Rattle.std.specs.Prelude.{ℤ, false, nat_lt, is_some}
 use Rattle.php_graph.specs.declared.kind.Kind.{Kind}
+use Rattle.php_graph.specs.declared.kind.Kind.TheVariants as kinds
 use Rattle.php_graph.specs.Size.{block_size}
 use Rattle.apcu_model.specs.declared.request.Request.{Request}
 use Rattle.apcu_model.specs.declared.request.Request.TheVariants as request
@@ -11,7 +12,8 @@ use Rattle.apcu_model.specs.Cache.{Row, Cache, risen, has_key, gap_of}
 use Rattle.apcu_model.specs.Expiry.{is_expired, live_row}
 use Rattle.apcu_model.specs.Walk.{is_in_slot, in_slot_order, slot_of}
 use Rattle.apcu_model.specs.Change.{Insertion, AreAlike, is_held, dropped, swept, expired_dropped, expunged, deleted, cleared, has_gap, with_room, with_row, placed, put_in, inserted}
-use Rattle.apcu_model.specs.Sequential.{cache_after, reply_to, is_stored}
+use Rattle.apcu_model.specs.Counters.{Count, begun, counted_at}
+use Rattle.apcu_model.specs.Sequential.{cache_after, reply_to, is_stored, number_reply}
 
 module _ (held other : List ℕ) (same : AreAlike held other) where
   rows_alike : is_held held ≡ is_held other
@@ -61,11 +63,17 @@ module _ (held other : List ℕ) (same : AreAlike held other) where
       ap (λ (room : Cache). if nat_lt (c.conf.words - c.conf.slots) n then record { answer = TooLarge; cache = c } else if exclusive && is_some (live_row key t c) then record { answer = Exists; cache = c } else put_in held key graph ttl t n room (gap_of room n)) (room_alike n t c)
       ∙ ap (λ (put : Insertion). if nat_lt (c.conf.words - c.conf.slots) n then record { answer = TooLarge; cache = c } else if exclusive && is_some (live_row key t c) then record { answer = Exists; cache = c } else put) (put_alike key graph ttl t n (with_room other n t c) (gap_of (with_room other n t c) n))
 
+  count_alike : (key : List ℕ) (step : ℤ) (ttl t : ℕ) (c : Cache) (o : Option Row) → counted_at held key step ttl t c o ≡ counted_at other key step ttl t c o
+  count_alike key step ttl t c (Some row) = refl
+  count_alike key step ttl t c None = ap (begun step) (inserted_alike key (kinds.Int step ∷ []) ttl false t c)
+
   pub cache_alike : (t : ℕ) (r : Request) (c : Cache) → cache_after held t r c ≡ cache_after other t r c
   cache_alike t (request.Store key graph ttl exclusive) c = ap (λ (i : Insertion). i.cache) (inserted_alike key graph ttl exclusive t c)
   cache_alike t (request.Fetch key) c = refl
   cache_alike t (request.Exists key) c = refl
   cache_alike t (request.Delete key) c = deleted_alike key t c
+  cache_alike t (request.Inc key step ttl) c = ap (λ (n : Count). n.cache) (count_alike key step ttl t c (live_row key t c))
+  cache_alike t (request.Cas key expect set) c = refl
   cache_alike t request.Clear c = cleared_alike t c
   cache_alike t request.Retire c = refl
 
@@ -74,5 +82,7 @@ module _ (held other : List ℕ) (same : AreAlike held other) where
   reply_alike t (request.Fetch key) c = refl
   reply_alike t (request.Exists key) c = refl
   reply_alike t (request.Delete key) c = refl
+  reply_alike t (request.Inc key step ttl) c = ap (λ (n : Count). number_reply n.number) (count_alike key step ttl t c (live_row key t c))
+  reply_alike t (request.Cas key expect set) c = refl
   reply_alike t request.Clear c = refl
   reply_alike t request.Retire c = refl

@@ -1,6 +1,8 @@
 pub mod Alone
 pub mod Apart
 pub mod Counting
+pub mod OneKey
+pub mod Scalars
 pub mod Ordering
 pub mod Held
 pub mod Histories

@@ -1,12 +1,14 @@
--- The numbers of rows are all different, and each worker has one window.
+-- The numbers of rows are all different, each worker has one window, and that is never one of a row
+-- that holds a scalar.
 use Rattle.std.proofs.Common.{◌≡◌, ◌≢◌, ℕ, ◌+◌, ◌-◌, ◌^◌, ◌<◌, ◌≤◌, ◌==◌, ◌&&◌, ◌⊎◌, inl, inr, Bool, true, false, not, cond, if◌then◌else◌, List, [], ◌∷◌, ◌++◌, length, map, filter, Option, Some, None, refl, ap, sym, ◌∙◌, subst, arith}
-use Rattle.std.specs.Prelude.{Contains, nat_lt, is_some}
-use Rattle.std.specs.List.{flat_map, list_any, range_with_len}
+use Rattle.std.specs.Prelude.{ℤ, Contains, nat_lt, is_some}
+use Rattle.std.specs.List.{list_any, range_with_len}
 use Rattle.std.specs.Map.{lookup}
 use Rattle.std.proofs.lemmas.Bool.{eq-eqb, eqb-true, ne_eqb, false≢true}
 use Rattle.std.proofs.lemmas.Map.Entries.{lookup-filter-keys}
 use Rattle.std.proofs.lemmas.List.Elements.{Contains-append_left, Contains-append_right, Contains-append_cases}
 use Rattle.php_graph.specs.declared.kind.Kind.{Kind}
+use Rattle.php_graph.specs.declared.kind.Kind.TheVariants as kinds
 use Rattle.php_graph.specs.Size.{block_size}
 use Rattle.apcu_model.specs.declared.conf.Conf.{Conf}
 use Rattle.apcu_model.specs.declared.event.Event.{Event}
@@ -14,25 +16,33 @@ use Rattle.apcu_model.specs.declared.request.Request.{Request}
 use Rattle.apcu_model.specs.declared.request.Request.TheVariants as request
 use Rattle.apcu_model.specs.declared.request.StoreAnswer.TheVariants as answers
 use Rattle.apcu_model.specs.Cache.{Row, Cache, risen, has_key, gap_of}
-use Rattle.apcu_model.specs.Expiry.{is_expired, live_row}
+use Rattle.apcu_model.specs.Expiry.{is_expired, is_hard_expired, live_row}
 use Rattle.apcu_model.specs.Walk.{is_in_slot, in_slot_order, slot_of}
-use Rattle.apcu_model.specs.Change.{is_held, dropped, swept, expired_dropped, expunged, deleted, cleared, has_gap, with_room, with_row, placed, put_in}
+use Rattle.apcu_model.specs.Change.{is_held, dropped, swept, expired_dropped, expunged, deleted, cleared, has_gap, with_room, with_row, placed, put_in, inserted}
+use Rattle.apcu_model.specs.Counters.{integer_in, with_integer, integer_at, integer_set, sum_of, counted_on, counted_at, is_integer, is_expected, swapped}
+use Rattle.apcu_model.specs.Rows.{are_apart, touched_at}
 use Rattle.apcu_model.specs.Sequential.{cache_after, looked_up, touched}
 use Rattle.apcu_model.specs.History.{Stage, start_of, is_scalar, opened, opened_at, held_places, after_event, after_events, IsNumbered, stage_of}
-use Rattle.seg_words.specs.Members.{Contains-cases, Contains-first, Contains-later, Contains-filter, none_in_nil, map_there, flat_there}
+use Rattle.apcu_model.proofs.Apart.{are_apart-filter, are_apart-map, are_apart-with_row, touched_key}
+use Rattle.apcu_model.proofs.Scalars.{set_key}
+use Rattle.apcu_model.proofs.OneKey.{found_there, one_of_key}
+use Rattle.seg_words.specs.Members.{Contains-cases, Contains-filter, none_in_nil, map_there, flat_there}
 
--- each row of the second cache stood in the first, with its number and place
+-- each row of the second cache stood in the first, with its number and place, and whether its value
+-- is a scalar stays
 record Sub (c c' : Cache) : Type 0 where
-  pub from : (r : Row) → Contains (c'.rows ++ c'.removed) r → (p : Row) × Contains (c.rows ++ c.removed) p × (p.number ≡ r.number) × (p.place ≡ r.place)
+  pub from : (r : Row) → Contains (c'.rows ++ c'.removed) r → (p : Row) × Contains (c.rows ++ c.removed) p × (p.number ≡ r.number) × (p.place ≡ r.place) × (is_scalar p.graph ≡ is_scalar r.graph)
   pub next : c'.next_number ≡ c.next_number
+  pub keys : are_apart c.rows ≡ true → are_apart c'.rows ≡ true
 
 sub_refl : (c : Cache) → Sub c c
-sub_refl c = record { from = λ r h. (r, h, refl, refl); next = refl }
+sub_refl c = record { from = λ r h. (r, h, refl, refl, refl); next = refl; keys = λ k. k }
 
 sub_trans : (a b c : Cache) → Sub a b → Sub b c → Sub a c
 sub_trans a b c f g = record {
-  from = λ r h. let p = g.from r h in let q = f.from p.0 p.1 in (q.0, q.1, q.2 ∙ p.2, q.3 ∙ p.3);
+  from = λ r h. let p = g.from r h in let q = f.from p.0 p.1 in (q.0, q.1, q.2 ∙ p.2, q.3 ∙ p.3, q.4 ∙ p.4);
   next = g.next ∙ f.next;
+  keys = λ k. g.keys (f.keys k);
 }
 
 sub_if : (b : Bool) (c x y : Cache) → Sub c x → Sub c y → Sub c (if b then x else y)
@@ -40,10 +50,10 @@ sub_if true c x y f g = f
 sub_if false c x y f g = g
 
 sub_dropped : (held : List ℕ) (t : ℕ) (pass : Row → Bool) (c : Cache) → Sub c (dropped held t pass c)
-sub_dropped held t pass c = record { from = from; next = refl }
+sub_dropped held t pass c = record { from = from; next = refl; keys = are_apart-filter (λ row. not (pass row)) c.rows }
   where
     gone : (r : Row) → Contains (map {A = Row} (λ row. record row { dtime = t }) (filter (is_held held) (in_slot_order c.conf (filter pass c.rows)))) r
-        → (p : Row) × Contains (c.rows ++ c.removed) p × (p.number ≡ r.number) × (p.place ≡ r.place)
+        → (p : Row) × Contains (c.rows ++ c.removed) p × (p.number ≡ r.number) × (p.place ≡ r.place) × (is_scalar p.graph ≡ is_scalar r.graph)
     gone r h =
         let f : Row → Row = λ row. record row { dtime = t } in
         let x = map_there f (filter (is_held held) (in_slot_order c.conf (filter pass c.rows))) r h in
@@ -51,13 +61,13 @@ sub_dropped held t pass c = record { from = from; next = refl }
         let s = flat_there (λ slot. filter (is_in_slot c.conf slot) (filter pass c.rows)) (range_with_len 0 c.conf.slots) x.0 k.0 in
         let a = Contains-filter (is_in_slot c.conf s.0) (filter pass c.rows) x.0 s.1 in
         let b = Contains-filter pass c.rows x.0 a.0 in
-        (x.0, Contains-append_left c.rows c.removed x.0 b.0, ap (λ (q : Row). q.number) x.2, ap (λ (q : Row). q.place) x.2)
+        (x.0, Contains-append_left c.rows c.removed x.0 b.0, ap (λ (q : Row). q.number) x.2, ap (λ (q : Row). q.place) x.2, ap (λ (q : Row). is_scalar q.graph) x.2)
 
-    from : (r : Row) → Contains ((dropped held t pass c).rows ++ (dropped held t pass c).removed) r → (p : Row) × Contains (c.rows ++ c.removed) p × (p.number ≡ r.number) × (p.place ≡ r.place)
+    from : (r : Row) → Contains ((dropped held t pass c).rows ++ (dropped held t pass c).removed) r → (p : Row) × Contains (c.rows ++ c.removed) p × (p.number ≡ r.number) × (p.place ≡ r.place) × (is_scalar p.graph ≡ is_scalar r.graph)
     from r h = elim (Contains-append_cases (dropped held t pass c).rows (dropped held t pass c).removed r h) [
-      | inl l ↦ let k = Contains-filter (λ (row : Row). not (pass row)) c.rows r l in (r, Contains-append_left c.rows c.removed r k.0, refl, refl)
+      | inl l ↦ let k = Contains-filter (λ (row : Row). not (pass row)) c.rows r l in (r, Contains-append_left c.rows c.removed r k.0, refl, refl, refl)
       | inr l ↦ elim (Contains-append_cases c.removed (map {A = Row} (λ row. record row { dtime = t }) (filter (is_held held) (in_slot_order c.conf (filter pass c.rows)))) r l) [
-        | inl m ↦ (r, Contains-append_right c.rows c.removed r m, refl, refl)
+        | inl m ↦ (r, Contains-append_right c.rows c.removed r m, refl, refl, refl)
         | inr m ↦ gone r m
       ]
     ]
@@ -65,23 +75,24 @@ sub_dropped held t pass c = record { from = from; next = refl }
 sub_swept : (held : List ℕ) (c : Cache) → Sub c (swept held c)
 sub_swept held c = record {
   from = λ r h. elim (Contains-append_cases c.rows (filter (is_held held) c.removed) r h) [
-    | inl l ↦ (r, Contains-append_left c.rows c.removed r l, refl, refl)
-    | inr l ↦ (r, Contains-append_right c.rows c.removed r (Contains-filter (is_held held) c.removed r l).0, refl, refl)
+    | inl l ↦ (r, Contains-append_left c.rows c.removed r l, refl, refl, refl)
+    | inr l ↦ (r, Contains-append_right c.rows c.removed r (Contains-filter (is_held held) c.removed r l).0, refl, refl, refl)
   ];
   next = refl;
+  keys = λ k. k;
 }
 
 sub_expired : (held : List ℕ) (t : ℕ) (c : Cache) → Sub c (expired_dropped held t c)
 sub_expired held t c = sub_if (nat_lt 0 c.conf.ttl) c (dropped held t (is_expired c.conf t) c) c (sub_dropped held t (is_expired c.conf t) c) (sub_refl c)
 
 sub_expunged : (held : List ℕ) (t : ℕ) (c : Cache) → Sub c (expunged held t c)
-sub_expunged held t c = let d = sub_dropped held t (λ row. true) c in record { from = d.from; next = d.next }
+sub_expunged held t c = let d = sub_dropped held t (λ row. true) c in record { from = d.from; next = d.next; keys = d.keys }
 
 sub_deleted : (held key : List ℕ) (t : ℕ) (c : Cache) → Sub c (deleted held key t c)
 sub_deleted held key t c = sub_if (is_some (live_row key t c)) c (dropped held t (has_key key) c) c (sub_dropped held t (has_key key) c) (sub_refl c)
 
 sub_cleared : (held : List ℕ) (t : ℕ) (c : Cache) → Sub c (cleared held t c)
-sub_cleared held t c = let d = sub_dropped held t (λ row. true) c in record { from = d.from; next = d.next }
+sub_cleared held t c = let d = sub_dropped held t (λ row. true) c in record { from = d.from; next = d.next; keys = d.keys }
 
 sub_room : (held : List ℕ) (n t : ℕ) (c : Cache) → Sub c (with_room held n t c)
 sub_room held n t c =
@@ -94,12 +105,14 @@ sub_room held n t c =
 
 record Numbers (c : Cache) : Type 0 where
   pub below : (p : Row) → Contains (c.rows ++ c.removed) p → p.number < c.next_number
-  pub apart : (p q : Row) → Contains (c.rows ++ c.removed) p → Contains (c.rows ++ c.removed) q → p.number ≡ q.number → p.place ≡ q.place
+  pub apart : (p q : Row) → Contains (c.rows ++ c.removed) p → Contains (c.rows ++ c.removed) q → p.number ≡ q.number → (p.place ≡ q.place) × (is_scalar p.graph ≡ is_scalar q.graph)
+  pub keys : are_apart c.rows ≡ true
 
 numbers_sub : (c c' : Cache) → Sub c c' → Numbers c → Numbers c'
 numbers_sub c c' s n = record {
   below = λ r h. let p = s.from r h in let b = n.below p.0 p.1 in omega (arith, b, p.2, s.next);
-  apart = λ r q h k e. let a = s.from r h in let b = s.from q k in sym a.3 ∙ (n.apart a.0 b.0 a.1 b.1 (a.2 ∙ (e ∙ sym b.2)) ∙ b.3);
+  apart = λ r q h k e. let a = s.from r h in let b = s.from q k in let same = n.apart a.0 b.0 a.1 b.1 (a.2 ∙ (e ∙ sym b.2)) in (sym a.3 ∙ (same.0 ∙ b.3), sym a.4 ∙ (same.1 ∙ b.4));
+  keys = s.keys n.keys;
 }
 
 -- a row of the list with a new one
@@ -117,70 +130,91 @@ with_there new rows r h = go (list_any (has_key new.key) rows) h
       | inr l ↦ elim (Contains-cases new [] r l) [ inl e ↦ inl e | inr m ↦ absurd (none_in_nil r m) ]
     ]
 
-numbers_placed : (held key : List ℕ) (graph : List Kind) (ttl t n : ℕ) (c : Cache) (place : ℕ) → Numbers c → c.next_number < 2 ^ 64 - 1 → Numbers (placed held key graph ttl t n c place)
-numbers_placed held key graph ttl t n c place num small = record { below = below; apart = apart }
-  where
-    cases : (r : Row) → Contains ((placed held key graph ttl t n c place).rows ++ (placed held key graph ttl t n c place).removed) r
-        → ((r.number ≡ c.next_number) × (r.place ≡ place)) ⊎ ((p : Row) × Contains (c.rows ++ c.removed) p × (p.number ≡ r.number) × (p.place ≡ r.place))
-    cases r h =
-        let pass : Row → Bool = λ row. is_in_slot c.conf (slot_of c.conf key) row && is_expired c.conf t row in
-        let f : Cache = dropped held t pass c in
-        let fresh_row : Row = record { key = key; graph = graph; ttl = ttl; ctime = t; mtime = t; atime = t; dtime = 0; hits = 0; place = place; size = n; number = c.next_number } in
-        let s1 = sub_dropped held t pass c in
-        let s2 = sub_trans c f (dropped held t (has_key key) f) s1 (sub_dropped held t (has_key key) f) in
-        elim (Contains-append_cases (with_row fresh_row f.rows) (dropped held t (has_key key) f).removed r h) [
-          | inl l ↦ elim (with_there fresh_row f.rows r l) [
-            | inl e ↦ inl (sym (ap (λ (q : Row). q.number) e), sym (ap (λ (q : Row). q.place) e))
-            | inr m ↦ inr (s1.from r (Contains-append_left f.rows f.removed r m))
-          ]
-          | inr l ↦ inr (s2.from r (Contains-append_right (dropped held t (has_key key) f).rows (dropped held t (has_key key) f).removed r l))
-        ]
+-- a row of the cache that a new one came into: the new one, or one that was there
+placed_cases : (held key : List ℕ) (graph : List Kind) (ttl t n : ℕ) (c : Cache) (place : ℕ) (r : Row) → Contains ((placed held key graph ttl t n c place).rows ++ (placed held key graph ttl t n c place).removed) r
+    → ((r.number ≡ c.next_number) × (r.place ≡ place) × (is_scalar graph ≡ is_scalar r.graph)) ⊎ ((p : Row) × Contains (c.rows ++ c.removed) p × (p.number ≡ r.number) × (p.place ≡ r.place) × (is_scalar p.graph ≡ is_scalar r.graph))
+placed_cases held key graph ttl t n c place r h =
+    let pass : Row → Bool = λ row. is_in_slot c.conf (slot_of c.conf key) row && is_expired c.conf t row in
+    let f : Cache = dropped held t pass c in
+    let fresh_row : Row = record { key = key; graph = graph; ttl = ttl; ctime = t; mtime = t; atime = t; dtime = 0; hits = 0; place = place; size = n; number = c.next_number } in
+    let s1 = sub_dropped held t pass c in
+    let s2 = sub_trans c f (dropped held t (has_key key) f) s1 (sub_dropped held t (has_key key) f) in
+    elim (Contains-append_cases (with_row fresh_row f.rows) (dropped held t (has_key key) f).removed r h) [
+      | inl l ↦ elim (with_there fresh_row f.rows r l) [
+        | inl e ↦ inl (sym (ap (λ (q : Row). q.number) e), sym (ap (λ (q : Row). q.place) e), ap (λ (q : Row). is_scalar q.graph) e)
+        | inr m ↦ inr (s1.from r (Contains-append_left f.rows f.removed r m))
+      ]
+      | inr l ↦ inr (s2.from r (Contains-append_right (dropped held t (has_key key) f).rows (dropped held t (has_key key) f).removed r l))
+    ]
 
+numbers_placed : (held key : List ℕ) (graph : List Kind) (ttl t n : ℕ) (c : Cache) (place : ℕ) → Numbers c → c.next_number < 2 ^ 64 - 1 → Numbers (placed held key graph ttl t n c place)
+numbers_placed held key graph ttl t n c place num small = record { below = below; apart = apart; keys = keys }
+  where
     below : (r : Row) → Contains ((placed held key graph ttl t n c place).rows ++ (placed held key graph ttl t n c place).removed) r → r.number < risen c.next_number
-    below r h = elim (cases r h) [
+    below r h = elim (placed_cases held key graph ttl t n c place r h) [
       | inl e ↦ omega (arith, e.0, small)
       | inr p ↦ let b = num.below p.0 p.1 in omega (arith, b, p.2, small)
     ]
 
-    apart : (p q : Row) → Contains ((placed held key graph ttl t n c place).rows ++ (placed held key graph ttl t n c place).removed) p → Contains ((placed held key graph ttl t n c place).rows ++ (placed held key graph ttl t n c place).removed) q → p.number ≡ q.number → p.place ≡ q.place
-    apart p q h k e = elim (cases p h) [
-      | inl a ↦ elim (cases q k) [
-        | inl b ↦ a.1 ∙ sym b.1
+    apart : (p q : Row) → Contains ((placed held key graph ttl t n c place).rows ++ (placed held key graph ttl t n c place).removed) p → Contains ((placed held key graph ttl t n c place).rows ++ (placed held key graph ttl t n c place).removed) q → p.number ≡ q.number → (p.place ≡ q.place) × (is_scalar p.graph ≡ is_scalar q.graph)
+    apart p q h k e = elim (placed_cases held key graph ttl t n c place p h) [
+      | inl a ↦ elim (placed_cases held key graph ttl t n c place q k) [
+        | inl b ↦ (a.1 ∙ sym b.1, sym a.2 ∙ b.2)
         | inr b ↦ let l = num.below b.0 b.1 in absurd (omega (arith, l, b.2, a.0, e))
       ]
-      | inr a ↦ elim (cases q k) [
+      | inr a ↦ elim (placed_cases held key graph ttl t n c place q k) [
         | inl b ↦ let l = num.below a.0 a.1 in absurd (omega (arith, l, a.2, b.0, e))
-        | inr b ↦ sym a.3 ∙ (num.apart a.0 b.0 a.1 b.1 (a.2 ∙ (e ∙ sym b.2)) ∙ b.3)
+        | inr b ↦ let same = num.apart a.0 b.0 a.1 b.1 (a.2 ∙ (e ∙ sym b.2)) in (sym a.3 ∙ (same.0 ∙ b.3), sym a.4 ∙ (same.1 ∙ b.4))
       ]
     ]
+
+    keys : are_apart (placed held key graph ttl t n c place).rows ≡ true
+    keys =
+        let pass : Row → Bool = λ row. is_in_slot c.conf (slot_of c.conf key) row && is_expired c.conf t row in
+        let fresh_row : Row = record { key = key; graph = graph; ttl = ttl; ctime = t; mtime = t; atime = t; dtime = 0; hits = 0; place = place; size = n; number = c.next_number } in
+        are_apart-with_row fresh_row (filter (λ row. not (pass row)) c.rows) (are_apart-filter (λ row. not (pass row)) c.rows num.keys)
 
 -- the cache after a request
 record Grown (c c' : Cache) : Type 0 where
   pub numbers : Numbers c'
   pub next : c'.next_number ≤ c.next_number + 1
+  pub more : c.next_number ≤ c'.next_number
+  -- a row that is not new was there, and whether it holds a scalar stays
+  pub old : (r : Row) → Contains (c'.rows ++ c'.removed) r → r.number < c.next_number → (p : Row) × Contains (c.rows ++ c.removed) p × (p.number ≡ r.number) × (is_scalar p.graph ≡ is_scalar r.graph)
 
 grown_if : (b : Bool) (c x y : Cache) → Grown c x → Grown c y → Grown c (if b then x else y)
 grown_if true c x y f g = f
 grown_if false c x y f g = g
 
 same_grown : (c c' : Cache) → Sub c c' → Numbers c → Grown c c'
-same_grown c c' s n = record { numbers = numbers_sub c c' s n; next = omega (arith, s.next) }
+same_grown c c' s n = record {
+  numbers = numbers_sub c c' s n;
+  next = omega (arith, s.next);
+  more = omega (arith, s.next);
+  old = λ r h l. let p = s.from r h in (p.0, p.1, p.2, p.4);
+}
 
 grown_put : (held key : List ℕ) (graph : List Kind) (ttl t n : ℕ) (c room : Cache) (place : Option ℕ) → Sub c room → Numbers c → c.next_number < 2 ^ 64 - 1 → Grown c (put_in held key graph ttl t n room place).cache
 grown_put held key graph ttl t n c room None s num small = same_grown c room s num
 grown_put held key graph ttl t n c room (Some place) s num small = record {
   numbers = numbers_placed held key graph ttl t n room place (numbers_sub c room s num) (omega (arith, small, s.next));
   next = omega (arith, s.next);
+  more = omega (arith, s.next, small);
+  old = λ r h l. elim (placed_cases held key graph ttl t n room place r h) [
+    | inl e ↦ absurd (omega (arith, e.0, l, s.next))
+    | inr q ↦ let p = s.from q.0 q.1 in (p.0, p.1, p.2 ∙ q.2, p.4 ∙ q.4)
+  ];
 }
 
 sub_looked : (key : List ℕ) (t : ℕ) (o : Option Row) (c : Cache) → Sub c (looked_up key t o c)
-sub_looked key t None c = record { from = λ r h. (r, h, refl, refl); next = refl }
+sub_looked key t None c = record { from = λ r h. (r, h, refl, refl, refl); next = refl; keys = λ k. k }
 sub_looked key t (Some row) c = record {
   from = λ r h. elim (Contains-append_cases (map {A = Row} (λ x. if has_key key x then touched t x else x) c.rows) c.removed r h) [
-    | inl l ↦ let f : Row → Row = λ x. if has_key key x then touched t x else x in let x = map_there f c.rows r l in (x.0, Contains-append_left c.rows c.removed x.0 x.1, number x.0 (has_key key x.0) ∙ ap (λ (q : Row). q.number) x.2, place x.0 (has_key key x.0) ∙ ap (λ (q : Row). q.place) x.2)
-    | inr l ↦ (r, Contains-append_right c.rows c.removed r l, refl, refl)
+    | inl l ↦ let f : Row → Row = λ x. if has_key key x then touched t x else x in let x = map_there f c.rows r l in (x.0, Contains-append_left c.rows c.removed x.0 x.1, number x.0 (has_key key x.0) ∙ ap (λ (q : Row). q.number) x.2, place x.0 (has_key key x.0) ∙ ap (λ (q : Row). q.place) x.2, value x.0 (has_key key x.0) ∙ ap (λ (q : Row). is_scalar q.graph) x.2)
+    | inr l ↦ (r, Contains-append_right c.rows c.removed r l, refl, refl, refl)
   ];
   next = refl;
+  keys = λ k. are_apart-map (touched_at key t) (touched_key key t) c.rows ∙ k;
 }
   where
     number : (x : Row) (b : Bool) → x.number ≡ (if b then touched t x else x).number
@@ -191,16 +225,84 @@ sub_looked key t (Some row) c = record {
     place x true = refl
     place x false = refl
 
-grown_after : (held : List ℕ) (t : ℕ) (r : Request) (c : Cache) → Numbers c → c.next_number < 2 ^ 64 - 1 → Grown c (cache_after held t r c)
-grown_after held t (request.Store key graph ttl exclusive) c num small = go (nat_lt (c.conf.words - c.conf.slots) (block_size (length key) graph)) (exclusive && is_some (live_row key t c))
+    value : (x : Row) (b : Bool) → is_scalar x.graph ≡ is_scalar (if b then touched t x else x).graph
+    value x true = refl
+    value x false = refl
+
+-- an integer is set where one is
+sub_set : (key : List ℕ) (n : ℤ) (t : ℕ) (c : Cache) (row : Row) → live_row key t c ≡ Some row → is_scalar row.graph ≡ true → are_apart c.rows ≡ true → Sub c (integer_set key n t c)
+sub_set key n t c row live scalar keys = record {
+  from = λ r h. elim (Contains-append_cases (map {A = Row} f c.rows) c.removed r h) [
+    | inl l ↦ let x = map_there f c.rows r l in (x.0, Contains-append_left c.rows c.removed x.0 x.1, number x.0 (has_key key x.0) ∙ ap (λ (q : Row). q.number) x.2, place x.0 (has_key key x.0) ∙ ap (λ (q : Row). q.place) x.2, value x.0 x.1 (has_key key x.0) refl ∙ ap (λ (q : Row). is_scalar q.graph) x.2)
+    | inr l ↦ (r, Contains-append_right c.rows c.removed r l, refl, refl, refl)
+  ];
+  next = refl;
+  keys = λ k. are_apart-map f (set_key key n t) c.rows ∙ k;
+}
+  where
+    f : Row → Row
+    f = integer_at key n t
+
+    number : (x : Row) (b : Bool) → x.number ≡ (if b then with_integer n t x else x).number
+    number x true = refl
+    number x false = refl
+
+    place : (x : Row) (b : Bool) → x.place ≡ (if b then with_integer n t x else x).place
+    place x true = refl
+    place x false = refl
+
+    value : (x : Row) → Contains c.rows x → (b : Bool) → has_key key x ≡ b → is_scalar x.graph ≡ is_scalar (if b then with_integer n t x else x).graph
+    value x there true e = ap (λ (q : Row). is_scalar q.graph) (one_of_key key t c keys row live x there e) ∙ scalar
+    value x there false e = refl
+
+-- a value that is an integer is a scalar
+int_scalar : (g : List Kind) (n : ℤ) → integer_in g ≡ Some n → is_scalar g ≡ true
+int_scalar [] n e = absurd (cc e)
+int_scalar (kinds.Null ∷ ks) n e = absurd (cc e)
+int_scalar (kinds.Bool b ∷ ks) n e = absurd (cc e)
+int_scalar (kinds.Int m ∷ ks) n e = refl
+int_scalar (kinds.Str s ∷ ks) n e = absurd (cc e)
+int_scalar (kinds.Array ms ∷ ks) n e = absurd (cc e)
+int_scalar (kinds.Object class ps ∷ ks) n e = absurd (cc e)
+int_scalar (kinds.Same x ∷ ks) n e = absurd (cc e)
+
+sub_counted : (key : List ℕ) (step : ℤ) (t : ℕ) (c : Cache) (row : Row) → live_row key t c ≡ Some row → are_apart c.rows ≡ true → Sub c (counted_on key step t c (integer_in row.graph)).cache
+sub_counted key step t c row live keys = go (integer_in row.graph) refl
+  where
+    go : (o : Option ℤ) → integer_in row.graph ≡ o → Sub c (counted_on key step t c o).cache
+    go None e = sub_refl c
+    go (Some n) e = sub_set key (sum_of n step) t c row live (int_scalar row.graph n e) keys
+
+sub_swapped : (key : List ℕ) (expect set : ℤ) (t : ℕ) (c : Cache) → are_apart c.rows ≡ true → Sub c (swapped key expect set t c)
+sub_swapped key expect set t c keys = go (live_row key t c) refl
+  where
+    at_int : (row : Row) → live_row key t c ≡ Some row → (o : Option ℤ) → integer_in row.graph ≡ o → Sub c (if is_integer expect o then integer_set key set t c else c)
+    at_int row live None e = sub_refl c
+    at_int row live (Some n) e = sub_if (is_integer expect (Some n)) c (integer_set key set t c) c (sub_set key set t c row live (int_scalar row.graph n e) keys) (sub_refl c)
+
+    go : (o : Option Row) → live_row key t c ≡ o → Sub c (if is_expected expect o then integer_set key set t c else c)
+    go None live = sub_refl c
+    go (Some row) live = at_int row live (integer_in row.graph) refl
+
+grown_inserted : (held key : List ℕ) (graph : List Kind) (ttl : ℕ) (exclusive : Bool) (t : ℕ) (c : Cache) → Numbers c → c.next_number < 2 ^ 64 - 1 → Grown c (inserted held key graph ttl exclusive t c).cache
+grown_inserted held key graph ttl exclusive t c num small = go (nat_lt (c.conf.words - c.conf.slots) (block_size (length key) graph)) (exclusive && is_some (live_row key t c))
   where
     go : (a b : Bool) → Grown c (if a then record { answer = answers.TooLarge; cache = c } else if b then record { answer = answers.Exists; cache = c } else put_in held key graph ttl t (block_size (length key) graph) (with_room held (block_size (length key) graph) t c) (gap_of (with_room held (block_size (length key) graph) t c) (block_size (length key) graph))).cache
     go true b = same_grown c c (sub_refl c) num
     go false true = same_grown c c (sub_refl c) num
     go false false = grown_put held key graph ttl t (block_size (length key) graph) c (with_room held (block_size (length key) graph) t c) (gap_of (with_room held (block_size (length key) graph) t c) (block_size (length key) graph)) (sub_room held (block_size (length key) graph) t c) num small
+
+grown_counted : (held key : List ℕ) (step : ℤ) (ttl t : ℕ) (c : Cache) → Numbers c → c.next_number < 2 ^ 64 - 1 → (o : Option Row) → live_row key t c ≡ o → Grown c (counted_at held key step ttl t c o).cache
+grown_counted held key step ttl t c num small (Some row) live = same_grown c (counted_on key step t c (integer_in row.graph)).cache (sub_counted key step t c row live num.keys) num
+grown_counted held key step ttl t c num small None live = grown_inserted held key (kinds.Int step ∷ []) ttl false t c num small
+
+grown_after : (held : List ℕ) (t : ℕ) (r : Request) (c : Cache) → Numbers c → c.next_number < 2 ^ 64 - 1 → Grown c (cache_after held t r c)
+grown_after held t (request.Store key graph ttl exclusive) c num small = grown_inserted held key graph ttl exclusive t c num small
 grown_after held t (request.Fetch key) c num small = same_grown c (looked_up key t (live_row key t c) c) (sub_looked key t (live_row key t c) c) num
 grown_after held t (request.Exists key) c num small = same_grown c c (sub_refl c) num
 grown_after held t (request.Delete key) c num small = same_grown c (deleted held key t c) (sub_deleted held key t c) num
+grown_after held t (request.Inc key step ttl) c num small = grown_counted held key step ttl t c num small (live_row key t c) refl
+grown_after held t (request.Cas key expect set) c num small = same_grown c (swapped key expect set t c) (sub_swapped key expect set t c num.keys) num
 grown_after held t request.Clear c num small = same_grown c (cleared held t c) (sub_cleared held t c) num
 grown_after held t request.Retire c num small = same_grown c c (sub_refl c) num
 
@@ -227,30 +329,89 @@ single_after worker new ws which single w h = elim which [
 abbrev kept : ℕ → Row → Bool → List (ℕ × ℕ)
 kept worker row b = if b then [] else (worker, row.number) ∷ []
 
-opened_one : (worker t : ℕ) (r : Request) (c : Cache) → (opened worker t r c ≡ []) ⊎ ((n : ℕ) × (opened worker t r c ≡ (worker, n) ∷ []))
-opened_one worker t (request.Fetch key) c = go (live_row key t c)
-  where
-    scalar : (row : Row) (b : Bool) → (kept worker row b ≡ []) ⊎ ((n : ℕ) × (kept worker row b ≡ (worker, n) ∷ []))
-    scalar row true = inl refl
-    scalar row false = inr (row.number, refl)
+-- a request opens no window, or one on a row that it found and that holds no scalar
+abbrev OpensOn : ℕ → Cache → List (ℕ × ℕ) → Type 0
+OpensOn worker c new = (new ≡ []) ⊎ ((row : Row) × Contains (c.rows ++ c.removed) row × (is_scalar row.graph ≡ false) × (new ≡ (worker, row.number) ∷ []))
 
-    go : (o : Option Row) → (opened_at worker o ≡ []) ⊎ ((n : ℕ) × (opened_at worker o ≡ (worker, n) ∷ []))
-    go None = inl refl
-    go (Some row) = scalar row (is_scalar row.graph)
+opened_one : (worker t : ℕ) (r : Request) (c : Cache) → OpensOn worker c (opened worker t r c)
+opened_one worker t (request.Fetch key) c = go (live_row key t c) refl
+  where
+    scalar : (row : Row) → live_row key t c ≡ Some row → (b : Bool) → is_scalar row.graph ≡ b → OpensOn worker c (kept worker row b)
+    scalar row live true is = inl refl
+    scalar row live false is = inr (row, Contains-append_left c.rows c.removed row (found_there (λ row. has_key key row && not (is_hard_expired t row)) c.rows row live).0, is, refl)
+
+    go : (o : Option Row) → live_row key t c ≡ o → OpensOn worker c (opened_at worker o)
+    go None live = inl refl
+    go (Some row) live = scalar row live (is_scalar row.graph) refl
 opened_one worker t (request.Store key graph ttl exclusive) c = inl refl
 opened_one worker t (request.Exists key) c = inl refl
 opened_one worker t (request.Delete key) c = inl refl
+opened_one worker t (request.Inc key step ttl) c = inl refl
+opened_one worker t (request.Cas key expect set) c = inl refl
 opened_one worker t request.Clear c = inl refl
 opened_one worker t request.Retire c = inl refl
 
+one_number : (worker : ℕ) (c : Cache) (new : List (ℕ × ℕ)) → OpensOn worker c new → (new ≡ []) ⊎ ((n : ℕ) × (new ≡ (worker, n) ∷ []))
+one_number worker c new (inl e) = inl e
+one_number worker c new (inr o) = inr (o.0.number, o.3)
+
+-- the windows are of rows that are numbered already and hold no scalar
+record Whole (c : Cache) (ws : List (ℕ × ℕ)) : Type 0 where
+  pub below : (w : ℕ × ℕ) → Contains ws w → w.1 < c.next_number
+  pub whole : (w : ℕ × ℕ) (row : Row) → Contains ws w → Contains (c.rows ++ c.removed) row → row.number ≡ w.1 → is_scalar row.graph ≡ false
+
+whole_after : (worker : ℕ) (c c' : Cache) (new ws : List (ℕ × ℕ)) → OpensOn worker c new → Numbers c → Grown c c' → Whole c ws → Whole c' (new ++ filter (λ (w : ℕ × ℕ). not (w.0 == worker)) ws)
+whole_after worker c c' new ws opens num grown h = record {
+  below = λ w l. elim (cases w l) [ inl k ↦ omega (arith, grown.more, h.below w k) | inr o ↦ omega (arith, grown.more, num.below o.0 o.1, o.3) ];
+  whole = λ w row l there e. elim (cases w l) [
+    | inl k ↦ let p = grown.old row there (omega (arith, h.below w k, e)) in sym p.3 ∙ h.whole w p.0 k p.1 (p.2 ∙ e)
+    | inr o ↦
+        let p = grown.old row there (omega (arith, num.below o.0 o.1, o.3, e)) in
+        sym p.3 ∙ ((num.apart p.0 o.0 p.1 o.1 (p.2 ∙ (e ∙ sym o.3))).1 ∙ o.2)
+  ];
+}
+  where
+    rest : List (ℕ × ℕ)
+    rest = filter (λ (w : ℕ × ℕ). not (w.0 == worker)) ws
+
+    cases : (w : ℕ × ℕ) → Contains (new ++ rest) w → Contains ws w ⊎ ((row : Row) × Contains (c.rows ++ c.removed) row × (is_scalar row.graph ≡ false) × (row.number ≡ w.1))
+    cases w l = elim (Contains-append_cases new rest w l) [
+      | inl k ↦ elim opens [
+        | inl e ↦ absurd (none_in_nil w (subst (λ (x : List (ℕ × ℕ)). Contains x w) e k))
+        | inr o ↦ elim (Contains-cases (worker, o.0.number) [] w (subst (λ (x : List (ℕ × ℕ)). Contains x w) o.3 k)) [
+          | inl e ↦ inr (o.0, o.1, o.2, ap (λ (q : ℕ × ℕ). q.1) e)
+          | inr m ↦ absurd (none_in_nil w m)
+        ]
+      ]
+      | inr k ↦ inl (Contains-filter (λ (w : ℕ × ℕ). not (w.0 == worker)) ws w k).0
+    ]
+
+-- what holds of a stage
+record Ordered (m : Stage) : Type 0 where
+  pub numbers : Numbers m.cache
+  pub single : Single m.windows
+  pub whole : Whole m.cache m.windows
+
 -- from any stage on, for as many events as the numbers last
-grown_all : (m : Stage) (h : List Event) → Numbers m.cache → Single m.windows → m.cache.next_number + length h < 2 ^ 64 - 1 → Numbers (after_events m h).cache × Single (after_events m h).windows
-grown_all m [] num single small = (num, single)
-grown_all m (e ∷ h) num single small =
-    let g = grown_after (held_places m e.mask) e.t e.request m.cache num (omega (arith, small)) in
-    grown_all (after_event m e) h g.numbers (single_after e.worker (opened e.worker e.t e.request m.cache) m.windows (opened_one e.worker e.t e.request m.cache) single) (omega (arith, small, g.next))
+grown_all : (m : Stage) (h : List Event) → Ordered m → m.cache.next_number + length h < 2 ^ 64 - 1 → Ordered (after_events m h)
+grown_all m [] o small = o
+grown_all m (e ∷ h) o small =
+    let g = grown_after (held_places m e.mask) e.t e.request m.cache o.numbers (omega (arith, small)) in
+    let new = opened e.worker e.t e.request m.cache in
+    let opens = opened_one e.worker e.t e.request m.cache in
+    let next : Ordered (after_event m e) = record {
+      numbers = g.numbers;
+      single = single_after e.worker new m.windows (one_number e.worker m.cache new opens) o.single;
+      whole = whole_after e.worker m.cache (after_event m e).cache new m.windows opens o.numbers g o.whole;
+    } in
+    grown_all (after_event m e) h next (omega (arith, small, g.next))
 
 pub is_numbered : (conf : Conf) (h : List Event) → length h ≤ 4194304 → IsNumbered (stage_of conf h)
 is_numbered conf h short =
-    let g = grown_all (start_of conf) h (record { below = λ p c. absurd (none_in_nil p c); apart = λ p q c. absurd (none_in_nil p c) }) (λ w c. absurd (none_in_nil w c)) (omega (arith, short)) in
-    record { one = g.1; numbers = g.0.apart }
+    let start : Ordered (start_of conf) = record {
+      numbers = record { below = λ p c. absurd (none_in_nil p c); apart = λ p q c. absurd (none_in_nil p c); keys = refl };
+      single = λ w c. absurd (none_in_nil w c);
+      whole = record { below = λ w c. absurd (none_in_nil w c); whole = λ w row c. absurd (none_in_nil w c) };
+    } in
+    let g = grown_all (start_of conf) h start (omega (arith, short)) in
+    record { one = g.single; numbers = λ p q c d e. (g.numbers.apart p q c d e).0; whole = g.whole.whole }

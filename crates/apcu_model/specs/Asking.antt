@@ -10,5 +10,7 @@ asked (ask.Store key value ttl exclusive) = request.Store key.now value.now ttl 
 asked (ask.Fetch key) = request.Fetch key.now
 asked (ask.Exists key) = request.Exists key.now
 asked (ask.Delete key) = request.Delete key.now
+asked (ask.Inc key step ttl) = request.Inc key.now step ttl
+asked (ask.Cas key expect set) = request.Cas key.now expect set
 asked ask.Clear = request.Clear
 asked ask.Retire = request.Retire

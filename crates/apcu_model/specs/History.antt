@@ -12,7 +12,7 @@ use Rattle.apcu_model.specs.declared.event.Event.{Event}
 use Rattle.apcu_model.specs.declared.journal.Mark.{Mark}
 use Rattle.apcu_model.specs.declared.request.Request.{Request}
 use Rattle.apcu_model.specs.declared.request.Request.TheVariants.{Store, Fetch, Exists, Delete}
-use Rattle.apcu_model.specs.declared.request.Request.TheVariants.{Clear, Retire}
+use Rattle.apcu_model.specs.declared.request.Request.TheVariants.{Inc, Cas, Clear, Retire}
 use Rattle.apcu_model.specs.declared.request.Reply.{Reply}
 use Rattle.apcu_model.specs.Cache.{Row, Cache, empty_cache}
 use Rattle.apcu_model.specs.Expiry.{live_row}
@@ -77,6 +77,8 @@ opened worker t (Fetch key) c = opened_at worker (live_row key t c)
 opened worker t (Store key value ttl exclusive) c = []
 opened worker t (Exists key) c = []
 opened worker t (Delete key) c = []
+opened worker t (Inc key step ttl) c = []
+opened worker t (Cas key expect set) c = []
 opened worker t Clear c = []
 opened worker t Retire c = []
 
@@ -111,8 +113,12 @@ mark_of e = record { worker = e.worker; mask = e.mask }
 abbrev pub marks_of : List Event → List Mark
 marks_of events = map mark_of events
 
--- Rows and removed rows of one number have one place, and each worker has one window.
+-- Rows and removed rows of one number have one place, each worker has one window, and a row of
+-- which a window is holds no value that is answered under the lock.
 pub record IsNumbered (m : Stage) : Type 0 where
   pub one : (w : ℕ × ℕ) → Contains m.windows w → window_of m w.0 ≡ Some w.1
   pub numbers : (p q : Row) → Contains (m.cache.rows ++ m.cache.removed) p
       → Contains (m.cache.rows ++ m.cache.removed) q → p.number ≡ q.number → p.place ≡ q.place
+  pub whole : (w : ℕ × ℕ) (row : Row) → Contains m.windows w
+      → Contains (m.cache.rows ++ m.cache.removed) row → row.number ≡ w.1
+      → is_scalar row.graph ≡ false

@@ -3,6 +3,7 @@ pub mod Cache
 pub mod Rows
 pub mod Expiry
 pub mod Change
+pub mod Counters
 pub mod Facts
 pub mod Walk
 pub mod Sequential

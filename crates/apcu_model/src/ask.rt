@@ -14,6 +14,17 @@ pub enum Ask<'a> {
     Fetch(&'a [u8]),
     Exists(&'a [u8]),
     Delete(&'a [u8]),
+    Inc {
+        key: &'a [u8],
+        step: i64,
+        /// In seconds, for a row that is new; 0 is no limit.
+        ttl: u32,
+    },
+    Cas {
+        key: &'a [u8],
+        expect: i64,
+        set: i64,
+    },
     Clear,
     Retire,
 }

@@ -1,12 +1,15 @@
 ghost use Rattle.std.specs.Prelude.{◌≡◌, ◌+◌, ◌<◌, nat_lt};
 ghost use Rattle.apcu_model.specs.Cache.{extent_of, has_key};
+ghost use Rattle.apcu_model.specs.Counters.{integer_at};
 ghost use Rattle.apcu_model.specs.Expiry.{is_expired, is_hard_expired};
 ghost use Rattle.apcu_model.specs.Rows.{touched_at};
 ghost use Rattle.apcu_model.specs.Walk.{is_in_slot};
 
 use crate::conf::Conf;
+use crate::value::integer;
 use php_graph::{Bytes, Graph, hash_of};
 use seg_words::Extent;
+use std::alloc::Global;
 use std::marker::Model;
 
 // A key with its value, and all that the cache notes of it. Contracts see the row.
@@ -92,6 +95,18 @@ impl Entry {
         if self.has_key(key) {
             self.hits = self.hits.saturating_add(1);
             self.atime = t;
+        }
+    }
+}
+
+impl Entry {
+    // The row of the key holds this integer, set at the moment t. It takes no memory.
+    pub(crate) fn set_integer(&mut self, alloc: Global, key: &[u8], n: i64, t: u64)
+        ensures { self.new ≡ integer_at key.now n t self.old }
+    {
+        if self.has_key(key) {
+            self.graph = integer(alloc, n);
+            self.mtime = t;
         }
     }
 }

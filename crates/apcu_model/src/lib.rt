@@ -6,6 +6,7 @@ mod conf;
 mod counts;
 mod entry;
 mod event;
+mod integers;
 mod journal;
 mod keys;
 mod laws;
@@ -14,6 +15,7 @@ mod plain;
 mod request;
 mod rows;
 mod state;
+mod value;
 
 pub use ask::Ask;
 pub use conf::Conf;
@@ -27,3 +29,4 @@ pub use laws::{
 pub use pairs::Pairs;
 pub use plain::Plain;
 pub use request::{Reply, Request, StoreAnswer};
+pub use value::integer;

@@ -1,10 +1,11 @@
-ghost use Rattle.std.specs.Prelude.{◌≡◌, ℕ, [], MatchOption, IfOk, OnOk, OnErr};
+ghost use Rattle.std.specs.Prelude.{◌≡◌, ℕ, ◌<◌, ◌^◌, [], length, MatchOption, IfOk, OnOk, OnErr};
 ghost use Rattle.apcu_model.specs.Cache.{counts_of, empty_cache};
 ghost use Rattle.apcu_model.specs.Conf.{IsGood};
 ghost use Rattle.apcu_model.specs.Sequential.{cache_after, reply_to};
 ghost use Rattle.apcu_model.specs.declared.request.Request.TheVariants.{Store, Fetch, Exists};
-ghost use Rattle.apcu_model.specs.declared.request.Request.TheVariants.{Delete, Clear};
+ghost use Rattle.apcu_model.specs.declared.request.Request.TheVariants.{Delete, Inc, Cas, Clear};
 ghost use Rattle.apcu_model.specs.declared.request.Reply.TheVariants.{Flag, Found, Absent};
+ghost use Rattle.apcu_model.specs.Sequential.{number_reply};
 
 use crate::conf::Conf;
 use crate::counts::Counts;
@@ -84,6 +85,13 @@ impl Plain {
             Request::Fetch(key) => self.fetch_copy(key.as_slice(), t),
             Request::Exists(key) => Ok(Reply::Flag(self.exists(key.as_slice(), t))),
             Request::Delete(key) => Ok(Reply::Flag(self.delete(key.as_slice(), t))),
+            Request::Inc { key, step, ttl } => match self.inc(key.as_slice(), *step, *ttl, t)? {
+                Some(n) => Ok(Reply::Number(n)),
+                None => Ok(Reply::NoNumber),
+            },
+            Request::Cas { key, expect, set } => {
+                Ok(Reply::Flag(self.cas(key.as_slice(), *expect, *set, t)))
+            }
             Request::Clear => {
                 self.clear();
                 Ok(Reply::Flag(true))
@@ -180,6 +188,35 @@ impl Plain {
         ensures after { self.new ≡ cache_after [] t (Delete key.now) self.old }
     {
         self.state.delete(key, t)
+    }
+
+    /// Counts by the step at the time `t`, and answers what the counter is then: the old integer
+    /// and the step in 64 bits with a sign, where the sum wraps. Without a live row it counts from
+    /// 0, in a new row that lives for `ttl` seconds; 0 is no limit. `None` where the value is no
+    /// integer, or the new row finds no place. Where memory is missing, nothing changed.
+    pub fn inc(
+        &mut self,
+        key: &[u8],
+        step: i64,
+        ttl: u32,
+        t: u64,
+    ) -> Result<Option<i64>, AllocError>
+        requires short { length key.now < 2 ^ 32 }
+        ensures reply { IfOk result (λ number. number_reply number
+            ≡ reply_to [] t (Inc key.now step ttl) self.old) }
+        ensures after { OnOk result (self.new ≡ cache_after [] t (Inc key.now step ttl) self.old) }
+        ensures err { OnErr result (self.new ≡ self.old) }
+    {
+        self.state.count(key, step, ttl, t)
+    }
+
+    /// Sets the integer under the key at the time `t`, where it is `expect`; whether it is. It
+    /// never makes a row. It takes no memory.
+    pub fn cas(&mut self, key: &[u8], expect: i64, set: i64, t: u64) -> bool
+        ensures reply { Flag result ≡ reply_to [] t (Cas key.now expect set) self.old }
+        ensures after { self.new ≡ cache_after [] t (Cas key.now expect set) self.old }
+    {
+        self.state.swap(key, expect, set, t)
     }
 
     /// Drops all rows, and sets hits, misses, inserts and expunges to 0. It takes no memory.

@@ -18,6 +18,20 @@ pub enum Request {
     Exists(Bytes),
     /// `apcu_delete` of one key.
     Delete(Bytes),
+    /// `apcu_inc`, or with a negated step `apcu_dec`: the integer under the key counts by the step,
+    /// in 64 bits with a sign, where the sum wraps. A key without a live row counts from 0.
+    Inc {
+        key: Bytes,
+        step: i64,
+        /// In seconds, for a row that is new; 0 is no limit.
+        ttl: u32,
+    },
+    /// `apcu_cas`: the integer under the key becomes `set` where it is `expect`.
+    Cas {
+        key: Bytes,
+        expect: i64,
+        set: i64,
+    },
     /// `apcu_clear_cache`.
     Clear,
     /// The worker's last event: it asks nothing more.
@@ -47,6 +61,16 @@ impl Request {
             Request::Fetch(key) => Ask::Fetch(key.as_slice()),
             Request::Exists(key) => Ask::Exists(key.as_slice()),
             Request::Delete(key) => Ask::Delete(key.as_slice()),
+            Request::Inc { key, step, ttl } => Ask::Inc {
+                key: key.as_slice(),
+                step: *step,
+                ttl: *ttl,
+            },
+            Request::Cas { key, expect, set } => Ask::Cas {
+                key: key.as_slice(),
+                expect: *expect,
+                set: *set,
+            },
             Request::Clear => Ask::Clear,
             Request::Retire => Ask::Retire,
         }
@@ -62,6 +86,10 @@ pub enum Reply {
     Found(Graph),
     /// No live row has the key.
     Absent,
+    /// What the counter is now.
+    Number(i64),
+    /// Nothing was counted: the value is no integer, or a new row finds no place.
+    NoNumber,
     /// The worker's end.
     Ended,
 }

@@ -143,6 +143,42 @@ fn delete(rt: &impl Abort, pair: &mut Pair, key: Bytes, t: u64) -> Result<bool, 
     Ok(done)
 }
 
+fn counted(rt: &impl Abort, reply: Reply) -> Option<i64> {
+    match reply {
+        Reply::Number(n) => Some(n),
+        Reply::NoNumber => None,
+        _ => panic!(rt; "counting is answered by a number or none"),
+    }
+}
+
+fn inc(
+    rt: &impl Abort,
+    pair: &mut Pair,
+    key: Bytes,
+    step: i64,
+    ttl: u32,
+    t: u64,
+) -> Result<Option<i64>, Fail> {
+    let number = pair.lending.inc(key.as_slice(), step, ttl, t)?;
+    let told = pair.asked.ask(&Request::Inc { key, step, ttl }, t)?;
+    assert_eq!(rt; counted(rt, told), number);
+    Ok(number)
+}
+
+fn cas(
+    rt: &impl Abort,
+    pair: &mut Pair,
+    key: Bytes,
+    expect: i64,
+    set: i64,
+    t: u64,
+) -> Result<bool, Fail> {
+    let done = pair.lending.cas(key.as_slice(), expect, set, t);
+    let told = pair.asked.ask(&Request::Cas { key, expect, set }, t)?;
+    assert_eq!(rt; flag(rt, told), done);
+    Ok(done)
+}
+
 fn clear(rt: &impl Abort, pair: &mut Pair, t: u64) -> Result<(), Fail> {
     pair.lending.clear();
     let told = pair.asked.ask(&Request::Clear, t)?;
@@ -159,6 +195,10 @@ pub(crate) enum Call {
     Fetch(u8, Option<i64>),
     Exists(u8, bool),
     Delete(u8, bool),
+    // by a step, with a ttl
+    Inc(u8, i64, u32, Option<i64>),
+    // from an integer to another
+    Cas(u8, i64, i64, bool),
     Clear,
     // the number 1 under the keys 1 to 30: they fill 480 words; the first has this ttl
     Fill(u32),
@@ -202,6 +242,14 @@ fn answer(rt: &impl Abort, pair: &mut Pair, name: u8, call: Call, t: u64) -> Res
             let done = delete(rt, pair, key, t)?;
             assert_eq!(rt; done, expected);
         }
+        Call::Inc(_, step, ttl, expected) => {
+            let number = inc(rt, pair, key, step, ttl, t)?;
+            assert_eq!(rt; number, expected);
+        }
+        Call::Cas(_, expect, set, expected) => {
+            let done = cas(rt, pair, key, expect, set, t)?;
+            assert_eq!(rt; done, expected);
+        }
         _ => {}
     }
     Ok(())
@@ -222,7 +270,11 @@ fn do_call(rt: &impl Abort, pair: &mut Pair, call: Call, t: u64) -> Result<(), F
             let done = put(rt, pair, name, v, (0, true, t))?;
             assert_eq!(rt; done, expected);
         }
-        Call::Fetch(name, _) | Call::Exists(name, _) | Call::Delete(name, _) => {
+        Call::Fetch(name, _)
+        | Call::Exists(name, _)
+        | Call::Delete(name, _)
+        | Call::Inc(name, _, _, _)
+        | Call::Cas(name, _, _, _) => {
             answer(rt, pair, name, call, t)?;
         }
         Call::Clear => clear(rt, pair, t)?,

@@ -48,6 +48,58 @@ fn exists_deletes_and_clears(rt: HostRuntime) -> Result<(), Fail> {
     )
 }
 
+// A sum wraps in 64 bits. What is no integer is not counted with. A key without a live row counts
+// from 0, and a row that is there keeps its time to live.
+#[test]
+fn counts(rt: HostRuntime) -> Result<(), Fail> {
+    play(
+        &rt,
+        rt.alloc(),
+        0,
+        &[
+            (100, Call::Store(1, Value::Int(i64::MAX), 0, true)),
+            (100, Call::Inc(1, 1, 0, Some(i64::MIN))),
+            (100, Call::Inc(1, -1, 0, Some(i64::MAX))),
+            (100, Call::Store(2, Value::Text(3), 0, true)),
+            (100, Call::Inc(2, 1, 0, None)),
+            (100, Call::Fetch(2, Some(-1))),
+            (100, Call::Inc(3, 3, 0, Some(3))),
+            (100, Call::Inc(3, 1, 0, Some(4))),
+            (100, Call::Inc(3, 1, 0, Some(5))),
+            (100, Call::Inc(4, 7, 10, Some(7))),
+            (110, Call::Inc(4, 1, 0, Some(8))),
+            (111, Call::Inc(4, 5, 0, Some(5))),
+            (111, Call::Counts(1, 0, 5, 0, 4)),
+            (111, Call::Clear),
+            (111, Call::Fill(0)),
+            (111, Call::Inc(31, 2, 0, Some(2))),
+            (111, Call::Counts(0, 0, 1, 1, 1)),
+        ],
+    )
+}
+
+#[test]
+fn swaps_what_is_expected(rt: HostRuntime) -> Result<(), Fail> {
+    play(
+        &rt,
+        rt.alloc(),
+        0,
+        &[
+            (100, Call::Store(1, Value::Int(1), 10, true)),
+            (100, Call::Cas(1, 1, 2, true)),
+            (100, Call::Cas(1, 1, 2, false)),
+            (100, Call::Fetch(1, Some(2))),
+            (111, Call::Cas(1, 2, 3, false)),
+            (111, Call::Cas(2, 0, 1, false)),
+            (111, Call::Exists(2, false)),
+            (111, Call::Store(3, Value::Text(1), 0, true)),
+            (111, Call::Cas(3, -1, 1, false)),
+            (111, Call::Fetch(3, Some(-1))),
+            (111, Call::Counts(2, 0, 2, 0, 2)),
+        ],
+    )
+}
+
 #[test]
 fn retires(rt: HostRuntime) -> Result<(), Fail> {
     let mut plain = Plain::new(rt.alloc(), &small(0));

@@ -1,17 +1,18 @@
 -- The row of a key is dropped, or used.
 use Rattle.std.proofs.Common.{◌≡◌, inl, inr, ℕ, ◌≤◌, Bool, true, false, cond, List, [], ◌∷◌, map, filter, Option, Some, refl, sym, ap, ◌∙◌, subst, arith}
-use Rattle.std.specs.Prelude.{is_some, if◌then◌else◌}
+use Rattle.std.specs.Prelude.{ℤ, is_some, if◌then◌else◌}
 use Rattle.std.specs.List.{Contains, count_by}
 use Rattle.std.proofs.lemmas.Bool.{cases_Bool, eq-eqb, false≢true, false_from_ne_true}
 use Rattle.seg_words.specs.Windows.{Aside, held_blocks}
 use Rattle.seg_words.specs.Probing.{Goes}
 use Rattle.apcu_model.specs.Cache.{Row, Cache, has_key, risen}
+use Rattle.apcu_model.specs.Counters.{with_integer, integer_at, integer_set}
 use Rattle.apcu_model.specs.Change.{dropped, deleted, cleared}
 use Rattle.apcu_model.specs.Expiry.{live_row}
 use Rattle.apcu_model.specs.Sequential.{touched, looked_up}
 use Rattle.apcu_model.specs.Walk.{in_slot_order}
 use Rattle.entry_slots.specs.Lists.{is_at, only_at}
-use Rattle.entry_slots.specs.Entries.{Entries, entries_of, touched_row, touched_in}
+use Rattle.entry_slots.specs.Entries.{Entries, entries_of, touched_row, touched_in, number_row, with_number}
 use Rattle.entry_slots.specs.Facts.{IsSound}
 use Rattle.ttl_expunge.specs.Dropping.{dropped_in}
 use Rattle.ttl_expunge.specs.Held.{Drops}
@@ -21,7 +22,7 @@ use Rattle.cache_core.specs.declared.tally.Tally.{Tally}
 use Rattle.cache_core.specs.Caching.{cache_of}
 use Rattle.cache_core.specs.Laws.{Laws}
 use Rattle.cache_core.proofs.Caching.{cache_made, whole_made}
-use Rattle.seg_words.specs.Members.{counted, count-cons, none_counted, filter_all, Contains-first, Contains-later, Contains-cases, Contains-filter}
+use Rattle.seg_words.specs.Members.{counted, count-cons, none_counted, filter_all, Contains-first, Contains-later, Contains-cases, Contains-filter, Contains-kept}
 use Rattle.entry_slots.specs.Having.{only_none}
 use Rattle.cache_core.proofs.Replacing.{IsOld, order_key}
 
@@ -53,24 +54,28 @@ map_alike : (f h : Row → Row) (rows : List Row) → ((row : Row) → Contains 
 map_alike f h [] e = refl
 map_alike f h (row ∷ rows) e = ap (λ x. x ∷ map f rows) (e row (Contains-first row rows)) ∙ ap (λ l. h row ∷ l) (map_alike f h rows (λ r c. e r (Contains-later row rows r c)))
 
--- the row at `at` was used, which is the one of the key
-pub touched_keyed : {s : Entries} {words windows : List ℕ} (key : List ℕ) (at t : ℕ) → IsOld s key at → IsSound s words windows
-    → map {A = Row} {B = Row} (touched_row at t) s.rows ≡ map {A = Row} {B = Row} (λ r. if has_key key r then touched t r else r) s.rows
-touched_keyed {s} key at t o sound =
-    map_alike (touched_row at t) (λ r. if has_key key r then touched t r else r) s.rows (λ row c. ap (λ (b : Bool). if b then touched t row else row) (same row c))
+-- the row at `at` is the one of the key
+pub at_key : {s : Entries} {words windows : List ℕ} (key : List ℕ) (at : ℕ) → IsOld s key at → IsSound s words windows → (row : Row) → Contains s.rows row → is_at at row ≡ has_key key row
+at_key {s} key at o sound row c = elim (cases_Bool (has_key key row)) [
+  | inl is ↦ (Contains-filter (is_at at) s.rows row (subst (λ l. Contains l row) (sym only) (Contains-kept (has_key key) s.rows row c is))).1 ∙ sym is
+  | inr isnt ↦ false_from_ne_true (is_at at row) (λ t.
+      false≢true (sym isnt ∙ (Contains-filter (has_key key) s.rows row (subst (λ l. Contains l row) only (Contains-kept (is_at at) s.rows row c t))).1)) ∙ sym isnt
+]
   where
     only : only_at at s.rows ≡ filter (has_key key) s.rows
     only = only_once at s.rows o.row o.there o.place (omega (arith, sound.once at)) ∙ sym o.one
 
-    kept : (p : Row → Bool) (rows : List Row) (row : Row) → Contains rows row → p row ≡ true → Contains (filter p rows) row
-    kept = Rattle.seg_words.specs.Members.Contains-kept
+-- it was used
+pub touched_keyed : {s : Entries} {words windows : List ℕ} (key : List ℕ) (at t : ℕ) → IsOld s key at → IsSound s words windows
+    → map {A = Row} {B = Row} (touched_row at t) s.rows ≡ map {A = Row} {B = Row} (λ r. if has_key key r then touched t r else r) s.rows
+touched_keyed {s} key at t o sound =
+    map_alike (touched_row at t) (λ r. if has_key key r then touched t r else r) s.rows (λ row c. ap (λ (b : Bool). if b then touched t row else row) (at_key key at o sound row c))
 
-    same : (row : Row) → Contains s.rows row → is_at at row ≡ has_key key row
-    same row c = elim (cases_Bool (has_key key row)) [
-      | inl is ↦ (Contains-filter (is_at at) s.rows row (subst (λ l. Contains l row) (sym only) (kept (has_key key) s.rows row c is))).1 ∙ sym is
-      | inr isnt ↦ false_from_ne_true (is_at at row) (λ t.
-          false≢true (sym isnt ∙ (Contains-filter (has_key key) s.rows row (subst (λ l. Contains l row) only (kept (is_at at) s.rows row c t))).1)) ∙ sym isnt
-    ]
+-- it holds an integer that was set
+pub set_keyed : {s : Entries} {words windows : List ℕ} (key : List ℕ) (at : ℕ) (n : ℤ) (t : ℕ) → IsOld s key at → IsSound s words windows
+    → map {A = Row} {B = Row} (number_row at n t) s.rows ≡ map {A = Row} {B = Row} (integer_at key n t) s.rows
+set_keyed {s} key at n t o sound =
+    map_alike (number_row at n t) (integer_at key n t) s.rows (λ row c. ap (λ (b : Bool). if b then with_integer n t row else row) (at_key key at o sound row c))
 
 -- a core's cache once the row of a key was dropped
 pub core_deleted : (laws : Laws) (old new : Core) {before after : Aside} {words windows : List ℕ} (key : List ℕ) (t at : ℕ) → entries old.slots ≡ entries_of (cache_of old) → IsOld (entries old.slots) key at
@@ -132,3 +137,26 @@ core_touched old new key t at row whole o sound now conf tally live =
       same ∙ ap (λ (r : Option Row). looked_up key t r c) (sym live),
       whole_made new used e same,
     )
+
+-- a core's cache once the row at a place holds an integer that was set
+abbrev pub numbered : ℕ → ℤ → ℕ → Cache → Cache
+numbered at n t c = record c { rows = map {A = Row} {B = Row} (number_row at n t) c.rows }
+
+pub core_numbered : (old new : Core) (at : ℕ) (n : ℤ) (t : ℕ) → entries old.slots ≡ entries_of (cache_of old) → entries new.slots ≡ with_number at n t (entries old.slots) → new.conf ≡ old.conf → new.tally ≡ old.tally
+    → (cache_of new ≡ numbered at n t (cache_of old)) × (entries new.slots ≡ entries_of (cache_of new))
+core_numbered old new at n t whole now conf tally =
+    let d : Cache = numbered at n t (cache_of old) in
+    let e : entries new.slots ≡ entries_of d = now ∙ ap (λ (y : Entries). with_number at n t y) whole in
+    let same : cache_of new ≡ d = cache_made new d e conf (record {
+      hits = ap (λ (x : Tally). x.hits) tally;
+      misses = ap (λ (x : Tally). x.misses) tally;
+      inserts = ap (λ (x : Tally). x.inserts) tally;
+      expunges = ap (λ (x : Tally). x.expunges) tally;
+    }) in
+    (same, whole_made new d e same)
+
+-- that is the one of the key
+pub numbered_keyed : (old : Core) {words windows : List ℕ} (key : List ℕ) (at : ℕ) (n : ℤ) (t : ℕ) → IsOld (entries old.slots) key at → IsSound (entries old.slots) words windows
+    → numbered at n t (cache_of old) ≡ integer_set key n t (cache_of old)
+numbered_keyed old key at n t o sound =
+    ap (λ (l : List Row). let x : Cache = record (cache_of old) { rows = l } in x) (set_keyed key at n t o sound)

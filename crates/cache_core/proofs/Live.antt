@@ -69,3 +69,20 @@ pub spot_found : {X R : Type 0} (gh : Ghosts X R) (seg : X) (key : List ℕ) (t 
     → is_some r ≡ is_some (live_row key t c)
 spot_found gh seg key t c None some none = ap is_some (sym none)
 spot_found gh seg key t c (Some spot) some none = ap is_some (sym some.1.live)
+
+-- a row that a look-up finds is the first of its key
+pub live_first : (key : List ℕ) (t : ℕ) (rows : List Row) (row : Row) → are_apart rows ≡ true → found key t rows ≡ Some row → find (has_key key) rows ≡ Some row
+live_first key t rows row apart h = go (find (has_key key) rows) refl
+  where
+    pick : (r : Row) (b : Bool) → cond b (Some r) None ≡ Some row → Some r ≡ Some row
+    pick r true q = q
+    pick r false q = absurd (cc q)
+
+    go : (o : Option Row) → find (has_key key) rows ≡ o → find (has_key key) rows ≡ Some row
+    go None e = let none : None ≡ Some row = sym (not_live key t rows e) ∙ h in absurd (cc none)
+    go (Some r) e = e ∙ pick r (not (is_hard_expired t r)) (sym (live_as key t rows r apart e) ∙ h)
+
+-- and the one of its key in sound entries
+pub old_live : {s : Entries} {words windows : List ℕ} (key : List ℕ) (t at : ℕ) (row : Row) → IsSound s words windows → found key t s.rows ≡ Some row → row.place ≡ at → IsOld s key at
+old_live {s} key t at row sound live place =
+    old_is key at sound (sym (ap (option_map (λ (row : Row). row.place)) (live_first key t s.rows row sound.apart live) ∙ ap (λ n. Some n) place))

@@ -4,3 +4,4 @@ pub mod Looking
 pub mod Caching
 pub mod Lending
 pub mod Storing
+pub mod Integers

@@ -3,6 +3,7 @@
 
 mod cache;
 mod dropping;
+mod integers;
 mod looking;
 mod lower;
 mod placing;

@@ -13,6 +13,8 @@ is_fetch (request.Fetch key) = true
 is_fetch (request.Store key value ttl exclusive) = false
 is_fetch (request.Exists key) = false
 is_fetch (request.Delete key) = false
+is_fetch (request.Inc key step ttl) = false
+is_fetch (request.Cas key expect set) = false
 is_fetch request.Clear = false
 is_fetch request.Retire = false
 

@@ -91,6 +91,8 @@ opens_own w v ne t (request.Fetch key) c l = found (live_row key t c)
 opens_own w v ne t (request.Store key value ttl exclusive) c l = refl
 opens_own w v ne t (request.Exists key) c l = refl
 opens_own w v ne t (request.Delete key) c l = refl
+opens_own w v ne t (request.Inc key step ttl) c l = refl
+opens_own w v ne t (request.Cas key expect set) c l = refl
 opens_own w v ne t request.Clear c l = refl
 opens_own w v ne t request.Retire c l = refl
 

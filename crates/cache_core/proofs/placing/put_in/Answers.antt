@@ -1,4 +1,3 @@
-use Rattle.ttl_expunge.specs.Held.{Drops}
 use Rattle.cache_core.proofs.Replacing.{puts_from}
 use Rattle.entry_slots.specs.Standing.{entries}
 use Rattle.cache_core.proofs.placing.put_in.Goals as goal

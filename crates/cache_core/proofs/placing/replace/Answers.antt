@@ -1,4 +1,4 @@
-use Rattle.std.proofs.Common.{◌≡◌, ◌≢◌, true, false, sym, ap, ◌∙◌, subst}
+use Rattle.std.proofs.Common.{◌≡◌, true, false, sym, ap, ◌∙◌, subst}
 use Rattle.std.proofs.lemmas.Bool.{or_left, not-true, not-false}
 use Rattle.seg_words.specs.Windows.{Aside, has, is_named, held_blocks}
 use Rattle.entry_slots.specs.Lists.{is_at, has_place}

@@ -1,0 +1,54 @@
+//! Integers under keys: looked at without a use, and set in their place.
+
+ghost use Rattle.std.specs.Prelude.{◌≡◌, ℕ, ◌<◌, ◌^◌, List, false, length, option_map, Some};
+ghost use Rattle.seg_words.specs.Kept.{Kept, KeptBeside};
+ghost use Rattle.seg_words.specs.Windows.{is_named};
+ghost use Rattle.apcu_model.specs.Cache.{Row};
+ghost use Rattle.apcu_model.specs.Counters.{integer_set};
+ghost use Rattle.apcu_model.specs.Expiry.{live_row};
+ghost use Rattle.entry_slots.specs.Entries.{HoldsInt};
+ghost use Rattle.entry_slots.specs.Standing.{entries};
+ghost use Rattle.cache_core.specs.Caching.{cache_of, CacheStands};
+ghost use Rattle.cache_core.specs.Looking.{scalar_of};
+
+use crate::cache::Core;
+use crate::scalar::{Scalar, read_scalar};
+use entry_slots::standing_laws;
+use seg_words::{Segment, WordsIn};
+
+impl Core {
+    /// The place of the row that a look-up of the key at the moment `t`, in seconds, finds, and its
+    /// value where that is null, a truth value or an integer. Nothing is counted, and the row is
+    /// not used.
+    pub fn peek<S: Segment>(&self, seg: &mut S, key: &[u8], t: u64) -> Option<(u32, Option<Scalar>)>
+        requires short { length key.now < 2 ^ 32 }
+        requires stand { CacheStands S.WordsIn self.now seg.old }
+        ensures found { result ≡ option_map (λ (row : Row). (row.place, scalar_of row.graph))
+            (live_row key.now t (cache_of self.now)) }
+        ensures kept { Kept S.WordsIn seg.old seg.new }
+    {
+        let Some((at, head)) = self.find_live(seg, key, t) else {
+            return None;
+        };
+        Some((at, read_scalar(seg, head.image, head.image_len)))
+    }
+
+    /// Makes `n` the value of the row at `at`, which holds an integer, changed at the moment `t`.
+    /// That is no use of it. No window may name its block.
+    ///
+    /// For each key under which a look-up at some moment finds that row, the cache is the one in
+    /// which its integer was set.
+    pub fn set_int<S: Segment>(&mut self, seg: &mut S, at: u32, n: i64, t: u64)
+        requires stand { CacheStands S.WordsIn self.old seg.old }
+        requires int { HoldsInt (entries self.old.slots) at }
+        requires unnamed { is_named (S.aside seg.old).windows at ≡ false }
+        ensures cache { (key : List ℕ) (seen : ℕ) (row : Row)
+            → live_row key seen (cache_of self.old) ≡ Some row → row.place ≡ at
+            → cache_of self.new ≡ integer_set key n t (cache_of self.old) }
+        ensures stand { CacheStands S.WordsIn self.new seg.new }
+        ensures beside { KeptBeside S.WordsIn seg.old seg.new }
+    {
+        standing_laws();
+        self.slots.set_int(seg, at, n, t);
+    }
+}

@@ -1,0 +1,171 @@
+-- What a look-up for an integer finds, and the cache once the integer was set.
+use Rattle.std.proofs.Common.{◌≡◌, ℕ, Bool, true, false, not, ◌&&◌, cond, List, [], ◌∷◌, ◌++◌, map, Option, Some, None, refl, sym, ap, ◌∙◌, subst, inl, inr}
+use Rattle.std.specs.Prelude.{ℤ, Contains, find, option_map, if◌then◌else◌}
+use Rattle.std.proofs.lemmas.List.Elements.{Contains-append_left, Contains-append_right, Contains-append_cases}
+use Rattle.seg_words.specs.declared.segment.WordsIn.{Ghosts}
+use Rattle.seg_words.specs.Windows.{Aside, is_named}
+use Rattle.seg_words.specs.Kept.{Kept}
+use Rattle.seg_words.specs.Members.{Contains-first, Contains-later, Contains-map}
+use Rattle.php_graph.specs.declared.kind.Kind.{Kind}
+use Rattle.php_graph.specs.declared.kind.Kind.TheVariants as kinds
+use Rattle.php_graph.specs.Graph.{kind_at}
+use Rattle.apcu_model.specs.declared.request.StoreAnswer.{StoreAnswer}
+use Rattle.apcu_model.specs.declared.request.StoreAnswer.TheVariants as answers
+use Rattle.apcu_model.specs.Cache.{Row, Cache, has_key}
+use Rattle.apcu_model.specs.Expiry.{is_hard_expired, live_row}
+use Rattle.apcu_model.specs.History.{is_scalar}
+use Rattle.apcu_model.specs.Counters.{integer_in, with_integer, integer_at, integer_set, number_if}
+use Rattle.entry_slots.specs.Entries.{HoldsInt}
+use Rattle.entry_slots.specs.Standing.{Stands, entries}
+use Rattle.ttl_expunge.specs.Held.{KeepsOpen}
+use Rattle.cache_core.specs.declared.cache.Core.{Core}
+use Rattle.cache_core.specs.declared.scalar.Scalar.{Scalar}
+use Rattle.cache_core.specs.Caching.{cache_of, CacheStands}
+use Rattle.cache_core.specs.Integers.{NameNoScalar}
+use Rattle.cache_core.specs.Looking.{scalar_of}
+use Rattle.counter_entry.specs.declared.looking.Found.TheVariants.{Nothing, Other, Integer}
+use Rattle.counter_entry.specs.Numbers.{integer_of, found_at, found_of, begun_answer, number_of}
+
+integer_is : (g : List Kind) → integer_of (scalar_of g) ≡ integer_in g
+integer_is [] = refl
+integer_is (kinds.Null ∷ ks) = refl
+integer_is (kinds.Bool b ∷ ks) = refl
+integer_is (kinds.Int n ∷ ks) = refl
+integer_is (kinds.Str s ∷ ks) = refl
+integer_is (kinds.Array ms ∷ ks) = refl
+integer_is (kinds.Object class ps ∷ ks) = refl
+integer_is (kinds.Same x ∷ ks) = refl
+
+-- what a look at a row without a use tells
+abbrev pub seen : Option Row → Option (ℕ × Option Scalar)
+seen o = option_map (λ (row : Row). (row.place, scalar_of row.graph)) o
+
+pub nothing_seen : (o : Option Row) → None ≡ seen o → Nothing ≡ found_of o
+nothing_seen None h = refl
+nothing_seen (Some row) h = absurd (cc h)
+
+pub row_seen : (o : Option Row) (p : ℕ × Option Scalar) → Some p ≡ seen o → found_at p.0 (integer_of p.1) ≡ found_of o
+row_seen None p h = absurd (cc h)
+row_seen (Some row) p h =
+    let same : p ≡ (row.place, scalar_of row.graph) = cc h in
+    ap (λ (q : ℕ × Option Scalar). found_at q.0 (integer_of q.1)) same ∙ ap (found_at row.place) (integer_is row.graph)
+
+-- the row that holds the integer n at the place `at`
+pub record IsCounter (key : List ℕ) (t : ℕ) (c : Cache) (at : ℕ) (n : ℤ) : Type 0 where
+  pub row : Row
+  pub live : live_row key t c ≡ Some row
+  pub place : row.place ≡ at
+  pub int : integer_in row.graph ≡ Some n
+
+pub counter_of : (key : List ℕ) (t : ℕ) (c : Cache) (at : ℕ) (n : ℤ) → Integer at n ≡ found_of (live_row key t c) → IsCounter key t c at n
+counter_of key t c at n h = go (live_row key t c) refl h
+  where
+    at_int : (row : Row) → live_row key t c ≡ Some row → (o : Option ℤ) → integer_in row.graph ≡ o → Integer at n ≡ found_at row.place o → IsCounter key t c at n
+    at_int row live None e q = absurd (cc q)
+    at_int row live (Some m) e q =
+        let place : at ≡ row.place = cc q in
+        let same : n ≡ m = cc q in
+        record { row = row; live = live; place = sym place; int = e ∙ ap (λ z. Some z) (sym same) }
+
+    go : (o : Option Row) → live_row key t c ≡ o → Integer at n ≡ found_of o → IsCounter key t c at n
+    go None live q = absurd (cc q)
+    go (Some row) live q = at_int row live (integer_in row.graph) refl q
+
+pub nothing_of : (o : Option Row) → Nothing ≡ found_of o → o ≡ None
+nothing_of None h = refl
+nothing_of (Some row) h = go (integer_in row.graph) h
+  where
+    go : (i : Option ℤ) → Nothing ≡ found_at row.place i → Some row ≡ None
+    go None q = absurd (cc q)
+    go (Some n) q = absurd (cc q)
+
+-- a row that holds no integer
+pub other_of : (o : Option Row) → Other ≡ found_of o → (row : Row) × (o ≡ Some row) × (integer_in row.graph ≡ None)
+other_of None h = absurd (cc h)
+other_of (Some row) h = (row, refl, go (integer_in row.graph) h)
+  where
+    go : (i : Option ℤ) → Other ≡ found_at row.place i → i ≡ None
+    go None q = refl
+    go (Some n) q = absurd (cc q)
+
+found_there : (p : Row → Bool) (rows : List Row) (row : Row) → find p rows ≡ Some row → Contains rows row
+found_there p [] row h = absurd (cc h)
+found_there p (x ∷ rows) row h = go (p x) (found_there p rows row) h
+  where
+    go : (b : Bool) → (find p rows ≡ Some row → Contains rows row) → cond b (Some x) (find p rows) ≡ Some row → Contains (x ∷ rows) row
+    go true later q = let e : x ≡ row = cc q in subst (λ z. Contains (x ∷ rows) z) e (Contains-first x rows)
+    go false later q = Contains-later x rows row (later q)
+
+live_there : (key : List ℕ) (t : ℕ) (c : Cache) (row : Row) → live_row key t c ≡ Some row → Contains c.rows row
+live_there key t c row h = found_there (λ row. has_key key row && not (is_hard_expired t row)) c.rows row h
+
+int_kind : (g : List Kind) (n : ℤ) → integer_in g ≡ Some n → kind_at g 1 ≡ Some (kinds.Int n)
+int_kind [] n e = absurd (cc e)
+int_kind (kinds.Null ∷ ks) n e = absurd (cc e)
+int_kind (kinds.Bool b ∷ ks) n e = absurd (cc e)
+int_kind (kinds.Int m ∷ ks) n e = let same : m ≡ n = cc e in ap (λ z. Some (kinds.Int z)) same
+int_kind (kinds.Str s ∷ ks) n e = absurd (cc e)
+int_kind (kinds.Array ms ∷ ks) n e = absurd (cc e)
+int_kind (kinds.Object class ps ∷ ks) n e = absurd (cc e)
+int_kind (kinds.Same x ∷ ks) n e = absurd (cc e)
+
+int_scalar : (g : List Kind) (n : ℤ) → integer_in g ≡ Some n → is_scalar g ≡ true
+int_scalar [] n e = absurd (cc e)
+int_scalar (kinds.Null ∷ ks) n e = absurd (cc e)
+int_scalar (kinds.Bool b ∷ ks) n e = absurd (cc e)
+int_scalar (kinds.Int m ∷ ks) n e = refl
+int_scalar (kinds.Str s ∷ ks) n e = absurd (cc e)
+int_scalar (kinds.Array ms ∷ ks) n e = absurd (cc e)
+int_scalar (kinds.Object class ps ∷ ks) n e = absurd (cc e)
+int_scalar (kinds.Same x ∷ ks) n e = absurd (cc e)
+
+-- its value may be set
+pub holds_int : {key : List ℕ} {t : ℕ} (core : Core) {at : ℕ} {n : ℤ} → IsCounter key t (cache_of core) at n → HoldsInt (entries core.slots) at
+holds_int {key} {t} core {n = n} k = record { row = k.row; there = live_there key t (cache_of core) k.row k.live; place = k.place; number = n; int = int_kind k.row.graph n k.int }
+
+pub unnamed_at : {key : List ℕ} {t : ℕ} {c : Cache} {at : ℕ} {n : ℤ} (old new : Aside) → IsCounter key t c at n → NameNoScalar old.windows c.rows → new ≡ old → is_named new.windows at ≡ false
+unnamed_at {key} {t} {c} {at} {n} old new k names same =
+    ap (λ (a : Aside). is_named a.windows at) same
+    ∙ subst (λ p. is_named old.windows p ≡ false) k.place (names.each k.row (live_there key t c k.row k.live) (int_scalar k.row.graph n k.int))
+
+-- what stands does so after a call that only reads
+pub cache_kept : {X R : Type 0} {gh : Ghosts X R} {old new : X} (core : Core) → Kept gh old new → CacheStands gh core old → CacheStands gh core new
+cache_kept {gh = gh} {old} {new} core kept st = record {
+  stand = subst (λ ws. Stands core.slots ws (gh.aside new) (entries core.slots)) (sym kept.words) (subst (λ (a : Aside). Stands core.slots (gh.words old) a (entries core.slots)) (sym kept.aside) st.stand);
+  whole = st.whole;
+}
+
+-- the rows stay
+pub same_keeps : (windows : List ℕ) (core : Core) → KeepsOpen windows (entries core.slots) (entries core.slots)
+same_keeps windows core = record { each = λ row l named. (row, l, refl, refl) }
+
+pub set_keeps : (windows key : List ℕ) (n : ℤ) (t : ℕ) (old new : Core) → cache_of new ≡ integer_set key n t (cache_of old) → KeepsOpen windows (entries old.slots) (entries new.slots)
+set_keeps windows key n t old new is = record {
+  each = λ row l named. subst (λ (c : Cache). (kept : Row) × Contains (c.rows ++ c.removed) kept × (kept.place ≡ row.place) × (kept.number ≡ row.number)) (sym is) (still row l);
+}
+  where
+    c : Cache
+    c = cache_of old
+
+    f : Row → Row
+    f = integer_at key n t
+
+    place : (row : Row) (b : Bool) → (if b then with_integer n t row else row).place ≡ row.place
+    place row true = refl
+    place row false = refl
+
+    number : (row : Row) (b : Bool) → (if b then with_integer n t row else row).number ≡ row.number
+    number row true = refl
+    number row false = refl
+
+    still : (row : Row) → Contains (c.rows ++ c.removed) row → (kept : Row) × Contains (map {A = Row} {B = Row} f c.rows ++ c.removed) kept × (kept.place ≡ row.place) × (kept.number ≡ row.number)
+    still row l = elim (Contains-append_cases c.rows c.removed row l) [
+      | inl k ↦ (f row, Contains-append_left (map {A = Row} {B = Row} f c.rows) c.removed (f row) (Contains-map f c.rows row k), place row (has_key key row), number row (has_key key row))
+      | inr k ↦ (row, Contains-append_right (map {A = Row} {B = Row} f c.rows) c.removed row k, refl, refl)
+    ]
+
+pub number_begun : (step : ℤ) (a : StoreAnswer) → number_if step a ≡ number_of (begun_answer step a)
+number_begun step answers.Stored = refl
+number_begun step answers.TooLarge = refl
+number_begun step answers.Exists = refl
+number_begun step answers.NoRoom = refl

@@ -1,0 +1,11 @@
+/// How counting came out.
+#[derive(Clone, Copy, Debug, PartialEq, Eq)]
+pub enum IncAnswer {
+    /// A look-up finds a row whose value is no integer. Nothing changed.
+    NotInteger,
+    /// A look-up finds no row, and a new one finds no place: it is too large, or no gap is large
+    /// enough after room was made.
+    NoRoom,
+    /// What the counter is now.
+    Value(i64),
+}
