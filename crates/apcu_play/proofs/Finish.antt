@@ -1,4 +1,4 @@
--- The end of one worker's play.
+-- What is printed piece by piece.
 use Rattle.std.proofs.Common.{◌≡◌, ℕ, ◌+◌, List, [], ◌∷◌, ◌++◌, take, get_or, Some, refl, sym, ap, ap₂, length, ◌≤◌, length-append, arith, subst, ◌∙◌, append_assoc}
 use Rattle.std.specs.Prelude.{codes, slice_get}
 use Rattle.std.specs.Fmt.{decimal}
@@ -6,14 +6,9 @@ use Rattle.std.specs.List.{flat_map, AllByRecursion}
 use Rattle.std.proofs.lemmas.List.{append-nil, take_more}
 use Rattle.std.proofs.lemmas.Option.{slice_get_within, get_or_from_slice_get}
 use Rattle.std.proofs.lemmas.Grind.{flat_map-append}
-use Rattle.apcu_model.specs.declared.conf.Conf.{Conf}
 use Rattle.apcu_model.specs.declared.journal.Mark.{Mark}
-use Rattle.apcu_model.specs.Cache.{Cache, empty_cache}
-use Rattle.script_read.specs.declared.script.Step.{Step}
-use Rattle.apcu_play.specs.Alone.{lines_of, own_mark, marks_for, alone_text}
 use Rattle.script_read.specs.Grammar.{ends_line}
-use Rattle.apcu_play.specs.Output.{mark_line, journal_lines, IsOutput}
-use Rattle.apcu_play.proofs.Alone.{output_alone, output_none}
+use Rattle.apcu_play.specs.Output.{mark_line, worker_texts}
 
 -- one mark more is written
 pub journal_goes_on : (before out next head : List ℕ) (marks : List Mark) (i : ℕ) (mark : Mark) → out ≡ before ++ (head ++ flat_map mark_line (take i marks)) → next ≡ out ++ mark_line mark → slice_get marks i ≡ Some mark
@@ -26,29 +21,37 @@ journal_goes_on before out next head marks i mark so_far written at =
     ∙ (append_assoc before (head ++ flat_map mark_line (take i marks)) (mark_line mark)
     ∙ ap (λ (l : List ℕ). before ++ l) (append_assoc head (flat_map mark_line (take i marks)) (mark_line mark) ∙ ap (λ (l : List ℕ). head ++ l) (sym lines))))
 
-abbrev pub head_text : List ℕ
-head_text = codes "worker " ++ decimal 0 ++ ends_line
+-- one worker more
+worker_texts-append : (w : ℕ) (texts : List (List ℕ)) (text : List ℕ) → worker_texts w (texts ++ text ∷ []) ≡ worker_texts w texts ++ (codes "worker " ++ decimal (w + length texts) ++ ends_line ++ text)
+worker_texts-append w [] text =
+    let n : w ≡ w + 0 = omega arith in
+    ap (λ (l : List ℕ). codes "worker " ++ decimal w ++ ends_line ++ l) (append-nil text) ∙ ap (λ v. codes "worker " ++ decimal v ++ ends_line ++ text) n
+worker_texts-append w (x ∷ xs) text =
+    let n : (w + 1) + length xs ≡ w + length (x ∷ xs) = omega arith in
+    let last = codes "worker " ++ decimal (w + length (x ∷ xs)) ++ ends_line ++ text in
+    let later : worker_texts (w + 1) (xs ++ text ∷ []) ≡ worker_texts (w + 1) xs ++ last =
+    worker_texts-append (w + 1) xs text ∙ ap (λ v. worker_texts (w + 1) xs ++ (codes "worker " ++ decimal v ++ ends_line ++ text)) n in
+    ap (λ (l : List ℕ). codes "worker " ++ decimal w ++ ends_line ++ x ++ l) later ∙ moved (codes "worker ") (decimal w) ends_line x (worker_texts (w + 1) xs) last
+  where
+    moved : (a b c d e f : List ℕ) → a ++ b ++ c ++ d ++ (e ++ f) ≡ (a ++ b ++ c ++ d ++ e) ++ f
+    moved a b c d e f =
+        sym (append_assoc a (b ++ c ++ d ++ e) f ∙ ap (λ (l : List ℕ). a ++ l)
+        (append_assoc b (c ++ d ++ e) f ∙ ap (λ (l : List ℕ). b ++ l)
+        (append_assoc c (d ++ e) f ∙ ap (λ (l : List ℕ). c ++ l) (append_assoc d e f))))
 
-pub is_output : (conf : Conf) (script steps : List Step) (fresh headed out printed : List ℕ) (plain : Cache) (none marks all : List Mark) (mark : Mark)
-    → fresh ≡ [] → headed ≡ fresh ++ codes "worker " ++ decimal 0 ++ ends_line → plain ≡ empty_cache conf → steps ≡ script → out ≡ headed ++ lines_of plain steps
-    → none ≡ [] → marks ++ own_mark ∷ [] ≡ none ++ marks_for steps → mark ≡ own_mark → all ≡ marks ++ mark ∷ []
-    → printed ≡ out ++ journal_lines all → IsOutput conf (script ∷ []) printed
-is_output conf script steps fresh headed out printed plain none marks all mark e1 e2 e3 e4 e5 e6 e7 e8 e9 e10 =
-    let head : headed ≡ head_text = e2 ∙ ap (λ (l : List ℕ). l ++ codes "worker " ++ decimal 0 ++ ends_line) e1 in
-    let lines : out ≡ head_text ++ lines_of (empty_cache conf) script =
-    e5 ∙ (ap₂ (λ (h : List ℕ) (c : Cache). h ++ lines_of c steps) head e3 ∙ ap (λ (s : List Step). head_text ++ lines_of (empty_cache conf) s) e4) in
-    let own : all ≡ marks_for script = e9 ∙ (ap (λ (m : Mark). marks ++ m ∷ []) e8 ∙ (e7 ∙ ap₂ (λ (n : List Mark) (s : List Step). n ++ marks_for s) e6 e4)) in
-    let text : printed ≡ alone_text conf script = e10 ∙ ap₂ (λ (l : List ℕ) (m : List Mark). l ++ journal_lines m) lines own in
-    subst (λ (l : List ℕ). IsOutput conf (script ∷ []) l) (sym text) (output_alone conf script)
-
--- the only script
-pub is_output_of_last : (conf : Conf) (scripts front : List (List Step)) (script : List Step) (printed : List ℕ) → scripts ≡ front ++ script ∷ [] → length scripts ≤ 1 → IsOutput conf (script ∷ []) printed → IsOutput conf scripts printed
-is_output_of_last conf scripts [] script printed is few output = subst (λ (s : List (List Step)). IsOutput conf s printed) (sym is) output
-is_output_of_last conf scripts (first ∷ front) script printed is few output =
-    let n = ap length is in absurd (omega (arith, n, length-append front (script ∷ [])))
-
--- no script
-pub is_output_of_none : (conf : Conf) (scripts : List (List Step)) (fresh printed : List ℕ) → scripts ≡ [] → fresh ≡ [] → printed ≡ fresh ++ codes "journal\n" → IsOutput conf scripts printed
-is_output_of_none conf scripts fresh printed none e1 e2 =
-    subst (λ (s : List (List Step)). IsOutput conf s printed) (sym none)
-    (subst (λ (l : List ℕ). IsOutput conf [] l) (sym (e2 ∙ ap (λ (f : List ℕ). f ++ codes "journal\n") e1)) (output_none conf))
+-- one worker more is written
+pub texts_go_on : (before out headed next : List ℕ) (texts : List (List ℕ)) (i : ℕ) (text : List ℕ) → i < length texts → out ≡ before ++ worker_texts 0 (take i texts)
+    → headed ≡ out ++ (codes "worker " ++ decimal i ++ ends_line) → next ≡ headed ++ text → slice_get texts i ≡ Some text
+    → next ≡ before ++ worker_texts 0 (take (i + 1) texts)
+texts_go_on before out headed next texts i text few so_far head written at =
+    let more : take (i + 1) texts ≡ take i texts ++ text ∷ [] = take_more texts i text few ∙ ap (λ (m : List ℕ). take i texts ++ m ∷ []) (get_or_from_slice_get texts i text text at) in
+    let n : length (take i texts) ≡ i = length-take i texts ∙ omega (arith, few) in
+    let all : worker_texts 0 (take (i + 1) texts) ≡ worker_texts 0 (take i texts) ++ (codes "worker " ++ decimal i ++ ends_line ++ text) =
+    ap (worker_texts 0) more ∙ (worker_texts-append 0 (take i texts) text ∙ ap (λ v. worker_texts 0 (take i texts) ++ (codes "worker " ++ decimal v ++ ends_line ++ text)) n) in
+    written ∙ (ap (λ (l : List ℕ). l ++ text) (head ∙ ap (λ (l : List ℕ). l ++ (codes "worker " ++ decimal i ++ ends_line)) so_far)
+    ∙ (joined before (worker_texts 0 (take i texts)) (codes "worker ") (decimal i) ends_line text ∙ ap (λ (l : List ℕ). before ++ l) (sym all)))
+  where
+    joined : (a b c d e f : List ℕ) → ((a ++ b) ++ (c ++ d ++ e)) ++ f ≡ a ++ (b ++ (c ++ d ++ e ++ f))
+    joined a b c d e f =
+        append_assoc (a ++ b) (c ++ d ++ e) f ∙ (append_assoc a b ((c ++ d ++ e) ++ f)
+        ∙ ap (λ (l : List ℕ). a ++ (b ++ l)) (append_assoc c (d ++ e) f ∙ ap (λ (l : List ℕ). c ++ l) (append_assoc d e f)))

@@ -1,4 +1,3 @@
-pub mod Alone
 pub mod Masks
 pub mod Finish
 pub mod Telling

@@ -10,8 +10,8 @@ use Rattle.script_read.specs.Grammar.{AreScripts}
 use Rattle.std.proofs.lemmas.List.{append-nil}
 use Rattle.std.specs.Io.KnownBytes.{prepend_known, IsAtEnd}
 use Rattle.script_read.specs.Ties.{ScriptsAreOne}
-use Rattle.apcu_play.specs.Alone.{all_events}
-use Rattle.apcu_play.specs.Run.{longest_input, most_events, WasRead, AnswersInput, Replays, ReplaysPart, IsRefused, IsCrowded, IsUnlessMemory, Completes}
+use Rattle.crew_play.specs.Budgets.{all_events, most_events}
+use Rattle.apcu_play.specs.Run.{longest_input, WasRead, AnswersInput, Replays, ReplaysPart, IsRefused, IsCrowded, IsUnlessMemory, Completes}
 
 all_read : (left input : List ℕ) (after : Option (List ℕ)) → Some left ≡ prepend_known input after → IsAtEnd after → left ≡ input
 all_read left input None taken end = absurd cc

@@ -1,5 +1,4 @@
 pub mod Output
-pub mod Alone
 pub mod Message
 pub mod Options
 pub mod Run

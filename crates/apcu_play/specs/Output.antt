@@ -4,20 +4,17 @@ use Rattle.std.specs.Fmt.{decimal}
 use Rattle.std.specs.List.{flat_map, range_with_len}
 use Rattle.apcu_model.specs.declared.conf.Conf.{Conf}
 use Rattle.apcu_model.specs.declared.journal.Mark.{Mark}
-use Rattle.apcu_model.specs.declared.request.Reply.{Reply}
 use Rattle.apcu_model.specs.History.{is_in_mask}
 use Rattle.script_read.specs.declared.script.Step.{Step}
 use Rattle.script_read.specs.Grammar.{ends_line}
 use Rattle.script_read.specs.Play.{Play, played, IsLegal, IsComplete}
-use Rattle.reply_text.specs.Lines.{script_lines}
+use Rattle.crew_play.specs.Played.{texts_of}
 
--- for each worker, from number w on, its line and the lines of its calls
-abbrev pub worker_lines : Conf → ℕ → List (List Step) → List (List Reply) → List ℕ
-worker_lines conf w [] replies = []
-worker_lines conf w (script ∷ scripts) [] = []
-worker_lines conf w (script ∷ scripts) (replies ∷ others) =
-    codes "worker " ++ decimal w ++ ends_line ++ script_lines conf script replies
-    ++ worker_lines conf (w + 1) scripts others
+-- for each worker, from number w on, its line and then its text
+abbrev pub worker_texts : ℕ → List (List ℕ) → List ℕ
+worker_texts w [] = []
+worker_texts w (text ∷ texts) =
+    codes "worker " ++ decimal w ++ ends_line ++ text ++ worker_texts (w + 1) texts
 
 -- the workers of a mask that come before worker n, in rising order, each after a space
 unfoldable pub mask_text : ℕ → ℕ → List ℕ
@@ -31,11 +28,11 @@ mark_line mark = decimal mark.worker ++ mask_text mark.mask 64 ++ ends_line
 abbrev pub journal_lines : List Mark → List ℕ
 journal_lines journal = codes "journal" ++ ends_line ++ flat_map mark_line journal
 
--- after a legal journal: the replies of each worker, then the journal
+-- after a legal journal: the lines of each worker's calls, then the journal
 abbrev pub play_text : Conf → List (List Step) → List Mark → Option Play → List ℕ
 play_text conf scripts journal None = []
 play_text conf scripts journal (Some p) =
-    worker_lines conf 0 scripts p.replies ++ journal_lines journal
+    worker_texts 0 (texts_of conf scripts p.replies) ++ journal_lines journal
 
 abbrev pub output_of : Conf → List (List Step) → List Mark → List ℕ
 output_of conf scripts journal = play_text conf scripts journal (played conf scripts journal)

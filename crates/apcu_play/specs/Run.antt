@@ -13,16 +13,12 @@ use Rattle.script_read.specs.Gives.{IsFirstFault}
 use Rattle.apcu_play.specs.Message.{script_message}
 use Rattle.script_read.specs.Play.{IsLegal, IsComplete}
 use Rattle.script_read.specs.Grammar.{AreScripts}
-use Rattle.apcu_play.specs.Alone.{all_events}
+use Rattle.crew_play.specs.Budgets.{all_events, most_events}
 use Rattle.apcu_play.specs.Output.{output_of}
 
 -- the most bytes of input
 abbrev pub longest_input : ℕ
 longest_input = 67108864
-
--- the most events of a run, each worker's end included
-abbrev pub most_events : ℕ
-most_events = 4194304
 
 -- the input was read to its end, and is not too long
 pub record WasRead (left_before left_after : Option (List ℕ)) (input : List ℕ) : Type 0 where

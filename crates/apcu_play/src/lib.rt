@@ -2,8 +2,6 @@
 //! effect.
 #![tactic(auto)]
 
-mod calls;
-mod engine;
 mod messages;
 mod options;
 mod play;

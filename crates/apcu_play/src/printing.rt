@@ -9,11 +9,12 @@ use notation::ByteOut;
 use std::alloc::AllocError;
 
 // The line of a worker's number.
-pub fn write_worker(out: &mut ByteOut, worker: u32) -> Result<(), AllocError>
+pub fn write_worker(out: &mut ByteOut, worker: usize) -> Result<(), AllocError>
     ensures { OnOk result (out.new ≡ out.old ++ codes "worker " ++ decimal worker ++ ends_line) }
 {
+    let mut buffer = Buffer::new();
     out.push(b"worker ")?;
-    write_number(out, worker)?;
+    out.push(buffer.format(worker).as_bytes())?;
     out.push(b"\n")
 }
 

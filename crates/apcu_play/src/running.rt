@@ -10,9 +10,10 @@ ghost use Rattle.apcu_play.specs.Run.{longest_input, WasRead, AnswersInput, Repl
 
 use crate::messages::{tell, tell_fault};
 use crate::options::told_conf;
-use crate::play::{PlayFault, play};
+use crate::play::play;
 use crate::status::Status;
 use apcu_model::Conf;
+use crew_play::CrewFault;
 use io_edges::{Gate, ReadError, Sink, Source, read_all, write_all};
 use notation::{ByteOut, Reason};
 use script_read::{ScriptFault, read_scripts, readings_are_scripts};
@@ -83,7 +84,13 @@ fn ending_of(fault: &ScriptFault) -> Ending
 }
 
 // What the input asks for, as it is to be printed.
-fn answer<S: Source>(alloc: Global, conf: &Conf, input: &mut S) -> Result<ByteOut, Ending>
+fn answer<R: Threads + Wait + Sync, S: Source, G: Gate + Sync>(
+    rt: &R,
+    alloc: Global,
+    conf: &Conf,
+    input: &mut S,
+    gate: &G,
+) -> Result<ByteOut, Ending>
     requires good { IsGood conf.now }
     ensures answer { IfOk result (λ out.
         AnswersInput conf.now (S.left input.old) (S.left input.new) out) }
@@ -105,17 +112,24 @@ fn answer<S: Source>(alloc: Global, conf: &Conf, input: &mut S) -> Result<ByteOu
         Err(status) => return Err(Ending::of(status)),
     };
     match read_scripts(alloc, &bytes) {
-        Ok(scripts) => match play(alloc, conf, scripts) {
+        Ok(scripts) => match play(rt, alloc, conf, &scripts, gate) {
             Ok(out) => Ok(out),
-            Err(PlayFault::TooMany) => Err(Ending::of(Status::TooMany)),
-            Err(PlayFault::Memory) => Err(Ending::of(Status::NoMemory)),
+            Err(CrewFault::TooMany) => Err(Ending::of(Status::TooMany)),
+            Err(CrewFault::Memory) => Err(Ending::of(Status::NoMemory)),
         },
         Err(fault) => Err(ending_of(&fault)),
     }
 }
 
 // Answers the input on `out` by a cache of this shape, or tells why not.
-fn outcome_on<S: Source, K: Sink>(alloc: Global, conf: &Conf, input: &mut S, out: &mut K) -> Ending
+fn outcome_on<R: Threads + Wait + Sync, S: Source, K: Sink, G: Gate + Sync>(
+    rt: &R,
+    alloc: Global,
+    conf: &Conf,
+    input: &mut S,
+    out: &mut K,
+    gate: &G,
+) -> Ending
     requires good { IsGood conf.now }
     ensures replayed { result.status ≡ Status.Done → Replays conf.now
         (S.left input.old) (S.left input.new) (K.held out.old) (K.held out.new) }
@@ -137,7 +151,7 @@ fn outcome_on<S: Source, K: Sink>(alloc: Global, conf: &Conf, input: &mut S, out
     ensures unchanged { result.status ≢ Status.Done → result.status ≢ Status.WriteFault
         → (K.held out.new ≡ K.held out.old) × (K.faults out.new ≡ K.faults out.old) }
 {
-    match answer(alloc, conf, input) {
+    match answer(rt, alloc, conf, input, gate) {
         Ok(text) => match write_all(out, text.as_slice()) {
             Ok(()) => Ending::of(Status::Done),
             Err(_) => Ending::of(Status::WriteFault),
@@ -147,11 +161,13 @@ fn outcome_on<S: Source, K: Sink>(alloc: Global, conf: &Conf, input: &mut S, out
 }
 
 // Answers the input on `out` by the cache that the words tell, or tells why not.
-fn outcome<S: Source, K: Sink>(
+fn outcome<R: Threads + Wait + Sync, S: Source, K: Sink, G: Gate + Sync>(
+    rt: &R,
     alloc: Global,
     words: &[String],
     input: &mut S,
     out: &mut K,
+    gate: &G,
 ) -> Ending
     ensures replayed { IfSome (conf_of words.now) (λ conf. result.status ≡ Status.Done
         → Replays conf (S.left input.old) (S.left input.new) (K.held out.old) (K.held out.new)) }
@@ -175,7 +191,7 @@ fn outcome<S: Source, K: Sink>(
         → (K.held out.new ≡ K.held out.old) × (K.faults out.new ≡ K.faults out.old) }
 {
     match told_conf(words) {
-        Some(conf) => outcome_on(alloc, &conf, input, out),
+        Some(conf) => outcome_on(rt, alloc, &conf, input, out, gate),
         None => Ending::of(Status::Usage),
     }
 }
@@ -198,8 +214,8 @@ fn tell_ending<E: Sink>(err: &mut E, ending: Ending)
     }
 }
 
-/// Plays the scripts of `input` and prints on `out` what each worker's calls answer and the
-/// journal: the order in which the calls took effect. What went wrong is told on `err`, a line.
+/// Plays the scripts of `input`, each worker on a thread of its own, and prints on `out` what each
+/// worker's calls answer and the journal: the order in which the calls took effect. What went wrong is told on `err`, a line.
 ///
 /// `words` are the program's words with its name first: the name alone, or the name and then
 /// exactly `--shm-size`, SIZE, `--slots`, N, `--ttl`, N. SIZE is one to ten digits with at most one
@@ -209,7 +225,7 @@ fn tell_ending<E: Sink>(err: &mut E, ending: Ending)
 /// (0). A script's calls are those of PHP's APCu functions, one on a line, with their arguments in
 /// PHP's serialize notation.
 ///
-/// Whatever the script, each reply printed is the one that a cache of one thread gives at that
+/// Whatever the scripts and however the workers meet, each reply printed is the one that a cache of one thread gives at that
 /// call's place in the printed journal (`replayed`). Every other status has its cause in a clause
 /// of its own, and leaves `out` as it was, but for `WriteFault`, which leaves the first of what was
 /// to be printed.
@@ -257,9 +273,7 @@ pub fn run<R: Threads + Wait + Sync, S: Source, K: Sink, E: Sink, G: Gate + Sync
         (E.held err.old) (E.held err.new) (E.faults err.old) (E.faults err.new) }
 {
     readings_are_scripts();
-    let _ = rt;
-    let _ = gate;
-    let ending = outcome(alloc, words, input, out);
+    let ending = outcome(rt, alloc, words, input, out, gate);
     tell_ending(err, ending);
     ending.status
 }

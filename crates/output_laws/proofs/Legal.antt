@@ -10,7 +10,8 @@ use Rattle.apcu_model.specs.declared.journal.Mark.{Mark}
 use Rattle.apcu_model.specs.History.{is_in_mask, is_legal_mask, window_of}
 use Rattle.script_read.specs.declared.script.Step.{Step}
 use Rattle.script_read.specs.Play.{Wish, Play, wanted, replies_of, script_of, wish_of, after_wish, marked, played_from, played, nothing_played, IsLegal}
-use Rattle.apcu_play.specs.Output.{worker_lines, journal_lines, play_text, output_of}
+use Rattle.crew_play.specs.Played.{texts_of}
+use Rattle.apcu_play.specs.Output.{worker_texts, journal_lines, play_text, output_of}
 use Rattle.output_laws.proofs.Numbers.{both_true}
 use Rattle.output_laws.specs.InRange.{AreInRange}
 use Rattle.output_laws.proofs.Lines.{journal_told}
@@ -53,7 +54,7 @@ record Ends (conf : Conf) (scripts : List (List Step)) (journal : List Mark) : T
 output_ends : (conf : Conf) (scripts : List (List Step)) (journal : List Mark) (o : Option Play) → IsSome o → played conf scripts journal ≡ o → Ends conf scripts journal
 output_ends conf scripts journal None some e = absurd cc
 output_ends conf scripts journal (Some p) some e = record {
-  before = worker_lines conf 0 scripts p.replies;
+  before = worker_texts 0 (texts_of conf scripts p.replies);
   is = ap (play_text conf scripts journal) e;
 }
 

@@ -80,7 +80,7 @@ form_within law (Refuse reason) n last bytes l h = l
 
 worker_within : (n begun : ℕ) (line : List ℕ) → length line ≤ n → Within n same (worker_at begun line)
 worker_within n begun line h =
-    cond_within n same (nat_lt begun most_workers) (end_at (behind_word line)) (fail reasons.Unbuilt line) (end_within n (behind_word line) (omega (arith, h, length-drop (word_len line) line))) h
+    cond_within n same (nat_lt begun most_workers) (end_at (behind_word line)) (fail reasons.Workers line) (end_within n (behind_word line) (omega (arith, h, length-drop (word_len line) line))) h
 
 line_within : ValuesInside → (n begun : ℕ) (line : List ℕ) → length line ≤ n → Within n (behind {A = Effect}) (line_at begun line)
 line_within law n begun line h = form_within law (form_after begun (word_at line)) n line (behind_word line) h (omega (arith, h, length-drop (word_len line) line))

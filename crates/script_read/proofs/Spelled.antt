@@ -173,7 +173,7 @@ worker_again : (lines begun t : ℕ) (rest : List ℕ) (steps : List Step) (scri
     → lines_at (suc lines) begun t (codes "worker" ++ (ends_line ++ rest)) ≡ rest_is [] (steps ∷ scripts)
 unfolding lines_at end_at
 worker_again lines begun t rest steps scripts few read =
-    ap (λ (b : Bool). cond b (Ok rest) (fail reasons.Unbuilt (codes "worker" ++ (ends_line ++ rest))) >>= λ after. lines_at lines (suc begun) 0 after >>= λ more. Ok ([], more.0 ∷ more.1)) (nat_lt_is begun most_workers few)
+    ap (λ (b : Bool). cond b (Ok rest) (fail reasons.Workers (codes "worker" ++ (ends_line ++ rest))) >>= λ after. lines_at lines (suc begun) 0 after >>= λ more. Ok ([], more.0 ∷ more.1)) (nat_lt_is begun most_workers few)
     ∙ ap (λ (r : Result Rest Fault). r >>= λ more. Ok ([], more.0 ∷ more.1)) read
 
 others_again : FormsAgain → (begun : ℕ) (others : List (List Line)) (scripts : List (List Step)) → AreAllLines others → Mean others scripts → begun + length scripts ≤ most_workers → ReadOn begun (flat_map script_text others) scripts
@@ -246,7 +246,7 @@ line_takes forms (suc begun) bytes e rest fits read =
 
 worker_takes : (begun : ℕ) (bytes rest : List ℕ) → is_worker bytes ≡ true → worker_at begun bytes ≡ Ok rest → (begun < most_workers) × (bytes ≡ codes "worker" ++ (ends_line ++ rest))
 worker_takes begun bytes rest word e =
-    elim (chosen (nat_lt begun most_workers) (end_at (behind_word bytes)) (fail reasons.Unbuilt bytes) (Ok rest) e) [
+    elim (chosen (nat_lt begun most_workers) (end_at (behind_word bytes)) (fail reasons.Workers bytes) (Ok rest) e) [
       | inl p ↦ (lt_is begun most_workers p.0, sym (take-append-drop (word_len bytes) bytes) ∙ ap₂ (λ (x y : List ℕ). x ++ y) ((bytes_eq-Decides (word_at bytes) (codes "worker")).0 word) (end_takes (behind_word bytes) rest p.1))
       | inr p ↦ absurd (let h = p.1 in cc)
     ]

@@ -67,9 +67,9 @@ Mean [] [] = Unit {0}
 Mean (lines ∷ others) (steps ∷ scripts) = (steps_of 0 lines ≡ Some steps) × Mean others scripts
 Mean _ _ = ⊥
 
--- how many scripts there may be; more are not built yet
+-- how many scripts there may be
 abbrev pub most_workers : ℕ
-most_workers = 1
+most_workers = 64
 
 -- The bytes are these scripts, one after the other: they are the text of lines that mean them.
 pub record AreScripts (bytes : List ℕ) (scripts : List (List Step)) : Type 0 where

@@ -100,7 +100,7 @@ rest_at (Refuse reason) last bytes = fail reason last
 -- the line `worker`, where so many scripts have begun
 abbrev pub worker_at : ℕ → List ℕ → Result (List ℕ) Fault
 worker_at begun line =
-    if nat_lt begun most_workers then end_at (behind_word line) else fail reasons.Unbuilt line
+    if nat_lt begun most_workers then end_at (behind_word line) else fail reasons.Workers line
 
 -- before the first `worker`: what is refused anyway stays so
 abbrev pub before_worker : Form → Form

@@ -234,12 +234,12 @@ pub(crate) fn worker<'a>(begun: u32, line: &'a [u8], behind: &'a [u8]) -> Result
     if begun < MOST_WORKERS {
         end(behind)
     } else {
-        Err(fault(Reason::Unbuilt, line))
+        Err(fault(Reason::Workers, line))
     }
 }
 
 // How many scripts there may be.
-const MOST_WORKERS: u32 = 1;
+const MOST_WORKERS: u32 = 64;
 
 // Any other line, where so many scripts have begun.
 pub(crate) fn line<'a>(

@@ -55,8 +55,9 @@ fn read(alloc: Global, bytes: &[u8]) -> Result<Scripts, ScriptFault>
     }
 }
 
-/// Reads the scripts that all of the bytes spell: none where there are no bytes, else that of one
-/// worker. Else the answer is the first fault from the left, with the place of its byte.
+/// Reads the scripts that all of the bytes spell, one for each worker: none where there are no
+/// bytes, and 64 at most. Else the answer is the first fault from the left, with the place of its
+/// byte.
 pub fn read_scripts(alloc: Global, bytes: &[u8]) -> Result<Scripts, ScriptFault>
     requires { length bytes.now ≤ 67108864 }
     // What is read is spelled so.

@@ -1,7 +1,7 @@
 //! Scripts that are read, and first faults.
 
 use apcu_model::{Keys, Pairs};
-use notation::{Cursor, Reason, read_value};
+use notation::{ByteOut, Cursor, Reason, read_value};
 use php_graph::{Bytes, Graph};
 use script_read::{Call, Script, ScriptFault, Scripts, Step, read_scripts};
 use std::alloc::Global;
@@ -168,6 +168,29 @@ fn no_scripts(rt: HostRuntime) -> Result<(), Fail> {
     Ok(())
 }
 
+// So many lines `worker`, the first of which has a call.
+fn workers(alloc: Global, count: u32) -> Result<ByteOut, Fail> {
+    let mut text = ByteOut::new(alloc);
+    text.push(b"worker\napcu_enabled\n")?;
+    for _ in 1..count {
+        text.push(b"worker\n")?;
+    }
+    Ok(text)
+}
+
+#[test]
+fn as_many_workers_as_may_be(rt: HostRuntime) -> Result<(), Fail> {
+    let text = workers(rt.alloc(), 64)?;
+    assert!(rt; text.as_slice().len() < 1000);
+    let scripts = read_scripts(rt.alloc(), text.as_slice())?;
+    assert!(rt; scripts.len() == 64);
+    assert_eq!(rt; scripts.at(0).len(), 1);
+    assert_eq!(rt; scripts.at(63).len(), 0);
+    let text = workers(rt.alloc(), 65)?;
+    refused(&rt, rt.alloc(), text.as_slice(), 461, Reason::Workers);
+    Ok(())
+}
+
 fn refused(rt: &impl Abort, alloc: Global, text: &[u8], place: u64, reason: Reason) {
     assert!(rt; text.len() < 1000);
     match read_scripts(alloc, text) {
@@ -220,8 +243,8 @@ fn lines_at_fault(rt: HostRuntime) {
         (b"apcu_fetch s:1:\"a\";\n", 0, Reason::Line),
         (b"time i:1;\n", 0, Reason::Line),
         (b"apcu_inc s:1:\"a\";\n", 0, Reason::Unbuilt),
-        (b"worker\nworker\n", 7, Reason::Unbuilt),
-        (b"worker\nworker N;\n", 7, Reason::Unbuilt),
+        (b"worker\nworker N;\n", 14, Reason::Argument),
+        (b"worker\nworker\ntime N;\n", 19, Reason::Argument),
         (b"worker\n\n", 7, Reason::Line),
         (b"worker\napcu_foo\n", 7, Reason::Line),
         (b"worker\napcu_inc x", 7, Reason::Unbuilt),

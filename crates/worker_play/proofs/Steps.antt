@@ -47,7 +47,7 @@ own_before own later =
     ap (λ k. take k (own ++ later)) n ∙ take-append_seam own later
 
 -- the line of a call, and those of the calls after it
-lines_step : (conf : Conf) (step : Step) (steps : List Step) (own later : List Reply) → length own ≡ length (requests_of step.call) → script_lines conf (step ∷ steps) (own ++ later) ≡ (call_text step.call own ++ ends_line) ++ script_lines conf steps later
+pub lines_step : (conf : Conf) (step : Step) (steps : List Step) (own later : List Reply) → length own ≡ length (requests_of step.call) → script_lines conf (step ∷ steps) (own ++ later) ≡ (call_text step.call own ++ ends_line) ++ script_lines conf steps later
 lines_step conf step steps own later count =
     ap (lines_from step.call (own ++ later) (script_lines conf steps)) (asks_all (requests_of step.call) own later count)
     ∙ ap (λ (l : List Reply). call_text step.call l ++ ends_line ++ script_lines conf steps later) (own_before own later)
@@ -74,7 +74,7 @@ reaches_on conf workers p o q all ws rest told to_tell m r = record {
 }
 
 -- the sum of one item more
-sum_step : (f : Step → ℕ) (step : Step) (steps : List Step) → sum (map f (step ∷ steps)) ≡ f step + sum (map f steps)
+pub sum_step : (f : Step → ℕ) (step : Step) (steps : List Step) → sum (map f (step ∷ steps)) ≡ f step + sum (map f steps)
 sum_step f step steps = sum-map f (step ∷ steps) ∙ (sum_by-cons f step steps ∙ ap (λ (n : ℕ). f step + n) (sym (sum-map f steps)))
 
 -- enough events are left for the next step

@@ -3,9 +3,11 @@
 #![tactic(auto)]
 
 mod calls;
+mod ending;
 mod events;
 mod noting;
 mod scalar;
 mod script;
 
+pub use ending::play_out;
 pub use script::{PlayFault, play_script};

@@ -1,0 +1,35 @@
+<?php
+// What `run.sh` plays, with PHP's APCu in forked processes that share one segment.
+// Usage: apcu.php apart|one|text WORKERS CALLS BYTES EVERY
+[, $kind, $workers, $calls, $bytes, $every] = $argv;
+$text = str_repeat('z', (int) $bytes);
+apcu_store('k', $kind === 'text' ? $text : 1);
+$begin = hrtime(true);
+for ($w = 0; $w < $workers; $w++) {
+    if (pcntl_fork() === 0) {
+        for ($i = 0; $i < $calls; $i++) {
+            if ($kind === 'text') {
+                if ($every && $i % $every == $every - 1) {
+                    apcu_store('k', $text);
+                } else {
+                    $value = apcu_fetch('k');
+                }
+                continue;
+            }
+            $key = $kind === 'one' ? 'k' : 'k' . $w . '.' . $i % 16;
+            if ($i % 4 == 0) {
+                apcu_store($key, $i);
+            } elseif ($i % 4 == 2) {
+                apcu_exists($key);
+            } else {
+                apcu_fetch($key);
+            }
+        }
+        exit(0);
+    }
+}
+for ($w = 0; $w < $workers; $w++) {
+    pcntl_wait($status);
+}
+$spent = (hrtime(true) - $begin) / 1e9;
+echo $kind === 'text' ? sprintf('%.2f', $spent / $calls * 1e6) : (int) ($workers * $calls / $spent);

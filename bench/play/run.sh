@@ -1,0 +1,109 @@
+#!/usr/bin/env bash
+# Calls a second of many workers on one cache: apcu_run with 1, 2 and 4 workers, and in the same run PHP's APCu with as
+# many forked processes (where php with apcu and pcntl is installed). Half of the calls fetch, a quarter stores and a
+# quarter asks whether a key exists; each worker has keys of its own, or all have one key. apcu_run is the whole
+# program, from a script to its output; `calls` leaves out what as many lines `apcu_enabled` take, which are read and
+# printed and are no events. PHP's figure is that of its loop alone. Then the same for fetches of one text of 100 bytes
+# to 1 MB beside stores of it.
+# Usage: bench/play/run.sh [PROGRAM]
+set -eu
+here=$(cd "$(dirname "${BASH_SOURCE[0]}")" && pwd)
+program=${1:-$here/../../crates/apcu_run/out/apcu_run}
+scratch=$(mktemp -d)
+trap 'rm -rf "$scratch"' EXIT
+
+# The least of three times of the program on a script, in microseconds.
+spent() {
+    local best=0 begin end took
+    for _ in 1 2 3; do
+        begin=$(date +%s%N)
+        "$program" <"$1" >/dev/null
+        end=$(date +%s%N)
+        took=$(((end - begin) / 1000))
+        if [ "$best" -eq 0 ] || [ "$took" -lt "$best" ]; then best=$took; fi
+    done
+    echo "$best"
+}
+
+# Scripts of so many workers with so many calls, on keys of their own (`apart`) or on one (`one`).
+mixed() {
+    awk -v workers="$1" -v calls="$2" -v keys="$3" 'BEGIN {
+        for (w = 0; w < workers; w++) {
+            print "worker"
+            for (i = 0; i < calls; i++) {
+                key = keys == "one" ? "k" : "k" w "." i % 16
+                name = "s:" length(key) ":\"" key "\";"
+                if (i % 4 == 0) print "apcu_store " name " i:" i ";"
+                else if (i % 4 == 2) print "apcu_exists " name
+                else print "apcu_fetch " name
+            }
+        }
+    }'
+}
+
+# As many lines that make no event.
+idle() {
+    awk -v workers="$1" -v calls="$2" 'BEGIN {
+        for (w = 0; w < workers; w++) { print "worker"; for (i = 0; i < calls; i++) print "apcu_enabled" }
+    }'
+}
+
+# Scripts of workers that fetch a text of so many bytes, which the first call of worker 0 stores; one of so many calls
+# (0: none) stores it again.
+texts() {
+    awk -v workers="$1" -v calls="$2" -v bytes="$3" -v every="$4" 'BEGIN {
+        text = "z"
+        while (length(text) * 2 <= bytes) text = text text
+        text = text substr(text, 1, bytes - length(text))
+        value = "s:" bytes ":\"" text "\";"
+        for (w = 0; w < workers; w++) {
+            print "worker"
+            if (w == 0) print "apcu_store s:1:\"k\"; " value
+            for (i = 0; i < calls; i++) {
+                if (every && i % every == every - 1) print "apcu_store s:1:\"k\"; " value
+                else print "apcu_fetch s:1:\"k\";"
+            }
+        }
+    }'
+}
+
+php=
+if command -v php >/dev/null && php -m | grep -qx apcu && php -m | grep -qx pcntl; then php=php; fi
+
+printf '%-6s %7s %12s %12s %12s\n' keys workers program/s calls/s php/s
+calls=200000
+for keys in apart one; do
+    for workers in 1 2 4; do
+        mixed "$workers" "$calls" "$keys" >"$scratch/script"
+        idle "$workers" "$calls" >"$scratch/idle"
+        whole=$(spent "$scratch/script")
+        other=$(spent "$scratch/idle")
+        beside=-
+        if [ -n "$php" ]; then
+            beside=$(php -d apc.enable_cli=1 -d apc.shm_size=32M "$here/apcu.php" "$keys" "$workers" "$calls" 0 0)
+        fi
+        echo "$whole $other $((workers * calls)) $beside" | awk -v keys="$keys" -v workers="$workers" '{
+            left = $1 - $2 > 0 ? $1 - $2 : 1
+            printf "%-6s %7d %12d %12d %12s\n", keys, workers, $3 / $1 * 1e6, $3 / left * 1e6, $4
+        }'
+    done
+done
+
+echo
+printf '%-8s %6s %7s %14s %14s\n' bytes stores workers run_us/fetch php_us/fetch
+for row in "100 100000" "10000 2000" "65536 300" "1000000 20"; do
+    read -r bytes calls <<<"$row"
+    for every in 0 10; do
+        for workers in 1 4; do
+            texts "$workers" "$calls" "$bytes" "$every" >"$scratch/script"
+            whole=$(spent "$scratch/script")
+            beside=-
+            if [ -n "$php" ]; then
+                beside=$(php -d apc.enable_cli=1 -d apc.shm_size=32M "$here/apcu.php" text "$workers" "$calls" "$bytes" "$every")
+            fi
+            echo "$whole $calls $beside" | awk -v b="$bytes" -v every="$every" -v w="$workers" '{
+                printf "%-8d %6s %7d %14.2f %14s\n", b, every ? "1 in " every : "none", w, $1 / $2, $3
+            }'
+        done
+    done
+done

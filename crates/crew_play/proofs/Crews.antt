@@ -1,0 +1,100 @@
+-- The last of several workers.
+use Rattle.std.proofs.Common.{◌≡◌, ℕ, zero, suc, ◌+◌, ◌-◌, ◌<◌, ◌≤◌, ◌⊎◌, inl, inr, List, [], ◌∷◌, ◌++◌, length, map, slice_get, slice_index, get_or, Option, Some, refl, sym, ap, ◌∙◌, subst, arith, length-append}
+use Rattle.std.specs.Prelude.{sum}
+use Rattle.std.proofs.lemmas.Option.{slice_get_within}
+use Rattle.atomic_table.specs.Seated.{TableId}
+use Rattle.apcu_model.specs.declared.conf.Conf.{Conf}
+use Rattle.pin_table.specs.Values.{Bearer}
+use Rattle.pin_table.specs.Lists.{fresh, fresh_pass}
+use Rattle.script_read.specs.declared.script.Step.{Step}
+use Rattle.script_read.specs.Calls.{events_of}
+use Rattle.worker_play.specs.Ends.{Ends}
+use Rattle.crew_play.specs.Budgets.{events_in, budgets_of}
+use Rattle.crew_play.specs.Crew.{AllEnd}
+use Rattle.crew_play.proofs.Counting.{events_sum}
+
+-- ---- passes
+
+last_apart : {A : Type 0} (xs ys : List A) (x y : A) → xs ++ x ∷ [] ≡ ys ++ y ∷ [] → (xs ≡ ys) × (x ≡ y)
+last_apart [] [] x y h = (refl, cc (h))
+last_apart [] (b ∷ []) x y h = absurd (cc (h))
+last_apart [] (b ∷ c ∷ ys) x y h = absurd (cc (h))
+last_apart (a ∷ []) [] x y h = absurd (cc (h))
+last_apart (a ∷ c ∷ xs) [] x y h = absurd (cc (h))
+last_apart (a ∷ xs) (b ∷ ys) x y h = let rest = last_apart xs ys x y (cc (h)) in (cc (h, rest.0), rest.1)
+
+pub fresh_last : (t : TableId) (bs : List ℕ) (n : ℕ) (ps : List Bearer) (p : Bearer) → 0 < n → fresh t bs n ≡ ps ++ p ∷ []
+    → (ps ≡ fresh t bs (n - 1)) × (p ≡ fresh_pass t bs (n - 1))
+fresh_last t bs zero ps p some h = absurd (omega arith)
+fresh_last t bs (suc n) ps p some h =
+    let e : suc n - 1 ≡ n = omega arith in
+    let s = last_apart ps (fresh t bs n) p (fresh_pass t bs n) (sym h) in
+    rw e (s.0, s.1)
+
+pub fresh_some : (t : TableId) (bs : List ℕ) (n : ℕ) → 0 < n → fresh t bs n ≡ [] → ⊥
+fresh_some t bs zero some h = absurd (omega arith)
+fresh_some t bs (suc n) some h = go (fresh t bs n) h
+  where
+    go : (l : List Bearer) → l ++ fresh_pass t bs n ∷ [] ≡ [] → ⊥
+    go [] e = absurd (cc (e))
+    go (x ∷ xs) e = absurd (cc (e))
+
+-- ---- budgets
+
+-- a worker's budget is its script's events and its end
+pub budget_at : (slots : ℕ) (scripts : List (List Step)) (w : ℕ) (script : List Step) → slice_get scripts w ≡ Some script
+    → slice_index (budgets_of slots scripts) w ≡ events_in slots script + 1
+budget_at slots [] w script h = absurd (cc (h))
+budget_at slots (s ∷ scripts) zero script h =
+    let same : s ≡ script = cc (h) in
+    ap (λ (l : List Step). events_in slots l + 1) same
+budget_at slots (s ∷ scripts) (suc w) script h = budget_at slots scripts w script h
+
+-- a worker's pass has enough for its script, and for its end
+pub enough_left : (t : TableId) (slots : ℕ) (bs : List ℕ) (scripts : List (List Step)) (w : ℕ) (script : List Step) (p : Bearer) → p ≡ fresh_pass t bs w → bs ≡ budgets_of slots scripts → slice_get scripts w ≡ Some script
+    → sum (map (λ (step : Step). events_of slots step.call) script) < p.known.left
+enough_left t slots bs scripts w script p is budgets its =
+    let left : p.known.left ≡ slice_index (budgets_of slots scripts) w = ap (λ (b : Bearer). b.known.left) is ∙ ap (λ (l : List ℕ). slice_index l w) budgets in
+    omega (arith, left, budget_at slots scripts w script its, events_sum slots script)
+
+-- ---- ends
+
+-- what stands in a list that is one longer
+pub get_more : {A : Type 0} (xs : List A) (x : A) (k : ℕ) (y : A) → slice_get (xs ++ x ∷ []) k ≡ Some y → (slice_get xs k ≡ Some y) ⊎ ((k ≡ length xs) × (x ≡ y))
+get_more [] x zero y h = inr (refl, cc (h))
+get_more [] x (suc k) y h = absurd (cc (h))
+get_more (a ∷ xs) x zero y h = inl h
+get_more (a ∷ xs) x (suc k) y h = elim (get_more xs x k y h) [
+  | inl t ↦ inl t
+  | inr t ↦ inr (ap suc t.0, t.1)
+]
+
+pub all_none : (t : TableId) (conf : Conf) (scripts : List (List Step)) → AllEnd t conf scripts 0 [] []
+all_none t conf scripts = record {
+  have_ended = refl;
+  have_texts = refl;
+  each = λ w script b text hs hb ht. absurd (cc (hb));
+}
+
+-- one worker more has ended
+pub all_more : (t : TableId) (conf : Conf) (scripts : List (List Step)) (n : ℕ) (ended : List Bearer) (texts : List (Option (List ℕ))) (script : List Step) (b : Bearer) (text : Option (List ℕ))
+    → slice_get scripts n ≡ Some script → AllEnd t conf scripts n ended texts → Ends t conf n script b text → AllEnd t conf scripts (suc n) (ended ++ b ∷ []) (texts ++ text ∷ [])
+all_more t conf scripts n ended texts script b text is all one = record {
+  have_ended = omega (arith, length-append ended (b ∷ []), all.have_ended);
+  have_texts = omega (arith, length-append texts (text ∷ []), all.have_texts);
+  each = λ w s c x hs hc hx. elim (get_more ended b w c hc) [
+    | inl before ↦ elim (get_more texts text w x hx) [
+      | inl there ↦ all.each w s c x hs before there
+      | inr (at, e) ↦ absurd (omega (arith, at, slice_get_within ended w c before, all.have_ended, all.have_texts))
+    ]
+    | inr (at, e) ↦ elim (get_more texts text w x hx) [
+      | inl there ↦ absurd (omega (arith, at, slice_get_within texts w x there, all.have_ended, all.have_texts))
+      | inr (place, same) ↦
+          let here : w ≡ n = at ∙ all.have_ended in
+          let its : Some script ≡ Some s = sym is ∙ (ap (slice_get scripts) (sym here) ∙ hs) in
+          let whose : script ≡ s = cc (its) in
+          subst (λ v. Ends t conf v s c x) (sym here)
+          (subst (λ v. Ends t conf n v c x) whose (subst (λ v. Ends t conf n script v x) e (subst (λ v. Ends t conf n script b v) same one)))
+    ]
+  ];
+}

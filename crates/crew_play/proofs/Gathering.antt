@@ -1,0 +1,177 @@
+-- All workers have ended: their history is a play.
+use Rattle.std.proofs.Common.{◌≡◌, ℕ, zero, suc, ◌+◌, ◌<◌, ◌≤◌, ◌⊎◌, inl, inr, Bool, true, false, cond, List, [], ◌∷◌, ◌++◌, length, map, slice_get, Option, Some, refl, sym, ap, ap₂, ◌∙◌, subst, arith, length-append}
+use Rattle.std.specs.Prelude.{◌==◌, ◌||◌}
+use Rattle.std.proofs.lemmas.Option.{slice_get_within}
+use Rattle.std.proofs.lemmas.List.{length-map}
+use Rattle.std.proofs.lemmas.Bool.{or_left, or_right, or_cases, eqb-true, eq-eqb, false≢true, cases_Bool}
+use mathlib.Core.List.{IsPrefix}
+use Rattle.atomic_table.specs.Seated.{TableId}
+use Rattle.apcu_model.specs.declared.conf.Conf.{Conf}
+use Rattle.apcu_model.specs.declared.event.Event.{Event}
+use Rattle.apcu_model.specs.declared.journal.Mark.{Mark}
+use Rattle.apcu_model.specs.declared.request.Reply.{Reply}
+use Rattle.apcu_model.specs.History.{start_of, all_legal, marks_of}
+use Rattle.pin_table.specs.Values.{Bearer}
+use Rattle.pin_table.specs.Events.{events_of}
+use Rattle.pin_table.specs.Lists.{AllOf, known_list}
+use Rattle.pin_table.specs.Views.{is_among}
+use Rattle.script_read.specs.declared.script.Step.{Step}
+use Rattle.script_read.specs.Play.{Play, played, IsComplete}
+use Rattle.reply_text.specs.Lines.{script_lines}
+use Rattle.play_laws.specs.Own.{own_replies, wish_in, all_asked}
+use Rattle.play_laws.specs.Whole.{IsPlayedOut, replies_from, told_by}
+use Rattle.shared_cache.specs.declared.closed.Closed.{Closed}
+use Rattle.shared_cache.specs.Closing.{IsClosed}
+use Rattle.worker_play.specs.Ends.{Ends, PlaysOut}
+use Rattle.crew_play.specs.Crew.{AllEnd}
+use Rattle.crew_play.specs.Played.{texts_of, IsPlayed}
+
+-- what stands at a place of a list
+get_some : {A : Type 0} (xs : List A) (k : ℕ) → k < length xs → (x : A) × (slice_get xs k ≡ Some x)
+get_some [] k h = absurd (omega (arith, h))
+get_some (x ∷ xs) zero h = (x, refl)
+get_some (x ∷ xs) (suc k) h = get_some xs k (omega (arith, h))
+
+-- ---- who has ended
+
+among_at : (bs : List Bearer) (k w : ℕ) (b : Bearer) → slice_get bs k ≡ Some b → b.known.worker ≡ w → is_among w (known_list bs) ≡ true
+among_at [] k w b h e = absurd (cc (h))
+among_at (c ∷ bs) zero w b h e =
+    let same : c ≡ b = cc (h) in
+    or_left (c.known.worker == w) (is_among w (known_list bs)) (eq-eqb c.known.worker w (ap (λ (x : Bearer). x.known.worker) same ∙ e))
+among_at (c ∷ bs) (suc k) w b h e = or_right (c.known.worker == w) (is_among w (known_list bs)) (among_at bs k w b h e)
+
+among_there : (bs : List Bearer) (w : ℕ) → is_among w (known_list bs) ≡ true → (k : ℕ) × (b : Bearer) × (slice_get bs k ≡ Some b) × (b.known.worker ≡ w)
+among_there [] w h = absurd (false≢true h)
+among_there (c ∷ bs) w h = elim (or_cases (c.known.worker == w) (is_among w (known_list bs)) h) [
+  | inl e ↦ (0, c, refl, eqb-true c.known.worker w e)
+  | inr r ↦ let s = among_there bs w r in (suc s.0, s.1, s.2, s.3)
+]
+
+-- each of the ended ones is the worker of its place
+its_place : (t : TableId) (conf : Conf) (scripts : List (List Step)) (ended : List Bearer) (texts : List (Option (List ℕ))) → AllEnd t conf scripts (length scripts) ended texts
+    → (k : ℕ) (b : Bearer) → slice_get ended k ≡ Some b → (b.table ≡ t) × (b.known.worker ≡ k) × (k < length scripts)
+its_place t conf scripts ended texts all k b h =
+    let few : k < length scripts = omega (arith, slice_get_within ended k b h, all.have_ended) in
+    let s = get_some scripts k few in
+    let x = get_some texts k (omega (arith, few, all.have_texts)) in
+    let e = all.each k s.0 b x.0 s.1 h x.1 in
+    (e.table, e.worker, few)
+
+pub all_of : (t : TableId) (conf : Conf) (scripts : List (List Step)) (ended : List Bearer) (texts : List (Option (List ℕ))) → AllEnd t conf scripts (length scripts) ended texts → AllOf t ended
+all_of t conf scripts ended texts all k b h = (its_place t conf scripts ended texts all k b h).0
+
+pub every : (t : TableId) (conf : Conf) (scripts : List (List Step)) (ended : List Bearer) (texts : List (Option (List ℕ))) → AllEnd t conf scripts (length scripts) ended texts
+    → (w : ℕ) → w < length scripts → is_among w (known_list ended) ≡ true
+every t conf scripts ended texts all w few =
+    let b = get_some ended w (omega (arith, few, all.have_ended)) in
+    among_at ended w w b.0 b.1 (its_place t conf scripts ended texts all w b.0 b.1).1
+
+none_else : (t : TableId) (conf : Conf) (scripts : List (List Step)) (ended : List Bearer) (texts : List (Option (List ℕ))) → AllEnd t conf scripts (length scripts) ended texts
+    → (w : ℕ) → length scripts ≤ w → is_among w (known_list ended) ≡ false
+none_else t conf scripts ended texts all w past = elim (cases_Bool (is_among w (known_list ended))) [
+  | inl h ↦
+      let s = among_there ended w h in
+      let p = its_place t conf scripts ended texts all s.0 s.1 s.2 in
+      absurd (omega (arith, past, p.2, p.1, s.3))
+  | inr h ↦ h
+]
+
+-- ---- what each was answered
+
+events-append : (w : ℕ) (xs ys : List Event) → events_of w (xs ++ ys) ≡ events_of w xs ++ events_of w ys
+events-append w [] ys = refl
+events-append w (x ∷ xs) ys = go (x.worker == w) (events-append w xs ys)
+  where
+    go : (b : Bool) → events_of w (xs ++ ys) ≡ events_of w xs ++ events_of w ys
+        → cond b (x ∷ events_of w (xs ++ ys)) (events_of w (xs ++ ys)) ≡ cond b (x ∷ events_of w xs) (events_of w xs) ++ events_of w ys
+    go true h = ap (λ (l : List Event). x ∷ l) h
+    go false h = h
+
+nothing : {A : Type 0} (xs : List A) → length xs ≡ 0 → xs ≡ []
+nothing [] h = refl
+nothing (x ∷ xs) h = absurd (omega (arith, h))
+
+-- events of others change nothing of a worker's replies
+pub record OthersLaw : Type 0 where
+  pub others : (conf : Conf) (w : ℕ) (history between : List Event) → events_of w between ≡ []
+      → own_replies conf w (history ++ between) ≡ own_replies conf w history
+
+-- once a worker has seen all its own events, it has had all its replies
+replies_whole : OthersLaw → (conf : Conf) (w : ℕ) (seen history own : List Event) → IsPrefix seen history → events_of w seen ≡ own → events_of w history ≡ own
+    → own_replies conf w seen ≡ own_replies conf w history
+replies_whole law conf w seen history own prefix mine all =
+    let rest = prefix.0 in
+    let parts : events_of w history ≡ events_of w seen ++ events_of w rest = ap (events_of w) (sym prefix.1) ∙ events-append w seen rest in
+    let none : events_of w rest ≡ [] =
+    nothing (events_of w rest) (omega (arith, ap length parts, length-append (events_of w seen) (events_of w rest), ap length mine, ap length all)) in
+    sym (law.others conf w seen rest none) ∙ ap (own_replies conf w) prefix.1
+
+-- the lines of each worker, from the worker w on
+texts_match : (conf : Conf) (w : ℕ) (scripts : List (List Step)) (texts : List (List ℕ)) (history : List Event) → length texts ≡ length scripts
+    → ((k : ℕ) (script : List Step) (text : List ℕ) → slice_get scripts k ≡ Some script → slice_get texts k ≡ Some text → text ≡ script_lines conf script (own_replies conf (w + k) history))
+    → texts ≡ texts_of conf scripts (replies_from conf w scripts history)
+texts_match conf w [] [] history same each = refl
+texts_match conf w [] (x ∷ xs) history same each = absurd (omega (arith, same))
+texts_match conf w (s ∷ ss) [] history same each = absurd (omega (arith, same))
+texts_match conf w (s ∷ ss) (x ∷ xs) history same each =
+    let here : w + 0 ≡ w = omega arith in
+    let first : x ≡ script_lines conf s (own_replies conf w history) = each 0 s x refl refl ∙ ap (λ v. script_lines conf s (own_replies conf v history)) here in
+    let rest = texts_match conf (w + 1) ss xs history (omega (arith, same))
+    (λ k script text hs ht.
+    let next : w + suc k ≡ (w + 1) + k = omega arith in
+    each (suc k) script text hs ht ∙ ap (λ v. script_lines conf script (own_replies conf v history)) next) in
+    ap₂ (λ (a : List ℕ) (b : List (List ℕ)). a ∷ b) first rest
+
+get-map_some : {A : Type 0} (xs : List A) (k : ℕ) (x : A) → slice_get xs k ≡ Some x → slice_get (map Some xs) k ≡ Some (Some x)
+get-map_some [] k x h = absurd (cc (h))
+get-map_some (y ∷ ys) zero x h = ap Some (cc (h))
+get-map_some (y ∷ ys) (suc k) x h = get-map_some ys k x h
+
+-- ---- the whole
+
+-- a worker that ended after all of its script
+record IsOut (conf : Conf) (script : List Step) (w : ℕ) (history : List Event) (text : List ℕ) : Type 0 where
+  asked : map wish_in (events_of w history) ≡ all_asked script
+  lines : text ≡ script_lines conf script (own_replies conf w history)
+
+out : OthersLaw → (t : TableId) (conf : Conf) (workers : ℕ) (scripts : List (List Step)) (ended : List Bearer) (texts : List (List ℕ)) (closed : Closed) → AllEnd t conf scripts (length scripts) ended (map Some texts) → (c : IsClosed conf workers ended closed)
+    → (k : ℕ) (script : List Step) (text : List ℕ) → slice_get scripts k ≡ Some script → slice_get texts k ≡ Some text → IsOut conf script k c.history text
+out law t conf workers scripts ended texts closed all c k script text hs ht =
+    let b = get_some ended k (omega (arith, slice_get_within scripts k script hs, all.have_ended)) in
+    let e = all.each k script b.0 (Some text) hs b.1 (get-map_some texts k text ht) in
+    let whole : events_of k c.history ≡ b.0.known.own = ap (λ v. events_of v c.history) (sym e.worker) ∙ c.own k b.0 b.1 in
+    let replies : own_replies conf b.0.known.worker b.0.known.seen ≡ own_replies conf b.0.known.worker c.history =
+    replies_whole law conf b.0.known.worker b.0.known.seen c.history b.0.known.own (c.seen k b.0 b.1) e.all_own (c.own k b.0 b.1) in
+    record {
+      asked = ap (map wish_in) whole ∙ e.plays.asked;
+      lines = e.plays.lines ∙ (ap (script_lines conf script) replies ∙ ap (λ v. script_lines conf script (own_replies conf v c.history)) e.worker);
+    }
+
+pub record PlayLaws : Type 0 where
+  pub play : (conf : Conf) (scripts : List (List Step)) (history : List Event) → IsPlayedOut conf scripts history
+      → played conf scripts (marks_of history) ≡ Some (told_by conf scripts history)
+  pub complete : (conf : Conf) (scripts : List (List Step)) (history : List Event) → IsPlayedOut conf scripts history
+      → IsComplete conf scripts (marks_of history)
+
+pub is_played : OthersLaw → PlayLaws → (t : TableId) (conf : Conf) (workers : ℕ) (scripts : List (List Step)) (ended : List Bearer) (texts : List (List ℕ)) (closed : Closed) → workers ≡ length scripts
+    → AllEnd t conf scripts (length scripts) ended (map Some texts) → IsClosed conf workers ended closed → IsPlayed conf scripts closed.journal.marks texts
+is_played law laws t conf workers scripts ended texts closed count all c =
+    let o = out law t conf workers scripts ended texts closed all c in
+    let has : length texts ≡ length scripts = sym (length-map texts Some) ∙ all.have_texts in
+    let whole : IsPlayedOut conf scripts c.history = record {
+      legal = subst (λ n. all_legal n (start_of conf) c.history ≡ true) count c.legal;
+      asked = λ w script hs.
+          let x = get_some texts w (omega (arith, slice_get_within scripts w script hs, has)) in
+          (o w script x.0 hs x.1).asked;
+      others = λ w past. c.others w (none_else t conf scripts ended (map Some texts) all w past);
+    } in
+    record {
+      play = told_by conf scripts c.history;
+      plays = ap (played conf scripts) c.journal ∙ laws.play conf scripts c.history whole;
+      complete = subst (IsComplete conf scripts) (sym c.journal) (laws.complete conf scripts c.history whole);
+      texts_are = texts_match conf 0 scripts texts c.history has
+          (λ k script text hs ht.
+          let here : k ≡ 0 + k = omega arith in
+          (o k script text hs ht).lines ∙ ap (λ v. script_lines conf script (own_replies conf v c.history)) here);
+    }

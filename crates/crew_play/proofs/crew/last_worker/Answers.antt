@@ -1,0 +1,31 @@
+use Rattle.std.proofs.Common.{◌≡◌, ◌-◌, ap, sym, ◌∙◌}
+use Rattle.pin_table.specs.Values.{Bearer}
+use Rattle.pin_table.specs.Lists.{fresh, fresh_pass}
+use Rattle.crew_play.proofs.Crews.{fresh_last, enough_left}
+use Rattle.crew_play.proofs.crew.last_worker.Goals as goal
+
+pub returns-clause-rest : goal.returns-clause-rest
+returns-clause-rest g c =
+    (fresh_last g.N.TableName.table g.N.TableName.budgets c.args.count c.pop.new.self c.in-Some.pass c.requires.some (sym c.requires.passes ∙ c.in-Some.ensures.some)).0
+
+pub returns-clause-table : goal.returns-clause-table
+returns-clause-table g c =
+    ap (λ (b : Bearer). b.table) (fresh_last g.N.TableName.table g.N.TableName.budgets c.args.count c.pop.new.self c.in-Some.pass c.requires.some (sym c.requires.passes ∙ c.in-Some.ensures.some)).1
+
+pub returns-clause-worker : goal.returns-clause-worker
+returns-clause-worker g c =
+    ap (λ (b : Bearer). b.known.worker) (fresh_last g.N.TableName.table g.N.TableName.budgets c.args.count c.pop.new.self c.in-Some.pass c.requires.some (sym c.requires.passes ∙ c.in-Some.ensures.some)).1
+
+pub returns-clause-no_event : goal.returns-clause-no_event
+returns-clause-no_event g c =
+    ap (λ (b : Bearer). b.known.own) (fresh_last g.N.TableName.table g.N.TableName.budgets c.args.count c.pop.new.self c.in-Some.pass c.requires.some (sym c.requires.passes ∙ c.in-Some.ensures.some)).1
+
+pub returns-clause-none_seen : goal.returns-clause-none_seen
+returns-clause-none_seen g c =
+    ap (λ (b : Bearer). b.known.seen) (fresh_last g.N.TableName.table g.N.TableName.budgets c.args.count c.pop.new.self c.in-Some.pass c.requires.some (sym c.requires.passes ∙ c.in-Some.ensures.some)).1
+
+pub returns-clause-left : goal.returns-clause-left
+returns-clause-left g c =
+    enough_left g.N.TableName.table g.N.TableName.conf.slots g.N.TableName.budgets c.args.scripts.now (c.args.count - 1) c.at.result.now c.in-Some.pass
+    (fresh_last g.N.TableName.table g.N.TableName.budgets c.args.count c.pop.new.self c.in-Some.pass c.requires.some (sym c.requires.passes ∙ c.in-Some.ensures.some)).1
+    c.requires.budgets c.at.ensures

@@ -1,0 +1,42 @@
+use Rattle.std.proofs.Common.{◌≡◌, ℕ, ◌+◌, List, length, map, sym, ap, subst, ◌∙◌, Some, Option}
+use Rattle.std.proofs.lemmas.List.{length-map}
+use Rattle.apcu_model.specs.declared.conf.Conf.{Conf}
+use Rattle.crew_play.specs.Crew.{AllEnd}
+use Rattle.crew_play.specs.Played.{IsPlayed}
+use Rattle.crew_play.specs.Budgets.{events_in, budgets_of}
+use Rattle.script_read.specs.declared.script.Step.{Step}
+use Rattle.crew_play.proofs.Gathering.{OthersLaw, PlayLaws, all_of, every, is_played}
+use Rattle.crew_play.proofs.play.play_named.Goals as goal
+
+pub close-journal-requires-clause-table : goal.close-journal-requires-clause-table
+close-journal-requires-clause-table g c =
+    let table = g.N.TableName.table in
+    let conf = g.N.TableName.conf in
+    let all : AllEnd table conf c.args.scripts.now (length c.args.scripts.now) c.play_crew-ended.result.0.ended c.play_crew-ended.result.1.items =
+    subst (λ n. AllEnd table conf c.args.scripts.now n c.play_crew-ended.result.0.ended c.play_crew-ended.result.1.items) c.len-count.ensures c.play_crew-ended.ensures.all in
+    all_of table conf c.args.scripts.now c.play_crew-ended.result.0.ended c.play_crew-ended.result.1.items all
+
+pub close-journal-requires-clause-every : goal.close-journal-requires-clause-every
+close-journal-requires-clause-every g c =
+    let table = g.N.TableName.table in
+    let conf = g.N.TableName.conf in
+    let all : AllEnd table conf c.args.scripts.now (length c.args.scripts.now) c.play_crew-ended.result.0.ended c.play_crew-ended.result.1.items =
+    subst (λ n. AllEnd table conf c.args.scripts.now n c.play_crew-ended.result.0.ended c.play_crew-ended.result.1.items) c.len-count.ensures c.play_crew-ended.ensures.all in
+    let workers : length g.N.TableName.budgets ≡ length c.args.scripts.now =
+    ap length (c.requires.budgets ∙ c.requires.events) ∙ length-map c.args.scripts.now (λ (script : List Step). events_in c.args.conf.now.slots script + 1) in
+    rw workers (every table conf c.args.scripts.now c.play_crew-ended.result.0.ended c.play_crew-ended.result.1.items all)
+
+pub returns : goal.returns
+returns g c =
+    let table = g.N.TableName.table in
+    let conf = g.N.TableName.conf in
+    let all : AllEnd table conf c.args.scripts.now (length c.args.scripts.now) c.play_crew-ended.result.0.ended c.play_crew-ended.result.1.items =
+    subst (λ n. AllEnd table conf c.args.scripts.now n c.play_crew-ended.result.0.ended c.play_crew-ended.result.1.items) c.len-count.ensures c.play_crew-ended.ensures.all in
+    let whole : AllEnd table conf c.args.scripts.now (length c.args.scripts.now) c.play_crew-ended.result.0.ended (map Some c.in_ok-texts.texts.items) =
+    subst (λ (l : List (Option (List ℕ))). AllEnd table conf c.args.scripts.now (length c.args.scripts.now) c.play_crew-ended.result.0.ended l) (sym c.in_ok-texts.ensures) all in
+    let workers : length g.N.TableName.budgets ≡ length c.args.scripts.now =
+    ap length (c.requires.budgets ∙ c.requires.events) ∙ length-map c.args.scripts.now (λ (script : List Step). events_in c.args.conf.now.slots script + 1) in
+    let others : OthersLaw = record { others = c.one_event_own.ensures.others } in
+    let plays : PlayLaws = record { play = c.histories_are_plays.ensures.play; complete = c.histories_are_plays.ensures.complete } in
+    subst (λ (f : Conf). IsPlayed f c.args.scripts.now c.close-journal.result.journal.marks c.in_ok-texts.texts.items) (c.requires.conf ∙ c.requires.shape)
+    (is_played others plays table conf (length g.N.TableName.budgets) c.args.scripts.now c.play_crew-ended.result.0.ended c.in_ok-texts.texts.items c.close-journal.result workers whole c.close-journal.ensures)

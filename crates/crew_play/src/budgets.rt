@@ -1,0 +1,49 @@
+//! How many events each worker may make.
+
+ghost use Rattle.std.specs.Prelude.{◌≡◌, ◌+◌, ◌<◌, ◌≤◌, length, IfOk, IfErr, IfSome, IfNone};
+ghost use Rattle.crew_play.specs.Budgets.{events_in, budgets_of, all_events, most_events};
+ghost use Rattle.crew_play.specs.declared.play.CrewFault.TheVariants.{Memory, TooMany};
+
+use crate::play::CrewFault;
+use script_read::{Script, Scripts};
+use std::alloc::Global;
+
+// The most events of all workers together.
+const MOST_EVENTS: u64 = 4_194_304;
+
+// How many events the worker of a script may make, its end included; None where they are too many.
+fn budget(script: &Script, slots: u32) -> Option<u32>
+    ensures some { IfSome result (λ n. n ≡ events_in slots script.now + 1) }
+    ensures few { IfSome result (λ n. n ≤ most_events) }
+    ensures none { IfNone result (most_events < events_in slots script.now + 1) }
+{
+    let mut events = 1u64;
+    for number in 0..script.len() {
+        events = events.saturating_add(script.at(number).call.events(slots));
+        if events > MOST_EVENTS {
+            return None;
+        }
+    }
+    Some(events as u32)
+}
+
+// The budget of each worker, its end included.
+pub(crate) fn budgets(alloc: Global, slots: u32, scripts: &Scripts) -> Result<Vec<u32>, CrewFault>
+    ensures budgets { IfOk result (λ all. all.items ≡ budgets_of slots scripts.now) }
+    ensures few { IfOk result (λ _. all_events slots scripts.now ≤ most_events) }
+    ensures many { IfErr result (λ e. e ≡ TooMany → most_events < all_events slots scripts.now) }
+{
+    let mut all = Vec::with_capacity(alloc, scripts.len() as usize)?;
+    let mut events = 0u64;
+    for worker in 0..scripts.len() {
+        let Some(budget) = budget(scripts.at(worker), slots) else {
+            return Err(CrewFault::TooMany);
+        };
+        events = events.saturating_add(u64::from(budget));
+        if events > MOST_EVENTS {
+            return Err(CrewFault::TooMany);
+        }
+        all.push_reserved(budget);
+    }
+    Ok(all)
+}

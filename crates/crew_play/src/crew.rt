@@ -1,0 +1,110 @@
+//! Workers on threads of their own.
+
+ghost use Rattle.std.specs.Prelude.{◌≡◌, ◌+◌, ◌-◌, ◌<◌, ◌≤◌, [], length, map, slice_get, sum, vec_capacity, Some};
+ghost use Rattle.std.specs.Thread.{IsSync};
+ghost use Rattle.script_read.specs.Calls.{events_of};
+ghost use Rattle.pin_table.specs.Lists.{fresh};
+ghost use Rattle.crew_play.specs.Budgets.{budgets_of};
+ghost use Rattle.crew_play.specs.Crew.{AllEnd};
+ghost use Rattle.worker_play.specs.Ends.{Ends};
+
+use apcu_model::Conf;
+use io_edges::Gate;
+use notation::ByteOut;
+use pin_table::{Ended, EndedList, Pass, Passes, TableName};
+use script_read::{Script, Scripts};
+use shared_cache::Shared;
+use std::alloc::Global;
+use std::sync::Wait;
+use std::thread::{Threads, join};
+use worker_play::play_out;
+
+// The last of the first `count` workers: its pass and its script.
+fn last_worker<'a, N: TableName>(
+    passes: &mut Passes,
+    scripts: &'a Scripts,
+    count: u32,
+) -> (Pass, &'a Script)
+    requires some { 0 < count }
+    requires scripts { count ≤ length scripts.now }
+    requires passes { passes.old ≡ fresh N.table N.budgets count }
+    requires budgets { N.budgets ≡ budgets_of N.conf.slots scripts.now }
+    ensures rest { passes.new ≡ fresh N.table N.budgets (count - 1) }
+    ensures script { slice_get scripts.now (count - 1) ≡ Some result.1.now }
+    ensures table { result.0.table ≡ N.table }
+    ensures worker { result.0.known.worker ≡ count - 1 }
+    ensures no_event { result.0.known.own ≡ [] }
+    ensures none_seen { result.0.known.seen ≡ [] }
+    ensures left { sum (map (λ step. events_of N.conf.slots step.call) result.1.now)
+        < result.0.known.left }
+{
+    let Some(pass) = passes.pop() else {
+        unreachable!()
+    };
+    (pass, scripts.at(count - 1))
+}
+
+// Plays the scripts of the first `count` workers, each on a thread of its own. They end in their
+// order, and one that finds no memory holds nobody up.
+pub(crate) fn play_crew<N: TableName + Send + Sync, G: Gate + Sync, R: Threads + Wait + Sync>(
+    rt: &R,
+    alloc: Global,
+    conf: &Conf,
+    shared: &Shared<N>,
+    mut passes: Passes,
+    mut ended: EndedList,
+    mut texts: Vec<Option<ByteOut>>,
+    scripts: &Scripts,
+    count: u32,
+    gate: &G,
+) -> (EndedList, Vec<Option<ByteOut>>)
+    requires conf { conf.now ≡ N.conf }
+    requires budgets { N.budgets ≡ budgets_of N.conf.slots scripts.now }
+    requires some { count ≤ length scripts.now }
+    requires passes { passes ≡ fresh N.table N.budgets count }
+    requires none_ended { ended.ended ≡ [] }
+    requires seats { count ≤ ended.room }
+    requires no_text { texts.items ≡ [] }
+    requires places { count ≤ vec_capacity texts }
+    ensures all { AllEnd N.table N.conf scripts.now count result.0.ended result.1.items }
+    ensures seats { result.0.room + count ≡ ended.room }
+    ensures places { vec_capacity result.1 ≡ vec_capacity texts }
+{
+    if count == 0 {
+        return (ended, texts);
+    }
+    let before = count - 1;
+    let (pass, script) = last_worker::<N>(&mut passes, scripts, count);
+    let (front, last) = join(
+        rt,
+        || -> (EndedList, Vec<Option<ByteOut>>)
+            requires { IsSync R.row × IsSync G.row
+                × (conf.now ≡ N.conf)
+                × (N.budgets ≡ budgets_of N.conf.slots scripts.now)
+                × (before ≤ length scripts.now)
+                × (passes ≡ fresh N.table N.budgets before)
+                × (ended.ended ≡ []) × (before ≤ ended.room)
+                × (texts.items ≡ []) × (before ≤ vec_capacity texts) }
+            ensures { AllEnd N.table N.conf scripts.entry.now before
+                result.0.ended result.1.items
+                × (result.0.room + before ≡ ended.room)
+                × (vec_capacity result.1 ≡ vec_capacity texts) }
+        {
+            play_crew(
+                rt, alloc, conf, shared, passes, ended, texts, scripts, before, gate,
+            )
+        },
+        || -> (Ended, Option<ByteOut>)
+            requires { (conf.now ≡ N.conf) × (pass.table ≡ N.table)
+                × (pass.known.own ≡ []) × (pass.known.seen ≡ [])
+                × (sum (map (λ step. events_of N.conf.slots step.call) script.now)
+                < pass.known.left) }
+            ensures { Ends N.table N.conf pass.known.worker script.entry.now result.0 result.1 }
+        { play_out(rt, alloc, conf, shared, pass, script, gate) },
+    );
+    let (mut ended, mut texts) = front;
+    let (end, text) = last;
+    ended.push(end);
+    texts.push_reserved(text);
+    (ended, texts)
+}

@@ -1,0 +1,11 @@
+//! All workers of a run: each plays its script on a thread of its own, on one shared cache.
+//!
+//! `play_scripts` opens the cache, starts a worker for each script, and waits until all have ended.
+//! What comes back is the journal and, for each worker, the lines of its calls.
+#![tactic(auto)]
+
+mod budgets;
+mod crew;
+mod play;
+
+pub use play::{CrewFault, Played, play_scripts};
