@@ -1,7 +1,7 @@
-//! Measures the allocator: `sma_bench GAPS` fills 32 MB of words with blocks and that many gaps, and
-//! prints nanoseconds: of giving a block and taking one of its size, among 64 blocks, among all, and
-//! among all by a walk; and of a `keep` of 64 blocks. Without arguments it does the same over few
-//! words, and prints nothing.
+//! Measures the allocator: `sma_bench GAPS` fills 32 MB of words with blocks and that many gaps,
+//! and prints nanoseconds: of giving a block and taking one of its size, among 64 blocks, among
+//! all, and among all by a walk; and of a `keep` of 64 blocks. Without arguments it does the same
+//! over few words, and prints nothing.
 #![tactic(auto)]
 
 ghost use Rattle.std.specs.Prelude.{◌≡◌, ◌+◌, ◌*◌, ◌%◌, ◌/◌, ◌^◌, ◌<◌, ◌≤◌};
@@ -16,8 +16,8 @@ use seg_words::VecWords;
 use sma_blocks::Sma;
 use std::{env, io};
 
-// The nanoseconds of a pair near the front, of one anywhere, and of one anywhere by a walk: the best
-// of several times.
+// The nanoseconds of a pair near the front, of one anywhere, and of one anywhere by a walk: the
+// best of several times.
 fn measure_pairs(
     rt: &HostRuntime,
     words: u32,
