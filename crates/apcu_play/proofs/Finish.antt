@@ -1,9 +1,9 @@
 -- What is printed piece by piece.
-use Rattle.std.proofs.Common.{◌≡◌, ℕ, ◌+◌, List, [], ◌∷◌, ◌++◌, take, get_or, Some, refl, sym, ap, ap₂, length, ◌≤◌, length-append, arith, subst, ◌∙◌, append_assoc}
-use Rattle.std.specs.Prelude.{codes, slice_get}
+use Rattle.std.proofs.Common.{◌≡◌, ℕ, ◌+◌, ◌<◌, List, [], ◌∷◌, ◌++◌, take, get_or, Some, refl, sym, ap, ap₂, length, ◌≤◌, length-append, arith, subst, ◌∙◌, append_assoc}
+use Rattle.std.specs.Prelude.{codes, slice_get, slice_index_or}
 use Rattle.std.specs.Fmt.{decimal}
 use Rattle.std.specs.List.{flat_map, AllByRecursion}
-use Rattle.std.proofs.lemmas.List.{append-nil, take_more}
+use Rattle.std.proofs.lemmas.List.{append-nil, take_more, length-take}
 use Rattle.std.proofs.lemmas.Option.{slice_get_within, get_or_from_slice_get}
 use Rattle.std.proofs.lemmas.Grind.{flat_map-append}
 use Rattle.apcu_model.specs.declared.journal.Mark.{Mark}
@@ -25,33 +25,28 @@ journal_goes_on before out next head marks i mark so_far written at =
 worker_texts-append : (w : ℕ) (texts : List (List ℕ)) (text : List ℕ) → worker_texts w (texts ++ text ∷ []) ≡ worker_texts w texts ++ (codes "worker " ++ decimal (w + length texts) ++ ends_line ++ text)
 worker_texts-append w [] text =
     let n : w ≡ w + 0 = omega arith in
-    ap (λ (l : List ℕ). codes "worker " ++ decimal w ++ ends_line ++ l) (append-nil text) ∙ ap (λ v. codes "worker " ++ decimal v ++ ends_line ++ text) n
+    append-nil (codes "worker " ++ decimal w ++ ends_line ++ text) ∙ ap (λ v. codes "worker " ++ decimal v ++ ends_line ++ text) n
 worker_texts-append w (x ∷ xs) text =
     let n : (w + 1) + length xs ≡ w + length (x ∷ xs) = omega arith in
-    let last = codes "worker " ++ decimal (w + length (x ∷ xs)) ++ ends_line ++ text in
+    let head : List ℕ = codes "worker " ++ decimal w ++ ends_line ++ x in
+    let last : List ℕ = codes "worker " ++ decimal (w + length (x ∷ xs)) ++ ends_line ++ text in
     let later : worker_texts (w + 1) (xs ++ text ∷ []) ≡ worker_texts (w + 1) xs ++ last =
     worker_texts-append (w + 1) xs text ∙ ap (λ v. worker_texts (w + 1) xs ++ (codes "worker " ++ decimal v ++ ends_line ++ text)) n in
-    ap (λ (l : List ℕ). codes "worker " ++ decimal w ++ ends_line ++ x ++ l) later ∙ moved (codes "worker ") (decimal w) ends_line x (worker_texts (w + 1) xs) last
-  where
-    moved : (a b c d e f : List ℕ) → a ++ b ++ c ++ d ++ (e ++ f) ≡ (a ++ b ++ c ++ d ++ e) ++ f
-    moved a b c d e f =
-        sym (append_assoc a (b ++ c ++ d ++ e) f ∙ ap (λ (l : List ℕ). a ++ l)
-        (append_assoc b (c ++ d ++ e) f ∙ ap (λ (l : List ℕ). b ++ l)
-        (append_assoc c (d ++ e) f ∙ ap (λ (l : List ℕ). c ++ l) (append_assoc d e f))))
+    ap (λ (l : List ℕ). head ++ l) later ∙ sym (append_assoc head (worker_texts (w + 1) xs) last)
+
+joined : (a b c d e f : List ℕ) → a ++ b ++ c ++ d ++ e ++ f ≡ a ++ (b ++ (c ++ d ++ e ++ f))
+joined a b c d e f =
+    let three : a ++ b ++ c ++ d ++ e ≡ a ++ b ++ (c ++ d ++ e) = ap (λ (l : List ℕ). l ++ e) (append_assoc (a ++ b) c d) ∙ append_assoc (a ++ b) (c ++ d) e in
+    ap (λ (l : List ℕ). l ++ f) three ∙ (append_assoc (a ++ b) (c ++ d ++ e) f ∙ append_assoc a b (c ++ d ++ e ++ f))
 
 -- one worker more is written
 pub texts_go_on : (before out headed next : List ℕ) (texts : List (List ℕ)) (i : ℕ) (text : List ℕ) → i < length texts → out ≡ before ++ worker_texts 0 (take i texts)
-    → headed ≡ out ++ (codes "worker " ++ decimal i ++ ends_line) → next ≡ headed ++ text → slice_get texts i ≡ Some text
+    → headed ≡ out ++ codes "worker " ++ decimal i ++ ends_line → next ≡ headed ++ text → text ≡ slice_index_or texts i text
     → next ≡ before ++ worker_texts 0 (take (i + 1) texts)
 texts_go_on before out headed next texts i text few so_far head written at =
-    let more : take (i + 1) texts ≡ take i texts ++ text ∷ [] = take_more texts i text few ∙ ap (λ (m : List ℕ). take i texts ++ m ∷ []) (get_or_from_slice_get texts i text text at) in
-    let n : length (take i texts) ≡ i = length-take i texts ∙ omega (arith, few) in
+    let more : take (i + 1) texts ≡ take i texts ++ text ∷ [] = take_more texts i text few ∙ ap (λ (m : List ℕ). take i texts ++ m ∷ []) (sym at) in
+    let n : 0 + length (take i texts) ≡ i = omega (arith, few, length-take i texts) in
     let all : worker_texts 0 (take (i + 1) texts) ≡ worker_texts 0 (take i texts) ++ (codes "worker " ++ decimal i ++ ends_line ++ text) =
     ap (worker_texts 0) more ∙ (worker_texts-append 0 (take i texts) text ∙ ap (λ v. worker_texts 0 (take i texts) ++ (codes "worker " ++ decimal v ++ ends_line ++ text)) n) in
-    written ∙ (ap (λ (l : List ℕ). l ++ text) (head ∙ ap (λ (l : List ℕ). l ++ (codes "worker " ++ decimal i ++ ends_line)) so_far)
+    written ∙ (ap (λ (l : List ℕ). l ++ text) (head ∙ ap (λ (l : List ℕ). l ++ codes "worker " ++ decimal i ++ ends_line) so_far)
     ∙ (joined before (worker_texts 0 (take i texts)) (codes "worker ") (decimal i) ends_line text ∙ ap (λ (l : List ℕ). before ++ l) (sym all)))
-  where
-    joined : (a b c d e f : List ℕ) → ((a ++ b) ++ (c ++ d ++ e)) ++ f ≡ a ++ (b ++ (c ++ d ++ e ++ f))
-    joined a b c d e f =
-        append_assoc (a ++ b) (c ++ d ++ e) f ∙ (append_assoc a b ((c ++ d ++ e) ++ f)
-        ∙ ap (λ (l : List ℕ). a ++ (b ++ l)) (append_assoc c (d ++ e) f ∙ ap (λ (l : List ℕ). c ++ l) (append_assoc d e f)))
