@@ -34,24 +34,16 @@ returns-in_err-map_err-in-Took-2-clause-part g c =
     )
 
 pub returns-in_err-buffer-clause-all : goal.returns-in_err-buffer-clause-all
-returns-in_err-buffer-clause-all g c =
-    let p = err_from_is_err_and c.from_residual.result c.from_residual.ensures.1 in
-    rw p.1 tt
+returns-in_err-buffer-clause-all g c = rw (err_from_is_err_and c.from_residual.result c.from_residual.ensures.1).1 tt
 
 pub returns-in_err-buffer-clause-given : goal.returns-in_err-buffer-clause-given
-returns-in_err-buffer-clause-given g c =
-    let p = err_from_is_err_and c.from_residual.result c.from_residual.ensures.1 in
-    rw p.1 tt
+returns-in_err-buffer-clause-given g c = rw (err_from_is_err_and c.from_residual.result c.from_residual.ensures.1).1 tt
 
 pub returns-in_err-buffer-clause-end : goal.returns-in_err-buffer-clause-end
-returns-in_err-buffer-clause-end g c =
-    let p = err_from_is_err_and c.from_residual.result c.from_residual.ensures.1 in
-    rw p.1 tt
+returns-in_err-buffer-clause-end g c = rw (err_from_is_err_and c.from_residual.result c.from_residual.ensures.1).1 tt
 
 pub returns-in_err-buffer-clause-within : goal.returns-in_err-buffer-clause-within
-returns-in_err-buffer-clause-within g c =
-    let p = err_from_is_err_and c.from_residual.result c.from_residual.ensures.1 in
-    rw p.1 tt
+returns-in_err-buffer-clause-within g c = rw (err_from_is_err_and c.from_residual.result c.from_residual.ensures.1).1 tt
 
 pub returns-in_err-buffer-clause-too_long : goal.returns-in_err-buffer-clause-too_long
 returns-in_err-buffer-clause-too_long g c = grind (arith, common_steps)
@@ -117,24 +109,16 @@ pub turns-smaller : goal.turns-smaller
 turns-smaller g c = grind (arith, common_steps)
 
 pub returns-in_err-map_err-in-Took-2-clause-all : goal.returns-in_err-map_err-in-Took-2-clause-all
-returns-in_err-map_err-in-Took-2-clause-all g c =
-    let p = err_from_is_err_and c.from_residual-in_err-map_err-in-Took-2.result c.from_residual-in_err-map_err-in-Took-2.ensures.1 in
-    rw p.1 tt
+returns-in_err-map_err-in-Took-2-clause-all g c = rw (err_from_is_err_and c.from_residual-in_err-map_err-in-Took-2.result c.from_residual-in_err-map_err-in-Took-2.ensures.1).1 tt
 
 pub returns-in_err-map_err-in-Took-2-clause-given : goal.returns-in_err-map_err-in-Took-2-clause-given
-returns-in_err-map_err-in-Took-2-clause-given g c =
-    let p = err_from_is_err_and c.from_residual-in_err-map_err-in-Took-2.result c.from_residual-in_err-map_err-in-Took-2.ensures.1 in
-    rw p.1 tt
+returns-in_err-map_err-in-Took-2-clause-given g c = rw (err_from_is_err_and c.from_residual-in_err-map_err-in-Took-2.result c.from_residual-in_err-map_err-in-Took-2.ensures.1).1 tt
 
 pub returns-in_err-map_err-in-Took-2-clause-end : goal.returns-in_err-map_err-in-Took-2-clause-end
-returns-in_err-map_err-in-Took-2-clause-end g c =
-    let p = err_from_is_err_and c.from_residual-in_err-map_err-in-Took-2.result c.from_residual-in_err-map_err-in-Took-2.ensures.1 in
-    rw p.1 tt
+returns-in_err-map_err-in-Took-2-clause-end g c = rw (err_from_is_err_and c.from_residual-in_err-map_err-in-Took-2.result c.from_residual-in_err-map_err-in-Took-2.ensures.1).1 tt
 
 pub returns-in_err-map_err-in-Took-2-clause-within : goal.returns-in_err-map_err-in-Took-2-clause-within
-returns-in_err-map_err-in-Took-2-clause-within g c =
-    let p = err_from_is_err_and c.from_residual-in_err-map_err-in-Took-2.result c.from_residual-in_err-map_err-in-Took-2.ensures.1 in
-    rw p.1 tt
+returns-in_err-map_err-in-Took-2-clause-within g c = rw (err_from_is_err_and c.from_residual-in_err-map_err-in-Took-2.result c.from_residual-in_err-map_err-in-Took-2.ensures.1).1 tt
 
 pub returns-in_err-map_err-in-Took-2-clause-too_long : goal.returns-in_err-map_err-in-Took-2-clause-too_long
 returns-in_err-map_err-in-Took-2-clause-too_long g c = grind (arith, common_steps)
