@@ -5,6 +5,7 @@ use Rattle.std.specs.Int.{bit_at}
 use Rattle.std.specs.List.{list_any}
 use Rattle.std.specs.Map.{lookup}
 use Rattle.std.proofs.lemmas.Bool.{and_parts, and_from, or_left, or_right, eqb-true, eq-eqb, false≢true}
+use Rattle.seg_words.specs.Members.{Contains-map, Contains-filter, Contains-kept, any_there, any_from}
 use Rattle.seg_words.specs.Windows.{has, held_by}
 use Rattle.apcu_model.specs.Cache.{Row}
 use Rattle.apcu_model.specs.Change.{AreAlike}
@@ -13,7 +14,6 @@ use Rattle.pin_table.specs.declared.views.Known.{Known}
 use Rattle.pin_table.specs.declared.views.Desk.{Desk}
 use Rattle.shared_cache.specs.Laws.{Laws}
 use Rattle.shared_cache.specs.Tied.{AreTied}
-use Rattle.shared_cache.proofs.Rows.{Contains-map, Contains-filter, Contains-kept, any_there, any_from}
 use Rattle.shared_cache.proofs.Windows.{Running, from_before, same_there}
 
 copied_from : (mask v n : ℕ) (ws : List (ℕ × ℕ)) → lookup (λ y. y == v) ws ≡ Some n → is_in_mask mask v ≡ true → list_any (λ w. is_in_mask mask w.0 && w.1 == n) ws ≡ true

@@ -8,6 +8,7 @@ use Rattle.std.proofs.lemmas.Map.Entries.{lookup-filter-keys}
 use mathlib.Core.Option.{some}
 use lib.ListN.{get_elem?}
 use Rattle.atomic_table.proofs.Lists.{at_set}
+use Rattle.seg_words.specs.Members.{Contains-later, Contains-first, Contains-map, any_from}
 use Rattle.seg_words.specs.Windows.{Aside, is_named}
 use Rattle.seg_words.specs.Blocks.{image_place}
 use Rattle.php_graph.specs.declared.kind.Kind.{Kind}
@@ -38,7 +39,6 @@ use Rattle.shared_cache.specs.Laws.{Laws}
 use Rattle.shared_cache.specs.Pinned.{graph_of}
 use Rattle.shared_cache.specs.Tied.{IsTied, AreTied}
 use Rattle.shared_cache.specs.Settled.{CoreStands}
-use Rattle.shared_cache.proofs.Rows.{Contains-later, Contains-first, Contains-map, any_from}
 
 found_there : {X : Type 0} (p : X → Bool) (xs : List X) (x : X) → find p xs ≡ Some x → Contains xs x
 found_there p [] x h = absurd (cc h)

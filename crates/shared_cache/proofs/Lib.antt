@@ -1,4 +1,3 @@
-pub mod Rows
 pub mod Windows
 pub mod Alike
 pub mod Ends
