@@ -9,7 +9,7 @@ use Rattle.pin_table.specs.Events.{events_of}
 use Rattle.play_laws.specs.Own.{own_replies_from, own_replies}
 
 -- a choice between a list with one more in front and without it, joined to another
-cond_joined : {A : Type 0} (b : Bool) (x : A) (xs ys : List A) → cond b (x ∷ (xs ++ ys)) (xs ++ ys) ≡ cond b (x ∷ xs) xs ++ ys
+pub cond_joined : {A : Type 0} (b : Bool) (x : A) (xs ys : List A) → cond b (x ∷ (xs ++ ys)) (xs ++ ys) ≡ cond b (x ∷ xs) xs ++ ys
 cond_joined true x xs ys = refl
 cond_joined false x xs ys = refl
 

@@ -14,7 +14,7 @@ use Rattle.script_read.specs.declared.script.Step.{Step}
 use Rattle.script_read.specs.Play.{Wish, Play, wanted, replies_of, wish_of, after_wish, marked, played_from, played, IsLegal, IsComplete, are_done, is_complete_play}
 use Rattle.play_laws.specs.Own.{own_replies, wish_in, all_asked}
 use Rattle.play_laws.specs.Whole.{IsPlayedOut, replies_from, told_by}
-use Rattle.play_laws.proofs.OwnLemmas.{one-more, length-own_replies}
+use Rattle.play_laws.proofs.OwnLemmas.{cond_joined, one-more, length-own_replies}
 use Rattle.play_laws.proofs.Wanted.{wanted_in_turn}
 
 -- ---- numbers, tests and lists
@@ -48,10 +48,6 @@ at_seam (x ∷ xs) y ys = at_seam xs y ys
 after-joined : (m : Stage) (es more : List Event) → after_events m (es ++ more) ≡ after_events (after_events m es) more
 after-joined m [] more = refl
 after-joined m (e ∷ es) more = after-joined (after_event m e) es more
-
-cond_joined : {A : Type 0} (b : Bool) (x : A) (xs ys : List A) → cond b (x ∷ (xs ++ ys)) (xs ++ ys) ≡ cond b (x ∷ xs) xs ++ ys
-cond_joined true x xs ys = refl
-cond_joined false x xs ys = refl
 
 events-joined : (w : ℕ) (es more : List Event) → events_of w (es ++ more) ≡ events_of w es ++ events_of w more
 events-joined w [] more = refl
