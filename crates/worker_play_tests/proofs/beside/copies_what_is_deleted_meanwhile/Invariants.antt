@@ -1,0 +1,5 @@
+use Rattle.worker_play_tests.proofs.beside.copies_what_is_deleted_meanwhile.Given as goal
+
+-- the name of the cache that was opened
+abbrev pub ghosts-plays_both : goal.ghosts-plays_both
+ghosts-plays_both g a = record { table = a.fresh.table; conf = a.fresh.conf; budgets = a.fresh.budgets }
