@@ -2,4 +2,16 @@
 #![tactic(auto)]
 
 #[cfg(test)]
-mod tests;
+mod calls;
+#[cfg(test)]
+mod faults;
+#[cfg(test)]
+mod options;
+#[cfg(test)]
+mod room;
+#[cfg(test)]
+mod runs;
+#[cfg(test)]
+mod threads;
+#[cfg(test)]
+mod values;

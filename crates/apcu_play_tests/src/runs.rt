@@ -1,0 +1,113 @@
+//! A run of the program, and what comes of it.
+
+use apcu_play::{Status, run};
+use io_edges::{MemSink, MemSource, NoGate};
+use notation::ByteOut;
+use std::alloc::Global;
+use std::process::Abort;
+use std::sync::Wait;
+use std::test::Fail;
+use std::thread::Threads;
+
+pub(crate) const STORE_AND_FETCH: &[u8] =
+    b"worker\napcu_store s:1:\"a\"; i:5;\napcu_fetch s:1:\"a\";\n";
+
+pub(crate) const PRINTED: &[u8] = b"worker 0\nb:1;\ni:5;b:1;\njournal\n0\n0\n0\n";
+
+// A run: the values of the three options, the input, the most bytes of a read and of a write, the
+// numbers from 0 of the reads and writes that fail; how it ends, what it prints and what it tells.
+#[derive(Clone, Copy)]
+pub(crate) struct Run<'a> {
+    pub(crate) values: [&'static str; 3],
+    pub(crate) input: &'a [u8],
+    pub(crate) piece: usize,
+    pub(crate) fails: [&'a [u64]; 2],
+    pub(crate) status: Status,
+    pub(crate) printed: &'a [u8],
+    pub(crate) told: &'a [u8],
+}
+
+// 512 words, of which 480 are for blocks.
+pub(crate) const SMALL: [&str; 3] = ["4096", "32", "0"];
+
+// A megabyte.
+pub(crate) const LARGER: [&str; 3] = ["1M", "32", "0"];
+
+// A run without faults, read seven bytes at a time.
+pub(crate) fn whole<'a>(
+    input: &'a [u8],
+    status: Status,
+    printed: &'a [u8],
+    told: &'a [u8],
+) -> Run<'a> {
+    Run {
+        values: SMALL,
+        input,
+        piece: 7,
+        fails: [[].as_slice(), [].as_slice()],
+        status,
+        printed,
+        told,
+    }
+}
+
+// The program's name, and the options with these values.
+pub(crate) fn words_of(alloc: Global, values: [&'static str; 3]) -> Result<Vec<String>, Fail> {
+    let mut words = Vec::new(alloc);
+    words.push(String::from_str(alloc, "apcu_run")?)?;
+    for (i, name) in ["--shm-size", "--slots", "--ttl"].iter().enumerate() {
+        words.push(String::from_str(alloc, name)?)?;
+        words.push(String::from_str(alloc, values[i])?)?;
+    }
+    Ok(words)
+}
+
+pub(crate) fn expect<R: Threads + Wait + Sync + Abort>(
+    rt: &R,
+    alloc: Global,
+    case: Run<'_>,
+) -> Result<(), Fail> {
+    let words = words_of(alloc, case.values)?;
+    expect_of(rt, alloc, &words, case)
+}
+
+// The same of a program that is called with these words.
+pub(crate) fn expect_of<R: Threads + Wait + Sync + Abort>(
+    rt: &R,
+    alloc: Global,
+    words: &[String],
+    case: Run<'_>,
+) -> Result<(), Fail> {
+    assert!(rt; case.piece > 0);
+    let mut input = MemSource::new(case.input, case.piece, case.fails[0]);
+    let mut out = MemSink::new(alloc, 16384, case.piece, case.fails[1])?;
+    let mut err = MemSink::new(alloc, 64, 64, &[])?;
+    let status = run(rt, alloc, words, &mut input, &mut out, &mut err, &NoGate);
+    assert_eq!(rt; status, case.status);
+    assert_eq!(rt; out.as_slice(), case.printed);
+    assert_eq!(rt; err.as_slice(), case.told);
+    Ok(())
+}
+
+// What a script in a small segment prints in front of its journal.
+pub(crate) fn expect_lines<R: Threads + Wait + Sync + Abort>(
+    rt: &R,
+    alloc: Global,
+    ttl: &'static str,
+    script: &[u8],
+    printed: &[u8],
+    events: usize,
+) -> Result<(), Fail> {
+    let mut wanted = ByteOut::new(alloc);
+    wanted.push(b"worker 0\n")?;
+    wanted.push(printed)?;
+    wanted.push(b"journal\n")?;
+    for _event in 0..events {
+        wanted.push(b"0\n")?;
+    }
+    let case = Run {
+        values: ["4096", "32", ttl],
+        ..whole(script, Status::Done, wanted.as_slice(), b"")
+    };
+    expect(rt, alloc, case)
+}

@@ -1,0 +1,343 @@
+//! Workers on threads of their own, held at points of their scripts.
+
+use crate::runs::{LARGER, SMALL, words_of};
+use apcu_play::{Status, run};
+use io_edges::{Gate, MemSink, MemSource, NoGate, Point};
+use notation::ByteOut;
+use std::alloc::{AllocError, Global};
+use std::process::Abort;
+use std::sync::{Mutex, Wait};
+use std::test::Fail;
+use std::thread::Threads;
+
+// How often a worker looks for another one before it gives up.
+const TURNS: u32 = 100_000_000;
+
+// A worker waits at a point until another one has come to a point of its own.
+#[derive(Clone, Copy)]
+struct Hold {
+    worker: u32,
+    at: Point,
+    other: u32,
+    until: Point,
+}
+
+// A gate that holds workers, and notes whose points were reached. One that waits for too long goes
+// on, and that is noted too.
+#[derive(Drop)]
+struct Holding<'a, R: Wait> {
+    rt: &'a R,
+    holds: &'static [Hold],
+    points: Mutex<Vec<(u32, Point)>>,
+    given_up: Mutex<bool>,
+}
+
+impl<'a, R: Wait> Holding<'a, R> {
+    fn new(rt: &'a R, alloc: Global, holds: &'static [Hold]) -> Result<Holding<'a, R>, AllocError> {
+        Ok(Holding {
+            rt,
+            holds,
+            points: Mutex::new(Vec::with_capacity(alloc, 64)?),
+            given_up: Mutex::new(false),
+        })
+    }
+
+    // Whether the point was reached.
+    fn is_reached(&self, worker: u32, point: Point) -> bool {
+        let points = self.points.lock(self.rt);
+        for noted in points.as_slice() {
+            if *noted == (worker, point) {
+                return true;
+            }
+        }
+        false
+    }
+
+    fn wait(&self, hold: &Hold) {
+        for _turn in 0..TURNS {
+            if self.is_reached(hold.other, hold.until) {
+                return;
+            }
+        }
+        *self.given_up.lock(self.rt) = true;
+    }
+}
+
+fn note(points: &mut Vec<(u32, Point)>, worker: u32, point: Point) {
+    if points.len() < points.capacity() {
+        points.push_reserved((worker, point));
+    }
+}
+
+impl<R: Wait> Gate for Holding<'_, R> {
+    fn reached(&self, worker: u32, point: Point) {
+        note(&mut self.points.lock(self.rt), worker, point);
+        for hold in self.holds {
+            if hold.worker == worker && hold.at == point {
+                self.wait(hold);
+            }
+        }
+    }
+}
+
+// A piece of a text: these bytes, or so many times the letter z.
+#[derive(Clone, Copy)]
+enum Piece {
+    Text(&'static [u8]),
+    Zs(u32),
+}
+
+use Piece::{Text, Zs};
+
+fn spelled(alloc: Global, pieces: &[Piece]) -> Result<ByteOut, Fail> {
+    let mut text = ByteOut::new(alloc);
+    for piece in pieces {
+        match piece {
+            Text(bytes) => text.push(bytes)?,
+            Zs(count) => {
+                for _letter in 0..*count {
+                    text.push(b"z")?;
+                }
+            }
+        }
+    }
+    Ok(text)
+}
+
+// Two scripts, the points at which their workers wait, and what they print. The last two events are
+// their ends, in either order.
+#[derive(Clone, Copy)]
+struct Held {
+    scripts: &'static [Piece],
+    holds: &'static [Hold],
+    printed: &'static [Piece],
+}
+
+fn expect_held<R: Threads + Wait + Sync + Abort>(
+    rt: &R,
+    alloc: Global,
+    case: Held,
+) -> Result<(), Fail> {
+    let words = words_of(alloc, SMALL)?;
+    let scripts = spelled(alloc, case.scripts)?;
+    let gate = Holding::new(rt, alloc, case.holds)?;
+    let mut input = MemSource::new(scripts.as_slice(), 4096, &[]);
+    let mut out = MemSink::new(alloc, 16384, 4096, &[])?;
+    let mut err = MemSink::new(alloc, 64, 64, &[])?;
+    let status = run(rt, alloc, &words, &mut input, &mut out, &mut err, &gate);
+    assert_eq!(rt; status, Status::Done);
+    assert!(rt; !*gate.given_up.lock(rt));
+    let mut first = spelled(alloc, case.printed)?;
+    first.push(b"0\n1\n")?;
+    let mut other = spelled(alloc, case.printed)?;
+    other.push(b"1\n0\n")?;
+    assert!(rt; out.as_slice() == first.as_slice() || out.as_slice() == other.as_slice());
+    Ok(())
+}
+
+// Worker 0 has a block pinned until worker 1 has made its second call.
+const WHILE_PINNED: &[Hold] = &[
+    Hold {
+        worker: 1,
+        at: Point::Before(0),
+        other: 0,
+        until: Point::Pinned(1),
+    },
+    Hold {
+        worker: 0,
+        at: Point::Pinned(1),
+        other: 1,
+        until: Point::After(1),
+    },
+];
+
+// The same, and then worker 1 goes on once worker 0 has its reply.
+const PINNED_AND_AFTER: &[Hold] = &[
+    Hold {
+        worker: 1,
+        at: Point::Before(0),
+        other: 0,
+        until: Point::Pinned(1),
+    },
+    Hold {
+        worker: 0,
+        at: Point::Pinned(1),
+        other: 1,
+        until: Point::After(1),
+    },
+    Hold {
+        worker: 1,
+        at: Point::Before(2),
+        other: 0,
+        until: Point::After(1),
+    },
+    Hold {
+        worker: 0,
+        at: Point::After(1),
+        other: 1,
+        until: Point::After(2),
+    },
+];
+
+// A pinned block is given out again only after its copy.
+const GIVEN_OUT_AFTER: Held = Held {
+    scripts: &[
+        Text(b"worker\napcu_store s:1:\"a\"; s:2000:\""),
+        Zs(2000),
+        Text(b"\";\napcu_fetch s:1:\"a\";\nworker\napcu_delete s:1:\"a\";\n"),
+        Text(b"apcu_store s:1:\"b\"; s:3728:\""),
+        Zs(3728),
+        Text(b"\";\napcu_store s:1:\"b\"; s:3728:\""),
+        Zs(3728),
+        Text(b"\";\n"),
+    ],
+    holds: PINNED_AND_AFTER,
+    printed: &[
+        Text(b"worker 0\nb:1;\ns:2000:\""),
+        Zs(2000),
+        Text(b"\";b:1;\nworker 1\nb:1;\nb:0;\nb:1;\njournal\n0\n0\n1 0\n1 0\n1\n"),
+    ],
+};
+
+// The row is deleted.
+const DELETED: Held = Held {
+    scripts: &[
+        Text(b"worker\napcu_store s:1:\"a\"; s:2000:\""),
+        Zs(2000),
+        Text(b"\";\napcu_fetch s:1:\"a\";\nworker\napcu_delete s:1:\"a\";\n"),
+        Text(b"apcu_exists s:1:\"a\";\n"),
+    ],
+    holds: WHILE_PINNED,
+    printed: &[
+        Text(b"worker 0\nb:1;\ns:2000:\""),
+        Zs(2000),
+        Text(b"\";b:1;\nworker 1\nb:1;\nb:0;\njournal\n0\n0\n1 0\n1\n"),
+    ],
+};
+
+// The row gives way to another one of its key.
+const REPLACED: Held = Held {
+    scripts: &[
+        Text(b"worker\napcu_store s:1:\"a\"; s:2000:\""),
+        Zs(2000),
+        Text(b"\";\napcu_fetch s:1:\"a\";\nworker\napcu_store s:1:\"a\"; s:1000:\""),
+        Zs(1000),
+        Text(b"\";\napcu_fetch s:1:\"a\";\n"),
+    ],
+    holds: WHILE_PINNED,
+    printed: &[
+        Text(b"worker 0\nb:1;\ns:2000:\""),
+        Zs(2000),
+        Text(b"\";b:1;\nworker 1\nb:1;\ns:1000:\""),
+        Zs(1000),
+        Text(b"\";b:1;\njournal\n0\n0\n1 0\n1\n"),
+    ],
+};
+
+// The cache is cleared.
+const CLEARED: Held = Held {
+    scripts: &[
+        Text(b"worker\napcu_store s:1:\"a\"; s:2000:\""),
+        Zs(2000),
+        Text(b"\";\napcu_fetch s:1:\"a\";\nworker\napcu_clear_cache\napcu_exists s:1:\"a\";\n"),
+    ],
+    holds: WHILE_PINNED,
+    printed: &[
+        Text(b"worker 0\nb:1;\ns:2000:\""),
+        Zs(2000),
+        Text(b"\";b:1;\nworker 1\nb:1;\nb:0;\njournal\n0\n0\n1 0\n1\n"),
+    ],
+};
+
+// The cache is expunged, and the value finds no room even so.
+const EXPUNGED: Held = Held {
+    scripts: &[
+        Text(b"worker\napcu_store s:1:\"a\"; s:2000:\""),
+        Zs(2000),
+        Text(b"\";\napcu_fetch s:1:\"a\";\nworker\napcu_store s:1:\"b\"; s:3728:\""),
+        Zs(3728),
+        Text(b"\";\napcu_exists s:1:\"a\";\n"),
+    ],
+    holds: WHILE_PINNED,
+    printed: &[
+        Text(b"worker 0\nb:1;\ns:2000:\""),
+        Zs(2000),
+        Text(b"\";b:1;\nworker 1\nb:0;\nb:0;\njournal\n0\n0\n1 0\n1\n"),
+    ],
+};
+
+#[test]
+fn a_copy_is_left_alone(rt: HostRuntime) -> Result<(), Fail> {
+    for case in [GIVEN_OUT_AFTER, DELETED, REPLACED, CLEARED, EXPUNGED] {
+        expect_held(&rt, rt.alloc(), case)?;
+    }
+    Ok(())
+}
+
+// Worker 1 makes its second call after worker 0's second, which waits for worker 1's first.
+const IN_TURN: Held = Held {
+    scripts: &[
+        Text(b"worker\napcu_add s:1:\"n\"; i:0;\napcu_add s:1:\"n\"; i:0;\n"),
+        Text(b"worker\napcu_exists s:1:\"n\";\napcu_delete s:1:\"n\";\n"),
+    ],
+    holds: &[
+        Hold {
+            worker: 1,
+            at: Point::Before(0),
+            other: 0,
+            until: Point::After(0),
+        },
+        Hold {
+            worker: 0,
+            at: Point::Before(1),
+            other: 1,
+            until: Point::After(0),
+        },
+        Hold {
+            worker: 1,
+            at: Point::Before(1),
+            other: 0,
+            until: Point::After(1),
+        },
+        Hold {
+            worker: 0,
+            at: Point::After(1),
+            other: 1,
+            until: Point::After(1),
+        },
+    ],
+    printed: &[Text(b"worker 0\nb:1;\nb:0;\nworker 1\nb:1;\nb:1;\njournal\n0\n1\n0\n1\n")],
+};
+
+#[test]
+fn workers_meet(rt: HostRuntime) -> Result<(), Fail> {
+    expect_held(&rt, rt.alloc(), IN_TURN)
+}
+
+// As many workers as may be, each of which stores what it fetches then.
+#[test]
+fn as_many_workers_as_may_be(rt: HostRuntime) -> Result<(), Fail> {
+    let alloc = rt.alloc();
+    let words = words_of(alloc, LARGER)?;
+    let mut scripts = ByteOut::new(alloc);
+    for _worker in 0..64 {
+        scripts.push(b"worker\napcu_store s:1:\"a\"; s:3:\"abc\";\napcu_fetch s:1:\"a\";\n")?;
+    }
+    let mut input = MemSource::new(scripts.as_slice(), 4096, &[]);
+    let mut out = MemSink::new(alloc, 16384, 4096, &[])?;
+    let mut err = MemSink::new(alloc, 64, 64, &[])?;
+    let status = run(&rt, alloc, &words, &mut input, &mut out, &mut err, &NoGate);
+    assert_eq!(rt; status, Status::Done);
+    let first = b"worker 0\nb:1;\ns:3:\"abc\";b:1;\nworker 1\nb:1;\ns:3:\"abc\";b:1;\n".as_slice();
+    assert!(rt; out.as_slice().len() > first.len());
+    assert_eq!(rt; &out.as_slice()[..first.len()], first);
+    let mut lines = 0u32;
+    for byte in out.as_slice() {
+        if *byte == b'\n' {
+            lines = lines.saturating_add(1);
+        }
+    }
+    // Three lines for each worker, one for the journal, and three events of each.
+    assert_eq!(rt; lines, 385);
+    Ok(())
+}
