@@ -3,8 +3,8 @@
 # many forked processes (where php with apcu and pcntl is installed). Half of the calls fetch, a quarter stores and a
 # quarter asks whether a key exists; each worker has keys of its own, or all have one key. apcu_run is the whole
 # program, from a script to its output; `calls` leaves out what as many lines `apcu_enabled` take, which are read and
-# printed and are no events. PHP's figure is that of its loop alone. Then the same for fetches of one text of 100 bytes
-# to 1 MB beside stores of it.
+# printed and are no events. PHP's figure is that of its loop alone. Then microseconds of a fetch of one text of 100 bytes
+# to 1 MB, printed whole, without the start of the program, and beside stores of it.
 # Usage: bench/play/run.sh [PROGRAM]
 set -eu
 here=$(cd "$(dirname "${BASH_SOURCE[0]}")" && pwd)
@@ -91,18 +91,20 @@ done
 
 echo
 printf '%-8s %6s %7s %14s %14s\n' bytes stores workers run_us/fetch php_us/fetch
-for row in "100 100000" "10000 2000" "65536 300" "1000000 20"; do
+for row in "100 200000" "10000 5000" "65536 800" "1000000 50"; do
     read -r bytes calls <<<"$row"
     for every in 0 10; do
         for workers in 1 4; do
             texts "$workers" "$calls" "$bytes" "$every" >"$scratch/script"
+            texts "$workers" 0 "$bytes" 0 >"$scratch/idle"
             whole=$(spent "$scratch/script")
+            other=$(spent "$scratch/idle")
             beside=-
             if [ -n "$php" ]; then
                 beside=$(php -d apc.enable_cli=1 -d apc.shm_size=32M "$here/apcu.php" text "$workers" "$calls" "$bytes" "$every")
             fi
-            echo "$whole $calls $beside" | awk -v b="$bytes" -v every="$every" -v w="$workers" '{
-                printf "%-8d %6s %7d %14.2f %14s\n", b, every ? "1 in " every : "none", w, $1 / $2, $3
+            echo "$whole $other $calls $beside" | awk -v b="$bytes" -v every="$every" -v w="$workers" '{
+                printf "%-8d %6s %7d %14.2f %14s\n", b, every ? "1 in " every : "none", w, ($1 - $2) / $3, $4
             }'
         done
     done
