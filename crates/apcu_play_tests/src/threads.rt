@@ -274,44 +274,59 @@ fn a_copy_is_left_alone(rt: HostRuntime) -> Result<(), Fail> {
     Ok(())
 }
 
-// Worker 1 makes its second call after worker 0's second, which waits for worker 1's first.
-const IN_TURN: Held = Held {
+// The workers make their calls in turn, worker 0 first. Played on one thread it is given up.
+const IN_TURN: &[Hold] = &[
+    Hold {
+        worker: 1,
+        at: Point::Before(0),
+        other: 0,
+        until: Point::After(0),
+    },
+    Hold {
+        worker: 0,
+        at: Point::Before(1),
+        other: 1,
+        until: Point::After(0),
+    },
+    Hold {
+        worker: 1,
+        at: Point::Before(1),
+        other: 0,
+        until: Point::After(1),
+    },
+    Hold {
+        worker: 0,
+        at: Point::After(1),
+        other: 1,
+        until: Point::After(1),
+    },
+];
+
+const ASKED_IN_TURN: Held = Held {
     scripts: &[
         Text(b"worker\napcu_add s:1:\"n\"; i:0;\napcu_add s:1:\"n\"; i:0;\n"),
         Text(b"worker\napcu_exists s:1:\"n\";\napcu_delete s:1:\"n\";\n"),
     ],
-    holds: &[
-        Hold {
-            worker: 1,
-            at: Point::Before(0),
-            other: 0,
-            until: Point::After(0),
-        },
-        Hold {
-            worker: 0,
-            at: Point::Before(1),
-            other: 1,
-            until: Point::After(0),
-        },
-        Hold {
-            worker: 1,
-            at: Point::Before(1),
-            other: 0,
-            until: Point::After(1),
-        },
-        Hold {
-            worker: 0,
-            at: Point::After(1),
-            other: 1,
-            until: Point::After(1),
-        },
-    ],
+    holds: IN_TURN,
     printed: &[Text(b"worker 0\nb:1;\nb:0;\nworker 1\nb:1;\nb:1;\njournal\n0\n1\n0\n1\n")],
+};
+
+const COUNTED_IN_TURN: Held = Held {
+    scripts: &[
+        Text(b"worker\napcu_inc s:1:\"n\";\napcu_inc s:1:\"n\";\n"),
+        Text(b"worker\napcu_inc s:1:\"n\";\napcu_inc s:1:\"n\";\n"),
+    ],
+    holds: IN_TURN,
+    printed: &[
+        Text(b"worker 0\ni:1;b:1;\ni:3;b:1;\nworker 1\ni:2;b:1;\ni:4;b:1;\n"),
+        Text(b"journal\n0\n1\n0\n1\n"),
+    ],
 };
 
 #[test]
 fn workers_meet(rt: HostRuntime) -> Result<(), Fail> {
-    expect_held(&rt, rt.alloc(), IN_TURN)
+    expect_held(&rt, rt.alloc(), ASKED_IN_TURN)?;
+    expect_held(&rt, rt.alloc(), COUNTED_IN_TURN)
 }
 
 // As many workers as may be, each of which stores what it fetches then.
