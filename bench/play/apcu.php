@@ -1,6 +1,6 @@
 <?php
 // What `run.sh` plays, with PHP's APCu in forked processes that share one segment.
-// Usage: apcu.php apart|one|text WORKERS CALLS BYTES EVERY
+// Usage: apcu.php apart|one|counter|text WORKERS CALLS BYTES EVERY
 [, $kind, $workers, $calls, $bytes, $every] = $argv;
 $text = str_repeat('z', (int) $bytes);
 apcu_store('k', $kind === 'text' ? $text : 1);
@@ -16,11 +16,15 @@ for ($w = 0; $w < $workers; $w++) {
                 }
                 continue;
             }
+            if ($kind === 'counter') {
+                apcu_inc('n');
+                continue;
+            }
             $key = $kind === 'one' ? 'k' : 'k' . $w . '.' . $i % 16;
             if ($i % 4 == 0) {
                 apcu_store($key, $i);
             } elseif ($i % 4 == 2) {
-                apcu_exists($key);
+                apcu_inc($kind === 'one' ? 'n' : 'n' . $w);
             } else {
                 apcu_fetch($key);
             }

@@ -1,8 +1,8 @@
 #!/usr/bin/env bash
 # Calls a second of many workers on one cache: apcu_run with 1, 2 and 4 workers, and in the same run PHP's APCu with as
 # many forked processes (where php with apcu and pcntl is installed). Half of the calls fetch, a quarter stores and a
-# quarter asks whether a key exists; each worker has keys of its own, or all have one key. apcu_run is the whole
-# program, from a script to its output; `calls` leaves out what as many lines `apcu_enabled` take, which are read and
+# quarter counts; each worker has keys of its own (`apart`), or all have one key and one counter (`one`). Then all calls
+# count on one counter (`counter`). apcu_run is the whole program, from a script to its output; `calls` leaves out what as many lines `apcu_enabled` take, which are read and
 # printed and are no events. PHP's figure is that of its loop alone. Then microseconds of a fetch of one text of 100 bytes
 # to 1 MB, printed whole, without the start of the program, and beside stores of it.
 # Usage: bench/play/run.sh [PROGRAM]
@@ -25,16 +25,17 @@ spent() {
     echo "$best"
 }
 
-# Scripts of so many workers with so many calls, on keys of their own (`apart`) or on one (`one`).
+# Scripts of so many workers with so many calls.
 mixed() {
     awk -v workers="$1" -v calls="$2" -v keys="$3" 'BEGIN {
         for (w = 0; w < workers; w++) {
             print "worker"
             for (i = 0; i < calls; i++) {
-                key = keys == "one" ? "k" : "k" w "." i % 16
+                key = keys == "apart" ? "k" w "." i % 16 : "k"
                 name = "s:" length(key) ":\"" key "\";"
-                if (i % 4 == 0) print "apcu_store " name " i:" i ";"
-                else if (i % 4 == 2) print "apcu_exists " name
+                if (keys == "counter") print "apcu_inc s:1:\"n\";"
+                else if (i % 4 == 0) print "apcu_store " name " i:" i ";"
+                else if (i % 4 == 2) print "apcu_inc " (keys == "one" ? "s:1:\"n\";" : "s:" length("n" w) ":\"n" w "\";")
                 else print "apcu_fetch " name
             }
         }
@@ -70,9 +71,9 @@ texts() {
 php=
 if command -v php >/dev/null && php -m | grep -qx apcu && php -m | grep -qx pcntl; then php=php; fi
 
-printf '%-6s %7s %12s %12s %12s\n' keys workers program/s calls/s php/s
+printf '%-8s %7s %12s %12s %12s\n' keys workers program/s calls/s php/s
 calls=200000
-for keys in apart one; do
+for keys in apart one counter; do
     for workers in 1 2 4; do
         mixed "$workers" "$calls" "$keys" >"$scratch/script"
         idle "$workers" "$calls" >"$scratch/idle"
@@ -84,7 +85,7 @@ for keys in apart one; do
         fi
         echo "$whole $other $((workers * calls)) $beside" | awk -v keys="$keys" -v workers="$workers" '{
             left = $1 - $2 > 0 ? $1 - $2 : 1
-            printf "%-6s %7d %12d %12d %12s\n", keys, workers, $3 / $1 * 1e6, $3 / left * 1e6, $4
+            printf "%-8s %7d %12d %12d %12s\n", keys, workers, $3 / $1 * 1e6, $3 / left * 1e6, $4
         }'
     done
 done
