@@ -1,10 +1,11 @@
 #!/usr/bin/env bash
 # Calls a second of many workers on one cache: apcu_run with 1, 2 and 4 workers, and in the same run PHP's APCu with as
 # many forked processes (where php with apcu and pcntl is installed). Half of the calls fetch, a quarter stores and a
-# quarter counts; each worker has keys of its own (`apart`), or all have one key and one counter (`one`). Then all calls
-# count on one counter (`counter`). apcu_run is the whole program, from a script to its output; `calls` leaves out what as many lines `apcu_enabled` take, which are read and
-# printed and are no events. PHP's figure is that of its loop alone. Then microseconds of a fetch of one text of 100 bytes
-# to 1 MB, printed whole, without the start of the program, and beside stores of it.
+# quarter counts; each worker has keys of its own (`apart`), or all have one key and one counter (`one`). Then all
+# calls count on one counter (`counter`). apcu_run is the whole program, from a script to its output; `calls` leaves
+# out what as many lines `apcu_enabled` take, which are read and printed and are no events. PHP's figure is that of its
+# loop alone. Then microseconds of a fetch of one text of 100 bytes to 1 MB, printed whole, without the start of the
+# program, and beside stores of it.
 # Usage: bench/play/run.sh [PROGRAM]
 set -eu
 here=$(cd "$(dirname "${BASH_SOURCE[0]}")" && pwd)
