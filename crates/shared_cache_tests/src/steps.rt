@@ -8,7 +8,7 @@ use shared_cache::{Pinned, Shared};
 use std::alloc::Global;
 use std::sync::Wait;
 
-fn put<N: TableName, R: Wait>(
+pub(crate) fn put<N: TableName, R: Wait>(
     rt: &R,
     shared: &Shared<N>,
     pass: Pass,

@@ -14,13 +14,13 @@ use std::sync::Wait;
 use std::test::Fail;
 use std::thread::{Threads, join};
 
-const CONF: Conf = Conf {
+pub(crate) const CONF: Conf = Conf {
     words: 512,
     slots: 8,
     ttl: 0,
 };
 
-fn text(rt: &impl Abort, alloc: Global) -> Result<Graph, Fail> {
+pub(crate) fn text(rt: &impl Abort, alloc: Global) -> Result<Graph, Fail> {
     let mut builder = Builder::new(alloc);
     let item = Item::Str(Bytes::of(alloc, b"some text")?);
     assert!(rt; builder.wants().permits(&item));
@@ -53,7 +53,7 @@ fn opens_or_not(rt: HostRuntime) -> Result<(), Fail> {
     Ok(())
 }
 
-fn two_passes<N: TableName>(passes: &mut Passes) -> Option<(Pass, Pass)>
+pub(crate) fn two_passes<N: TableName>(passes: &mut Passes) -> Option<(Pass, Pass)>
     requires two { length N.budgets ≡ 2 }
     requires passes { passes.old ≡ fresh N.table N.budgets 2 }
     ensures first { IfSome result (λ p. p.0 ≡ fresh_pass N.table N.budgets 0) }
