@@ -2,6 +2,7 @@ pub mod Windows
 pub mod Alike
 pub mod Ends
 pub mod Working
+pub mod Unnamed
 pub mod Passes
 pub mod Fetches
 pub mod Copies

@@ -1,6 +1,7 @@
 -- What the crates below promise of all windows, entries and histories, gathered: see their public
 -- laws.
-use Rattle.std.specs.Prelude.{◌≡◌, ℕ, ◌<◌, ◌≤◌, ◌==◌, ◌&&◌, true, cond, List, [], ◌∷◌, ◌++◌, length}
+use Rattle.std.specs.Prelude.{◌≡◌, ℕ, ◌<◌, ◌≤◌, ◌==◌, ◌&&◌, true, cond, List, [], ◌∷◌, ◌++◌}
+use Rattle.std.specs.Prelude.{length, Contains}
 use Rattle.std.specs.Int.{bit_at}
 use mathlib.Core.Option.{some}
 use lib.ListN.{get_elem?}
@@ -8,9 +9,10 @@ use Rattle.seg_words.specs.Windows.{Aside, has, is_named, held_by}
 use Rattle.apcu_model.specs.declared.conf.Conf.{Conf}
 use Rattle.apcu_model.specs.declared.event.Event.{Event}
 use Rattle.apcu_model.specs.declared.request.Request.{Request}
-use Rattle.apcu_model.specs.Cache.{Cache}
+use Rattle.apcu_model.specs.Cache.{Row, Cache}
 use Rattle.apcu_model.specs.Change.{AreAlike}
-use Rattle.apcu_model.specs.History.{IsNumbered, Stage, after_event, after_events, all_legal, is_legal_mask, mark_of, marks_of, stage_of}
+use Rattle.apcu_model.specs.History.{IsNumbered, Stage, after_event, after_events, all_legal}
+use Rattle.apcu_model.specs.History.{is_legal_mask, mark_of, marks_of, stage_of}
 use Rattle.apcu_model.specs.Sequential.{cache_after, reply_to}
 use Rattle.entry_slots.specs.declared.slots.EntrySlots.{EntrySlots}
 use Rattle.entry_slots.specs.Lists.{has_place}
@@ -36,6 +38,10 @@ pub record Laws : Type 0 where
   pub opened : (e : EntrySlots) (words : List ℕ) (old new : Aside) (s : Entries) (at : ℕ)
       → has_place at (listed s) ≡ true → OnlyOpensAt at old new → Stands e words old s
       → Stands e words new s
+  -- rows and removed rows of one place are one
+  pub one : (e : EntrySlots) (words : List ℕ) (aside : Aside) (s : Entries) (p q : Row)
+      → Stands e words aside s → Contains (listed s) p → Contains (listed s) q
+      → p.place ≡ q.place → p ≡ q
   -- a worker may copy from the block of a row
   pub copied : (e : EntrySlots) (words : List ℕ) (aside : Aside) (s : Entries) (at : ℕ)
       → Stands e words aside s → has_place at (listed s) ≡ true → IsCopyable words aside.windows at
@@ -56,6 +62,7 @@ pub record Laws : Type 0 where
       → cache_after held t request c ≡ cache_after other t request c
   pub reply : (held other : List ℕ) → AreAlike held other → (t : ℕ) (request : Request) (c : Cache)
       → reply_to held t request c ≡ reply_to other t request c
-  -- rows of one number have one place, and each worker has one window
+  -- rows of one number have one place, each worker has one window, and none is of a row that holds
+  -- null, a truth value or an integer
   pub numbered : (conf : Conf) (history : List Event) → length history ≤ 4194304
       → IsNumbered (stage_of conf history)

@@ -4,6 +4,7 @@ ghost use Rattle.std.specs.Prelude.{◌≡◌, ℕ, ◌<◌, ◌≤◌, ◌^◌,
 ghost use Rattle.apcu_model.specs.declared.request.Request.TheVariants as request;
 ghost use Rattle.apcu_model.specs.declared.request.Reply.TheVariants as reply;
 ghost use Rattle.apcu_model.specs.Sequential.{is_stored};
+ghost use Rattle.counter_entry.specs.Numbers.{reply_of};
 ghost use Rattle.shared_cache.specs.Settled.{Settled};
 ghost use Rattle.shared_cache.specs.Follows.{Follows};
 ghost use Rattle.shared_cache.specs.Pinned.{IsFetched};
@@ -18,8 +19,10 @@ use crate::noting::note;
 use crate::pinned::Pinned;
 use apcu_model::{Ask, Journal, StoreAnswer};
 use cache_core::{Core, Look};
+use counter_entry::{IncAnswer, cas, inc};
 use php_graph::Graph;
 use pin_table::{Ended, EndedList, Pass, PinTable, TableName, WriterSeat};
+use std::alloc::Global;
 use std::marker::{Model, PhantomData};
 use value_image::images_are_runs;
 
@@ -146,6 +149,57 @@ impl<N: TableName> Cabinet<N> {
             exclusive,
         };
         (w.give_pass(ask, t), stored)
+    }
+
+    // Counts by the step: the integer of the row that a look-up of the key finds, or from 0 where
+    // it finds none.
+    pub(crate) fn inc(
+        &mut self,
+        table: &PinTable,
+        alloc: Global,
+        pass: Pass,
+        key: &[u8],
+        step: i64,
+        ttl: u32,
+        t: u64,
+    ) -> (Pass, IncAnswer)
+        requires table { table.now ≡ N.table }
+        requires pass { pass.table ≡ N.table }
+        requires left { 1 ≤ pass.known.left }
+        requires short { length key.now < 2 ^ 32 }
+        ensures { Follows N.conf (length N.budgets) pass result.0 t
+            (request.Inc key.now step ttl) (reply_of result.1) }
+    {
+        lower_laws();
+        let mut w = table.writer(&mut self.seat, pass);
+        let answer = inc(alloc, &mut self.core, &mut w, key, step, ttl, t);
+        note(&mut self.journal, &w);
+        (w.give_pass(Ask::Inc { key, step, ttl }, t), answer)
+    }
+
+    // Sets the integer of the row that a look-up of the key finds, where it is the expected one;
+    // whether it is.
+    pub(crate) fn cas(
+        &mut self,
+        table: &PinTable,
+        pass: Pass,
+        key: &[u8],
+        expect: i64,
+        set: i64,
+        t: u64,
+    ) -> (Pass, bool)
+        requires table { table.now ≡ N.table }
+        requires pass { pass.table ≡ N.table }
+        requires left { 1 ≤ pass.known.left }
+        requires short { length key.now < 2 ^ 32 }
+        ensures { Follows N.conf (length N.budgets) pass result.0 t
+            (request.Cas key.now expect set) (reply.Flag result.1) }
+    {
+        lower_laws();
+        let mut w = table.writer(&mut self.seat, pass);
+        let found = cas(&mut self.core, &mut w, key, expect, set, t);
+        note(&mut self.journal, &w);
+        (w.give_pass(Ask::Cas { key, expect, set }, t), found)
     }
 
     // A worker's last event.

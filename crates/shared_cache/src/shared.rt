@@ -5,6 +5,7 @@ ghost use Rattle.php_graph.specs.declared.kind.Kind.{Kind};
 ghost use Rattle.value_image.specs.Image.{IsImageOf};
 ghost use Rattle.apcu_model.specs.declared.request.Request.TheVariants as request;
 ghost use Rattle.apcu_model.specs.declared.request.Reply.TheVariants as reply;
+ghost use Rattle.counter_entry.specs.Numbers.{reply_of};
 ghost use Rattle.shared_cache.specs.Follows.{Follows};
 ghost use Rattle.shared_cache.specs.Pinned.{IsFetched};
 ghost use Rattle.shared_cache.specs.Learned.{Learns};
@@ -15,6 +16,7 @@ ghost use Rattle.shared_cache.specs.Closing.{IsClosed};
 use crate::cabinet::Cabinet;
 use crate::closed::Closed;
 use crate::pinned::Pinned;
+use counter_entry::IncAnswer;
 use php_graph::Graph;
 use pin_table::{Copying, Ended, EndedList, Image, Pass, PinTable, TableName};
 use std::alloc::{AllocError, Global};
@@ -110,6 +112,53 @@ impl<N: TableName> Shared<N> {
         ensures { Follows N.conf (length N.budgets) pass result t request.Clear (reply.Flag true) }
     {
         self.lock.lock(rt).clear(&self.table, pass, t)
+    }
+
+    /// Counts by the step at the moment `t`, in seconds: the integer of the row that a look-up of
+    /// the key finds and the step, in 64 bits with a sign, where the sum wraps. Where it finds no
+    /// row, a new one counts from 0 and lives for `ttl` seconds; 0 is no limit. It takes no memory:
+    /// `alloc` is for the empty list of further places that a new value has.
+    pub fn inc<R: Wait>(
+        &self,
+        rt: &R,
+        alloc: Global,
+        pass: Pass,
+        key: &[u8],
+        step: i64,
+        ttl: u32,
+        t: u64,
+    ) -> (Pass, IncAnswer)
+        requires table { pass.table ≡ N.table }
+        requires left { 2 ≤ pass.known.left }
+        requires short { length key.now < 2 ^ 32 }
+        ensures { Follows N.conf (length N.budgets) pass result.0 t
+            (request.Inc key.now step ttl) (reply_of result.1) }
+    {
+        self.lock
+            .lock(rt)
+            .inc(&self.table, alloc, pass, key, step, ttl, t)
+    }
+
+    /// Sets the integer under a key at the moment `t`, in seconds, where a look-up finds a row that
+    /// holds `expect`; whether it does. It makes no row.
+    pub fn cas<R: Wait>(
+        &self,
+        rt: &R,
+        pass: Pass,
+        key: &[u8],
+        expect: i64,
+        set: i64,
+        t: u64,
+    ) -> (Pass, bool)
+        requires table { pass.table ≡ N.table }
+        requires left { 2 ≤ pass.known.left }
+        requires short { length key.now < 2 ^ 32 }
+        ensures { Follows N.conf (length N.budgets) pass result.0 t
+            (request.Cas key.now expect set) (reply.Flag result.1) }
+    {
+        self.lock
+            .lock(rt)
+            .cas(&self.table, pass, key, expect, set, t)
     }
 
     /// Fetches the value of a key at the moment `t`, in seconds. Null, a truth value or an integer

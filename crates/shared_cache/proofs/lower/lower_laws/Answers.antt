@@ -8,6 +8,7 @@ returns c = record {
   holds = c.rule_laws.ensures.holds;
   closed = c.window_laws.ensures.closed;
   opened = c.window_laws.ensures.opened;
+  one = c.standing_laws.ensures.one;
   copied = c.standing_laws.ensures.copied;
   own = c.rule_laws.ensures.own;
   after = c.one_event_more.ensures.after;
