@@ -3,11 +3,11 @@ use Rattle.std.specs.Prelude.{ℕ, ◌+◌, Bool, true, false, if◌then◌else�
 use Rattle.std.specs.Fmt.{decimal}
 use Rattle.std.specs.Str.{bytes_eq}
 use Rattle.php_graph.specs.declared.kind.Kind.{Kind}
-use Rattle.notation.specs.Notation.{text_from, text_of, string_text, array_head}
+use Rattle.notation.specs.Notation.{text_from, text_of, integer_text, string_text, array_head}
 use Rattle.notation.specs.Keys.{written_key}
 use Rattle.php_graph.specs.Numbers.{int_of_text}
 use Rattle.apcu_model.specs.declared.request.Reply.{Reply}
-use Rattle.apcu_model.specs.declared.request.Reply.TheVariants.{Flag, Found, Absent, Ended}
+use Rattle.apcu_model.specs.declared.request.Reply.TheVariants.{Flag, Found, Absent, Number, NoNumber}
 
 -- ---- one reply
 
@@ -38,6 +38,20 @@ fetched (Some g) = Found g
 abbrev pub fetched_text : List Reply → List ℕ
 fetched_text [] = []
 fetched_text (reply ∷ replies) = fetched_one reply
+
+-- the number that a counter came to and that it counted, or that it did not
+abbrev pub number_one : Reply → List ℕ
+number_one (Number n) = integer_text n ++ codes "b:1;"
+number_one _ = codes "b:0;b:0;"
+
+-- a counter's reply by the number that it came to, if it counted
+abbrev pub reply_with : Option ℤ → Reply
+reply_with None = NoNumber
+reply_with (Some n) = Number n
+
+abbrev pub number_text : List Reply → List ℕ
+number_text [] = []
+number_text (reply ∷ replies) = number_one reply
 
 -- ---- answered arrays
 

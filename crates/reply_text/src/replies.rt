@@ -3,8 +3,8 @@
 ghost use Rattle.std.specs.Prelude.{◌≡◌, ℕ, ◌+◌, ◌<◌, ◌^◌, ◌++◌, List, [], length, map, codes, OnOk, Option};
 ghost use Rattle.std.specs.Option.{option_map};
 ghost use Rattle.std.specs.Fmt.{decimal};
-ghost use Rattle.notation.specs.Notation.{array_head, string_text};
-ghost use Rattle.reply_text.specs.Replies.{flag_text, fetched, fetched_one, array_text, all_with, numbered, value_members};
+ghost use Rattle.notation.specs.Notation.{array_head, integer_text, string_text};
+ghost use Rattle.reply_text.specs.Replies.{flag_text, fetched, fetched_one, reply_with, number_one, array_text, all_with, numbered, value_members};
 
 use itoa::Buffer;
 use notation::{ByteOut, write_key, write_value};
@@ -32,6 +32,29 @@ pub fn write_fetched(out: &mut ByteOut, found: Option<Graph>) -> Result<(), Allo
         }
         None => out.push(b"b:0;b:0;"),
     }
+}
+
+// The number that a counter came to and that it counted, or that it did not.
+pub fn write_number(out: &mut ByteOut, number: Option<i64>) -> Result<(), AllocError>
+    ensures { OnOk result (out.new ≡ out.old ++ number_one (reply_with number)) }
+{
+    match number {
+        Some(n) => {
+            write_integer(out, n)?;
+            out.push(b"b:1;")
+        }
+        None => out.push(b"b:0;b:0;"),
+    }
+}
+
+// An integer.
+fn write_integer(out: &mut ByteOut, n: i64) -> Result<(), AllocError>
+    ensures { OnOk result (out.new ≡ out.old ++ integer_text n) }
+{
+    let mut digits = Buffer::new();
+    out.push(b"i:")?;
+    out.push(digits.format(n).as_bytes())?;
+    out.push(b";")
 }
 
 // How an array of so many members begins.

@@ -1,18 +1,18 @@
 -- A row of the table, as the steps that a function of its own takes: each argument by what it is made of.
 use Rattle.std.proofs.Common.{◌≡◌, ℕ, Bool, true, false, cond, List, [], Option, Some, None, Result, Ok, Err, refl, sym, ap, subst, ◌∙◌}
-use Rattle.std.specs.Prelude.{codes}
+use Rattle.std.specs.Prelude.{codes, ℤ, pos}
 use Rattle.std.specs.Option.{option_map}
 use Rattle.php_graph.specs.declared.kind.Kind.{Kind}
 use Rattle.notation.specs.declared.fault.Fault.{Fault}
 use Rattle.notation.specs.Marks.{◌>>=◌, fail}
 use Rattle.notation.specs.Reading.{reading_of}
-use Rattle.script_read.specs.declared.call.Call.TheVariants.{StoreOne, StoreMany}
+use Rattle.script_read.specs.declared.call.Call.TheVariants.{StoreOne, StoreMany, Inc, Cas}
 use Rattle.script_read.specs.declared.effect.Effect.{Effect}
 use Rattle.script_read.specs.declared.effect.Effect.TheVariants.{Sets, Calls}
 use Rattle.script_read.specs.declared.given.Stored.{Stored}
 use Rattle.script_read.specs.declared.given.Stored.TheVariants as stores
-use Rattle.script_read.specs.Arguments.{any_value, null, ttl, moment, asked, stored}
-use Rattle.script_read.specs.Table.{Form, Done, Need, May, Refuse, or_refuse, taken, needs, may, calls, store_one, store_many, store_by, fetch_of, exists_of, delete_of, form_in, form_of}
+use Rattle.script_read.specs.Arguments.{any_value, key, integer, null, ttl, moment, asked, stored}
+use Rattle.script_read.specs.Table.{Form, Done, Need, May, Refuse, or_refuse, taken, needs, may, calls, store_one, store_many, store_by, fetch_of, exists_of, delete_of, step_by, count_form, cas_form, form_in, form_of}
 use Rattle.script_read.specs.Reading.{space_at, ends_here, end_at, chosen, choice_at, argument_at, optional_at, last_argument_at, rest_at, word_at, behind_word, before_worker, form_after, line_at}
 use Rattle.script_read.specs.declared.keyword.Keyword.{Keyword}
 use Rattle.script_read.specs.declared.fault.Stop.{Stop}
@@ -124,6 +124,36 @@ exists_is last bytes = needs_is asked (λ a. calls (exists_of a)) last bytes (λ
 pub delete_is : (last bytes : List ℕ) → rest_at (form_of (codes "apcu_delete")) last bytes ≡ (last_argument_at asked bytes >>= λ a. Ok (Calls (delete_of a.0), a.1))
 unfolding form_in rest_at
 delete_is last bytes = needs_is asked (λ a. calls (delete_of a)) last bytes (λ a. tt) ∙ effect_last (argument_at asked bytes) (λ a. Calls (delete_of a))
+
+-- ---- counters
+
+pub count_is : (down : Bool) (last bytes : List ℕ) → rest_at (count_form down) last bytes
+    ≡ (argument_at key bytes >>= λ k. optional_at (pos 1) integer k.1 >>= λ n. optional_at 0 ttl n.1 >>= ended (λ t. Calls (Inc k.0 (step_by down n.0) t)))
+unfolding rest_at
+count_is down last bytes =
+    needs_is key (λ k. may (pos 1) integer (λ n. may 0 ttl (λ t. calls (Inc k (step_by down n) t)))) last bytes (λ k. tt)
+    ∙ then_is (argument_at key bytes) _ _ (λ k. may_is (pos 1) integer (λ n. may 0 ttl (λ t. calls (Inc k.0 (step_by down n) t))) [] k.1 (λ n. tt)
+    ∙ then_is (optional_at (pos 1) integer k.1) _ _ (λ n. may_is 0 ttl (λ t. calls (Inc k.0 (step_by down n.0) t)) [] n.1 (λ t. tt)))
+
+-- the arguments were read one after the other
+pub count_at : (down : Bool) (last bytes k : List ℕ) (behind_key : List ℕ) (n : ℤ) (behind_step : List ℕ) (t : ℕ) (behind_ttl after : List ℕ) (step : ℤ)
+    → argument_at key bytes ≡ Ok (k, behind_key) → optional_at (pos 1) integer behind_key ≡ Ok (n, behind_step) → optional_at 0 ttl behind_step ≡ Ok (t, behind_ttl) → end_at behind_ttl ≡ Ok after → step ≡ step_by down n
+    → rest_at (count_form down) last bytes ≡ Ok (Calls (Inc k step t), after)
+count_at down last bytes k behind_key n behind_step t behind_ttl after step e1 e2 e3 e4 is =
+    count_is down last bytes
+    ∙ (ap (λ (r : Result (List ℕ × List ℕ) Fault). r >>= λ k. optional_at (pos 1) integer k.1 >>= λ n. optional_at 0 ttl n.1 >>= ended (λ t. Calls (Inc k.0 (step_by down n.0) t))) e1
+    ∙ (ap (λ (r : Result (ℤ × List ℕ) Fault). r >>= λ n. optional_at 0 ttl n.1 >>= ended (λ t. Calls (Inc k (step_by down n.0) t))) e2
+    ∙ (ap (λ (r : Result (ℕ × List ℕ) Fault). r >>= ended (λ t. Calls (Inc k (step_by down n) t))) e3
+    ∙ (ap (λ (r : Result (List ℕ) Fault). r >>= λ rest. Ok (Calls (Inc k (step_by down n) t), rest)) e4
+    ∙ ap (λ (m : ℤ). Ok (Calls (Inc k m t), after)) (sym is)))))
+
+pub cas_is : (last bytes : List ℕ) → rest_at cas_form last bytes
+    ≡ (argument_at key bytes >>= λ k. argument_at integer k.1 >>= λ expect. argument_at integer expect.1 >>= ended (λ set. Calls (Cas k.0 expect.0 set)))
+unfolding rest_at
+cas_is last bytes =
+    needs_is key (λ k. needs integer (λ expect. needs integer (λ set. calls (Cas k expect set)))) last bytes (λ k. tt)
+    ∙ then_is (argument_at key bytes) _ _ (λ k. needs_is integer (λ expect. needs integer (λ set. calls (Cas k.0 expect set))) [] k.1 (λ expect. tt)
+    ∙ then_is (argument_at integer k.1) _ _ (λ expect. needs_is integer (λ set. calls (Cas k.0 expect.0 set)) [] expect.1 (λ set. tt)))
 
 -- ---- stores
 

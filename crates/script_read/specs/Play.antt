@@ -9,7 +9,7 @@ use Rattle.apcu_model.specs.declared.request.Request.TheVariants as requests
 use Rattle.apcu_model.specs.declared.request.Reply.{Reply}
 use Rattle.apcu_model.specs.History.{Stage, start_of, is_legal_mask, reply_in, after_event}
 use Rattle.script_read.specs.declared.call.Call.{Call}
-use Rattle.script_read.specs.declared.call.Call.TheVariants.{StoreOne, StoreMany, FetchOne, FetchMany, ExistsOne, ExistsMany, DeleteOne, DeleteMany, Clear, Enabled}
+use Rattle.script_read.specs.declared.call.Call.TheVariants.{StoreOne, StoreMany, FetchOne, FetchMany, ExistsOne, ExistsMany, DeleteOne, DeleteMany, Inc, Cas, Clear, Enabled}
 use Rattle.script_read.specs.declared.script.Step.{Step}
 
 -- what a call asks, one request after the other; whether the cache is enabled asks nothing
@@ -23,6 +23,8 @@ requests_of (ExistsOne key) = requests.Exists key ∷ []
 requests_of (ExistsMany keys) = map requests.Exists keys
 requests_of (DeleteOne key) = requests.Delete key ∷ []
 requests_of (DeleteMany keys) = map requests.Delete keys
+requests_of (Inc key step ttl) = requests.Inc key step ttl ∷ []
+requests_of (Cas key expect set) = requests.Cas key expect set ∷ []
 requests_of Clear = requests.Clear ∷ []
 requests_of Enabled = []
 

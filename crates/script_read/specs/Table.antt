@@ -1,19 +1,20 @@
 -- The words of lines, and the arguments that each takes.
-use Rattle.std.specs.Prelude.{ℕ, Bool, true, false, List, [], ◌∷◌, ◌++◌, map, codes, Option, Some, None, if◌then◌else◌}
+use Rattle.std.specs.Prelude.{ℕ, Bool, true, false, List, [], ◌∷◌, ◌++◌, map, codes, Option, Some, None, if◌then◌else◌, ℤ, pos}
+use Rattle.std.specs.Int.{w64, int_wrapping_neg}
 use Rattle.std.specs.Option.{option_map}
 use Rattle.std.specs.Str.{bytes_eq}
 use Rattle.php_graph.specs.declared.kind.Kind.{Kind}
 use Rattle.notation.specs.declared.fault.Reason.{Reason}
 use Rattle.notation.specs.declared.fault.Reason.TheVariants.{Argument, Line, Unbuilt}
 use Rattle.script_read.specs.declared.call.Call.{Call}
-use Rattle.script_read.specs.declared.call.Call.TheVariants.{StoreOne, StoreMany, FetchOne, FetchMany, ExistsOne, ExistsMany, DeleteOne, DeleteMany, Clear, Enabled}
+use Rattle.script_read.specs.declared.call.Call.TheVariants.{StoreOne, StoreMany, FetchOne, FetchMany, ExistsOne, ExistsMany, DeleteOne, DeleteMany, Inc, Cas, Clear, Enabled}
 use Rattle.script_read.specs.declared.effect.Effect.{Effect}
 use Rattle.script_read.specs.declared.effect.Effect.TheVariants.{Sets, Calls}
 use Rattle.script_read.specs.declared.given.Asked.{Asked}
 use Rattle.script_read.specs.declared.given.Asked.TheVariants as asks
 use Rattle.script_read.specs.declared.given.Stored.{Stored}
 use Rattle.script_read.specs.declared.given.Stored.TheVariants as stores
-use Rattle.script_read.specs.Arguments.{any_value, null, ttl, moment, asked, stored}
+use Rattle.script_read.specs.Arguments.{any_value, key, integer, null, ttl, moment, asked, stored}
 
 -- ---- forms
 
@@ -74,6 +75,21 @@ abbrev pub delete_of : Asked → Call
 delete_of (asks.One k) = DeleteOne k
 delete_of (asks.Many ks) = DeleteMany ks
 
+-- the step of a call that counts up or down: down is by the negated step, in 64 bits with a sign
+abbrev pub step_by : Bool → ℤ → ℤ
+step_by false n = n
+step_by true n = int_wrapping_neg w64 n
+
+-- the step, 1 where it is left out, and a limit of time
+abbrev pub count_form : Bool → Form
+count_form down =
+    needs key (λ k. may (pos 1) integer (λ n. may 0 ttl (λ t. calls (Inc k (step_by down n) t))))
+
+-- the integer that is expected, and the one that is set
+abbrev pub cas_form : Form
+cas_form =
+    needs key (λ k. needs integer (λ expect. needs integer (λ set. calls (Cas k expect set))))
+
 -- the words, `worker` apart
 abbrev pub built : List (List ℕ × Form)
 built =
@@ -83,6 +99,9 @@ built =
     ∷ (codes "apcu_fetch", needs asked (λ a. calls (fetch_of a)))
     ∷ (codes "apcu_exists", needs asked (λ a. calls (exists_of a)))
     ∷ (codes "apcu_delete", needs asked (λ a. calls (delete_of a)))
+    ∷ (codes "apcu_inc", count_form false)
+    ∷ (codes "apcu_dec", count_form true)
+    ∷ (codes "apcu_cas", cas_form)
     ∷ (codes "apcu_clear_cache", calls Clear)
     ∷ (codes "apcu_enabled", calls Enabled)
     ∷ []
@@ -90,10 +109,7 @@ built =
 -- words that are not built yet
 abbrev pub later_words : List (List ℕ)
 later_words =
-    codes "apcu_inc"
-    ∷ codes "apcu_dec"
-    ∷ codes "apcu_cas"
-    ∷ codes "apcu_entry"
+    codes "apcu_entry"
     ∷ codes "apcu_key_info"
     ∷ codes "apcu_cache_info"
     ∷ codes "apcu_sma_info"

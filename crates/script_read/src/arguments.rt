@@ -1,18 +1,18 @@
 //! The arguments of lines: values, and what is made of them.
 
-ghost use Rattle.std.specs.Prelude.{◌≡◌, ℕ, ◌≤◌, ◌<◌, List, length, Err, IfOk};
+ghost use Rattle.std.specs.Prelude.{◌≡◌, ℕ, ◌≤◌, ◌<◌, List, length, pos, Err, IfOk};
 ghost use Rattle.notation.specs.Marks.{fail};
 ghost use Rattle.notation.specs.Reading.{reading_of};
 ghost use Rattle.script_read.specs.Calls.{last_moment};
-ghost use Rattle.script_read.specs.Arguments.{any_value, null, ttl, moment, asked, stored};
+ghost use Rattle.script_read.specs.Arguments.{any_value, key, integer, null, ttl, moment, asked, stored};
 ghost use Rattle.script_read.specs.Reading.{space_at, end_at, one_more_at, ends_here, argument_at, optional_at};
 ghost use Rattle.script_read.specs.Gives.{Gives};
 
-use crate::choices::{asked_of, is_null, moment_of, stored_of, ttl_of};
+use crate::choices::{asked_of, integer_of, is_null, moment_of, stored_of, ttl_of};
 use crate::fault::Stop;
 use crate::given::{Asked, Stored};
 use notation::{Cursor, Fault, ReadFault, Reason, read_value};
-use php_graph::Graph;
+use php_graph::{Bytes, Graph};
 use std::alloc::Global;
 
 // The fault that begins with these bytes.
@@ -95,6 +95,43 @@ pub(crate) fn value_argument(alloc: Global, bytes: &[u8]) -> Result<(Graph, &[u8
 {
     let argument = space(bytes)?;
     value(alloc, argument)
+}
+
+// One key.
+pub(crate) fn key_argument(alloc: Global, bytes: &[u8]) -> Result<(Bytes, &[u8]), Stop>
+    ensures read { Gives (λ x. (x.0, x.1.now)) result (argument_at key bytes.now) }
+    ensures fewer { IfOk result (λ x. length x.1.now < length bytes.now) }
+{
+    let argument = space(bytes)?;
+    let (graph, rest) = value(alloc, argument)?;
+    match graph.into_string() {
+        Ok(key) => Ok((key, rest)),
+        Err(_) => Err(fault(Reason::Argument, argument)),
+    }
+}
+
+// An integer.
+pub(crate) fn integer_argument(alloc: Global, bytes: &[u8]) -> Result<(i64, &[u8]), Stop>
+    ensures read { Gives (λ x. (x.0, x.1.now)) result (argument_at integer bytes.now) }
+    ensures fewer { IfOk result (λ x. length x.1.now < length bytes.now) }
+{
+    let argument = space(bytes)?;
+    let (graph, rest) = value(alloc, argument)?;
+    match integer_of(&graph) {
+        Some(n) => Ok((n, rest)),
+        None => Err(fault(Reason::Argument, argument)),
+    }
+}
+
+// A step, or 1 where the line ends.
+pub(crate) fn step_argument(alloc: Global, bytes: &[u8]) -> Result<(i64, &[u8]), Stop>
+    ensures read { Gives (λ x. (x.0, x.1.now)) result (optional_at (pos 1) integer bytes.now) }
+    ensures no_more { IfOk result (λ x. length x.1.now ≤ length bytes.now) }
+{
+    if ends_here(bytes) {
+        return Ok((1, bytes));
+    }
+    integer_argument(alloc, bytes)
 }
 
 // One key, or an array of keys.

@@ -34,6 +34,19 @@ pub enum Call {
     DeleteOne(Bytes),
     /// `apcu_delete` of an array of keys.
     DeleteMany(Keys),
+    /// `apcu_inc`; or `apcu_dec`, which counts by the negated step.
+    Inc {
+        key: Bytes,
+        step: i64,
+        /// In seconds, of a row that is new; 0 is no limit.
+        ttl: u32,
+    },
+    /// `apcu_cas`: the integer under the key becomes `set` where it is `expect`.
+    Cas {
+        key: Bytes,
+        expect: i64,
+        set: i64,
+    },
     /// `apcu_clear_cache`.
     Clear,
     /// `apcu_enabled`, which asks nothing of the cache.
@@ -50,6 +63,8 @@ impl Call {
             | Call::FetchOne(_)
             | Call::ExistsOne(_)
             | Call::DeleteOne(_)
+            | Call::Inc { .. }
+            | Call::Cas { .. }
             | Call::Clear => 1,
             Call::StoreMany { pairs, .. } => u64::from(pairs.len()),
             Call::FetchMany(keys) | Call::ExistsMany(keys) | Call::DeleteMany(keys) => {

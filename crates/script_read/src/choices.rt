@@ -13,7 +13,7 @@ use php_graph::{Bytes, Child, Graph, Key, Kind};
 use std::alloc::{AllocError, Global};
 
 // The integer that a value is.
-fn integer_of(graph: &Graph) -> Option<i64>
+pub(crate) fn integer_of(graph: &Graph) -> Option<i64>
     ensures { result ≡ integer graph.now }
 {
     if graph.places() != 1 {

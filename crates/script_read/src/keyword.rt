@@ -13,6 +13,9 @@ pub(crate) enum Keyword {
     Fetch,
     Exists,
     Delete,
+    Inc,
+    Dec,
+    Cas,
     Clear,
     Enabled,
     /// A call that is not built yet.
@@ -38,6 +41,12 @@ impl Keyword {
             Keyword::Exists
         } else if is_word(text, b"apcu_delete") {
             Keyword::Delete
+        } else if is_word(text, b"apcu_inc") {
+            Keyword::Inc
+        } else if is_word(text, b"apcu_dec") {
+            Keyword::Dec
+        } else if is_word(text, b"apcu_cas") {
+            Keyword::Cas
         } else if is_word(text, b"apcu_clear_cache") {
             Keyword::Clear
         } else if is_word(text, b"apcu_enabled") {
@@ -54,10 +63,7 @@ impl Keyword {
 fn is_later(text: &[u8]) -> bool
     ensures { result ≡ list_any (bytes_eq text.now) later_words }
 {
-    is_word(text, b"apcu_inc")
-        || is_word(text, b"apcu_dec")
-        || is_word(text, b"apcu_cas")
-        || is_word(text, b"apcu_entry")
+    is_word(text, b"apcu_entry")
         || is_word(text, b"apcu_key_info")
         || is_word(text, b"apcu_cache_info")
         || is_word(text, b"apcu_sma_info")

@@ -2,14 +2,14 @@
 
 ghost use Rattle.std.specs.Prelude.{◌≡◌, ℕ, ◌≤◌, ◌<◌, List, codes, length, false, true, IfOk, OnOk};
 ghost use Rattle.script_read.specs.Arguments.{asked, stored};
-ghost use Rattle.script_read.specs.Table.{Refuse, needs, calls, form_of, store_one, store_many, store_by};
+ghost use Rattle.script_read.specs.Table.{Refuse, needs, calls, form_of, store_one, store_many, store_by, step_by, count_form, cas_form};
 ghost use Rattle.script_read.specs.Grammar.{most_workers};
 ghost use Rattle.script_read.specs.Reading.{ends_word, word_len, word_at, behind_word, last_argument_at, rest_at, before_worker, worker_at, line_at};
 ghost use Rattle.script_read.specs.Gives.{Gives, form_named, IsSoon};
 
 use crate::arguments::{
-    asked_argument, end, fault, moment_argument, null_argument, stored_argument, ttl_argument,
-    value_argument,
+    asked_argument, end, fault, integer_argument, key_argument, moment_argument, null_argument,
+    step_argument, stored_argument, ttl_argument, value_argument,
 };
 use crate::call::Call;
 use crate::effect::Effect;
@@ -156,6 +156,44 @@ fn delete(alloc: Global, bytes: &[u8]) -> Result<(Effect, &[u8]), Stop>
     Ok((Effect::Calls(call), rest))
 }
 
+// The arguments of `apcu_inc` and `apcu_dec`.
+#[tactic(auto, using(crate::proofs::Rows::count_is))]
+fn count(alloc: Global, down: bool, bytes: &[u8]) -> Result<(Effect, &[u8]), Stop>
+    ensures read { (last : List ℕ) → Gives (λ x. (x.0, x.1.now)) result
+        (rest_at (count_form down) last bytes.now) }
+    ensures fewer { IfOk result (λ x. length x.1.now < length bytes.now) }
+    ensures soon { IfOk result (λ x. IsSoon x.0) }
+{
+    let (key, rest) = key_argument(alloc, bytes)?;
+    let (step, rest) = step_argument(alloc, rest)?;
+    let (ttl, rest) = ttl_argument(alloc, rest)?;
+    let rest = end(rest)?;
+    let step = step_by(down, step);
+    Ok((Effect::Calls(Call::Inc { key, step, ttl }), rest))
+}
+
+// The step of a call that counts up or down.
+fn step_by(down: bool, step: i64) -> i64
+    ensures { result ≡ step_by down step }
+{
+    if down { step.wrapping_neg() } else { step }
+}
+
+// The arguments of `apcu_cas`.
+#[tactic(auto, using(crate::proofs::Rows::cas_is))]
+fn cas(alloc: Global, bytes: &[u8]) -> Result<(Effect, &[u8]), Stop>
+    ensures read { (last : List ℕ) → Gives (λ x. (x.0, x.1.now)) result
+        (rest_at cas_form last bytes.now) }
+    ensures fewer { IfOk result (λ x. length x.1.now < length bytes.now) }
+    ensures soon { IfOk result (λ x. IsSoon x.0) }
+{
+    let (key, rest) = key_argument(alloc, bytes)?;
+    let (expect, rest) = integer_argument(alloc, rest)?;
+    let (set, rest) = integer_argument(alloc, rest)?;
+    let rest = end(rest)?;
+    Ok((Effect::Calls(Call::Cas { key, expect, set }), rest))
+}
+
 // A call without arguments.
 #[tactic(auto, unfolding(crate::specs::Reading::rest_at))]
 fn bare(call: Call, bytes: &[u8]) -> Result<(Effect, &[u8]), Stop>
@@ -188,6 +226,9 @@ fn effect<'a>(
         Keyword::Fetch => fetch(alloc, rest),
         Keyword::Exists => exists(alloc, rest),
         Keyword::Delete => delete(alloc, rest),
+        Keyword::Inc => count(alloc, false, rest),
+        Keyword::Dec => count(alloc, true, rest),
+        Keyword::Cas => cas(alloc, rest),
         Keyword::Clear => bare(Call::Clear, rest),
         Keyword::Enabled => bare(Call::Enabled, rest),
         Keyword::Later | Keyword::Unknown => Err(fault(reason_of(word), line)),

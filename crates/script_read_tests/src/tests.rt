@@ -19,6 +19,8 @@ enum Asked {
     ExistsMany(&'static [&'static [u8]]),
     Delete(&'static [u8]),
     DeleteMany(&'static [&'static [u8]]),
+    Inc(&'static [u8], i64, u32),
+    Cas(&'static [u8], i64, i64),
     Clear,
     Enabled,
 }
@@ -81,6 +83,12 @@ fn is_call(alloc: Global, expected: Asked, call: &Call) -> Result<bool, Fail> {
         (Asked::FetchMany(ks), Call::FetchMany(keys))
         | (Asked::ExistsMany(ks), Call::ExistsMany(keys))
         | (Asked::DeleteMany(ks), Call::DeleteMany(keys)) => Ok(are_keys(ks, keys)),
+        (Asked::Inc(k, n, t), Call::Inc { key, step, ttl }) => {
+            Ok(key.as_slice() == k && *step == n && *ttl == t)
+        }
+        (Asked::Cas(k, e, s), Call::Cas { key, expect, set }) => {
+            Ok(key.as_slice() == k && *expect == e && *set == s)
+        }
         (Asked::Clear, Call::Clear) | (Asked::Enabled, Call::Enabled) => Ok(true),
         _ => Ok(false),
     }
@@ -125,10 +133,15 @@ fn calls_in_all_their_forms(rt: HostRuntime) -> Result<(), Fail> {
         apcu_exists a:1:{s:1:\"x\";s:1:\"a\";}\n\
         apcu_delete s:1:\"a\";\n\
         apcu_delete a:1:{i:9;s:1:\"a\";}\n\
+        apcu_inc s:1:\"n\";\n\
+        apcu_inc s:1:\"n\"; i:-3;\n\
+        apcu_dec s:1:\"n\"; i:4; i:60;\n\
+        apcu_dec s:1:\"n\"; i:-9223372036854775808;\n\
+        apcu_cas s:1:\"n\"; i:5; i:-6;\n\
         apcu_clear_cache\n\
         time i:7;\n\
         apcu_enabled\n";
-    let rows: [Row; 14] = [
+    let rows: [Row; 19] = [
         (0, Asked::Store(b"a", b"i:5;", 0, false), 1),
         (0, Asked::Store(b"a", b"N;", 4294967295, true), 1),
         (
@@ -149,6 +162,11 @@ fn calls_in_all_their_forms(rt: HostRuntime) -> Result<(), Fail> {
         (0, Asked::ExistsMany(&[b"a"]), 1),
         (0, Asked::Delete(b"a"), 1),
         (0, Asked::DeleteMany(&[b"a"]), 1),
+        (0, Asked::Inc(b"n", 1, 0), 1),
+        (0, Asked::Inc(b"n", -3, 0), 1),
+        (0, Asked::Inc(b"n", -4, 60), 1),
+        (0, Asked::Inc(b"n", i64::MIN, 0), 1),
+        (0, Asked::Cas(b"n", 5, -6), 1),
         (0, Asked::Clear, 1),
         (7, Asked::Enabled, 0),
     ];
@@ -233,7 +251,7 @@ fn values_at_fault(rt: HostRuntime) {
 
 #[test]
 fn lines_at_fault(rt: HostRuntime) {
-    let rows: [Fault; 30] = [
+    let rows: [Fault; 33] = [
         (b"worker", 6, Reason::End),
         (b"worker ", 7, Reason::End),
         (b"worker N;\n", 7, Reason::Argument),
@@ -242,12 +260,12 @@ fn lines_at_fault(rt: HostRuntime) {
         (b"\n", 0, Reason::Line),
         (b"apcu_fetch s:1:\"a\";\n", 0, Reason::Line),
         (b"time i:1;\n", 0, Reason::Line),
-        (b"apcu_inc s:1:\"a\";\n", 0, Reason::Unbuilt),
+        (b"apcu_entry s:1:\"a\";\n", 0, Reason::Unbuilt),
         (b"worker\nworker N;\n", 14, Reason::Argument),
         (b"worker\nworker\ntime N;\n", 19, Reason::Argument),
         (b"worker\n\n", 7, Reason::Line),
         (b"worker\napcu_foo\n", 7, Reason::Line),
-        (b"worker\napcu_inc x", 7, Reason::Unbuilt),
+        (b"worker\napcu_entry x", 7, Reason::Unbuilt),
         (b"worker\nAPCUIterator_totals\n", 7, Reason::Unbuilt),
         (b"worker\ntime", 11, Reason::End),
         (b"worker\ntime ", 12, Reason::End),
@@ -270,6 +288,17 @@ fn lines_at_fault(rt: HostRuntime) {
             37,
             Reason::Argument,
         ),
+        (b"worker\napcu_inc s:1:\"n\"; i:1;", 29, Reason::End),
+        (
+            b"worker\napcu_dec s:1:\"n\"; i:1; i:1; i:1;\n",
+            35,
+            Reason::Argument,
+        ),
+        (
+            b"worker\napcu_cas s:1:\"n\"; i:1; i:2; i:3;\n",
+            35,
+            Reason::Argument,
+        ),
         (
             b"worker\napcu_store a:0:{} N; i:1; i:1;\n",
             33,
@@ -288,7 +317,7 @@ fn lines_at_fault(rt: HostRuntime) {
 
 #[test]
 fn arguments_at_fault(rt: HostRuntime) {
-    let rows: [Fault; 19] = [
+    let rows: [Fault; 26] = [
         (b"worker\ntime\n", 11, Reason::Argument),
         (b"worker\ntime i:-1;\n", 12, Reason::Argument),
         (b"worker\ntime i:1000000000000;\n", 12, Reason::Argument),
@@ -308,6 +337,25 @@ fn arguments_at_fault(rt: HostRuntime) {
         (
             b"worker\napcu_delete O:1:\"A\":0:{}\n",
             19,
+            Reason::Argument,
+        ),
+        (b"worker\napcu_inc\n", 15, Reason::Argument),
+        (b"worker\napcu_inc i:1;\n", 16, Reason::Argument),
+        (
+            b"worker\napcu_inc a:1:{i:0;s:1:\"n\";}\n",
+            16,
+            Reason::Argument,
+        ),
+        (b"worker\napcu_inc s:1:\"n\"; N;\n", 25, Reason::Argument),
+        (
+            b"worker\napcu_dec s:1:\"n\"; i:1; i:-1;\n",
+            30,
+            Reason::Argument,
+        ),
+        (b"worker\napcu_cas s:1:\"n\"; i:1;\n", 29, Reason::Argument),
+        (
+            b"worker\napcu_cas s:1:\"n\"; i:1; s:1:\"2\";\n",
+            30,
             Reason::Argument,
         ),
         (b"worker\napcu_store N; N;\n", 18, Reason::Argument),

@@ -1,21 +1,20 @@
 -- Workers that end.
-use Rattle.std.proofs.Common.{◌≡◌, ℕ, zero, suc, ◌+◌, ◌<◌, ◌≤◌, List, [], ◌∷◌, ◌++◌, length, map, refl, sym, ap, subst, ◌∙◌, append_assoc, length-append, arith}
+use Rattle.std.proofs.Common.{◌≡◌, ℕ, zero, suc, ◌<◌, ◌≤◌, List, [], ◌∷◌, ◌++◌, length, map, refl, sym, ap, subst, ◌∙◌, append_assoc, length-append, arith}
 use Rattle.std.specs.Prelude.{sum, Result, Ok, IfOk}
-use Rattle.std.proofs.lemmas.List.{append-nil, length-map, map-append}
+use Rattle.std.proofs.lemmas.List.{length-map}
 use Rattle.apcu_model.specs.declared.conf.Conf.{Conf}
-use Rattle.apcu_model.specs.declared.request.Request.{Request}
 use Rattle.apcu_model.specs.declared.request.Request.TheVariants as requests
 use Rattle.apcu_model.specs.declared.request.Reply.{Reply}
 use Rattle.apcu_model.specs.declared.request.Reply.TheVariants as replies
 use Rattle.pin_table.specs.Values.{Bearer}
 use Rattle.script_read.specs.declared.script.Step.{Step}
 use Rattle.script_read.specs.Calls.{events_of}
-use Rattle.script_read.specs.Play.{Wish, requests_of}
+use Rattle.script_read.specs.Play.{requests_of}
 use Rattle.script_read.specs.Grammar.{ends_line}
 use Rattle.reply_text.specs.Lines.{call_text, script_lines}
 use Rattle.play_laws.specs.Own.{own_replies, wish_in, asked_by, all_asked}
 use Rattle.shared_cache.specs.Follows.{Follows}
-use Rattle.worker_play.specs.Goes.{wish, wishes_at, IsWhole, Goes, Reaches, Tells}
+use Rattle.worker_play.specs.Goes.{wish, wishes_at, Reaches, Tells}
 use Rattle.worker_play.specs.Ends.{PlaysOut}
 use Rattle.worker_play.proofs.Going.{OwnLaws, more, one}
 use Rattle.worker_play.proofs.Steps.{asks_events, sum_step, lines_step}

@@ -11,7 +11,7 @@ use Rattle.apcu_model.specs.declared.request.Request.TheVariants as requests
 use Rattle.apcu_model.specs.declared.request.Reply.{Reply}
 use Rattle.pin_table.specs.Values.{Bearer}
 use Rattle.script_read.specs.declared.call.Call.{Call}
-use Rattle.script_read.specs.declared.call.Call.TheVariants.{StoreOne, StoreMany, FetchOne, FetchMany, ExistsOne, ExistsMany, DeleteOne, DeleteMany, Clear, Enabled}
+use Rattle.script_read.specs.declared.call.Call.TheVariants.{StoreOne, StoreMany, FetchOne, FetchMany, ExistsOne, ExistsMany, DeleteOne, DeleteMany, Inc, Cas, Clear, Enabled}
 use Rattle.script_read.specs.declared.script.Step.{Step}
 use Rattle.script_read.specs.Calls.{events_of}
 use Rattle.script_read.specs.Grammar.{ends_line}
@@ -31,6 +31,8 @@ asks_events slots (ExistsOne key) = refl
 asks_events slots (ExistsMany keys) = length-map keys requests.Exists
 asks_events slots (DeleteOne key) = refl
 asks_events slots (DeleteMany keys) = length-map keys requests.Delete
+asks_events slots (Inc key step ttl) = refl
+asks_events slots (Cas key expect set) = refl
 asks_events slots Clear = refl
 asks_events slots Enabled = refl
 

@@ -8,13 +8,15 @@ ghost use Rattle.reply_text.specs.Replies.{unstored_text, found_text, there_text
 ghost use Rattle.reply_text.specs.Lines.{call_text};
 ghost use Rattle.worker_play.specs.Goes.{wishes_at, IsWhole, Reaches, Tells};
 
-use crate::events::{clear, delete, exists, fetch, store};
+use crate::events::{cas, clear, delete, exists, fetch, inc, store};
 use crate::noting::{note_there, note_undone, note_value, write_found};
 use io_edges::Gate;
 use notation::ByteOut;
 use php_graph::{Bytes, Graph};
 use pin_table::{Pass, TableName};
-use reply_text::{Notes, write_each, write_fetched, write_flag, write_flags, write_numbered};
+use reply_text::{
+    Notes, write_each, write_fetched, write_flag, write_flags, write_number, write_numbered,
+};
 use script_read::Call;
 use shared_cache::Shared;
 use std::alloc::{AllocError, Global};
@@ -98,6 +100,14 @@ pub(crate) fn play_call<N: TableName, G: Gate, R: Wait>(
             (pass, write_flag(out, deleted))
         }
         Call::DeleteMany(keys) => delete_all(rt, alloc, shared, pass, keys.as_slice(), t, out),
+        Call::Inc { key, step, ttl } => {
+            let (pass, number) = inc(rt, alloc, shared, pass, key, *step, *ttl, t);
+            (pass, write_number(out, number))
+        }
+        Call::Cas { key, expect, set } => {
+            let (pass, was_set) = cas(rt, shared, pass, key, *expect, *set, t);
+            (pass, write_flag(out, was_set))
+        }
         Call::Clear => {
             let pass = clear(rt, shared, pass, t);
             (pass, write_flag(out, true))

@@ -5,10 +5,12 @@ ghost use Rattle.php_graph.specs.declared.kind.Kind.{Kind};
 ghost use Rattle.apcu_model.specs.declared.request.Request.TheVariants as request;
 ghost use Rattle.apcu_model.specs.declared.request.Reply.{Reply};
 ghost use Rattle.apcu_model.specs.declared.request.Reply.TheVariants.{Flag, Found};
-ghost use Rattle.reply_text.specs.Replies.{fetched};
+ghost use Rattle.counter_entry.specs.Numbers.{reply_of};
+ghost use Rattle.reply_text.specs.Replies.{fetched, reply_with};
 ghost use Rattle.worker_play.specs.Goes.{wish, IsWhole, Goes};
 
 use crate::scalar::graph_of_scalar;
+use counter_entry::IncAnswer;
 use io_edges::{Gate, Point};
 use php_graph::{Bytes, Graph};
 use pin_table::{Pass, TableName};
@@ -72,6 +74,58 @@ pub(crate) fn delete<N: TableName, R: Wait>(
 {
     one_event_own();
     shared.delete(rt, pass, key.as_slice(), t)
+}
+
+// The number that the counter of a key comes to, if it counts.
+pub(crate) fn inc<N: TableName, R: Wait>(
+    rt: &R,
+    alloc: Global,
+    shared: &Shared<N>,
+    pass: Pass,
+    key: &Bytes,
+    step: i64,
+    ttl: u32,
+    t: u64,
+) -> (Pass, Option<i64>)
+    requires table { pass.table ≡ N.table }
+    requires whole { IsWhole pass }
+    requires left { 2 ≤ pass.known.left }
+    ensures { Goes N.conf (length N.budgets) pass result.0
+        (wish t (request.Inc key.now step ttl) ∷ []) (reply_with result.1 ∷ []) }
+{
+    one_event_own();
+    let (pass, answer) = shared.inc(rt, alloc, pass, key.as_slice(), step, ttl, t);
+    (pass, number_of(answer))
+}
+
+// The number that a counter came to, if it counted.
+fn number_of(answer: IncAnswer) -> Option<i64>
+    ensures { reply_of answer ≡ reply_with result }
+{
+    match answer {
+        IncAnswer::Value(n) => Some(n),
+        IncAnswer::NotInteger | IncAnswer::NoRoom => None,
+    }
+}
+
+// Whether the expected integer was there, and another one is set.
+pub(crate) fn cas<N: TableName, R: Wait>(
+    rt: &R,
+    shared: &Shared<N>,
+    pass: Pass,
+    key: &Bytes,
+    expect: i64,
+    set: i64,
+    t: u64,
+) -> (Pass, bool)
+    requires table { pass.table ≡ N.table }
+    requires whole { IsWhole pass }
+    requires left { 2 ≤ pass.known.left }
+    ensures { Goes N.conf (length N.budgets) pass result.0
+        (wish t (request.Cas key.now expect set) ∷ []) (Flag result.1 ∷ []) }
+{
+    one_event_own();
+    shared.cas(rt, pass, key.as_slice(), expect, set, t)
 }
 
 // Drops all rows.

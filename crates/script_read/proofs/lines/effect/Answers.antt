@@ -48,6 +48,27 @@ returns-in-Delete-clause-read c =
     let rest = c.args.rest.now in
     moved _ c.delete.result _ _ (ap (λ (w : Keyword). rest_at (form_named w) line rest) c.in-Delete.is) (c.delete.ensures.read line)
 
+pub returns-in-Inc-clause-read : goal.returns-in-Inc-clause-read
+unfolding form_in
+returns-in-Inc-clause-read c =
+    let line = c.args.line.now in
+    let rest = c.args.rest.now in
+    moved _ c.count.result _ _ (ap (λ (w : Keyword). rest_at (form_named w) line rest) c.in-Inc.is) (c.count.ensures.read line)
+
+pub returns-in-Dec-clause-read : goal.returns-in-Dec-clause-read
+unfolding form_in
+returns-in-Dec-clause-read c =
+    let line = c.args.line.now in
+    let rest = c.args.rest.now in
+    moved _ c.count-in-Dec.result _ _ (ap (λ (w : Keyword). rest_at (form_named w) line rest) c.in-Dec.is) (c.count-in-Dec.ensures.read line)
+
+pub returns-in-Cas-clause-read : goal.returns-in-Cas-clause-read
+unfolding form_in
+returns-in-Cas-clause-read c =
+    let line = c.args.line.now in
+    let rest = c.args.rest.now in
+    moved _ c.cas.result _ _ (ap (λ (w : Keyword). rest_at (form_named w) line rest) c.in-Cas.is) (c.cas.ensures.read line)
+
 pub returns-in-Clear-clause-read : goal.returns-in-Clear-clause-read
 unfolding form_in
 returns-in-Clear-clause-read c =

@@ -1,4 +1,4 @@
-use Rattle.std.proofs.Common.{◌≡◌, ◌<◌, [], length, map, sym, ap, subst, ◌∙◌}
+use Rattle.std.proofs.Common.{◌<◌, length, map, subst, ◌∙◌}
 use Rattle.std.specs.Prelude.{sum, IfOk}
 use Rattle.play_laws.specs.Own.{asked_by}
 use Rattle.reply_text.specs.Lines.{script_lines}
