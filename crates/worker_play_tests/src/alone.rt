@@ -88,6 +88,13 @@ const EVERY_CALL: Alone = Alone {
         apcu_exists a:2:{i:0;s:1:\"a\";i:1;s:1:\"c\";}\n\
         time i:111;\n\
         apcu_fetch s:1:\"a\";\n\
+        apcu_inc s:1:\"n\"; i:3; i:60;\n\
+        apcu_inc s:1:\"n\";\n\
+        apcu_dec s:1:\"n\"; i:6;\n\
+        apcu_inc s:1:\"7\";\n\
+        apcu_cas s:1:\"n\"; i:-2; i:9;\n\
+        apcu_cas s:1:\"n\"; i:-2; i:9;\n\
+        apcu_fetch s:1:\"n\";\n\
         apcu_delete s:1:\"b\";\n\
         apcu_delete a:2:{i:0;s:1:\"b\";i:1;s:1:\"7\";}\n\
         apcu_clear_cache\n\
@@ -101,11 +108,18 @@ const EVERY_CALL: Alone = Alone {
         b:1;\n\
         a:1:{s:1:\"a\";b:1;}\n\
         b:0;b:0;\n\
+        i:3;b:1;\n\
+        i:4;b:1;\n\
+        i:-2;b:1;\n\
+        b:0;b:0;\n\
+        b:1;\n\
+        b:0;\n\
+        i:9;b:1;\n\
         b:1;\n\
         a:1:{i:0;s:1:\"b\";}\n\
         b:1;\n\
         b:0;\n",
-    events: 18,
+    events: 25,
 };
 
 // A script without calls, and one whose only call makes no event.
