@@ -1,6 +1,6 @@
 -- All workers have ended: their history is a play.
-use Rattle.std.proofs.Common.{◌≡◌, ℕ, zero, suc, ◌+◌, ◌<◌, ◌≤◌, ◌⊎◌, inl, inr, Bool, true, false, cond, List, [], ◌∷◌, ◌++◌, length, map, slice_get, Option, Some, refl, sym, ap, ap₂, ◌∙◌, subst, arith, length-append}
-use Rattle.std.specs.Prelude.{◌==◌, ◌||◌}
+use Rattle.std.proofs.Common.{◌≡◌, ℕ, zero, suc, ◌+◌, ◌<◌, ◌≤◌, inl, inr, Bool, true, false, cond, List, [], ◌∷◌, ◌++◌, length, map, slice_get, Option, Some, refl, sym, ap, ap₂, ◌∙◌, subst, arith, length-append}
+use Rattle.std.specs.Prelude.{◌==◌}
 use Rattle.std.proofs.lemmas.Option.{slice_get_within}
 use Rattle.std.proofs.lemmas.List.{length-map}
 use Rattle.std.proofs.lemmas.Bool.{or_left, or_right, or_cases, eqb-true, eq-eqb, false≢true, cases_Bool}
@@ -8,21 +8,18 @@ use mathlib.Core.List.{IsPrefix}
 use Rattle.atomic_table.specs.Seated.{TableId}
 use Rattle.apcu_model.specs.declared.conf.Conf.{Conf}
 use Rattle.apcu_model.specs.declared.event.Event.{Event}
-use Rattle.apcu_model.specs.declared.journal.Mark.{Mark}
-use Rattle.apcu_model.specs.declared.request.Reply.{Reply}
 use Rattle.apcu_model.specs.History.{start_of, all_legal, marks_of}
 use Rattle.pin_table.specs.Values.{Bearer}
 use Rattle.pin_table.specs.Events.{events_of}
 use Rattle.pin_table.specs.Lists.{AllOf, known_list}
 use Rattle.pin_table.specs.Views.{is_among}
 use Rattle.script_read.specs.declared.script.Step.{Step}
-use Rattle.script_read.specs.Play.{Play, played, IsComplete}
+use Rattle.script_read.specs.Play.{played, IsComplete}
 use Rattle.reply_text.specs.Lines.{script_lines}
 use Rattle.play_laws.specs.Own.{own_replies, wish_in, all_asked}
 use Rattle.play_laws.specs.Whole.{IsPlayedOut, replies_from, told_by}
 use Rattle.shared_cache.specs.declared.closed.Closed.{Closed}
 use Rattle.shared_cache.specs.Closing.{IsClosed}
-use Rattle.worker_play.specs.Ends.{Ends, PlaysOut}
 use Rattle.crew_play.specs.Crew.{AllEnd}
 use Rattle.crew_play.specs.Played.{texts_of, IsPlayed}
 

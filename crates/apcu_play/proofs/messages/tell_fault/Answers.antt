@@ -1,4 +1,4 @@
-use Rattle.std.proofs.Common.{◌≡◌, ◌++◌, false, true, codes, ◌∙◌}
+use Rattle.std.proofs.Common.{◌++◌, false, true, codes, ◌∙◌}
 use Rattle.std.specs.Fmt.{decimal}
 use Rattle.apcu_play.specs.Message.{reason_text, script_message}
 use Rattle.apcu_play.proofs.Telling.{first_failed, then_told, told_as}

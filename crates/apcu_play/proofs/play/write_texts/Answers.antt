@@ -1,4 +1,4 @@
-use Rattle.std.proofs.Common.{sym, ◌∙◌, ap, ◌++◌}
+use Rattle.std.proofs.Common.{◌∙◌, ap, ◌++◌}
 use Rattle.apcu_play.proofs.Finish.{texts_go_on}
 use Rattle.apcu_play.proofs.play.write_texts.Goals as goal
 

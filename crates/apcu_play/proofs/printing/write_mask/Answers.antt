@@ -1,4 +1,4 @@
-use Rattle.std.proofs.Common.{◌≡◌, ◌++◌, List, ℕ, sym, ap, ◌∙◌}
+use Rattle.std.proofs.Common.{◌++◌, List, ℕ, sym, ap, ◌∙◌}
 use Rattle.std.proofs.lemmas.List.{append-nil}
 use Rattle.apcu_play.proofs.Masks.{mask_text-none, mask_in_step, mask_out_step}
 use Rattle.apcu_play.proofs.printing.write_mask.Goals as goal

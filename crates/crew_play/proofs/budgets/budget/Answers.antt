@@ -1,4 +1,4 @@
-use Rattle.std.proofs.Common.{◌+◌, arith}
+use Rattle.std.proofs.Common.{arith}
 use Rattle.crew_play.proofs.Counting.{step_counted}
 use Rattle.crew_play.proofs.budgets.budget.Goals as goal
 

@@ -1,4 +1,4 @@
-use Rattle.std.proofs.Common.{◌+◌, arith, length-append, ◌∷◌, [], ap, length}
+use Rattle.std.proofs.Common.{arith, length-append, ◌∷◌, [], ap, length}
 use Rattle.crew_play.proofs.Counting.{worker_counted, budgets_go_on}
 use Rattle.crew_play.proofs.budgets.budgets.Goals as goal
 

@@ -1,4 +1,4 @@
-use Rattle.std.proofs.Common.{◌≡◌, ◌+◌, ◌-◌, ap, sym, subst, ◌∙◌, arith, suc, ℕ, ◌∷◌, [], ◌++◌, List, Option}
+use Rattle.std.proofs.Common.{◌≡◌, ◌-◌, subst, arith, suc, ℕ, ◌∷◌, [], ◌++◌}
 use Rattle.worker_play.specs.Ends.{Ends}
 use Rattle.crew_play.specs.Crew.{AllEnd}
 use Rattle.crew_play.proofs.Crews.{all_more}

@@ -1,4 +1,4 @@
-use Rattle.std.proofs.Common.{ℕ, ◌+◌, ◌*◌}
+use Rattle.std.proofs.Common.{◌+◌, ◌*◌}
 use Rattle.crew_play.proofs.crew.+fn-play_crew-join+arg2+play_crew.Given as goal
 
 abbrev pub decreases-join+arg2 : goal.decreases-join+arg2

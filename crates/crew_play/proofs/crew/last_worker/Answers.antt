@@ -1,6 +1,5 @@
-use Rattle.std.proofs.Common.{◌≡◌, ◌-◌, ap, sym, ◌∙◌}
+use Rattle.std.proofs.Common.{◌-◌, ap, sym, ◌∙◌}
 use Rattle.pin_table.specs.Values.{Bearer}
-use Rattle.pin_table.specs.Lists.{fresh, fresh_pass}
 use Rattle.crew_play.proofs.Crews.{fresh_last, enough_left}
 use Rattle.crew_play.proofs.crew.last_worker.Goals as goal
 

@@ -3,7 +3,7 @@ use Rattle.std.proofs.lemmas.List.{length-map}
 use Rattle.apcu_model.specs.declared.conf.Conf.{Conf}
 use Rattle.crew_play.specs.Crew.{AllEnd}
 use Rattle.crew_play.specs.Played.{IsPlayed}
-use Rattle.crew_play.specs.Budgets.{events_in, budgets_of}
+use Rattle.crew_play.specs.Budgets.{events_in}
 use Rattle.script_read.specs.declared.script.Step.{Step}
 use Rattle.crew_play.proofs.Gathering.{OthersLaw, PlayLaws, all_of, every, is_played}
 use Rattle.crew_play.proofs.play.play_named.Goals as goal
