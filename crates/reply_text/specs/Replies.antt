@@ -44,11 +44,6 @@ abbrev pub number_one : Reply → List ℕ
 number_one (Number n) = integer_text n ++ codes "b:1;"
 number_one _ = codes "b:0;b:0;"
 
--- a counter's reply by the number that it came to, if it counted
-abbrev pub reply_with : Option ℤ → Reply
-reply_with None = NoNumber
-reply_with (Some n) = Number n
-
 abbrev pub number_text : List Reply → List ℕ
 number_text [] = []
 number_text (reply ∷ replies) = number_one reply

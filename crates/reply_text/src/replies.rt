@@ -4,7 +4,8 @@ ghost use Rattle.std.specs.Prelude.{◌≡◌, ℕ, ◌+◌, ◌<◌, ◌^◌, �
 ghost use Rattle.std.specs.Option.{option_map};
 ghost use Rattle.std.specs.Fmt.{decimal};
 ghost use Rattle.notation.specs.Notation.{array_head, integer_text, string_text};
-ghost use Rattle.reply_text.specs.Replies.{flag_text, fetched, fetched_one, reply_with, number_one, array_text, all_with, numbered, value_members};
+ghost use Rattle.apcu_model.specs.Sequential.{number_reply};
+ghost use Rattle.reply_text.specs.Replies.{flag_text, fetched, fetched_one, number_one, array_text, all_with, numbered, value_members};
 
 use itoa::Buffer;
 use notation::{ByteOut, write_key, write_value};
@@ -36,7 +37,7 @@ pub fn write_fetched(out: &mut ByteOut, found: Option<Graph>) -> Result<(), Allo
 
 // The number that a counter came to and that it counted, or that it did not.
 pub fn write_number(out: &mut ByteOut, number: Option<i64>) -> Result<(), AllocError>
-    ensures { OnOk result (out.new ≡ out.old ++ number_one (reply_with number)) }
+    ensures { OnOk result (out.new ≡ out.old ++ number_one (number_reply number)) }
 {
     match number {
         Some(n) => {

@@ -5,6 +5,7 @@ ghost use Rattle.php_graph.specs.declared.kind.Kind.{Kind};
 ghost use Rattle.value_image.specs.Image.{IsImageOf};
 ghost use Rattle.apcu_model.specs.declared.request.Request.TheVariants as request;
 ghost use Rattle.apcu_model.specs.declared.request.Reply.TheVariants as reply;
+ghost use Rattle.apcu_model.specs.Sequential.{number_reply};
 ghost use Rattle.counter_entry.specs.Numbers.{reply_of};
 ghost use Rattle.shared_cache.specs.Follows.{Follows};
 ghost use Rattle.shared_cache.specs.Pinned.{IsFetched};
@@ -47,6 +48,16 @@ impl<N: TableName> Model for Shared<N> {
     ghost view = { λ s. s.table };
 
     ghost invariant = { λ s. s.table ≡ N.table };
+}
+
+// What the counter is now, if it counted.
+fn number_of(answer: IncAnswer) -> Option<i64>
+    ensures { number_reply result ≡ reply_of answer }
+{
+    match answer {
+        IncAnswer::Value(n) => Some(n),
+        IncAnswer::NotInteger | IncAnswer::NoRoom => None,
+    }
 }
 
 impl<N: TableName> Shared<N> {
@@ -116,7 +127,8 @@ impl<N: TableName> Shared<N> {
 
     /// Counts by the step at the moment `t`, in seconds: the integer of the row that a look-up of
     /// the key finds and the step, in 64 bits with a sign, where the sum wraps. Where it finds no
-    /// row, a new one counts from 0 and lives for `ttl` seconds; 0 is no limit. It takes no memory:
+    /// row, a new one counts from 0 and lives for `ttl` seconds; 0 is no limit. What the counter is
+    /// now, or None where the value is no integer or a new row finds no place. It takes no memory:
     /// `alloc` is for the empty list of further places that a new value has.
     pub fn inc<R: Wait>(
         &self,
@@ -127,16 +139,18 @@ impl<N: TableName> Shared<N> {
         step: i64,
         ttl: u32,
         t: u64,
-    ) -> (Pass, IncAnswer)
+    ) -> (Pass, Option<i64>)
         requires table { pass.table ≡ N.table }
         requires left { 2 ≤ pass.known.left }
         requires short { length key.now < 2 ^ 32 }
         ensures { Follows N.conf (length N.budgets) pass result.0 t
-            (request.Inc key.now step ttl) (reply_of result.1) }
+            (request.Inc key.now step ttl) (number_reply result.1) }
     {
-        self.lock
+        let (pass, answer) = self
+            .lock
             .lock(rt)
-            .inc(&self.table, alloc, pass, key, step, ttl, t)
+            .inc(&self.table, alloc, pass, key, step, ttl, t);
+        (pass, number_of(answer))
     }
 
     /// Sets the integer under a key at the moment `t`, in seconds, where a look-up finds a row that

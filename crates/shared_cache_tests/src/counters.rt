@@ -5,7 +5,6 @@ ghost use Rattle.std.specs.Thread.{IsSync};
 
 use crate::steps::{learns, put};
 use crate::tests::{CONF, text, two_passes};
-use counter_entry::IncAnswer;
 use php_graph::Graph;
 use pin_table::{Ended, Pass, TableName};
 use shared_cache::{Closed, Fresh, Shared, open_cache};
@@ -21,7 +20,7 @@ fn count<N: TableName, R: Wait>(
     shared: &Shared<N>,
     pass: Pass,
     key: &[u8],
-) -> (Pass, IncAnswer)
+) -> (Pass, Option<i64>)
     requires table { pass.table ≡ N.table }
     requires left { 2 ≤ pass.known.left }
     requires short { length key.now < 2 ^ 32 }
@@ -53,9 +52,9 @@ fn swap<N: TableName, R: Wait>(
 // What counting three times gave.
 #[derive(Clone, Copy)]
 struct Counted {
-    first: IncAnswer,
-    second: IncAnswer,
-    third: IncAnswer,
+    first: Option<i64>,
+    second: Option<i64>,
+    third: Option<i64>,
 }
 
 // Counts three times under a key.
@@ -89,8 +88,8 @@ fn counts<N: TableName, R: Wait>(
 struct Swapped {
     taken: bool,
     again: bool,
-    on: IncAnswer,
-    text: IncAnswer,
+    on: Option<i64>,
+    text: Option<i64>,
 }
 
 // Five events: the counter is set once, though asked twice, and goes on; a text is no number.
@@ -187,8 +186,8 @@ fn times(met: &Counted, number: i64) -> u32 {
         .saturating_add(once(met.third, number))
 }
 
-fn once(answer: IncAnswer, number: i64) -> u32 {
-    u32::from(answer == IncAnswer::Value(number))
+fn once(answer: Option<i64>, number: i64) -> u32 {
+    u32::from(answer == Some(number))
 }
 
 #[test]
@@ -209,8 +208,8 @@ fn two_workers_count(rt: HostRuntime) -> Result<(), Fail> {
     let end = Swapped {
         taken: true,
         again: false,
-        on: IncAnswer::Value(-8),
-        text: IncAnswer::NotInteger,
+        on: Some(-8),
+        text: None,
     };
     assert_eq!(rt; swapped, end);
     assert_eq!(rt; closed.journal.len(), 14);

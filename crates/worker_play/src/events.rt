@@ -5,12 +5,11 @@ ghost use Rattle.php_graph.specs.declared.kind.Kind.{Kind};
 ghost use Rattle.apcu_model.specs.declared.request.Request.TheVariants as request;
 ghost use Rattle.apcu_model.specs.declared.request.Reply.{Reply};
 ghost use Rattle.apcu_model.specs.declared.request.Reply.TheVariants.{Flag, Found};
-ghost use Rattle.counter_entry.specs.Numbers.{reply_of};
-ghost use Rattle.reply_text.specs.Replies.{fetched, reply_with};
+ghost use Rattle.apcu_model.specs.Sequential.{number_reply};
+ghost use Rattle.reply_text.specs.Replies.{fetched};
 ghost use Rattle.worker_play.specs.Goes.{wish, IsWhole, Goes};
 
 use crate::scalar::graph_of_scalar;
-use counter_entry::IncAnswer;
 use io_edges::{Gate, Point};
 use php_graph::{Bytes, Graph};
 use pin_table::{Pass, TableName};
@@ -91,21 +90,10 @@ pub(crate) fn inc<N: TableName, R: Wait>(
     requires whole { IsWhole pass }
     requires left { 2 ≤ pass.known.left }
     ensures { Goes N.conf (length N.budgets) pass result.0
-        (wish t (request.Inc key.now step ttl) ∷ []) (reply_with result.1 ∷ []) }
+        (wish t (request.Inc key.now step ttl) ∷ []) (number_reply result.1 ∷ []) }
 {
     one_event_own();
-    let (pass, answer) = shared.inc(rt, alloc, pass, key.as_slice(), step, ttl, t);
-    (pass, number_of(answer))
-}
-
-// The number that a counter came to, if it counted.
-fn number_of(answer: IncAnswer) -> Option<i64>
-    ensures { reply_of answer ≡ reply_with result }
-{
-    match answer {
-        IncAnswer::Value(n) => Some(n),
-        IncAnswer::NotInteger | IncAnswer::NoRoom => None,
-    }
+    shared.inc(rt, alloc, pass, key.as_slice(), step, ttl, t)
 }
 
 // Whether the expected integer was there, and another one is set.

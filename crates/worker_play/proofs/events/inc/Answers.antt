@@ -1,14 +1,10 @@
-use Rattle.std.proofs.Common.{w64, [], ◌∷◌, length, ap₂, subst}
+use Rattle.std.proofs.Common.{w64, ap₂}
 use Rattle.std.proofs.lemmas.Int.{to_z-of_z}
 use Rattle.apcu_model.specs.declared.request.Request.TheVariants as request
-use Rattle.apcu_model.specs.declared.request.Reply.{Reply}
-use Rattle.worker_play.specs.Goes.{wish, Goes}
 use Rattle.worker_play.proofs.Going.{one}
 use Rattle.worker_play.proofs.events.inc.Goals as goal
 
 pub returns : goal.returns
 returns g c =
-    subst (λ (y : Reply). Goes g.N.TableName.conf (length g.N.TableName.budgets) c.args.pass c.inc-pass.result.0 (wish c.args.t (request.Inc c.args.key.now c.args.step c.args.ttl) ∷ []) (y ∷ []))
-    c.number_of.ensures
-    (one (record { more = c.one_event_own.ensures.more; others = c.one_event_own.ensures.others }) _ _ _ _ _ _ _ _ c.inc-pass.ensures c.requires.whole
-    (ap₂ (λ k n. request.Inc k n c.args.ttl) c.as_slice.ensures.bytes (to_z-of_z w64 c.args.step c.ranges.step)))
+    one (record { more = c.one_event_own.ensures.more; others = c.one_event_own.ensures.others }) _ _ _ _ _ _ _ _ c.inc.ensures c.requires.whole
+    (ap₂ (λ k n. request.Inc k n c.args.ttl) c.as_slice.ensures.bytes (to_z-of_z w64 c.args.step c.ranges.step))
