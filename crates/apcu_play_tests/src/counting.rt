@@ -1,6 +1,5 @@
 //! Many workers on one counter.
 
-use crate::runs::{LARGER, words_of};
 use apcu_play::{Status, run};
 use io_edges::{Gate, MemSink, MemSource, Point};
 use notation::ByteOut;
@@ -81,7 +80,8 @@ fn each_once(alloc: Global, printed: &[u8], last: usize) -> Result<bool, Fail> {
     Ok(found == last)
 }
 
-// So many workers count so often each under one key, and meet before their call of this number.
+// So many workers count so often each under one key, in the cache without options, and meet before
+// their call of this number.
 fn expect_counted<R: Threads + Wait + Sync + Abort>(
     rt: &R,
     alloc: Global,
@@ -89,7 +89,8 @@ fn expect_counted<R: Threads + Wait + Sync + Abort>(
     calls: u32,
     meet: u32,
 ) -> Result<(), Fail> {
-    let words = words_of(alloc, LARGER)?;
+    let mut words = Vec::new(alloc);
+    words.push(String::from_str(alloc, "apcu_run")?)?;
     let mut scripts = ByteOut::new(alloc);
     for _worker in 0..workers {
         scripts.push(b"worker\n")?;

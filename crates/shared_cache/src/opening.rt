@@ -63,6 +63,7 @@ fn total(budgets: &[u32]) -> Option<u32>
 /// may make.
 #[derive(Drop)]
 pub struct Fresh {
+    alloc: Global,
     table: PinTable,
     seat: WriterSeat,
     passes: Passes,
@@ -124,6 +125,7 @@ fn opened(alloc: Global, conf: &Conf, budgets: &[u32], events: u32) -> Result<Fr
     let core = Core::format(&mut words, conf, gaps);
     let (table, seat, passes, ended) = PinTable::new(alloc, words, budgets)?;
     Ok(Fresh {
+        alloc,
         table,
         seat,
         passes,
@@ -146,6 +148,7 @@ impl Fresh {
         ensures room { length N.budgets ≤ result.2.room }
     {
         let Fresh {
+            alloc,
             table,
             seat,
             passes,
@@ -154,7 +157,7 @@ impl Fresh {
             core,
         } = self;
         (
-            Shared::new(table, Cabinet::new(seat, journal, core)),
+            Shared::new(alloc, table, Cabinet::new(seat, journal, core)),
             passes,
             ended,
         )

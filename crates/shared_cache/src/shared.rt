@@ -33,6 +33,8 @@ use value_image::unpersist;
 /// least one event for its end.
 #[derive(Drop)]
 pub struct Shared<N: TableName> {
+    // for the empty list of further places that a new counter's value has
+    alloc: Global,
     table: PinTable,
     lock: Mutex<Cabinet<N>>,
 }
@@ -61,10 +63,11 @@ fn number_of(answer: IncAnswer) -> Option<i64>
 }
 
 impl<N: TableName> Shared<N> {
-    pub(crate) fn new(table: PinTable, cabinet: Cabinet<N>) -> Shared<N>
+    pub(crate) fn new(alloc: Global, table: PinTable, cabinet: Cabinet<N>) -> Shared<N>
         requires { table ≡ N.table }
     {
         Shared {
+            alloc,
             table,
             lock: Mutex::new(cabinet),
         }
@@ -128,12 +131,10 @@ impl<N: TableName> Shared<N> {
     /// Counts by the step at the moment `t`, in seconds: the integer of the row that a look-up of
     /// the key finds and the step, in 64 bits with a sign, where the sum wraps. Where it finds no
     /// row, a new one counts from 0 and lives for `ttl` seconds; 0 is no limit. What the counter is
-    /// now, or None where the value is no integer or a new row finds no place. It takes no memory:
-    /// `alloc` is for the empty list of further places that a new value has.
+    /// now, or None where the value is no integer or a new row finds no place. It takes no memory.
     pub fn inc<R: Wait>(
         &self,
         rt: &R,
-        alloc: Global,
         pass: Pass,
         key: &[u8],
         step: i64,
@@ -149,7 +150,7 @@ impl<N: TableName> Shared<N> {
         let (pass, answer) = self
             .lock
             .lock(rt)
-            .inc(&self.table, alloc, pass, key, step, ttl, t);
+            .inc(&self.table, self.alloc, pass, key, step, ttl, t);
         (pass, number_of(answer))
     }
 
@@ -239,7 +240,11 @@ impl<N: TableName> Shared<N> {
             → is_among w (known_list ended.ended) ≡ true }
         ensures { IsClosed N.conf (length N.budgets) ended.ended result }
     {
-        let Shared { table, lock } = self;
+        let Shared {
+            alloc: _,
+            table,
+            lock,
+        } = self;
         lock.into_inner().close(table, ended)
     }
 }

@@ -8,7 +8,6 @@ use crate::tests::{CONF, text, two_passes};
 use php_graph::Graph;
 use pin_table::{Ended, Pass, TableName};
 use shared_cache::{Closed, Fresh, Shared, open_cache};
-use std::alloc::Global;
 use std::marker::Brand;
 use std::sync::Wait;
 use std::test::Fail;
@@ -16,7 +15,6 @@ use std::thread::{Threads, join};
 
 fn count<N: TableName, R: Wait>(
     rt: &R,
-    alloc: Global,
     shared: &Shared<N>,
     pass: Pass,
     key: &[u8],
@@ -28,7 +26,7 @@ fn count<N: TableName, R: Wait>(
     ensures worker { result.0.known.worker ≡ pass.known.worker }
     ensures left { result.0.known.left + 1 ≡ pass.known.left }
 {
-    shared.inc(rt, alloc, pass, key, 1, 0, 5)
+    shared.inc(rt, pass, key, 1, 0, 5)
 }
 
 fn swap<N: TableName, R: Wait>(
@@ -60,7 +58,6 @@ struct Counted {
 // Counts three times under a key.
 fn counts<N: TableName, R: Wait>(
     rt: &R,
-    alloc: Global,
     shared: &Shared<N>,
     pass: Pass,
     key: &[u8],
@@ -72,9 +69,9 @@ fn counts<N: TableName, R: Wait>(
     ensures worker { result.0.known.worker ≡ pass.known.worker }
     ensures left { result.0.known.left + 3 ≡ pass.known.left }
 {
-    let (pass, first) = count(rt, alloc, shared, pass, key);
-    let (pass, second) = count(rt, alloc, shared, pass, key);
-    let (pass, third) = count(rt, alloc, shared, pass, key);
+    let (pass, first) = count(rt, shared, pass, key);
+    let (pass, second) = count(rt, shared, pass, key);
+    let (pass, third) = count(rt, shared, pass, key);
     let counted = Counted {
         first,
         second,
@@ -95,7 +92,6 @@ struct Swapped {
 // Five events: the counter is set once, though asked twice, and goes on; a text is no number.
 fn swaps<N: TableName, R: Wait>(
     rt: &R,
-    alloc: Global,
     shared: &Shared<N>,
     pass: Pass,
     value: &Graph,
@@ -108,9 +104,9 @@ fn swaps<N: TableName, R: Wait>(
 {
     let (pass, taken) = swap(rt, shared, pass, b"n", 6, -9);
     let (pass, again) = swap(rt, shared, pass, b"n", 6, 5);
-    let (pass, on) = count(rt, alloc, shared, pass, b"n");
+    let (pass, on) = count(rt, shared, pass, b"n");
     let (pass, _) = put(rt, shared, pass, b"t", value, false);
-    let (pass, text) = count(rt, alloc, shared, pass, b"t");
+    let (pass, text) = count(rt, shared, pass, b"t");
     let swapped = Swapped {
         taken,
         again,
@@ -123,7 +119,6 @@ fn swaps<N: TableName, R: Wait>(
 // The second one swaps, and both end.
 fn finishes<N: TableName, R: Wait>(
     rt: &R,
-    alloc: Global,
     shared: &Shared<N>,
     first: Pass,
     second: Pass,
@@ -138,7 +133,7 @@ fn finishes<N: TableName, R: Wait>(
     ensures worker { result.0.known.worker ≡ first.known.worker }
     ensures other { result.1.known.worker ≡ second.known.worker }
 {
-    let (second, swapped) = swaps(rt, alloc, shared, second, value);
+    let (second, swapped) = swaps(rt, shared, second, value);
     let (first, second) = learns(rt, shared, first, second);
     (first, second, swapped)
 }
@@ -146,7 +141,6 @@ fn finishes<N: TableName, R: Wait>(
 // Two workers on threads of their own count under one key; the second one then swaps.
 fn two_count<N: TableName + Send + Sync, R: Threads + Wait + Sync>(
     rt: &R,
-    alloc: Global,
     fresh: Fresh,
     value: &Graph,
 ) -> Option<(Closed, Counted, Counted, Swapped)>
@@ -165,15 +159,15 @@ fn two_count<N: TableName + Send + Sync, R: Threads + Wait + Sync>(
             ensures { (result.0.table ≡ N.table)
                 × (result.0.known.worker ≡ first.known.worker)
                 × (result.0.known.left + 3 ≡ first.known.left) }
-        { counts(rt, alloc, &shared, first, b"n") },
+        { counts(rt, &shared, first, b"n") },
         || -> (Pass, Counted)
             requires { (second.table ≡ N.table) × (4 ≤ second.known.left) }
             ensures { (result.0.table ≡ N.table)
                 × (result.0.known.worker ≡ second.known.worker)
                 × (result.0.known.left + 3 ≡ second.known.left) }
-        { counts(rt, alloc, &shared, second, b"n") },
+        { counts(rt, &shared, second, b"n") },
     );
-    let (first, second, swapped) = finishes(rt, alloc, &shared, a.0, b.0, value);
+    let (first, second, swapped) = finishes(rt, &shared, a.0, b.0, value);
     ended.push(first);
     ended.push(second);
     Some((shared.close(ended), a.1, b.1, swapped))
@@ -197,8 +191,7 @@ fn two_workers_count(rt: HostRuntime) -> Result<(), Fail> {
     let Ok(fresh) = open_cache(rt.alloc(), &CONF, &budgets) else {
         return Err(Fail::new("open_cache"));
     };
-    let Some((closed, met, other, swapped)) = two_count::<Brand, _>(&rt, rt.alloc(), fresh, &value)
-    else {
+    let Some((closed, met, other, swapped)) = two_count::<Brand, _>(&rt, fresh, &value) else {
         return Err(Fail::new("two passes"));
     };
     for number in 1..=6 {

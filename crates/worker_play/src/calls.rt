@@ -101,7 +101,7 @@ pub(crate) fn play_call<N: TableName, G: Gate, R: Wait>(
         }
         Call::DeleteMany(keys) => delete_all(rt, alloc, shared, pass, keys.as_slice(), t, out),
         Call::Inc { key, step, ttl } => {
-            let (pass, number) = inc(rt, alloc, shared, pass, key, *step, *ttl, t);
+            let (pass, number) = inc(rt, shared, pass, key, *step, *ttl, t);
             (pass, write_number(out, number))
         }
         Call::Cas { key, expect, set } => {

@@ -78,7 +78,6 @@ pub(crate) fn delete<N: TableName, R: Wait>(
 // The number that the counter of a key comes to, if it counts.
 pub(crate) fn inc<N: TableName, R: Wait>(
     rt: &R,
-    alloc: Global,
     shared: &Shared<N>,
     pass: Pass,
     key: &Bytes,
@@ -93,7 +92,7 @@ pub(crate) fn inc<N: TableName, R: Wait>(
         (wish t (request.Inc key.now step ttl) ∷ []) (number_reply result.1 ∷ []) }
 {
     one_event_own();
-    shared.inc(rt, alloc, pass, key.as_slice(), step, ttl, t)
+    shared.inc(rt, pass, key.as_slice(), step, ttl, t)
 }
 
 // Whether the expected integer was there, and another one is set.
