@@ -1,5 +1,5 @@
 pub mod Masks
-pub mod Finish
+pub mod Written
 pub mod Telling
 pub mod Whole
 pub mod ProgramWords

@@ -14,8 +14,8 @@ use Rattle.script_read.specs.Grammar.{ends_line}
 use Rattle.reply_text.specs.Lines.{call_text, script_lines}
 use Rattle.play_laws.specs.Own.{own_replies, wish_in, asked_by, all_asked}
 use Rattle.shared_cache.specs.Follows.{Follows}
-use Rattle.worker_play.specs.Goes.{wish, wishes_at, Reaches, Tells}
-use Rattle.worker_play.specs.Ends.{PlaysOut}
+use Rattle.worker_play.specs.Goes.{wish, wishes_at, IsWhole, Reaches, Tells}
+use Rattle.worker_play.specs.Ends.{PlaysOut, Asked}
 use Rattle.worker_play.proofs.Going.{OwnLaws, more, one}
 use Rattle.worker_play.proofs.Steps.{asks_events, sum_step, lines_step}
 
@@ -71,3 +71,15 @@ pub plays_out_of : {E : Type 0} → OwnLaws → (conf : Conf) (workers : ℕ) (p
 plays_out_of {E} laws conf workers p o q script r text is none unanswered told f =
     plays_out laws conf workers p o q script text none unanswered
     (subst (λ (x : Result (List ℕ) E). IfOk x (λ out. Tells conf workers p o (asked_by script) (script_lines conf script) out)) is told) f
+
+-- a worker that ends wherever it was
+pub has_asked : OwnLaws → (conf : Conf) (workers : ℕ) (p o q : Bearer) (script : List Step) → p.known.own ≡ [] → IsWhole o
+    → Reaches conf workers p o (asked_by script) → Follows conf workers o q 0 requests.Retire replies.Ended → Asked script q
+has_asked laws conf workers p o q script none whole r f =
+    let all = more conf workers p o q r.made (wish 0 requests.Retire ∷ []) r.replies (replies.Ended ∷ []) r.goes (one laws conf workers o q 0 requests.Retire requests.Retire replies.Ended f whole refl) in
+    record {
+      made = r.made;
+      later = r.later;
+      parts = r.parts;
+      asked = all.own ∙ ap (λ (l : List _). map wish_in l ++ (r.made ++ wish 0 requests.Retire ∷ [])) none;
+    }

@@ -1,5 +1,5 @@
 use Rattle.std.proofs.Common.{◌∙◌, ap, ◌++◌}
-use Rattle.apcu_play.proofs.Finish.{texts_go_on}
+use Rattle.apcu_play.proofs.Written.{texts_go_on}
 use Rattle.apcu_play.proofs.play.write_texts.Goals as goal
 
 pub loop-worker-preserved : goal.loop-worker-preserved

@@ -7,7 +7,7 @@ use Rattle.apcu_model.specs.declared.conf.Conf.{Conf}
 use Rattle.script_read.specs.declared.script.Step.{Step}
 use Rattle.script_read.specs.Calls.{events_of}
 use Rattle.worker_play.proofs.Going.{OwnLaws}
-use Rattle.worker_play.proofs.Retiring.{one_left, unanswered, plays_out_of}
+use Rattle.worker_play.proofs.Retiring.{one_left, unanswered, plays_out_of, has_asked}
 use Rattle.worker_play.proofs.ending.play_out.Goals as goal
 
 pub retire-ended-requires-clause-left : goal.retire-ended-requires-clause-left
@@ -25,6 +25,20 @@ returns-in-Ok g c =
       table = f.table ∙ (r.table ∙ c.requires.table);
       worker = f.worker ∙ r.worker;
       all_own = f.all_own;
+      begun = has_asked laws g.N.TableName.conf (length g.N.TableName.budgets) c.args.pass c.play_script-pass.result.0 c.retire-ended.result c.args.script.now c.requires.no_event r.all_own c.play_script-pass.ensures.reaches f;
       plays = plays_out_of laws g.N.TableName.conf (length g.N.TableName.budgets) c.args.pass c.play_script-pass.result.0 c.retire-ended.result c.args.script.now c.play_script-pass.result.1 c.in-Ok.out
           c.in-Ok.is c.requires.no_event none (subst (λ (f : Conf). IfOk c.play_script-pass.result.1 (λ out. Tells g.N.TableName.conf (length g.N.TableName.budgets) c.args.pass c.play_script-pass.result.0 (asked_by c.args.script.now) (script_lines f c.args.script.now) out)) c.requires.conf c.play_script-pass.ensures.lines) f;
+    }
+
+pub returns-in-Err : goal.returns-in-Err
+returns-in-Err g c =
+    let r = c.play_script-pass.ensures.reaches.goes in
+    let f = c.retire-ended.ensures in
+    let laws : OwnLaws = record { more = c.one_event_own.ensures.more; others = c.one_event_own.ensures.others } in
+    record {
+      table = f.table ∙ (r.table ∙ c.requires.table);
+      worker = f.worker ∙ r.worker;
+      all_own = f.all_own;
+      begun = has_asked laws g.N.TableName.conf (length g.N.TableName.budgets) c.args.pass c.play_script-pass.result.0 c.retire-ended.result c.args.script.now c.requires.no_event r.all_own c.play_script-pass.ensures.reaches f;
+      plays = tt;
     }
