@@ -33,7 +33,7 @@ pub enum Kind {
 
 impl Kind {
     // Whether a container has this key, or an object this name.
-    pub(crate) fn holds_key(&self, key: &Key) -> bool
+    pub(crate) fn has_key(&self, key: &Key) -> bool
         ensures { result ≡ holds_key (keys_of self.now) key.now }
     {
         match self {

@@ -125,7 +125,7 @@ impl Members {
     }
 
     // Whether the key is there.
-    pub(crate) fn holds_key(&self, key: &Key) -> bool
+    pub(crate) fn has_key(&self, key: &Key) -> bool
         ensures { result ≡ holds_key (map (λ m. m.0) self.now) key.now }
     {
         for item in &self.items {

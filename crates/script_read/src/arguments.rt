@@ -4,7 +4,7 @@ ghost use Rattle.std.specs.Prelude.{◌≡◌, ℕ, ◌≤◌, ◌<◌, List, le
 ghost use Rattle.notation.specs.Marks.{fail};
 ghost use Rattle.notation.specs.Reading.{reading_of};
 ghost use Rattle.script_read.specs.Calls.{last_moment};
-ghost use Rattle.script_read.specs.Arguments.{any_value, key, integer, null, ttl, moment, asked, stored};
+ghost use Rattle.script_read.specs.Arguments.{any_value, key, integer, null, ttl, moment, asked_of, stored};
 ghost use Rattle.script_read.specs.Reading.{space_at, end_at, one_more_at, ends_here, argument_at, optional_at};
 ghost use Rattle.script_read.specs.Gives.{GivesItem};
 
@@ -136,7 +136,7 @@ pub(crate) fn step_argument(alloc: Global, bytes: &[u8]) -> Result<(i64, &[u8]),
 
 // One key, or an array of keys.
 pub(crate) fn asked_argument(alloc: Global, bytes: &[u8]) -> Result<(Asked, &[u8]), Stop>
-    ensures read { GivesItem (λ x. (x.0, x.1.now)) result (argument_at asked bytes.now) }
+    ensures read { GivesItem (λ x. (x.0, x.1.now)) result (argument_at asked_of bytes.now) }
     ensures fewer { IfOk result (λ x. length x.1.now < length bytes.now) }
 {
     let argument = space(bytes)?;

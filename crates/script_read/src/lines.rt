@@ -1,7 +1,7 @@
 //! Lines: what follows each word, to the end of its line.
 
 ghost use Rattle.std.specs.Prelude.{◌≡◌, ℕ, ◌≤◌, ◌<◌, List, codes, length, false, true, IfOk, OnOk};
-ghost use Rattle.script_read.specs.Arguments.{asked, stored};
+ghost use Rattle.script_read.specs.Arguments.{asked_of, stored};
 ghost use Rattle.script_read.specs.Table.{Refuse, needs, calls, form_of, store_one, store_many, store_by, step_by, count_form, cas_form};
 ghost use Rattle.script_read.specs.Grammar.{most_workers};
 ghost use Rattle.script_read.specs.Reading.{ends_word, word_len, line_word, behind_word, last_argument_at, rest_at, before_worker, worker_at, line_at};
@@ -100,7 +100,7 @@ fn store_many(
 
 // What is asked for, and the end of the line.
 fn asked(alloc: Global, bytes: &[u8]) -> Result<(Asked, &[u8]), Stop>
-    ensures read { GivesItem (λ x. (x.0, x.1.now)) result (last_argument_at asked bytes.now) }
+    ensures read { GivesItem (λ x. (x.0, x.1.now)) result (last_argument_at asked_of bytes.now) }
     ensures fewer { IfOk result (λ x. length x.1.now < length bytes.now) }
 {
     let (asked, rest) = asked_argument(alloc, bytes)?;
