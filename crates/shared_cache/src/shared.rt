@@ -234,12 +234,13 @@ impl<N: TableName> Shared<N> {
 
     /// Gives the journal and the counts, once every worker has ended. It waits for nobody and takes
     /// no memory.
-    pub fn close(self, ended: EndedList) -> Closed
+    pub fn close<R: Wait>(self, rt: &R, ended: EndedList) -> Closed
         requires table { AllOf N.table ended.ended }
         requires every { (w : ℕ) → w < length N.budgets
             → is_among w (known_list ended.ended) ≡ true }
         ensures { IsClosed N.conf (length N.budgets) ended.ended result }
     {
+        let _ = rt;
         let Shared {
             alloc: _,
             table,

@@ -4,6 +4,8 @@
 #[cfg(test)]
 mod counters;
 #[cfg(test)]
+mod dropped_copy;
+#[cfg(test)]
 mod steps;
 #[cfg(test)]
 mod tests;
