@@ -55,6 +55,7 @@ impl Core {
         ensures refused { AreRemoved (S.aside seg.new) (cache_of self.new).removed }
         ensures held { result ≢ answers.TooLarge → result ≢ answers.Exists
             → AreHeld (S.aside seg.new) (cache_of self.new).removed }
+        ensures kept { IsEarly result → Kept S.WordsIn seg.old seg.new }
         ensures stand { CacheStands S.WordsIn self.new seg.new }
         ensures rest { S.rest seg.new ≡ S.rest seg.old }
     {

@@ -1,4 +1,4 @@
-ghost use Rattle.std.specs.Prelude.{◌≡◌, if◌then◌else◌};
+ghost use Rattle.std.specs.Prelude.{◌≡◌, ◌+◌, ◌-◌, ◌^◌, min, if◌then◌else◌};
 ghost use Rattle.apcu_model.specs.Cache.{risen};
 
 /// What a cache counts. Each count stays at its last number once there.
@@ -68,6 +68,16 @@ impl Tally {
     {
         Tally {
             misses: self.misses.saturating_add(1),
+            ..self
+        }
+    }
+
+    // So many look-ups found none.
+    pub(crate) fn after_misses(self, n: u32) -> Tally
+        ensures { result ≡ record self { misses = min (self.misses + n) (2 ^ 64 - 1) } }
+    {
+        Tally {
+            misses: self.misses.saturating_add(u64::from(n)),
             ..self
         }
     }
