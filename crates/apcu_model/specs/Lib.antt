@@ -1,4 +1,6 @@
 pub mod Conf
+pub mod Levels
+pub mod Nesting
 pub mod Cache
 pub mod Rows
 pub mod Expiry

@@ -6,6 +6,7 @@ mod conf;
 mod counts;
 mod entry;
 mod event;
+mod generator;
 mod integers;
 mod journal;
 mod keys;
@@ -21,6 +22,7 @@ pub use ask::Ask;
 pub use conf::Conf;
 pub use counts::Counts;
 pub use event::Event;
+pub use generator::{Gen, GenKind};
 pub use journal::{Journal, Mark};
 pub use keys::Keys;
 pub use laws::{
