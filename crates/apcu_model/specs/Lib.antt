@@ -8,6 +8,7 @@ pub mod Change
 pub mod Counters
 pub mod Facts
 pub mod Walk
+pub mod Infos
 pub mod Sequential
 pub mod History
 pub mod Journal

@@ -11,6 +11,7 @@ mod integers;
 mod journal;
 mod keys;
 mod laws;
+mod noted;
 mod pairs;
 mod plain;
 mod request;
@@ -28,6 +29,7 @@ pub use keys::Keys;
 pub use laws::{
     count_laws, held_alike, numbered, one_event_more, order_single, rows_stay_apart, works_alone,
 };
+pub use noted::{ListedRow, Noted};
 pub use pairs::Pairs;
 pub use plain::Plain;
 pub use request::{Reply, Request, StoreAnswer};
