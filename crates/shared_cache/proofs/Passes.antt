@@ -7,7 +7,7 @@ use Rattle.apcu_model.specs.declared.event.Event.{Event}
 use Rattle.apcu_model.specs.declared.request.Request.{Request}
 use Rattle.apcu_model.specs.declared.request.Reply.{Reply}
 use Rattle.apcu_model.specs.Cache.{Cache}
-use Rattle.apcu_model.specs.History.{Stage, stage_of, after_event}
+use Rattle.apcu_model.specs.History.{Stage, stage_of, is_shallow, after_event}
 use Rattle.apcu_model.specs.Journal.{Marks}
 use Rattle.apcu_model.specs.Sequential.{cache_after, reply_to}
 use Rattle.entry_slots.specs.Standing.{entries}
@@ -39,6 +39,7 @@ pub record Passes (t : TableId) (conf : Conf) (budgets : List ℕ) (s0 s1 : Writ
   pub cache : cache_of c1 ≡ cache_after (held_by w.seat.now.desk.mask w.seat.now.desk.windows) time r (cache_of c0)
   pub marks : j1.marks ≡ j0.marks ++ (record { worker = w.worker; mask = w.seat.now.desk.mask }) ∷ []
   pub room : j1.room + 1 ≡ j0.room
+  pub flat : is_shallow r ≡ true
 
 module _ (t : TableId) (conf : Conf) (budgets : List ℕ) (s0 s1 : Writing) (w0 w : Writer) (c0 c1 : Core) (p q : Bearer) (time : ℕ) (r : Request) (j0 j1 : Marks)
     (h : Passes t conf budgets s0 s1 w0 w c0 c1 p q time r j0 j1) where
@@ -74,6 +75,7 @@ module _ (t : TableId) (conf : Conf) (budgets : List ℕ) (s0 s1 : Writing) (w0 
     run = runs;
     book = book t conf budgets s0 w0 w c0 p j0 h.works;
     small = h.works.small;
+    flat = h.flat;
     table = h.seat ∙ whose;
     after = ap (λ (x : Desk). x.book) h.desk ∙ ap (λ v. with_event d.book (event v time r d.mask)) who;
     resting = h.desk ∙ sym (ap (λ (x : Desk). rested x x.book) h.desk);

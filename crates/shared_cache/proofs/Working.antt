@@ -97,7 +97,7 @@ module _ (t : TableId) (conf : Conf) (budgets : List ℕ) (s0 : Writing) (w0 w :
 
   pub alike : AreAlike (held_by w.seat.now.desk.mask w.seat.now.desk.windows) (held_places (stage_of conf s0.desk.book.history) w.seat.now.desk.mask)
   alike = held_alike h.laws (stage_of conf s0.desk.book.history) w.seat.now.desk p.known s0.desk.windows
-      (h.laws.numbered conf s0.desk.book.history (short_history t conf budgets s0 c0 j0 h.settled)) run h.settled.tied
+      (h.laws.numbered conf s0.desk.book.history (short_history t conf budgets s0 c0 j0 h.settled) h.settled.shallow) run h.settled.tied
 
   -- the cache after the event, by the history
   pub cache_in : (time : ℕ) (r : Request) (c : Cache) → c ≡ cache_after (held_by w.seat.now.desk.mask w.seat.now.desk.windows) time r (cache_of c0)

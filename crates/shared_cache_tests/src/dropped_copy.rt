@@ -15,7 +15,7 @@ use std::sync::Wait;
 use std::test::Fail;
 
 // 480 words for blocks.
-const CONF: Conf = Conf {
+pub(crate) const CONF: Conf = Conf {
     words: 512,
     slots: 32,
     ttl: 0,

@@ -6,6 +6,10 @@ mod counters;
 #[cfg(test)]
 mod dropped_copy;
 #[cfg(test)]
+mod generators;
+#[cfg(test)]
+mod infos;
+#[cfg(test)]
 mod steps;
 #[cfg(test)]
 mod tests;
