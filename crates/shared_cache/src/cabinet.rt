@@ -211,24 +211,24 @@ impl<N: TableName> Cabinet<N> {
         table: &PinTable,
         alloc: Global,
         pass: Pass,
-        gen: &Gen,
+        generator: &Gen,
         t: u64,
     ) -> (Pass, Result<(Graph, Fate), AllocError>)
         requires table { table.now ≡ N.table }
         requires pass { pass.table ≡ N.table }
         requires left { 1 ≤ pass.known.left }
-        requires entry { 1 ≤ length gen.now.levels }
-        requires levels { length gen.now.levels ≤ 8 }
+        requires entry { 1 ≤ length generator.now.levels }
+        requires levels { length generator.now.levels ≤ 8 }
         ensures given { IfOk result.1 (λ v. FollowsEntry N.conf (length N.budgets) pass result.0 t
-            gen.now v.0 v.1) }
+            generator.now v.0 v.1) }
         ensures same { OnErr result.1 (result.0 ≡ pass) }
     {
         lower_laws();
         let mut w = table.writer(&mut self.seat, pass);
-        match entry(alloc, &mut self.core, &mut w, gen, t) {
+        match entry(alloc, &mut self.core, &mut w, generator, t) {
             Ok(given) => {
                 note(&mut self.journal, &w);
-                (w.give_pass(Ask::Entry(gen), t), Ok(given))
+                (w.give_pass(Ask::Entry(generator), t), Ok(given))
             }
             Err(e) => (w.give_back(), Err(e)),
         }

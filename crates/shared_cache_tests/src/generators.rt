@@ -26,11 +26,7 @@ fn nested(alloc: Global, n: i64) -> Result<Gen, AllocError>
         0,
         Box::new(alloc, Gen::value(integer(alloc, n)))?,
     );
-    Ok(Gen::entry(
-        Bytes::of(alloc, b"k1")?,
-        0,
-        Box::new(alloc, inner)?,
-    ))
+    Ok(Gen::entry(Bytes::of(alloc, b"k1")?, 0, Box::new(alloc, inner)?))
 }
 
 // The value of a generator, and where it came from; the pass has at most one event less.
@@ -39,16 +35,16 @@ fn give<N: TableName, R: Wait>(
     alloc: Global,
     shared: &Shared<N>,
     pass: Pass,
-    gen: &Gen,
+    generator: &Gen,
 ) -> (Pass, Result<(Graph, Fate), AllocError>)
     requires table { pass.table ≡ N.table }
     requires left { 2 ≤ pass.known.left }
-    requires two { length gen.now.levels ≡ 2 }
+    requires two { length generator.now.levels ≡ 2 }
     ensures table { result.0.table ≡ N.table }
     ensures worker { result.0.known.worker ≡ pass.known.worker }
     ensures left { pass.known.left ≤ result.0.known.left + 1 }
 {
-    let (pass, given) = shared.entry(rt, alloc, pass, gen, 5);
+    let (pass, given) = shared.entry(rt, alloc, pass, generator, 5);
     match given {
         Ok(given) => (pass, Ok(given)),
         Err(e) => (pass, Err(e)),
@@ -96,7 +92,7 @@ fn two_ask<N: TableName + Send + Sync, R: Threads + Wait + Sync>(
     rt: &R,
     alloc: Global,
     fresh: Fresh,
-    gen: &Gen,
+    generator: &Gen,
     other: &Gen,
 ) -> Option<Given>
     requires sync { IsSync R.row }
@@ -104,7 +100,7 @@ fn two_ask<N: TableName + Send + Sync, R: Threads + Wait + Sync>(
     requires conf { N.conf ≡ fresh.conf }
     requires budgets { N.budgets ≡ fresh.budgets }
     requires two { fresh.budgets ≡ 2 ∷ 4 ∷ [] }
-    requires keys { length gen.now.levels ≡ 2 }
+    requires keys { length generator.now.levels ≡ 2 }
     requires other_keys { length other.now.levels ≡ 2 }
 {
     let (shared, mut passes, mut ended) = fresh.name::<N>();
@@ -113,11 +109,11 @@ fn two_ask<N: TableName + Send + Sync, R: Threads + Wait + Sync>(
         rt,
         || -> (Pass, Result<(Graph, Fate), AllocError>)
             requires { (first.table ≡ N.table) × (2 ≤ first.known.left)
-                × (length gen.now.levels ≡ 2) }
+                × (length generator.now.levels ≡ 2) }
             ensures { (result.0.table ≡ N.table)
                 × (result.0.known.worker ≡ first.known.worker)
                 × (first.known.left ≤ result.0.known.left + 1) }
-        { give(rt, alloc, &shared, first, gen) },
+        { give(rt, alloc, &shared, first, generator) },
         || -> (Pass, Result<(Graph, Fate), AllocError>)
             requires { (second.table ≡ N.table) × (2 ≤ second.known.left)
                 × (length other.now.levels ≡ 2) }
@@ -142,12 +138,12 @@ fn two_ask<N: TableName + Send + Sync, R: Threads + Wait + Sync>(
 // One of them makes the value and stores it under both keys, and the other finds it.
 #[test]
 fn two_workers_generate(rt: HostRuntime) -> Result<(), Fail> {
-    let gen = nested(rt.alloc(), 7)?;
+    let generator = nested(rt.alloc(), 7)?;
     let other = nested(rt.alloc(), 8)?;
     let Ok(fresh) = open_cache(&rt, rt.alloc(), &CONF, &[2, 4]) else {
         return Err(Fail::new("open_cache"));
     };
-    let Some(given) = two_ask::<Brand, _>(&rt, rt.alloc(), fresh, &gen, &other) else {
+    let Some(given) = two_ask::<Brand, _>(&rt, rt.alloc(), fresh, &generator, &other) else {
         return Err(Fail::new("two passes"));
     };
     let Given {
