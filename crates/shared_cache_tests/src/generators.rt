@@ -35,16 +35,16 @@ fn give<N: TableName, R: Wait>(
     alloc: Global,
     shared: &Shared<N>,
     pass: Pass,
-    generator: &Gen,
+    gen_: &Gen,
 ) -> (Pass, Result<(Graph, Fate), AllocError>)
     requires table { pass.table ≡ N.table }
     requires left { 2 ≤ pass.known.left }
-    requires two { length generator.now.levels ≡ 2 }
+    requires two { length gen_.now.levels ≡ 2 }
     ensures table { result.0.table ≡ N.table }
     ensures worker { result.0.known.worker ≡ pass.known.worker }
     ensures left { pass.known.left ≤ result.0.known.left + 1 }
 {
-    let (pass, given) = shared.entry(rt, alloc, pass, generator, 5);
+    let (pass, given) = shared.entry(rt, alloc, pass, gen_, 5);
     match given {
         Ok(given) => (pass, Ok(given)),
         Err(e) => (pass, Err(e)),
@@ -92,7 +92,7 @@ fn two_ask<N: TableName + Send + Sync, R: Threads + Wait + Sync>(
     rt: &R,
     alloc: Global,
     fresh: Fresh,
-    generator: &Gen,
+    one: &Gen,
     other: &Gen,
 ) -> Option<Given>
     requires sync { IsSync R.row }
@@ -100,7 +100,7 @@ fn two_ask<N: TableName + Send + Sync, R: Threads + Wait + Sync>(
     requires conf { N.conf ≡ fresh.conf }
     requires budgets { N.budgets ≡ fresh.budgets }
     requires two { fresh.budgets ≡ 2 ∷ 4 ∷ [] }
-    requires keys { length generator.now.levels ≡ 2 }
+    requires keys { length one.now.levels ≡ 2 }
     requires other_keys { length other.now.levels ≡ 2 }
 {
     let (shared, mut passes, mut ended) = fresh.name::<N>();
@@ -109,11 +109,11 @@ fn two_ask<N: TableName + Send + Sync, R: Threads + Wait + Sync>(
         rt,
         || -> (Pass, Result<(Graph, Fate), AllocError>)
             requires { (first.table ≡ N.table) × (2 ≤ first.known.left)
-                × (length generator.now.levels ≡ 2) }
+                × (length one.now.levels ≡ 2) }
             ensures { (result.0.table ≡ N.table)
                 × (result.0.known.worker ≡ first.known.worker)
                 × (first.known.left ≤ result.0.known.left + 1) }
-        { give(rt, alloc, &shared, first, generator) },
+        { give(rt, alloc, &shared, first, one) },
         || -> (Pass, Result<(Graph, Fate), AllocError>)
             requires { (second.table ≡ N.table) × (2 ≤ second.known.left)
                 × (length other.now.levels ≡ 2) }
@@ -138,12 +138,12 @@ fn two_ask<N: TableName + Send + Sync, R: Threads + Wait + Sync>(
 // One of them makes the value and stores it under both keys, and the other finds it.
 #[test]
 fn two_workers_generate(rt: HostRuntime) -> Result<(), Fail> {
-    let generator = nested(rt.alloc(), 7)?;
+    let one = nested(rt.alloc(), 7)?;
     let other = nested(rt.alloc(), 8)?;
     let Ok(fresh) = open_cache(&rt, rt.alloc(), &CONF, &[2, 4]) else {
         return Err(Fail::new("open_cache"));
     };
-    let Some(given) = two_ask::<Brand, _>(&rt, rt.alloc(), fresh, &generator, &other) else {
+    let Some(given) = two_ask::<Brand, _>(&rt, rt.alloc(), fresh, &one, &other) else {
         return Err(Fail::new("two passes"));
     };
     let Given {
