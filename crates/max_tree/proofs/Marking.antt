@@ -71,26 +71,25 @@ highest_high marks some fits =
     let (j, is, low, high) = leading_top 32 marks (omega arith) fits in
     subst (λ (n : ℕ). marks < 2 ^ n) (omega arith) high
 
--- of a page's numbers before `high`: those that are not 0
+-- of a page's first numbers: those that are not 0
 abbrev pub is_some : List ℕ → ℕ → ℕ → ℕ → Bool
-is_some xs start high j = nat_lt (start + j) high && nat_lt 0 (get_or xs (start + j) 0)
+is_some xs start count j = nat_lt j count && nat_lt 0 (get_or xs (start + j) 0)
 
-pub zero_where : (xs : List ℕ) (start high i : ℕ) → start ≤ i → i < high → is_some xs start high (i - start) ≡ false → get_or xs i 0 ≡ 0
-zero_where xs start high i low less off =
-    let place : start + (i - start) ≡ i = omega arith in
-    let here : (nat_lt i high && nat_lt 0 (get_or xs i 0)) ≡ false = subst (λ (n : ℕ). (nat_lt n high && nat_lt 0 (get_or xs n 0)) ≡ false) place off in
-    elim (and_cases (nat_lt i high) (nat_lt 0 (get_or xs i 0)) here) [
-      | inl past ↦ absurd (omega (arith, ltb-false i high past))
-      | inr zero ↦ omega (arith, ltb-false 0 (get_or xs i 0) zero)
-    ]
+pub zero_where : (xs : List ℕ) (start count i : ℕ) → start ≤ i → i < start + count → is_some xs start count (i - start) ≡ false → get_or xs i 0 ≡ 0
+zero_where xs start count i low less off = elim (and_cases (nat_lt (i - start) count) (nat_lt 0 (get_or xs (start + (i - start)) 0)) off) [
+  | inl past ↦ absurd (omega (arith, ltb-false (i - start) count past))
+  | inr zero ↦
+      let place : start + (i - start) ≡ i = omega arith in
+      subst (λ (n : ℕ). get_or xs n 0 ≡ 0) place (omega (arith, ltb-false 0 (get_or xs (start + (i - start)) 0) zero))
+]
 
-pub none_some : (xs : List ℕ) (start high marks : ℕ) → high ≤ start + PAGE → IsMarked (is_some xs start high) PAGE marks → marks ≡ 0 → (i : ℕ) → start ≤ i → i < high → get_or xs i 0 ≡ 0
-none_some xs start high marks whole marked none i low less =
-    zero_where xs start high i low less (marked.none none (i - start) (omega arith))
+pub none_some : (xs : List ℕ) (start count marks : ℕ) → count ≤ PAGE → IsMarked (is_some xs start count) PAGE marks → marks ≡ 0 → (i : ℕ) → start ≤ i → i < start + count → get_or xs i 0 ≡ 0
+none_some xs start count marks whole marked none i low less =
+    zero_where xs start count i low less (marked.none none (i - start) (omega arith))
 
-pub some_last : (xs : List ℕ) (start high t : ℕ) → high ≤ start + PAGE → IsTopFlag (is_some xs start high) PAGE t → (i : ℕ) → start + t < i → i < high → get_or xs i 0 ≡ 0
-some_last xs start high t whole top i past less =
-    zero_where xs start high i (omega arith) less (top.last (i - start) (omega arith) (omega arith))
+pub some_last : (xs : List ℕ) (start count t : ℕ) → count ≤ PAGE → IsTopFlag (is_some xs start count) PAGE t → (i : ℕ) → start + t < i → i < start + count → get_or xs i 0 ≡ 0
+some_last xs start count t whole top i past less =
+    zero_where xs start count i (omega arith) less (top.last (i - start) (omega arith) (omega arith))
 
 -- of a page's numbers, from the last one on: those that are n or more
 abbrev pub is_enough : List ℕ → ℕ → ℕ → ℕ → Bool

@@ -4,16 +4,17 @@ ghost use Rattle.max_tree.specs.Marks.{IsMarked};
 
 use crate::row::PAGE;
 
-// The numbers of a whole page as bits: those before `high` that are not 0. The highest bit is the
-// last one. No number is skipped, so that the processor need not guess where the last one stands.
-pub fn marks_before(numbers: &[u32], start: usize, high: usize) -> u32
+// The numbers of a whole page as bits: those of the first `count` that are not 0. The highest bit is
+// the last one. No number is skipped, so that the processor need not guess where the last one
+// stands.
+pub fn marks_before(numbers: &[u32], start: usize, count: u32) -> u32
     requires { start + PAGE ≤ length numbers.now }
-    ensures { IsMarked (λ j. nat_lt (start + j) high && nat_lt 0 (slice_index numbers.now
-        (start + j))) PAGE result }
+    ensures { IsMarked (λ j. nat_lt j count && nat_lt 0 (slice_index numbers.now (start + j))) PAGE
+        result }
 {
     let mut marks = 0;
     for j in 0..PAGE {
-        if (start + j < high) & (numbers[start + j] > 0) {
+        if ((j as u32) < count) & (numbers[start + j] > 0) {
             marks += 1u32 << j;
         }
     }

@@ -80,7 +80,7 @@ pub fn last_in(numbers: &[u32], low: usize, high: usize) -> Option<usize>
         (λ at. (low ≤ at) × (at < high) × (slice_index numbers.now at ≢ 0)) }
 {
     if numbers.len() - low >= PAGE && high - low <= PAGE {
-        let marks = marks_before(numbers, low, high);
+        let marks = marks_before(numbers, low, (high - low) as u32);
         if marks == 0 {
             return None;
         }

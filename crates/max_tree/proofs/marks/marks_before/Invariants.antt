@@ -3,4 +3,4 @@ use Rattle.max_tree.specs.Marks.{IsMarked}
 use Rattle.max_tree.proofs.marks.marks_before.Given as goal
 
 abbrev pub invariant-loop-j : goal.invariant-loop-j
-invariant-loop-j l = IsMarked (λ j. nat_lt (l.start + j) l.high && nat_lt 0 (slice_index l.numbers (l.start + j))) l.j l.marks
+invariant-loop-j l = IsMarked (λ j. nat_lt j l.count && nat_lt 0 (slice_index l.numbers (l.start + j))) l.j l.marks
