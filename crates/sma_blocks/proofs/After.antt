@@ -9,8 +9,8 @@ use Rattle.sma_blocks.proofs.Places.{Fill-even}
 use Rattle.sma_blocks.proofs.Finding.{here_live, here_gap, size_at-append, size_outside}
 use Rattle.sma_blocks.proofs.Giving.{after_live, after_gap}
 
-piece_is : (p : Piece) (place : ℕ) (live : Bool) → p.place ≡ place → p.live ≡ live → p ≡ record { place = place; size = p.size; live = live }
-piece_is p place live at kind =
+piece_by_parts : (p : Piece) (place : ℕ) (live : Bool) → p.place ≡ place → p.live ≡ live → p ≡ record { place = place; size = p.size; live = live }
+piece_by_parts p place live at kind =
     ap (λ (x : ℕ). record { place = x; size = p.size; live = p.live }) at ∙ ap (λ (b : Bool). record { place = place; size = p.size; live = b }) kind
 
 -- The number at an edge is the size of the gap that begins there, or 0.
@@ -40,10 +40,10 @@ tells_after ws from end numbers formatted h indexed inside = go (pieces ws end) 
         elim (cases_Bool p.live) [
           | inl live ↦
               let zero : get_or numbers (end / 2) 0 ≡ 0 = omega (arith, here_live p end live) in
-              let stands = after_live ws from end p.size rest formatted h (is ∙ ap (λ (q : Piece). q ∷ rest) (piece_is p end true place live)) in
+              let stands = after_live ws from end p.size rest formatted h (is ∙ ap (λ (q : Piece). q ∷ rest) (piece_by_parts p end true place live)) in
               (subst (λ (m : ℕ). IsFreeAfter ws end m) (omega arith) stands, omega arith)
           | inr gap ↦
               let size : get_or numbers (end / 2) 0 ≡ p.size = omega (arith, here_gap p end place gap) in
-              let stands = after_gap ws from end p.size rest formatted h (is ∙ ap (λ (q : Piece). q ∷ rest) (piece_is p end false place gap)) in
+              let stands = after_gap ws from end p.size rest formatted h (is ∙ ap (λ (q : Piece). q ∷ rest) (piece_by_parts p end false place gap)) in
               (subst (λ (m : ℕ). IsFreeAfter ws end m) (omega arith) stands, omega arith)
         ]
