@@ -6,3 +6,4 @@ pub mod Lending
 pub mod Storing
 pub mod Integers
 pub mod Spots
+pub mod Noting

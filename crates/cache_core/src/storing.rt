@@ -192,6 +192,8 @@ impl Core {
         ensures later { (later : Aside) → Goes (S.aside seg.new) later
             → added (held_blocks later) key.now g.now ttl t (cache_of self.old)
             ≡ record { answer = result; cache = cache_of self.new } }
+        ensures fits { result ≢ answers.TooLarge }
+        ensures new { result ≢ answers.Exists }
         ensures goes { Goes (S.aside seg.old) (S.aside seg.new) }
         ensures keeps { KeepsOpen (S.aside seg.new).windows
             (entries self.old.slots) (entries self.new.slots) }
@@ -209,7 +211,8 @@ impl Core {
         let Some(at) = place else {
             return StoreAnswer::NoRoom;
         };
-        let spot = if_still(spot, before, self.slots.rows());
+        let after = self.slots.rows();
+        let spot = if_still(spot, before, after);
         put_in(&mut self.slots, seg, at, key, slot, spot, g, ttl, limit, t);
         self.tally = self.tally.after_insert();
         StoreAnswer::Stored
