@@ -213,8 +213,8 @@ fn entry(alloc: Global, bytes: &[u8]) -> Result<(Effect, &[u8]), Stop>
     let (inner, rest) = gen_argument(alloc, rest)?;
     let (ttl, rest) = ttl_argument(alloc, rest)?;
     let rest = end(rest)?;
-    let gen = Gen::entry(key, ttl, Box::new(alloc, inner)?);
-    Ok((Effect::Calls(Call::Entry(gen)), rest))
+    let generator = Gen::entry(key, ttl, Box::new(alloc, inner)?);
+    Ok((Effect::Calls(Call::Entry(generator)), rest))
 }
 
 // The argument of `apcu_key_info`.

@@ -67,9 +67,9 @@ fn is_generator(
     alloc: Global,
     levels: &[(&[u8], u32)],
     literal: &[u8],
-    gen: &Gen,
+    generator: &Gen,
 ) -> Result<bool, Fail> {
-    let mut inside = gen;
+    let mut inside = generator;
     for level in levels {
         match inside.kind() {
             GenKind::Entry(key, ttl, inner) => {
@@ -118,8 +118,8 @@ fn is_call(alloc: Global, expected: Asked, call: &Call) -> Result<bool, Fail> {
         (Asked::Cas(k, e, s), Call::Cas { key, expect, set }) => {
             Ok(key.as_slice() == k && *expect == e && *set == s)
         }
-        (Asked::Entry(levels, literal), Call::Entry(gen)) => {
-            is_generator(alloc, levels, literal, gen)
+        (Asked::Entry(levels, literal), Call::Entry(generator)) => {
+            is_generator(alloc, levels, literal, generator)
         }
         (Asked::Clear, Call::Clear) | (Asked::Enabled, Call::Enabled) => Ok(true),
         (Asked::KeyInfo(k), Call::KeyInfo(key)) => Ok(key.as_slice() == k),
@@ -274,7 +274,7 @@ fn as_many_levels_as_may_be(rt: HostRuntime) -> Result<(), Fail> {
     assert!(rt; scripts.len() == 1);
     assert!(rt; scripts.at(0).len() == 1);
     match &scripts.at(0).at(0).call {
-        Call::Entry(gen) => assert_eq!(rt; gen.entries(), 8),
+        Call::Entry(generator) => assert_eq!(rt; generator.entries(), 8),
         _ => assert!(rt; false),
     }
     let text = nested(rt.alloc(), 9)?;
@@ -511,30 +511,110 @@ fn entries_at_fault(rt: HostRuntime) {
         (b"worker\napcu_entry i:1; (i:1;)\n", 18, Reason::Argument),
         (b"worker\napcu_entry s:1:\"k\";\n", 26, Reason::Argument),
         (b"worker\napcu_entry s:1:\"k\"; ", 27, Reason::End),
-        (b"worker\napcu_entry s:1:\"k\"; i:1;\n", 27, Reason::Argument),
+        (
+            b"worker\napcu_entry s:1:\"k\"; i:1;\n",
+            27,
+            Reason::Argument,
+        ),
         (b"worker\napcu_entry s:1:\"k\"; (", 28, Reason::End),
         (b"worker\napcu_entry s:1:\"k\"; ()\n", 28, Reason::Tag),
-        (b"worker\napcu_entry s:1:\"k\"; (i:05;)\n", 30, Reason::Number),
+        (
+            b"worker\napcu_entry s:1:\"k\"; (i:05;)\n",
+            30,
+            Reason::Number,
+        ),
         (b"worker\napcu_entry s:1:\"k\"; (i:1;", 32, Reason::End),
-        (b"worker\napcu_entry s:1:\"k\"; (i:1;\n", 32, Reason::Separator),
-        (b"worker\napcu_entry s:1:\"k\"; (i:1; )\n", 32, Reason::Separator),
+        (
+            b"worker\napcu_entry s:1:\"k\"; (i:1;\n",
+            32,
+            Reason::Separator,
+        ),
+        (
+            b"worker\napcu_entry s:1:\"k\"; (i:1; )\n",
+            32,
+            Reason::Separator,
+        ),
         (b"worker\napcu_entry s:1:\"k\"; (i:1;)", 33, Reason::End),
-        (b"worker\napcu_entry s:1:\"k\"; (i:1;)x\n", 33, Reason::Separator),
-        (b"worker\napcu_entry s:1:\"k\"; (i:1;) N;\n", 34, Reason::Argument),
-        (b"worker\napcu_entry s:1:\"k\"; (i:1;) i:-1;\n", 34, Reason::Argument),
-        (b"worker\napcu_entry s:1:\"k\"; (i:1;) i:1; i:1;\n", 39, Reason::Argument),
-        (b"worker\napcu_entry s:1:\"k\"; (apcu_entry)\n", 29, Reason::Mark),
-        (b"worker\napcu_entry s:1:\"k\"; (apcu_entry i:1; (i:1;))\n", 39, Reason::Argument),
-        (b"worker\napcu_entry s:1:\"k\"; (apcu_entry s:1:\"j\";\n", 47, Reason::Separator),
-        (b"worker\napcu_entry s:1:\"k\"; (apcu_entry s:1:\"j\";)\n", 47, Reason::Separator),
-        (b"worker\napcu_entry s:1:\"k\"; (apcu_entry s:1:\"j\";", 47, Reason::End),
-        (b"worker\napcu_entry s:1:\"k\"; (apcu_entry s:1:\"j\"; ", 48, Reason::End),
-        (b"worker\napcu_entry s:1:\"k\"; (apcu_entry s:1:\"j\"; \n", 48, Reason::Argument),
-        (b"worker\napcu_entry s:1:\"k\"; (apcu_entry s:1:\"j\"; i:1;)\n", 48, Reason::Argument),
-        (b"worker\napcu_entry s:1:\"k\"; (apcu_entry s:1:\"j\"; (i:1;)", 54, Reason::End),
-        (b"worker\napcu_entry s:1:\"k\"; (apcu_entry s:1:\"j\"; (i:1;)\n", 54, Reason::Separator),
-        (b"worker\napcu_entry s:1:\"k\"; (apcu_entry s:1:\"j\"; (i:1;) i:4294967296;)\n", 55, Reason::Argument),
-        (b"worker\napcu_entry s:1:\"k\"; (apcu_entry s:1:\"j\"; (i:1;) i:5; )\n", 59, Reason::Separator),
+        (
+            b"worker\napcu_entry s:1:\"k\"; (i:1;)x\n",
+            33,
+            Reason::Separator,
+        ),
+        (
+            b"worker\napcu_entry s:1:\"k\"; (i:1;) N;\n",
+            34,
+            Reason::Argument,
+        ),
+        (
+            b"worker\napcu_entry s:1:\"k\"; (i:1;) i:-1;\n",
+            34,
+            Reason::Argument,
+        ),
+        (
+            b"worker\napcu_entry s:1:\"k\"; (i:1;) i:1; i:1;\n",
+            39,
+            Reason::Argument,
+        ),
+        (
+            b"worker\napcu_entry s:1:\"k\"; (apcu_entry)\n",
+            29,
+            Reason::Mark,
+        ),
+        (
+            b"worker\napcu_entry s:1:\"k\"; (apcu_entry i:1; (i:1;))\n",
+            39,
+            Reason::Argument,
+        ),
+        (
+            b"worker\napcu_entry s:1:\"k\"; (apcu_entry s:1:\"j\";\n",
+            47,
+            Reason::Separator,
+        ),
+        (
+            b"worker\napcu_entry s:1:\"k\"; (apcu_entry s:1:\"j\";)\n",
+            47,
+            Reason::Separator,
+        ),
+        (
+            b"worker\napcu_entry s:1:\"k\"; (apcu_entry s:1:\"j\";",
+            47,
+            Reason::End,
+        ),
+        (
+            b"worker\napcu_entry s:1:\"k\"; (apcu_entry s:1:\"j\"; ",
+            48,
+            Reason::End,
+        ),
+        (
+            b"worker\napcu_entry s:1:\"k\"; (apcu_entry s:1:\"j\"; \n",
+            48,
+            Reason::Argument,
+        ),
+        (
+            b"worker\napcu_entry s:1:\"k\"; (apcu_entry s:1:\"j\"; i:1;)\n",
+            48,
+            Reason::Argument,
+        ),
+        (
+            b"worker\napcu_entry s:1:\"k\"; (apcu_entry s:1:\"j\"; (i:1;)",
+            54,
+            Reason::End,
+        ),
+        (
+            b"worker\napcu_entry s:1:\"k\"; (apcu_entry s:1:\"j\"; (i:1;)\n",
+            54,
+            Reason::Separator,
+        ),
+        (
+            b"worker\napcu_entry s:1:\"k\"; (apcu_entry s:1:\"j\"; (i:1;) i:4294967296;)\n",
+            55,
+            Reason::Argument,
+        ),
+        (
+            b"worker\napcu_entry s:1:\"k\"; (apcu_entry s:1:\"j\"; (i:1;) i:5; )\n",
+            59,
+            Reason::Separator,
+        ),
     ];
     for row in &rows {
         refused(&rt, rt.alloc(), row.0, row.1, row.2);
@@ -546,8 +626,16 @@ fn information_at_fault(rt: HostRuntime) {
     let rows: [Fault; 12] = [
         (b"worker\napcu_key_info\n", 20, Reason::Argument),
         (b"worker\napcu_key_info i:1;\n", 21, Reason::Argument),
-        (b"worker\napcu_key_info a:1:{i:0;s:1:\"a\";}\n", 21, Reason::Argument),
-        (b"worker\napcu_key_info s:1:\"a\"; N;\n", 30, Reason::Argument),
+        (
+            b"worker\napcu_key_info a:1:{i:0;s:1:\"a\";}\n",
+            21,
+            Reason::Argument,
+        ),
+        (
+            b"worker\napcu_key_info s:1:\"a\"; N;\n",
+            30,
+            Reason::Argument,
+        ),
         (b"worker\napcu_cache_info", 22, Reason::End),
         (b"worker\napcu_cache_info i:1;\n", 23, Reason::Argument),
         (b"worker\napcu_cache_info b:2;\n", 25, Reason::Number),
