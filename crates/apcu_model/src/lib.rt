@@ -6,10 +6,12 @@ mod conf;
 mod counts;
 mod entry;
 mod event;
+mod generator;
 mod integers;
 mod journal;
 mod keys;
 mod laws;
+mod noted;
 mod pairs;
 mod plain;
 mod request;
@@ -21,11 +23,13 @@ pub use ask::Ask;
 pub use conf::Conf;
 pub use counts::Counts;
 pub use event::Event;
+pub use generator::{Gen, GenKind};
 pub use journal::{Journal, Mark};
 pub use keys::Keys;
 pub use laws::{
     count_laws, held_alike, numbered, one_event_more, order_single, rows_stay_apart, works_alone,
 };
+pub use noted::{ListedRow, Noted};
 pub use pairs::Pairs;
 pub use plain::Plain;
 pub use request::{Reply, Request, StoreAnswer};
