@@ -59,8 +59,8 @@ pub fn write_gave(out: &mut ByteOut, value: &Graph) -> Result<(), AllocError>
     write_value(value, 0, out)
 }
 
-/// What `apcu_key_info`, `apcu_cache_info` or `apcu_sma_info` told, or a null where there is no live
-/// row of the key.
+/// What `apcu_key_info`, `apcu_cache_info` or `apcu_sma_info` told, or a null where no live row has
+/// the key.
 pub fn write_info(out: &mut ByteOut, info: Option<Graph>) -> Result<(), AllocError>
     ensures { OnOk result (out.new ≡ out.old ++ info_one (informed info)) }
 {

@@ -34,3 +34,6 @@ pub round_is : (k : List ℕ) (t : ℕ) (inner gen : Generator) (level : EntryLe
 round_is k t inner gen level is levels literal =
     let outer : gen.levels ≡ record { key = k; ttl = t } ∷ inner.levels = levels ∙ ap (λ (l : EntryLevel). l ∷ inner.levels) is in
     ap₂ (λ (l : List EntryLevel) (g : List Kind). record { levels = l; literal = g }) (sym outer) (sym literal)
+
+-- what a generator is read as, by how it begins
+pub ruleset generator_steps = (literal_read, too_deep, entry_read)

@@ -14,7 +14,8 @@ use Rattle.script_read.specs.declared.call.Call.{Call}
 use Rattle.script_read.specs.declared.call.Call.TheVariants.{StoreOne, StoreMany, FetchOne}
 use Rattle.script_read.specs.declared.call.Call.TheVariants.{FetchMany, ExistsOne, ExistsMany}
 use Rattle.script_read.specs.declared.call.Call.TheVariants.{DeleteOne, DeleteMany, Inc, Cas, Clear}
-use Rattle.script_read.specs.declared.call.Call.TheVariants.{Enabled, Entry, KeyInfo, CacheInfo, SmaInfo}
+use Rattle.script_read.specs.declared.call.Call.TheVariants.{Enabled, Entry, KeyInfo, CacheInfo}
+use Rattle.script_read.specs.declared.call.Call.TheVariants.{SmaInfo}
 use Rattle.script_read.specs.declared.script.Step.{Step}
 
 -- what a call asks, one request after the other; whether the cache is enabled asks nothing

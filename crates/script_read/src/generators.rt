@@ -66,7 +66,7 @@ fn literal(alloc: Global, bytes: &[u8]) -> Result<(Gen, &[u8]), Stop>
 
 // A generator, where so many entries may lie in one another. Each call inside it has a level less,
 // so there are no more calls than levels.
-#[tactic(auto, using(crate::proofs::GenSteps::literal_read, crate::proofs::GenSteps::too_deep, crate::proofs::GenSteps::entry_read))]
+#[tactic(auto, using(crate::proofs::GenSteps::generator_steps))]
 fn generator(alloc: Global, levels: u32, bytes: &[u8]) -> Result<(Gen, &[u8]), Stop>
     ensures read { GivesItem (λ x. (x.0, x.1.now)) result (generator_at levels bytes.now) }
     ensures fewer { IfOk result (λ x. length x.1.now < length bytes.now) }
