@@ -9,6 +9,8 @@ pub mod Counters
 pub mod Facts
 pub mod Walk
 pub mod Infos
+pub mod Lookups
+pub mod Generators
 pub mod Sequential
 pub mod History
 pub mod Journal

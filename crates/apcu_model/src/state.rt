@@ -6,7 +6,8 @@ ghost use Rattle.apcu_model.specs.Change.{cleared, deleted, expired_dropped, exp
 ghost use Rattle.apcu_model.specs.Change.{placed, put_in, with_room};
 ghost use Rattle.apcu_model.specs.Expiry.{live_row};
 ghost use Rattle.apcu_model.specs.Rows.{IsValid, cache_in};
-ghost use Rattle.apcu_model.specs.Sequential.{found_in, is_stored, looked_up};
+ghost use Rattle.apcu_model.specs.Lookups.{looked_up};
+ghost use Rattle.apcu_model.specs.Sequential.{found_in, is_stored};
 
 use crate::conf::Conf;
 use crate::entry::Entry;
