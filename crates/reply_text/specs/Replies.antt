@@ -64,11 +64,6 @@ abbrev pub info_one : Reply → List ℕ
 info_one (Info g) = text_of g
 info_one _ = codes "N;"
 
--- the reply of a request for information by what it found
-abbrev pub informed : Option (List Kind) → Reply
-informed None = Absent
-informed (Some g) = Info g
-
 abbrev pub info_text : List Reply → List ℕ
 info_text [] = []
 info_text (reply ∷ replies) = info_one reply

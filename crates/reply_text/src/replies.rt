@@ -6,10 +6,9 @@ ghost use Rattle.std.specs.Option.{option_map};
 ghost use Rattle.std.specs.Fmt.{decimal};
 ghost use Rattle.notation.specs.Notation.{array_head, integer_text, string_text};
 ghost use Rattle.apcu_model.specs.declared.request.Reply.TheVariants.{Gave};
-ghost use Rattle.apcu_model.specs.Sequential.{number_reply};
+ghost use Rattle.apcu_model.specs.Sequential.{number_reply, info_reply};
 ghost use Rattle.reply_text.specs.Replies.{flag_text, fetched, fetched_one, number_one, array_text};
 ghost use Rattle.reply_text.specs.Replies.{all_with, numbered, value_members, gave_one, info_one};
-ghost use Rattle.reply_text.specs.Replies.{informed};
 
 use itoa::Buffer;
 use notation::{ByteOut, write_key, write_value};
@@ -62,7 +61,7 @@ pub fn write_gave(out: &mut ByteOut, value: &Graph) -> Result<(), AllocError>
 /// What `apcu_key_info`, `apcu_cache_info` or `apcu_sma_info` told, or a null where no live row has
 /// the key.
 pub fn write_info(out: &mut ByteOut, info: Option<Graph>) -> Result<(), AllocError>
-    ensures { OnOk result (out.new ≡ out.old ++ info_one (informed info)) }
+    ensures { OnOk result (out.new ≡ out.old ++ info_one (info_reply info)) }
 {
     match info {
         Some(graph) => write_value(&graph, 0, out),

@@ -231,7 +231,7 @@ first_reads begun line word keyword reason none is named refused =
     ∙ ap (λ (f : Form). rest_at f line (behind_word line)) refused))
 
 -- the fault that begins with these bytes, whatever is to be read
-fault_is : (A B : Type 0) (e : Stop) (reason : Reason) (bytes : List ℕ) → Stops {Y = A} e (fail reason bytes) → Stops {Y = B} e (fail reason bytes)
+pub fault_is : (A B : Type 0) (e : Stop) (reason : Reason) (bytes : List ℕ) → Stops {Y = A} e (fail reason bytes) → Stops {Y = B} e (fail reason bytes)
 fault_is A B stops.Memory reason bytes stop = tt
 fault_is A B (stops.Fault f) reason bytes stop = cc
 

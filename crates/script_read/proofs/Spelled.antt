@@ -1,5 +1,5 @@
 -- Scripts are read as they are spelled: by lines.
-use Rattle.std.proofs.Common.{◌≡◌, ℕ, zero, suc, ◌+◌, ◌-◌, ◌≤◌, ◌<◌, Bool, true, false, cond, List, [], ◌∷◌, ◌++◌, length, take, drop, Option, Some, None, Result, Ok, inl, inr, refl, sym, ap, ap₂, subst, ◌∙◌, append_assoc, length-append, take-append-drop, arith}
+use Rattle.std.proofs.Common.{◌≡◌, ℕ, zero, suc, ◌+◌, ◌-◌, ◌≤◌, ◌<◌, Bool, true, false, cond, List, [], ◌∷◌, ◌++◌, length, take, drop, Option, Some, Result, Ok, inl, inr, refl, sym, ap, ap₂, subst, ◌∙◌, append_assoc, length-append, take-append-drop, arith}
 use Rattle.std.specs.Prelude.{◌&&◌, not, nat_lt, codes}
 use Rattle.std.specs.Option.{option_and_then, option_map}
 use Rattle.std.specs.List.{flat_map, AllByRecursion, list_all, prefix_len}
@@ -10,8 +10,6 @@ use Rattle.std.proofs.Math.Seq.{take-append_seam, drop-append_seam}
 use Rattle.notation.specs.declared.fault.Reason.TheVariants as reasons
 use Rattle.notation.specs.declared.fault.Fault.{Fault}
 use Rattle.notation.specs.Marks.{◌>>=◌, fail}
-use Rattle.php_graph.specs.declared.kind.Kind.{Kind}
-use Rattle.notation.specs.Notation.{text_of}
 use Rattle.script_read.specs.declared.effect.Effect.{Effect}
 use Rattle.script_read.specs.declared.effect.Effect.TheVariants.{Sets, Calls}
 use Rattle.script_read.specs.declared.script.Step.{Step}

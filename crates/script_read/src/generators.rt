@@ -1,6 +1,7 @@
 //! The generators of entries: what they are spelled as, and how deep they may lie.
 
 ghost use Rattle.std.specs.Prelude.{◌≡◌, ℕ, ◌≤◌, ◌<◌, length, IfOk};
+ghost use Rattle.script_read.specs.GenParts.{entry_round};
 ghost use Rattle.script_read.specs.Grammar.{inner_levels};
 ghost use Rattle.script_read.specs.Reading.{separator_at, limit_at, literal_at, generator_at};
 ghost use Rattle.script_read.specs.Reading.{gen_argument_at};
@@ -10,7 +11,8 @@ use crate::arguments::{fault, key_choice, space, ttl_choice, value};
 use crate::fault::Stop;
 use apcu_model::Gen;
 use notation::Reason;
-use std::alloc::Global;
+use php_graph::Bytes;
+use std::alloc::{AllocError, Global};
 
 // How many entries may lie inside the line's own.
 const INNER_LEVELS: u32 = 7;
@@ -64,9 +66,21 @@ fn literal(alloc: Global, bytes: &[u8]) -> Result<(Gen, &[u8]), Stop>
     }
 }
 
+// An entry of this key and limit of time round a generator.
+#[tactic(auto, using(crate::proofs::GenSteps::round_is))]
+pub(crate) fn entry_round(
+    alloc: Global,
+    key: Bytes,
+    ttl: u32,
+    inner: Gen,
+) -> Result<Gen, AllocError>
+    ensures { IfOk result (λ made. made ≡ entry_round key ttl inner) }
+{
+    Ok(Gen::entry(key, ttl, Box::new(alloc, inner)?))
+}
+
 // A generator, where so many entries may lie in one another. Each call inside it has a level less,
 // so there are no more calls than levels.
-#[tactic(auto, using(crate::proofs::GenSteps::generator_steps))]
 fn generator(alloc: Global, levels: u32, bytes: &[u8]) -> Result<(Gen, &[u8]), Stop>
     ensures read { GivesItem (λ x. (x.0, x.1.now)) result (generator_at levels bytes.now) }
     ensures fewer { IfOk result (λ x. length x.1.now < length bytes.now) }
@@ -82,7 +96,8 @@ fn generator(alloc: Global, levels: u32, bytes: &[u8]) -> Result<(Gen, &[u8]), S
     let argument = separator(b' ', rest)?;
     let (inner, rest) = generator(alloc, levels - 1, argument)?;
     let (ttl, rest) = limit(alloc, rest)?;
-    Ok((Gen::entry(key, ttl, Box::new(alloc, inner)?), rest))
+    let made = entry_round(alloc, key, ttl, inner)?;
+    Ok((made, rest))
 }
 
 // A generator that is due in a line.

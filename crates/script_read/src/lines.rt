@@ -20,10 +20,10 @@ use crate::arguments::{
 use crate::call::Call;
 use crate::effect::Effect;
 use crate::fault::Stop;
-use crate::generators::gen_argument;
+use crate::generators::{entry_round, gen_argument};
 use crate::given::{Asked, Stored};
 use crate::keyword::Keyword;
-use apcu_model::{Gen, Pairs};
+use apcu_model::Pairs;
 use notation::Reason;
 use php_graph::Bytes;
 use std::alloc::Global;
@@ -213,7 +213,7 @@ fn entry(alloc: Global, bytes: &[u8]) -> Result<(Effect, &[u8]), Stop>
     let (inner, rest) = gen_argument(alloc, rest)?;
     let (ttl, rest) = ttl_argument(alloc, rest)?;
     let rest = end(rest)?;
-    let generator = Gen::entry(key, ttl, Box::new(alloc, inner)?);
+    let generator = entry_round(alloc, key, ttl, inner)?;
     Ok((Effect::Calls(Call::Entry(generator)), rest))
 }
 
