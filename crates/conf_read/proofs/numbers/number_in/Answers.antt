@@ -1,4 +1,4 @@
-use Rattle.std.proofs.Common.{rules, ◌≡◌, ◌∙◌, Some, None, sym, arith}
+use Rattle.std.proofs.Common.{rules, ◌∙◌, Some, None, sym, arith}
 use Rattle.conf_read.proofs.Digits.{no_text, not_above, read_as}
 use Rattle.conf_read.proofs.numbers.number_in.Goals as goal
 
