@@ -7,7 +7,7 @@ use Rattle.apcu_model.specs.declared.journal.Mark.{Mark}
 use Rattle.apcu_model.specs.History.{is_in_mask}
 use Rattle.script_read.specs.declared.script.Step.{Step}
 use Rattle.script_read.specs.Grammar.{ends_line}
-use Rattle.script_read.specs.Play.{Play, played, IsLegal, IsComplete}
+use Rattle.script_read.specs.Play.{Play, played, IsLegal, IsCompletePlay}
 use Rattle.crew_play.specs.Played.{texts_of}
 
 -- for each worker, from number w on, its line and then its text
@@ -41,5 +41,5 @@ output_of conf scripts journal = play_text conf scripts journal (played conf scr
 pub record IsOutput (conf : Conf) (scripts : List (List Step)) (printed : List ℕ) : Type 0 where
   pub journal : List Mark
   pub legal : IsLegal conf scripts journal
-  pub complete : IsComplete conf scripts journal
+  pub complete : IsCompletePlay conf scripts journal
   pub text : printed ≡ output_of conf scripts journal

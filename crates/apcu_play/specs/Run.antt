@@ -9,9 +9,9 @@ use Rattle.script_read.specs.declared.script.Step.{Step}
 use Rattle.apcu_play.specs.declared.status.Status.{Status}
 use Rattle.apcu_play.specs.declared.status.Status.TheVariants.{Done, Script, NoMemory, TooLong, TooMany}
 use Rattle.notation.specs.declared.fault.Reason.{Reason}
-use Rattle.script_read.specs.Gives.{IsFirstFault}
+use Rattle.script_read.specs.Gives.{IsFirstScriptFault}
 use Rattle.apcu_play.specs.Message.{script_message}
-use Rattle.script_read.specs.Play.{IsLegal, IsComplete}
+use Rattle.script_read.specs.Play.{IsLegal, IsCompletePlay}
 use Rattle.script_read.specs.Grammar.{AreScripts}
 use Rattle.crew_play.specs.Budgets.{all_events, most_events}
 use Rattle.apcu_play.specs.Output.{output_of}
@@ -38,7 +38,7 @@ pub record AnswersInput
   pub spelled : AreScripts input scripts
   pub few : all_events conf.slots scripts ≤ most_events
   pub legal : IsLegal conf scripts journal
-  pub complete : IsComplete conf scripts journal
+  pub complete : IsCompletePlay conf scripts journal
   pub text : printed ≡ output_of conf scripts journal
 
 -- all of it was written
@@ -64,7 +64,7 @@ pub record IsRefusedAt
   pub input : List ℕ
   pub read : WasRead left_before left_after input
   pub nothing : (scripts : List (List Step)) → ¬ AreScripts input scripts
-  pub first : IsFirstFault input place reason
+  pub first : IsFirstScriptFault input place reason
 
 pub record IsRefused (left_before left_after : Option (List ℕ)) : Type 0 where
   pub place : ℕ

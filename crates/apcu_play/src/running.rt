@@ -3,7 +3,7 @@ ghost use Rattle.std.specs.Io.KnownBytes.{prepend_known, append_known, IsAtEnd};
 ghost use Rattle.io_edges.specs.Faults.{Rose};
 ghost use Rattle.io_edges.specs.Reading.{HasTaken};
 ghost use Rattle.apcu_model.specs.Conf.{IsGood};
-ghost use Rattle.script_read.specs.Gives.{IsFirstFault, ReadsScripts};
+ghost use Rattle.script_read.specs.Gives.{IsFirstScriptFault, ReadsScripts};
 ghost use Rattle.apcu_play.specs.Message.{message_of, script_message};
 ghost use Rattle.apcu_play.specs.Options.{conf_of};
 ghost use Rattle.apcu_play.specs.Run.{longest_input, WasRead, AnswersInput, Replays, ReplaysPart, IsRefusedAt, IsRefused, IsCrowded, TellsMessage, TellsRefusal, Completes};
@@ -69,7 +69,7 @@ impl Ending {
 // How a run ends whose input spells no scripts, or finds no memory for them.
 fn ending_of(fault: &ScriptFault) -> Ending
     ensures script { (bytes : List ℕ) → ReadsScripts bytes (Err fault.now)
-        → result.status ≡ Status.Script → IsFirstFault bytes result.place result.reason }
+        → result.status ≡ Status.Script → IsFirstScriptFault bytes result.place result.reason }
     ensures bad { result.status ≡ Status.Script → fault.now ≢ ScriptFault.Memory }
     ensures others { (result.status ≡ Status.Script) ⊎ (result.status ≡ Status.NoMemory) }
 {

@@ -10,11 +10,11 @@ use Rattle.apcu_model.specs.Cache.{Cache, risen}
 use Rattle.apcu_model.specs.Change.{Insertion, with_room, placed}
 use Rattle.entry_slots.specs.Entries.{Entries, entries_of}
 use Rattle.entry_slots.specs.Standing.{entries}
-use Rattle.ttl_expunge.specs.Room.{with_block, MakesRoom}
+use Rattle.ttl_expunge.specs.Room.{with_found, MakesRoom}
 use Rattle.cache_core.specs.declared.cache.Core.{Core}
 use Rattle.cache_core.specs.declared.tally.Tally.{Tally}
 use Rattle.cache_core.specs.Caching.{cache_of}
-use Rattle.cache_core.specs.Laws.{Laws}
+use Rattle.cache_core.specs.Laws.{CacheLaws}
 use Rattle.cache_core.specs.Placing.{Puts}
 use Rattle.cache_core.specs.Storing.{added}
 use Rattle.cache_core.proofs.Caching.{AreCounts, cache_made, counts_after_room, own_counts}
@@ -27,7 +27,7 @@ pub record IsAfterRoom (full : Bool) (old new : Tally) : Type 0 where
   pub inserts : new.inserts ≡ (if full then 0 else old.inserts)
   pub expunges : new.expunges ≡ (if full then risen old.expunges else old.expunges)
 
-module _ (laws : Laws) (old : Core) (key : List ℕ) (graph : List Kind) (ttl t : ℕ) where
+module _ (laws : CacheLaws) (old : Core) (key : List ℕ) (graph : List Kind) (ttl t : ℕ) where
   room_counts : {s : Entries} {a0 a1 : Aside} {place : Option ℕ} {full : Bool} (tally : Tally) → entries old.slots ≡ entries_of (cache_of old) → MakesRoom (entries old.slots) s a0 a1 (block_size (length key) graph) t place full
       → IsAfterRoom full old.tally tally → (later : Aside) → Goes a1 later → AreCounts tally (with_room (held_blocks later) (block_size (length key) graph) t (cache_of old))
   room_counts {full = full} tally whole m after later on =
@@ -38,7 +38,7 @@ module _ (laws : Laws) (old : Core) (key : List ℕ) (graph : List Kind) (ttl t 
   room_conf {s} {place = place} whole m later on =
       sym (ap (λ (x : Entries). x.conf) whole) ∙ (sym m.conf_is ∙ (ap (λ (x : Entries). x.conf) (m.room (cache_of old) later whole on) ∙ block_conf place))
     where
-      block_conf : (p : Option ℕ) → (with_block p (block_size (length key) graph) (entries_of (with_room (held_blocks later) (block_size (length key) graph) t (cache_of old)))).conf
+      block_conf : (p : Option ℕ) → (with_found p (block_size (length key) graph) (entries_of (with_room (held_blocks later) (block_size (length key) graph) t (cache_of old)))).conf
           ≡ (with_room (held_blocks later) (block_size (length key) graph) t (cache_of old)).conf
       block_conf None = refl
       block_conf (Some at) = refl

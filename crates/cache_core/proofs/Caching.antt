@@ -14,7 +14,7 @@ use Rattle.ttl_expunge.specs.Held.{AreHeld, KeepsOpen, Sweeps}
 use Rattle.cache_core.specs.declared.cache.Core.{Core}
 use Rattle.cache_core.specs.declared.tally.Tally.{Tally}
 use Rattle.cache_core.specs.Caching.{cache_of, CacheStands}
-use Rattle.cache_core.specs.Laws.{Laws}
+use Rattle.cache_core.specs.Laws.{CacheLaws}
 use Rattle.std.specs.List.{Contains}
 use Rattle.std.proofs.lemmas.List.Elements.{Contains-append_left, Contains-append_right, Contains-append_cases}
 use Rattle.ttl_expunge.specs.Decided.{same_held}
@@ -54,7 +54,7 @@ pub cache_kept : {X R : Type 0} {gh : Ghosts X R} {old new : X} (core : Core) �
 cache_kept core kept st = record { stand = stand_kept core.slots kept st.stand; whole = st.whole }
 
 -- the counts once room was made
-pub counts_after_room : (laws : Laws) (held : List ℕ) (n t : ℕ) (c : Cache) (old new : Tally) (full : Bool) → full ≡ is_expunged held n t c → AreCounts old c
+pub counts_after_room : (laws : CacheLaws) (held : List ℕ) (n t : ℕ) (c : Cache) (old new : Tally) (full : Bool) → full ≡ is_expunged held n t c → AreCounts old c
     → new.hits ≡ (if full then 0 else old.hits) → new.misses ≡ (if full then 0 else old.misses) → new.inserts ≡ (if full then 0 else old.inserts)
     → new.expunges ≡ (if full then risen old.expunges else old.expunges) → AreCounts new (with_room held n t c)
 counts_after_room laws held n t c old new full is counts hits misses inserts expunges = go full is hits misses inserts expunges

@@ -20,9 +20,9 @@ use Rattle.entry_slots.specs.Standing.{entries}
 use Rattle.cache_core.specs.declared.cache.Core.{Core}
 use Rattle.cache_core.specs.declared.tally.Tally.{Tally}
 use Rattle.cache_core.specs.Caching.{cache_of}
-use Rattle.cache_core.specs.Laws.{Laws}
+use Rattle.cache_core.specs.Laws.{CacheLaws}
 use Rattle.cache_core.proofs.Caching.{cache_made, whole_made}
-use Rattle.seg_words.specs.Members.{counted, count-cons, none_counted, filter_all, Contains-first, Contains-later, Contains-cases, Contains-filter, Contains-kept}
+use Rattle.seg_words.specs.Members.{counted_some, count-cons, none_counted, filter_all, Contains-first, Contains-later, Contains-cases, Contains-filter, Contains-kept}
 use Rattle.entry_slots.specs.Having.{only_none}
 use Rattle.cache_core.proofs.Replacing.{IsOld, order_key}
 
@@ -36,7 +36,7 @@ only_once at (r ∷ rows) row c place few = elim (Contains-cases r rows row c) [
       let none = none_counted (is_at at) rows (omega (arith, few, one, count-cons (is_at at) r rows)) in
       ap (λ b. cond b (r ∷ only_at at rows) (only_at at rows)) here ∙ (ap (λ l. r ∷ l) (only_none at rows none) ∙ ap (λ (x : Row). x ∷ []) same)
   | inr later ↦
-      let some : 1 ≤ count_by (is_at at) rows = counted (is_at at) rows row later (eq-eqb row.place at place) in
+      let some : 1 ≤ count_by (is_at at) rows = counted_some (is_at at) rows row later (eq-eqb row.place at place) in
       let none : is_at at r ≡ false = false_from_ne_true (is_at at r) (λ h.
       let one : cond {A = ℕ} (is_at at r) 1 0 ≡ 1 = ap (λ (b : Bool). cond {A = ℕ} b 1 0) h in
       omega (arith, few, one, some, count-cons (is_at at) r rows)) in
@@ -44,7 +44,7 @@ only_once at (r ∷ rows) row c place few = elim (Contains-cases r rows row c) [
 ]
 
 -- the rows that pass were dropped, by the blocks that are held later too
-pub passing_later : (laws : Laws) {s new : Entries} {before after : Aside} {t : ℕ} {words windows : List ℕ} (pass : Row → Bool) (c : Cache)
+pub passing_later : (laws : CacheLaws) {s new : Entries} {before after : Aside} {t : ℕ} {words windows : List ℕ} (pass : Row → Bool) (c : Cache)
     → Drops s new before after t (in_slot_order s.conf (filter pass s.rows)) → IsSound s words windows → s ≡ entries_of c → (later : Aside) → Goes after later → new ≡ entries_of (dropped (held_blocks later) t pass c)
 passing_later laws {s} {new} {before} {after} {t} {words} {windows} pass c drops sound e later on =
     laws.later s new before after later t (in_slot_order s.conf (filter pass s.rows)) drops on
@@ -78,7 +78,7 @@ set_keyed {s} key at n t o sound =
     map_alike (number_row at n t) (integer_at key n t) s.rows (λ row c. ap (λ (b : Bool). if b then with_integer n t row else row) (at_key key at o sound row c))
 
 -- a core's cache once the row of a key was dropped
-pub core_deleted : (laws : Laws) (old new : Core) {before after : Aside} {words windows : List ℕ} (key : List ℕ) (t at : ℕ) → entries old.slots ≡ entries_of (cache_of old) → IsOld (entries old.slots) key at
+pub core_deleted : (laws : CacheLaws) (old new : Core) {before after : Aside} {words windows : List ℕ} (key : List ℕ) (t at : ℕ) → entries old.slots ≡ entries_of (cache_of old) → IsOld (entries old.slots) key at
     → IsSound (entries old.slots) words windows → Drops (entries old.slots) (entries new.slots) before after t (only_at at (entries old.slots).rows) → new.conf ≡ old.conf → new.tally ≡ old.tally
     → is_some (live_row key t (cache_of old)) ≡ true → (later : Aside) → Goes after later → (cache_of new ≡ deleted (held_blocks later) key t (cache_of old)) × (entries new.slots ≡ entries_of (cache_of new))
 core_deleted laws old new {before} {after} key t at whole o sound drops conf tally live later on =
@@ -99,7 +99,7 @@ core_deleted laws old new {before} {after} key t at whole o sound drops conf tal
     )
 
 -- and once all rows were
-pub core_cleared : (laws : Laws) (old new : Core) {before after : Aside} {words windows : List ℕ} (t : ℕ) → entries old.slots ≡ entries_of (cache_of old) → IsSound (entries old.slots) words windows
+pub core_cleared : (laws : CacheLaws) (old new : Core) {before after : Aside} {words windows : List ℕ} (t : ℕ) → entries old.slots ≡ entries_of (cache_of old) → IsSound (entries old.slots) words windows
     → Drops (entries old.slots) (entries new.slots) before after t (in_slot_order (entries old.slots).conf (entries old.slots).rows) → new.conf ≡ old.conf → new.tally ≡ record { hits = 0; misses = 0; inserts = 0; expunges = 0 }
     → (later : Aside) → Goes after later → (cache_of new ≡ cleared (held_blocks later) t (cache_of old)) × (entries new.slots ≡ entries_of (cache_of new))
 core_cleared laws old new {before} {after} t whole sound drops conf tally later on =

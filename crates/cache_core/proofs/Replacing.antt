@@ -23,10 +23,10 @@ use Rattle.entry_slots.specs.Entries.{Entries, entries_of, chain_of, with_taken,
 use Rattle.entry_slots.specs.Facts.{IsSound}
 use Rattle.ttl_expunge.specs.Held.{AreRemoved, AreHeld, KeepsOpen, Drops}
 use Rattle.ttl_expunge.specs.Dropping.{dropped_in, dropped_rows}
-use Rattle.cache_core.specs.Laws.{Laws}
+use Rattle.cache_core.specs.Laws.{CacheLaws}
 use Rattle.cache_core.specs.Placing.{replaced_in, Replaces, Puts}
 use Rattle.std.proofs.lemmas.List.Folds.{list_any-append}
-use Rattle.seg_words.specs.Members.{counted, none_counted, filter_then, Contains-first, Contains-later, Contains-cases, Contains-filter, Contains-kept, Contains-map}
+use Rattle.seg_words.specs.Members.{counted_some, none_counted, filter_then, Contains-first, Contains-later, Contains-cases, Contains-filter, Contains-kept, Contains-map}
 use Rattle.entry_slots.specs.Having.{place_there, without_none, only_none}
 use Rattle.apcu_model.specs.Facts.{held_is, dated, dated_held}
 use Rattle.ttl_expunge.specs.Decided.{same_held}
@@ -91,7 +91,7 @@ old_is {s} {words} {windows} key old sound h = go (find (has_key key) s.rows) re
         let place : row.place ≡ old = cc q in
         let one = one_found key s.rows row sound.apart e in
         let counts = sound.once old in
-        let some : 1 ≤ count_by (is_at old) s.rows = counted (is_at old) s.rows row one.1 (eq-eqb row.place old place) in
+        let some : 1 ≤ count_by (is_at old) s.rows = counted_some (is_at old) s.rows row one.1 (eq-eqb row.place old place) in
         record {
           row = row;
           there = one.1;
@@ -204,7 +204,7 @@ slot_low : (hash slots : ℕ) → 0 < slots → hash % slots < slots
 slot_low hash slots some = omega arith
 
 -- the expired rows of one slot
-pub order_chain : (laws : Laws) (s : Entries) (t slot : ℕ) → slot < s.conf.slots
+pub order_chain : (laws : CacheLaws) (s : Entries) (t slot : ℕ) → slot < s.conf.slots
     → filter (is_expired s.conf t) (chain_of s slot) ≡ in_slot_order s.conf (filter (λ row. is_in_slot s.conf slot row && is_expired s.conf t row) s.rows)
 order_chain laws s t slot low =
     let pass : Row → Bool = λ row. is_in_slot s.conf slot row && is_expired s.conf t row in
@@ -212,7 +212,7 @@ order_chain laws s t slot low =
     ∙ sym (laws.single s.conf (filter pass s.rows) slot low (λ row c. eqb-true (slot_of s.conf row.key) slot (and_parts (is_in_slot s.conf slot row) (is_expired s.conf t row) (Contains-filter pass s.rows row c).1).0))
 
 -- the row of a key, in the order of slots
-pub order_key : (laws : Laws) (conf : Conf) (rows : List Row) (key : List ℕ) → 2 ≤ conf.slots → in_slot_order conf (filter (has_key key) rows) ≡ filter (has_key key) rows
+pub order_key : (laws : CacheLaws) (conf : Conf) (rows : List Row) (key : List ℕ) → 2 ≤ conf.slots → in_slot_order conf (filter (has_key key) rows) ≡ filter (has_key key) rows
 order_key laws conf rows key some =
     laws.single conf (filter (has_key key) rows) (slot_of conf key) (slot_low (hash_of key) conf.slots (omega (arith, some)))
     (λ row c. ap (slot_of conf) (key_is key row (Contains-filter (has_key key) rows row c).1))
@@ -266,7 +266,7 @@ closed : (s : Entries) (removed removed' : List Row) (taken : List Extent) → r
 closed s removed removed' taken p q = cc (p, q)
 
 -- the whole insertion
-pub puts_from : (laws : Laws) {s0 s1 s2 : Entries} {a0 a1 a2 : Aside} {words windows : List ℕ} (at : ℕ) (key : List ℕ) (graph : List Kind) (ttl t slot : ℕ) → IsSound s0 words windows → slot ≡ slot_of s0.conf key
+pub puts_from : (laws : CacheLaws) {s0 s1 s2 : Entries} {a0 a1 a2 : Aside} {words windows : List ℕ} (at : ℕ) (key : List ℕ) (graph : List Kind) (ttl t slot : ℕ) → IsSound s0 words windows → slot ≡ slot_of s0.conf key
     → Drops s0 s1 a0 a1 t (filter (is_expired s0.conf t) (chain_of s0 slot)) → Replaces s1 s2 a1 a2 at key graph ttl t → Puts s0 s2 a0 a2 at key graph ttl t
 puts_from laws {s0} {s1} {s2} {a0} {a1} {a2} {words} {windows} at key graph ttl t slot sound is drops rep = record {
   placed_is = placed_is;

@@ -13,7 +13,7 @@ use Rattle.entry_slots.specs.Facts.{IsSound}
 use Rattle.ttl_expunge.specs.Dropping.{dropped_in, dropped_rows}
 use Rattle.ttl_expunge.specs.Held.{AreHeld, KeepsOpen, Drops}
 
-pub record Laws : Type 0 where
+pub record CacheLaws : Type 0 where
   -- of all entries that stand: no place is there twice, no two rows have one key, and each block
   -- may be probed
   pub sound : (e : EntrySlots) (words : List ℕ) (aside : Aside) (s : Entries)

@@ -1,6 +1,6 @@
 //! What the crates below promise.
 
-ghost use Rattle.cache_core.specs.Laws.{Laws};
+ghost use Rattle.cache_core.specs.Laws.{CacheLaws};
 
 use apcu_model::{count_laws, order_single};
 use entry_slots::standing_laws;
@@ -8,7 +8,7 @@ use ttl_expunge::drop_laws;
 
 // Gathers the laws of the crates below that the calls here rest on.
 pub(crate) fn lower_laws()
-    ensures { Laws }
+    ensures { CacheLaws }
 {
     standing_laws();
     drop_laws();

@@ -3,7 +3,7 @@ use Rattle.std.proofs.Common.{◌≡◌, ◌⊎◌, inl, inr, ℕ, zero, suc, �
 use Rattle.std.specs.Prelude.{nat_lt}
 use Rattle.std.proofs.lemmas.Bool.{and_parts, and_from, or_cases, eqb-true, eq-eqb, cases_Bool, or_left, or_right, false≢true}
 use Rattle.seg_words.specs.Windows.{Aside, has, is_named}
-use Rattle.seg_words.specs.Holding.{opened_for, begun}
+use Rattle.seg_words.specs.Holding.{opened_for, event_begun}
 use Rattle.entry_slots.specs.declared.slots.EntrySlots.{EntrySlots}
 use Rattle.entry_slots.specs.Lists.{has_place}
 use Rattle.entry_slots.specs.Entries.{Entries, listed}
@@ -55,5 +55,5 @@ module _ (closed : (e : EntrySlots) (words : List ℕ) (old new : Aside) (s : En
         | inr there ↦ opened e words (with_windows ws) (with_windows (w ∷ ws)) s w there (λ x named. at_most w ws x named) before
       ]
 
-  pub stands_begun : (held : List ℕ) → ((i : ℕ) → Opens s (slice_index held i)) → Stands e words (begun mask held) s
+  pub stands_begun : (held : List ℕ) → ((i : ℕ) → Opens s (slice_index held i)) → Stands e words (event_begun mask held) s
   stands_begun held ok = stands_open (opened_for mask held) (opened_ok s mask held ok)

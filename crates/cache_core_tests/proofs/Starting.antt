@@ -4,7 +4,7 @@ use Rattle.std.specs.Prelude.{nat_lt}
 use Rattle.std.proofs.lemmas.Bool.{and_parts, or_cases, eqb-true, false≢true, false_from_ne_true}
 use Rattle.std.proofs.lemmas.List.{get_or_past, get_or-set_other}
 use Rattle.seg_words.specs.Windows.{Aside, has, is_named}
-use Rattle.seg_words.specs.Holding.{begun}
+use Rattle.seg_words.specs.Holding.{event_begun}
 use Rattle.seg_words.specs.Kept.{Kept}
 use Rattle.seg_words.specs.declared.segment.WordsIn.{Ghosts}
 use Rattle.entry_slots.specs.declared.slots.EntrySlots.{EntrySlots}
@@ -13,7 +13,7 @@ use Rattle.entry_slots.specs.Entries.{listed, Entries}
 use Rattle.entry_slots.specs.Standing.{Stands, entries}
 use Rattle.entry_slots.specs.Facts.{OnlyClose, OnlyOpensAt}
 use Rattle.cache_core.specs.declared.cache.Core.{Core}
-use Rattle.cache_core_tests.specs.Holding.{IsThere, HoldsTwo}
+use Rattle.cache_core_tests.specs.Holding.{IsRowsPlace, HoldsTwo}
 use Rattle.cache_core_tests.proofs.Opening.{stands_begun}
 
 pub zero_at : (n i : ℕ) → slice_index (replicate n 0) i ≡ 0
@@ -41,8 +41,8 @@ no_others held first second none i high =
     ∙ (get_or-set_other held 0 i first 0 (λ q. omega (arith, high, q)) ∙ none i high)
 
 all_there : (slots : EntrySlots) (held : List ℕ) (first second : ℕ) → ((i : ℕ) → 2 ≤ i → slice_index held i ≡ 0)
-    → IsThere slots first → IsThere slots second
-    → (i : ℕ) → IsThere slots (slice_index (slice_set (slice_set held 0 first) 1 second) i)
+    → IsRowsPlace slots first → IsRowsPlace slots second
+    → (i : ℕ) → IsRowsPlace slots (slice_index (slice_set (slice_set held 0 first) 1 second) i)
 all_there slots [] first second none f s i = inl (get_or_past [] i 0 (omega arith))
 all_there slots (a ∷ []) first second none f s zero = f
 all_there slots (a ∷ []) first second none f s (suc i) = inl (get_or_past [] i 0 (omega arith))
@@ -54,8 +54,8 @@ pub stands_with_two : ((e : EntrySlots) (words : List ℕ) (old new : Aside) (s 
     → ((e : EntrySlots) (words : List ℕ) (old new : Aside) (s : Entries) (at : ℕ) → has_place at (listed s) ≡ true → OnlyOpensAt at old new → Stands e words old s → Stands e words new s)
     → (slots : EntrySlots) (words : List ℕ) (aside : Aside) → Stands slots words aside (entries slots)
     → (held : List ℕ) → ((i : ℕ) → 2 ≤ i → slice_index held i ≡ 0)
-    → (mask first second : ℕ) → IsThere slots first → IsThere slots second
-    → Stands slots words (begun mask (slice_set (slice_set held 0 first) 1 second)) (entries slots)
+    → (mask first second : ℕ) → IsRowsPlace slots first → IsRowsPlace slots second
+    → Stands slots words (event_begun mask (slice_set (slice_set held 0 first) 1 second)) (entries slots)
 stands_with_two closed opened slots words aside stand held none mask first second f s =
     stands_begun closed opened slots words (entries slots) aside stand mask (slice_set (slice_set held 0 first) 1 second) (all_there slots held first second none f s)
 
@@ -71,12 +71,12 @@ pub two_begun : ((e : EntrySlots) (words : List ℕ) (old new : Aside) (s : Entr
     → {X : Type 0} (g : Ghosts X (List ℕ)) (core : Core) (old one both new : X) (mask first second : ℕ)
     → g.words one ≡ g.words old → g.words both ≡ g.words one → g.words new ≡ g.words both
     → g.rest one ≡ slice_set (g.rest old) 0 first → g.rest both ≡ slice_set (g.rest one) 1 second → g.rest new ≡ g.rest both
-    → g.aside new ≡ begun mask (g.rest both)
-    → IsThere core.slots first → IsThere core.slots second → HoldsTwo g core old → HoldsTwo g core new
+    → g.aside new ≡ event_begun mask (g.rest both)
+    → IsRowsPlace core.slots first → IsRowsPlace core.slots second → HoldsTwo g core old → HoldsTwo g core new
 two_begun closed opened g core old one both new mask first second w1 w2 w3 r1 r2 r3 a f s two =
     let words : g.words new ≡ g.words old = w3 ∙ (w2 ∙ w1) in
     let held : g.rest both ≡ slice_set (slice_set (g.rest old) 0 first) 1 second = r2 ∙ ap (λ (h : List ℕ). slice_set h 1 second) r1 in
-    let aside : g.aside new ≡ begun mask (slice_set (slice_set (g.rest old) 0 first) 1 second) = a ∙ ap (begun mask) held in
+    let aside : g.aside new ≡ event_begun mask (slice_set (slice_set (g.rest old) 0 first) 1 second) = a ∙ ap (event_begun mask) held in
     record {
       stand = record {
         stand = rw (words, aside) (stands_with_two closed opened core.slots (g.words old) (g.aside old) two.stand.stand (g.rest old) two.others mask first second f s);

@@ -9,8 +9,8 @@ use Rattle.cache_core.specs.declared.cache.Core.{Core}
 use Rattle.cache_core.specs.Caching.{CacheStands}
 
 -- a row or a removed row stands at this place, or it is 0
-abbrev pub IsThere : EntrySlots → ℕ → Type 0
-IsThere slots at = (at ≡ 0) ⊎ (has_place at (listed (entries slots)) ≡ true)
+abbrev pub IsRowsPlace : EntrySlots → ℕ → Type 0
+IsRowsPlace slots at = (at ≡ 0) ⊎ (has_place at (listed (entries slots)) ≡ true)
 
 -- the words stand for the cache, and nothing is held for any other worker
 pub record HoldsTwo {X : Type 0} (g : Ghosts X (List ℕ)) (core : Core) (words : X) : Type 0 where

@@ -8,7 +8,7 @@ ghost use Rattle.entry_slots.specs.Lists.{has_place};
 ghost use Rattle.entry_slots.specs.Entries.{listed};
 ghost use Rattle.entry_slots.specs.Standing.{Stand, entries};
 ghost use Rattle.cache_core.specs.Caching.{CacheStands};
-ghost use Rattle.cache_core_tests.specs.Holding.{IsThere, HoldsTwo};
+ghost use Rattle.cache_core_tests.specs.Holding.{IsRowsPlace, HoldsTwo};
 
 use crate::play::{Act, Answer, answer_of, key};
 use apcu_model::{Conf, Counts};
@@ -50,7 +50,7 @@ fn stands_at<S: Segment>(slots: &EntrySlots, words: &mut S, key: &[u8], at: u32)
 fn there(core: &mut Core, words: &mut HeldWords, key: &[u8], at: u32) -> u32
     requires short { length key.now < 2 ^ 32 }
     requires two { HoldsTwo ⟦<HeldWords as WordsIn>⟧ core.old words.old }
-    ensures there { IsThere core.new.slots result }
+    ensures there { IsRowsPlace core.new.slots result }
     ensures same { core.new ≡ core.old }
     ensures two { HoldsTwo ⟦<HeldWords as WordsIn>⟧ core.new words.new }
 {
@@ -65,8 +65,8 @@ fn there(core: &mut Core, words: &mut HeldWords, key: &[u8], at: u32) -> u32
 // places are held, or nothing for 0.
 fn begin_with(core: &Core, words: &mut HeldWords, mask: u64, first: u32, second: u32)
     requires two { HoldsTwo ⟦<HeldWords as WordsIn>⟧ core.now words.old }
-    requires first { IsThere core.now.slots first }
-    requires second { IsThere core.now.slots second }
+    requires first { IsRowsPlace core.now.slots first }
+    requires second { IsRowsPlace core.now.slots second }
     ensures two { HoldsTwo ⟦<HeldWords as WordsIn>⟧ core.now words.new }
     ensures fresh { (b : ℕ)
         → has b (⟦<HeldWords as WordsIn>⟧.aside words.new).refused ≡ false }

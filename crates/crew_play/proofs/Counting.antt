@@ -5,7 +5,7 @@ use Rattle.std.proofs.lemmas.List.{drop_more}
 use Rattle.std.proofs.lemmas.List.Sums.{sum-map, sum_by-cons}
 use Rattle.std.proofs.lemmas.Option.{slice_get_within, get_or_from_slice_get}
 use Rattle.script_read.specs.declared.script.Step.{Step}
-use Rattle.script_read.specs.Calls.{events_of}
+use Rattle.script_read.specs.Calls.{event_bound}
 use Rattle.crew_play.specs.Budgets.{events_in, budgets_of, all_events}
 
 -- what a list has from a place on
@@ -13,7 +13,7 @@ item : {A : Type 0} (xs : List A) (i : ℕ) (x : A) → slice_get xs i ≡ Some 
 item xs i x is = drop_more xs i x (slice_get_within xs i x is) ∙ ap (λ y. y ∷ drop (i + 1) xs) (get_or_from_slice_get xs i x x is)
 
 pub step_counted : (slots : ℕ) (script : List Step) (i : ℕ) (step : Step) → slice_get script i ≡ Some step
-    → events_in slots (drop i script) ≡ events_of slots step.call + events_in slots (drop (i + 1) script)
+    → events_in slots (drop i script) ≡ event_bound slots step.call + events_in slots (drop (i + 1) script)
 step_counted slots script i step is = ap (events_in slots) (item script i step is)
 
 pub worker_counted : (slots : ℕ) (scripts : List (List Step)) (w : ℕ) (script : List Step) → slice_get scripts w ≡ Some script
@@ -32,6 +32,6 @@ sum_step : (f : Step → ℕ) (step : Step) (steps : List Step) → sum (map f (
 sum_step f step steps = sum-map f (step ∷ steps) ∙ (sum_by-cons f step steps ∙ ap (λ (n : ℕ). f step + n) (sym (sum-map f steps)))
 
 -- the same sum in one word of std
-pub events_sum : (slots : ℕ) (script : List Step) → sum (map (λ (step : Step). events_of slots step.call) script) ≡ events_in slots script
+pub events_sum : (slots : ℕ) (script : List Step) → sum (map (λ (step : Step). event_bound slots step.call) script) ≡ events_in slots script
 events_sum slots [] = refl
-events_sum slots (step ∷ steps) = sum_step (λ (s : Step). events_of slots s.call) step steps ∙ ap (λ n. events_of slots step.call + n) (events_sum slots steps)
+events_sum slots (step ∷ steps) = sum_step (λ (s : Step). event_bound slots s.call) step steps ∙ ap (λ n. event_bound slots step.call + n) (events_sum slots steps)

@@ -7,7 +7,7 @@ use Rattle.apcu_model.specs.declared.conf.Conf.{Conf}
 use Rattle.pin_table.specs.Values.{Bearer}
 use Rattle.pin_table.specs.Lists.{fresh, fresh_pass}
 use Rattle.script_read.specs.declared.script.Step.{Step}
-use Rattle.script_read.specs.Calls.{events_of}
+use Rattle.script_read.specs.Calls.{event_bound}
 use Rattle.worker_play.specs.Ends.{Ends}
 use Rattle.crew_play.specs.Budgets.{events_in, budgets_of}
 use Rattle.crew_play.specs.Crew.{AllEnd}
@@ -52,7 +52,7 @@ budget_at slots (s ∷ scripts) (suc w) script h = budget_at slots scripts w scr
 
 -- a worker's pass has enough for its script, and for its end
 pub enough_left : (t : TableId) (slots : ℕ) (bs : List ℕ) (scripts : List (List Step)) (w : ℕ) (script : List Step) (p : Bearer) → p ≡ fresh_pass t bs w → bs ≡ budgets_of slots scripts → slice_get scripts w ≡ Some script
-    → sum (map (λ (step : Step). events_of slots step.call) script) < p.known.left
+    → sum (map (λ (step : Step). event_bound slots step.call) script) < p.known.left
 enough_left t slots bs scripts w script p is budgets its =
     let left : p.known.left ≡ slice_index (budgets_of slots scripts) w = ap (λ (b : Bearer). b.known.left) is ∙ ap (λ (l : List ℕ). slice_index l w) budgets in
     omega (arith, left, budget_at slots scripts w script its, events_sum slots script)

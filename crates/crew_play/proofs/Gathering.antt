@@ -14,7 +14,7 @@ use Rattle.pin_table.specs.Events.{events_of}
 use Rattle.pin_table.specs.Lists.{AllOf, known_list}
 use Rattle.pin_table.specs.Views.{is_among}
 use Rattle.script_read.specs.declared.script.Step.{Step}
-use Rattle.script_read.specs.Play.{played, IsComplete}
+use Rattle.script_read.specs.Play.{played, IsCompletePlay}
 use Rattle.reply_text.specs.Lines.{script_lines}
 use Rattle.play_laws.specs.Own.{own_replies, wish_in, all_asked}
 use Rattle.play_laws.specs.Whole.{IsPlayedOut, replies_from, told_by}
@@ -149,7 +149,7 @@ pub record PlayLaws : Type 0 where
   pub play : (conf : Conf) (scripts : List (List Step)) (history : List Event) → IsPlayedOut conf scripts history
       → played conf scripts (marks_of history) ≡ Some (told_by conf scripts history)
   pub complete : (conf : Conf) (scripts : List (List Step)) (history : List Event) → IsPlayedOut conf scripts history
-      → IsComplete conf scripts (marks_of history)
+      → IsCompletePlay conf scripts (marks_of history)
 
 pub is_played : OthersLaw → PlayLaws → (t : TableId) (conf : Conf) (workers : ℕ) (scripts : List (List Step)) (ended : List Bearer) (texts : List (List ℕ)) (closed : Closed) → workers ≡ length scripts
     → AllEnd t conf scripts (length scripts) ended (map Some texts) → IsClosed conf workers ended closed → IsPlayed conf scripts closed.journal.marks texts
@@ -166,7 +166,7 @@ is_played law laws t conf workers scripts ended texts closed count all c =
     record {
       play = told_by conf scripts c.history;
       plays = ap (played conf scripts) c.journal ∙ laws.play conf scripts c.history whole;
-      complete = subst (IsComplete conf scripts) (sym c.journal) (laws.complete conf scripts c.history whole);
+      complete = subst (IsCompletePlay conf scripts) (sym c.journal) (laws.complete conf scripts c.history whole);
       texts_are = texts_match conf 0 scripts texts c.history has
           (λ k script text hs ht.
           let here : k ≡ 0 + k = omega arith in

@@ -1,12 +1,12 @@
 -- How many events the workers of scripts may make.
 use Rattle.std.specs.Prelude.{ℕ, ◌+◌, List, [], ◌∷◌, map}
 use Rattle.script_read.specs.declared.script.Step.{Step}
-use Rattle.script_read.specs.Calls.{events_of}
+use Rattle.script_read.specs.Calls.{event_bound}
 
 -- the calls of a script
 abbrev pub events_in : ℕ → List Step → ℕ
 events_in slots [] = 0
-events_in slots (step ∷ steps) = events_of slots step.call + events_in slots steps
+events_in slots (step ∷ steps) = event_bound slots step.call + events_in slots steps
 
 -- for each worker its calls and its end
 abbrev pub budgets_of : ℕ → List (List Step) → List ℕ

@@ -4,7 +4,7 @@ use Rattle.apcu_model.specs.declared.conf.Conf.{Conf}
 use Rattle.apcu_model.specs.declared.journal.Mark.{Mark}
 use Rattle.apcu_model.specs.declared.request.Reply.{Reply}
 use Rattle.script_read.specs.declared.script.Step.{Step}
-use Rattle.script_read.specs.Play.{Play, played, IsComplete}
+use Rattle.script_read.specs.Play.{Play, played, IsCompletePlay}
 use Rattle.reply_text.specs.Lines.{script_lines}
 
 -- for each worker the lines of its calls
@@ -21,5 +21,5 @@ pub record IsPlayed (conf : Conf) (scripts : List (List Step)) (journal : List M
     (texts : List (List ℕ)) : Type 0 where
   pub play : Play
   pub plays : played conf scripts journal ≡ Some play
-  pub complete : IsComplete conf scripts journal
+  pub complete : IsCompletePlay conf scripts journal
   pub texts_are : texts ≡ texts_of conf scripts play.replies

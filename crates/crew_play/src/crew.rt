@@ -1,8 +1,9 @@
 //! Workers on threads of their own.
 
-ghost use Rattle.std.specs.Prelude.{◌≡◌, ◌+◌, ◌-◌, ◌<◌, ◌≤◌, [], length, map, slice_get, sum, vec_capacity, Some};
+ghost use Rattle.std.specs.Prelude.{◌≡◌, ◌+◌, ◌-◌, ◌<◌, ◌≤◌, [], length, map, slice_get, sum};
+ghost use Rattle.std.specs.Prelude.{vec_capacity, Some};
 ghost use Rattle.std.specs.Thread.{IsSync};
-ghost use Rattle.script_read.specs.Calls.{events_of};
+ghost use Rattle.script_read.specs.Calls.{event_bound};
 ghost use Rattle.pin_table.specs.Lists.{fresh};
 ghost use Rattle.crew_play.specs.Budgets.{budgets_of};
 ghost use Rattle.crew_play.specs.Crew.{AllEnd};
@@ -35,7 +36,7 @@ fn last_worker<'a, N: TableName>(
     ensures worker { result.0.known.worker ≡ count - 1 }
     ensures no_event { result.0.known.own ≡ [] }
     ensures none_seen { result.0.known.seen ≡ [] }
-    ensures left { sum (map (λ step. events_of N.conf.slots step.call) result.1.now)
+    ensures left { sum (map (λ step. event_bound N.conf.slots step.call) result.1.now)
         < result.0.known.left }
 {
     let Some(pass) = passes.pop() else {
@@ -97,7 +98,7 @@ pub(crate) fn play_crew<N: TableName + Send + Sync, G: Gate + Sync, R: Threads +
         || -> (Ended, Option<ByteOut>)
             requires { (conf.now ≡ N.conf) × (pass.table ≡ N.table)
                 × (pass.known.own ≡ []) × (pass.known.seen ≡ [])
-                × (sum (map (λ step. events_of N.conf.slots step.call) script.now)
+                × (sum (map (λ step. event_bound N.conf.slots step.call) script.now)
                 < pass.known.left) }
             ensures { Ends N.table N.conf pass.known.worker script.entry.now result.0 result.1 }
         { play_out(rt, alloc, conf, shared, pass, script, gate) },

@@ -110,7 +110,8 @@ pub fn play_scripts<G: Gate + Sync, R: Threads + Wait + Sync>(
     gate: &G,
 ) -> Result<Played, CrewFault>
     requires good { IsGood conf.now }
-    ensures played { IfOk result (λ p. IsPlayed conf.now scripts.now p.journal.marks p.texts.items) }
+    ensures played { IfOk result
+        (λ p. IsPlayed conf.now scripts.now p.journal.marks p.texts.items) }
     ensures few { IfOk result (λ _. all_events conf.now.slots scripts.now ≤ most_events) }
     ensures many { IfErr result (λ e. e ≡ TooMany
         → most_events < all_events conf.now.slots scripts.now) }

@@ -13,7 +13,7 @@ use Rattle.entry_slots.specs.Lists.{is_at, has_place}
 use Rattle.entry_slots.specs.Entries.{Entries, IsWhole, blocks_of, without_rows}
 use Rattle.entry_slots.specs.Standing.{Stands, IsEntry}
 use Rattle.entry_slots.specs.Laws.{Laws}
-use Rattle.seg_words.specs.Members.{Contains-first, Contains-later, Contains-kept, count-cons, counted, any_there, any_from, none_in_nil}
+use Rattle.seg_words.specs.Members.{Contains-first, Contains-later, Contains-kept, count-cons, counted_some, any_there, any_from, none_in_nil}
 use Rattle.entry_slots.proofs.Homes.{IsHome, room, home_removed}
 use Rattle.entry_slots.proofs.Frames.{SameRow, entry_kept, chain_kept}
 use Rattle.entry_slots.proofs.Places.{rows_removed, count_blocks, at_itself}
@@ -81,7 +81,7 @@ module _ {e : EntrySlots} {ws : List ℕ} {aside : Aside} (s : Entries) (h : Sta
       let held = h.ready.windows at named in
       let begins : Extent → Bool = λ b. b.place == at in
       let p : Row → Bool = λ row. row.place == at in
-      let some : 1 ≤ count_by begins (live_blocks ws e.sma.from) = counted begins (live_blocks ws e.sma.from) (record { place = at; size = held.size }) held.live (eq-eqb at at refl) in
+      let some : 1 ≤ count_by begins (live_blocks ws e.sma.from) = counted_some begins (live_blocks ws e.sma.from) (record { place = at; size = held.size }) held.live (eq-eqb at at refl) in
       elim (cases_Bool (has_place at s.removed)) [
         | inl there ↦ same at ∙ there
         | inr none ↦ elim (cases_Bool (has_place at s.rows)) [

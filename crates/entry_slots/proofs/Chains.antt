@@ -10,17 +10,17 @@ use Rattle.apcu_model.specs.Walk.{is_in_slot, slot_of}
 use Rattle.entry_slots.specs.declared.slots.EntrySlots.{EntrySlots}
 use Rattle.entry_slots.specs.Lists.{is_at, has_place, first_place, place_after}
 use Rattle.entry_slots.specs.Entries.{Entries, chain_of}
-use Rattle.entry_slots.specs.Standing.{IsChain, Stands}
+use Rattle.entry_slots.specs.Standing.{IsRowChain, Stands}
 use Rattle.entry_slots.proofs.There.{HasEntryAt}
 use Rattle.seg_words.specs.Members.{Contains-first, Contains-later, Contains-filter, Contains-kept, any_there, any_from}
 use Rattle.entry_slots.proofs.Homes.{IsHome, room, home_row, home_removed}
 
-pub chain_first : (ws : List ℕ) (at : ℕ) (rows : List Row) → IsChain ws at rows → at ≡ first_place rows
+pub chain_first : (ws : List ℕ) (at : ℕ) (rows : List Row) → IsRowChain ws at rows → at ≡ first_place rows
 chain_first ws at [] h = h
 chain_first ws at (row ∷ rows) h = h.0
 
 -- word 1 of a chain's block is the place of the next
-pub chain_next : (ws : List ℕ) (at first : ℕ) (rows : List Row) → IsChain ws first rows → has_place at rows ≡ true → slice_index ws (at + 1) ≡ place_after at rows
+pub chain_next : (ws : List ℕ) (at first : ℕ) (rows : List Row) → IsRowChain ws first rows → has_place at rows ≡ true → slice_index ws (at + 1) ≡ place_after at rows
 chain_next ws at first [] h there = absurd (false≢true there)
 chain_next ws at first (row ∷ rows) h there = elim (cases_Bool (is_at at row)) [
   | inl here ↦

@@ -12,10 +12,10 @@ use Rattle.apcu_model.specs.Walk.{is_in_slot}
 use Rattle.entry_slots.specs.declared.slots.EntrySlots.{EntrySlots}
 use Rattle.entry_slots.specs.Lists.{is_at}
 use Rattle.entry_slots.specs.Entries.{Entries, chain_of}
-use Rattle.entry_slots.specs.Standing.{IsChain, Stands, IsEntry}
+use Rattle.entry_slots.specs.Standing.{IsRowChain, Stands, IsEntry}
 use Rattle.entry_slots.specs.Links.{link_after}
 use Rattle.entry_slots.specs.Laws.{Laws}
-use Rattle.seg_words.specs.Members.{Contains-cases, Contains-first, Contains-later, none_in_nil, count-cons, counted}
+use Rattle.seg_words.specs.Members.{Contains-cases, Contains-first, Contains-later, none_in_nil, count-cons, counted_some}
 use Rattle.entry_slots.proofs.Blocks.{told_slot}
 use Rattle.entry_slots.proofs.Homes.{IsHome, room, told_at}
 use Rattle.entry_slots.proofs.Chains.{AreHome}
@@ -34,7 +34,7 @@ distinct_counted [] h = tt
 distinct_counted (row ∷ rows) h = (
   (λ q c same.
       let one : cond {A = ℕ} (is_at row.place row) 1 0 ≡ 1 = ap (λ (b : Bool). cond {A = ℕ} b 1 0) (at_itself row row.place refl) in
-      omega (arith, h row.place, count-cons (is_at row.place) row rows, counted (is_at row.place) rows q c (at_itself q row.place same))),
+      omega (arith, h row.place, count-cons (is_at row.place) row rows, counted_some (is_at row.place) rows q c (at_itself q row.place same))),
   distinct_counted rows (λ x. omega (arith, h x, count-cons (is_at x) row rows)),
 )
 
@@ -101,12 +101,12 @@ link_in first m row [] e = (row, Contains-first row [], e)
 link_in first m row (next ∷ rows) e = let r = link_in (row.place + 1) m next rows e in (r.0, Contains-later row (next ∷ rows) r.0 r.1, r.2)
 
 -- The front of a chain is kept, and another back joined to it.
-pub relink : (ws ws' : List ℕ) (first m : ℕ) (front back back' : List Row) → m ≡ link_after first front → IsChain ws (slice_index ws first) (front ++ back) → IsChain ws' (slice_index ws' m) back'
+pub relink : (ws ws' : List ℕ) (first m : ℕ) (front back back' : List Row) → m ≡ link_after first front → IsRowChain ws (slice_index ws first) (front ++ back) → IsRowChain ws' (slice_index ws' m) back'
     → (first ≢ m → slice_index ws' first ≡ slice_index ws first)
     → ((q : Row) → Contains front q → q.place + 1 ≢ m → slice_index ws' (q.place + 1) ≡ slice_index ws (q.place + 1))
     → ((q : Row) → Contains front q → q.place + 1 ≢ first) → AreDistinct front
-    → IsChain ws' (slice_index ws' first) (front ++ back')
-relink ws ws' first m [] back back' e chain rest same kept other distinct = subst (λ (n : ℕ). IsChain ws' (slice_index ws' n) back') e rest
+    → IsRowChain ws' (slice_index ws' first) (front ++ back')
+relink ws ws' first m [] back back' e chain rest same kept other distinct = subst (λ (n : ℕ). IsRowChain ws' (slice_index ws' n) back') e rest
 relink ws ws' first m (row ∷ rows) back back' e chain rest same kept other distinct =
     let l = link_in first m row rows e in
     let apart : first ≢ m = λ q. other l.0 l.1 (sym l.2 ∙ sym q) in (
@@ -115,7 +115,7 @@ relink ws ws' first m (row ∷ rows) back back' e chain rest same kept other dis
     )
 
 -- what a chain's words at its front lead to
-pub chain_rest : (ws : List ℕ) (first : ℕ) (front back : List Row) → IsChain ws (slice_index ws first) (front ++ back) → IsChain ws (slice_index ws (link_after first front)) back
+pub chain_rest : (ws : List ℕ) (first : ℕ) (front back : List Row) → IsRowChain ws (slice_index ws first) (front ++ back) → IsRowChain ws (slice_index ws (link_after first front)) back
 chain_rest ws first [] back h = h
 chain_rest ws first (row ∷ rows) back h = chain_rest ws (row.place + 1) rows back h.1
 

@@ -11,7 +11,7 @@ use Rattle.apcu_model.specs.Walk.{is_in_slot}
 use Rattle.entry_slots.specs.declared.slots.EntrySlots.{EntrySlots}
 use Rattle.entry_slots.specs.Lists.{is_at, has_place, only_at, without_place}
 use Rattle.entry_slots.specs.Entries.{Entries, chain_of, removed_at, noted_row, noted_at}
-use Rattle.entry_slots.specs.Standing.{IsChain, IsEntry, Stands}
+use Rattle.entry_slots.specs.Standing.{IsRowChain, IsEntry, Stands}
 use Rattle.entry_slots.specs.Laws.{Laws}
 use Rattle.seg_words.specs.Members.{Contains-filter, count-cons}
 use Rattle.entry_slots.proofs.Homes.{IsHome, room, home_row, home_removed, home_unlinked}
@@ -29,7 +29,7 @@ cleared_stands law {e} {ws} {aside} s h at v q there place =
     relisted law s h (slice_set ws (at + 1) v) (set_change h (at + 1) v spot) (set_entry h (at + 1) v spot law)
     (λ slot lt.
     let word : slice_index (slice_set ws (at + 1) v) slot ≡ slice_index ws slot = get_or-set_other ws (at + 1) slot v 0 (let w = room (home_unlinked q h there) in λ same. omega (arith, w.low, h.from)) in
-    subst (λ n. IsChain (slice_set ws (at + 1) v) n (chain_of s slot)) (sym word)
+    subst (λ n. IsRowChain (slice_set ws (at + 1) v) n (chain_of s slot)) (sym word)
     (chain_kept ws (slice_set ws (at + 1) v) (slice_index ws slot) (chain_of s slot) (λ row c. set_link h (at + 1) v spot row (λ same.
     rows_unlinked h row q (Contains-filter (is_in_slot s.conf slot) s.rows row c).0 there (omega arith))) (h.chains slot lt)))
     e.removed s.removed s.unlinked
@@ -102,7 +102,7 @@ module _ {e : EntrySlots} {ws : List ℕ} {aside : Aside} (s : Entries) (h : Sta
     chains = λ slot lt.
         let w = room own in
         let word : slice_index (slice_set ws (at + 8) t) slot ≡ slice_index ws slot = other_word slot (λ same. omega (arith, w.low, h.from)) in
-        subst (λ n. IsChain (slice_set ws (at + 8) t) n (chain_of s slot)) (sym word)
+        subst (λ n. IsRowChain (slice_set ws (at + 8) t) n (chain_of s slot)) (sym word)
         (chain_kept ws (slice_set ws (at + 8) t) (slice_index ws slot) (chain_of s slot) (λ row c. link_other row (home_row row h (Contains-filter (is_in_slot s.conf slot) s.rows row c).0)) (h.chains slot lt));
     removed_chain = chain_kept ws (slice_set ws (at + 8) t) e.removed s.removed (λ row c. link_other row (home_removed row h c)) h.removed_chain;
     rows = λ row c. entry_kept law ws (slice_set ws (at + 8) t) row (h.rows row c) (row_other row (home_row row h c) (λ same. rows_unlinked h row q c there (sym same)));

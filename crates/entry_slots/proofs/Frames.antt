@@ -12,7 +12,7 @@ use Rattle.value_image.specs.Rows.{StandsAt}
 use Rattle.value_image.specs.Image.{IsImageOf, image_of}
 use Rattle.apcu_model.specs.Cache.{Row, extent_of}
 use Rattle.entry_slots.specs.declared.slots.EntrySlots.{EntrySlots}
-use Rattle.entry_slots.specs.Standing.{IsChain, IsEntry}
+use Rattle.entry_slots.specs.Standing.{IsRowChain, IsEntry}
 use Rattle.entry_slots.specs.Laws.{Laws}
 use Rattle.entry_slots.proofs.Runs.{words_long}
 use Rattle.seg_words.specs.Members.{Contains-first, Contains-later}
@@ -88,10 +88,10 @@ entry_kept law ws ws' row h s =
     entry_noted law ws ws' row row.mtime row.atime row.dtime row.hits h but (at 6 (omega arith) (omega arith) ∙ h.mtime) (at 7 (omega arith) (omega arith) ∙ h.atime) (at 8 (omega arith) (omega arith) ∙ h.dtime) (at 9 (omega arith) (omega arith) ∙ h.hits)
 
 -- a chain is kept where word 1 of each of its blocks is
-pub chain_kept : (ws ws' : List ℕ) (first : ℕ) (rows : List Row) → ((row : Row) → Contains rows row → slice_index ws' (row.place + 1) ≡ slice_index ws (row.place + 1)) → IsChain ws first rows → IsChain ws' first rows
+pub chain_kept : (ws ws' : List ℕ) (first : ℕ) (rows : List Row) → ((row : Row) → Contains rows row → slice_index ws' (row.place + 1) ≡ slice_index ws (row.place + 1)) → IsRowChain ws first rows → IsRowChain ws' first rows
 chain_kept ws ws' first [] same h = h
 chain_kept ws ws' first (row ∷ rows) same h =
-    (h.0, subst (λ a. IsChain ws' a rows) (sym (same row (Contains-first row rows))) (chain_kept ws ws' (slice_index ws (row.place + 1)) rows (λ r c. same r (Contains-later row rows r c)) h.1))
+    (h.0, subst (λ a. IsRowChain ws' a rows) (sym (same row (Contains-first row rows))) (chain_kept ws ws' (slice_index ws (row.place + 1)) rows (λ r c. same r (Contains-later row rows r c)) h.1))
 
 -- blocks at two places have no word in common
 pub rows_apart : {e : EntrySlots} {ws : List ℕ} {aside : Aside} (p q : Row) → IsHome e ws aside p → IsHome e ws aside q → p.place ≢ q.place → (p.place + p.size ≤ q.place) ⊎ (q.place + q.size ≤ p.place)

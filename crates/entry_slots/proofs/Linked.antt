@@ -12,10 +12,10 @@ use Rattle.apcu_model.specs.Walk.{is_in_slot, slot_of}
 use Rattle.entry_slots.specs.declared.slots.EntrySlots.{EntrySlots}
 use Rattle.entry_slots.specs.Lists.{is_at, begins_at}
 use Rattle.entry_slots.specs.Entries.{Entries, chain_of, blocks_of, fresh_row, linked}
-use Rattle.entry_slots.specs.Standing.{IsChain, IsEntry, Stands}
+use Rattle.entry_slots.specs.Standing.{IsRowChain, IsEntry, Stands}
 use Rattle.entry_slots.specs.Links.{link_after}
 use Rattle.entry_slots.specs.Laws.{Laws}
-use Rattle.seg_words.specs.Members.{Contains-cases, count-append, counted, Contains-filter}
+use Rattle.seg_words.specs.Members.{Contains-cases, count-append, counted_some, Contains-filter}
 use Rattle.entry_slots.proofs.Homes.{IsHome, home_row, home_removed, home_unlinked}
 use Rattle.entry_slots.proofs.Places.{once, at_itself, count_blocks}
 use Rattle.entry_slots.proofs.Cutting.{Spot, set_change, set_entry}
@@ -26,7 +26,7 @@ use Rattle.entry_slots.proofs.Linking.{count_split, only_passes, count_with_row,
 module _ {e : EntrySlots} {ws : List ℕ} {aside : Aside} (s : Entries) (h : Stands e ws aside s) (at : ℕ) (key : List ℕ) (g : List Kind) (ttl t : ℕ)
     (taken : Contains s.taken (extent_of (fresh_row key g ttl t at s.next_number))) (entry : IsEntry ws (fresh_row key g ttl t at s.next_number))
     (slot : ℕ) (lt : slot < e.sma.from) (is : slot_of s.conf key ≡ slot) (m : ℕ) (front back more : List Row) (split : chain_of s slot ≡ front ++ back) (follows : m ≡ link_after slot front)
-    (sub : (q : Row) → Contains more q → Contains back q) (rest : IsChain ws (slice_index ws (at + 1)) more)
+    (sub : (q : Row) → Contains more q → Contains back q) (rest : IsRowChain ws (slice_index ws (at + 1)) more)
     (own : filter (is_in_slot s.conf slot) (with_row (fresh_row key g ttl t at s.next_number) s.rows) ≡ front ++ fresh_row key g ttl t at s.next_number ∷ more) where
   new : Row
   new = fresh_row key g ttl t at s.next_number
@@ -41,7 +41,7 @@ module _ {e : EntrySlots} {ws : List ℕ} {aside : Aside} (s : Entries) (h : Sta
   }
 
   row_elsewhere : (row : Row) → Contains s.rows row → row.place ≢ at
-  row_elsewhere row c same = omega (arith, once h at, counted (is_at at) s.rows row c (at_itself row at same), counted (begins_at at) s.taken (extent_of (fresh_row key g ttl t at s.next_number)) taken (eq-eqb at at refl))
+  row_elsewhere row c same = omega (arith, once h at, counted_some (is_at at) s.rows row c (at_itself row at same), counted_some (begins_at at) s.taken (extent_of (fresh_row key g ttl t at s.next_number)) taken (eq-eqb at at refl))
 
   new_other : at + 1 ≢ m
   new_other = not_word h slot lt m at front back split follows (fresh_row key g ttl t at s.next_number) new_home (λ q c.
@@ -71,15 +71,15 @@ module _ {e : EntrySlots} {ws : List ℕ} {aside : Aside} (s : Entries) (h : Sta
       record {
         chains = λ two low. elim (cases_eq two slot) [
           | inl same ↦
-              let chain : IsChain (slice_set ws m at) (slice_index (slice_set ws m at) slot) (front ++ row ∷ more) =
+              let chain : IsRowChain (slice_set ws m at) (slice_index (slice_set ws m at) slot) (front ++ row ∷ more) =
               rejoined h slot lt m at front back split follows (row ∷ more) (refl, rest) (λ q c. elim (Contains-cases row more q c) [
                 | inl here ↦ subst (λ (r : Row). r.place + 1 ≢ m) here new_other
                 | inr later ↦ back_other h slot lt m at front back split follows q (sub q later)
               ]) in
-              let whole : IsChain (slice_set ws m at) (slice_index (slice_set ws m at) slot) (filter (is_in_slot s.conf slot) (with_row row s.rows)) = subst (λ rs. IsChain (slice_set ws m at) (slice_index (slice_set ws m at) slot) rs) (sym own) chain in
-              subst (λ n. IsChain (slice_set ws m at) (slice_index (slice_set ws m at) n) (filter (is_in_slot s.conf n) (with_row row s.rows))) (sym same) whole
+              let whole : IsRowChain (slice_set ws m at) (slice_index (slice_set ws m at) slot) (filter (is_in_slot s.conf slot) (with_row row s.rows)) = subst (λ rs. IsRowChain (slice_set ws m at) (slice_index (slice_set ws m at) slot) rs) (sym own) chain in
+              subst (λ n. IsRowChain (slice_set ws m at) (slice_index (slice_set ws m at) n) (filter (is_in_slot s.conf n) (with_row row s.rows))) (sym same) whole
           | inr other ↦
-              subst (λ rs. IsChain (slice_set ws m at) (slice_index (slice_set ws m at) two) rs) (sym (other_slot s two row (λ q. other (sym q ∙ is))))
+              subst (λ rs. IsRowChain (slice_set ws m at) (slice_index (slice_set ws m at) two) rs) (sym (other_slot s two row (λ q. other (sym q ∙ is))))
               (other_chain h slot lt m at front back split follows two (omega (arith, h.from)) other)
         ];
         removed_chain = removed_kept h slot lt m at front back split follows;

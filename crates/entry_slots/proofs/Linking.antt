@@ -12,7 +12,7 @@ use Rattle.apcu_model.specs.Rows.{are_apart}
 use Rattle.apcu_model.specs.Walk.{is_in_slot, slot_of}
 use Rattle.entry_slots.specs.Entries.{Entries, chain_of}
 use Rattle.entry_slots.specs.Laws.{Laws}
-use Rattle.seg_words.specs.Members.{Contains-cases, Contains-first, Contains-later, none_in_nil, count-cons, count-append, counted}
+use Rattle.seg_words.specs.Members.{Contains-cases, Contains-first, Contains-later, none_in_nil, count-cons, count-append, counted_some}
 
 -- ---- lists
 
@@ -42,7 +42,7 @@ only_passes t p (z ∷ zs) x c y few = elim (Contains-cases z zs x c) [
   | inr later ↦
       let other : p z ≡ false = false_from_ne_true (p z) (λ q.
       let one : cond {A = ℕ} (p z) 1 0 ≡ 1 = ap (λ (b : Bool). cond {A = ℕ} b 1 0) q in
-      omega (arith, count-cons p z zs, few, counted p zs x later y)) in
+      omega (arith, count-cons p z zs, few, counted_some p zs x later y)) in
       rw other (only_passes t p zs x later y (omega (arith, count-cons p z zs, few)))
 ]
   where

@@ -3,7 +3,7 @@ use Rattle.std.proofs.Common.{◌≡◌, ℕ, ◌≤◌, Bool, true, eqb, ◌&&�
 use Rattle.std.proofs.lemmas.Bool.{and_parts, and_from, eqb-true, eq-eqb}
 use Rattle.std.specs.List.{Contains, count_by}
 use Rattle.seg_words.specs.declared.extents.Extent.{Extent}
-use Rattle.seg_words.specs.Members.{counted, counted_there}
+use Rattle.seg_words.specs.Members.{counted_some, counted_there}
 use Rattle.entry_slots.specs.Lists.{HaveSame}
 
 abbrev pub is_extent : Extent → Extent → Bool
@@ -23,6 +23,6 @@ is_extent-same e f h =
 -- what the one list has, the other has
 pub same_there : (xs ys : List Extent) (e : Extent) → HaveSame xs ys → Contains ys e → Contains xs e
 same_there xs ys e same c =
-    let many : 1 ≤ count_by (is_extent e) xs = omega (arith, same.count (is_extent e), counted (is_extent e) ys e c (is_extent-itself e)) in
+    let many : 1 ≤ count_by (is_extent e) xs = omega (arith, same.count (is_extent e), counted_some (is_extent e) ys e c (is_extent-itself e)) in
     let r = counted_there (is_extent e) xs many in
     subst (λ x. Contains xs x) (is_extent-same e r.0 r.2) r.1

@@ -6,14 +6,14 @@ use Rattle.sma_blocks.specs.Ready.{IsReady}
 use Rattle.entry_slots.specs.declared.slots.EntrySlots.{EntrySlots}
 use Rattle.entry_slots.specs.Lists.{HaveSame, has_place}
 use Rattle.entry_slots.specs.Entries.{Entries, blocks_of, listed}
-use Rattle.entry_slots.specs.Standing.{IsChain, Stands, entries}
+use Rattle.entry_slots.specs.Standing.{IsRowChain, Stands, entries}
 use Rattle.entry_slots.proofs.There.{HasEntryAt, HasRowAt}
 
 -- what is kept of the slots, whatever entries are kept beside them
 pub restand : {e e' : EntrySlots} {words : List ℕ} {aside : Aside} {s : Entries} → Stands e words aside s → e'.sma ≡ e.sma → e'.removed ≡ e.removed → e'.next_number ≡ e.next_number → e'.count ≡ e.count → Stands e' words aside s
 restand {e} {e'} {words} {aside} {s} h sma removed number count = record {
   chains = h.chains;
-  removed_chain = subst (λ at. IsChain words at s.removed) (sym removed) h.removed_chain;
+  removed_chain = subst (λ at. IsRowChain words at s.removed) (sym removed) h.removed_chain;
   rows = h.rows;
   removed = h.removed;
   unlinked = h.unlinked;

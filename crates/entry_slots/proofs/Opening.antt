@@ -15,7 +15,7 @@ use Rattle.entry_slots.specs.Lists.{is_at, begins_at, has_place}
 use Rattle.entry_slots.specs.Entries.{Entries, listed, blocks_of}
 use Rattle.entry_slots.specs.Standing.{Stands}
 use Rattle.entry_slots.specs.Facts.{OnlyClose, OnlyOpensAt, LieApart, IsCopyable, IsSound}
-use Rattle.seg_words.specs.Members.{any_there, counted}
+use Rattle.seg_words.specs.Members.{any_there, counted_some}
 use Rattle.entry_slots.proofs.Members.{same_there}
 use Rattle.entry_slots.proofs.Blocks.{Apart, live_apart, live_bounds}
 use Rattle.entry_slots.proofs.Homes.{IsHome, room, home_listed}
@@ -35,11 +35,11 @@ image_inside {ws = ws} row h =
 -- a block that was taken is elsewhere
 not_taken : {e : EntrySlots} {ws : List ℕ} {aside : Aside} (s : Entries) → Stands e ws aside s → (row : Row) → Contains (listed s) row → (block : Extent) → Contains s.taken block → block.place ≡ row.place → ⊥
 not_taken s h row c block t same =
-    let taken = counted (begins_at row.place) s.taken block t (at_itself (record row { place = block.place }) row.place same) in
+    let taken = counted_some (begins_at row.place) s.taken block t (at_itself (record row { place = block.place }) row.place same) in
     let self = at_itself row row.place refl in
     elim (Contains-append_cases s.rows s.removed row c) [
-      | inl l ↦ omega (arith, once h row.place, counted (is_at row.place) s.rows row l self, taken)
-      | inr r ↦ omega (arith, once h row.place, counted (is_at row.place) s.removed row r self, taken)
+      | inl l ↦ omega (arith, once h row.place, counted_some (is_at row.place) s.rows row l self, taken)
+      | inr r ↦ omega (arith, once h row.place, counted_some (is_at row.place) s.removed row r self, taken)
     ]
 
 -- windows close

@@ -14,7 +14,7 @@ use Rattle.entry_slots.specs.Lists.{is_at, begins_at}
 use Rattle.entry_slots.specs.Entries.{Entries, listed, blocks_of}
 use Rattle.entry_slots.specs.Standing.{Stands}
 use Rattle.entry_slots.proofs.Blocks.{blocks_between}
-use Rattle.seg_words.specs.Members.{Contains-cases, count-cons, count-append, counted, counted_there, none_in_nil}
+use Rattle.seg_words.specs.Members.{Contains-cases, count-cons, count-append, counted_some, counted_there, none_in_nil}
 
 pub blocks_once : (ws : List ℕ) (low : ℕ) (es : List Extent) (high x : ℕ) → AreBlocks ws low es high → count_by (begins_at x) es ≤ 1
 blocks_once ws low [] high x h = omega arith
@@ -68,15 +68,15 @@ at_itself row x e = eq-eqb row.place x e
 
 pub rows_removed : {e : EntrySlots} {ws : List ℕ} {aside : Aside} {s : Entries} → Stands e ws aside s → (p q : Row) → Contains s.rows p → Contains s.removed q → q.place ≢ p.place
 rows_removed {s = s} h p q cp cq same =
-    omega (arith, once h p.place, counted (is_at p.place) s.rows p cp (at_itself p p.place refl), counted (is_at p.place) s.removed q cq (at_itself q p.place same))
+    omega (arith, once h p.place, counted_some (is_at p.place) s.rows p cp (at_itself p p.place refl), counted_some (is_at p.place) s.removed q cq (at_itself q p.place same))
 
 pub rows_unlinked : {e : EntrySlots} {ws : List ℕ} {aside : Aside} {s : Entries} → Stands e ws aside s → (p q : Row) → Contains s.rows p → Contains s.unlinked q → q.place ≢ p.place
 rows_unlinked {s = s} h p q cp cq same =
-    omega (arith, once h p.place, counted (is_at p.place) s.rows p cp (at_itself p p.place refl), counted (is_at p.place) s.unlinked q cq (at_itself q p.place same))
+    omega (arith, once h p.place, counted_some (is_at p.place) s.rows p cp (at_itself p p.place refl), counted_some (is_at p.place) s.unlinked q cq (at_itself q p.place same))
 
 pub removed_unlinked : {e : EntrySlots} {ws : List ℕ} {aside : Aside} {s : Entries} → Stands e ws aside s → (p q : Row) → Contains s.removed p → Contains s.unlinked q → q.place ≢ p.place
 removed_unlinked {s = s} h p q cp cq same =
-    omega (arith, once h p.place, counted (is_at p.place) s.removed p cp (at_itself p p.place refl), counted (is_at p.place) s.unlinked q cq (at_itself q p.place same))
+    omega (arith, once h p.place, counted_some (is_at p.place) s.removed p cp (at_itself p p.place refl), counted_some (is_at p.place) s.unlinked q cq (at_itself q p.place same))
 
 -- how many blocks fit
 blocks_few : (ws : List ℕ) (low : ℕ) (es : List Extent) (high : ℕ) → AreBlocks ws low es high → low + count_by (λ (e : Extent). true) es ≤ high
@@ -102,12 +102,12 @@ one_of x (row ∷ rows) p q few cp cq ep eq' = elim (Contains-cases row rows p c
     | inl too ↦ sym here ∙ too
     | inr later ↦
         let one : cond {A = ℕ} (is_at x row) 1 0 ≡ 1 = ap (λ (b : Bool). cond {A = ℕ} b 1 0) (at_itself row x (ap (λ (r : Row). r.place) here ∙ ep)) in
-        absurd (omega (arith, few, count-cons (is_at x) row rows, counted (is_at x) rows q later (at_itself q x eq')))
+        absurd (omega (arith, few, count-cons (is_at x) row rows, counted_some (is_at x) rows q later (at_itself q x eq')))
   ]
   | inr later ↦ elim (Contains-cases row rows q cq) [
     | inl here ↦
         let one : cond {A = ℕ} (is_at x row) 1 0 ≡ 1 = ap (λ (b : Bool). cond {A = ℕ} b 1 0) (at_itself row x (ap (λ (r : Row). r.place) here ∙ eq')) in
-        absurd (omega (arith, few, count-cons (is_at x) row rows, counted (is_at x) rows p later (at_itself p x ep)))
+        absurd (omega (arith, few, count-cons (is_at x) row rows, counted_some (is_at x) rows p later (at_itself p x ep)))
     | inr too ↦ one_of x rows p q (omega (arith, few, count-cons (is_at x) row rows)) later too ep eq'
   ]
 ]

@@ -21,7 +21,7 @@ use Rattle.entry_slots.specs.declared.slots.EntrySlots.{EntrySlots}
 use Rattle.entry_slots.specs.declared.writing.Note.{Note}
 use Rattle.entry_slots.specs.Lists.{is_at, has_place}
 use Rattle.entry_slots.specs.Entries.{Entries, chain_of, fresh_row, linked, found_place}
-use Rattle.entry_slots.specs.Standing.{IsChain, IsEntry, Stands}
+use Rattle.entry_slots.specs.Standing.{IsRowChain, IsEntry, Stands}
 use Rattle.entry_slots.specs.Links.{link_after, IsLinkTo, IsTarget}
 use Rattle.entry_slots.specs.Written.{head_words, entry_words}
 use Rattle.entry_slots.specs.Laws.{Laws}
@@ -143,7 +143,7 @@ module _ {e : EntrySlots} {ws : List ℕ} {aside : Aside} (s : Entries) (h : Sta
             let row : Row = first.0 in
             let more : List Row = first.1 in
             let split : chain_of s slot ≡ link.front ++ row ∷ more = link.split ∙ ap (λ rs. link.front ++ rs) first.2 in
-            let chain1 : IsChain ws1 (slice_index ws1 (link_after slot link.front)) (row ∷ more) = chain_rest ws1 slot link.front (row ∷ more) (subst (λ rs. IsChain ws1 (slice_index ws1 slot) rs) split (h1.chains slot (omega (arith, h.from)))) in
+            let chain1 : IsRowChain ws1 (slice_index ws1 (link_after slot link.front)) (row ∷ more) = chain_rest ws1 slot link.front (row ∷ more) (subst (λ rs. IsRowChain ws1 (slice_index ws1 slot) rs) split (h1.chains slot (omega (arith, h.from)))) in
             let at_row : row.place ≡ replaced = first.3 in
             let home = home_row old.0 h old.2 in
             let some : replaced ≢ 0 = (let w = room home in λ q. omega (arith, w.some, old.1)) in
@@ -151,18 +151,18 @@ module _ {e : EntrySlots} {ws : List ℕ} {aside : Aside} (s : Entries) (h : Sta
             let word : slice_index ws1 (row.place + 1) ≡ slice_index ws (row.place + 1) = link_kept h b taken ws1 (entry_only law note) row (home_row row h in_rows) (rows_not h b taken ws1 (entry_only law note) row in_rows) in
             let next : slice_index ws1 (at + 1) ≡ slice_index ws1 (row.place + 1) = made.1 ∙ (over some ∙ (ap (λ n. slice_index ws (n + 1)) (sym at_row) ∙ sym word)) in
             let has : has_key key row ≡ true = ap (has_key key) first.4 ∙ old.3 in
-            linked_stands s h1 at key g note.ttl note.now taken entry slot lt (sym es) m link.front (row ∷ more) more split link.follows (λ q c. Contains-later row more q c) (subst (λ n. IsChain ws1 n more) (sym next) chain1.1)
+            linked_stands s h1 at key g note.ttl note.now taken entry slot lt (sym es) m link.front (row ∷ more) more split link.follows (λ q c. Contains-later row more q c) (subst (λ n. IsRowChain ws1 n more) (sym next) chain1.1)
             (own_slot_over law s slot new link.front row more h.apart (any_from (has_key key) s.rows old.0 old.2 old.3) split has)
             law number count risen_is (ec ∙ (ap (λ (b : Bool). cond {A = ℕ} b (e.count + 1) e.count) (ne_eqb replaced 0 some) ∙ count_over new (any_from (has_key key) s.rows old.0 old.2 old.3)))
       ]
     where
-      back_none : (back : List Row) → chain_of s slot ≡ link.front ++ back → IsChain ws replaced back → replaced ≡ 0 → back ≡ []
+      back_none : (back : List Row) → chain_of s slot ≡ link.front ++ back → IsRowChain ws replaced back → replaced ≡ 0 → back ≡ []
       back_none [] split rest z = refl
       back_none (row ∷ back) split rest z =
           let w = room (home_chain slot h row (subst (λ rs. Contains rs row) (sym split) (Contains-append_right link.front (row ∷ back) row (Contains-first row back)))) in
           absurd (omega (arith, w.some, rest.0, z))
 
-      back_some : (old : (row : Row) × (replaced ≡ row.place) × Contains s.rows row × (has_key key row ≡ true)) → (back : List Row) → chain_of s slot ≡ link.front ++ back → IsChain ws replaced back → (row : Row) × (more : List Row) × (back ≡ row ∷ more) × (row.place ≡ replaced) × (row ≡ old.0)
+      back_some : (old : (row : Row) × (replaced ≡ row.place) × Contains s.rows row × (has_key key row ≡ true)) → (back : List Row) → chain_of s slot ≡ link.front ++ back → IsRowChain ws replaced back → (row : Row) × (more : List Row) × (back ≡ row ∷ more) × (row.place ≡ replaced) × (row ≡ old.0)
       back_some old [] split rest = let w = room (home_row old.0 h old.2) in absurd (omega (arith, w.some, old.1, rest))
       back_some old (row ∷ back) split rest =
           let c : Contains (chain_of s slot) row = subst (λ rs. Contains rs row) (sym split) (Contains-append_right link.front (row ∷ back) row (Contains-first row back)) in

@@ -10,9 +10,9 @@ use Rattle.apcu_model.specs.Walk.{is_in_slot, slot_of}
 use Rattle.entry_slots.specs.declared.slots.EntrySlots.{EntrySlots}
 use Rattle.entry_slots.specs.Lists.{is_at}
 use Rattle.entry_slots.specs.Entries.{Entries, chain_of}
-use Rattle.entry_slots.specs.Standing.{IsChain, Stands}
+use Rattle.entry_slots.specs.Standing.{IsRowChain, Stands}
 use Rattle.entry_slots.specs.Links.{link_after}
-use Rattle.seg_words.specs.Members.{Contains-first, Contains-later, count-cons, counted, Contains-filter}
+use Rattle.seg_words.specs.Members.{Contains-first, Contains-later, count-cons, counted_some, Contains-filter}
 use Rattle.entry_slots.proofs.Homes.{IsHome, room, home_removed}
 use Rattle.entry_slots.proofs.Chains.{home_chain}
 use Rattle.entry_slots.proofs.Frames.{chain_kept}
@@ -39,8 +39,8 @@ slots_apart {s = s} h one two other p q cp cq same =
       arith,
       rows_once h p.place,
       disjoint_count (is_at p.place) (is_in_slot s.conf one) (is_in_slot s.conf two) never s.rows,
-      counted (is_at p.place) (chain_of s one) p cp (at_itself p p.place refl),
-      counted (is_at p.place) (chain_of s two) q cq (at_itself q p.place same),
+      counted_some (is_at p.place) (chain_of s one) p cp (at_itself p p.place refl),
+      counted_some (is_at p.place) (chain_of s two) q cq (at_itself q p.place same),
     )
 
 after_cases : (first m : ℕ) (front : List Row) → m ≡ link_after first front → (m ≡ first) ⊎ ((q : Row) × Contains front q × (m ≡ q.place + 1))
@@ -73,31 +73,31 @@ module _ {e : EntrySlots} {ws : List ℕ} {aside : Aside} {s : Entries} (h : Sta
       not_word row (home_chain slot h row (in_back row c)) (λ q cq same. distinct_both front back q row distinct cq c (sym same))
 
   -- the chain with another back
-  pub rejoined : (back' : List Row) → IsChain ws v back' → ((row : Row) → Contains back' row → row.place + 1 ≢ m) → IsChain (slice_set ws m v) (slice_index (slice_set ws m v) slot) (front ++ back')
+  pub rejoined : (back' : List Row) → IsRowChain ws v back' → ((row : Row) → Contains back' row → row.place + 1 ≢ m) → IsRowChain (slice_set ws m v) (slice_index (slice_set ws m v) slot) (front ++ back')
   rejoined back' chain other =
       let w = spot_word m h cut_spot in
       let distinct : AreDistinct (front ++ back) = subst AreDistinct split (chain_distinct h slot) in
-      let kept : IsChain (slice_set ws m v) v back' = chain_kept ws (slice_set ws m v) v back' (λ row c. set_link h m v cut_spot row (other row c)) chain in
+      let kept : IsRowChain (slice_set ws m v) v back' = chain_kept ws (slice_set ws m v) v back' (λ row c. set_link h m v cut_spot row (other row c)) chain in
       let word : slice_index (slice_set ws m v) m ≡ v = get_or-set_same ws m v 0 w.inside in
-      relink ws (slice_set ws m v) slot m front back back' follows (subst (λ rs. IsChain ws (slice_index ws slot) rs) split (h.chains slot (omega (arith, h.from))))
-      (subst (λ n. IsChain (slice_set ws m v) n back') (sym word) kept)
+      relink ws (slice_set ws m v) slot m front back back' follows (subst (λ rs. IsRowChain ws (slice_index ws slot) rs) split (h.chains slot (omega (arith, h.from))))
+      (subst (λ n. IsRowChain (slice_set ws m v) n back') (sym word) kept)
       (λ o. get_or-set_other ws m slot v 0 o)
       (λ q c o. set_link h m v cut_spot q o)
       (λ q c o. let w = room (home_chain slot h q (in_front q c)) in omega (arith, w.low))
       (distinct_front front back distinct)
 
   -- the other chains
-  pub other_chain : (two : ℕ) → two < e.sma.from → two ≢ slot → IsChain (slice_set ws m v) (slice_index (slice_set ws m v) two) (chain_of s two)
+  pub other_chain : (two : ℕ) → two < e.sma.from → two ≢ slot → IsRowChain (slice_set ws m v) (slice_index (slice_set ws m v) two) (chain_of s two)
   other_chain two low other =
       let word : slice_index (slice_set ws m v) two ≡ slice_index ws two = get_or-set_other ws m two v 0 (elim (after_cases slot m front follows) [
         | inl here ↦ (λ q. other (q ∙ here))
         | inr q ↦ (let w = room (home_chain slot h q.0 (in_front q.0 q.1)) in (λ same. omega (arith, w.low, q.2)))
       ]) in
-      subst (λ n. IsChain (slice_set ws m v) n (chain_of s two)) (sym word)
+      subst (λ n. IsRowChain (slice_set ws m v) n (chain_of s two)) (sym word)
       (chain_kept ws (slice_set ws m v) (slice_index ws two) (chain_of s two) (λ row c. set_link h m v cut_spot row (not_word row (home_chain two h row c) (λ q cq. slots_apart h two slot other row q c (in_front q cq)))) (h.chains two (omega (arith, h.from))))
 
   -- and the removed rows
-  pub removed_kept : IsChain (slice_set ws m v) e.removed s.removed
+  pub removed_kept : IsRowChain (slice_set ws m v) e.removed s.removed
   removed_kept =
       chain_kept ws (slice_set ws m v) e.removed s.removed (λ row c. set_link h m v cut_spot row (not_word row (home_removed row h c) (λ q cq same.
       rows_removed h q row (Contains-filter (is_in_slot s.conf slot) s.rows q (in_front q cq)).0 c (sym same)))) h.removed_chain

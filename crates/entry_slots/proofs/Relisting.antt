@@ -15,10 +15,10 @@ use Rattle.apcu_model.specs.Walk.{is_in_slot}
 use Rattle.entry_slots.specs.declared.slots.EntrySlots.{EntrySlots}
 use Rattle.entry_slots.specs.Lists.{is_at, begins_at, has_place, only_at, without_place}
 use Rattle.entry_slots.specs.Entries.{Entries, chain_of, moved_at, off_at, given_at, freed_at}
-use Rattle.entry_slots.specs.Standing.{IsChain, IsEntry, Stands}
+use Rattle.entry_slots.specs.Standing.{IsRowChain, IsEntry, Stands}
 use Rattle.entry_slots.specs.Links.{IsRemovedLink}
 use Rattle.entry_slots.specs.Laws.{Laws}
-use Rattle.seg_words.specs.Members.{Contains-cases, Contains-first, Contains-later, any_there, any_from, count-append, count-cons, counted, none_in_nil, Contains-filter, Contains-kept}
+use Rattle.seg_words.specs.Members.{Contains-cases, Contains-first, Contains-later, any_there, any_from, count-append, count-cons, counted_some, none_in_nil, Contains-filter, Contains-kept}
 use Rattle.entry_slots.proofs.Homes.{IsHome, room, home_row, home_removed, home_unlinked}
 use Rattle.entry_slots.proofs.Frames.{entry_kept, chain_kept}
 use Rattle.entry_slots.proofs.Chains.{chain_first, small_first}
@@ -31,8 +31,8 @@ use Rattle.entry_slots.proofs.Removing.{removed_distinct, link_spot, in_front, i
 
 -- the removed and the unlinked rows are other lists of the same rows
 pub relisted : Laws → {e : EntrySlots} {ws : List ℕ} {aside : Aside} (s : Entries) (h : Stands e ws aside s) (ws' : List ℕ) → ChangesInner e.sma ws ws' aside → ((row : Row) → IsHome e ws aside row → IsEntry ws' row)
-    → ((slot : ℕ) → slot < s.conf.slots → IsChain ws' (slice_index ws' slot) (chain_of s slot))
-    → (first : ℕ) (removed unlinked : List Row) → IsChain ws' first removed → ((row : Row) → Contains removed row → IsHome e ws aside row) → ((row : Row) → Contains unlinked row → IsHome e ws aside row)
+    → ((slot : ℕ) → slot < s.conf.slots → IsRowChain ws' (slice_index ws' slot) (chain_of s slot))
+    → (first : ℕ) (removed unlinked : List Row) → IsRowChain ws' first removed → ((row : Row) → Contains removed row → IsHome e ws aside row) → ((row : Row) → Contains unlinked row → IsHome e ws aside row)
     → ((p : Row → Bool) → count_by p s.removed + count_by p s.unlinked ≡ count_by p removed + count_by p unlinked)
     → Stands (record e { removed = first }) ws' aside (record s { removed = removed; unlinked = unlinked })
 relisted law {e} {ws} {aside} s h ws' change entry chains first removed unlinked chain homes others same = record {
@@ -72,7 +72,7 @@ only_one p (z ∷ zs) x c y few = elim (Contains-cases z zs x c) [
   | inr later ↦
       let other : p z ≡ false = false_from_ne_true (p z) (λ q.
       let one : cond {A = ℕ} (p z) 1 0 ≡ 1 = ap (λ (b : Bool). cond {A = ℕ} b 1 0) q in
-      omega (arith, count-cons p z zs, few, counted p zs x later y)) in
+      omega (arith, count-cons p z zs, few, counted_some p zs x later y)) in
       rw other (only_one p zs x later y (omega (arith, count-cons p z zs, few)))
 ]
   where
@@ -113,7 +113,7 @@ module _ {e : EntrySlots} {ws : List ℕ} {aside : Aside} (s : Entries) (h : Sta
   end_back : (link : ℕ) (L : IsRemovedLink ws s.removed 0 link) → L.back ≡ []
   end_back link L = go L.back L.split L.rest
     where
-      go : (back : List Row) → s.removed ≡ L.front ++ back → IsChain ws 0 back → back ≡ []
+      go : (back : List Row) → s.removed ≡ L.front ++ back → IsRowChain ws 0 back → back ≡ []
       go [] split rest = refl
       go (row ∷ back) split rest = let w = room (home_removed row h (subst (λ rs. Contains rs row) (sym split) (Contains-append_right L.front (row ∷ back) row (Contains-first row back)))) in absurd (omega (arith, w.some, rest.0))
 
@@ -125,8 +125,8 @@ module _ {e : EntrySlots} {ws : List ℕ} {aside : Aside} (s : Entries) (h : Sta
       let one = only_unlinked q c place in
       let empty : s.removed ≡ [] = whole_front link L ∙ removed_by_head s h 0 link L none in
       let list : s.removed ++ only_at at s.unlinked ≡ q ∷ [] = ap₂ (λ (a b : List Row). a ++ b) empty one in
-      let chain : IsChain ws at (q ∷ []) = (sym place, ap (λ n. slice_index ws (n + 1)) place ∙ word) in
-      relisted law s h ws (no_change e ws aside) (λ row home. home.entry) h.chains at (s.removed ++ only_at at s.unlinked) (without_place at s.unlinked) (subst (λ rs. IsChain ws at rs) (sym list) chain) moved_removed moved_unlinked moved_same
+      let chain : IsRowChain ws at (q ∷ []) = (sym place, ap (λ n. slice_index ws (n + 1)) place ∙ word) in
+      relisted law s h ws (no_change e ws aside) (λ row home. home.entry) h.chains at (s.removed ++ only_at at s.unlinked) (without_place at s.unlinked) (subst (λ rs. IsRowChain ws at rs) (sym list) chain) moved_removed moved_unlinked moved_same
 
   pub moved_word : Laws → (q : Row) → Contains s.unlinked q → q.place ≡ at → slice_index ws (at + 1) ≡ 0 → (link : ℕ) → IsRemovedLink ws s.removed 0 link → link ≢ 0 → Stands e (slice_set ws link at) aside (moved at s)
   moved_word law q c place word link L some =
@@ -136,9 +136,9 @@ module _ {e : EntrySlots} {ws : List ℕ} {aside : Aside} (s : Entries) (h : Sta
       let own = link_spot s h 0 link L some in
       let kept : slice_index (slice_set ws link at) (q.place + 1) ≡ slice_index ws (q.place + 1) = set_link h link at spot q (λ same.
       removed_unlinked h own.0 q (in_front s h 0 link L own.0 own.1) c (omega (arith, own.2))) in
-      let chain : IsChain (slice_set ws link at) at (q ∷ []) = (sym place, kept ∙ (ap (λ n. slice_index ws (n + 1)) place ∙ word)) in
+      let chain : IsRowChain (slice_set ws link at) at (q ∷ []) = (sym place, kept ∙ (ap (λ n. slice_index ws (n + 1)) place ∙ word)) in
       relisted law s h (slice_set ws link at) (set_change h link at spot) (set_entry h link at spot law) (λ slot lt. chains_kept s h 0 link L some at slot (omega (arith, lt, h.from)))
-      e.removed (s.removed ++ only_at at s.unlinked) (without_place at s.unlinked) (subst (λ rs. IsChain (slice_set ws link at) e.removed rs) (sym list) (removed_by_word s h 0 link L some at (q ∷ []) chain)) moved_removed moved_unlinked moved_same
+      e.removed (s.removed ++ only_at at s.unlinked) (without_place at s.unlinked) (subst (λ rs. IsRowChain (slice_set ws link at) e.removed rs) (sym list) (removed_by_word s h 0 link L some at (q ∷ []) chain)) moved_removed moved_unlinked moved_same
 
   off_removed : (row : Row) → Contains (without_place at s.removed) row → IsHome e ws aside row
   off_removed row c = home_removed row h (Contains-filter (λ r. not (is_at at r)) s.removed row c).0
@@ -153,12 +153,12 @@ module _ {e : EntrySlots} {ws : List ℕ} {aside : Aside} (s : Entries) (h : Sta
   off_same p = omega (arith, count-append p (only_at at s.removed) s.unlinked, count_split p (is_at at) s.removed)
 
   -- the row and what follows it
-  pub off_back : at ≢ 0 → (link : ℕ) (L : IsRemovedLink ws s.removed at link) → (row : Row) × (more : List Row) × (L.back ≡ row ∷ more) × (row.place ≡ at) × IsChain ws (slice_index ws (at + 1)) more
+  pub off_back : at ≢ 0 → (link : ℕ) (L : IsRemovedLink ws s.removed at link) → (row : Row) × (more : List Row) × (L.back ≡ row ∷ more) × (row.place ≡ at) × IsRowChain ws (slice_index ws (at + 1)) more
   off_back some link L = go L.back L.rest
     where
-      go : (back : List Row) → IsChain ws at back → (row : Row) × (more : List Row) × (back ≡ row ∷ more) × (row.place ≡ at) × IsChain ws (slice_index ws (at + 1)) more
+      go : (back : List Row) → IsRowChain ws at back → (row : Row) × (more : List Row) × (back ≡ row ∷ more) × (row.place ≡ at) × IsRowChain ws (slice_index ws (at + 1)) more
       go [] rest = absurd (some rest)
-      go (row ∷ more) rest = (row, more, refl, sym rest.0, subst (λ n. IsChain ws (slice_index ws (n + 1)) more) (sym rest.0) rest.1)
+      go (row ∷ more) rest = (row, more, refl, sym rest.0, subst (λ n. IsRowChain ws (slice_index ws (n + 1)) more) (sym rest.0) rest.1)
 
   off_list : at ≢ 0 → (link : ℕ) (L : IsRemovedLink ws s.removed at link) (row : Row) (more : List Row) → L.back ≡ row ∷ more → row.place ≡ at → without_place at s.removed ≡ L.front ++ more
   off_list some link L row more eb place =
@@ -170,7 +170,7 @@ module _ {e : EntrySlots} {ws : List ℕ} {aside : Aside} (s : Entries) (h : Sta
       let b = off_back some link L in
       let list : without_place at s.removed ≡ b.1 = off_list some link L b.0 b.1 b.2 b.3 ∙ ap (λ rs. rs ++ b.1) (removed_by_head s h at link L none) in
       relisted law s h ws (no_change e ws aside) (λ row home. home.entry) h.chains next (without_place at s.removed) (only_at at s.removed ++ s.unlinked)
-      (subst (λ rs. IsChain ws next rs) (sym list) (subst (λ n. IsChain ws n b.1) (sym en) b.4)) off_removed off_unlinked off_same
+      (subst (λ rs. IsRowChain ws next rs) (sym list) (subst (λ n. IsRowChain ws n b.1) (sym en) b.4)) off_removed off_unlinked off_same
 
   pub off_word : Laws → at ≢ 0 → (link : ℕ) → IsRemovedLink ws s.removed at link → link ≢ 0 → (next : ℕ) → next ≡ slice_index ws (at + 1) → Stands e (slice_set ws link next) aside (off at s)
   off_word law some link L word next en =
@@ -180,10 +180,10 @@ module _ {e : EntrySlots} {ws : List ℕ} {aside : Aside} (s : Entries) (h : Sta
       let distinct : AreDistinct (L.front ++ b.0 ∷ b.1) = subst AreDistinct split (removed_distinct h) in
       let spot : Spot e ws aside link = link_home s h at link L word in
       let own = link_spot s h at link L word in
-      let chain : IsChain (slice_set ws link next) next b.1 = chain_kept ws (slice_set ws link next) next b.1 (λ row c. set_link h link next spot row (λ same.
-      distinct_both L.front (b.0 ∷ b.1) own.0 row distinct own.1 (Contains-later b.0 b.1 row c) (omega (arith, own.2)))) (subst (λ n. IsChain ws n b.1) (sym en) b.4) in
+      let chain : IsRowChain (slice_set ws link next) next b.1 = chain_kept ws (slice_set ws link next) next b.1 (λ row c. set_link h link next spot row (λ same.
+      distinct_both L.front (b.0 ∷ b.1) own.0 row distinct own.1 (Contains-later b.0 b.1 row c) (omega (arith, own.2)))) (subst (λ n. IsRowChain ws n b.1) (sym en) b.4) in
       relisted law s h (slice_set ws link next) (set_change h link next spot) (set_entry h link next spot law) (λ slot lt. chains_kept s h at link L word next slot (omega (arith, lt, h.from)))
-      e.removed (without_place at s.removed) (only_at at s.removed ++ s.unlinked) (subst (λ rs. IsChain (slice_set ws link next) e.removed rs) (sym list) (removed_by_word s h at link L word next b.1 chain)) off_removed off_unlinked off_same
+      e.removed (without_place at s.removed) (only_at at s.removed ++ s.unlinked) (subst (λ rs. IsRowChain (slice_set ws link next) e.removed rs) (sym list) (removed_by_word s h at link L word next b.1 chain)) off_removed off_unlinked off_same
 
 -- ---- a block is given back
 
@@ -201,7 +201,7 @@ given_stands law {e} {ws} {aside} s h at q there place sma' ws' live same ef et 
     record {
       chains = λ slot lt.
           let chain = chain_kept ws ws' (slice_index ws slot) (chain_of s slot) (λ row c. let in' = (Contains-filter (is_in_slot s.conf slot) s.rows row c).0 in link row (home_row row h in') (not_row row in')) (h.chains slot lt) in
-          subst (λ a. IsChain ws' a (chain_of s slot)) (sym (same.before slot (omega (arith, h.from)))) chain;
+          subst (λ a. IsRowChain ws' a (chain_of s slot)) (sym (same.before slot (omega (arith, h.from)))) chain;
       removed_chain = chain_kept ws ws' e.removed s.removed (λ row c. link row (home_removed row h c) (not_removed row c)) h.removed_chain;
       rows = λ row c. entry row (home_row row h c) (not_row row c);
       removed = λ row c. entry row (home_removed row h c) (not_removed row c);

@@ -11,7 +11,7 @@ use Rattle.apcu_model.specs.Walk.{is_in_slot}
 use Rattle.entry_slots.specs.declared.slots.EntrySlots.{EntrySlots}
 use Rattle.entry_slots.specs.Lists.{is_at, has_place}
 use Rattle.entry_slots.specs.Entries.{Entries, chain_of}
-use Rattle.entry_slots.specs.Standing.{IsChain, Stands}
+use Rattle.entry_slots.specs.Standing.{IsRowChain, Stands}
 use Rattle.entry_slots.specs.Links.{link_after, IsRemovedLink}
 use Rattle.seg_words.specs.Members.{Contains-first, Contains-later, Contains-filter}
 use Rattle.entry_slots.proofs.Homes.{room, home_removed}
@@ -39,19 +39,19 @@ pub record Path (ws : List ℕ) (removed : List Row) (target link named passed :
   pub many : length front ≡ passed
   pub none : has_place target front ≡ false
   pub follows : Follows front link
-  pub rest : IsChain ws named back
+  pub rest : IsRowChain ws named back
 
 pub path_start : {e : EntrySlots} {ws : List ℕ} {aside : Aside} (s : Entries) (target : ℕ) → Stands e ws aside s → Path ws s.removed target 0 e.removed 0
 path_start s target h = record { front = []; back = s.removed; split = refl; many = refl; none = refl; follows = inl (refl, refl); rest = h.removed_chain }
 
 pub path_found : {ws : List ℕ} {removed : List Row} {target link named passed : ℕ} → Path ws removed target link named passed → named ≡ target → IsRemovedLink ws removed target link
-path_found {ws} {removed} {target} {link} {named} {passed} h e = record { front = h.front; back = h.back; split = h.split; follows = h.follows; rest = subst (λ n. IsChain ws n h.back) e h.rest }
+path_found {ws} {removed} {target} {link} {named} {passed} h e = record { front = h.front; back = h.back; split = h.split; follows = h.follows; rest = subst (λ n. IsRowChain ws n h.back) e h.rest }
 
 -- the list ends here
 pub path_end : {e : EntrySlots} {ws : List ℕ} {aside : Aside} {removed : List Row} {target link named passed : ℕ} → Path ws removed target link named passed → named ≡ 0 → AreHome e ws aside removed → has_place target removed ≡ false
 path_end {e} {ws} {aside} {removed} {target} {link} {named} {passed} h none homes = go h.back h.split h.rest
   where
-    go : (back : List Row) → removed ≡ h.front ++ back → IsChain ws named back → has_place target removed ≡ false
+    go : (back : List Row) → removed ≡ h.front ++ back → IsRowChain ws named back → has_place target removed ≡ false
     go [] split rest = ap (has_place target) (split ∙ append-nil h.front) ∙ h.none
     go (row ∷ back) split rest = let w = room (homes row (subst (λ rs. Contains rs row) (sym split) (Contains-append_right h.front (row ∷ back) row (Contains-first row back)))) in absurd (omega (arith, w.some, rest.0, none))
 
@@ -61,12 +61,12 @@ pub record Stop (ws : List ℕ) (removed : List Row) (target named passed : ℕ)
   pub back : List Row
   pub split : removed ≡ front ++ row ∷ back
   pub place : named ≡ row.place
-  pub rest : IsChain ws (slice_index ws (row.place + 1)) back
+  pub rest : IsRowChain ws (slice_index ws (row.place + 1)) back
 
 pub path_stop : {ws : List ℕ} {removed : List Row} {target link named passed : ℕ} (h : Path ws removed target link named passed) → named ≢ 0 → Stop ws removed target named passed h.front
 path_stop {ws} {removed} {target} {link} {named} {passed} h some = go h.back h.split h.rest
   where
-    go : (back : List Row) → removed ≡ h.front ++ back → IsChain ws named back → Stop ws removed target named passed h.front
+    go : (back : List Row) → removed ≡ h.front ++ back → IsRowChain ws named back → Stop ws removed target named passed h.front
     go [] split rest = absurd (some rest)
     go (row ∷ back) split rest = record { row = row; back = back; split = split; place = rest.0; rest = rest.1 }
 
@@ -93,7 +93,7 @@ path_next {ws} {removed} {target} {link} {named} {passed} h other some next en =
       many = omega (arith, length-append h.front (stop.row ∷ []), h.many);
       none = list_any-append (is_at target) h.front (stop.row ∷ []) ∙ or_from (has_place target h.front) (has_place target (stop.row ∷ [])) h.none (or_from (is_at target stop.row) false at refl);
       follows = subst (λ n. Follows (h.front ++ stop.row ∷ []) n) (sym word) (follows_next h.front link stop.row h.follows);
-      rest = subst (λ n. IsChain ws n stop.back) (ap (λ n. slice_index ws n) (sym word) ∙ sym en) stop.rest;
+      rest = subst (λ n. IsRowChain ws n stop.back) (ap (λ n. slice_index ws n) (sym word) ∙ sym en) stop.rest;
     }
 
 -- as far as that no walk comes
@@ -124,7 +124,7 @@ module _ {e : EntrySlots} {ws : List ℕ} {aside : Aside} (s : Entries) (h : Sta
   link_home some = let q = link_spot some in inr (q.0, home_removed q.0 h (in_front q.0 q.1), q.2)
 
   -- the list with another back, by a word
-  pub removed_by_word : link ≢ 0 → (v : ℕ) (back' : List Row) → IsChain (slice_set ws link v) v back' → IsChain (slice_set ws link v) e.removed (L.front ++ back')
+  pub removed_by_word : link ≢ 0 → (v : ℕ) (back' : List Row) → IsRowChain (slice_set ws link v) v back' → IsRowChain (slice_set ws link v) e.removed (L.front ++ back')
   removed_by_word some v back' chain = elim L.follows [
     | inl none ↦ absurd (some none.1)
     | inr more ↦
@@ -133,16 +133,16 @@ module _ {e : EntrySlots} {ws : List ℕ} {aside : Aside} (s : Entries) (h : Sta
         let ws' : List ℕ = slice_set ws link v in
         let w = spot_word link h (link_home some) in
         let whole : s.removed ≡ first ∷ (rows ++ L.back) = L.split ∙ ap (λ rs. rs ++ L.back) more.2 in
-        let old : IsChain ws e.removed (first ∷ (rows ++ L.back)) = subst (λ rs. IsChain ws e.removed rs) whole h.removed_chain in
+        let old : IsRowChain ws e.removed (first ∷ (rows ++ L.back)) = subst (λ rs. IsRowChain ws e.removed rs) whole h.removed_chain in
         let distinct : AreDistinct (first ∷ (rows ++ L.back)) = subst AreDistinct whole (removed_distinct h) in
         let word : slice_index ws' link ≡ v = get_or-set_same ws link v 0 w.inside in
-        let tail : IsChain ws' (slice_index ws' (first.place + 1)) (rows ++ back') =
-        relink ws ws' (first.place + 1) link rows L.back back' more.3 old.1 (subst (λ n. IsChain ws' n back') (sym word) chain)
+        let tail : IsRowChain ws' (slice_index ws' (first.place + 1)) (rows ++ back') =
+        relink ws ws' (first.place + 1) link rows L.back back' more.3 old.1 (subst (λ n. IsRowChain ws' n back') (sym word) chain)
         (λ o. get_or-set_other ws link (first.place + 1) v 0 o)
         (λ q c o. set_link h link v (link_home some) q o)
         (λ q c same. distinct.0 q (Contains-append_left rows L.back q c) (omega arith))
         (distinct_front rows L.back distinct.1) in
-        subst (λ rs. IsChain ws' e.removed (rs ++ back')) (sym more.2) (old.0, tail))
+        subst (λ rs. IsRowChain ws' e.removed (rs ++ back')) (sym more.2) (old.0, tail))
   ]
 
   -- by what begins it
@@ -158,12 +158,12 @@ module _ {e : EntrySlots} {ws : List ℕ} {aside : Aside} (s : Entries) (h : Sta
       last first m (row ∷ rows) p e = last (row.place + 1) m rows (inl (omega arith)) e
 
   -- the other chains
-  pub chains_kept : link ≢ 0 → (v slot : ℕ) → slot < e.sma.from → IsChain (slice_set ws link v) (slice_index (slice_set ws link v) slot) (chain_of s slot)
+  pub chains_kept : link ≢ 0 → (v slot : ℕ) → slot < e.sma.from → IsRowChain (slice_set ws link v) (slice_index (slice_set ws link v) slot) (chain_of s slot)
   chains_kept some v slot lt =
       let q = link_spot some in
       let place : Contains s.removed q.0 = in_front q.0 q.1 in
       let word : slice_index (slice_set ws link v) slot ≡ slice_index ws slot = get_or-set_other ws link slot v 0 (let w = room (home_removed q.0 h place) in λ same. omega (arith, w.low, q.2)) in
-      subst (λ n. IsChain (slice_set ws link v) n (chain_of s slot)) (sym word)
+      subst (λ n. IsRowChain (slice_set ws link v) n (chain_of s slot)) (sym word)
       (chain_kept ws (slice_set ws link v) (slice_index ws slot) (chain_of s slot) (λ row c. set_link h link v (link_home some) row (λ same.
       rows_removed h row q.0 (Contains-filter (is_in_slot s.conf slot) s.rows row c).0 place (omega (arith, q.2)))) (h.chains slot (omega (arith, h.from))))
 
@@ -173,6 +173,6 @@ stop_small {e} {ws} {aside} {removed} {target} {named} {passed} {front} h homes 
     let word : slice_index ws (named + 1) ≡ slice_index ws (h.row.place + 1) = ap (λ n. slice_index ws (n + 1)) h.place in
     omega (arith, word, go h.back h.split h.rest)
   where
-    go : (back : List Row) → removed ≡ front ++ h.row ∷ back → IsChain ws (slice_index ws (h.row.place + 1)) back → slice_index ws (h.row.place + 1) < 2 ^ 32
+    go : (back : List Row) → removed ≡ front ++ h.row ∷ back → IsRowChain ws (slice_index ws (h.row.place + 1)) back → slice_index ws (h.row.place + 1) < 2 ^ 32
     go [] split rest = omega (arith, rest)
     go (row ∷ back) split rest = let w = room (homes row (subst (λ rs. Contains rs row) (sym split) (Contains-append_right front (h.row ∷ row ∷ back) row (Contains-later h.row (row ∷ back) row (Contains-first row back))))) in omega (arith, rest.0, w.high, w.short, w.enough)

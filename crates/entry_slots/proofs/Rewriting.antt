@@ -10,7 +10,7 @@ use Rattle.apcu_model.specs.Cache.{Row, extent_of}
 use Rattle.apcu_model.specs.Walk.{is_in_slot, slot_of}
 use Rattle.entry_slots.specs.declared.slots.EntrySlots.{EntrySlots}
 use Rattle.entry_slots.specs.Entries.{Entries, chain_of}
-use Rattle.entry_slots.specs.Standing.{IsChain, IsEntry, Stands}
+use Rattle.entry_slots.specs.Standing.{IsRowChain, IsEntry, Stands}
 use Rattle.entry_slots.specs.Laws.{Laws}
 use Rattle.seg_words.specs.Members.{Contains-cases, Contains-first, Contains-later, none_in_nil, Contains-filter}
 use Rattle.entry_slots.proofs.Homes.{IsHome, room, home_row, home_removed, home_unlinked}
@@ -30,10 +30,10 @@ map_there f (row ∷ rows) x c = elim (Contains-cases (f row) (map f rows) x c) 
   | inr later ↦ let r = map_there f rows x later in (r.0, Contains-later row rows r.0 r.1, r.2)
 ]
 
-chain_map : (ws : List ℕ) (f : Row → Row) → Keeps f → (first : ℕ) (rows : List Row) → IsChain ws first rows → IsChain ws first (map f rows)
+chain_map : (ws : List ℕ) (f : Row → Row) → Keeps f → (first : ℕ) (rows : List Row) → IsRowChain ws first rows → IsRowChain ws first (map f rows)
 chain_map ws f keeps first [] h = h
 chain_map ws f keeps first (row ∷ rows) h =
-    (h.0 ∙ sym (keeps.place row), subst (λ p. IsChain ws (slice_index ws (p + 1)) (map f rows)) (sym (keeps.place row)) (chain_map ws f keeps (slice_index ws (row.place + 1)) rows h.1))
+    (h.0 ∙ sym (keeps.place row), subst (λ p. IsRowChain ws (slice_index ws (p + 1)) (map f rows)) (sym (keeps.place row)) (chain_map ws f keeps (slice_index ws (row.place + 1)) rows h.1))
 
 slot_map : (s : Entries) (slot : ℕ) (f : Row → Row) → Keeps f → (rows : List Row) → filter (is_in_slot s.conf slot) (map f rows) ≡ map f (filter (is_in_slot s.conf slot) rows)
 slot_map s slot f keeps [] = refl
@@ -86,7 +86,7 @@ module _ {e : EntrySlots} {ws : List ℕ} {aside : Aside} {s : Entries} (h : Sta
     named = λ x named. let both = named_same e.sma ws aside (extent_of own) home_own.ready home_own.live ws' only x named in both;
   }
 
-  rewritten_chain : (first : ℕ) (rows : List Row) → ((row : Row) → Contains rows row → IsHome e ws aside row) → IsChain ws first rows → IsChain ws' first rows
+  rewritten_chain : (first : ℕ) (rows : List Row) → ((row : Row) → Contains rows row → IsHome e ws aside row) → IsRowChain ws first rows → IsRowChain ws' first rows
   rewritten_chain first rows homes chain = chain_kept ws ws' first rows (λ row c. links_kept row (homes row c)) chain
 
   -- the entries after the change, where f says what became of each row
@@ -97,10 +97,10 @@ module _ {e : EntrySlots} {ws : List ℕ} {aside : Aside} {s : Entries} (h : Sta
       let home : (row : Row) → Contains s.rows row → IsHome e ws aside row = λ row c. home_row row h c in
       record {
         chains = λ slot lt.
-            let chain : IsChain ws (slice_index ws slot) (chain_of s slot) = h.chains slot lt in
-            let kept : IsChain ws' (slice_index ws slot) (chain_of s slot) = rewritten_chain (slice_index ws slot) (chain_of s slot) (λ row c. home row (Contains-filter (is_in_slot s.conf slot) s.rows row c).0) chain in
+            let chain : IsRowChain ws (slice_index ws slot) (chain_of s slot) = h.chains slot lt in
+            let kept : IsRowChain ws' (slice_index ws slot) (chain_of s slot) = rewritten_chain (slice_index ws slot) (chain_of s slot) (λ row c. home row (Contains-filter (is_in_slot s.conf slot) s.rows row c).0) chain in
             let word : slice_index ws' slot ≡ slice_index ws slot = only.same slot (inl (let w = room home_own in omega (arith, w.low, h.from, lt))) in
-            subst (λ rs. IsChain ws' (slice_index ws' slot) rs) (sym (slot_map s slot f keeps s.rows)) (subst (λ a. IsChain ws' a (map f (chain_of s slot))) (sym word) (chain_map ws' f keeps (slice_index ws slot) (chain_of s slot) kept));
+            subst (λ rs. IsRowChain ws' (slice_index ws' slot) rs) (sym (slot_map s slot f keeps s.rows)) (subst (λ a. IsRowChain ws' a (map f (chain_of s slot))) (sym word) (chain_map ws' f keeps (slice_index ws slot) (chain_of s slot) kept));
         removed_chain = rewritten_chain e.removed s.removed (λ row c. home_removed row h c) h.removed_chain;
         rows = λ x c.
             let r = map_there f s.rows x c in

@@ -14,7 +14,7 @@ use Rattle.entry_slots.specs.declared.slots.EntrySlots.{EntrySlots}
 use Rattle.entry_slots.specs.declared.spots.Spot.{Spot}
 use Rattle.entry_slots.specs.Lists.{is_at, has_place, first_place}
 use Rattle.entry_slots.specs.Entries.{Entries, chain_of, listed, IsListed, found_place, old_place}
-use Rattle.entry_slots.specs.Standing.{IsChain, Stands}
+use Rattle.entry_slots.specs.Standing.{IsRowChain, Stands}
 use Rattle.entry_slots.specs.Links.{link_after, IsLinkTo}
 use Rattle.entry_slots.specs.Spots.{IsSpot, IsSpotOf}
 use Rattle.seg_words.specs.Members.{Contains-first, Contains-filter, any_from}
@@ -36,7 +36,7 @@ pub record Path (ws : List ℕ) (s : Entries) (slot : ℕ) (key : List ℕ) (t a
   pub none : list_any (has_key key) front ≡ false
   pub stale_is : stale ≡ list_any (is_expired s.conf t) front
   pub link_is : link ≡ link_after slot front
-  pub rest : IsChain ws at back
+  pub rest : IsRowChain ws at back
 
 -- the row at which the walk stands
 pub record Step (ws : List ℕ) (s : Entries) (slot : ℕ) (key : List ℕ) (t at link passed : ℕ) (stale : Bool) : Type 0 where
@@ -49,7 +49,7 @@ pub record Step (ws : List ℕ) (s : Entries) (slot : ℕ) (key : List ℕ) (t a
   pub stale_is : stale ≡ list_any (is_expired s.conf t) front
   pub link_is : link ≡ link_after slot front
   pub place : at ≡ row.place
-  pub rest : IsChain ws (slice_index ws (row.place + 1)) back
+  pub rest : IsRowChain ws (slice_index ws (row.place + 1)) back
 
 pub path_start : {e : EntrySlots} {ws : List ℕ} {aside : Aside} (s : Entries) (slot : ℕ) (key : List ℕ) (t at : ℕ) → Stands e ws aside s → slot < s.conf.slots → at ≡ first_place (chain_of s slot) → Path ws s slot key t at slot 0 false
 path_start {ws = ws} s slot key t at h lt first =
@@ -62,13 +62,13 @@ path_start {ws = ws} s slot key t at h lt first =
       none = refl;
       stale_is = refl;
       link_is = refl;
-      rest = subst (λ a. IsChain ws a (chain_of s slot)) (chain_first ws (slice_index ws slot) (chain_of s slot) chain ∙ sym first) chain;
+      rest = subst (λ a. IsRowChain ws a (chain_of s slot)) (chain_first ws (slice_index ws slot) (chain_of s slot) chain ∙ sym first) chain;
     }
 
 pub path_step : {ws : List ℕ} {s : Entries} {slot : ℕ} {key : List ℕ} {t at link passed : ℕ} {stale : Bool} → Path ws s slot key t at link passed stale → at ≢ 0 → Step ws s slot key t at link passed stale
 path_step {ws} {s} {slot} {key} {t} {at} {link} {passed} {stale} h some = go h.back h.split h.rest
   where
-    go : (back : List Row) → chain_of s slot ≡ h.front ++ back → IsChain ws at back → Step ws s slot key t at link passed stale
+    go : (back : List Row) → chain_of s slot ≡ h.front ++ back → IsRowChain ws at back → Step ws s slot key t at link passed stale
     go [] split rest = absurd (some rest)
     go (row ∷ back) split rest = record { front = h.front; row = row; back = back; split = split; many = h.many; none = h.none; stale_is = h.stale_is; link_is = h.link_is; place = rest.0; rest = rest.1 }
 
@@ -93,7 +93,7 @@ path_next {ws} {s} {slot} {key} {t} {at} {link} {passed} {stale} next over h oth
   none = any_push (has_key key) h.front h.row ∙ or_from (list_any (has_key key) h.front) (has_key key h.row) h.none (sym other);
   stale_is = ap (λ b. b || over) h.stale_is ∙ (ap (λ b. list_any (is_expired s.conf t) h.front || b) is ∙ sym (any_push (is_expired s.conf t) h.front h.row));
   link_is = ap (λ (n : ℕ). n + 1) h.place ∙ sym (link_push slot h.front h.row);
-  rest = subst (λ a. IsChain ws a h.back) (ap (λ n. slice_index ws (n + 1)) (sym h.place) ∙ sym e) h.rest;
+  rest = subst (λ a. IsRowChain ws a h.back) (ap (λ n. slice_index ws (n + 1)) (sym h.place) ∙ sym e) h.rest;
 }
 
 -- the row where the walk stands is in the chain
@@ -138,7 +138,7 @@ spot_last {ws} {s} {slot} {key} {t} {at} {link} {passed} {last} {stale} h lt is 
     }
 
 -- nothing follows where the walk has come to 0, or has passed as many rows as there are
-nothing_at : (ws : List ℕ) (at : ℕ) (front back chain : List Row) → chain ≡ front ++ back → IsChain ws at back → at ≡ 0 → ((row : Row) → Contains chain row → row.place ≢ 0) → back ≡ []
+nothing_at : (ws : List ℕ) (at : ℕ) (front back chain : List Row) → chain ≡ front ++ back → IsRowChain ws at back → at ≡ 0 → ((row : Row) → Contains chain row → row.place ≢ 0) → back ≡ []
 nothing_at ws at front [] chain split rest none places = refl
 nothing_at ws at front (row ∷ back) chain split rest none places =
     absurd (places row (subst (λ c. Contains c row) (sym split) (Contains-append_right front (row ∷ back) row (Contains-first row back))) (sym rest.0 ∙ none))
@@ -162,7 +162,7 @@ pub record Rest (ws : List ℕ) (s : Entries) (slot t at passed : ℕ) : Type 0 
   pub split : chain_of s slot ≡ front ++ back
   pub many : passed ≤ length front
   pub none : list_any (is_expired s.conf t) front ≡ false
-  pub rest : IsChain ws at back
+  pub rest : IsRowChain ws at back
 
 pub record RestAt (ws : List ℕ) (s : Entries) (slot t at passed : ℕ) : Type 0 where
   pub front : List Row
@@ -172,13 +172,13 @@ pub record RestAt (ws : List ℕ) (s : Entries) (slot t at passed : ℕ) : Type 
   pub many : passed ≤ length front
   pub none : list_any (is_expired s.conf t) front ≡ false
   pub place : at ≡ row.place
-  pub rest : IsChain ws (slice_index ws (row.place + 1)) back
+  pub rest : IsRowChain ws (slice_index ws (row.place + 1)) back
 
 -- the word of a spot names its row
 pub spot_link : {e : EntrySlots} {ws : List ℕ} {aside : Aside} {s : Entries} {t : ℕ} (spot : Spot) → Stands e ws aside s → IsSpot s t spot → IsLinkTo ws spot.slot (chain_of s spot.slot) spot.at spot.link
 spot_link {e} {ws} {aside} {s} {t} spot h p =
-    let chain : IsChain ws (slice_index ws spot.slot) (p.front ++ p.back) = subst (λ (l : List Row). IsChain ws (slice_index ws spot.slot) l) p.split (h.chains spot.slot p.low) in
-    let rest : IsChain ws (slice_index ws (link_after spot.slot p.front)) p.back = chain_rest ws spot.slot p.front p.back chain in
+    let chain : IsRowChain ws (slice_index ws spot.slot) (p.front ++ p.back) = subst (λ (l : List Row). IsRowChain ws (slice_index ws spot.slot) l) p.split (h.chains spot.slot p.low) in
+    let rest : IsRowChain ws (slice_index ws (link_after spot.slot p.front)) p.back = chain_rest ws spot.slot p.front p.back chain in
     let first : slice_index ws (link_after spot.slot p.front) ≡ spot.at = chain_first ws (slice_index ws (link_after spot.slot p.front)) p.back rest ∙ sym p.at_is in
     record {
       front = p.front;
@@ -186,7 +186,7 @@ spot_link {e} {ws} {aside} {s} {t} spot h p =
       split = p.split;
       follows = p.link_is;
       word = ap (λ (n : ℕ). slice_index ws n) p.link_is ∙ first;
-      rest = subst (λ (n : ℕ). IsChain ws n p.back) first rest;
+      rest = subst (λ (n : ℕ). IsRowChain ws n p.back) first rest;
     }
 
 -- the row of a spot is in the chain
@@ -207,7 +207,7 @@ rest_start {s = s} {t = t} spot h p fresh =
 pub rest_at : {ws : List ℕ} {s : Entries} {slot t at passed : ℕ} → Rest ws s slot t at passed → at ≢ 0 → RestAt ws s slot t at passed
 rest_at {ws} {s} {slot} {t} {at} {passed} h some = go h.back h.split h.rest
   where
-    go : (back : List Row) → chain_of s slot ≡ h.front ++ back → IsChain ws at back → RestAt ws s slot t at passed
+    go : (back : List Row) → chain_of s slot ≡ h.front ++ back → IsRowChain ws at back → RestAt ws s slot t at passed
     go [] split rest = absurd (some rest)
     go (row ∷ back) split rest = record { front = h.front; row = row; back = back; split = split; many = h.many; none = h.none; place = rest.0; rest = rest.1 }
 
@@ -218,7 +218,7 @@ rest_next {ws} {s} {slot} {t} {at} {passed} next h fresh e = record {
   split = h.split ∙ sym (append_assoc h.front (h.row ∷ []) h.back);
   many = omega (arith, length-append h.front (h.row ∷ []), h.many);
   none = any_push (is_expired s.conf t) h.front h.row ∙ or_from (list_any (is_expired s.conf t) h.front) (is_expired s.conf t h.row) h.none (sym fresh);
-  rest = subst (λ a. IsChain ws a h.back) (ap (λ n. slice_index ws (n + 1)) (sym h.place) ∙ sym e) h.rest;
+  rest = subst (λ a. IsRowChain ws a h.back) (ap (λ n. slice_index ws (n + 1)) (sym h.place) ∙ sym e) h.rest;
 }
 
 pub rest_listed : {ws : List ℕ} {s : Entries} {slot t at passed : ℕ} (h : RestAt ws s slot t at passed) → IsListed s at h.row

@@ -13,7 +13,7 @@ use Rattle.apcu_model.specs.Cache.{Row, extent_of}
 use Rattle.apcu_model.specs.Walk.{is_in_slot}
 use Rattle.entry_slots.specs.declared.slots.EntrySlots.{EntrySlots}
 use Rattle.entry_slots.specs.Entries.{Entries, chain_of, blocks_of, with_taken}
-use Rattle.entry_slots.specs.Standing.{Stands, IsChain, IsEntry}
+use Rattle.entry_slots.specs.Standing.{Stands, IsRowChain, IsEntry}
 use Rattle.entry_slots.specs.Laws.{Laws}
 use Rattle.seg_words.specs.Members.{Contains-cases, Contains-filter, count-cons}
 use Rattle.entry_slots.proofs.Blocks.{live_bounds}
@@ -57,7 +57,7 @@ taken_stands law {e} {ws} {aside} s at n sma' ws' h some fit live same ef et rea
     record {
       chains = λ slot lt.
           let chain = chain_kept ws ws' (slice_index ws slot) (chain_of s slot) (λ row c. link row (home_row row h (Contains-filter (is_in_slot s.conf slot) s.rows row c).0)) (h.chains slot lt) in
-          subst (λ a. IsChain ws' a (chain_of s slot)) (sym (same.before slot (omega (arith, h.from)))) chain;
+          subst (λ a. IsRowChain ws' a (chain_of s slot)) (sym (same.before slot (omega (arith, h.from)))) chain;
       removed_chain = chain_kept ws ws' e.removed s.removed (λ row c. link row (home_removed row h c)) h.removed_chain;
       rows = λ row c. kept row (home_row row h c);
       removed = λ row c. kept row (home_removed row h c);

@@ -11,10 +11,10 @@ use Rattle.apcu_model.specs.Walk.{is_in_slot, slot_of}
 use Rattle.entry_slots.specs.declared.slots.EntrySlots.{EntrySlots}
 use Rattle.entry_slots.specs.Lists.{is_at, has_place, only_at, without_place}
 use Rattle.entry_slots.specs.Entries.{Entries, chain_of, blocks_of, unlinked_at}
-use Rattle.entry_slots.specs.Standing.{IsChain, Stands}
+use Rattle.entry_slots.specs.Standing.{IsRowChain, Stands}
 use Rattle.entry_slots.specs.Links.{IsLinkTo}
 use Rattle.entry_slots.specs.Laws.{Laws}
-use Rattle.seg_words.specs.Members.{Contains-first, Contains-later, any_there, any_from, count-cons, count-append, counted, Contains-filter, Contains-kept}
+use Rattle.seg_words.specs.Members.{Contains-first, Contains-later, any_there, any_from, count-cons, count-append, counted_some, Contains-filter, Contains-kept}
 use Rattle.entry_slots.proofs.Homes.{room, home_row, home_removed, home_unlinked}
 use Rattle.entry_slots.proofs.Chains.{home_chain}
 use Rattle.entry_slots.proofs.Places.{at_itself, count_blocks}
@@ -55,7 +55,7 @@ without_middle at front row more distinct e =
 pub link_back : {e : EntrySlots} {ws : List ℕ} {aside : Aside} (s : Entries) (h : Stands e ws aside s) (slot at m : ℕ) → at ≢ 0 → (link : IsLinkTo ws slot (chain_of s slot) at m) → (row : Row) × (more : List Row) × (link.back ≡ row ∷ more) × (row.place ≡ at)
 link_back {e} {ws} s h slot at m some link = go link.back link.rest
   where
-    go : (back : List Row) → IsChain ws at back → (row : Row) × (more : List Row) × (back ≡ row ∷ more) × (row.place ≡ at)
+    go : (back : List Row) → IsRowChain ws at back → (row : Row) × (more : List Row) × (back ≡ row ∷ more) × (row.place ≡ at)
     go [] rest = absurd (some rest)
     go (row ∷ more) rest = (row, more, refl, sym rest.0)
 
@@ -69,8 +69,8 @@ unlink_stands law {e} {ws} {aside} s h at slot m next lt there link en count ec 
     let row : Row = back.0 in
     let more : List Row = back.1 in
     let split : chain_of s slot ≡ link.front ++ row ∷ more = link.split ∙ ap (λ rs. link.front ++ rs) back.2 in
-    let rest : IsChain ws at (row ∷ more) = subst (λ rs. IsChain ws at rs) back.2 link.rest in
-    let tail : IsChain ws next more = subst (λ n. IsChain ws n more) (ap (λ n. slice_index ws (n + 1)) back.3 ∙ sym en) rest.1 in
+    let rest : IsRowChain ws at (row ∷ more) = subst (λ rs. IsRowChain ws at rs) back.2 link.rest in
+    let tail : IsRowChain ws next more = subst (λ n. IsRowChain ws n more) (ap (λ n. slice_index ws (n + 1)) back.3 ∙ sym en) rest.1 in
     let spot : Spot e ws aside m = cut_spot h slot lt m next link.front (row ∷ more) split link.follows in
     let distinct : AreDistinct (link.front ++ row ∷ more) = subst AreDistinct split (chain_distinct h slot) in
     let in_rows : Contains s.rows own.0 = (Contains-filter (is_in_slot s.conf slot) s.rows own.0 own.1).0 in
@@ -79,11 +79,11 @@ unlink_stands law {e} {ws} {aside} s h at slot m next lt there link en count ec 
         | inl same ↦
             let chain = rejoined h slot lt m next link.front (row ∷ more) split link.follows more tail (λ q c. back_other h slot lt m next link.front (row ∷ more) split link.follows q (Contains-later row more q c)) in
             let is : filter (is_in_slot s.conf slot) (without_place at s.rows) ≡ link.front ++ more = filter_swap (is_in_slot s.conf slot) (λ r. not (is_at at r)) s.rows ∙ (ap (without_place at) split ∙ without_middle at link.front row more distinct back.3) in
-            subst (λ n. IsChain (slice_set ws m next) (slice_index (slice_set ws m next) n) (filter (is_in_slot s.conf n) (without_place at s.rows))) (sym same)
-            (subst (λ rs. IsChain (slice_set ws m next) (slice_index (slice_set ws m next) slot) rs) (sym is) chain)
+            subst (λ n. IsRowChain (slice_set ws m next) (slice_index (slice_set ws m next) n) (filter (is_in_slot s.conf n) (without_place at s.rows))) (sym same)
+            (subst (λ rs. IsRowChain (slice_set ws m next) (slice_index (slice_set ws m next) slot) rs) (sym is) chain)
         | inr other ↦
             let is : filter (is_in_slot s.conf two) (without_place at s.rows) ≡ chain_of s two = filter_swap (is_in_slot s.conf two) (λ r. not (is_at at r)) s.rows ∙ without_none at (chain_of s two) (λ q c same. slots_apart h slot two (λ k. other (sym k)) own.0 q own.1 c (same ∙ sym place)) in
-            subst (λ rs. IsChain (slice_set ws m next) (slice_index (slice_set ws m next) two) rs) (sym is) (other_chain h slot lt m next link.front (row ∷ more) split link.follows two (omega (arith, h.from)) other)
+            subst (λ rs. IsRowChain (slice_set ws m next) (slice_index (slice_set ws m next) two) rs) (sym is) (other_chain h slot lt m next link.front (row ∷ more) split link.follows two (omega (arith, h.from)) other)
       ];
       removed_chain = removed_kept h slot lt m next link.front (row ∷ more) split link.follows;
       rows = λ x c. set_entry h m next spot law x (home_row x h (Contains-filter (λ r. not (is_at at r)) s.rows x c).0);
@@ -122,7 +122,7 @@ unlink_stands law {e} {ws} {aside} s h at slot m next lt there link en count ec 
           all_counted s.rows,
           length-filter (is_at at) s.rows,
           rows_once h at,
-          counted (is_at at) s.rows row c (at_itself row at e),
+          counted_some (is_at at) s.rows row c (at_itself row at e),
         )
 
 -- a row stands in the chain of its key's slot

@@ -13,7 +13,7 @@ use Rattle.entry_slots.specs.declared.slots.EntrySlots.{EntrySlots}
 use Rattle.entry_slots.specs.Lists.{is_at, has_place, first_place}
 use Rattle.entry_slots.proofs.There.{HasEntryAt}
 use Rattle.entry_slots.specs.Entries.{Entries, chain_of, listed}
-use Rattle.entry_slots.specs.Standing.{IsChain, Stands}
+use Rattle.entry_slots.specs.Standing.{IsRowChain, Stands}
 use Rattle.seg_words.specs.Members.{Contains-first, Contains-filter, any_from}
 use Rattle.entry_slots.proofs.Homes.{room}
 use Rattle.entry_slots.proofs.Chains.{chain_first, home_chain}
@@ -26,7 +26,7 @@ pub record Walk (ws key : List ℕ) (chain : List Row) (at passed : ℕ) : Type 
   pub split : chain ≡ front ++ back
   pub many : length front ≡ passed
   pub none : list_any (has_key key) front ≡ false
-  pub rest : IsChain ws at back
+  pub rest : IsRowChain ws at back
 
 pub walk_start : {e : EntrySlots} {ws : List ℕ} {aside : Aside} (key : List ℕ) (s : Entries) (slot at : ℕ) → Stands e ws aside s → slot < e.sma.from → at ≡ first_place (chain_of s slot) → Walk ws key (chain_of s slot) at 0
 walk_start {ws = ws} key s slot at h lt first =
@@ -37,7 +37,7 @@ walk_start {ws = ws} key s slot at h lt first =
       split = refl;
       many = refl;
       none = refl;
-      rest = subst (λ a. IsChain ws a (chain_of s slot)) (chain_first ws (slice_index ws slot) (chain_of s slot) chain ∙ sym first) chain;
+      rest = subst (λ a. IsRowChain ws a (chain_of s slot)) (chain_first ws (slice_index ws slot) (chain_of s slot) chain ∙ sym first) chain;
     }
 
 -- the row at which the walk stands
@@ -49,19 +49,19 @@ pub record Here (ws key : List ℕ) (chain : List Row) (at passed : ℕ) : Type 
   pub many : length front ≡ passed
   pub none : list_any (has_key key) front ≡ false
   pub place : at ≡ row.place
-  pub rest : IsChain ws (slice_index ws (row.place + 1)) back
+  pub rest : IsRowChain ws (slice_index ws (row.place + 1)) back
 
 pub walk_here : {ws key : List ℕ} {chain : List Row} {at passed : ℕ} → Walk ws key chain at passed → at ≢ 0 → Here ws key chain at passed
 walk_here {ws} {key} {chain} {at} {passed} h some = go h.back h.split h.rest
   where
-    go : (back : List Row) → chain ≡ h.front ++ back → IsChain ws at back → Here ws key chain at passed
+    go : (back : List Row) → chain ≡ h.front ++ back → IsRowChain ws at back → Here ws key chain at passed
     go [] split rest = absurd (some rest)
     go (row ∷ back) split rest = record { front = h.front; row = row; back = back; split = split; many = h.many; none = h.none; place = rest.0; rest = rest.1 }
 
 pub walk_end : {ws key : List ℕ} {chain : List Row} {at passed : ℕ} → Walk ws key chain at passed → at ≡ 0 → ((row : Row) → Contains chain row → row.place ≢ 0) → list_any (has_key key) chain ≡ false
 walk_end {ws} {key} {chain} {at} {passed} h none places = go h.back h.split h.rest
   where
-    go : (back : List Row) → chain ≡ h.front ++ back → IsChain ws at back → list_any (has_key key) chain ≡ false
+    go : (back : List Row) → chain ≡ h.front ++ back → IsRowChain ws at back → list_any (has_key key) chain ≡ false
     go [] split rest = ap (list_any (has_key key)) (split ∙ append-nil h.front) ∙ h.none
     go (row ∷ back) split rest = absurd (places row (subst (λ c. Contains c row) (sym split) (Contains-append_right h.front (row ∷ back) row (Contains-first row back))) (sym rest.0 ∙ none))
 
@@ -80,7 +80,7 @@ walk_next {ws} {key} {chain} {at} {passed} next h other e = record {
   split = h.split ∙ sym (append_assoc h.front (h.row ∷ []) h.back);
   many = omega (arith, length-append h.front (h.row ∷ []), h.many);
   none = list_any-append (has_key key) h.front (h.row ∷ []) ∙ or_from (list_any (has_key key) h.front) (list_any (has_key key) (h.row ∷ [])) h.none (or_from (has_key key h.row) false (sym other) refl);
-  rest = subst (λ a. IsChain ws a h.back) (ap (λ n. slice_index ws (n + 1)) (sym h.place) ∙ sym e) h.rest;
+  rest = subst (λ a. IsRowChain ws a h.back) (ap (λ n. slice_index ws (n + 1)) (sym h.place) ∙ sym e) h.rest;
 }
 
 -- the row where the walk stands is in the chain

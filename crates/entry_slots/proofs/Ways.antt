@@ -9,7 +9,7 @@ use Rattle.seg_words.specs.Windows.{Aside}
 use Rattle.apcu_model.specs.Cache.{Row}
 use Rattle.entry_slots.specs.declared.slots.EntrySlots.{EntrySlots}
 use Rattle.entry_slots.specs.Lists.{is_at, has_place}
-use Rattle.entry_slots.specs.Standing.{IsChain}
+use Rattle.entry_slots.specs.Standing.{IsRowChain}
 use Rattle.entry_slots.specs.Links.{link_after, IsLinkTo}
 use Rattle.seg_words.specs.Members.{Contains-first}
 use Rattle.entry_slots.proofs.Homes.{room}
@@ -24,13 +24,13 @@ pub record Way (ws : List ℕ) (first : ℕ) (chain : List Row) (target link pas
   pub many : length front ≡ passed
   pub none : has_place target front ≡ false
   pub link_is : link ≡ link_after first front
-  pub rest : IsChain ws (slice_index ws link) back
+  pub rest : IsRowChain ws (slice_index ws link) back
 
 abbrev Target : List Row → ℕ → Type 0
 Target chain target = (target ≡ 0) ⊎ (has_place target chain ≡ true)
 
 pub way_found : {ws : List ℕ} {first : ℕ} {chain : List Row} {target link passed : ℕ} → Way ws first chain target link passed → slice_index ws link ≡ target → IsLinkTo ws first chain target link
-way_found {ws} {first} {chain} {target} {link} {passed} h e = record { front = h.front; back = h.back; split = h.split; follows = h.link_is; word = e; rest = subst (λ (n : ℕ). IsChain ws n h.back) e h.rest }
+way_found {ws} {first} {chain} {target} {link} {passed} h e = record { front = h.front; back = h.back; split = h.split; follows = h.link_is; word = e; rest = subst (λ (n : ℕ). IsRowChain ws n h.back) e h.rest }
 
 -- where nothing follows, the target is 0
 way_none : {ws : List ℕ} {first : ℕ} {chain : List Row} {target link passed : ℕ} (h : Way ws first chain target link passed) → Target chain target → h.front ++ [] ≡ chain → target ≡ 0
@@ -44,7 +44,7 @@ link_push first (x ∷ front) row = link_push (x.place + 1) front row
 pub way_next : {ws : List ℕ} {first : ℕ} {chain : List Row} {target link passed : ℕ} (h : Way ws first chain target link passed) → Target chain target → slice_index ws link ≢ target → Way ws first chain target (slice_index ws link + 1) (passed + 1)
 way_next {ws} {first} {chain} {target} {link} {passed} h t other = go h.back h.split h.rest
   where
-    go : (back : List Row) → chain ≡ h.front ++ back → IsChain ws (slice_index ws link) back → Way ws first chain target (slice_index ws link + 1) (passed + 1)
+    go : (back : List Row) → chain ≡ h.front ++ back → IsRowChain ws (slice_index ws link) back → Way ws first chain target (slice_index ws link + 1) (passed + 1)
     go [] split rest = absurd (other (rest ∙ sym (way_none h t (sym split))))
     go (row ∷ back) split rest =
         let at : is_at target row ≡ false = ne_eqb row.place target (λ q. other (rest.0 ∙ q)) in
@@ -56,14 +56,14 @@ way_next {ws} {first} {chain} {target} {link} {passed} h t other = go h.back h.s
           many = omega (arith, length-append h.front (row ∷ []), h.many);
           none = list_any-append (is_at target) h.front (row ∷ []) ∙ or_from (has_place target h.front) (has_place target (row ∷ [])) h.none (or_from (is_at target row) false at refl);
           link_is = link' ∙ sym (link_push first h.front row);
-          rest = subst (λ (n : ℕ). IsChain ws (slice_index ws n) back) (sym link') rest.1;
+          rest = subst (λ (n : ℕ). IsRowChain ws (slice_index ws n) back) (sym link') rest.1;
         }
 
 -- as many rows were passed as the chain has
 pub way_end : {ws : List ℕ} {first : ℕ} {chain : List Row} {target link passed : ℕ} (h : Way ws first chain target link passed) → Target chain target → length chain ≤ passed → IsLinkTo ws first chain target link
 way_end {ws} {first} {chain} {target} {link} {passed} h t all = go h.back h.split h.rest
   where
-    go : (back : List Row) → chain ≡ h.front ++ back → IsChain ws (slice_index ws link) back → IsLinkTo ws first chain target link
+    go : (back : List Row) → chain ≡ h.front ++ back → IsRowChain ws (slice_index ws link) back → IsLinkTo ws first chain target link
     go [] split rest = let zero' = way_none h t (sym split) in record { front = h.front; back = []; split = split; follows = h.link_is; word = rest ∙ sym zero'; rest = zero' }
     go (row ∷ back) split rest = absurd (omega (arith, ap (length {A = Row}) split, length-append h.front (row ∷ back), h.many))
 
@@ -76,6 +76,6 @@ way_spot {e} {ws} {aside} {first} {chain} h spot homes =
 pub way_small : {e : EntrySlots} {ws : List ℕ} {aside : Aside} {first : ℕ} {chain : List Row} {target link passed : ℕ} → Way ws first chain target link passed → AreHome e ws aside chain → slice_index ws link < 2 ^ 31
 way_small {e} {ws} {aside} {first} {chain} {target} {link} h homes = go h.back h.split h.rest
   where
-    go : (back : List Row) → chain ≡ h.front ++ back → IsChain ws (slice_index ws link) back → slice_index ws link < 2 ^ 31
+    go : (back : List Row) → chain ≡ h.front ++ back → IsRowChain ws (slice_index ws link) back → slice_index ws link < 2 ^ 31
     go [] split rest = omega (arith, rest)
     go (row ∷ back) split rest = let w = room (homes row (subst (λ (rs : List Row). Contains rs row) (sym split) (Contains-append_right h.front (row ∷ back) row (Contains-first row back)))) in omega (arith, rest.0, w.high, w.short, w.enough)

@@ -23,11 +23,11 @@ use Rattle.entry_slots.specs.declared.slots.EntrySlots.{EntrySlots}
 use Rattle.entry_slots.specs.declared.writing.Note.{Note}
 use Rattle.entry_slots.specs.Lists.{is_at, begins_at}
 use Rattle.entry_slots.specs.Entries.{Entries, chain_of, blocks_of, fresh_row}
-use Rattle.entry_slots.specs.Standing.{IsChain, IsEntry, Stands}
+use Rattle.entry_slots.specs.Standing.{IsRowChain, IsEntry, Stands}
 use Rattle.entry_slots.specs.Written.{head_words, entry_words}
 use Rattle.entry_slots.specs.Laws.{Laws}
 use Rattle.entry_slots.proofs.Runs.{words_long}
-use Rattle.seg_words.specs.Members.{counted, Contains-filter}
+use Rattle.seg_words.specs.Members.{counted_some, Contains-filter}
 use Rattle.entry_slots.proofs.Members.{same_there}
 use Rattle.entry_slots.proofs.Blocks.{Apart, live_apart, live_bounds}
 use Rattle.entry_slots.proofs.Homes.{IsHome, room, home_row, home_removed, home_unlinked}
@@ -101,20 +101,20 @@ module _ {e : EntrySlots} {ws : List ℕ} {aside : Aside} {s : Entries} (h : Sta
   }
 
   pub rows_not : (row : Row) → Contains s.rows row → row.place ≢ b.place
-  rows_not row c same = omega (arith, once h b.place, counted (is_at b.place) s.rows row c (at_itself row b.place same), counted (begins_at b.place) s.taken b there (eq-eqb b.place b.place refl))
+  rows_not row c same = omega (arith, once h b.place, counted_some (is_at b.place) s.rows row c (at_itself row b.place same), counted_some (begins_at b.place) s.taken b there (eq-eqb b.place b.place refl))
 
   removed_not : (row : Row) → Contains s.removed row → row.place ≢ b.place
-  removed_not row c same = omega (arith, once h b.place, counted (is_at b.place) s.removed row c (at_itself row b.place same), counted (begins_at b.place) s.taken b there (eq-eqb b.place b.place refl))
+  removed_not row c same = omega (arith, once h b.place, counted_some (is_at b.place) s.removed row c (at_itself row b.place same), counted_some (begins_at b.place) s.taken b there (eq-eqb b.place b.place refl))
 
   unlinked_not : (row : Row) → Contains s.unlinked row → row.place ≢ b.place
-  unlinked_not row c same = omega (arith, once h b.place, counted (is_at b.place) s.unlinked row c (at_itself row b.place same), counted (begins_at b.place) s.taken b there (eq-eqb b.place b.place refl))
+  unlinked_not row c same = omega (arith, once h b.place, counted_some (is_at b.place) s.unlinked row c (at_itself row b.place same), counted_some (begins_at b.place) s.taken b there (eq-eqb b.place b.place refl))
 
   pub taken_stands : Laws → Stands e ws' aside s
   taken_stands law = record {
     chains = λ slot lt.
         let chain = chain_kept ws ws' (slice_index ws slot) (chain_of s slot) (λ row c. let at = (Contains-filter (is_in_slot s.conf slot) s.rows row c).0 in link_kept row (home_row row h at) (rows_not row at)) (h.chains slot lt) in
         let bounds = live_bounds e.sma ws aside b h.ready (taken_live b h there) in
-        subst (λ a. IsChain ws' a (chain_of s slot)) (sym (only.same slot (inl (omega (arith, bounds.0, h.from, lt))))) chain;
+        subst (λ a. IsRowChain ws' a (chain_of s slot)) (sym (only.same slot (inl (omega (arith, bounds.0, h.from, lt))))) chain;
     removed_chain = chain_kept ws ws' e.removed s.removed (λ row c. link_kept row (home_removed row h c) (removed_not row c)) h.removed_chain;
     rows = λ row c. entry_kept law ws ws' row (h.rows row c) (row_kept row (home_row row h c) (rows_not row c));
     removed = λ row c. entry_kept law ws ws' row (h.removed row c) (row_kept row (home_removed row h c) (removed_not row c));

@@ -4,7 +4,7 @@ use Rattle.apcu_model.specs.Cache.{Row}
 use Rattle.entry_slots.specs.declared.head.TheConstants.{NEXT}
 use Rattle.entry_slots.specs.Lists.{has_place}
 use Rattle.entry_slots.specs.Entries.{Entries, chain_of}
-use Rattle.entry_slots.specs.Standing.{IsChain}
+use Rattle.entry_slots.specs.Standing.{IsRowChain}
 
 -- the word that names what follows these rows, in a chain that begins at the word `first`
 abbrev pub link_after : ℕ → List Row → ℕ
@@ -19,7 +19,7 @@ pub record IsLinkTo (words : List ℕ) (first : ℕ) (chain : List Row) (target 
   pub split : chain ≡ front ++ back
   pub follows : link ≡ link_after first front
   pub word : slice_index words link ≡ target
-  pub rest : IsChain words target back
+  pub rest : IsRowChain words target back
 
 -- the chain has a row at this place, or the place is 0
 abbrev pub IsTarget : Entries → ℕ → ℕ → Type 0
@@ -34,4 +34,4 @@ pub record IsRemovedLink (words : List ℕ) (removed : List Row) (target link : 
   pub follows : ((front ≡ []) × (link ≡ 0))
       ⊎ ((first : Row) × (rows : List Row) × (front ≡ first ∷ rows)
       × (link ≡ link_after (first.place + NEXT) rows))
-  pub rest : IsChain words target back
+  pub rest : IsRowChain words target back

@@ -25,10 +25,10 @@ use Rattle.entry_slots.specs.Entries.{Entries, chain_of, blocks_of}
 
 -- From the block at `at` on, each head names the place of the next block: these rows, in their
 -- order. The last one's is 0.
-abbrev pub IsChain : List ℕ → ℕ → List Row → Type 0
-IsChain words at [] = at ≡ 0
-IsChain words at (row ∷ rows) =
-    (at ≡ row.place) × IsChain words (slice_index words (row.place + NEXT)) rows
+abbrev pub IsRowChain : List ℕ → ℕ → List Row → Type 0
+IsRowChain words at [] = at ≡ 0
+IsRowChain words at (row ∷ rows) =
+    (at ≡ row.place) × IsRowChain words (slice_index words (row.place + NEXT)) rows
 
 -- The block of a row: its size, the lengths of its key and its image, what is noted of it, and its
 -- pin count, which is 0; then its key, eight bytes a word, the first byte lowest, and its image.
@@ -63,8 +63,8 @@ AreUnnamed windows blocks =
 pub record Stands (e : EntrySlots) (words : List ℕ) (aside : Aside) (s : Entries) : Type 0 where
   -- each slot word begins the chain of the rows of its slot
   pub chains : (slot : ℕ) → slot < s.conf.slots
-      → IsChain words (slice_index words slot) (chain_of s slot)
-  pub removed_chain : IsChain words e.removed s.removed
+      → IsRowChain words (slice_index words slot) (chain_of s slot)
+  pub removed_chain : IsRowChain words e.removed s.removed
   -- the rows' blocks are as the rows say
   pub rows : AreEntries words s.rows
   pub removed : AreEntries words s.removed

@@ -1,5 +1,6 @@
-//! Work for measurements: `image_bench WORK GRAPH ROUNDS` writes an image, reads a graph back, copies the graph, or
-//! copies as many words, so many times. It prints nothing. Without arguments it reads one graph back.
+//! Work for measurements: `image_bench WORK GRAPH ROUNDS` writes an image, reads a graph back,
+//! copies the graph, or copies as many words, so many times. It prints nothing. Without arguments
+//! it reads one graph back.
 #![tactic(auto)]
 
 mod graphs;

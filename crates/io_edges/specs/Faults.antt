@@ -2,8 +2,8 @@
 use Rattle.std.specs.Prelude.{ℕ, ◌+◌, ◌-◌, ◌^◌, ◌<◌, ◌≤◌, ◌⊎◌, min}
 
 -- the count after one more fault: it is one more, but the last value of a `u64` stays
-abbrev pub raised : ℕ → ℕ
-raised count = min (count + 1) (2 ^ 64 - 1)
+abbrev pub one_fault_more : ℕ → ℕ
+one_fault_more count = min (count + 1) (2 ^ 64 - 1)
 
 -- a count rose: it is greater than before, or has come to the last value of a `u64`, where it stays
 abbrev pub Rose : ℕ → ℕ → Type 0

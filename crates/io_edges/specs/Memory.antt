@@ -6,7 +6,7 @@ use Rattle.io_edges.specs.declared.source.Got.{Got}
 use Rattle.io_edges.specs.declared.source.Got.TheVariants as got
 use Rattle.io_edges.specs.declared.sink.Put.{Put}
 use Rattle.io_edges.specs.declared.sink.Put.TheVariants as put
-use Rattle.io_edges.specs.Faults.{raised}
+use Rattle.io_edges.specs.Faults.{one_fault_more}
 
 -- A source: the bytes that are left, the most that one read gives, the numbers of the reads that
 -- fail, the number of the next read, and the count of faults. Both numbers stay at the last value
@@ -38,8 +38,8 @@ after_read source room = record {
   left = (if read_fails source then source.left else drop (read_count source room) source.left);
   piece = source.piece;
   fails = source.fails;
-  call = raised source.call;
-  faults = (if read_fails source then raised source.faults else source.faults);
+  call = one_fault_more source.call;
+  faults = (if read_fails source then one_fault_more source.faults else source.faults);
 }
 
 -- A sink: the bytes that it holds, the room that it had from the start, the most that one write
@@ -75,6 +75,6 @@ after_write sink bytes = record {
   room = sink.room;
   piece = sink.piece;
   fails = sink.fails;
-  call = raised sink.call;
-  faults = (if write_fails sink then raised sink.faults else sink.faults);
+  call = one_fault_more sink.call;
+  faults = (if write_fails sink then one_fault_more sink.faults else sink.faults);
 }

@@ -3,7 +3,7 @@ use Rattle.std.specs.Prelude.{◌≡◌, ℕ, ◌≤◌, List, [], length, take,
 use Rattle.std.specs.Io.KnownBytes.{IsAtEnd, prepend_known}
 use Rattle.io_edges.specs.declared.source.Got.{Got}
 use Rattle.io_edges.specs.declared.source.Got.TheVariants.{Took, End, Failed}
-use Rattle.io_edges.specs.Faults.{Rose, raised}
+use Rattle.io_edges.specs.Faults.{Rose, one_fault_more}
 
 -- the bytes that a read gave: as many of the buffer's first as it says
 abbrev pub bytes_given : Got → List ℕ → List ℕ
@@ -33,7 +33,7 @@ CountsReadFault Failed old new = (old ≤ new) × Rose old new
 abbrev pub faults_after_read : Got → ℕ → ℕ
 faults_after_read (Took n) count = count
 faults_after_read End count = count
-faults_after_read Failed count = raised count
+faults_after_read Failed count = one_fault_more count
 
 -- reads took this many bytes from the front of what was left
 abbrev pub HasTaken : Option (List ℕ) → Option (List ℕ) → ℕ → Type 0

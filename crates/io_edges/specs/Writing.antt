@@ -2,7 +2,7 @@
 use Rattle.std.specs.Prelude.{◌≡◌, ℕ, ◌≤◌, List, [], take}
 use Rattle.io_edges.specs.declared.sink.Put.{Put}
 use Rattle.io_edges.specs.declared.sink.Put.TheVariants.{Took, Failed}
-use Rattle.io_edges.specs.Faults.{Rose, raised}
+use Rattle.io_edges.specs.Faults.{Rose, one_fault_more}
 
 -- the bytes that a write took: as many of the first as it says
 abbrev pub bytes_taken : Put → List ℕ → List ℕ
@@ -22,4 +22,4 @@ CountsWriteFault Failed old new = (old ≤ new) × Rose old new
 -- the count of faults after a write that counts just its own
 abbrev pub faults_after_write : Put → ℕ → ℕ
 faults_after_write (Took n) count = count
-faults_after_write Failed count = raised count
+faults_after_write Failed count = one_fault_more count

@@ -1,5 +1,6 @@
 -- Numbers in pages of so many, each with the largest number of its page.
-use Rattle.std.specs.Prelude.{◌≡◌, ℕ, ◌+◌, ◌-◌, ◌*◌, ◌/◌, ◌^◌, ◌<◌, ◌≤◌, max, List, [], ◌∷◌, length, take, drop, slice_index}
+use Rattle.std.specs.Prelude.{◌≡◌, ℕ, ◌+◌, ◌-◌, ◌*◌, ◌/◌, ◌^◌, ◌<◌, ◌≤◌, max, List, [], ◌∷◌, length}
+use Rattle.std.specs.Prelude.{take, drop, slice_index}
 use Rattle.max_tree.specs.declared.row.TheConstants.{PAGE}
 
 -- the largest of these numbers, or 0

@@ -1,4 +1,5 @@
-ghost use Rattle.std.specs.Prelude.{◌≡◌, ◌≢◌, ℕ, ◌+◌, ◌/◌, ◌<◌, ◌≤◌, nat_le, length, replicate, slice_index, slice_set, MatchOption};
+ghost use Rattle.std.specs.Prelude.{◌≡◌, ◌≢◌, ℕ, ◌+◌, ◌/◌, ◌<◌, ◌≤◌, nat_le, length, replicate};
+ghost use Rattle.std.specs.Prelude.{slice_index, slice_set, MatchOption};
 ghost use Rattle.std.specs.List.{position};
 ghost use Rattle.max_tree.specs.Nodes.{leaves, AreMaxima, IsComplete, IsLeftOf};
 ghost use Rattle.max_tree.specs.Pages.{largest};

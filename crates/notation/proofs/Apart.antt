@@ -19,7 +19,7 @@ use Rattle.notation.specs.declared.fault.Fault.{Fault}
 use Rattle.notation.specs.declared.fault.Reason.TheVariants.{End, Tag}
 use Rattle.notation.specs.Marks.{◌>>=◌, fail, mark_at, number_as, as_truth, sized_at, string_at, integer_at, count_at}
 use Rattle.notation.specs.Notation.{key_text, array_head, object_head, member_texts, kind_text, child_text, text_from}
-use Rattle.notation.specs.Parts.{members_of, start_text, members_text}
+use Rattle.notation.specs.Parts.{members_of, start_text, members_rest_text}
 use Rattle.notation.specs.Reading.{key_tagged_at}
 use Rattle.notation.proofs.Again.{ReadBack, as_read, truth_read, sized_read, string_read, integer_read, count_read}
 use Rattle.notation.proofs.Takes.{item_text, int_text, str_text, same_text, back_text, array_text, object_text, truth_text}

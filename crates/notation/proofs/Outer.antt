@@ -15,7 +15,7 @@ use Rattle.notation.specs.declared.fault.Stop.{Stop}
 use Rattle.notation.specs.declared.fault.Stop.TheVariants as stops
 use Rattle.notation.specs.Marks.{◌>>=◌, Fails}
 use Rattle.notation.specs.Reading.{begun_at, key_at, closed_at, members_at, value_at}
-use Rattle.notation.specs.Steps.{opened, IsValueStep, wants_key}
+use Rattle.notation.specs.Steps.{opened_count, IsValueStep, wants_key}
 use Rattle.notation.specs.Outer.{outer_at, due_at, HasCome, outer_stack}
 
 assoc : {A B C : Type 0} (r : Result A Fault) (f : A → Result B Fault) (g : B → Result C Fault) → ((r >>= f) >>= g) ≡ (r >>= λ x. f x >>= g)
@@ -83,7 +83,7 @@ value_fails (suc level) d bytes fault h = rw h refl
 
 -- where a value was begun, the stack after it
 pub began : (outer : List ℕ) (n : ℕ) (d e : Draft) (bytes rest : List ℕ) (count : Option ℕ) (m : ℕ) (stack : List ℕ) (total : Result (Draft × List ℕ) Fault)
-    → length outer ≡ length d.containers → length d.containers < levels → begun_at d bytes ≡ Ok (e, count, rest) → IsValueStep d e (opened count)
+    → length outer ≡ length d.containers → length d.containers < levels → begun_at d bytes ≡ Ok (e, count, rest) → IsValueStep d e (opened_count count)
     → outer_stack count n outer m stack → (value_at (levels - length outer) d bytes >>= after_value outer n) ≡ total → HasCome stack m e rest total
 began outer n d e bytes rest None m stack total same room begun step put so_far =
     let one : (value_at (levels - length outer) d bytes >>= after_value outer n) ≡ outer_at outer n e rest = ap (λ (r : Result (Draft × List ℕ) Fault). r >>= after_value outer n) (value_none (levels - length outer) d e bytes rest begun) in

@@ -16,7 +16,7 @@ use Rattle.php_graph.specs.declared.kind.Kind.TheVariants as kinds
 use Rattle.php_graph.specs.Graph.{kind_at, child_end, ends_after, children_of, levels, end_of, IsGraph}
 use Rattle.php_graph.specs.Building.{named, is_container}
 use Rattle.notation.specs.Notation.{kind_text, key_text, member_texts, child_text}
-use Rattle.notation.specs.Parts.{members_of, start_text, members_text, frame_text}
+use Rattle.notation.specs.Parts.{members_of, start_text, members_rest_text, frame_text}
 use Rattle.notation.specs.Appending.{Extends, MemberStep}
 use Rattle.notation.specs.Writing.{pending, HasEnd, AreBegun, EndsSomewhere, IsChildBegun, IsStepMade}
 use Rattle.notation.specs.declared.writing.Frame.{Frame}
@@ -48,7 +48,7 @@ held_by (kinds.Object class ps) = names_held ps
 held_by (kinds.Same x) = refl
 
 -- a place's text: up to its members, and from the first member on
-pub kind_split : (base : ℕ) (written : Child → List ℕ) (kind : Kind) → kind_text base written (Some kind) ≡ start_text base kind ++ cond (is_container kind) (members_text written 0 (members_of kind)) []
+pub kind_split : (base : ℕ) (written : Child → List ℕ) (kind : Kind) → kind_text base written (Some kind) ≡ start_text base kind ++ cond (is_container kind) (members_rest_text written 0 (members_of kind)) []
 kind_split base written kinds.Null = refl
 kind_split base written (kinds.Bool true) = refl
 kind_split base written (kinds.Bool false) = refl
@@ -145,7 +145,7 @@ plain_begun base g x kind frames old new e there plain is =
     let k = length frames in
     let o = own_of k base g x e in
     let same : o.kind ≡ kind = some_same o.kind kind (sym o.there ∙ there) in
-    let split : kind_text base (child_text (levels - suc k) base g) (Some kind) ≡ start_text base kind = kind_split base (child_text (levels - suc k) base g) kind ∙ ap (λ (b : Bool). start_text base kind ++ cond b (members_text (child_text (levels - suc k) base g) 0 (members_of kind)) []) plain ∙ append-nil (start_text base kind) in
+    let split : kind_text base (child_text (levels - suc k) base g) (Some kind) ≡ start_text base kind = kind_split base (child_text (levels - suc k) base g) kind ∙ ap (λ (b : Bool). start_text base kind ++ cond b (members_rest_text (child_text (levels - suc k) base g) 0 (members_of kind)) []) plain ∙ append-nil (start_text base kind) in
     let text : child_text (levels - length (reverse frames)) base g (Own x) ≡ start_text base kind = ap (λ (l : ℕ). child_text (levels - l) base g (Own x)) len ∙ own_text k base g x e ∙ o.text ∙ ap (λ (y : Kind). kind_text base (child_text (levels - suc k) base g) (Some y)) same ∙ split in
     record {
       written = ap (λ (t : List ℕ). t ++ pending base g (reverse frames)) (is ∙ ap (λ (t : List ℕ). old ++ t) (sym text)) ∙ append_assoc old _ (pending base g (reverse frames));
@@ -161,7 +161,7 @@ container_begun base g x kind frames after f old new e there container is at fir
     let o = own_of k base g x e in
     let same : o.kind ≡ kind = some_same o.kind kind (sym o.there ∙ there) in
     let written = child_text (levels - suc k) base g in
-    let rest = members_text written 0 (members_of kind) in
+    let rest = members_rest_text written 0 (members_of kind) in
     let split : kind_text base written (Some kind) ≡ start_text base kind ++ rest = kind_split base written kind ∙ ap (λ (b : Bool). start_text base kind ++ cond b rest []) container in
     let text : child_text (levels - length (reverse frames)) base g (Own x) ≡ start_text base kind ++ rest = ap (λ (l : ℕ). child_text (levels - l) base g (Own x)) len ∙ own_text k base g x e ∙ o.text ∙ ap (λ (y : Kind). kind_text base written (Some y)) same ∙ split in
     let stack : reverse after ≡ f ∷ reverse frames = ap reverse pushed ∙ reverse-append frames (f ∷ []) in
@@ -246,7 +246,7 @@ member_made base g kind f h frames pushed after m old mid new there here begun i
     ∙ append_assoc (key_text m.0) (written m.1 ++ member_texts written (drop (suc f.next) (members_of kind))) (codes "}")
     ∙ ap (λ (t : List ℕ). key_text m.0 ++ t) (append_assoc (written m.1) (member_texts written (drop (suc f.next) (members_of kind))) (codes "}")) in
     let back : frame_text written h.next (kind_at g h.place) ≡ rest =
-    ap (λ (o : Option Kind). frame_text written h.next o) there' ∙ ap (λ (i : ℕ). members_text written i (members_of kind)) next in
+    ap (λ (o : Option Kind). frame_text written h.next o) there' ∙ ap (λ (i : ℕ). members_rest_text written i (members_of kind)) next in
     let pend : pending base g (reverse pushed) ≡ rest ++ pending base g outer = ap (pending base g) stack ∙ ap (λ (t : List ℕ). t ++ pending base g outer) back in
     let top : pending base g (f ∷ outer) ≡ key_text m.0 ++ (written m.1 ++ (rest ++ pending base g outer)) =
     ap (λ (t : List ℕ). t ++ pending base g outer) front ∙ append_assoc (key_text m.0) (written m.1 ++ rest) (pending base g outer) ∙ ap (λ (t : List ℕ). key_text m.0 ++ t) (append_assoc (written m.1) rest (pending base g outer)) in

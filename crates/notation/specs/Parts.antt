@@ -20,9 +20,9 @@ start_text base (kinds.Object class ps) = object_head class (length ps)
 start_text base kind = kind_text base (λ c. []) (Some kind)
 
 -- the members from this one on, and the end of their container
-abbrev pub members_text : (Child → List ℕ) → ℕ → List (Key × Child) → List ℕ
-members_text written i ms = member_texts written (drop i ms) ++ codes "}"
+abbrev pub members_rest_text : (Child → List ℕ) → ℕ → List (Key × Child) → List ℕ
+members_rest_text written i ms = member_texts written (drop i ms) ++ codes "}"
 
 abbrev pub frame_text : (Child → List ℕ) → ℕ → Option Kind → List ℕ
 frame_text written i None = []
-frame_text written i (Some kind) = members_text written i (members_of kind)
+frame_text written i (Some kind) = members_rest_text written i (members_of kind)

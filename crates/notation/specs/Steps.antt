@@ -12,9 +12,9 @@ opens items.OpenArray = 1
 opens (items.OpenObject class) = 1
 opens _ = 0
 
-abbrev pub opened : Option ℕ → ℕ
-opened None = 0
-opened (Some n) = 1
+abbrev pub opened_count : Option ℕ → ℕ
+opened_count None = 0
+opened_count (Some n) = 1
 
 -- a value was written, and the container that it opens if it is one
 pub record IsValueStep (before after : Draft) (containers : ℕ) : Type 0 where

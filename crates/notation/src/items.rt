@@ -11,7 +11,7 @@ ghost use Rattle.notation.specs.Reading.{reason_of, put_at, null_at, truth_at, i
 ghost use Rattle.notation.specs.Reading.{same_at, back_at, array_at, object_at, tagged_at, is_tag};
 ghost use Rattle.notation.specs.Reading.{begun_at, key_tagged_at, takes_integers, key_at};
 ghost use Rattle.notation.specs.Reading.{closed_at};
-ghost use Rattle.notation.specs.Steps.{opens, opened, IsValueStep, wants_key};
+ghost use Rattle.notation.specs.Steps.{opens, opened_count, IsValueStep, wants_key};
 
 use crate::fault::{Reason, Stop};
 use crate::tokens::{count, integer, mark, natural, sized, stop, string, truth};
@@ -50,7 +50,7 @@ fn put(builder: &mut Builder, item: Item, at: &[u8]) -> Result<(), Stop>
 fn null<'a>(builder: &mut Builder, bytes: &'a [u8]) -> Result<(Option<u32>, &'a [u8]), Stop>
     requires { wants_of builder.old ≡ Value }
     ensures read { Gives (λ x. (builder.new, x.0, x.1.now)) result (null_at builder.old bytes.now) }
-    ensures step { IfOk result (λ x. IsValueStep builder.old builder.new (opened x.0)) }
+    ensures step { IfOk result (λ x. IsValueStep builder.old builder.new (opened_count x.0)) }
     ensures less { IfOk result (λ x. length x.1.now < length bytes.now) }
 {
     let rest = mark(b';', bytes)?;
@@ -63,7 +63,7 @@ fn truth_value<'a>(builder: &mut Builder, bytes: &'a [u8]) -> Result<(Option<u32
     requires { wants_of builder.old ≡ Value }
     ensures read { Gives (λ x. (builder.new, x.0, x.1.now)) result
         (truth_at builder.old bytes.now) }
-    ensures step { IfOk result (λ x. IsValueStep builder.old builder.new (opened x.0)) }
+    ensures step { IfOk result (λ x. IsValueStep builder.old builder.new (opened_count x.0)) }
     ensures less { IfOk result (λ x. length x.1.now < length bytes.now) }
 {
     let number = mark(b':', bytes)?;
@@ -77,7 +77,7 @@ fn truth_value<'a>(builder: &mut Builder, bytes: &'a [u8]) -> Result<(Option<u32
 fn int<'a>(builder: &mut Builder, bytes: &'a [u8]) -> Result<(Option<u32>, &'a [u8]), Stop>
     requires { wants_of builder.old ≡ Value }
     ensures read { Gives (λ x. (builder.new, x.0, x.1.now)) result (int_at builder.old bytes.now) }
-    ensures step { IfOk result (λ x. IsValueStep builder.old builder.new (opened x.0)) }
+    ensures step { IfOk result (λ x. IsValueStep builder.old builder.new (opened_count x.0)) }
     ensures less { IfOk result (λ x. length x.1.now < length bytes.now) }
 {
     let (n, rest) = integer(bytes)?;
@@ -93,7 +93,7 @@ fn str<'a>(
 ) -> Result<(Option<u32>, &'a [u8]), Stop>
     requires { wants_of builder.old ≡ Value }
     ensures read { Gives (λ x. (builder.new, x.0, x.1.now)) result (str_at builder.old bytes.now) }
-    ensures step { IfOk result (λ x. IsValueStep builder.old builder.new (opened x.0)) }
+    ensures step { IfOk result (λ x. IsValueStep builder.old builder.new (opened_count x.0)) }
     ensures less { IfOk result (λ x. length x.1.now < length bytes.now) }
 {
     let (text, rest) = string(bytes)?;
@@ -106,7 +106,7 @@ fn str<'a>(
 fn same<'a>(builder: &mut Builder, bytes: &'a [u8]) -> Result<(Option<u32>, &'a [u8]), Stop>
     requires { wants_of builder.old ≡ Value }
     ensures read { Gives (λ x. (builder.new, x.0, x.1.now)) result (same_at builder.old bytes.now) }
-    ensures step { IfOk result (λ x. IsValueStep builder.old builder.new (opened x.0)) }
+    ensures step { IfOk result (λ x. IsValueStep builder.old builder.new (opened_count x.0)) }
     ensures less { IfOk result (λ x. length x.1.now < length bytes.now) }
 {
     let number = mark(b':', bytes)?;
@@ -120,7 +120,7 @@ fn same<'a>(builder: &mut Builder, bytes: &'a [u8]) -> Result<(Option<u32>, &'a 
 fn back<'a>(builder: &mut Builder, bytes: &'a [u8]) -> Result<(Option<u32>, &'a [u8]), Stop>
     requires { wants_of builder.old ≡ Value }
     ensures read { Gives (λ x. (builder.new, x.0, x.1.now)) result (back_at builder.old bytes.now) }
-    ensures step { IfOk result (λ x. IsValueStep builder.old builder.new (opened x.0)) }
+    ensures step { IfOk result (λ x. IsValueStep builder.old builder.new (opened_count x.0)) }
     ensures less { IfOk result (λ x. length x.1.now < length bytes.now) }
 {
     let number = mark(b':', bytes)?;
@@ -135,7 +135,7 @@ fn array<'a>(builder: &mut Builder, bytes: &'a [u8]) -> Result<(Option<u32>, &'a
     requires { wants_of builder.old ≡ Value }
     ensures read { Gives (λ x. (builder.new, x.0, x.1.now)) result
         (array_at builder.old bytes.now) }
-    ensures step { IfOk result (λ x. IsValueStep builder.old builder.new (opened x.0)) }
+    ensures step { IfOk result (λ x. IsValueStep builder.old builder.new (opened_count x.0)) }
     ensures less { IfOk result (λ x. length x.1.now < length bytes.now) }
 {
     let (n, rest) = count(bytes)?;
@@ -153,7 +153,7 @@ fn object<'a>(
     requires { wants_of builder.old ≡ Value }
     ensures read { Gives (λ x. (builder.new, x.0, x.1.now)) result
         (object_at builder.old at.now bytes.now) }
-    ensures step { IfOk result (λ x. IsValueStep builder.old builder.new (opened x.0)) }
+    ensures step { IfOk result (λ x. IsValueStep builder.old builder.new (opened_count x.0)) }
     ensures less { IfOk result (λ x. length x.1.now < length bytes.now) }
 {
     let (class, rest) = sized(bytes)?;
@@ -176,7 +176,7 @@ fn tagged<'a>(
     requires split { bytes.now ≡ tag ∷ rest.now }
     ensures read { Gives (λ x. (builder.new, x.0, x.1.now)) result
         (tagged_at builder.old tag rest.now) }
-    ensures step { IfOk result (λ x. IsValueStep builder.old builder.new (opened x.0)) }
+    ensures step { IfOk result (λ x. IsValueStep builder.old builder.new (opened_count x.0)) }
     ensures less { IfOk result (λ x. length x.1.now < length bytes.now) }
 {
     match tag {
@@ -209,7 +209,7 @@ pub(crate) fn begun<'a>(
     requires { wants_of builder.old ≡ Value }
     ensures read { Gives (λ x. (builder.new, x.0, x.1.now)) result
         (begun_at builder.old bytes.now) }
-    ensures step { IfOk result (λ x. IsValueStep builder.old builder.new (opened x.0)) }
+    ensures step { IfOk result (λ x. IsValueStep builder.old builder.new (opened_count x.0)) }
     ensures room { IfOk result (λ x. length builder.old.containers < levels) }
     ensures less { IfOk result (λ x. length x.1.now < length bytes.now) }
 {

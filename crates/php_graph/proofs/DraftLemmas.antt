@@ -10,7 +10,7 @@ use Rattle.php_graph.specs.declared.key.Key.TheVariants as keys
 use Rattle.php_graph.specs.declared.child.Child.{Child}
 use Rattle.php_graph.specs.declared.kind.Kind.{Kind}
 use Rattle.php_graph.specs.declared.kind.Kind.TheVariants as kinds
-use Rattle.php_graph.specs.Graph.{kind_at, children_of, keys_of, passes, is_array, is_object, is_object_at, key_eq, has_key, are_distinct, is_array_key, is_class, is_well_formed, FitsKey, FitsKind}
+use Rattle.php_graph.specs.Graph.{kind_at, children_of, keys_of, passes, is_array, is_object, is_object_at, key_eq, holds_key, are_distinct, is_array_key, is_class, is_well_formed, FitsKey, FitsKind}
 use Rattle.php_graph.specs.Building.{with_member, is_container, is_name}
 use Rattle.php_graph.specs.Drafted.{places_of}
 use Rattle.std.proofs.lemmas.Bool.{false≢true}
@@ -140,14 +140,14 @@ pub not_true : (a : Bool) → not a ≡ true → a ≡ false
 not_true true e = absurd cc
 not_true false e = refl
 
-distinct_push : (ks : List Key) (k : Key) → are_distinct ks ≡ true → has_key ks k ≡ false → are_distinct (ks ++ k ∷ []) ≡ true
+distinct_push : (ks : List Key) (k : Key) → are_distinct ks ≡ true → holds_key ks k ≡ false → are_distinct (ks ++ k ∷ []) ≡ true
 distinct_push [] k distinct new = refl
 distinct_push (x ∷ xs) k distinct new =
-    let d = and_true (not (has_key xs x)) (are_distinct xs) distinct in
-    let n = or_false (key_eq k x) (has_key xs k) new in
-    rw (list_any-append (key_eq x) xs (k ∷ []), not_true (has_key xs x) d.0, key_eq-swap x k, n.0, distinct_push xs k d.1 n.1) refl
+    let d = and_true (not (holds_key xs x)) (are_distinct xs) distinct in
+    let n = or_false (key_eq k x) (holds_key xs k) new in
+    rw (list_any-append (key_eq x) xs (k ∷ []), not_true (holds_key xs x) d.0, key_eq-swap x k, n.0, distinct_push xs k d.1 n.1) refl
 
-pub with_member-well_formed : (kind : Kind) (key : Key) (c : Child) → IsTrue (is_well_formed kind) → has_key (keys_of kind) key ≡ false → (is_array kind ≡ true → is_array_key key ≡ true) → IsTrue (is_well_formed (with_member kind key c))
+pub with_member-well_formed : (kind : Kind) (key : Key) (c : Child) → IsTrue (is_well_formed kind) → holds_key (keys_of kind) key ≡ false → (is_array kind ≡ true → is_array_key key ≡ true) → IsTrue (is_well_formed (with_member kind key c))
 with_member-well_formed (kinds.Array ms) key c well new fits =
     let w = and_true (are_distinct (map (λ m. m.0) ms)) (list_all (λ m. is_array_key m.0) ms) well in
     rw (map-append, distinct_push (map (λ m. m.0) ms) key w.0 new, list_all-append, w.1, fits refl) refl

@@ -11,7 +11,7 @@ use Rattle.php_graph.specs.declared.kind.Kind.{Kind}
 use Rattle.php_graph.specs.declared.item.Wants.TheVariants.{Value, ArrayKey, Name, Done}
 use Rattle.php_graph.specs.declared.item.BuildFault.{BuildFault}
 use Rattle.php_graph.specs.declared.item.BuildFault.TheVariants.{RepeatedKey, IntegerText}
-use Rattle.php_graph.specs.Graph.{kind_at, children_of, keys_of, passes, is_array, is_object, is_object_at, is_array_at, has_key, is_array_key, FitsKey, is_back, child_end, ends_after, end_of, levels, most_values, values_in, IsGraph}
+use Rattle.php_graph.specs.Graph.{kind_at, children_of, keys_of, passes, is_array, is_object, is_object_at, is_array_at, holds_key, is_array_key, FitsKey, is_back, child_end, ends_after, end_of, levels, most_values, values_in, IsGraph}
 use Rattle.php_graph.specs.Building.{with_member, is_container, is_name, key_fault, fault_in, attached, wants_by}
 use Rattle.php_graph.specs.Drafted.{IsShaped, IsDraft, IsWaiting, is_open_at, IsNewValue}
 use Rattle.php_graph.specs.Counted.{children_in}
@@ -68,8 +68,8 @@ open_kind g p (Some old) is e = (old, is, sym (ap (passes is_container) is) ∙ 
 pub takes_key : (g : List Kind) (p : ℕ) (outer : List ℕ) (key : Key) (old : Kind) → kind_at g p ≡ Some old → is_container old ≡ true → IsWaiting g (p ∷ outer) (Some key) → Takes g p old key
 takes_key g p outer key old there holds waiting =
     let sound : fault_in old key ≡ None = rw there at waiting.1 in
-    let first = no_fault (is_array old && not (is_array_key key)) IntegerText (cond (has_key (keys_of old) key) (Some RepeatedKey) None) sound in
-    let second = no_fault (has_key (keys_of old) key) RepeatedKey None first.1 in
+    let first = no_fault (is_array old && not (is_array_key key)) IntegerText (cond (holds_key (keys_of old) key) (Some RepeatedKey) None) sound in
+    let second = no_fault (holds_key (keys_of old) key) RepeatedKey None first.1 in
     record {
       there = there;
       holds = holds;

@@ -8,7 +8,7 @@ use Rattle.php_graph.specs.declared.child.Child.{Child}
 use Rattle.php_graph.specs.declared.child.Child.TheVariants.{Own}
 use Rattle.php_graph.specs.declared.kind.Kind.{Kind}
 use Rattle.php_graph.specs.declared.kind.Kind.TheVariants as kinds
-use Rattle.php_graph.specs.Graph.{kind_at, children_of, keys_of, passes, is_array, is_object, is_object_at, has_key, is_array_key, is_well_formed, FitsKey, FitsKind, child_end, ends_after, levels}
+use Rattle.php_graph.specs.Graph.{kind_at, children_of, keys_of, passes, is_array, is_object, is_object_at, holds_key, is_array_key, is_well_formed, FitsKey, FitsKind, child_end, ends_after, levels}
 use Rattle.php_graph.specs.Building.{with_member, is_container, is_name}
 use Rattle.php_graph.specs.Drafted.{IsSpine, IsShaped, children_at, is_open_at, IsNewValue}
 use Rattle.php_graph.proofs.EndLemmas.{Agree, all_agree, ends_rise, ends_after-append}
@@ -78,7 +78,7 @@ pub record Takes (g : List Kind) (p : ℕ) (old : Kind) (key : Key) : Type 0 whe
   pub holds : is_container old ≡ true
   pub named : is_object old ≡ true → is_name key ≡ true
   pub fits : FitsKey key
-  pub new_key : has_key (keys_of old) key ≡ false
+  pub new_key : holds_key (keys_of old) key ≡ false
   pub array_key : is_array old ≡ true → is_array_key key ≡ true
 
 pub passes-set : (test : Kind → Bool) (g : List Kind) (p k : ℕ) (old new : Kind) → kind_at g p ≡ Some old → test new ≡ test old → passes test (kind_at (set g (p - 1) new) k) ≡ passes test (kind_at g k)

@@ -12,14 +12,14 @@ use Rattle.php_graph.specs.declared.child.Child.{Child}
 use Rattle.php_graph.specs.declared.key.Key.{Key}
 use Rattle.php_graph.specs.declared.key.Key.TheVariants.{Int, Str}
 use Rattle.php_graph.specs.declared.item.BuildFault.TheVariants.{RepeatedKey}
-use Rattle.php_graph.specs.Graph.{key_eq, has_key}
-use Rattle.php_graph.specs.Keys.{key_cmp, mark_of, raised, repeat_fault, BoundsKeys, HasMarks, HasKeys}
+use Rattle.php_graph.specs.Graph.{key_eq, holds_key}
+use Rattle.php_graph.specs.Keys.{key_cmp, key_mark, raised, repeat_fault, BoundsKeys, HasMarks, HasKeys}
 use Rattle.php_graph.specs.contracts.key.KeyOrd.TheImpl as key_ord
 use Rattle.php_graph.specs.contracts.key.KeyOrd.TheImpl.Laws.{matches_eq-law}
 use Rattle.php_graph.specs.contracts.key.KeyEq.TheImpl.Laws.{laws-law}
 
 -- no name is an integer
-pub names_without_int : (ps : List (List ℕ × Child)) (n : ℤ) → has_key (map (λ p. Str p.0) ps) (Int n) ≡ false
+pub names_without_int : (ps : List (List ℕ × Child)) (n : ℤ) → holds_key (map (λ p. Str p.0) ps) (Int n) ≡ false
 names_without_int [] n = refl
 names_without_int (p ∷ ps) n = names_without_int ps n
 
@@ -54,7 +54,7 @@ contains_is q set = any_same (is_at (key_cmp q)) (is_at ((key_ord.ghosts).cmp q)
 pub copy_inserted : (ks : List Key) (k copy : Key) (set new : BTreeSet Key) → copy ≡ k → Updates (key_ord.ghosts).cmp set new copy true → HasKeys ks set → HasKeys (ks ++ k ∷ []) new
 copy_inserted ks k copy set new e updates has q =
     contains_is q new ∙ updates.0 q ∙ ap (λ (b : Bool). cond b true (contains (key_ord.ghosts).cmp set q)) (ap (λ (c : Key). is_eq ((key_ord.ghosts).cmp c q)) e ∙ ap is_eq (cmp_is k q) ∙ at_is_eq k q)
-    ∙ ap (cond (key_eq q k) true) (sym (contains_is q set) ∙ has q) ∙ or_swapped (key_eq q k) (has_key ks q) ∙ sym (list_any-append (key_eq q) ks (k ∷ []))
+    ∙ ap (cond (key_eq q k) true) (sym (contains_is q set) ∙ has q) ∙ or_swapped (key_eq q k) (holds_key ks q) ∙ sym (list_any-append (key_eq q) ks (k ∷ []))
 
 pub ok_at : {E : Type 0} (ks : List Key) (k : Key) (set new : BTreeSet Key) (r : Result (Unit {0}) E) → HasKeys ks set → OnOk r ((ks : List Key) → HasKeys ks set → HasKeys (ks ++ k ∷ []) new) → OnOk r (HasKeys (ks ++ k ∷ []) new)
 ok_at ks k set new (Ok u) has after = after ks has
@@ -84,8 +84,8 @@ no_other true e = refl
 no_other false e = e
 
 -- a key among these and one more
-among : (ks : List Key) (k q : Key) → has_key (ks ++ k ∷ []) q ≡ true → (has_key ks q ≡ true) ⊎ (q ≡ k)
-among ks k q e = elim (or_true (has_key ks q) (key_eq q k || false) (sym (list_any-append (key_eq q) ks (k ∷ [])) ∙ e)) [
+among : (ks : List Key) (k q : Key) → holds_key (ks ++ k ∷ []) q ≡ true → (holds_key ks q ≡ true) ⊎ (q ≡ k)
+among ks k q e = elim (or_true (holds_key ks q) (key_eq q k || false) (sym (list_any-append (key_eq q) ks (k ∷ [])) ∙ e)) [
   | inl old ↦ inl old
   | inr last ↦ inr (same_key q k (no_other (key_eq q k) last))
 ]
@@ -95,26 +95,26 @@ always true = refl
 always false = refl
 
 -- a mark that a set got
-pub marks_more : (ks : List Key) (k : Key) (m : ℕ) (set new : BTreeSet ℕ) → m ≡ mark_of k → Updates nat_cmp set new m true → HasMarks ks set → HasMarks (ks ++ k ∷ []) new
+pub marks_more : (ks : List Key) (k : Key) (m : ℕ) (set new : BTreeSet ℕ) → m ≡ key_mark k → Updates nat_cmp set new m true → HasMarks ks set → HasMarks (ks ++ k ∷ []) new
 marks_more ks k m set new e updates has q there = elim (among ks k q there) [
-  | inl old ↦ updates.0 (mark_of q) ∙ ap (cond (is_at (nat_cmp m) (mark_of q)) true) (has q old) ∙ always (is_at (nat_cmp m) (mark_of q))
-  | inr last ↦ ap (contains nat_cmp new) (ap mark_of last ∙ sym e) ∙ updates.1
+  | inl old ↦ updates.0 (key_mark q) ∙ ap (cond (is_at (nat_cmp m) (key_mark q)) true) (has q old) ∙ always (is_at (nat_cmp m) (key_mark q))
+  | inr last ↦ ap (contains nat_cmp new) (ap key_mark last ∙ sym e) ∙ updates.1
 ]
 
 -- the highest once a key more is there
-bounds_one : (h : ℕ) (b : Bool) (ks : List Key) (k : Key) → nat_lt h (mark_of k) ≡ b → BoundsKeys (Some h) ks → BoundsKeys (cond b (Some (mark_of k)) (Some h)) (ks ++ k ∷ [])
+bounds_one : (h : ℕ) (b : Bool) (ks : List Key) (k : Key) → nat_lt h (key_mark k) ≡ b → BoundsKeys (Some h) ks → BoundsKeys (cond b (Some (key_mark k)) (Some h)) (ks ++ k ∷ [])
 bounds_one h true ks k above bounds = λ q there. elim (among ks k q there) [
   | inl old ↦ let le = bounds q old in grind (arith, nat_tests)
-  | inr last ↦ omega (arith, ap mark_of last)
+  | inr last ↦ omega (arith, ap key_mark last)
 ]
 bounds_one h false ks k above bounds = λ q there. elim (among ks k q there) [
   | inl old ↦ bounds q old
-  | inr last ↦ let e = ap mark_of last in grind (arith, nat_tests)
+  | inr last ↦ let e = ap key_mark last in grind (arith, nat_tests)
 ]
 
-pub bounds_more : (h : Option ℕ) (ks : List Key) (k : Key) → BoundsKeys h ks → BoundsKeys (raised h (mark_of k)) (ks ++ k ∷ [])
+pub bounds_more : (h : Option ℕ) (ks : List Key) (k : Key) → BoundsKeys h ks → BoundsKeys (raised h (key_mark k)) (ks ++ k ∷ [])
 bounds_more None ks k bounds = λ q there. elim (among ks k q there) [
-  | inl old ↦ let e = ap (λ (xs : List Key). has_key xs q) bounds in absurd cc
-  | inr last ↦ omega (arith, ap mark_of last)
+  | inl old ↦ let e = ap (λ (xs : List Key). holds_key xs q) bounds in absurd cc
+  | inr last ↦ omega (arith, ap key_mark last)
 ]
-bounds_more (Some h) ks k bounds = bounds_one h (nat_lt h (mark_of k)) ks k refl bounds
+bounds_more (Some h) ks k bounds = bounds_one h (nat_lt h (key_mark k)) ks k refl bounds

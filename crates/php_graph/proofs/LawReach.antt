@@ -14,7 +14,7 @@ use Rattle.php_graph.specs.declared.item.Item.{Item}
 use Rattle.php_graph.specs.declared.item.Item.TheVariants as items
 use Rattle.php_graph.specs.declared.item.Wants.TheVariants.{ArrayKey, Name}
 use Rattle.php_graph.specs.declared.item.BuildFault.TheVariants.{RepeatedKey, IntegerText}
-use Rattle.php_graph.specs.Graph.{kind_at, keys_of, passes, is_array, is_array_at, is_object, key_eq, has_key, are_distinct, is_array_key, FitsKey, ends_after, most_values, values_in}
+use Rattle.php_graph.specs.Graph.{kind_at, keys_of, passes, is_array, is_array_at, is_object, key_eq, holds_key, are_distinct, is_array_key, FitsKey, ends_after, most_values, values_in}
 use Rattle.php_graph.specs.Building.{item_fits, fault_in, drafted, member_items, named, with_member, is_container, is_name}
 use Rattle.php_graph.proofs.EndLemmas.{then_some}
 use Rattle.php_graph.proofs.DraftLemmas.{kind_at-set_other, kind_at-set_same, place_is, with_member-is_object, with_member-is_container, key_eq-swap, or_false, and_true, not_true}
@@ -24,13 +24,13 @@ use Rattle.php_graph.proofs.LawPlaced.{draft, values, values-cons, values-append
 
 -- ---- keys that may come
 
-distinct_new : (ks : List Key) (k : Key) (more : List Key) → are_distinct (ks ++ k ∷ more) ≡ true → has_key ks k ≡ false
+distinct_new : (ks : List Key) (k : Key) (more : List Key) → are_distinct (ks ++ k ∷ more) ≡ true → holds_key ks k ≡ false
 distinct_new [] k more e = refl
 distinct_new (x ∷ xs) k more e =
-    let d = and_true (not (has_key (xs ++ k ∷ more) x)) (are_distinct (xs ++ k ∷ more)) e in
-    let apart : (has_key xs x || has_key (k ∷ more) x) ≡ false = sym (list_any-append (key_eq x) xs (k ∷ more)) ∙ not_true (has_key (xs ++ k ∷ more) x) d.0 in
-    let second = or_false (has_key xs x) (has_key (k ∷ more) x) apart in
-    let here = or_false (key_eq x k) (has_key more x) second.1 in
+    let d = and_true (not (holds_key (xs ++ k ∷ more) x)) (are_distinct (xs ++ k ∷ more)) e in
+    let apart : (holds_key xs x || holds_key (k ∷ more) x) ≡ false = sym (list_any-append (key_eq x) xs (k ∷ more)) ∙ not_true (holds_key (xs ++ k ∷ more) x) d.0 in
+    let second = or_false (holds_key xs x) (holds_key (k ∷ more) x) apart in
+    let here = or_false (key_eq x k) (holds_key more x) second.1 in
     rw (key_eq-swap k x, here.0) (distinct_new xs k more d.1)
 
 no_key_fault : (a b c : Bool) → (a ≡ true → b ≡ true) → c ≡ false → cond (a && not b) (Some IntegerText) (cond c (Some RepeatedKey) None) ≡ None
@@ -78,8 +78,8 @@ coming_name kind key c ms coming object = (and_true (is_name key) (list_all (λ 
 coming_new : (kind : Kind) (key : Key) (c : Child) (ms : List (Key × Child)) → Coming kind ((key, c) ∷ ms) → fault_in kind key ≡ None
 coming_new kind key c ms coming =
     let all : are_distinct (map (λ m. m.0) (members_of kind) ++ key ∷ map (λ m. m.0) ms) ≡ true = subst (λ (ks : List Key). are_distinct ks ≡ true) (map_keys-append (members_of kind) ((key, c) ∷ ms)) coming.distinct in
-    let new : has_key (keys_of kind) key ≡ false = ap (λ (ks : List Key). has_key ks key) (sym (members_keys kind)) ∙ distinct_new (map (λ m. m.0) (members_of kind)) key (map (λ m. m.0) ms) all in
-    no_key_fault (is_array kind) (is_array_key key) (has_key (keys_of kind) key) (λ e. (and_true (is_array_key key) (list_all (λ m. is_array_key m.0) ms) (coming.array_keys e)).0) new
+    let new : holds_key (keys_of kind) key ≡ false = ap (λ (ks : List Key). holds_key ks key) (sym (members_keys kind)) ∙ distinct_new (map (λ m. m.0) (members_of kind)) key (map (λ m. m.0) ms) all in
+    no_key_fault (is_array kind) (is_array_key key) (holds_key (keys_of kind) key) (λ e. (and_true (is_array_key key) (list_all (λ m. is_array_key m.0) ms) (coming.array_keys e)).0) new
 
 coming_rest : (kind : Kind) (key : Key) (c : Child) (ms : List (Key × Child)) → is_container kind ≡ true → Coming kind ((key, c) ∷ ms) → Coming (with_member kind key c) ms
 coming_rest kind key c ms holds coming =

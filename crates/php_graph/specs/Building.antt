@@ -20,7 +20,7 @@ use Rattle.php_graph.specs.declared.item.BuildFault.TheVariants.{Memory, TooDeep
 use Rattle.php_graph.specs.declared.item.BuildFault.TheVariants.{BadNumber, RepeatedKey, BadClass}
 use Rattle.php_graph.specs.declared.item.BuildFault.TheVariants.{IntegerText}
 use Rattle.php_graph.specs.Graph.{kind_at, is_array, is_object, is_array_at, is_object_at, keys_of}
-use Rattle.php_graph.specs.Graph.{has_key, is_array_key, is_class, FitsKey, values_in, levels}
+use Rattle.php_graph.specs.Graph.{holds_key, is_array_key, is_class, FitsKey, values_in, levels}
 use Rattle.php_graph.specs.Graph.{most_values}
 
 -- A graph that is being written: its places so far, where a container that is open has the members
@@ -91,7 +91,7 @@ FitsItem _ = Unit {0}
 abbrev pub fault_in : Kind → Key → Option BuildFault
 fault_in kind key =
     if is_array kind && not (is_array_key key) then Some IntegerText
-    else if has_key (keys_of kind) key then Some RepeatedKey
+    else if holds_key (keys_of kind) key then Some RepeatedKey
     else None
 
 abbrev pub fault_among : Option Kind → Key → Option BuildFault

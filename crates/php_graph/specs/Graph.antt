@@ -90,13 +90,13 @@ key_eq (keys.Str a) (keys.Str b) = pointwise ◌==◌ a b
 key_eq _ _ = false
 
 -- whether the key is among them
-abbrev pub has_key : List Key → Key → Bool
-has_key ks k = list_any (key_eq k) ks
+abbrev pub holds_key : List Key → Key → Bool
+holds_key ks k = list_any (key_eq k) ks
 
 -- no key equals one after it
 abbrev pub are_distinct : List Key → Bool
 are_distinct [] = true
-are_distinct (k ∷ ks) = not (has_key ks k) && are_distinct ks
+are_distinct (k ∷ ks) = not (holds_key ks k) && are_distinct ks
 
 -- An array's key is an integer, or a byte string that is no integer's decimal.
 abbrev pub is_array_key : Key → Bool

@@ -13,7 +13,7 @@ use Rattle.php_graph.specs.declared.container.Seen.{Seen}
 use Rattle.php_graph.specs.declared.container.Seen.TheVariants.{Nothing, Marks, Keys}
 use Rattle.php_graph.specs.declared.item.BuildFault.{BuildFault}
 use Rattle.php_graph.specs.declared.item.BuildFault.TheVariants.{RepeatedKey}
-use Rattle.php_graph.specs.Graph.{has_key}
+use Rattle.php_graph.specs.Graph.{holds_key}
 use Rattle.php_graph.specs.Numbers.{hash_of}
 
 -- integers come before byte strings
@@ -25,14 +25,14 @@ key_cmp (Str a) (Str b) = slice_cmp nat_cmp a b
 
 -- A key's mark: of an integer its number in their order, from 0, and of a byte string its hash.
 -- Equal keys have equal marks.
-abbrev pub mark_of : Key → ℕ
-mark_of (Int n) = (cast_unsigned w64 n + 2 ^ 63) % 2 ^ 64
-mark_of (Str bytes) = hash_of bytes
+abbrev pub key_mark : Key → ℕ
+key_mark (Int n) = (cast_unsigned w64 n + 2 ^ 63) % 2 ^ 64
+key_mark (Str bytes) = hash_of bytes
 
 -- No key's mark is above the highest. Where there is none, there is no key.
 abbrev pub BoundsKeys : Option ℕ → List Key → Type 0
 BoundsKeys None ks = ks ≡ []
-BoundsKeys (Some h) ks = (q : Key) → has_key ks q ≡ true → mark_of q ≤ h
+BoundsKeys (Some h) ks = (q : Key) → holds_key ks q ≡ true → key_mark q ≤ h
 
 -- whether a mark is above the highest
 abbrev pub is_above : Option ℕ → ℕ → Bool
@@ -45,11 +45,11 @@ raised highest m = if is_above highest m then Some m else highest
 
 -- the set has the marks of all these keys
 abbrev pub HasMarks : List Key → BTreeSet ℕ → Type 0
-HasMarks ks set = (q : Key) → has_key ks q ≡ true → contains nat_cmp set (mark_of q) ≡ true
+HasMarks ks set = (q : Key) → holds_key ks q ≡ true → contains nat_cmp set (key_mark q) ≡ true
 
 -- the set has just these keys
 abbrev pub HasKeys : List Key → BTreeSet Key → Type 0
-HasKeys ks set = (q : Key) → contains key_cmp set q ≡ has_key ks q
+HasKeys ks set = (q : Key) → contains key_cmp set q ≡ holds_key ks q
 
 -- what is kept of the keys is so
 abbrev pub SeesKeys : Seen → List Key → Type 0
@@ -64,4 +64,4 @@ pub record KnowsKeys (highest : Option ℕ) (seen : Seen) (ks : List Key) : Type
 
 -- what is wrong with one more key: it is there already
 abbrev pub repeat_fault : List Key → Key → Option BuildFault
-repeat_fault ks k = if has_key ks k then Some RepeatedKey else None
+repeat_fault ks k = if holds_key ks k then Some RepeatedKey else None

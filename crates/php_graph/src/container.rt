@@ -6,10 +6,10 @@ ghost use Rattle.std.specs.Ordering.{nat_cmp};
 ghost use Rattle.std.specs.BTreeSet.{contains};
 ghost use Rattle.php_graph.specs.declared.key.Key.{Key};
 ghost use Rattle.php_graph.specs.declared.container.Seen.TheVariants.{Nothing};
-ghost use Rattle.php_graph.specs.Graph.{keys_of, has_key};
+ghost use Rattle.php_graph.specs.Graph.{keys_of, holds_key};
 ghost use Rattle.php_graph.specs.Building.{IsAnswer};
 ghost use Rattle.php_graph.specs.Keys.{KnowsKeys, SeesKeys, HasKeys, HasMarks, is_above, raised};
-ghost use Rattle.php_graph.specs.Keys.{mark_of, repeat_fault};
+ghost use Rattle.php_graph.specs.Keys.{key_mark, repeat_fault};
 
 use crate::item::BuildFault;
 use crate::key::Key;
@@ -83,8 +83,8 @@ fn see(
     rises: bool,
 ) -> Result<(), BuildFault>
     requires sees { SeesKeys seen.old (keys_of kind.now) }
-    requires mark { mark ≡ mark_of key.now }
-    requires new { IsTrue rises → has_key (keys_of kind.now) key.now ≡ false }
+    requires mark { mark ≡ key_mark key.now }
+    requires new { IsTrue rises → holds_key (keys_of kind.now) key.now ≡ false }
     ensures answer { IsAnswer (repeat_fault (keys_of kind.now) key.now) result }
     ensures ok { OnOk result (SeesKeys seen.new (keys_of kind.now ++ key.now ∷ [])) }
     ensures err { OnErr result (SeesKeys seen.new (keys_of kind.now)) }
@@ -116,7 +116,7 @@ fn see_first(
     mark: u64,
 ) -> Result<(), BuildFault>
     requires nothing { seen.old ≡ Nothing }
-    requires mark { mark ≡ mark_of key.now }
+    requires mark { mark ≡ key_mark key.now }
     ensures answer { IsAnswer (repeat_fault (keys_of kind.now) key.now) result }
     ensures ok { OnOk result (SeesKeys seen.new (keys_of kind.now ++ key.now ∷ [])) }
     ensures err { OnErr result (SeesKeys seen.new (keys_of kind.now)) }
@@ -198,7 +198,7 @@ pub(crate) fn insert_copy(
 pub(crate) fn insert_mark(marks: &mut BTreeSet<u64>, mark: u64) -> Result<bool, AllocError>
     ensures new { IfOk result (λ new. new ≡ not (contains nat_cmp marks.old mark)) }
     ensures absent { OnErr result (contains nat_cmp marks.old mark ≡ false) }
-    ensures ok { OnOk result ((ks : List Key) (k : Key) → mark ≡ mark_of k → HasMarks ks marks.old
+    ensures ok { OnOk result ((ks : List Key) (k : Key) → mark ≡ key_mark k → HasMarks ks marks.old
         → HasMarks (ks ++ k ∷ []) marks.new) }
     ensures kept { (ks : List Key) → HasMarks ks marks.old → HasMarks ks marks.new }
 {

@@ -3,7 +3,7 @@
 ghost use Rattle.std.specs.Prelude.{◌≡◌, ◌<◌, ◌^◌, IfOk};
 ghost use Rattle.php_graph.specs.Building.{is_name};
 ghost use Rattle.php_graph.specs.Graph.{FitsKey};
-ghost use Rattle.php_graph.specs.Keys.{mark_of};
+ghost use Rattle.php_graph.specs.Keys.{key_mark};
 ghost use Rattle.php_graph.specs.Size.{key_cells};
 
 use crate::bytes::Bytes;
@@ -56,7 +56,7 @@ impl Key {
     // The key's mark. Equal keys have equal marks, and few others do. Marks of integers rise as
     // they do.
     pub(crate) fn mark(&self) -> u64
-        ensures { result ≡ mark_of self.now }
+        ensures { result ≡ key_mark self.now }
     {
         match self {
             Key::Int(number) => number.cast_unsigned().wrapping_add(TOP_BIT),

@@ -2,7 +2,7 @@
 
 ghost use Rattle.std.specs.Prelude.{◌≡◌, ◌<◌, ◌+◌, ◌^◌, ◌++◌, ◌∷◌, [], length, true, None, IsTrue};
 ghost use Rattle.std.specs.Prelude.{◌↔◌, IfOk, OnOk, IfErr, OnErr};
-ghost use Rattle.php_graph.specs.Graph.{keys_of, children_of, has_key, is_array, is_object};
+ghost use Rattle.php_graph.specs.Graph.{keys_of, children_of, holds_key, is_array, is_object};
 ghost use Rattle.php_graph.specs.Graph.{lowered_kind, FitsKind};
 ghost use Rattle.php_graph.specs.Building.{with_member, is_name, is_container};
 ghost use Rattle.php_graph.specs.Kept.{last_own};
@@ -34,7 +34,7 @@ pub enum Kind {
 impl Kind {
     // Whether a container has this key, or an object this name.
     pub(crate) fn has_key(&self, key: &Key) -> bool
-        ensures { result ≡ has_key (keys_of self.now) key.now }
+        ensures { result ≡ holds_key (keys_of self.now) key.now }
     {
         match self {
             Kind::Array(members) => members.has_key(key),

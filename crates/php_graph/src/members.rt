@@ -4,7 +4,7 @@ ghost use Rattle.std.specs.Prelude.{◌≡◌, ◌<◌, length, slice_set, [], I
 ghost use Rattle.std.specs.Prelude.{None, IfOk, OnOk, IfErr, OnErr, ◌+◌, ◌^◌, ◌∷◌, ◌++◌};
 ghost use Rattle.php_graph.specs.declared.key.Key.{Key};
 ghost use Rattle.php_graph.specs.declared.child.Child.{Child};
-ghost use Rattle.php_graph.specs.Graph.{lowered_members, has_key};
+ghost use Rattle.php_graph.specs.Graph.{lowered_members, holds_key};
 ghost use Rattle.php_graph.specs.Keys.{HasKeys, HasMarks};
 ghost use Rattle.php_graph.specs.Kept.{last_own};
 ghost use Rattle.std.specs.Prelude.{map, sum_by};
@@ -126,7 +126,7 @@ impl Members {
 
     // Whether the key is there.
     pub(crate) fn has_key(&self, key: &Key) -> bool
-        ensures { result ≡ has_key (map (λ m. m.0) self.now) key.now }
+        ensures { result ≡ holds_key (map (λ m. m.0) self.now) key.now }
     {
         for item in &self.items {
             if *key == item.0 {

@@ -5,7 +5,7 @@ ghost use Rattle.std.specs.Prelude.{slice_get, Some, None, IfOk, OnOk, IfErr, On
 ghost use Rattle.std.specs.Prelude.{◌++◌, map, sum_by};
 ghost use Rattle.php_graph.specs.declared.key.Key.TheVariants.{Str};
 ghost use Rattle.php_graph.specs.declared.child.Child.{Child};
-ghost use Rattle.php_graph.specs.Graph.{lowered_members, has_key};
+ghost use Rattle.php_graph.specs.Graph.{lowered_members, holds_key};
 ghost use Rattle.php_graph.specs.Keys.{HasKeys, HasMarks};
 ghost use Rattle.php_graph.specs.Kept.{last_own};
 ghost use Rattle.seg_words.specs.Layout.{words_in};
@@ -133,7 +133,7 @@ impl Props {
 
     // Whether the name is there.
     pub(crate) fn has_name(&self, name: &Bytes) -> bool
-        ensures { result ≡ has_key (map (λ p. Str p.0) self.now) (Str name.now) }
+        ensures { result ≡ holds_key (map (λ p. Str p.0) self.now) (Str name.now) }
     {
         let items: &Vec<(Bytes, Child)> = &self.items;
         for item in items {

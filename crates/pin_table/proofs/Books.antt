@@ -12,7 +12,7 @@ use Rattle.apcu_model.specs.declared.event.Event.{Event}
 use Rattle.pin_table.specs.declared.views.Known.{Known}
 use Rattle.pin_table.specs.declared.views.Book.{Book}
 use Rattle.pin_table.specs.Events.{events_of, fetched_last, is_fetch}
-use Rattle.pin_table.specs.Views.{is_in_hand, is_among, in_hand, newcomer, with_newcomer, with_hand, with_event, after_event, seen_all, with_closed}
+use Rattle.pin_table.specs.Views.{is_in_hand, is_among, in_hand, newcomer, with_newcomer, with_hand, with_event, known_after, seen_all, with_closed}
 use Rattle.pin_table.specs.Order.{Fits, BookInOrder, PassInOrder}
 use Rattle.pin_table.proofs.Lists.{differs, unlike, alike}
 
@@ -203,12 +203,12 @@ gives_old b e p q place n k inhand same ok =
       open_yet = ok.open_yet;
     }
 
-pub gives_new : (b : Book) (e : Event) (p : Known) (place : ℕ → ℕ) (n : ℕ) → BookInOrder b → b.hand ≡ Some p → e.worker ≡ p.worker → 0 < p.left → PassInOrder (with_event b e) (moved place p.worker n) n (after_event b e)
+pub gives_new : (b : Book) (e : Event) (p : Known) (place : ℕ → ℕ) (n : ℕ) → BookInOrder b → b.hand ≡ Some p → e.worker ≡ p.worker → 0 < p.left → PassInOrder (with_event b e) (moved place p.worker n) n (known_after b e)
 gives_new b e p place n ok inhand same some_left =
     let h : in_hand b.hand ≡ p = ap in_hand inhand in
     let f = ok.hand p inhand in
     let new : Known = record { worker = p.worker; left = p.left - 1; seen = b.history ++ e ∷ []; own = p.own ++ e ∷ [] } in
-    let is : new ≡ after_event b e = ap (λ (q : Known). let r : Known = record { worker = q.worker; left = q.left - 1; seen = b.history ++ e ∷ []; own = q.own ++ e ∷ [] } in r) (sym h) in
+    let is : new ≡ known_after b e = ap (λ (q : Known). let r : Known = record { worker = q.worker; left = q.left - 1; seen = b.history ++ e ∷ []; own = q.own ++ e ∷ [] } in r) (sym h) in
     subst (PassInOrder (with_event b e) (moved place p.worker n) n) is (record {
       fits = record {
         made = f.made;

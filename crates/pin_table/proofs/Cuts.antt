@@ -12,7 +12,7 @@ use Rattle.pin_table.specs.declared.views.View.{View}
 use Rattle.pin_table.specs.declared.views.View.TheVariants.{Writer, Idle, Copying, Spent}
 use Rattle.pin_table.specs.Events.{is_fetch}
 use Rattle.pin_table.specs.Pins.{pins_on, is_count}
-use Rattle.pin_table.specs.Views.{in_hand, is_in_hand, is_among, with_hand, with_event, after_event, taken, copied, reader_after, takes_in}
+use Rattle.pin_table.specs.Views.{in_hand, is_in_hand, is_among, with_hand, with_event, known_after, taken_in, copied, reader_after, takes_in}
 use Rattle.pin_table.specs.Order.{PassInOrder, ReaderInOrder}
 use Rattle.pin_table.specs.Rule.{IsCarried}
 use Rattle.pin_table.proofs.Lists.{differs, unlike, alike, at_end, at_less, pins_on-set}
@@ -24,17 +24,17 @@ use Rattle.pin_table.proofs.Steps.{At, at_desk}
 -- a pass comes into the hand
 pub takes : (d : Desk) (other : ℕ) (p : Known) → d.book.hand ≡ None → Joins {S = ℕ} {V = View} IsCarried 0 (Writer d) other (Idle p) (takes_in (Writer d) (Idle p)) Spent
 takes d other p nobody s kept at away there = record {
-  desk = taken d p;
+  desk = taken_in d p;
   place = a.place;
   copying = a.copying;
-  at = set_else (set s.views 0 (Writer (taken d p))) other 0 Spent (λ h. away (sym h)) ∙ set_here s.views 0 (Writer (taken d p)) a.some_view;
+  at = set_else (set s.views 0 (Writer (taken_in d p))) other 0 Spent (λ h. away (sym h)) ∙ set_here s.views 0 (Writer (taken_in d p)) a.some_view;
   count = a.count;
   each_word = a.each_word;
   desk_ok = desk_taken d a.copying p a.desk_ok (takes_book d.book a.place other p a.desk_ok.book ok.0) ok.1;
   idle = λ k q h. let b = back k (Idle q) (λ e. absurd (cc (e))) (λ e. absurd (cc (e))) h in let r = a.idle k q b.1 in (takes_old d.book a.place other k p q b.0 ok.0 r.0, r.1);
   copy = λ k c h. let b = back k (Copying c) (λ e. absurd (cc (e))) (λ e. absurd (cc (e))) h in let r = a.copy k c b.1 in (takes_old d.book a.place other k p c.known b.0 ok.0 r.0, record { some_block = r.1.some_block; copies = r.1.copies; first = r.1.first; content = r.1.content });
-  placed = placed_join d.book (with_hand d.book (Some p)) a.place s.views d (Writer (taken d p)) p other a.at (sym (set_else s.views 0 other (Writer (taken d p)) away) ∙ there) older a.placed;
-  copies = copies_join a.copying s.views d (taken d p) p other a.at there a.copies;
+  placed = placed_join d.book (with_hand d.book (Some p)) a.place s.views d (Writer (taken_in d p)) p other a.at (sym (set_else s.views 0 other (Writer (taken_in d p)) away) ∙ there) older a.placed;
+  copies = copies_join a.copying s.views d (taken_in d p) p other a.at there a.copies;
 }
   where
     older : (w : ℕ) → w < d.book.made → is_in_hand w (with_hand d.book (Some p)).hand ≡ false → is_among w (with_hand d.book (Some p)).closed ≡ false → (w ≢ p.worker) × (w < d.book.made) × (is_in_hand w d.book.hand ≡ false) × (is_among w d.book.closed ≡ false)
@@ -44,11 +44,11 @@ takes d other p nobody s kept at away there = record {
     a = at_desk s.words s.views d kept at
 
     ok : PassInOrder d.book (at_desk s.words s.views d kept at).place other p × (get_elem? (at_desk s.words s.views d kept at).copying p.worker ≡ some 0)
-    ok = (at_desk s.words s.views d kept at).idle other p (sym (set_else s.views 0 other (Writer (taken d p)) away) ∙ there)
+    ok = (at_desk s.words s.views d kept at).idle other p (sym (set_else s.views 0 other (Writer (taken_in d p)) away) ∙ there)
 
-    back : (k : ℕ) (v : View) → (Spent ≡ v → ⊥) → (Writer (taken d p) ≡ v → ⊥) → get_elem? (set (set s.views 0 (Writer (taken d p))) other Spent) k ≡ some v → ¬ (k ≡ other) × (get_elem? s.views k ≡ some v)
-    back k v ns nw h = ⊎_elim (λ (t : (k ≡ other) × (Spent ≡ v)). absurd (ns t.1)) (λ (t : (k ≢ other) × (get_elem? (set s.views 0 (Writer (taken d p))) k ≡ some v)).
-        ⊎_elim (λ (u : (k ≡ 0) × (Writer (taken d p) ≡ v)). absurd (nw u.1)) (λ (u : (k ≢ 0) × (get_elem? s.views k ≡ some v)). (t.0, u.1)) (at_set s.views 0 k (Writer (taken d p)) v t.1)) (at_set (set s.views 0 (Writer (taken d p))) other k Spent v h)
+    back : (k : ℕ) (v : View) → (Spent ≡ v → ⊥) → (Writer (taken_in d p) ≡ v → ⊥) → get_elem? (set (set s.views 0 (Writer (taken_in d p))) other Spent) k ≡ some v → ¬ (k ≡ other) × (get_elem? s.views k ≡ some v)
+    back k v ns nw h = ⊎_elim (λ (t : (k ≡ other) × (Spent ≡ v)). absurd (ns t.1)) (λ (t : (k ≢ other) × (get_elem? (set s.views 0 (Writer (taken_in d p))) k ≡ some v)).
+        ⊎_elim (λ (u : (k ≡ 0) × (Writer (taken_in d p) ≡ v)). absurd (nw u.1)) (λ (u : (k ≢ 0) × (get_elem? s.views k ≡ some v)). (t.0, u.1)) (at_set s.views 0 k (Writer (taken_in d p)) v t.1)) (at_set (set s.views 0 (Writer (taken_in d p))) other k Spent v h)
 
 -- the worker in the hand makes its event, and copies the pinned block
 pub pins_out : (d : Desk) (e : Event) (p : Known) → d.book.hand ≡ Some p → e.worker ≡ p.worker → is_fetch e.request ≡ true → 0 < p.left → 0 < d.pinning
@@ -97,7 +97,7 @@ pins_out d e p inhand same fetch some_left some_block s kept at = record {
         let w = (at_desk s.words s.views d kept at).each_word i in
         omega (arith, w, c2)
 
-    new : PassInOrder (with_event d.book e) (moved (at_desk s.words s.views d kept at).place p.worker (length s.views)) (length s.views) (after_event d.book e) × ReaderInOrder (copied d e) (set (at_desk s.words s.views d kept at).copying p.worker d.pinning) (reader_after d e)
+    new : PassInOrder (with_event d.book e) (moved (at_desk s.words s.views d kept at).place p.worker (length s.views)) (length s.views) (known_after d.book e) × ReaderInOrder (copied d e) (set (at_desk s.words s.views d kept at).copying p.worker d.pinning) (reader_after d e)
     new =
         let x = at_desk s.words s.views d kept at in (
           gives_new d.book e p x.place (length s.views) x.desk_ok.book inhand same some_left,

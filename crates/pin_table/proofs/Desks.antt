@@ -15,7 +15,7 @@ use Rattle.pin_table.specs.declared.views.Reader.{Reader}
 use Rattle.pin_table.specs.declared.views.Desk.{Desk}
 use Rattle.pin_table.specs.Events.{fetched_last, is_fetch}
 use Rattle.pin_table.specs.Pins.{pins_on, content_of, IsBlock, AreApart, refused_in}
-use Rattle.pin_table.specs.Views.{in_hand, is_in_hand, is_among, with_hand, with_event, with_closed, named_blocks, with_words, with_book, rested, taken, shut, freed, met, pinning_at, copied}
+use Rattle.pin_table.specs.Views.{in_hand, is_in_hand, is_among, with_hand, with_event, with_closed, named_blocks, with_words, with_book, rested, taken_in, shut, freed, met, pinning_at, copied}
 use Rattle.pin_table.specs.Order.{BookInOrder, DeskInOrder, ReaderInOrder}
 use Rattle.pin_table.proofs.Lists.{named_there, differs, unlike, alike, at_less, at_there, same_there, closed_back, closed_keeps, length-closed, holders_bit, held_bit, or_bit, pins_none, range_set}
 use Rattle.pin_table.proofs.Books.{fetched_after, fetched_nothing}
@@ -210,7 +210,7 @@ pins_shut ws copying w free pins v at h pos =
     set_else ws w v 0 (λ e. let s = same_there copying v 0 at (subst (λ u. get_elem? copying u ≡ some 0) (sym e) free) h in absurd (omega (arith, s))) ∙ pins v at h pos
 
 -- a pass comes into the hand
-pub desk_taken : (d : Desk) (copying : List ℕ) (p : Known) → DeskInOrder d copying → BookInOrder (with_hand d.book (Some p)) → get_elem? copying p.worker ≡ some 0 → DeskInOrder (taken d p) copying
+pub desk_taken : (d : Desk) (copying : List ℕ) (p : Known) → DeskInOrder d copying → BookInOrder (with_hand d.book (Some p)) → get_elem? copying p.worker ≡ some 0 → DeskInOrder (taken_in d p) copying
 desk_taken d copying p ok book free = record {
   book = book;
   few = ok.few;

@@ -18,7 +18,7 @@ use Rattle.pin_table.specs.declared.views.View.{View}
 use Rattle.pin_table.specs.declared.views.View.TheVariants.{Writer, Idle, Copying, Spent}
 use Rattle.pin_table.specs.Events.{fetched_last}
 use Rattle.pin_table.specs.Pins.{pins_on, content_of}
-use Rattle.pin_table.specs.Views.{in_hand, is_in_hand, is_among, newcomer, with_newcomer, with_hand, with_event, after_event, seen_all, with_closed, desk_of, with_book, rested, shut, on_desk, from_book, closes, first_view}
+use Rattle.pin_table.specs.Views.{in_hand, is_in_hand, is_among, newcomer, with_newcomer, with_hand, with_event, known_after, seen_all, with_closed, desk_of, with_book, rested, shut, on_desk, from_book, closes, first_view}
 use Rattle.pin_table.specs.Order.{PassInOrder, DeskInOrder, Carried, AllPlaced}
 use Rattle.pin_table.specs.Rule.{IsCarried}
 use Rattle.pin_table.proofs.Lists.{differs, unlike, alike, at_end, pins_none}
@@ -69,16 +69,16 @@ makes d room s kept at =
     (placed_cut d.book b a.place s.views d (Writer (with_book d b)) (Idle (newcomer d.book)) d.book.made a.at (alike d.book.made d.book.made refl) (λ w ne m h c. (omega (arith, m, ne), h, c)) a.placed)
 
 pub gives : (d : Desk) (e : Event) (p : Known) → d.book.hand ≡ Some p → e.worker ≡ p.worker → 0 < p.left
-    → Splits {S = ℕ} {V = View} IsCarried 0 (Writer d) (on_desk (λ d. rested d (with_event d.book e)) (Writer d)) (from_book (λ b. after_event b e) (Writer d))
+    → Splits {S = ℕ} {V = View} IsCarried 0 (Writer d) (on_desk (λ d. rested d (with_event d.book e)) (Writer d)) (from_book (λ b. known_after b e) (Writer d))
 gives d e p inhand same some_left s kept at =
     let a = at_desk s.words s.views d kept at in
     let b = with_event d.book e in
     let n = length s.views in
-    cut_idle s.words s.views d (rested d b) a (moved a.place p.worker n) (after_event d.book e) refl refl
+    cut_idle s.words s.views d (rested d b) a (moved a.place p.worker n) (known_after d.book e) refl refl
     (desk_rested d a.copying b a.desk_ok (gives_book d.book e p a.desk_ok.book inhand same some_left) refl refl (λ v at h pos. let f = other_fetched d a.copying e p a.desk_ok inhand same v at h pos in (f.1, f.2)))
     (λ k q r. gives_old d.book e p q a.place n k inhand same r) (gives_new d.book e p a.place n a.desk_ok.book inhand same some_left)
     (ap (λ h. get_elem? a.copying (in_hand h).worker) inhand ∙ hand_free d a.copying p a.desk_ok inhand)
-    (placed_cut d.book b a.place s.views d (Writer (rested d b)) (Idle (after_event d.book e)) p.worker a.at (alike (in_hand d.book.hand).worker p.worker (ap (λ h. (in_hand h).worker) inhand)) (λ w n m h c. (m, ap (is_in_hand w) inhand ∙ unlike p.worker w (λ q. n (sym q)), c)) a.placed)
+    (placed_cut d.book b a.place s.views d (Writer (rested d b)) (Idle (known_after d.book e)) p.worker a.at (alike (in_hand d.book.hand).worker p.worker (ap (λ h. (in_hand h).worker) inhand)) (λ w n m h c. (m, ap (is_in_hand w) inhand ∙ unlike p.worker w (λ q. n (sym q)), c)) a.placed)
 
 pub goes_back : (d : Desk) (p : Known) → d.book.hand ≡ Some p
     → Splits {S = ℕ} {V = View} IsCarried 0 (Writer d) (on_desk (λ d. rested d (with_hand d.book None)) (Writer d)) (from_book (λ b. in_hand b.hand) (Writer d))

@@ -14,7 +14,7 @@ use Rattle.pin_table.specs.declared.views.View.{View}
 use Rattle.pin_table.specs.declared.views.View.TheVariants.{Writer, Idle, Copying, Spent}
 use Rattle.pin_table.specs.Events.{is_fetch}
 use Rattle.pin_table.specs.Pins.{IsBlock, AreApart, refused_in}
-use Rattle.pin_table.specs.Views.{in_hand, is_among, newcomer, with_newcomer, with_book, with_hand, with_event, after_event, seen_all, rested, copied, reader_after, on_desk, from_book, takes_in, closes, first_view}
+use Rattle.pin_table.specs.Views.{in_hand, is_among, newcomer, with_newcomer, with_book, with_hand, with_event, known_after, seen_all, rested, copied, reader_after, on_desk, from_book, takes_in, closes, first_view}
 use Rattle.pin_table.specs.Rule.{IsRuled}
 use Rattle.pin_table.specs.Plays.{Looks, Reads, Writes, Probes, Pins, Copies, Releases}
 use Rattle.pin_table.proofs.Desks.{Outside}
@@ -37,7 +37,7 @@ pub takes : (d : Desk) (other : ℕ) (p : Known) → d.book.hand ≡ None → Jo
 takes d other p nobody s rule at away there = rule_of _ _ (cuts.takes d other p nobody s rule.carried at away there)
 
 -- the worker in the hand makes its event
-pub gives : (d : Desk) (e : Event) (p : Known) → d.book.hand ≡ Some p → e.worker ≡ p.worker → 0 < p.left → Splits {S = ℕ} {V = View} IsRuled 0 (Writer d) (on_desk (λ d. rested d (with_event d.book e)) (Writer d)) (from_book (λ b. after_event b e) (Writer d))
+pub gives : (d : Desk) (e : Event) (p : Known) → d.book.hand ≡ Some p → e.worker ≡ p.worker → 0 < p.left → Splits {S = ℕ} {V = View} IsRuled 0 (Writer d) (on_desk (λ d. rested d (with_event d.book e)) (Writer d)) (from_book (λ b. known_after b e) (Writer d))
 gives d e p inhand same some_left s rule at = rule_of _ _ (first.gives d e p inhand same some_left s rule.carried at)
 
 -- the pass goes back as it was

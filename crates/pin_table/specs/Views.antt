@@ -112,8 +112,8 @@ with_event b e = record {
 }
 
 -- the pass after its event: it has seen the history with the event, and has one less left
-abbrev pub after_event : Book → Event → Known
-after_event b e = record {
+abbrev pub known_after : Book → Event → Known
+known_after b e = record {
   worker = (in_hand b.hand).worker;
   left = (in_hand b.hand).left - 1;
   seen = b.history ++ e ∷ [];
@@ -182,8 +182,8 @@ rested d b = record {
 }
 
 -- a pass comes into the hand, and its window closes
-abbrev pub taken : Desk → Known → Desk
-taken d p = record {
+abbrev pub taken_in : Desk → Known → Desk
+taken_in d p = record {
   words = d.words;
   book = with_hand d.book (Some p);
   windows = slice_set d.windows p.worker 0;
@@ -245,7 +245,7 @@ copied d e = record {
 
 abbrev pub reader_after : Desk → Event → Reader
 reader_after d e = record {
-  known = after_event d.book e;
+  known = known_after d.book e;
   block = d.pinning;
   first = image_place d.words d.pinning;
   content = content_of d.words d.pinning;
@@ -270,7 +270,7 @@ on_desk f (Copying c) = Copying c
 on_desk f Spent = Spent
 
 abbrev pub takes_in : View → View → View
-takes_in v w = on_desk (λ d. taken d (known_of w)) v
+takes_in v w = on_desk (λ d. taken_in d (known_of w)) v
 
 abbrev pub closes : View → View → View
 closes v w = on_desk (λ d. shut d (known_of w)) v

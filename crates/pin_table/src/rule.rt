@@ -133,11 +133,11 @@ pub struct Give<Q> {
 }
 
 impl<Q: Saying> Split<View> for Give<Q> {
-    ghost use Rattle.pin_table.specs.Views.{on_desk, rested, from_book, with_event, after_event};
+    ghost use Rattle.pin_table.specs.Views.{on_desk, rested, from_book, with_event, known_after};
 
     ghost left = { on_desk (λ d. rested d (with_event d.book Q.event)) };
 
-    ghost right = { from_book (λ b. after_event b Q.event) };
+    ghost right = { from_book (λ b. known_after b Q.event) };
 }
 
 // The pass goes back as it was.

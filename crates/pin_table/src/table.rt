@@ -7,8 +7,8 @@ ghost use Rattle.seg_words.specs.Blocks.{IsTold, MayStore, MayProbe, image_place
 ghost use Rattle.pin_table.specs.Events.{is_fetch};
 ghost use Rattle.pin_table.specs.Pins.{IsBlock, MeetsNone, refused_in};
 ghost use Rattle.pin_table.specs.Views.{is_among, desk_of, in_hand, with_words, with_book};
-ghost use Rattle.pin_table.specs.Views.{with_hand, with_event, after_event, newcomer};
-ghost use Rattle.pin_table.specs.Views.{with_newcomer, seen_all, rested, taken, shut, probed};
+ghost use Rattle.pin_table.specs.Views.{with_hand, with_event, known_after, newcomer};
+ghost use Rattle.pin_table.specs.Views.{with_newcomer, seen_all, rested, taken_in, shut, probed};
 ghost use Rattle.pin_table.specs.Views.{pinning_at, copied, reader_after, first_view};
 ghost use Rattle.pin_table.specs.Order.{DeskInOrder};
 ghost use Rattle.std.specs.Mem.Slots.{slots_items, slots_len, IsFull};
@@ -198,7 +198,7 @@ impl PinTable {
         requires pass { pass.table ≡ self.now }
         requires hand { seat.old.desk.book.hand ≡ None }
         ensures table { seat.new.table ≡ seat.old.table }
-        ensures desk { seat.new.desk ≡ taken seat.old.desk pass.known }
+        ensures desk { seat.new.desk ≡ taken_in seat.old.desk pass.known }
         ensures whole { length seat.new.desk.words ≡ self.now.words }
         ensures short { length seat.new.desk.words < 2 ^ 32 }
     {
@@ -271,7 +271,7 @@ impl PinTable {
         ensures desk { seat.new.desk
             ≡ rested seat.old.desk (with_event seat.old.desk.book Q.event) }
         ensures pass { result.table ≡ self.now }
-        ensures known { result.known ≡ after_event seat.old.desk.book Q.event }
+        ensures known { result.known ≡ known_after seat.old.desk.book Q.event }
     {
         let own = self.table.shared.split_seat::<Give<Q>>(&mut seat.seat);
         seat.mask = 0;

@@ -8,7 +8,8 @@ ghost use Rattle.apcu_model.specs.declared.request.Request.TheVariants as reques
 ghost use Rattle.pin_table.specs.Events.{event, events_of, is_fetch};
 ghost use Rattle.apcu_model.specs.Asking.{asked};
 ghost use Rattle.pin_table.specs.Pins.{IsBlock, MeetsNone, MayPin};
-ghost use Rattle.pin_table.specs.Views.{in_hand, taken, rested, with_hand, with_event, after_event};
+ghost use Rattle.pin_table.specs.Views.{in_hand, taken_in, rested, with_hand, with_event};
+ghost use Rattle.pin_table.specs.Views.{known_after};
 ghost use Rattle.pin_table.specs.Views.{seen_all, pinning_at, copied, reader_after, aside_of};
 ghost use Rattle.pin_table.specs.Order.{DeskInOrder};
 
@@ -109,7 +110,7 @@ impl PinTable {
         requires left { 1 ≤ pass.known.left }
         ensures same_reference { result.seat.ghost_name ≡ seat.entry.ghost_name }
         ensures table { result.table.now ≡ self.now }
-        ensures desk { result.seat.now.desk ≡ taken seat.old.desk pass.known }
+        ensures desk { result.seat.now.desk ≡ taken_in seat.old.desk pass.known }
         ensures worker { result.worker ≡ pass.known.worker }
         ensures left { result.left ≡ pass.known.left }
         ensures seen { IsPrefix pass.known.seen seat.old.desk.book.history }
@@ -146,7 +147,7 @@ impl Writer<'_> {
             (event self.entry.worker t (asked ask.entry) self.entry.seat.now.desk.mask)) }
         ensures pass { result.table ≡ self.entry.seat.now.table }
         ensures known { result.known
-            ≡ after_event self.entry.seat.now.desk.book
+            ≡ known_after self.entry.seat.now.desk.book
             (event self.entry.worker t (asked ask.entry) self.entry.seat.now.desk.mask) }
         ensures order { (copying : List ℕ) × DeskInOrder self.entry.seat.now.desk copying }
     {
@@ -173,7 +174,7 @@ impl Writer<'_> {
             (event self.entry.worker 0 request.Retire self.entry.seat.now.desk.mask)) }
         ensures ended { result.table ≡ self.entry.seat.now.table }
         ensures known { result.known
-            ≡ after_event self.entry.seat.now.desk.book
+            ≡ known_after self.entry.seat.now.desk.book
             (event self.entry.worker 0 request.Retire self.entry.seat.now.desk.mask) }
         ensures order { (copying : List ℕ) × DeskInOrder self.entry.seat.now.desk copying }
     {
@@ -287,7 +288,7 @@ fn give_as<Q: Saying>(
         (event worker t (asked ask.entry) mask)) }
     ensures pass { result.table ≡ table.entry.now }
     ensures known { result.known
-        ≡ after_event seat.old.desk.book (event worker t (asked ask.entry) mask) }
+        ≡ known_after seat.old.desk.book (event worker t (asked ask.entry) mask) }
 {
     table.give::<Q>(seat, worker, left)
 }

@@ -11,7 +11,7 @@ use Rattle.apcu_model.specs.declared.request.Reply.{Reply}
 use Rattle.apcu_model.specs.History.{Stage, start_of, stage_of, reply_in, after_event, after_events, all_legal, is_legal_mask, mark_of, marks_of}
 use Rattle.pin_table.specs.Events.{events_of}
 use Rattle.script_read.specs.declared.script.Step.{Step}
-use Rattle.script_read.specs.Play.{Wish, Play, wanted, replies_of, wish_of, after_wish, marked, played_from, played, IsLegal, IsComplete, are_done, is_complete_play}
+use Rattle.script_read.specs.Play.{Wish, Play, wanted, replies_of, wish_of, after_wish, marked, played_from, played, IsLegal, IsCompletePlay, are_done, is_complete_play}
 use Rattle.play_laws.specs.Own.{own_replies, wish_in, all_asked}
 use Rattle.play_laws.specs.Whole.{IsPlayedOut, replies_from, told_by}
 use Rattle.play_laws.proofs.OwnLemmas.{cond_joined, one-more, length-own_replies}
@@ -206,7 +206,7 @@ done_from conf w (s ∷ scripts) history asked =
     true_both (is_none (wanted conf s own)) (are_done conf scripts (replies_from conf (w + 1) scripts history)) (ap (λ (o : Option Wish). is_none o) none)
     (done_from conf (w + 1) scripts history (λ k v script at is. asked (suc k) v script at (omega arith)))
 
-pub is_complete : (conf : Conf) (scripts : List (List Step)) (history : List Event) → IsPlayedOut conf scripts history → IsComplete conf scripts (marks_of history)
+pub is_complete : (conf : Conf) (scripts : List (List Step)) (history : List Event) → IsPlayedOut conf scripts history → IsCompletePlay conf scripts (marks_of history)
 is_complete conf scripts history out =
     subst (λ (o : Option Play). IsTrue (is_complete_play conf scripts o)) (sym (played_is_told conf scripts history out))
     (done_from conf 0 scripts history (λ k v script at is. out.asked v script (ap (slice_get scripts) (is ∙ omega arith) ∙ at)))

@@ -1,11 +1,12 @@
-ghost use Rattle.std.specs.Prelude.{◌≡◌, ℕ, ◌<◌, ◌==◌, cond, List, [], ◌∷◌, ◌++◌, length, Some, slice_get};
+ghost use Rattle.std.specs.Prelude.{◌≡◌, ℕ, ◌<◌, ◌==◌, cond, List, [], ◌∷◌, ◌++◌, length, Some};
+ghost use Rattle.std.specs.Prelude.{slice_get};
 ghost use Rattle.apcu_model.specs.declared.conf.Conf.{Conf};
 ghost use Rattle.apcu_model.specs.declared.event.Event.{Event};
 ghost use Rattle.apcu_model.specs.declared.request.Reply.{Reply};
 ghost use Rattle.apcu_model.specs.History.{stage_of, reply_in, marks_of};
 ghost use Rattle.pin_table.specs.Events.{events_of};
 ghost use Rattle.script_read.specs.declared.script.Step.{Step};
-ghost use Rattle.script_read.specs.Play.{IsLegal, IsComplete, played, replies_of, wanted};
+ghost use Rattle.script_read.specs.Play.{IsLegal, IsCompletePlay, played, replies_of, wanted};
 ghost use Rattle.play_laws.specs.Own.{own_replies, all_asked};
 ghost use Rattle.play_laws.specs.Whole.{IsPlayedOut, told_by};
 
@@ -44,5 +45,5 @@ pub fn histories_are_plays()
     ensures legal { (conf : Conf) (scripts : List (List Step)) (history : List Event)
         → IsPlayedOut conf scripts history → IsLegal conf scripts (marks_of history) }
     ensures complete { (conf : Conf) (scripts : List (List Step)) (history : List Event)
-        → IsPlayedOut conf scripts history → IsComplete conf scripts (marks_of history) }
+        → IsPlayedOut conf scripts history → IsCompletePlay conf scripts (marks_of history) }
 {}

@@ -7,7 +7,7 @@ use Rattle.apcu_model.specs.declared.request.Request.TheVariants as requests
 use Rattle.apcu_model.specs.declared.request.Reply.{Reply}
 use Rattle.script_read.specs.declared.call.Call.{Call}
 use Rattle.script_read.specs.declared.call.Call.TheVariants.{StoreOne, StoreMany, FetchOne, FetchMany, ExistsOne, ExistsMany, DeleteOne, DeleteMany, Inc, Cas, Clear, Enabled}
-use Rattle.script_read.specs.Calls.{events_of}
+use Rattle.script_read.specs.Calls.{event_bound}
 use Rattle.script_read.specs.Play.{Asks, asks_each, next_of}
 
 each_few : (asked : List Request) (replies : List Reply) (request : Request) → asks_each asked replies ≡ Asks request → length replies < length asked
@@ -22,7 +22,7 @@ map_len f (x ∷ xs) = ap suc (map_len f xs)
 many_few : {A : Type 0} (f : A → Request) (xs : List A) (replies : List Reply) (request : Request) → asks_each (map f xs) replies ≡ Asks request → length replies < length xs
 many_few f xs replies request e = omega (arith, each_few (map f xs) replies request e, map_len f xs)
 
-pub asks_few : (conf : Conf) (call : Call) (replies : List Reply) (request : Request) → next_of conf call replies ≡ Asks request → length replies < events_of conf.slots call
+pub asks_few : (conf : Conf) (call : Call) (replies : List Reply) (request : Request) → next_of conf call replies ≡ Asks request → length replies < event_bound conf.slots call
 asks_few conf (StoreOne key value ttl exclusive) replies request e = each_few (requests.Store key value ttl exclusive ∷ []) replies request e
 asks_few conf (StoreMany pairs ttl exclusive) replies request e = many_few (λ (pair : List ℕ × List Kind). requests.Store pair.0 pair.1 ttl exclusive) pairs replies request e
 asks_few conf (FetchOne key) replies request e = each_few (requests.Fetch key ∷ []) replies request e

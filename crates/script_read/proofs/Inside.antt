@@ -12,7 +12,7 @@ use Rattle.script_read.specs.declared.effect.Effect.TheVariants.{Sets, Calls}
 use Rattle.script_read.specs.declared.script.Step.{Step}
 use Rattle.script_read.specs.Table.{Form, Done, Need, May, Refuse}
 use Rattle.script_read.specs.Grammar.{most_workers}
-use Rattle.script_read.specs.Reading.{space_at, one_more_at, end_at, ends_here, rest_at, word_len, word_at, behind_word, worker_at, form_after, line_at, is_worker, Rest, with_effect, lines_at, scripts_at}
+use Rattle.script_read.specs.Reading.{space_at, one_more_at, end_at, ends_here, rest_at, word_len, line_word, behind_word, worker_at, form_after, line_at, is_worker, Rest, with_effect, lines_at, scripts_at}
 
 -- no more than n bytes are left, or are there from the fault on
 abbrev Within : {A : Type 0} → ℕ → (A → List ℕ) → Result A Fault → Type 0
@@ -83,7 +83,7 @@ worker_within n begun line h =
     cond_within n same (nat_lt begun most_workers) (end_at (behind_word line)) (fail reasons.Workers line) (end_within n (behind_word line) (omega (arith, h, length-drop (word_len line) line))) h
 
 line_within : ValuesInside → (n begun : ℕ) (line : List ℕ) → length line ≤ n → Within n (behind {A = Effect}) (line_at begun line)
-line_within law n begun line h = form_within law (form_after begun (word_at line)) n line (behind_word line) h (omega (arith, h, length-drop (word_len line) line))
+line_within law n begun line h = form_within law (form_after begun (line_word line)) n line (behind_word line) h (omega (arith, h, length-drop (word_len line) line))
 
 effect_within : (n t : ℕ) (others : ℕ → Result Rest Fault) (e : Effect) → ((u : ℕ) → Within n (none {A = Rest}) (others u)) → Within n (none {A = Rest}) (with_effect t others e)
 effect_within n t others (Sets u) within = within u

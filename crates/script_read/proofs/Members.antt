@@ -12,7 +12,7 @@ use Rattle.php_graph.specs.declared.kind.Kind.TheVariants as kinds
 use Rattle.php_graph.specs.Graph.{kind_at, children_of, child_end, ends_after, end_of, IsGraph}
 use Rattle.script_read.specs.declared.given.Asked.TheVariants as asks
 use Rattle.script_read.specs.declared.given.Stored.TheVariants as stores
-use Rattle.script_read.specs.Arguments.{each, key, members, keys, pairs, asked, stored, or_else, IsThere}
+use Rattle.script_read.specs.Arguments.{each, key, members, keys, pairs, asked_of, stored, or_else, IsThere}
 use Rattle.script_read.proofs.Forms.{some_is, then_some}
 
 -- ---- one by one
@@ -146,7 +146,7 @@ no_key (kinds.Array ms ∷ places) other = refl
 no_key (kinds.Object class ps ∷ places) other = refl
 no_key (kinds.Same x ∷ places) other = refl
 
-pub asked_many : (g : List Kind) → ((bytes : List ℕ) → g ≡ kinds.Str bytes ∷ [] → ⊥) → asked g ≡ option_map asks.Many (keys g)
+pub asked_many : (g : List Kind) → ((bytes : List ℕ) → g ≡ kinds.Str bytes ∷ [] → ⊥) → asked_of g ≡ option_map asks.Many (keys g)
 asked_many g other = ap (λ (o : Option (List ℕ)). or_else (option_map asks.One o) (option_map asks.Many (keys g))) (no_key g other)
 
 pub stored_many : (g : List Kind) → ((bytes : List ℕ) → g ≡ kinds.Str bytes ∷ [] → ⊥) → stored g ≡ option_map stores.Many (pairs g)

@@ -11,13 +11,13 @@ use Rattle.script_read.specs.declared.effect.Effect.{Effect}
 use Rattle.script_read.specs.declared.effect.Effect.TheVariants.{Sets, Calls}
 use Rattle.script_read.specs.declared.given.Stored.{Stored}
 use Rattle.script_read.specs.declared.given.Stored.TheVariants as stores
-use Rattle.script_read.specs.Arguments.{any_value, key, integer, null, ttl, moment, asked, stored}
+use Rattle.script_read.specs.Arguments.{any_value, key, integer, null, ttl, moment, asked_of, stored}
 use Rattle.script_read.specs.Table.{Form, Done, Need, May, Refuse, or_refuse, taken, needs, may, calls, store_one, store_many, store_by, fetch_of, exists_of, delete_of, step_by, count_form, cas_form, form_in, form_of}
-use Rattle.script_read.specs.Reading.{space_at, ends_here, end_at, chosen, choice_at, argument_at, optional_at, last_argument_at, rest_at, word_at, behind_word, before_worker, form_after, line_at}
+use Rattle.script_read.specs.Reading.{space_at, ends_here, end_at, chosen, choice_at, argument_at, optional_at, last_argument_at, rest_at, line_word, behind_word, before_worker, form_after, line_at}
 use Rattle.script_read.specs.declared.keyword.Keyword.{Keyword}
 use Rattle.script_read.specs.declared.fault.Stop.{Stop}
 use Rattle.script_read.specs.declared.fault.Stop.TheVariants as stops
-use Rattle.script_read.specs.Gives.{Stops, Gives, form_named}
+use Rattle.script_read.specs.Gives.{Stops, GivesItem, form_named}
 use Rattle.notation.specs.declared.fault.Reason.{Reason}
 
 -- a form that refuses nothing by itself
@@ -113,17 +113,17 @@ effect_last {A = A} (Ok x) effect = by_end (end_at x.1)
     by_end (Ok rest) = refl
     by_end (Err e) = refl
 
-pub fetch_is : (last bytes : List ℕ) → rest_at (form_of (codes "apcu_fetch")) last bytes ≡ (last_argument_at asked bytes >>= λ a. Ok (Calls (fetch_of a.0), a.1))
+pub fetch_is : (last bytes : List ℕ) → rest_at (form_of (codes "apcu_fetch")) last bytes ≡ (last_argument_at asked_of bytes >>= λ a. Ok (Calls (fetch_of a.0), a.1))
 unfolding form_in rest_at
-fetch_is last bytes = needs_is asked (λ a. calls (fetch_of a)) last bytes (λ a. tt) ∙ effect_last (argument_at asked bytes) (λ a. Calls (fetch_of a))
+fetch_is last bytes = needs_is asked_of (λ a. calls (fetch_of a)) last bytes (λ a. tt) ∙ effect_last (argument_at asked_of bytes) (λ a. Calls (fetch_of a))
 
-pub exists_is : (last bytes : List ℕ) → rest_at (form_of (codes "apcu_exists")) last bytes ≡ (last_argument_at asked bytes >>= λ a. Ok (Calls (exists_of a.0), a.1))
+pub exists_is : (last bytes : List ℕ) → rest_at (form_of (codes "apcu_exists")) last bytes ≡ (last_argument_at asked_of bytes >>= λ a. Ok (Calls (exists_of a.0), a.1))
 unfolding form_in rest_at
-exists_is last bytes = needs_is asked (λ a. calls (exists_of a)) last bytes (λ a. tt) ∙ effect_last (argument_at asked bytes) (λ a. Calls (exists_of a))
+exists_is last bytes = needs_is asked_of (λ a. calls (exists_of a)) last bytes (λ a. tt) ∙ effect_last (argument_at asked_of bytes) (λ a. Calls (exists_of a))
 
-pub delete_is : (last bytes : List ℕ) → rest_at (form_of (codes "apcu_delete")) last bytes ≡ (last_argument_at asked bytes >>= λ a. Ok (Calls (delete_of a.0), a.1))
+pub delete_is : (last bytes : List ℕ) → rest_at (form_of (codes "apcu_delete")) last bytes ≡ (last_argument_at asked_of bytes >>= λ a. Ok (Calls (delete_of a.0), a.1))
 unfolding form_in rest_at
-delete_is last bytes = needs_is asked (λ a. calls (delete_of a)) last bytes (λ a. tt) ∙ effect_last (argument_at asked bytes) (λ a. Calls (delete_of a))
+delete_is last bytes = needs_is asked_of (λ a. calls (delete_of a)) last bytes (λ a. tt) ∙ effect_last (argument_at asked_of bytes) (λ a. Calls (delete_of a))
 
 -- ---- counters
 
@@ -165,15 +165,15 @@ stored_fails exclusive last bytes stops.Memory stop = tt
 stored_fails exclusive last bytes (stops.Fault f) stop = stored_is exclusive last bytes ∙ ap (λ (r : Result (Stored × List ℕ) Fault). r >>= λ x. rest_at (store_by exclusive x.0) [] x.1) stop
 
 -- the same reading gives the same
-pub moved : {X Y : Type 0} (view : X → Y) (r : Result X Stop) (a b : Result Y Fault) → a ≡ b → Gives view r b → Gives view r a
-moved view r a b e h = subst (λ c. Gives view r c) (sym e) h
+pub moved : {X Y : Type 0} (view : X → Y) (r : Result X Stop) (a b : Result Y Fault) → a ≡ b → GivesItem view r b → GivesItem view r a
+moved view r a b e h = subst (λ c. GivesItem view r c) (sym e) h
 
 -- ---- the first line
 
-first_reads : (begun : ℕ) (line word : List ℕ) (keyword : Keyword) (reason : Reason) → begun ≡ 0 → word ≡ word_at line → form_of word ≡ form_named keyword → before_worker (form_named keyword) ≡ Refuse reason → line_at begun line ≡ fail reason line
+first_reads : (begun : ℕ) (line word : List ℕ) (keyword : Keyword) (reason : Reason) → begun ≡ 0 → word ≡ line_word line → form_of word ≡ form_named keyword → before_worker (form_named keyword) ≡ Refuse reason → line_at begun line ≡ fail reason line
 unfolding rest_at
 first_reads begun line word keyword reason none is named refused =
-    ap (λ (n : ℕ). rest_at (form_after n (word_at line)) line (behind_word line)) none
+    ap (λ (n : ℕ). rest_at (form_after n (line_word line)) line (behind_word line)) none
     ∙ (ap (λ (w : List ℕ). rest_at (before_worker (form_of w)) line (behind_word line)) (sym is)
     ∙ (ap (λ (f : Form). rest_at (before_worker f) line (behind_word line)) named
     ∙ ap (λ (f : Form). rest_at f line (behind_word line)) refused))
@@ -183,6 +183,6 @@ fault_is : (A B : Type 0) (e : Stop) (reason : Reason) (bytes : List ℕ) → St
 fault_is A B stops.Memory reason bytes stop = tt
 fault_is A B (stops.Fault f) reason bytes stop = cc
 
-pub first_refused : (e : Stop) (begun : ℕ) (line word : List ℕ) (keyword : Keyword) (reason : Reason) → begun ≡ 0 → word ≡ word_at line → form_of word ≡ form_named keyword → before_worker (form_named keyword) ≡ Refuse reason → Stops {Y = ℕ} e (fail reason line) → Stops e (line_at begun line)
+pub first_refused : (e : Stop) (begun : ℕ) (line word : List ℕ) (keyword : Keyword) (reason : Reason) → begun ≡ 0 → word ≡ line_word line → form_of word ≡ form_named keyword → before_worker (form_named keyword) ≡ Refuse reason → Stops {Y = ℕ} e (fail reason line) → Stops e (line_at begun line)
 first_refused e begun line word keyword reason none is named refused stop =
     subst (λ (r : Result (Effect × List ℕ) Fault). Stops e r) (sym (first_reads begun line word keyword reason none is named refused)) (fault_is ℕ (Effect × List ℕ) e reason line stop)

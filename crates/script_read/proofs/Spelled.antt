@@ -17,7 +17,7 @@ use Rattle.script_read.specs.declared.effect.Effect.TheVariants.{Sets, Calls}
 use Rattle.script_read.specs.declared.script.Step.{Step}
 use Rattle.script_read.specs.Table.{Form, Done, Need, May, Refuse, table, form_in, form_of}
 use Rattle.script_read.specs.Grammar.{Line, arguments_text, AreArguments, ends_line, line_text, script_text, effect_by, effect_of, steps_after, steps_of, Mean, most_workers, AreScripts}
-use Rattle.script_read.specs.Reading.{ends_word, word_len, word_at, behind_word, end_at, rest_at, worker_at, before_worker, line_at, is_worker, Rest, with_effect, lines_at, scripts_at}
+use Rattle.script_read.specs.Reading.{ends_word, word_len, line_word, behind_word, end_at, rest_at, worker_at, before_worker, line_at, is_worker, Rest, with_effect, lines_at, scripts_at}
 use Rattle.script_read.specs.Ties.{AreSomeBytes}
 use Rattle.script_read.proofs.Forms.{ValuesTake, ValuesAgain, FormsTake, FormsAgain, bind_ok, ok_is, some_is, then_some, chosen, end_takes, bytes_after, forms_take, forms_again}
 
@@ -86,7 +86,7 @@ behind_is (a ∷ more) rest = record { first = 32; others = (text_of a ++ argume
 len_again : (w behind : List ℕ) → list_all is_letter w ≡ true → EndsWord behind → word_len (w ++ behind) ≡ length w
 len_again w behind letters p = ap (λ (l : List ℕ). word_len (w ++ l)) p.is ∙ word_len_again w p.first p.others letters p.ends
 
-word_again : (w behind : List ℕ) → list_all is_letter w ≡ true → EndsWord behind → word_at (w ++ behind) ≡ w
+word_again : (w behind : List ℕ) → list_all is_letter w ≡ true → EndsWord behind → line_word (w ++ behind) ≡ w
 word_again w behind letters p = ap (λ (n : ℕ). take n (w ++ behind)) (len_again w behind letters p) ∙ take-append_seam w behind
 
 behind_again : (w behind : List ℕ) → list_all is_letter w ≡ true → EndsWord behind → behind_word (w ++ behind) ≡ behind
@@ -106,7 +106,7 @@ line_again forms begun line e rest are means =
     let behind = arguments_text line.arguments ++ (ends_line ++ rest) in
     let row = both (list_all is_letter w) (not (bytes_eq w (codes "worker"))) (word_in_rows table w line.arguments e table_words means) in
     let p = behind_is line.arguments rest in
-    let word : word_at (w ++ behind) ≡ w = word_again w behind row.0 p in
+    let word : line_word (w ++ behind) ≡ w = word_again w behind row.0 p in
     subst (λ (l : List ℕ). IsLineRead begun l e rest) (sym (line_parts line rest))
     (record {
       no_worker = ap (λ (l : List ℕ). bytes_eq l (codes "worker")) word ∙ is_false (bytes_eq w (codes "worker")) row.1;
@@ -231,23 +231,23 @@ pub record IsLineTaken (begun : ℕ) (bytes : List ℕ) (e : Effect) (rest : Lis
   pub some : 1 ≤ begun
 
 line_takes : FormsTake → (begun : ℕ) (bytes : List ℕ) (e : Effect) (rest : List ℕ) → AreSomeBytes bytes → line_at begun bytes ≡ Ok (e, rest) → IsLineTaken begun bytes e rest
-line_takes forms zero bytes e rest fits read = absurd (no_worker_first forms (form_of (word_at bytes)) bytes (behind_word bytes) e rest read)
+line_takes forms zero bytes e rest fits read = absurd (no_worker_first forms (form_of (line_word bytes)) bytes (behind_word bytes) e rest read)
 line_takes forms (suc begun) bytes e rest fits read =
     let parts = sym (take-append-drop (word_len bytes) bytes) in
-    let said = forms (form_of (word_at bytes)) bytes (behind_word bytes) e rest (bytes_after bytes (word_at bytes) (behind_word bytes) parts fits) read in
-    let line : Line = record { word = word_at bytes; arguments = said.arguments } in
+    let said = forms (form_of (line_word bytes)) bytes (behind_word bytes) e rest (bytes_after bytes (line_word bytes) (behind_word bytes) parts fits) read in
+    let line : Line = record { word = line_word bytes; arguments = said.arguments } in
     record {
       line = line;
       values = said.values;
       meaning = said.meaning;
-      text = parts ∙ (ap (λ (l : List ℕ). word_at bytes ++ l) said.text ∙ sym (line_parts line rest));
+      text = parts ∙ (ap (λ (l : List ℕ). line_word bytes ++ l) said.text ∙ sym (line_parts line rest));
       some = omega arith;
     }
 
 worker_takes : (begun : ℕ) (bytes rest : List ℕ) → is_worker bytes ≡ true → worker_at begun bytes ≡ Ok rest → (begun < most_workers) × (bytes ≡ codes "worker" ++ (ends_line ++ rest))
 worker_takes begun bytes rest word e =
     elim (chosen (nat_lt begun most_workers) (end_at (behind_word bytes)) (fail reasons.Workers bytes) (Ok rest) e) [
-      | inl p ↦ (lt_is begun most_workers p.0, sym (take-append-drop (word_len bytes) bytes) ∙ ap₂ (λ (x y : List ℕ). x ++ y) ((bytes_eq-Decides (word_at bytes) (codes "worker")).0 word) (end_takes (behind_word bytes) rest p.1))
+      | inl p ↦ (lt_is begun most_workers p.0, sym (take-append-drop (word_len bytes) bytes) ∙ ap₂ (λ (x y : List ℕ). x ++ y) ((bytes_eq-Decides (line_word bytes) (codes "worker")).0 word) (end_takes (behind_word bytes) rest p.1))
       | inr p ↦ absurd (let h = p.1 in cc)
     ]
   where

@@ -104,8 +104,8 @@ pairs g = option_and_then (each (pair_at g)) (members g)
 -- ---- one or many
 
 -- one key, or an array of keys
-abbrev pub asked : List Kind → Option Asked
-asked g = or_else (option_map asks.One (key g)) (option_map asks.Many (keys g))
+abbrev pub asked_of : List Kind → Option Asked
+asked_of g = or_else (option_map asks.One (key g)) (option_map asks.Many (keys g))
 
 -- one key, or an array of keys with their values
 abbrev pub stored : List Kind → Option Stored

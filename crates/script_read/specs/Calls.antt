@@ -5,19 +5,19 @@ use Rattle.script_read.specs.declared.call.Call.TheVariants.{StoreOne, StoreMany
 use Rattle.script_read.specs.declared.script.Step.{Step}
 
 -- How many events a call makes at most, in a cache of so many slots.
-abbrev pub events_of : ℕ → Call → ℕ
-events_of slots (StoreOne key value ttl exclusive) = 1
-events_of slots (StoreMany pairs ttl exclusive) = length pairs
-events_of slots (FetchOne key) = 1
-events_of slots (FetchMany keys) = length keys
-events_of slots (ExistsOne key) = 1
-events_of slots (ExistsMany keys) = length keys
-events_of slots (DeleteOne key) = 1
-events_of slots (DeleteMany keys) = length keys
-events_of slots (Inc key step ttl) = 1
-events_of slots (Cas key expect set) = 1
-events_of slots Clear = 1
-events_of slots Enabled = 0
+abbrev pub event_bound : ℕ → Call → ℕ
+event_bound slots (StoreOne key value ttl exclusive) = 1
+event_bound slots (StoreMany pairs ttl exclusive) = length pairs
+event_bound slots (FetchOne key) = 1
+event_bound slots (FetchMany keys) = length keys
+event_bound slots (ExistsOne key) = 1
+event_bound slots (ExistsMany keys) = length keys
+event_bound slots (DeleteOne key) = 1
+event_bound slots (DeleteMany keys) = length keys
+event_bound slots (Inc key step ttl) = 1
+event_bound slots (Cas key expect set) = 1
+event_bound slots Clear = 1
+event_bound slots Enabled = 0
 
 -- the last moment, in seconds
 abbrev pub last_moment : ℕ

@@ -21,12 +21,12 @@ Stops stops.Memory read = Unit {0}
 Stops (stops.Fault f) read = read ≡ Err f
 
 -- What a function returned, seen by view, is what reading gives, unless memory ran out.
-abbrev pub Gives : {X Y : Type 0} → (X → Y) → Result X Stop → Result Y Fault → Type 0
-Gives view (Ok x) read = read ≡ Ok (view x)
-Gives view (Err e) read = Stops e read
+abbrev pub GivesItem : {X Y : Type 0} → (X → Y) → Result X Stop → Result Y Fault → Type 0
+GivesItem view (Ok x) read = read ≡ Ok (view x)
+GivesItem view (Err e) read = Stops e read
 
 -- The first fault of the bytes stands at this place, counted from 0.
-pub record IsFirstFault (bytes : List ℕ) (place : ℕ) (reason : Reason) : Type 0 where
+pub record IsFirstScriptFault (bytes : List ℕ) (place : ℕ) (reason : Reason) : Type 0 where
   pub fault : Fault
   pub reads : scripts_at bytes ≡ Err fault
   pub why : fault.reason ≡ reason
@@ -35,7 +35,7 @@ pub record IsFirstFault (bytes : List ℕ) (place : ℕ) (reason : Reason) : Typ
 -- The scripts are those that are read; a fault is the first one. Memory may be wanting always.
 abbrev pub ReadsScripts : List ℕ → Result (List (List Step)) ScriptFault → Type 0
 ReadsScripts bytes (Ok scripts) = scripts_at bytes ≡ Ok scripts
-ReadsScripts bytes (Err (faults.Bad place reason)) = IsFirstFault bytes place reason
+ReadsScripts bytes (Err (faults.Bad place reason)) = IsFirstScriptFault bytes place reason
 ReadsScripts bytes (Err faults.Memory) = Unit {0}
 
 -- what follows a word of the code

@@ -132,6 +132,6 @@ abbrev pub is_complete_play : Conf → List (List Step) → Option Play → Bool
 is_complete_play conf scripts None = false
 is_complete_play conf scripts (Some p) = are_done conf scripts p.replies
 
-abbrev pub IsComplete : Conf → List (List Step) → List Mark → Type 0
-IsComplete conf scripts journal =
+abbrev pub IsCompletePlay : Conf → List (List Step) → List Mark → Type 0
+IsCompletePlay conf scripts journal =
     IsTrue (is_complete_play conf scripts (played conf scripts journal))

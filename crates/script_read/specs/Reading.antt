@@ -23,8 +23,8 @@ ends_word b = not ((nat_le 65 b && nat_le b 90) || ((nat_le 97 b && nat_le b 122
 abbrev pub word_len : List ℕ → ℕ
 word_len bytes = position_or_len ends_word bytes
 
-abbrev pub word_at : List ℕ → List ℕ
-word_at line = take (word_len line) line
+abbrev pub line_word : List ℕ → List ℕ
+line_word line = take (word_len line) line
 
 -- what stands behind it
 abbrev pub behind_word : List ℕ → List ℕ
@@ -113,12 +113,12 @@ form_after zero word = before_worker (form_of word)
 form_after (suc begun) word = form_of word
 
 abbrev pub line_at : ℕ → List ℕ → Result (Effect × List ℕ) Fault
-line_at begun line = rest_at (form_after begun (word_at line)) line (behind_word line)
+line_at begun line = rest_at (form_after begun (line_word line)) line (behind_word line)
 
 -- ---- scripts
 
 abbrev pub is_worker : List ℕ → Bool
-is_worker line = bytes_eq (word_at line) (codes "worker")
+is_worker line = bytes_eq (line_word line) (codes "worker")
 
 -- the steps that are still to come of a script, and the scripts after it
 abbrev pub Rest : Type 0

@@ -14,7 +14,7 @@ use Rattle.script_read.specs.declared.given.Asked.{Asked}
 use Rattle.script_read.specs.declared.given.Asked.TheVariants as asks
 use Rattle.script_read.specs.declared.given.Stored.{Stored}
 use Rattle.script_read.specs.declared.given.Stored.TheVariants as stores
-use Rattle.script_read.specs.Arguments.{any_value, key, integer, null, ttl, moment, asked, stored}
+use Rattle.script_read.specs.Arguments.{any_value, key, integer, null, ttl, moment, asked_of, stored}
 
 -- ---- forms
 
@@ -96,9 +96,9 @@ built =
     (codes "time", needs moment (λ t. Done (Sets t)))
     ∷ (codes "apcu_store", needs stored (store_by false))
     ∷ (codes "apcu_add", needs stored (store_by true))
-    ∷ (codes "apcu_fetch", needs asked (λ a. calls (fetch_of a)))
-    ∷ (codes "apcu_exists", needs asked (λ a. calls (exists_of a)))
-    ∷ (codes "apcu_delete", needs asked (λ a. calls (delete_of a)))
+    ∷ (codes "apcu_fetch", needs asked_of (λ a. calls (fetch_of a)))
+    ∷ (codes "apcu_exists", needs asked_of (λ a. calls (exists_of a)))
+    ∷ (codes "apcu_delete", needs asked_of (λ a. calls (delete_of a)))
     ∷ (codes "apcu_inc", count_form false)
     ∷ (codes "apcu_dec", count_form true)
     ∷ (codes "apcu_cas", cas_form)

@@ -4,9 +4,9 @@ ghost use Rattle.std.specs.Prelude.{◌≡◌, ℕ, ◌≤◌, ◌<◌, List, le
 ghost use Rattle.notation.specs.Marks.{fail};
 ghost use Rattle.notation.specs.Reading.{reading_of};
 ghost use Rattle.script_read.specs.Calls.{last_moment};
-ghost use Rattle.script_read.specs.Arguments.{any_value, key, integer, null, ttl, moment, asked, stored};
+ghost use Rattle.script_read.specs.Arguments.{any_value, key, integer, null, ttl, moment, asked_of, stored};
 ghost use Rattle.script_read.specs.Reading.{space_at, end_at, one_more_at, ends_here, argument_at, optional_at};
-ghost use Rattle.script_read.specs.Gives.{Gives};
+ghost use Rattle.script_read.specs.Gives.{GivesItem};
 
 use crate::choices::{asked_of, integer_of, is_null, moment_of, stored_of, ttl_of};
 use crate::fault::Stop;
@@ -17,7 +17,7 @@ use std::alloc::Global;
 
 // The fault that begins with these bytes.
 pub(crate) fn fault(reason: Reason, bytes: &[u8]) -> Stop
-    ensures { Gives {X = ℕ} {Y = ℕ} (λ x. x) (Err result) (fail reason bytes.now) }
+    ensures { GivesItem {X = ℕ} {Y = ℕ} (λ x. x) (Err result) (fail reason bytes.now) }
 {
     Stop::Fault(Fault {
         reason,
@@ -28,7 +28,7 @@ pub(crate) fn fault(reason: Reason, bytes: &[u8]) -> Stop
 // A space before an argument that is due.
 #[tactic(auto, unfolding(crate::specs::Reading::space_at))]
 fn space(bytes: &[u8]) -> Result<&[u8], Stop>
-    ensures read { Gives (λ rest. rest.now) result (space_at bytes.now) }
+    ensures read { GivesItem (λ rest. rest.now) result (space_at bytes.now) }
     ensures fewer { IfOk result (λ rest. length rest.now < length bytes.now) }
 {
     match bytes {
@@ -42,7 +42,7 @@ fn space(bytes: &[u8]) -> Result<&[u8], Stop>
 // The end of a line.
 #[tactic(auto, unfolding(crate::specs::Reading::end_at))]
 pub(crate) fn end(bytes: &[u8]) -> Result<&[u8], Stop>
-    ensures read { Gives (λ rest. rest.now) result (end_at bytes.now) }
+    ensures read { GivesItem (λ rest. rest.now) result (end_at bytes.now) }
     ensures fewer { IfOk result (λ rest. length rest.now < length bytes.now) }
 {
     match bytes {
@@ -54,7 +54,7 @@ pub(crate) fn end(bytes: &[u8]) -> Result<&[u8], Stop>
 }
 
 fn one_more(bytes: &[u8]) -> Stop
-    ensures { Gives {X = List ℕ} {Y = List ℕ} (λ x. x) (Err result) (one_more_at bytes.now) }
+    ensures { GivesItem {X = List ℕ} {Y = List ℕ} (λ x. x) (Err result) (one_more_at bytes.now) }
 {
     if bytes.is_empty() {
         fault(Reason::End, bytes)
@@ -74,7 +74,7 @@ fn ends_here(bytes: &[u8]) -> bool
 
 // A value in the notation.
 fn value(alloc: Global, bytes: &[u8]) -> Result<(Graph, &[u8]), Stop>
-    ensures read { Gives (λ x. (x.0, x.1.now)) result (reading_of bytes.now) }
+    ensures read { GivesItem (λ x. (x.0, x.1.now)) result (reading_of bytes.now) }
     ensures no_more { IfOk result (λ x. length x.1.now ≤ length bytes.now) }
 {
     let mut from = Cursor::new(bytes);
@@ -90,7 +90,7 @@ fn value(alloc: Global, bytes: &[u8]) -> Result<(Graph, &[u8]), Stop>
 
 // Any value.
 pub(crate) fn value_argument(alloc: Global, bytes: &[u8]) -> Result<(Graph, &[u8]), Stop>
-    ensures read { Gives (λ x. (x.0, x.1.now)) result (argument_at any_value bytes.now) }
+    ensures read { GivesItem (λ x. (x.0, x.1.now)) result (argument_at any_value bytes.now) }
     ensures fewer { IfOk result (λ x. length x.1.now < length bytes.now) }
 {
     let argument = space(bytes)?;
@@ -99,7 +99,7 @@ pub(crate) fn value_argument(alloc: Global, bytes: &[u8]) -> Result<(Graph, &[u8
 
 // One key.
 pub(crate) fn key_argument(alloc: Global, bytes: &[u8]) -> Result<(Bytes, &[u8]), Stop>
-    ensures read { Gives (λ x. (x.0, x.1.now)) result (argument_at key bytes.now) }
+    ensures read { GivesItem (λ x. (x.0, x.1.now)) result (argument_at key bytes.now) }
     ensures fewer { IfOk result (λ x. length x.1.now < length bytes.now) }
 {
     let argument = space(bytes)?;
@@ -112,7 +112,7 @@ pub(crate) fn key_argument(alloc: Global, bytes: &[u8]) -> Result<(Bytes, &[u8])
 
 // An integer.
 pub(crate) fn integer_argument(alloc: Global, bytes: &[u8]) -> Result<(i64, &[u8]), Stop>
-    ensures read { Gives (λ x. (x.0, x.1.now)) result (argument_at integer bytes.now) }
+    ensures read { GivesItem (λ x. (x.0, x.1.now)) result (argument_at integer bytes.now) }
     ensures fewer { IfOk result (λ x. length x.1.now < length bytes.now) }
 {
     let argument = space(bytes)?;
@@ -125,7 +125,7 @@ pub(crate) fn integer_argument(alloc: Global, bytes: &[u8]) -> Result<(i64, &[u8
 
 // A step, or 1 where the line ends.
 pub(crate) fn step_argument(alloc: Global, bytes: &[u8]) -> Result<(i64, &[u8]), Stop>
-    ensures read { Gives (λ x. (x.0, x.1.now)) result (optional_at (pos 1) integer bytes.now) }
+    ensures read { GivesItem (λ x. (x.0, x.1.now)) result (optional_at (pos 1) integer bytes.now) }
     ensures no_more { IfOk result (λ x. length x.1.now ≤ length bytes.now) }
 {
     if ends_here(bytes) {
@@ -136,7 +136,7 @@ pub(crate) fn step_argument(alloc: Global, bytes: &[u8]) -> Result<(i64, &[u8]),
 
 // One key, or an array of keys.
 pub(crate) fn asked_argument(alloc: Global, bytes: &[u8]) -> Result<(Asked, &[u8]), Stop>
-    ensures read { Gives (λ x. (x.0, x.1.now)) result (argument_at asked bytes.now) }
+    ensures read { GivesItem (λ x. (x.0, x.1.now)) result (argument_at asked_of bytes.now) }
     ensures fewer { IfOk result (λ x. length x.1.now < length bytes.now) }
 {
     let argument = space(bytes)?;
@@ -149,7 +149,7 @@ pub(crate) fn asked_argument(alloc: Global, bytes: &[u8]) -> Result<(Asked, &[u8
 
 // One key, or an array of keys with their values.
 pub(crate) fn stored_argument(alloc: Global, bytes: &[u8]) -> Result<(Stored, &[u8]), Stop>
-    ensures read { Gives (λ x. (x.0, x.1.now)) result (argument_at stored bytes.now) }
+    ensures read { GivesItem (λ x. (x.0, x.1.now)) result (argument_at stored bytes.now) }
     ensures fewer { IfOk result (λ x. length x.1.now < length bytes.now) }
 {
     let argument = space(bytes)?;
@@ -162,7 +162,7 @@ pub(crate) fn stored_argument(alloc: Global, bytes: &[u8]) -> Result<(Stored, &[
 
 // A moment.
 pub(crate) fn moment_argument(alloc: Global, bytes: &[u8]) -> Result<(u64, &[u8]), Stop>
-    ensures read { Gives (λ x. (x.0, x.1.now)) result (argument_at moment bytes.now) }
+    ensures read { GivesItem (λ x. (x.0, x.1.now)) result (argument_at moment bytes.now) }
     ensures fewer { IfOk result (λ x. length x.1.now < length bytes.now) }
     ensures soon { IfOk result (λ x. x.0 ≤ last_moment) }
 {
@@ -176,7 +176,7 @@ pub(crate) fn moment_argument(alloc: Global, bytes: &[u8]) -> Result<(u64, &[u8]
 
 // A limit of time, or 0 where the line ends.
 pub(crate) fn ttl_argument(alloc: Global, bytes: &[u8]) -> Result<(u32, &[u8]), Stop>
-    ensures read { Gives (λ x. (x.0, x.1.now)) result (optional_at 0 ttl bytes.now) }
+    ensures read { GivesItem (λ x. (x.0, x.1.now)) result (optional_at 0 ttl bytes.now) }
     ensures no_more { IfOk result (λ x. length x.1.now ≤ length bytes.now) }
 {
     if ends_here(bytes) {
@@ -192,7 +192,7 @@ pub(crate) fn ttl_argument(alloc: Global, bytes: &[u8]) -> Result<(u32, &[u8]), 
 
 // A null, or the end of the line.
 pub(crate) fn null_argument(alloc: Global, bytes: &[u8]) -> Result<&[u8], Stop>
-    ensures read { Gives (λ rest. (tt, rest.now)) result (optional_at tt null bytes.now) }
+    ensures read { GivesItem (λ rest. (tt, rest.now)) result (optional_at tt null bytes.now) }
     ensures no_more { IfOk result (λ rest. length rest.now ≤ length bytes.now) }
 {
     if ends_here(bytes) {

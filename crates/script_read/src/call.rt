@@ -1,5 +1,5 @@
 ghost use Rattle.std.specs.Prelude.{◌≡◌};
-ghost use Rattle.script_read.specs.Calls.{events_of};
+ghost use Rattle.script_read.specs.Calls.{event_bound};
 
 use apcu_model::{Keys, Pairs};
 use php_graph::{Bytes, Graph};
@@ -56,7 +56,7 @@ pub enum Call {
 impl Call {
     /// How many events the call makes at most, in a cache of so many slots.
     pub fn events(&self, slots: u32) -> u64
-        ensures { result ≡ events_of slots self.now }
+        ensures { result ≡ event_bound slots self.now }
     {
         match self {
             Call::StoreOne { .. }

@@ -4,7 +4,7 @@ ghost use Rattle.std.specs.Prelude.{◌≡◌, ◌≤◌, true, ◌↔◌, List,
 ghost use Rattle.std.specs.Option.{is_some, option_map};
 ghost use Rattle.php_graph.specs.Graph.{IsGraph, kind_at};
 ghost use Rattle.script_read.specs.Calls.{last_moment};
-ghost use Rattle.script_read.specs.Arguments.{key, integer, null, ttl, moment, keys, pairs, string_at, value_at, key_bytes, asked, stored, IsThere};
+ghost use Rattle.script_read.specs.Arguments.{key, integer, null, ttl, moment, keys, pairs, string_at, value_at, key_bytes, asked_of, stored, IsThere};
 
 use crate::given::{Asked, Stored};
 use apcu_model::{Keys, Pairs};
@@ -62,7 +62,7 @@ pub(crate) fn is_null(graph: &Graph) -> bool
 // One key, or an array of keys.
 #[tactic(auto, using(crate::proofs::Members::asked_many))]
 pub(crate) fn asked_of(alloc: Global, graph: Graph) -> Result<Option<Asked>, AllocError>
-    ensures { IfOk result (λ made. made ≡ asked graph) }
+    ensures { IfOk result (λ made. made ≡ asked_of graph) }
 {
     match graph.into_string() {
         Ok(key) => Ok(Some(Asked::One(key))),

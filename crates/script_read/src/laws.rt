@@ -5,7 +5,7 @@ ghost use Rattle.apcu_model.specs.declared.conf.Conf.{Conf};
 ghost use Rattle.apcu_model.specs.declared.request.Request.{Request};
 ghost use Rattle.apcu_model.specs.declared.request.Reply.{Reply};
 ghost use Rattle.script_read.specs.declared.call.Call.{Call};
-ghost use Rattle.script_read.specs.Calls.{events_of};
+ghost use Rattle.script_read.specs.Calls.{event_bound};
 ghost use Rattle.script_read.specs.Ties.{ScriptsTake, ScriptsAgain, ScriptsAreOne};
 ghost use Rattle.script_read.specs.Play.{next_of, Asks};
 
@@ -24,5 +24,5 @@ pub fn readings_are_scripts()
 /// A call asks no more often than its events are counted.
 pub fn calls_ask_few()
     ensures { (conf : Conf) (call : Call) (replies : List Reply) (request : Request)
-        → next_of conf call replies ≡ Asks request → length replies < events_of conf.slots call }
+        → next_of conf call replies ≡ Asks request → length replies < event_bound conf.slots call }
 {}

@@ -1,11 +1,11 @@
 //! Lines: what follows each word, to the end of its line.
 
 ghost use Rattle.std.specs.Prelude.{◌≡◌, ℕ, ◌≤◌, ◌<◌, List, codes, length, false, true, IfOk, OnOk};
-ghost use Rattle.script_read.specs.Arguments.{asked, stored};
+ghost use Rattle.script_read.specs.Arguments.{asked_of, stored};
 ghost use Rattle.script_read.specs.Table.{Refuse, needs, calls, form_of, store_one, store_many, store_by, step_by, count_form, cas_form};
 ghost use Rattle.script_read.specs.Grammar.{most_workers};
-ghost use Rattle.script_read.specs.Reading.{ends_word, word_len, word_at, behind_word, last_argument_at, rest_at, before_worker, worker_at, line_at};
-ghost use Rattle.script_read.specs.Gives.{Gives, form_named, IsSoon};
+ghost use Rattle.script_read.specs.Reading.{ends_word, word_len, line_word, behind_word, last_argument_at, rest_at, before_worker, worker_at, line_at};
+ghost use Rattle.script_read.specs.Gives.{GivesItem, form_named, IsSoon};
 
 use crate::arguments::{
     asked_argument, end, fault, integer_argument, key_argument, moment_argument, null_argument,
@@ -24,7 +24,7 @@ use std::alloc::Global;
 // The argument of `time`.
 #[tactic(auto, using(crate::proofs::Rows::time_is))]
 fn time(alloc: Global, bytes: &[u8]) -> Result<(Effect, &[u8]), Stop>
-    ensures read { (last : List ℕ) → Gives (λ x. (x.0, x.1.now)) result
+    ensures read { (last : List ℕ) → GivesItem (λ x. (x.0, x.1.now)) result
         (rest_at (form_of (codes "time")) last bytes.now) }
     ensures fewer { IfOk result (λ x. length x.1.now < length bytes.now) }
     ensures soon { IfOk result (λ x. IsSoon x.0) }
@@ -37,7 +37,7 @@ fn time(alloc: Global, bytes: &[u8]) -> Result<(Effect, &[u8]), Stop>
 // The arguments of `apcu_store` and `apcu_add`.
 #[tactic(auto, using(crate::proofs::Rows::stored_is))]
 fn store(alloc: Global, exclusive: bool, bytes: &[u8]) -> Result<(Effect, &[u8]), Stop>
-    ensures read { (last : List ℕ) → Gives (λ x. (x.0, x.1.now)) result
+    ensures read { (last : List ℕ) → GivesItem (λ x. (x.0, x.1.now)) result
         (rest_at (needs stored (store_by exclusive)) last bytes.now) }
     ensures fewer { IfOk result (λ x. length x.1.now < length bytes.now) }
     ensures soon { IfOk result (λ x. IsSoon x.0) }
@@ -57,7 +57,7 @@ fn store_one(
     key: Bytes,
     bytes: &[u8],
 ) -> Result<(Effect, &[u8]), Stop>
-    ensures read { (last : List ℕ) → Gives (λ x. (x.0, x.1.now)) result
+    ensures read { (last : List ℕ) → GivesItem (λ x. (x.0, x.1.now)) result
         (rest_at (store_one exclusive key) last bytes.now) }
     ensures fewer { IfOk result (λ x. length x.1.now < length bytes.now) }
     ensures soon { IfOk result (λ x. IsSoon x.0) }
@@ -82,7 +82,7 @@ fn store_many(
     pairs: Pairs,
     bytes: &[u8],
 ) -> Result<(Effect, &[u8]), Stop>
-    ensures read { (last : List ℕ) → Gives (λ x. (x.0, x.1.now)) result
+    ensures read { (last : List ℕ) → GivesItem (λ x. (x.0, x.1.now)) result
         (rest_at (store_many exclusive pairs) last bytes.now) }
     ensures fewer { IfOk result (λ x. length x.1.now < length bytes.now) }
     ensures soon { IfOk result (λ x. IsSoon x.0) }
@@ -100,7 +100,7 @@ fn store_many(
 
 // What is asked for, and the end of the line.
 fn asked(alloc: Global, bytes: &[u8]) -> Result<(Asked, &[u8]), Stop>
-    ensures read { Gives (λ x. (x.0, x.1.now)) result (last_argument_at asked bytes.now) }
+    ensures read { GivesItem (λ x. (x.0, x.1.now)) result (last_argument_at asked_of bytes.now) }
     ensures fewer { IfOk result (λ x. length x.1.now < length bytes.now) }
 {
     let (asked, rest) = asked_argument(alloc, bytes)?;
@@ -111,7 +111,7 @@ fn asked(alloc: Global, bytes: &[u8]) -> Result<(Asked, &[u8]), Stop>
 // The argument of `apcu_fetch`.
 #[tactic(auto, using(crate::proofs::Rows::fetch_is))]
 fn fetch(alloc: Global, bytes: &[u8]) -> Result<(Effect, &[u8]), Stop>
-    ensures read { (last : List ℕ) → Gives (λ x. (x.0, x.1.now)) result
+    ensures read { (last : List ℕ) → GivesItem (λ x. (x.0, x.1.now)) result
         (rest_at (form_of (codes "apcu_fetch")) last bytes.now) }
     ensures fewer { IfOk result (λ x. length x.1.now < length bytes.now) }
     ensures soon { IfOk result (λ x. IsSoon x.0) }
@@ -127,7 +127,7 @@ fn fetch(alloc: Global, bytes: &[u8]) -> Result<(Effect, &[u8]), Stop>
 // The argument of `apcu_exists`.
 #[tactic(auto, using(crate::proofs::Rows::exists_is))]
 fn exists(alloc: Global, bytes: &[u8]) -> Result<(Effect, &[u8]), Stop>
-    ensures read { (last : List ℕ) → Gives (λ x. (x.0, x.1.now)) result
+    ensures read { (last : List ℕ) → GivesItem (λ x. (x.0, x.1.now)) result
         (rest_at (form_of (codes "apcu_exists")) last bytes.now) }
     ensures fewer { IfOk result (λ x. length x.1.now < length bytes.now) }
     ensures soon { IfOk result (λ x. IsSoon x.0) }
@@ -143,7 +143,7 @@ fn exists(alloc: Global, bytes: &[u8]) -> Result<(Effect, &[u8]), Stop>
 // The argument of `apcu_delete`.
 #[tactic(auto, using(crate::proofs::Rows::delete_is))]
 fn delete(alloc: Global, bytes: &[u8]) -> Result<(Effect, &[u8]), Stop>
-    ensures read { (last : List ℕ) → Gives (λ x. (x.0, x.1.now)) result
+    ensures read { (last : List ℕ) → GivesItem (λ x. (x.0, x.1.now)) result
         (rest_at (form_of (codes "apcu_delete")) last bytes.now) }
     ensures fewer { IfOk result (λ x. length x.1.now < length bytes.now) }
     ensures soon { IfOk result (λ x. IsSoon x.0) }
@@ -159,7 +159,7 @@ fn delete(alloc: Global, bytes: &[u8]) -> Result<(Effect, &[u8]), Stop>
 // The arguments of `apcu_inc` and `apcu_dec`.
 #[tactic(auto, using(crate::proofs::Rows::count_is))]
 fn count(alloc: Global, down: bool, bytes: &[u8]) -> Result<(Effect, &[u8]), Stop>
-    ensures read { (last : List ℕ) → Gives (λ x. (x.0, x.1.now)) result
+    ensures read { (last : List ℕ) → GivesItem (λ x. (x.0, x.1.now)) result
         (rest_at (count_form down) last bytes.now) }
     ensures fewer { IfOk result (λ x. length x.1.now < length bytes.now) }
     ensures soon { IfOk result (λ x. IsSoon x.0) }
@@ -182,7 +182,7 @@ fn step_by(down: bool, step: i64) -> i64
 // The arguments of `apcu_cas`.
 #[tactic(auto, using(crate::proofs::Rows::cas_is))]
 fn cas(alloc: Global, bytes: &[u8]) -> Result<(Effect, &[u8]), Stop>
-    ensures read { (last : List ℕ) → Gives (λ x. (x.0, x.1.now)) result
+    ensures read { (last : List ℕ) → GivesItem (λ x. (x.0, x.1.now)) result
         (rest_at cas_form last bytes.now) }
     ensures fewer { IfOk result (λ x. length x.1.now < length bytes.now) }
     ensures soon { IfOk result (λ x. IsSoon x.0) }
@@ -197,7 +197,7 @@ fn cas(alloc: Global, bytes: &[u8]) -> Result<(Effect, &[u8]), Stop>
 // A call without arguments.
 #[tactic(auto, unfolding(crate::specs::Reading::rest_at))]
 fn bare(call: Call, bytes: &[u8]) -> Result<(Effect, &[u8]), Stop>
-    ensures read { (last : List ℕ) → Gives (λ x. (x.0, x.1.now)) result
+    ensures read { (last : List ℕ) → GivesItem (λ x. (x.0, x.1.now)) result
         (rest_at (calls call) last bytes.now) }
     ensures fewer { IfOk result (λ x. length x.1.now < length bytes.now) }
     ensures soon { IfOk result (λ x. IsSoon x.0) }
@@ -214,7 +214,7 @@ fn effect<'a>(
     line: &'a [u8],
     rest: &'a [u8],
 ) -> Result<(Effect, &'a [u8]), Stop>
-    ensures read { Gives (λ x. (x.0, x.1.now)) result
+    ensures read { GivesItem (λ x. (x.0, x.1.now)) result
         (rest_at (form_named word) line.now rest.now) }
     ensures fewer { IfOk result (λ x. length x.1.now < length rest.now) }
     ensures soon { IfOk result (λ x. IsSoon x.0) }
@@ -268,7 +268,7 @@ fn ends_word(byte: u8) -> bool
 // The line `worker`, where so many scripts have begun.
 pub(crate) fn worker<'a>(begun: u32, line: &'a [u8], behind: &'a [u8]) -> Result<&'a [u8], Stop>
     requires { behind.now ≡ behind_word line.now }
-    ensures read { Gives (λ rest. rest.now) result (worker_at begun line.now) }
+    ensures read { GivesItem (λ rest. rest.now) result (worker_at begun line.now) }
     ensures few { OnOk result (begun < most_workers) }
     ensures fewer { IfOk result (λ rest. length rest.now < length behind.now) }
 {
@@ -290,9 +290,9 @@ pub(crate) fn line<'a>(
     line: &'a [u8],
     behind: &'a [u8],
 ) -> Result<(Effect, &'a [u8]), Stop>
-    requires word { word.now ≡ word_at line.now }
+    requires word { word.now ≡ line_word line.now }
     requires behind { behind.now ≡ behind_word line.now }
-    ensures read { Gives (λ x. (x.0, x.1.now)) result (line_at begun line.now) }
+    ensures read { GivesItem (λ x. (x.0, x.1.now)) result (line_at begun line.now) }
     ensures some { OnOk result (0 < begun) }
     ensures fewer { IfOk result (λ x. length x.1.now < length behind.now) }
     ensures soon { IfOk result (λ x. IsSoon x.0) }

@@ -2,7 +2,7 @@ ghost use Rattle.std.specs.Prelude.{◌≡◌, ℕ, ◌≤◌, List, length, IfO
 ghost use Rattle.script_read.specs.declared.script.Step.{Step};
 ghost use Rattle.script_read.specs.Grammar.{AreScripts};
 ghost use Rattle.script_read.specs.Reading.{scripts_at};
-ghost use Rattle.script_read.specs.Gives.{Gives, ReadsScripts};
+ghost use Rattle.script_read.specs.Gives.{GivesItem, ReadsScripts};
 
 use crate::effect::Effect;
 use crate::fault::{ScriptFault, Stop};
@@ -16,7 +16,7 @@ use std::alloc::Global;
 // All of the bytes, line by line.
 fn scripts(alloc: Global, bytes: &[u8]) -> Result<Scripts, Stop>
     requires { length bytes.now ≤ 67108864 }
-    ensures read { Gives (λ scripts. scripts) result (scripts_at bytes.now) }
+    ensures read { GivesItem (λ scripts. scripts) result (scripts_at bytes.now) }
 {
     let mut scripts = Scripts::new(alloc);
     let mut t = 0;

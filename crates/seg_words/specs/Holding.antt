@@ -10,8 +10,8 @@ opened_for mask [] = []
 opened_for mask (at ∷ held) = (if mask % 2 == 1 then at else 0) ∷ opened_for (mask / 2) held
 
 -- what is kept beside the words as such an event begins: no place is refused
-abbrev pub begun : ℕ → List ℕ → Aside
-begun mask held = record { windows = opened_for mask held; mask = mask; refused = [] }
+abbrev pub event_begun : ℕ → List ℕ → Aside
+event_begun mask held = record { windows = opened_for mask held; mask = mask; refused = [] }
 
 -- each worker that has a window is met
 abbrev pub AreMet : ℕ → List ℕ → Type 0

@@ -36,14 +36,14 @@ pub count-append : {X : Type 0} (p : X → Bool) (xs ys : List X)
 count-append p xs ys = sum_by-append (λ y. cond (p y) 1 0) xs ys
 
 -- what passes is counted
-pub counted : {X : Type 0} (p : X → Bool) (xs : List X) (x : X) → Contains xs x → p x ≡ true
+pub counted_some : {X : Type 0} (p : X → Bool) (xs : List X) (x : X) → Contains xs x → p x ≡ true
     → 1 ≤ count_by p xs
-counted p [] x c h = absurd (none_in_nil x c)
-counted p (y ∷ ys) x c h = elim (Contains-cases y ys x c) [
+counted_some p [] x c h = absurd (none_in_nil x c)
+counted_some p (y ∷ ys) x c h = elim (Contains-cases y ys x c) [
   | inl same ↦
       let one : cond {A = ℕ} (p y) 1 0 ≡ 1 = ap (λ b. cond {A = ℕ} b 1 0) (ap p same ∙ h) in
       omega (arith, count-cons p y ys)
-  | inr later ↦ omega (arith, count-cons p y ys, counted p ys x later h)
+  | inr later ↦ omega (arith, count-cons p y ys, counted_some p ys x later h)
 ]
 
 -- and what is counted is there
@@ -144,7 +144,7 @@ pub none_counted : {X : Type 0} (p : X → Bool) (xs : List X) → count_by p xs
     → list_any p xs ≡ false
 none_counted p xs h =
     false_from_ne_true (list_any p xs) (λ t.
-    let r = any_there p xs t in omega (arith, h, counted p xs r.0 r.1 r.2))
+    let r = any_there p xs t in omega (arith, h, counted_some p xs r.0 r.1 r.2))
 
 -- two tests that agree on the members keep the same ones
 pub filter_alike : {X : Type 0} (p q : X → Bool) (xs : List X)

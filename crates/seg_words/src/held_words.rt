@@ -1,7 +1,8 @@
-ghost use Rattle.std.specs.Prelude.{◌≡◌, ℕ, ◌+◌, ◌<◌, ◌≤◌, ◌^◌, true, false, not, [], length, drop, replicate, count_by, slice_set, IfOk};
+ghost use Rattle.std.specs.Prelude.{◌≡◌, ℕ, ◌+◌, ◌<◌, ◌≤◌, ◌^◌, true, false, not, [], length, drop};
+ghost use Rattle.std.specs.Prelude.{replicate, count_by, slice_set, IfOk};
 ghost use Rattle.seg_words.specs.Windows.{has, is_named, Frees, Refuses};
 ghost use Rattle.seg_words.specs.Blocks.{MayProbe};
-ghost use Rattle.seg_words.specs.Holding.{opened_for, begun, AreMet};
+ghost use Rattle.seg_words.specs.Holding.{opened_for, event_begun, AreMet};
 
 use crate::segment::{Segment, WordsIn};
 use std::alloc::{AllocError, Global};
@@ -62,7 +63,7 @@ impl HeldWords {
     /// what is held for them, all others are closed, and no place is refused.
     pub fn begin(&mut self, mask: u64)
         ensures aside { ⟦<HeldWords as WordsIn>⟧.aside self.new
-            ≡ begun mask (⟦<HeldWords as WordsIn>⟧.rest self.old) }
+            ≡ event_begun mask (⟦<HeldWords as WordsIn>⟧.rest self.old) }
         ensures words { ⟦<HeldWords as WordsIn>⟧.words self.new
             ≡ ⟦<HeldWords as WordsIn>⟧.words self.old }
         ensures held { ⟦<HeldWords as WordsIn>⟧.rest self.new

@@ -12,7 +12,7 @@ use Rattle.apcu_model.specs.Change.{AreAlike}
 use Rattle.apcu_model.specs.History.{Stage, IsNumbered, is_in_mask, is_copied, held_places}
 use Rattle.pin_table.specs.declared.views.Known.{Known}
 use Rattle.pin_table.specs.declared.views.Desk.{Desk}
-use Rattle.shared_cache.specs.Laws.{Laws}
+use Rattle.shared_cache.specs.Laws.{LockLaws}
 use Rattle.shared_cache.specs.Tied.{AreTied}
 use Rattle.shared_cache.proofs.Windows.{Running, from_before, same_there}
 
@@ -52,7 +52,7 @@ mapped x [] = refl
 mapped x (r ∷ rs) = ap (λ b. b || list_any (λ (row : Row). row.place == x) rs) (flip r.place x) ∙ ap (λ b. (x == r.place) || b) (mapped x rs)
 
 -- what the windows of the mask's workers name, the history holds, and the other way round
-pub held_alike : Laws → (m : Stage) (d : Desk) (p : Known) (old : List ℕ) → IsNumbered m → Running d p old → AreTied m old
+pub held_alike : LockLaws → (m : Stage) (d : Desk) (p : Known) (old : List ℕ) → IsNumbered m → Running d p old → AreTied m old
     → AreAlike (held_by d.mask d.windows) (held_places m d.mask)
 held_alike laws m d p old numbered run tied x = any_has x (held_by d.mask d.windows) ∙ (both (has x (held_by d.mask d.windows)) (has x (held_places m d.mask)) there here ∙ sym (any_has x (held_places m d.mask)))
   where

@@ -24,8 +24,8 @@ use Rattle.pin_table.specs.declared.writer.Writer.{Writer}
 use Rattle.pin_table.specs.Values.{Writing, Bearer, Copier}
 use Rattle.pin_table.specs.Events.{event}
 use Rattle.pin_table.specs.Lists.{fresh_desk}
-use Rattle.pin_table.specs.Views.{with_hand, with_event, after_event as known_after, rested, copied, pinning_at, reader_after, in_hand, aside_of}
-use Rattle.shared_cache.specs.Laws.{Laws}
+use Rattle.pin_table.specs.Views.{with_hand, with_event, known_after, rested, copied, pinning_at, reader_after, in_hand, aside_of}
+use Rattle.shared_cache.specs.Laws.{LockLaws}
 use Rattle.shared_cache.specs.Tied.{AreTied}
 use Rattle.shared_cache.specs.Settled.{CoreStands, Settled}
 use Rattle.shared_cache.specs.Pinned.{FollowsFound, bearer_of}
@@ -123,7 +123,7 @@ module _ (t : TableId) (conf : Conf) (budgets : List ℕ) (s0 s1 : Writing) (w0 
   }
 
 -- there was no event, and the window of the worker w is closed
-pub unchanged : Laws → (t : TableId) (conf : Conf) (budgets : List ℕ) (s0 s1 : Writing) (c : Core) (j : Marks) (w : ℕ) → Settled t conf budgets s0 c j → s1.table ≡ t → s1.desk.words ≡ s0.desk.words
+pub unchanged : LockLaws → (t : TableId) (conf : Conf) (budgets : List ℕ) (s0 s1 : Writing) (c : Core) (j : Marks) (w : ℕ) → Settled t conf budgets s0 c j → s1.table ≡ t → s1.desk.words ≡ s0.desk.words
     → s1.desk.book ≡ with_hand s0.desk.book None → s1.desk.windows ≡ slice_set s0.desk.windows w 0 → s1.desk ≡ rested s1.desk s1.desk.book → Settled t conf budgets s1 c j
 unchanged laws t conf budgets s0 s1 c j w ok table words book windows resting =
     let h : s1.desk.book.history ≡ s0.desk.book.history = ap (λ (b : Book). b.history) book in
@@ -149,7 +149,7 @@ zero_there (suc n) zero at h = sym (some-injective 0 at h)
 zero_there (suc n) (suc v) at h = zero_there n v at h
 
 -- a cache without an event, whose workers were all made
-pub fresh_settled : Laws → (t : TableId) (conf : Conf) (budgets : List ℕ) (s : Writing) (core : Core) (j : Marks) (words : List ℕ) → s.table ≡ t → s.desk ≡ fresh_desk words budgets
+pub fresh_settled : LockLaws → (t : TableId) (conf : Conf) (budgets : List ℕ) (s : Writing) (core : Core) (j : Marks) (words : List ℕ) → s.table ≡ t → s.desk ≡ fresh_desk words budgets
     → CoreStands core words nothing_aside → cache_of core ≡ empty_cache conf → j.marks ≡ [] → j.room ≡ sum budgets → sum budgets ≤ 4194304
     → Settled t conf budgets s core j
 fresh_settled laws t conf budgets s core j words table desk st cache empty room few = record {

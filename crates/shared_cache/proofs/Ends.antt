@@ -16,8 +16,8 @@ use Rattle.pin_table.specs.declared.views.Book.{Book}
 use Rattle.pin_table.specs.declared.views.Desk.{Desk}
 use Rattle.pin_table.specs.Values.{Writing, Bearer}
 use Rattle.pin_table.specs.Events.{event, events_of}
-use Rattle.pin_table.specs.Views.{with_hand, with_event, after_event as known_after, rested, aside_of}
-use Rattle.shared_cache.specs.Laws.{Laws}
+use Rattle.pin_table.specs.Views.{with_hand, with_event, known_after, rested, aside_of}
+use Rattle.shared_cache.specs.Laws.{LockLaws}
 use Rattle.shared_cache.specs.Tied.{AreTied}
 use Rattle.shared_cache.specs.Settled.{CoreStands, Settled}
 use Rattle.shared_cache.specs.Follows.{Follows}
@@ -43,7 +43,7 @@ module _ (t : TableId) (conf : Conf) (budgets : List ℕ) (s : Writing) (c : Cor
 
 -- One event of the pass p, from the seat s0 to the seat s1 by the desk d at its end.
 pub record Ends (t : TableId) (conf : Conf) (budgets : List ℕ) (s0 s1 : Writing) (d : Desk) (c0 c1 : Core) (p q : Bearer) (time : ℕ) (r : Request) (j0 j1 : Marks) : Type 0 where
-  pub laws : Laws
+  pub laws : LockLaws
   pub settled : Settled t conf budgets s0 c0 j0
   pub run : Running d p.known s0.desk.windows
   pub book : d.book ≡ with_hand s0.desk.book (Some p.known)

@@ -35,7 +35,7 @@ use Rattle.cache_core.specs.Caching.{cache_of}
 use Rattle.cache_core.specs.Looking.{scalar_kind, scalar_of, look_at, look_of}
 use Rattle.pin_table.specs.Pins.{MayPin, content_of}
 use Rattle.pin_table.specs.Events.{event}
-use Rattle.shared_cache.specs.Laws.{Laws}
+use Rattle.shared_cache.specs.Laws.{LockLaws}
 use Rattle.shared_cache.specs.Pinned.{graph_of}
 use Rattle.shared_cache.specs.Tied.{IsTied, AreTied}
 use Rattle.shared_cache.specs.Settled.{CoreStands}
@@ -190,13 +190,13 @@ used_in key t at c0 c1 h is =
     }
 
 -- its block may be pinned
-pub may_pin : Laws → (c : Core) (words : List ℕ) (aside : Aside) (at : ℕ) (graph : List Kind) → IsUsed c at graph → CoreStands c words aside → MayPin words aside.windows at
+pub may_pin : LockLaws → (c : Core) (words : List ℕ) (aside : Aside) (at : ℕ) (graph : List Kind) → IsUsed c at graph → CoreStands c words aside → MayPin words aside.windows at
 may_pin laws c words aside at graph u st =
     let k = laws.copied c.slots words aside (entries c.slots) at st.stand u.in_rows in
     record { positive = k.positive; count = λ n. k.zero_count; inside = k.inside; apart = k.clear }
 
 -- and a window may open on it
-pub core_opened : Laws → (c : Core) (words : List ℕ) (old new : Aside) (w at : ℕ) (graph : List Kind) → IsUsed c at graph → new.windows ≡ slice_set old.windows w at
+pub core_opened : LockLaws → (c : Core) (words : List ℕ) (old new : Aside) (w at : ℕ) (graph : List Kind) → IsUsed c at graph → new.windows ≡ slice_set old.windows w at
     → CoreStands c words old → CoreStands c words new
 core_opened laws c words old new w at graph u is st = record { stand = laws.opened c.slots words old new (entries c.slots) at u.in_rows more st.stand; whole = st.whole }
   where

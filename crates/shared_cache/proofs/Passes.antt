@@ -18,7 +18,7 @@ use Rattle.pin_table.specs.declared.views.Desk.{Desk}
 use Rattle.pin_table.specs.declared.writer.Writer.{Writer}
 use Rattle.pin_table.specs.Values.{Writing, Bearer}
 use Rattle.pin_table.specs.Events.{event}
-use Rattle.pin_table.specs.Views.{with_event, after_event as known_after, rested, aside_of}
+use Rattle.pin_table.specs.Views.{with_event, known_after, rested, aside_of}
 use Rattle.shared_cache.specs.Tied.{AreTied}
 use Rattle.shared_cache.specs.Settled.{CoreStands, Settled}
 use Rattle.shared_cache.specs.Follows.{Follows}

@@ -21,7 +21,7 @@ use Rattle.pin_table.specs.declared.views.Desk.{Desk}
 use Rattle.pin_table.specs.declared.writer.Writer.{Writer}
 use Rattle.pin_table.specs.Values.{Writing, Bearer}
 use Rattle.pin_table.specs.Views.{aside_of}
-use Rattle.shared_cache.specs.Laws.{Laws}
+use Rattle.shared_cache.specs.Laws.{LockLaws}
 use Rattle.shared_cache.specs.Settled.{Settled}
 use Rattle.shared_cache.proofs.Windows.{set_other}
 use Rattle.shared_cache.proofs.Ends.{short_history}
@@ -36,7 +36,7 @@ window_there v n (w ∷ ws) h = go (w.0 == v) (window_there v n ws) h
     go true later q = let e : w.1 ≡ n = cc q in (w, Contains-first w ws, e)
     go false later q = let r = later q in (r.0, Contains-later w ws r.0 r.1, r.2)
 
-module _ (laws : Laws) (t : TableId) (conf : Conf) (budgets : List ℕ) (s : Writing) (c : Core) (j : Marks)
+module _ (laws : LockLaws) (t : TableId) (conf : Conf) (budgets : List ℕ) (s : Writing) (c : Core) (j : Marks)
     (ok : Settled t conf budgets s c j) where
   abbrev pub m : Stage
   m = stage_of conf s.desk.book.history

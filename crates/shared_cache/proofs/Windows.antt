@@ -19,7 +19,7 @@ use Rattle.apcu_model.specs.History.{Stage, window_of, is_in_mask, is_legal_mask
 use Rattle.pin_table.specs.declared.views.Known.{Known}
 use Rattle.pin_table.specs.declared.views.Desk.{Desk}
 use Rattle.pin_table.specs.Order.{DeskInOrder}
-use Rattle.shared_cache.specs.Laws.{Laws}
+use Rattle.shared_cache.specs.Laws.{LockLaws}
 use Rattle.shared_cache.specs.Tied.{AreTied}
 
 all_pass : (p : ℕ → Bool) → ((n : ℕ) → p n ≡ true) → (ns : List ℕ) → list_all p ns ≡ true
@@ -38,7 +38,7 @@ pub set_other : (ws : List ℕ) (w j at : ℕ) → get_elem? (set ws w 0) j ≡ 
 set_other ws w j at h pos = ⊎_elim (λ (t : (j ≡ w) × (0 ≡ at)). absurd (omega (arith, t.1))) (λ (t : (j ≢ w) × (get_elem? ws j ≡ some at)). t) (at_set ws w j 0 at h)
 
 -- where a window is closed, only named blocks are named
-pub named_set : Laws → (ws : List ℕ) (w at : ℕ) → is_named (set ws w 0) at ≡ true → is_named ws at ≡ true
+pub named_set : LockLaws → (ws : List ℕ) (w at : ℕ) → is_named (set ws w 0) at ≡ true → is_named ws at ≡ true
 named_set laws ws w at h = let t = laws.there (set ws w 0) at h in laws.named ws t.1.0 at (set_other ws w t.1.0 at t.1.1 t.0).1 t.0
 
 -- an event as it ends: the desk d, on which nothing was opened since the pass p was taken, and the
@@ -108,7 +108,7 @@ pub record StayOpen (windows : List ℕ) (c d : Cache) : Type 0 where
       → (kept : Row) × Contains (d.rows ++ d.removed) kept × (kept.place ≡ row.place) × (kept.number ≡ row.number)
 
 -- after an event that opens no window of the segment
-pub tied_after : Laws → (m : Stage) (e : Event) (d : Desk) (p : Known) (old : List ℕ) → Running d p old → AreTied m old
+pub tied_after : LockLaws → (m : Stage) (e : Event) (d : Desk) (p : Known) (old : List ℕ) → Running d p old → AreTied m old
     → e.worker ≡ p.worker → StayOpen d.windows m.cache (after_event m e).cache → AreTied (after_event m e) d.windows
 tied_after laws m e d p old run tied same keeps v at h pos =
     let o = from_before d p old run v at h pos in

@@ -24,30 +24,30 @@ use Rattle.pin_table.specs.declared.writer.Writer.{Writer}
 use Rattle.pin_table.specs.Values.{Writing, Bearer}
 use Rattle.pin_table.specs.Order.{DeskInOrder}
 use Rattle.pin_table.specs.Events.{event, events_of}
-use Rattle.pin_table.specs.Views.{with_hand, taken, aside_of}
+use Rattle.pin_table.specs.Views.{with_hand, taken_in, aside_of}
 use Rattle.pin_table.specs.WriterRest.{beside}
-use Rattle.shared_cache.specs.Laws.{Laws}
+use Rattle.shared_cache.specs.Laws.{LockLaws}
 use Rattle.shared_cache.specs.Settled.{CoreStands, Settled}
 use Rattle.shared_cache.proofs.Windows.{Running, named_set}
 use Rattle.shared_cache.proofs.Alike.{held_alike}
 use Rattle.shared_cache.proofs.Ends.{short_history}
 
 -- words stand for the same cache where windows close and the mask and refused places change
-pub core_closed : Laws → (c : Core) (words : List ℕ) (old new : Aside) → ((at : ℕ) → is_named new.windows at ≡ true → is_named old.windows at ≡ true)
+pub core_closed : LockLaws → (c : Core) (words : List ℕ) (old new : Aside) → ((at : ℕ) → is_named new.windows at ≡ true → is_named old.windows at ≡ true)
     → CoreStands c words old → CoreStands c words new
 core_closed laws c words old new fewer st = record { stand = laws.closed c.slots words old new (entries c.slots) fewer st.stand; whole = st.whole }
 
 -- What is known of the writer w that took the pass p.
 pub record Took (t : TableId) (s : Writing) (p : Bearer) (w : Writer) : Type 0 where
   pub table : w.seat.now.table ≡ t
-  pub desk : w.seat.now.desk ≡ taken s.desk p.known
+  pub desk : w.seat.now.desk ≡ taken_in s.desk p.known
   pub worker : w.worker ≡ p.known.worker
 
 -- the words stand for the cache as the event begins
-pub begun_stands : Laws → (t : TableId) (s : Writing) (p : Bearer) (w : Writer) (c : Core) → Took t s p w → CoreStands c s.desk.words (aside_of s.desk)
+pub begun_stands : LockLaws → (t : TableId) (s : Writing) (p : Bearer) (w : Writer) (c : Core) → Took t s p w → CoreStands c s.desk.words (aside_of s.desk)
     → CoreStands c w.seat.now.desk.words (aside_of w.seat.now.desk)
 begun_stands laws t s p w c took st = subst (λ (x : Desk). CoreStands c x.words (aside_of x)) (sym took.desk)
-    (core_closed laws c s.desk.words (aside_of s.desk) (aside_of (taken s.desk p.known)) (named_set laws s.desk.windows p.known.worker) st)
+    (core_closed laws c s.desk.words (aside_of s.desk) (aside_of (taken_in s.desk p.known)) (named_set laws s.desk.windows p.known.worker) st)
 
 -- nothing is refused as the event begins
 pub none_refused : (t : TableId) (s : Writing) (p : Bearer) (w : Writer) → Took t s p w → (b : ℕ) → has b (aside_of w.seat.now.desk).refused ≡ false
@@ -65,7 +65,7 @@ kept_open windows s = record { each = λ row there named. (row, there, refl, ref
 
 -- An event of the pass p under way, from the seat s0 on: the writer is w0 as it begins and w as it ends.
 pub record Works (t : TableId) (conf : Conf) (budgets : List ℕ) (s0 : Writing) (w0 w : Writer) (c0 : Core) (p : Bearer) (j0 : Marks) : Type 0 where
-  pub laws : Laws
+  pub laws : LockLaws
   pub settled : Settled t conf budgets s0 c0 j0
   pub pass : p.table ≡ t
   pub took : Took t s0 p w0

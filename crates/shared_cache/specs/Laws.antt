@@ -21,7 +21,7 @@ use Rattle.entry_slots.specs.Facts.{OnlyClose, OnlyOpensAt, IsCopyable}
 use Rattle.entry_slots.specs.Standing.{Stands}
 use Rattle.pin_table.specs.Events.{events_of}
 
-pub record Laws : Type 0 where
+pub record LockLaws : Type 0 where
   -- a block is named exactly where a window has its place
   pub named : (windows : List ℕ) (v at : ℕ) → get_elem? windows v ≡ some at → 0 < at
       → is_named windows at ≡ true

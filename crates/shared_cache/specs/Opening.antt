@@ -27,7 +27,7 @@ pub record MayOpen (conf : Conf) (budgets : List ℕ) : Type 0 where
   pub budgets_are : AreBudgets budgets
 
 -- It is as the lock keeps it, without an event; no worker has begun or ended.
-pub record IsFresh (o : Opened) (s : Writing) (core : Core) (journal : Marks)
+pub record IsFreshCache (o : Opened) (s : Writing) (core : Core) (journal : Marks)
     (passes : List Bearer) (ended : Gathered) : Type 0 where
   pub settled : Settled o.table o.conf o.budgets s core journal
   pub no_event : s.desk.book.history ≡ []

@@ -1,6 +1,6 @@
 //! What the crates below promise.
 
-ghost use Rattle.shared_cache.specs.Laws.{Laws};
+ghost use Rattle.shared_cache.specs.Laws.{LockLaws};
 
 use apcu_model::{held_alike, numbered, one_event_more};
 use entry_slots::{standing_laws, window_laws};
@@ -8,7 +8,7 @@ use pin_table::rule_laws;
 
 // Gathers the laws of the crates below that the calls here rest on.
 pub(crate) fn lower_laws()
-    ensures { Laws }
+    ensures { LockLaws }
 {
     rule_laws();
     window_laws();

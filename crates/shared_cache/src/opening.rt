@@ -74,7 +74,7 @@ pub struct Fresh {
 
 impl Model for Fresh {
     ghost use Rattle.cache_core.specs.Caching.{cache_of};
-    ghost use Rattle.shared_cache.specs.Opening.{Opened, IsFresh};
+    ghost use Rattle.shared_cache.specs.Opening.{Opened, IsFreshCache};
 
     ghost Value = { Opened };
 
@@ -84,7 +84,7 @@ impl Model for Fresh {
       budgets = f.seat.desk.book.budgets;
     } };
 
-    ghost invariant = { λ f. IsFresh (record {
+    ghost invariant = { λ f. IsFreshCache (record {
       table = f.table;
       conf = (cache_of f.core).conf;
       budgets = f.seat.desk.book.budgets;

@@ -1,9 +1,13 @@
-ghost use Rattle.std.specs.Prelude.{◌≡◌, ◌≢◌, ℕ, ◌+◌, ◌-◌, ◌*◌, ◌/◌, ◌%◌, ◌^◌, ◌<◌, ◌≤◌, true, false, not, [], ◌∷◌, length, slice_index, slice_set, MatchOption, IfSome, IfNone, option_map, find, sum_by, nat_le, nat_lt, if◌then◌else◌, ◌⊎◌};
+ghost use Rattle.std.specs.Prelude.{◌≡◌, ◌≢◌, ℕ, ◌+◌, ◌-◌, ◌*◌, ◌/◌, ◌%◌, ◌^◌, ◌<◌, ◌≤◌, true};
+ghost use Rattle.std.specs.Prelude.{false, not, [], ◌∷◌, length, slice_index, slice_set};
+ghost use Rattle.std.specs.Prelude.{MatchOption, IfSome, IfNone, option_map, find, sum_by, nat_le};
+ghost use Rattle.std.specs.Prelude.{nat_lt, if◌then◌else◌, ◌⊎◌};
 ghost use Rattle.seg_words.specs.Kept.{Kept, KeptBeside};
 ghost use Rattle.seg_words.specs.Windows.{has, is_named};
 ghost use Rattle.seg_words.specs.Blocks.{IsTold, MayStore};
 ghost use Rattle.seg_words.specs.Gaps.{first_fit, free_runs};
-ghost use Rattle.sma_blocks.specs.Live.{IsLive, SameBlocks, live_blocks, with_block, without_block, kept_blocks, largest_of};
+ghost use Rattle.sma_blocks.specs.Live.{IsLive, SameBlocks, live_blocks, with_block, without_block};
+ghost use Rattle.sma_blocks.specs.Live.{kept_blocks, largest_of};
 ghost use Rattle.sma_blocks.specs.Pieces.{pieces};
 ghost use Rattle.sma_blocks.specs.Chain.{IsChain};
 ghost use Rattle.sma_blocks.specs.Ready.{IsReady};

@@ -1,7 +1,9 @@
-ghost use Rattle.std.specs.Prelude.{◌≡◌, ◌≢◌, ℕ, ◌+◌, ◌-◌, ◌*◌, ◌<◌, ◌≤◌, ◌^◌, length, slice_index, slice_set, MatchOption};
+ghost use Rattle.std.specs.Prelude.{◌≡◌, ◌≢◌, ℕ, ◌+◌, ◌-◌, ◌*◌, ◌<◌, ◌≤◌, ◌^◌, length, slice_index};
+ghost use Rattle.std.specs.Prelude.{slice_set, MatchOption};
 ghost use Rattle.seg_words.specs.Kept.{Kept, KeptBeside};
 ghost use Rattle.seg_words.specs.Blocks.{IsTold, MayStore};
-ghost use Rattle.sma_blocks.specs.Walk.{cut_words, merged_words, relinked_words, relinked_head, link_before};
+ghost use Rattle.sma_blocks.specs.Walk.{cut_words, merged_words, relinked_words, relinked_head};
+ghost use Rattle.sma_blocks.specs.Walk.{link_before};
 
 use seg_words::Segment;
 

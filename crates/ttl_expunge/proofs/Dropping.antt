@@ -14,7 +14,7 @@ use Rattle.entry_slots.specs.Facts.{IsSound}
 use Rattle.ttl_expunge.specs.Held.{AreDecided, AreRemoved, Drops}
 use Rattle.ttl_expunge.specs.Dropping.{left_of, dropped_rows}
 use Rattle.std.proofs.lemmas.List.Folds.{list_any-append}
-use Rattle.seg_words.specs.Members.{none_counted, count-cons, counted, filter_alike, filter_all, Contains-cases, filter_then}
+use Rattle.seg_words.specs.Members.{none_counted, count-cons, counted_some, filter_alike, filter_all, Contains-cases, filter_then}
 use Rattle.entry_slots.specs.Having.{place_from, without_none, only_none}
 use Rattle.ttl_expunge.specs.Decided.{all_stay, same_held}
 use Rattle.apcu_model.specs.Facts.{held_is, dated}
@@ -94,7 +94,7 @@ only_once at (r ∷ rows) row c place few = elim (Contains-cases r rows row c) [
       let none = none_counted (is_at at) rows (omega (arith, few, one, count-cons (is_at at) r rows)) in
       ap (λ b. cond b (r ∷ only_at at rows) (only_at at rows)) here ∙ (ap (λ l. r ∷ l) (only_none at rows none) ∙ ap (λ (x : Row). x ∷ []) same)
   | inr later ↦
-      let some : 1 ≤ count_by (is_at at) rows = counted (is_at at) rows row later (eq-eqb row.place at place) in
+      let some : 1 ≤ count_by (is_at at) rows = counted_some (is_at at) rows row later (eq-eqb row.place at place) in
       let none : is_at at r ≡ false = false_from_ne_true (is_at at r) (λ h.
       let one : cond {A = ℕ} (is_at at r) 1 0 ≡ 1 = ap (λ (b : Bool). cond {A = ℕ} b 1 0) h in
       omega (arith, few, one, some, count-cons (is_at at) r rows)) in
@@ -104,7 +104,7 @@ only_once at (r ∷ rows) row c place few = elim (Contains-cases r rows row c) [
 pub only_is : {s : Entries} {words windows : List ℕ} (row : Row) → IsSound s words windows → Contains s.rows row → (at : ℕ) → row.place ≡ at → IsOnly s at
 only_is {s} row sound there at place =
     let once = sound.once at in
-    let one : 1 ≤ count_by (is_at at) s.rows = counted (is_at at) s.rows row there (eq-eqb row.place at place) in
+    let one : 1 ≤ count_by (is_at at) s.rows = counted_some (is_at at) s.rows row there (eq-eqb row.place at place) in
     record {
       row = row;
       there = there;

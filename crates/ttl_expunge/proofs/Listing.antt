@@ -13,9 +13,9 @@ use Rattle.apcu_model.specs.Cache.{Row}
 use Rattle.entry_slots.specs.Lists.{is_at, has_place, first_place, place_after, FollowsIn}
 use Rattle.entry_slots.specs.Entries.{Entries}
 use Rattle.entry_slots.specs.Facts.{IsSound}
-use Rattle.ttl_expunge.specs.Lists.{places_of}
+use Rattle.ttl_expunge.specs.Lists.{row_places}
 use Rattle.std.proofs.lemmas.List.Folds.{list_any-append}
-use Rattle.seg_words.specs.Members.{any_there, counted, count-cons, Contains-first}
+use Rattle.seg_words.specs.Members.{any_there, counted_some, count-cons, Contains-first}
 use Rattle.entry_slots.specs.Having.{place_there}
 use Rattle.ttl_expunge.proofs.Rows.{next_in, alone}
 use Rattle.ttl_expunge.proofs.Asides.{flip}
@@ -26,7 +26,7 @@ pub record Listing (removed : List Row) (at count : ℕ) (places : List ℕ) : T
   pub todo : List Row
   pub split : removed ≡ done ++ todo
   pub here : at ≡ first_place todo
-  pub noted : take count places ≡ places_of done
+  pub noted : take count places ≡ row_places done
 
 pub listing_starts : (removed : List Row) (at : ℕ) (places : List ℕ) → at ≡ first_place removed → Listing removed at 0 places
 listing_starts removed at places here = record { done = []; todo = removed; split = refl; here = here; noted = refl }
@@ -62,7 +62,7 @@ listed_at {s} {words} {windows} {at} {count} {places} w sound some = go w.todo r
           next = ap (place_after at) split ∙ next_in at w.done row more a.before place;
         }
 
-places_push : (done : List Row) (row : Row) → places_of (done ++ row ∷ []) ≡ places_of done ++ row.place ∷ []
+places_push : (done : List Row) (row : Row) → row_places (done ++ row ∷ []) ≡ row_places done ++ row.place ∷ []
 places_push [] row = refl
 places_push (x ∷ done) row = ap (λ l. x.place ∷ l) (places_push done row)
 
@@ -80,11 +80,11 @@ listing_on {s} {words} {windows} {at} {count} {next} {places} w sound some then 
     }
 
 -- all are noted
-pub listing_ends : {s : Entries} {words windows : List ℕ} {at count : ℕ} {places : List ℕ} (w : Listing s.removed at count places) → IsSound s words windows → at ≡ 0 → take count places ≡ places_of s.removed
+pub listing_ends : {s : Entries} {words windows : List ℕ} {at count : ℕ} {places : List ℕ} (w : Listing s.removed at count places) → IsSound s words windows → at ≡ 0 → take count places ≡ row_places s.removed
 listing_ends {s} {words} {windows} {at} {count} {places} w sound end = go w.todo refl
   where
-    go : (todo : List Row) → w.todo ≡ todo → take count places ≡ places_of s.removed
-    go [] e = w.noted ∙ ap places_of (sym (w.split ∙ (ap (λ l. w.done ++ l) e ∙ append-nil w.done)))
+    go : (todo : List Row) → w.todo ≡ todo → take count places ≡ row_places s.removed
+    go [] e = w.noted ∙ ap row_places (sym (w.split ∙ (ap (λ l. w.done ++ l) e ∙ append-nil w.done)))
     go (row ∷ more) e =
         let place : row.place ≡ 0 = sym (w.here ∙ ap first_place e) ∙ end in
         let there : Contains s.removed row = subst (λ l. Contains l row) (sym (w.split ∙ ap (λ l. w.done ++ l) e)) (Contains-append_right w.done (row ∷ more) row (Contains-first row more)) in
@@ -93,7 +93,7 @@ listing_ends {s} {words} {windows} {at} {count} {places} w sound end = go w.todo
 
 -- ---- sorted
 
-others : (at : ℕ) (rows : List Row) → count_by (is_at at) rows ≤ 0 → AllByRecursion (λ y. eqb at y ≡ false) (places_of rows)
+others : (at : ℕ) (rows : List Row) → count_by (is_at at) rows ≤ 0 → AllByRecursion (λ y. eqb at y ≡ false) (row_places rows)
 others at [] h = tt
 others at (row ∷ rows) h = (
   flip at row.place ∙ false_from_ne_true (is_at at row) (λ t.
@@ -102,7 +102,7 @@ others at (row ∷ rows) h = (
   others at rows (omega (arith, h, count-cons (is_at at) row rows)),
 )
 
-distinct_places : (rows : List Row) → ((x : ℕ) → count_by (is_at x) rows ≤ 1) → IsDistinct eqb (places_of rows)
+distinct_places : (rows : List Row) → ((x : ℕ) → count_by (is_at x) rows ≤ 1) → IsDistinct eqb (row_places rows)
 unfolding IsDistinct
 distinct_places [] h = tt
 distinct_places (row ∷ rows) h =
@@ -110,16 +110,16 @@ distinct_places (row ∷ rows) h =
     (others row.place rows (omega (arith, h row.place, one, count-cons (is_at row.place) row rows)), distinct_places rows (λ x. omega (arith, h x, count-cons (is_at x) row rows)))
 
 -- sorted places rise
-pub places_rise : {s : Entries} {words windows : List ℕ} (xs : List ℕ) → IsSound s words windows → IsPermutation (places_of s.removed) xs → IsSorted nat_cmp xs → IsStrictlyIncreasing xs
+pub places_rise : {s : Entries} {words windows : List ℕ} (xs : List ℕ) → IsSound s words windows → IsPermutation (row_places s.removed) xs → IsSorted nat_cmp xs → IsStrictlyIncreasing xs
 places_rise {s} xs sound moved sorted =
     IsStrictlyIncreasing-from_distinct xs (IsNonDecreasingBy-from_sort (λ x. x) xs sorted)
-    (IsDistinct-IsPermutation eqb flip (places_of s.removed) xs moved (distinct_places s.removed (λ x. omega (arith, sound.once x))))
+    (IsDistinct-IsPermutation eqb flip (row_places s.removed) xs moved (distinct_places s.removed (λ x. omega (arith, sound.once x))))
 
 has_any : (at : ℕ) (xs : List ℕ) → has at xs ≡ list_any (λ y. at == y) xs
 has_any at [] = refl
 has_any at (x ∷ xs) = ap (λ b. (at == x) || b) (has_any at xs)
 
-any_place : (at : ℕ) (rows : List Row) → list_any (λ y. at == y) (places_of rows) ≡ has_place at rows
+any_place : (at : ℕ) (rows : List Row) → list_any (λ y. at == y) (row_places rows) ≡ has_place at rows
 any_place at [] = refl
 any_place at (row ∷ rows) = ap₂ (λ (a b : Bool). a || b) (flip at row.place) (any_place at rows)
 
@@ -136,16 +136,16 @@ any_moved p xs ys moved = elim (cases_Bool (list_any p xs)) [
     | inl u ↦ u ∙ sym t
     | inr n ↦
         let r = any_there p xs t in
-        absurd (omega (arith, counted p xs r.0 r.1 r.2, count_of_none p ys n, same))
+        absurd (omega (arith, counted_some p xs r.0 r.1 r.2, count_of_none p ys n, same))
   ]
   | inr n ↦ false_from_ne_true (list_any p ys) (λ t.
       let r = any_there p ys t in
-      omega (arith, counted p ys r.0 r.1 r.2, count_of_none p xs n, same)) ∙ sym n
+      omega (arith, counted_some p ys r.0 r.1 r.2, count_of_none p xs n, same)) ∙ sym n
 ]
   where
     same : count_by p ys ≡ count_by p xs
     same = sum_by-IsPermutation (λ y. cond {A = ℕ} (p y) 1 0) xs ys moved
 
 -- and they are the same places
-pub places_same : (removed : List Row) (xs : List ℕ) → IsPermutation (places_of removed) xs → (at : ℕ) → has at xs ≡ has_place at removed
-places_same removed xs moved at = has_any at xs ∙ (any_moved (λ y. at == y) (places_of removed) xs moved ∙ any_place at removed)
+pub places_same : (removed : List Row) (xs : List ℕ) → IsPermutation (row_places removed) xs → (at : ℕ) → has at xs ≡ has_place at removed
+places_same removed xs moved at = has_any at xs ∙ (any_moved (λ y. at == y) (row_places removed) xs moved ∙ any_place at removed)

@@ -15,7 +15,7 @@ use Rattle.entry_slots.specs.Entries.{Entries, entries_of, blocks_of, with_taken
 use Rattle.entry_slots.specs.Facts.{IsSound}
 use Rattle.ttl_expunge.specs.Held.{AreRemoved, AreHeld, KeepsOpen, Sweeps, Drops}
 use Rattle.ttl_expunge.specs.Dropping.{swept_in, dropped_in, dropped_rows}
-use Rattle.ttl_expunge.specs.Room.{with_block, MakesRoom}
+use Rattle.ttl_expunge.specs.Room.{with_found, MakesRoom}
 use Rattle.seg_words.specs.Members.{Contains-filter, Contains-first, filter_all}
 use Rattle.ttl_expunge.specs.Decided.{same_held}
 use Rattle.apcu_model.specs.Facts.{dated, order_from}
@@ -73,7 +73,7 @@ expired_later {s} {s'} {before} {after} {t} c d sound e later goes = go (nat_lt 
         ∙ (e ∙ ap (λ (b : Bool). entries_of (cond b (dropped (held_blocks later) t (is_expired c.conf t) c) c)) (sym (sym (ap (λ k. nat_lt 0 k.ttl) conf) ∙ isnt))))
 
 -- what `take` leaves
-pub took : (r : Option ℕ) (n : ℕ) (s s' : Entries) → IfSome r (λ at. s' ≡ with_taken at n s) → IfNone r (s' ≡ s) → s' ≡ with_block r n s
+pub took : (r : Option ℕ) (n : ℕ) (s s' : Entries) → IfSome r (λ at. s' ≡ with_taken at n s) → IfNone r (s' ≡ s) → s' ≡ with_found r n s
 took None n s s' some none = none
 took (Some at) n s s' some none = some
 
@@ -81,15 +81,15 @@ pub unchanged : (r : Option ℕ) (s s' : Entries) → is_some r ≡ false → If
 unchanged None s s' h none = none
 unchanged (Some at) s s' h none = absurd (true≢false h)
 
-block_open : (windows : List ℕ) (r : Option ℕ) (n : ℕ) (s s' : Entries) → KeepsOpen windows s s' → KeepsOpen windows s (with_block r n s')
+block_open : (windows : List ℕ) (r : Option ℕ) (n : ℕ) (s s' : Entries) → KeepsOpen windows s s' → KeepsOpen windows s (with_found r n s')
 block_open windows None n s s' k = k
 block_open windows (Some at) n s s' k = record { each = λ row c named. k.each row c named }
 
-block_refused : (aside : Aside) (r : Option ℕ) (n : ℕ) (s : Entries) → AreRemoved aside s.removed → AreRemoved aside (with_block r n s).removed
+block_refused : (aside : Aside) (r : Option ℕ) (n : ℕ) (s : Entries) → AreRemoved aside s.removed → AreRemoved aside (with_found r n s).removed
 block_refused aside None n s k = k
 block_refused aside (Some at) n s k = k
 
-block_held : (aside : Aside) (r : Option ℕ) (n : ℕ) (s : Entries) → AreHeld aside s.removed → AreHeld aside (with_block r n s).removed
+block_held : (aside : Aside) (r : Option ℕ) (n : ℕ) (s : Entries) → AreHeld aside s.removed → AreHeld aside (with_found r n s).removed
 block_held aside None n s k = k
 block_held aside (Some at) n s k = k
 
@@ -101,19 +101,19 @@ pub record IsRoom (s : Entries) (n t : ℕ) (full : Bool) (c : Cache) (held : Li
   pub whole : s ≡ entries_of (with_room held n t c)
   pub all : full ≡ is_expunged held n t c
 
-block_taken : (r : Option ℕ) (n : ℕ) (s s' : Entries) → s' ≡ with_block r n s → IfSome r (λ at. Contains s'.taken (record { place = at; size = n }))
+block_taken : (r : Option ℕ) (n : ℕ) (s s' : Entries) → s' ≡ with_found r n s → IfSome r (λ at. Contains s'.taken (record { place = at; size = n }))
 block_taken None n s s' e = tt
 block_taken (Some at) n s s' e = subst (λ (x : Entries). Contains x.taken (record { place = at; size = n })) (sym e) (Contains-first (record { place = at; size = n }) s.taken)
 
-block_conf : (r : Option ℕ) (n : ℕ) (s s' : Entries) → s' ≡ with_block r n s → s'.conf ≡ s.conf
+block_conf : (r : Option ℕ) (n : ℕ) (s s' : Entries) → s' ≡ with_found r n s → s'.conf ≡ s.conf
 block_conf None n s s' e = ap (λ (x : Entries). x.conf) e
 block_conf (Some at) n s s' e = ap (λ (x : Entries). x.conf) e
 
-pub makes : {s0 s1 s2 : Entries} {a0 a1 a2 : Aside} {n t : ℕ} (r : Option ℕ) (full : Bool) → s2 ≡ with_block r n s1 → r ≡ first_fit s1.conf.slots s1.conf.words n (blocks_of s1)
+pub makes : {s0 s1 s2 : Entries} {a0 a1 a2 : Aside} {n t : ℕ} (r : Option ℕ) (full : Bool) → s2 ≡ with_found r n s1 → r ≡ first_fit s1.conf.slots s1.conf.words n (blocks_of s1)
     → ((c : Cache) (later : Aside) → s0 ≡ entries_of c → Goes a1 later → IsRoom s1 n t full c (held_blocks later))
     → s1.conf ≡ s0.conf → Goes a0 a1 → KeepsOpen a1.windows s0 s1 → AreRemoved a1 s1.removed → AreHeld a1 s1.removed → a2 ≡ a1 → MakesRoom s0 s2 a0 a2 n t r full
 makes {s0} {s1} {s2} {a0} {a1} {a2} {n} {t} r full took place cache conf goes keeps refused held same = subst (λ (a : Aside). MakesRoom s0 s2 a0 a n t r full) (sym same) (record {
-  room = λ c later e on. took ∙ ap (with_block r n) (cache c later e on).whole;
+  room = λ c later e on. took ∙ ap (with_found r n) (cache c later e on).whole;
   place_is = λ c later e on. place ∙ gap_is s1 (with_room (held_blocks later) n t c) n (cache c later e on).whole;
   full_is = λ c later e on. (cache c later e on).all;
   taken = block_taken r n s1 s2 took;
@@ -216,7 +216,7 @@ room_swept_first held n t c =
 -- room in an event in which the removed rows were swept
 pub room_on : {s0 s1 s2 : Entries} {a0 a1 a2 : Aside} {n t : ℕ} {place : Option ℕ} {full : Bool} → Sweeps s0 s1 a0 a1 → KeepsOpen a1.windows s0 s1 → MakesRoom s1 s2 a1 a2 n t place full → MakesRoom s0 s2 a0 a2 n t place full
 room_on {s0} {s1} {s2} {a0} {a1} {a2} {n} {t} {place} {full} sweeps keeps m = record {
-  room = λ c later e on. m.room (swept (held_blocks later) c) later (first c later e on) on ∙ ap (λ x. with_block place n (entries_of x)) (room_swept_first (held_blocks later) n t c);
+  room = λ c later e on. m.room (swept (held_blocks later) c) later (first c later e on) on ∙ ap (λ x. with_found place n (entries_of x)) (room_swept_first (held_blocks later) n t c);
   place_is = λ c later e on. m.place_is (swept (held_blocks later) c) later (first c later e on) on ∙ ap (λ x. gap_of x n) (room_swept_first (held_blocks later) n t c);
   full_is = λ c later e on. m.full_is (swept (held_blocks later) c) later (first c later e on) on ∙ ap (λ x. not (has_gap n x) && not (has_gap n (expired_dropped (held_blocks later) t x))) (swept_twice (held_blocks later) c);
   taken = m.taken;

@@ -11,7 +11,7 @@ use Rattle.entry_slots.specs.Entries.{Entries, chain_of}
 use Rattle.entry_slots.specs.Facts.{IsSound}
 use Rattle.ttl_expunge.specs.Held.{AreRemoved, Drops}
 use Rattle.ttl_expunge.specs.Dropping.{left_of}
-use Rattle.seg_words.specs.Members.{count-cons, counted, filter_alike, Contains-cases, Contains-filter, filter_then}
+use Rattle.seg_words.specs.Members.{count-cons, counted_some, filter_alike, Contains-cases, Contains-filter, filter_then}
 use Rattle.entry_slots.specs.Having.{place_from}
 use Rattle.ttl_expunge.proofs.Dropping.{drops_on, drops_none}
 use Rattle.ttl_expunge.proofs.Chaining.{filter_swap}
@@ -32,12 +32,12 @@ one_of x (row ∷ rows) p q few cp cq ep eq' = elim (Contains-cases row rows p c
     | inl too ↦ sym here ∙ too
     | inr later ↦
         let one : cond {A = ℕ} (is_at x row) 1 0 ≡ 1 = ap (λ (b : Bool). cond {A = ℕ} b 1 0) (eq-eqb row.place x (ap (λ (r : Row). r.place) here ∙ ep)) in
-        absurd (omega (arith, few, one, count-cons (is_at x) row rows, counted (is_at x) rows q later (eq-eqb q.place x eq')))
+        absurd (omega (arith, few, one, count-cons (is_at x) row rows, counted_some (is_at x) rows q later (eq-eqb q.place x eq')))
   ]
   | inr later ↦ elim (Contains-cases row rows q cq) [
     | inl here ↦
         let one : cond {A = ℕ} (is_at x row) 1 0 ≡ 1 = ap (λ (b : Bool). cond {A = ℕ} b 1 0) (eq-eqb row.place x (ap (λ (r : Row). r.place) here ∙ eq')) in
-        absurd (omega (arith, few, one, count-cons (is_at x) row rows, counted (is_at x) rows p later (eq-eqb p.place x ep)))
+        absurd (omega (arith, few, one, count-cons (is_at x) row rows, counted_some (is_at x) rows p later (eq-eqb p.place x ep)))
     | inr too ↦ one_of x rows p q (omega (arith, few, count-cons (is_at x) row rows)) later too ep eq'
   ]
 ]

@@ -15,7 +15,7 @@ use Rattle.entry_slots.specs.Facts.{IsSound}
 use Rattle.ttl_expunge.specs.Held.{AreDecided, AreRemoved, Sweeps}
 use Rattle.ttl_expunge.specs.Dropping.{swept_in, swept_at}
 use Rattle.std.proofs.lemmas.List.Folds.{list_any-append}
-use Rattle.seg_words.specs.Members.{none_counted, counted, Contains-first, Contains-cases}
+use Rattle.seg_words.specs.Members.{none_counted, counted_some, Contains-first, Contains-cases}
 use Rattle.entry_slots.specs.Having.{place_there, without_none}
 use Rattle.ttl_expunge.specs.Decided.{all_stay, same_held}
 use Rattle.apcu_model.specs.Facts.{held_is}
@@ -69,7 +69,7 @@ turn {first} {s} {start} {aside} {at} w sound some = go w.todo refl
         let removed : s.removed ≡ kept ++ row ∷ more = ap (λ (x : Entries). x.removed) w.now ∙ ap (λ l. kept ++ l) e in
         let once = sound.once at in
         let there : Contains s.removed row = subst (λ l. Contains l row) (sym removed) (Contains-append_right kept (row ∷ more) row (Contains-first row more)) in
-        let one : 1 ≤ count_by (is_at at) s.removed = counted (is_at at) s.removed row there (eq-eqb row.place at place) in
+        let one : 1 ≤ count_by (is_at at) s.removed = counted_some (is_at at) s.removed row there (eq-eqb row.place at place) in
         let few : count_by (is_at at) s.removed ≤ 1 = omega (arith, once) in
         let a = alone at kept row more place (subst (λ l. count_by (is_at at) l ≤ 1) removed few) in
         record {

@@ -9,5 +9,5 @@ rows_from at [] = []
 rows_from at (row ∷ rows) = if is_at at row then row ∷ rows else rows_from at rows
 
 -- the places of the rows, in their order
-abbrev pub places_of : List Row → List ℕ
-places_of rows = map {A = Row} (λ row. row.place) rows
+abbrev pub row_places : List Row → List ℕ
+row_places rows = map {A = Row} (λ row. row.place) rows

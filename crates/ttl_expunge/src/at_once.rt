@@ -6,7 +6,7 @@ ghost use Rattle.seg_words.specs.Windows.{is_named};
 ghost use Rattle.entry_slots.specs.Lists.{has_place, only_at};
 ghost use Rattle.entry_slots.specs.Entries.{IsWhole, chain_of, without_rows};
 ghost use Rattle.ttl_expunge.specs.Dropping.{all_rows};
-ghost use Rattle.ttl_expunge.specs.Lists.{places_of};
+ghost use Rattle.ttl_expunge.specs.Lists.{row_places};
 ghost use Rattle.ttl_expunge.specs.Held.{AreRemoved, Drops, Moves};
 ghost use Rattle.entry_slots.specs.Standing.{Stand, entries};
 
@@ -67,8 +67,8 @@ fn move_held<S: Segment>(slots: &mut EntrySlots, seg: &mut S, t: u64)
     }
 }
 
-// Notes the places of the removed rows in the array, in the order of the rows. It answers how many they are, or
-// `None` where the array is too short.
+// Notes the places of the removed rows in the array, in the order of the rows. It answers how many
+// they are, or `None` where the array is too short.
 fn removed_places<S: Segment>(
     slots: &EntrySlots,
     seg: &mut S,
@@ -77,7 +77,7 @@ fn removed_places<S: Segment>(
     requires stand { Stand S.WordsIn slots.now seg.old }
     ensures few { IfSome result (λ n. n ≤ 64) }
     ensures noted { IfSome result (λ n.
-        take n places.new ≡ places_of (entries slots.now).removed) }
+        take n places.new ≡ row_places (entries slots.now).removed) }
     ensures kept { Kept S.WordsIn seg.old seg.new }
 {
     standing_laws();
@@ -96,7 +96,7 @@ fn removed_places<S: Segment>(
 fn free_beside<S: Segment>(slots: &mut EntrySlots, seg: &mut S, places: &mut [u32])
     requires stand { Stand S.WordsIn slots.old seg.old }
     requires whole { IsWhole (entries slots.old) }
-    requires places { places.old ≡ places_of (entries slots.old).removed }
+    requires places { places.old ≡ row_places (entries slots.old).removed }
     requires unnamed { (at : ℕ) → has_place at (entries slots.old).rows ≡ true
         → is_named (S.aside seg.old).windows at ≡ false }
     ensures freed { entries slots.new ≡ without_rows (entries slots.old) }
@@ -108,9 +108,9 @@ fn free_beside<S: Segment>(slots: &mut EntrySlots, seg: &mut S, places: &mut [u3
     slots.free_rows_beside(seg, places);
 }
 
-/// Drops all rows, as `expunge_all` does; no block may be loose. Only the rows that somebody still copies are moved
-/// one by one; all other words are made gaps in one step. Where more than 64 rows are removed then, as it is only
-/// where nobody swept them, the rows go one after the other.
+/// Drops all rows, as `expunge_all` does; no block may be loose. Only the rows that somebody still
+/// copies are moved one by one; all other words are made gaps in one step. Where more than 64 rows
+/// are removed then, as it is only where nobody swept them, the rows go one after the other.
 pub fn expunge_at_once<S: Segment>(slots: &mut EntrySlots, seg: &mut S, t: u64)
     requires stand { Stand S.WordsIn slots.old seg.old }
     requires whole { IsWhole (entries slots.old) }

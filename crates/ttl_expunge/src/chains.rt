@@ -5,7 +5,7 @@ ghost use Rattle.entry_slots.specs.Lists.{has_place, only_at};
 ghost use Rattle.entry_slots.specs.Entries.{chain_of};
 ghost use Rattle.ttl_expunge.specs.Dropping.{all_rows, expired_rows, expired_in};
 ghost use Rattle.ttl_expunge.specs.Held.{AreRemoved, Drops};
-ghost use Rattle.ttl_expunge.specs.Which.{passes};
+ghost use Rattle.ttl_expunge.specs.Which.{is_to_drop};
 ghost use Rattle.entry_slots.specs.Standing.{Stand, entries};
 
 use crate::expunge::drop_row;
@@ -24,7 +24,7 @@ pub(crate) enum Which {
 // Whether a row of which this is noted is dropped.
 fn is_dropped(which: Which, head: Head, t: u64) -> bool
     ensures { (row : Row) → head.ttl ≡ row.ttl → head.ctime ≡ row.ctime
-        → head.atime ≡ row.atime → result ≡ passes which t row }
+        → head.atime ≡ row.atime → result ≡ is_to_drop which t row }
 {
     match which {
         Which::All => true,
@@ -42,7 +42,7 @@ fn drop_if<S: Segment>(slots: &mut EntrySlots, seg: &mut S, at: u32, which: Whic
     requires refused { AreRemoved (S.aside seg.old) (entries slots.old).removed }
     ensures drops { Drops (entries slots.old) (entries slots.new)
         (S.aside seg.old) (S.aside seg.new) t
-        (filter (passes which t) (only_at at (entries slots.old).rows)) }
+        (filter (is_to_drop which t) (only_at at (entries slots.old).rows)) }
     ensures stand { Stand S.WordsIn slots.new seg.new }
     ensures rest { S.rest seg.new ≡ S.rest seg.old }
 {
@@ -60,7 +60,7 @@ fn drop_chain<S: Segment>(slots: &mut EntrySlots, seg: &mut S, slot: u32, which:
     requires refused { AreRemoved (S.aside seg.old) (entries slots.old).removed }
     ensures drops { Drops (entries slots.old) (entries slots.new)
         (S.aside seg.old) (S.aside seg.new) t
-        (filter (passes which t) (chain_of (entries slots.old) slot)) }
+        (filter (is_to_drop which t) (chain_of (entries slots.old) slot)) }
     ensures stand { Stand S.WordsIn slots.new seg.new }
     ensures rest { S.rest seg.new ≡ S.rest seg.old }
 {
@@ -79,7 +79,7 @@ fn drop_all<S: Segment>(slots: &mut EntrySlots, seg: &mut S, which: Which, t: u6
     requires refused { AreRemoved (S.aside seg.old) (entries slots.old).removed }
     ensures drops { Drops (entries slots.old) (entries slots.new)
         (S.aside seg.old) (S.aside seg.new) t (in_slot_order (entries slots.old).conf
-        (filter (passes which t) (entries slots.old).rows)) }
+        (filter (is_to_drop which t) (entries slots.old).rows)) }
     ensures stand { Stand S.WordsIn slots.new seg.new }
     ensures rest { S.rest seg.new ≡ S.rest seg.old }
 {

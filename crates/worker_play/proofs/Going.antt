@@ -14,7 +14,7 @@ use Rattle.pin_table.specs.Events.{event, events_of}
 use Rattle.script_read.specs.Play.{Wish}
 use Rattle.shared_cache.specs.Follows.{Follows}
 use Rattle.play_laws.specs.Own.{own_replies, wish_in}
-use Rattle.worker_play.specs.Goes.{wish, IsWhole, Goes, Reaches, Tells}
+use Rattle.worker_play.specs.Goes.{wish, KnowsOwnEvents, GoesOn, Reaches, Tells}
 
 -- what a worker's replies are in longer histories
 pub record OwnLaws : Type 0 where
@@ -23,7 +23,7 @@ pub record OwnLaws : Type 0 where
   pub others : (conf : Conf) (w : ℕ) (history between : List Event) → events_of w between ≡ []
       → own_replies conf w (history ++ between) ≡ own_replies conf w history
 
-pub none : (conf : Conf) (workers : ℕ) (p : Bearer) → IsWhole p → Goes conf workers p p [] []
+pub none : (conf : Conf) (workers : ℕ) (p : Bearer) → KnowsOwnEvents p → GoesOn conf workers p p [] []
 none conf workers p whole = record {
   table = refl;
   worker = refl;
@@ -39,7 +39,7 @@ none conf workers p whole = record {
 prefixes : {A : Type 0} (xs ys zs : List A) → IsPrefix xs ys → IsPrefix ys zs → IsPrefix xs zs
 prefixes xs ys zs a b = (a.0 ++ b.0, sym (append_assoc xs a.0 b.0) ∙ (ap (λ (l : List _). l ++ b.0) a.1 ∙ b.1))
 
-pub more : (conf : Conf) (workers : ℕ) (p o q : Bearer) (ws vs : List Wish) (rs ss : List Reply) → Goes conf workers p o ws rs → Goes conf workers o q vs ss → Goes conf workers p q (ws ++ vs) (rs ++ ss)
+pub more : (conf : Conf) (workers : ℕ) (p o q : Bearer) (ws vs : List Wish) (rs ss : List Reply) → GoesOn conf workers p o ws rs → GoesOn conf workers o q vs ss → GoesOn conf workers p q (ws ++ vs) (rs ++ ss)
 more conf workers p o q ws vs rs ss a b = record {
   table = b.table ∙ a.table;
   worker = b.worker ∙ a.worker;
@@ -75,7 +75,7 @@ none_between w seen between own e mine whole all =
     (omega (arith, counted, ap length last, ap length whole, length-append own (e ∷ []), length-append (events_of w seen ++ events_of w between) (events_of w (e ∷ [])), length-append (events_of w seen) (events_of w between)))
 
 -- one event of a pass
-pub one : OwnLaws → (conf : Conf) (workers : ℕ) (p q : Bearer) (t : ℕ) (r s : Request) (y : Reply) → Follows conf workers p q t r y → IsWhole p → r ≡ s → Goes conf workers p q (wish t s ∷ []) (y ∷ [])
+pub one : OwnLaws → (conf : Conf) (workers : ℕ) (p q : Bearer) (t : ℕ) (r s : Request) (y : Reply) → Follows conf workers p q t r y → KnowsOwnEvents p → r ≡ s → GoesOn conf workers p q (wish t s ∷ []) (y ∷ [])
 one laws conf workers p q t r s y f whole same =
     let e = event p.known.worker t r f.mask in
     let w = p.known.worker in
@@ -101,7 +101,7 @@ one laws conf workers p q t r s y f whole same =
 
 -- ---- what is told
 
-pub tells_reach : (conf : Conf) (workers : ℕ) (p q : Bearer) (ws : List Wish) (rs : List Reply) → Goes conf workers p q ws rs → Reaches conf workers p q ws
+pub tells_reach : (conf : Conf) (workers : ℕ) (p q : Bearer) (ws : List Wish) (rs : List Reply) → GoesOn conf workers p q ws rs → Reaches conf workers p q ws
 tells_reach conf workers p q ws rs g = record { made = ws; later = []; parts = append-nil ws; replies = rs; goes = g }
 
 pub on_ok : {X E P Q : Type 0} (r : Result X E) → (P → Q) → OnOk r P → OnOk r Q
@@ -117,14 +117,14 @@ of_ok {X} {E} {P} r x is p = subst (λ (r : Result X E). OnOk r P) is p
 -- far.
 abbrev pub Midway : {A : Type 0} → Conf → ℕ → Bearer → Bearer → List Wish → List Wish → (List Reply → A) → (List Reply → A) → Type 0
 Midway conf workers p q all rest told to_tell =
-    (made : List Wish) × (replies : List Reply) × Goes conf workers p q made replies × (made ++ rest ≡ all)
+    (made : List Wish) × (replies : List Reply) × GoesOn conf workers p q made replies × (made ++ rest ≡ all)
     × ((later : List Reply) → told (replies ++ later) ≡ to_tell later)
 
-pub begins : {A : Type 0} (conf : Conf) (workers : ℕ) (p : Bearer) (all : List Wish) (told : List Reply → A) → IsWhole p → Midway conf workers p p all all told told
+pub begins : {A : Type 0} (conf : Conf) (workers : ℕ) (p : Bearer) (all : List Wish) (told : List Reply → A) → KnowsOwnEvents p → Midway conf workers p p all all told told
 begins conf workers p all told whole = ([], [], none conf workers p whole, refl, λ later. refl)
 
 pub goes_on : {A : Type 0} (conf : Conf) (workers : ℕ) (p o q : Bearer) (all ws rest : List Wish) (rs : List Reply) (told to_tell after : List Reply → A) → Midway conf workers p o all (ws ++ rest) told to_tell
-    → Goes conf workers o q ws rs → ((later : List Reply) → to_tell (rs ++ later) ≡ after later) → Midway conf workers p q all rest told after
+    → GoesOn conf workers o q ws rs → ((later : List Reply) → to_tell (rs ++ later) ≡ after later) → Midway conf workers p q all rest told after
 goes_on conf workers p o q all ws rest rs told to_tell after m g next = (
   m.0 ++ ws,
   m.1 ++ rs,
@@ -141,6 +141,6 @@ reached conf workers p q all rest told to_tell m = record { made = m.0; later = 
 pub ends : {A : Type 0} (conf : Conf) (workers : ℕ) (p q : Bearer) (all rest : List Wish) (told to_tell : List Reply → A) → Midway conf workers p q all rest told to_tell → rest ≡ [] → Tells conf workers p q all told (to_tell [])
 ends conf workers p q all rest told to_tell m none = (
   m.1,
-  subst (λ (ws : List Wish). Goes conf workers p q ws m.1) (sym (append-nil m.0) ∙ (ap (λ (l : List Wish). m.0 ++ l) (sym none) ∙ m.3)) m.2,
+  subst (λ (ws : List Wish). GoesOn conf workers p q ws m.1) (sym (append-nil m.0) ∙ (ap (λ (l : List Wish). m.0 ++ l) (sym none) ∙ m.3)) m.2,
   sym (m.4 []) ∙ ap told (append-nil m.1),
 )

@@ -8,7 +8,7 @@ use Rattle.apcu_model.specs.declared.request.Reply.TheVariants.{Flag}
 use Rattle.pin_table.specs.Values.{Bearer}
 use Rattle.script_read.specs.Play.{Wish}
 use Rattle.reply_text.specs.Replies.{undone, noted_if, all_noted}
-use Rattle.worker_play.specs.Goes.{IsWhole, Goes, Reaches, Tells}
+use Rattle.worker_play.specs.Goes.{KnowsOwnEvents, GoesOn, Reaches, Tells}
 use Rattle.worker_play.proofs.Going.{Midway, begins, goes_on, reached, ends}
 
 undone_step : (acc : List (List ℕ)) (key : List ℕ) (keys : List (List ℕ)) (done : Bool) (later : List Reply) → acc ++ undone (key ∷ keys) (Flag done ∷ later) ≡ (acc ++ (if done then [] else key ∷ [])) ++ undone keys later
@@ -17,7 +17,7 @@ undone_step acc key keys false later = sym (append_assoc acc (key ∷ []) (undon
 
 -- one key more of those for which something may not be done
 pub undone_goes_on : (conf : Conf) (workers : ℕ) (p o q : Bearer) (all rest : List Wish) (w : Wish) (told : List Reply → List (List ℕ)) (acc new : List (List ℕ)) (key : List ℕ) (keys : List (List ℕ)) (done : Bool)
-    → Midway conf workers p o all (w ∷ rest) told (λ later. acc ++ undone (key ∷ keys) later) → Goes conf workers o q (w ∷ []) (Flag done ∷ []) → new ≡ acc ++ (if done then [] else key ∷ [])
+    → Midway conf workers p o all (w ∷ rest) told (λ later. acc ++ undone (key ∷ keys) later) → GoesOn conf workers o q (w ∷ []) (Flag done ∷ []) → new ≡ acc ++ (if done then [] else key ∷ [])
     → Midway conf workers p q all rest told (λ later. new ++ undone keys later)
 undone_goes_on conf workers p o q all rest w told acc new key keys done m g e =
     goes_on conf workers p o q all (w ∷ []) rest (Flag done ∷ []) told (λ later. acc ++ undone (key ∷ keys) later) (λ later. new ++ undone keys later) m g
@@ -25,7 +25,7 @@ undone_goes_on conf workers p o q all rest w told acc new key keys done m g e =
 
 -- one key more of those whose answers are noted
 pub noted_goes_on : {A : Type 0} (conf : Conf) (workers : ℕ) (p o q : Bearer) (all rest : List Wish) (w : Wish) (y : Reply) (answer_in : Reply → Option A) (told : List Reply → List (List ℕ × A)) (notes new : List (List ℕ × A)) (key : List ℕ) (keys : List (List ℕ))
-    → Midway conf workers p o all (w ∷ rest) told (all_noted answer_in notes (key ∷ keys)) → Goes conf workers o q (w ∷ []) (y ∷ []) → new ≡ noted_if key (answer_in y) notes
+    → Midway conf workers p o all (w ∷ rest) told (all_noted answer_in notes (key ∷ keys)) → GoesOn conf workers o q (w ∷ []) (y ∷ []) → new ≡ noted_if key (answer_in y) notes
     → Midway conf workers p q all rest told (all_noted answer_in new keys)
 noted_goes_on {A} conf workers p o q all rest w y answer_in told notes new key keys m g e =
     goes_on conf workers p o q all (w ∷ []) rest (y ∷ []) told (all_noted answer_in notes (key ∷ keys)) (all_noted answer_in new keys) m g
@@ -43,11 +43,11 @@ pub printed : {A : Type 0} (conf : Conf) (workers : ℕ) (p q : Bearer) (all : L
 printed conf workers p q all told a text new t e = (t.0, t.1, e ∙ ap text t.2)
 
 -- no key was met yet
-pub noted_begins : {A : Type 0} (conf : Conf) (workers : ℕ) (p : Bearer) (all : List Wish) (answer_in : Reply → Option A) (notes : List (List ℕ × A)) (keys : List (List ℕ)) → notes ≡ [] → IsWhole p → Midway conf workers p p all all (all_noted answer_in [] keys) (all_noted answer_in notes keys)
+pub noted_begins : {A : Type 0} (conf : Conf) (workers : ℕ) (p : Bearer) (all : List Wish) (answer_in : Reply → Option A) (notes : List (List ℕ × A)) (keys : List (List ℕ)) → notes ≡ [] → KnowsOwnEvents p → Midway conf workers p p all all (all_noted answer_in [] keys) (all_noted answer_in notes keys)
 noted_begins {A} conf workers p all answer_in notes keys none whole =
     subst (λ (n : List (List ℕ × A)). Midway conf workers p p all all (all_noted answer_in [] keys) (all_noted answer_in n keys)) (sym none) (begins conf workers p all (all_noted answer_in [] keys) whole)
 
-pub undone_begins : (conf : Conf) (workers : ℕ) (p : Bearer) (all : List Wish) (acc : List (List ℕ)) (keys : List (List ℕ)) → acc ≡ [] → IsWhole p → Midway conf workers p p all all (undone keys) (λ later. acc ++ undone keys later)
+pub undone_begins : (conf : Conf) (workers : ℕ) (p : Bearer) (all : List Wish) (acc : List (List ℕ)) (keys : List (List ℕ)) → acc ≡ [] → KnowsOwnEvents p → Midway conf workers p p all all (undone keys) (λ later. acc ++ undone keys later)
 undone_begins conf workers p all acc keys none whole =
     subst (λ (n : List (List ℕ)). Midway conf workers p p all all (undone keys) (λ later. n ++ undone keys later)) (sym none) (begins conf workers p all (undone keys) whole)
 
@@ -69,6 +69,6 @@ rest_left xs x rest n m split less one =
     omega (arith, count, less, one)
 
 -- memory was missing after an event
-pub reached_one : {A : Type 0} (conf : Conf) (workers : ℕ) (p o q : Bearer) (all rest : List Wish) (w : Wish) (rs : List Reply) (told to_tell : List Reply → A) → Midway conf workers p o all (w ∷ rest) told to_tell → Goes conf workers o q (w ∷ []) rs → Reaches conf workers p q all
+pub reached_one : {A : Type 0} (conf : Conf) (workers : ℕ) (p o q : Bearer) (all rest : List Wish) (w : Wish) (rs : List Reply) (told to_tell : List Reply → A) → Midway conf workers p o all (w ∷ rest) told to_tell → GoesOn conf workers o q (w ∷ []) rs → Reaches conf workers p q all
 reached_one conf workers p o q all rest w rs told to_tell m g =
     reached conf workers p q all rest told (λ later. to_tell (rs ++ later)) (goes_on conf workers p o q all (w ∷ []) rest rs told to_tell (λ later. to_tell (rs ++ later)) m g (λ later. refl))

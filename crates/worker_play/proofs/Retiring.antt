@@ -8,25 +8,25 @@ use Rattle.apcu_model.specs.declared.request.Reply.{Reply}
 use Rattle.apcu_model.specs.declared.request.Reply.TheVariants as replies
 use Rattle.pin_table.specs.Values.{Bearer}
 use Rattle.script_read.specs.declared.script.Step.{Step}
-use Rattle.script_read.specs.Calls.{events_of}
+use Rattle.script_read.specs.Calls.{event_bound}
 use Rattle.script_read.specs.Play.{requests_of}
 use Rattle.script_read.specs.Grammar.{ends_line}
 use Rattle.reply_text.specs.Lines.{call_text, script_lines}
 use Rattle.play_laws.specs.Own.{own_replies, wish_in, asked_by, all_asked}
 use Rattle.shared_cache.specs.Follows.{Follows}
-use Rattle.worker_play.specs.Goes.{wish, wishes_at, IsWhole, Reaches, Tells}
+use Rattle.worker_play.specs.Goes.{wish, wishes_at, KnowsOwnEvents, Reaches, Tells}
 use Rattle.worker_play.specs.Ends.{PlaysOut, Asked}
 use Rattle.worker_play.proofs.Going.{OwnLaws, more, one}
 use Rattle.worker_play.proofs.Steps.{asks_events, sum_step, lines_step}
 
 -- a script asks once for each of its events
-asked_count : (slots : ℕ) (steps : List Step) → length (asked_by steps) ≡ sum (map (λ (s : Step). events_of slots s.call) steps)
+asked_count : (slots : ℕ) (steps : List Step) → length (asked_by steps) ≡ sum (map (λ (s : Step). event_bound slots s.call) steps)
 asked_count slots [] = refl
 asked_count slots (step ∷ steps) =
-    omega (arith, length-append (wishes_at step.t (requests_of step.call)) (asked_by steps), length-map (requests_of step.call) (wish step.t), asks_events slots step.call, asked_count slots steps, sum_step (λ (s : Step). events_of slots s.call) step steps)
+    omega (arith, length-append (wishes_at step.t (requests_of step.call)) (asked_by steps), length-map (requests_of step.call) (wish step.t), asks_events slots step.call, asked_count slots steps, sum_step (λ (s : Step). event_bound slots s.call) step steps)
 
 -- an event is left for the end
-pub one_left : (conf : Conf) (workers : ℕ) (p q : Bearer) (script : List Step) → Reaches conf workers p q (asked_by script) → sum (map (λ (s : Step). events_of conf.slots s.call) script) < p.known.left → 1 ≤ q.known.left
+pub one_left : (conf : Conf) (workers : ℕ) (p q : Bearer) (script : List Step) → Reaches conf workers p q (asked_by script) → sum (map (λ (s : Step). event_bound conf.slots s.call) script) < p.known.left → 1 ≤ q.known.left
 one_left conf workers p q script r enough =
     omega (arith, enough, r.goes.left, ap length r.parts, length-append r.made r.later, asked_count conf.slots script)
 
@@ -73,7 +73,7 @@ plays_out_of {E} laws conf workers p o q script r text is none unanswered told f
     (subst (λ (x : Result (List ℕ) E). IfOk x (λ out. Tells conf workers p o (asked_by script) (script_lines conf script) out)) is told) f
 
 -- a worker that ends wherever it was
-pub has_asked : OwnLaws → (conf : Conf) (workers : ℕ) (p o q : Bearer) (script : List Step) → p.known.own ≡ [] → IsWhole o
+pub has_asked : OwnLaws → (conf : Conf) (workers : ℕ) (p o q : Bearer) (script : List Step) → p.known.own ≡ [] → KnowsOwnEvents o
     → Reaches conf workers p o (asked_by script) → Follows conf workers o q 0 requests.Retire replies.Ended → Asked script q
 has_asked laws conf workers p o q script none whole r f =
     let all = more conf workers p o q r.made (wish 0 requests.Retire ∷ []) r.replies (replies.Ended ∷ []) r.goes (one laws conf workers o q 0 requests.Retire requests.Retire replies.Ended f whole refl) in

@@ -13,16 +13,16 @@ use Rattle.pin_table.specs.Values.{Bearer}
 use Rattle.script_read.specs.declared.call.Call.{Call}
 use Rattle.script_read.specs.declared.call.Call.TheVariants.{StoreOne, StoreMany, FetchOne, FetchMany, ExistsOne, ExistsMany, DeleteOne, DeleteMany, Inc, Cas, Clear, Enabled}
 use Rattle.script_read.specs.declared.script.Step.{Step}
-use Rattle.script_read.specs.Calls.{events_of}
+use Rattle.script_read.specs.Calls.{event_bound}
 use Rattle.script_read.specs.Grammar.{ends_line}
 use Rattle.script_read.specs.Play.{Wish, Leaves, asks_each, requests_of}
 use Rattle.play_laws.specs.Own.{asked_by}
 use Rattle.reply_text.specs.Lines.{call_text, before, lines_from, script_lines}
-use Rattle.worker_play.specs.Goes.{wish, wishes_at, Goes, Reaches, Tells}
+use Rattle.worker_play.specs.Goes.{wish, wishes_at, GoesOn, Reaches, Tells}
 use Rattle.worker_play.proofs.Going.{Midway, goes_on, more, ends}
 
 -- a call asks once for each of its events
-pub asks_events : (slots : ℕ) (call : Call) → length (requests_of call) ≡ events_of slots call
+pub asks_events : (slots : ℕ) (call : Call) → length (requests_of call) ≡ event_bound slots call
 asks_events slots (StoreOne key value ttl exclusive) = refl
 asks_events slots (StoreMany pairs ttl exclusive) = length-map pairs (λ pair. requests.Store pair.0 pair.1 ttl exclusive)
 asks_events slots (FetchOne key) = refl
@@ -80,15 +80,15 @@ pub sum_step : (f : Step → ℕ) (step : Step) (steps : List Step) → sum (map
 sum_step f step steps = sum-map f (step ∷ steps) ∙ (sum_by-cons f step steps ∙ ap (λ (n : ℕ). f step + n) (sym (sum-map f steps)))
 
 -- enough events are left for the next step
-pub left_now : (conf : Conf) (step : Step) (steps : List Step) (n : ℕ) → sum (map (λ (s : Step). events_of conf.slots s.call) (step ∷ steps)) < n → length (requests_of step.call) < n
+pub left_now : (conf : Conf) (step : Step) (steps : List Step) (n : ℕ) → sum (map (λ (s : Step). event_bound conf.slots s.call) (step ∷ steps)) < n → length (requests_of step.call) < n
 left_now conf step steps n enough =
-    omega (arith, enough, sum_step (λ (s : Step). events_of conf.slots s.call) step steps, asks_events conf.slots step.call)
+    omega (arith, enough, sum_step (λ (s : Step). event_bound conf.slots s.call) step steps, asks_events conf.slots step.call)
 
 -- and for those after it
-pub left_after : (conf : Conf) (workers : ℕ) (o q : Bearer) (step : Step) (steps : List Step) (replies : List Reply) → Goes conf workers o q (wishes_at step.t (requests_of step.call)) replies → sum (map (λ (s : Step). events_of conf.slots s.call) (step ∷ steps)) < o.known.left
-    → sum (map (λ (s : Step). events_of conf.slots s.call) steps) < q.known.left
+pub left_after : (conf : Conf) (workers : ℕ) (o q : Bearer) (step : Step) (steps : List Step) (replies : List Reply) → GoesOn conf workers o q (wishes_at step.t (requests_of step.call)) replies → sum (map (λ (s : Step). event_bound conf.slots s.call) (step ∷ steps)) < o.known.left
+    → sum (map (λ (s : Step). event_bound conf.slots s.call) steps) < q.known.left
 left_after conf workers o q step steps replies g enough =
-    omega (arith, g.left, enough, sum_step (λ (s : Step). events_of conf.slots s.call) step steps, asks_events conf.slots step.call, length-map (requests_of step.call) (wish step.t))
+    omega (arith, g.left, enough, sum_step (λ (s : Step). event_bound conf.slots s.call) step steps, asks_events conf.slots step.call, length-map (requests_of step.call) (wish step.t))
 
 -- the step that a script has at a place
 pub step_item : {A : Type 0} (xs : List A) (i : ℕ) (x : A) → slice_get xs i ≡ Some x → drop i xs ≡ x ∷ drop (i + 1) xs

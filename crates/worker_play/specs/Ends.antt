@@ -8,7 +8,7 @@ use Rattle.script_read.specs.declared.script.Step.{Step}
 use Rattle.script_read.specs.Play.{Wish}
 use Rattle.play_laws.specs.Own.{own_replies, wish_in, asked_by, all_asked}
 use Rattle.reply_text.specs.Lines.{script_lines}
-use Rattle.worker_play.specs.Goes.{wish, IsWhole}
+use Rattle.worker_play.specs.Goes.{wish, KnowsOwnEvents}
 
 -- The worker asked all that its script asks, in order, and then its end. The text has a line for
 -- each call, made of the worker's own replies in what it has seen.
@@ -28,6 +28,6 @@ pub record Ends (t : TableId) (conf : Conf) (w : ℕ) (script : List Step) (b : 
     (text : Option (List ℕ)) : Type 0 where
   pub table : b.table ≡ t
   pub worker : b.known.worker ≡ w
-  pub all_own : IsWhole b
+  pub all_own : KnowsOwnEvents b
   pub begun : Asked script b
   pub plays : IfSome text (λ lines. PlaysOut conf script b lines)

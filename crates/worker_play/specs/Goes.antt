@@ -18,13 +18,13 @@ abbrev pub wishes_at : ℕ → List Request → List Wish
 wishes_at t requests = map (wish t) requests
 
 -- in what the pass has seen its worker's events are its own, all of them
-abbrev pub IsWhole : Bearer → Type 0
-IsWhole p = events_of p.known.worker p.known.seen ≡ p.known.own
+abbrev pub KnowsOwnEvents : Bearer → Type 0
+KnowsOwnEvents p = events_of p.known.worker p.known.seen ≡ p.known.own
 
 -- The pass q is p after these wishes more of its worker, each of which was one event, with these
 -- replies: those of one thread at the events' places in what q has seen. Besides, q has seen what
 -- others did; where what p had seen was legal, all of it is.
-pub record Goes (conf : Conf) (workers : ℕ) (p q : Bearer) (wishes : List Wish)
+pub record GoesOn (conf : Conf) (workers : ℕ) (p q : Bearer) (wishes : List Wish)
     (replies : List Reply) : Type 0 where
   pub table : q.table ≡ p.table
   pub worker : q.known.worker ≡ p.known.worker
@@ -34,7 +34,7 @@ pub record Goes (conf : Conf) (workers : ℕ) (p q : Bearer) (wishes : List Wish
   pub replies_are : own_replies conf q.known.worker q.known.seen
       ≡ own_replies conf p.known.worker p.known.seen ++ replies
   pub seen : IsPrefix p.known.seen q.known.seen
-  pub all_own : IsWhole q
+  pub all_own : KnowsOwnEvents q
   pub legal : all_legal workers (start_of conf) p.known.seen ≡ true
       → all_legal workers (start_of conf) q.known.seen ≡ true
 
@@ -44,10 +44,10 @@ pub record Reaches (conf : Conf) (workers : ℕ) (p q : Bearer) (wishes : List W
   pub later : List Wish
   pub parts : made ++ later ≡ wishes
   pub replies : List Reply
-  pub goes : Goes conf workers p q made replies
+  pub goes : GoesOn conf workers p q made replies
 
 -- All of these wishes were made, and what is told of their replies is this.
 abbrev pub Tells : {A : Type 0} → Conf → ℕ → Bearer → Bearer → List Wish → (List Reply → A) → A
     → Type 0
 Tells conf workers p q wishes told a =
-    (replies : List Reply) × Goes conf workers p q wishes replies × (a ≡ told replies)
+    (replies : List Reply) × GoesOn conf workers p q wishes replies × (a ≡ told replies)

@@ -2,11 +2,12 @@
 //! replies. Where memory is missing only some first of the events were made.
 
 ghost use Rattle.std.specs.Prelude.{◌≡◌, ◌<◌, ◌^◌, ◌++◌, [], length, map, codes, OnOk};
-ghost use Rattle.apcu_model.specs.declared.request.Request.TheVariants.{Store, Fetch, Exists, Delete};
+ghost use Rattle.apcu_model.specs.declared.request.Request.TheVariants.{Store, Fetch, Exists};
+ghost use Rattle.apcu_model.specs.declared.request.Request.TheVariants.{Delete};
 ghost use Rattle.script_read.specs.Play.{requests_of};
 ghost use Rattle.reply_text.specs.Replies.{unstored_text, found_text, there_text, undeleted_text};
 ghost use Rattle.reply_text.specs.Lines.{call_text};
-ghost use Rattle.worker_play.specs.Goes.{wishes_at, IsWhole, Reaches, Tells};
+ghost use Rattle.worker_play.specs.Goes.{wishes_at, KnowsOwnEvents, Reaches, Tells};
 
 use crate::events::{cas, clear, delete, exists, fetch, inc, store};
 use crate::noting::{note_there, note_undone, note_value, write_found};
@@ -35,7 +36,7 @@ pub(crate) fn play_call<N: TableName, G: Gate, R: Wait>(
     out: &mut ByteOut,
 ) -> (Pass, Result<(), AllocError>)
     requires table { pass.table ≡ N.table }
-    requires whole { IsWhole pass }
+    requires whole { KnowsOwnEvents pass }
     requires left { length (requests_of call.now) < pass.known.left }
     ensures reaches { Reaches N.conf (length N.budgets) pass result.0
         (wishes_at t (requests_of call.now)) }
@@ -129,7 +130,7 @@ fn store_all<N: TableName, R: Wait>(
     out: &mut ByteOut,
 ) -> (Pass, Result<(), AllocError>)
     requires table { pass.table ≡ N.table }
-    requires whole { IsWhole pass }
+    requires whole { KnowsOwnEvents pass }
     requires left { length pairs.now < pass.known.left }
     ensures reaches { Reaches N.conf (length N.budgets) pass result.0
         (wishes_at t (map (λ pair. Store pair.0 pair.1 ttl exclusive) pairs.now)) }
@@ -163,7 +164,7 @@ fn fetch_all<N: TableName, G: Gate, R: Wait>(
     out: &mut ByteOut,
 ) -> (Pass, Result<(), AllocError>)
     requires table { pass.table ≡ N.table }
-    requires whole { IsWhole pass }
+    requires whole { KnowsOwnEvents pass }
     requires left { length keys.now < pass.known.left }
     requires few { length keys.now < 2 ^ 32 }
     ensures reaches { Reaches N.conf (length N.budgets) pass result.0
@@ -195,7 +196,7 @@ fn look_for_all<N: TableName, R: Wait>(
     out: &mut ByteOut,
 ) -> (Pass, Result<(), AllocError>)
     requires table { pass.table ≡ N.table }
-    requires whole { IsWhole pass }
+    requires whole { KnowsOwnEvents pass }
     requires left { length keys.now < pass.known.left }
     ensures reaches { Reaches N.conf (length N.budgets) pass result.0
         (wishes_at t (map Exists keys.now)) }
@@ -226,7 +227,7 @@ fn delete_all<N: TableName, R: Wait>(
     out: &mut ByteOut,
 ) -> (Pass, Result<(), AllocError>)
     requires table { pass.table ≡ N.table }
-    requires whole { IsWhole pass }
+    requires whole { KnowsOwnEvents pass }
     requires left { length keys.now < pass.known.left }
     ensures reaches { Reaches N.conf (length N.budgets) pass result.0
         (wishes_at t (map Delete keys.now)) }

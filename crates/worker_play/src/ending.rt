@@ -1,7 +1,7 @@
 //! A worker's script and its end.
 
 ghost use Rattle.std.specs.Prelude.{◌≡◌, ◌<◌, [], map, sum};
-ghost use Rattle.script_read.specs.Calls.{events_of};
+ghost use Rattle.script_read.specs.Calls.{event_bound};
 ghost use Rattle.worker_play.specs.Ends.{Ends};
 
 use crate::script::play_script;
@@ -32,7 +32,7 @@ pub fn play_out<N: TableName, G: Gate, R: Wait>(
     requires table { pass.table ≡ N.table }
     requires no_event { pass.known.own ≡ [] }
     requires none_seen { pass.known.seen ≡ [] }
-    requires left { sum (map (λ step. events_of conf.now.slots step.call) script.now)
+    requires left { sum (map (λ step. event_bound conf.now.slots step.call) script.now)
         < pass.known.left }
     ensures { Ends N.table N.conf pass.known.worker script.now result.0 result.1 }
 {

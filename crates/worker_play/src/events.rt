@@ -7,7 +7,7 @@ ghost use Rattle.apcu_model.specs.declared.request.Reply.{Reply};
 ghost use Rattle.apcu_model.specs.declared.request.Reply.TheVariants.{Flag, Found};
 ghost use Rattle.apcu_model.specs.Sequential.{number_reply};
 ghost use Rattle.reply_text.specs.Replies.{fetched};
-ghost use Rattle.worker_play.specs.Goes.{wish, IsWhole, Goes};
+ghost use Rattle.worker_play.specs.Goes.{wish, KnowsOwnEvents, GoesOn};
 
 use crate::scalar::graph_of_scalar;
 use io_edges::{Gate, Point};
@@ -30,9 +30,9 @@ pub(crate) fn store<N: TableName, R: Wait>(
     t: u64,
 ) -> (Pass, bool)
     requires table { pass.table ≡ N.table }
-    requires whole { IsWhole pass }
+    requires whole { KnowsOwnEvents pass }
     requires left { 2 ≤ pass.known.left }
-    ensures { Goes N.conf (length N.budgets) pass result.0
+    ensures { GoesOn N.conf (length N.budgets) pass result.0
         (wish t (request.Store key.now value.now ttl exclusive) ∷ []) (Flag result.1 ∷ []) }
 {
     one_event_own();
@@ -48,9 +48,9 @@ pub(crate) fn exists<N: TableName, R: Wait>(
     t: u64,
 ) -> (Pass, bool)
     requires table { pass.table ≡ N.table }
-    requires whole { IsWhole pass }
+    requires whole { KnowsOwnEvents pass }
     requires left { 2 ≤ pass.known.left }
-    ensures { Goes N.conf (length N.budgets) pass result.0
+    ensures { GoesOn N.conf (length N.budgets) pass result.0
         (wish t (request.Exists key.now) ∷ []) (Flag result.1 ∷ []) }
 {
     one_event_own();
@@ -66,9 +66,9 @@ pub(crate) fn delete<N: TableName, R: Wait>(
     t: u64,
 ) -> (Pass, bool)
     requires table { pass.table ≡ N.table }
-    requires whole { IsWhole pass }
+    requires whole { KnowsOwnEvents pass }
     requires left { 2 ≤ pass.known.left }
-    ensures { Goes N.conf (length N.budgets) pass result.0
+    ensures { GoesOn N.conf (length N.budgets) pass result.0
         (wish t (request.Delete key.now) ∷ []) (Flag result.1 ∷ []) }
 {
     one_event_own();
@@ -86,9 +86,9 @@ pub(crate) fn inc<N: TableName, R: Wait>(
     t: u64,
 ) -> (Pass, Option<i64>)
     requires table { pass.table ≡ N.table }
-    requires whole { IsWhole pass }
+    requires whole { KnowsOwnEvents pass }
     requires left { 2 ≤ pass.known.left }
-    ensures { Goes N.conf (length N.budgets) pass result.0
+    ensures { GoesOn N.conf (length N.budgets) pass result.0
         (wish t (request.Inc key.now step ttl) ∷ []) (number_reply result.1 ∷ []) }
 {
     one_event_own();
@@ -106,9 +106,9 @@ pub(crate) fn cas<N: TableName, R: Wait>(
     t: u64,
 ) -> (Pass, bool)
     requires table { pass.table ≡ N.table }
-    requires whole { IsWhole pass }
+    requires whole { KnowsOwnEvents pass }
     requires left { 2 ≤ pass.known.left }
-    ensures { Goes N.conf (length N.budgets) pass result.0
+    ensures { GoesOn N.conf (length N.budgets) pass result.0
         (wish t (request.Cas key.now expect set) ∷ []) (Flag result.1 ∷ []) }
 {
     one_event_own();
@@ -118,9 +118,9 @@ pub(crate) fn cas<N: TableName, R: Wait>(
 // Drops all rows.
 pub(crate) fn clear<N: TableName, R: Wait>(rt: &R, shared: &Shared<N>, pass: Pass, t: u64) -> Pass
     requires table { pass.table ≡ N.table }
-    requires whole { IsWhole pass }
+    requires whole { KnowsOwnEvents pass }
     requires left { 2 ≤ pass.known.left }
-    ensures { Goes N.conf (length N.budgets) pass result
+    ensures { GoesOn N.conf (length N.budgets) pass result
         (wish t request.Clear ∷ []) (Flag true ∷ []) }
 {
     one_event_own();
@@ -140,9 +140,9 @@ pub(crate) fn fetch<N: TableName, G: Gate, R: Wait>(
     t: u64,
 ) -> (Pass, Result<Option<Graph>, AllocError>)
     requires table { pass.table ≡ N.table }
-    requires whole { IsWhole pass }
+    requires whole { KnowsOwnEvents pass }
     requires left { 2 ≤ pass.known.left }
-    ensures { (y : Reply) × Goes N.conf (length N.budgets) pass result.0
+    ensures { (y : Reply) × GoesOn N.conf (length N.budgets) pass result.0
         (wish t (request.Fetch key.now) ∷ []) (y ∷ [])
         × IfOk result.1 (λ found. fetched found ≡ y) }
 {

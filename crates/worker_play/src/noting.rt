@@ -1,10 +1,12 @@
 //! What is kept of a call's replies until its line is printed.
 
-ghost use Rattle.std.specs.Prelude.{◌≡◌, ◌<◌, ◌^◌, ◌++◌, List, [], ◌∷◌, length, map, if◌then◌else◌, codes, IfOk, OnOk};
+ghost use Rattle.std.specs.Prelude.{◌≡◌, ◌<◌, ◌^◌, ◌++◌, List, [], ◌∷◌, length, map, if◌then◌else◌};
+ghost use Rattle.std.specs.Prelude.{codes, IfOk, OnOk};
 ghost use Rattle.php_graph.specs.declared.kind.Kind.{Kind};
 ghost use Rattle.apcu_model.specs.declared.request.Reply.{Reply};
 ghost use Rattle.apcu_model.specs.declared.request.Reply.TheVariants.{Flag};
-ghost use Rattle.reply_text.specs.Replies.{array_text, value_members, fetched, noted_if, there_in, value_in};
+ghost use Rattle.reply_text.specs.Replies.{array_text, value_members, fetched, noted_if, there_in};
+ghost use Rattle.reply_text.specs.Replies.{value_in};
 
 use notation::ByteOut;
 use php_graph::{Bytes, Graph};

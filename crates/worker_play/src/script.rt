@@ -1,12 +1,12 @@
 //! A worker's script.
 
 ghost use Rattle.std.specs.Prelude.{◌≡◌, ℕ, ◌<◌, ◌++◌, List, [], length, map, sum, IfOk, OnOk};
-ghost use Rattle.script_read.specs.Calls.{events_of};
+ghost use Rattle.script_read.specs.Calls.{event_bound};
 ghost use Rattle.script_read.specs.Grammar.{ends_line};
 ghost use Rattle.script_read.specs.Play.{requests_of};
 ghost use Rattle.play_laws.specs.Own.{asked_by};
 ghost use Rattle.reply_text.specs.Lines.{call_text, script_lines};
-ghost use Rattle.worker_play.specs.Goes.{wishes_at, IsWhole, Reaches, Tells};
+ghost use Rattle.worker_play.specs.Goes.{wishes_at, KnowsOwnEvents, Reaches, Tells};
 ghost use Rattle.worker_play.specs.declared.script.PlayFault.TheVariants.{Memory};
 
 use crate::calls::play_call;
@@ -46,7 +46,7 @@ fn play_step<N: TableName, G: Gate, R: Wait>(
     out: &mut ByteOut,
 ) -> (Pass, Result<(), AllocError>)
     requires table { pass.table ≡ N.table }
-    requires whole { IsWhole pass }
+    requires whole { KnowsOwnEvents pass }
     requires left { length (requests_of step.now.call) < pass.known.left }
     ensures reaches { Reaches N.conf (length N.budgets) pass result.0
         (wishes_at step.now.t (requests_of step.now.call)) }
@@ -79,8 +79,8 @@ fn play_steps<N: TableName, G: Gate, R: Wait>(
     out: &mut ByteOut,
 ) -> (Pass, Result<(), AllocError>)
     requires table { pass.table ≡ N.table }
-    requires whole { IsWhole pass }
-    requires left { sum (map (λ step. events_of N.conf.slots step.call) script.now)
+    requires whole { KnowsOwnEvents pass }
+    requires left { sum (map (λ step. event_bound N.conf.slots step.call) script.now)
         < pass.known.left }
     ensures reaches { Reaches N.conf (length N.budgets) pass result.0 (asked_by script.now) }
     ensures lines { OnOk result.1 (Tells N.conf (length N.budgets) pass result.0
@@ -107,13 +107,13 @@ fn play_steps<N: TableName, G: Gate, R: Wait>(
     (held, Ok(()))
 }
 
-/// Plays a worker's script on the shared cache, and gives what its calls print: a line for each, for
-/// the worker's own replies. The gate is told of each call before and after it, and of each value
-/// that is copied, between its fetch and its copy.
+/// Plays a worker's script on the shared cache, and gives what its calls print: a line for each,
+/// for the worker's own replies. The gate is told of each call before and after it, and of each
+/// value that is copied, between its fetch and its copy.
 ///
-/// The pass has made no event, and may make one more than all calls of the script may. It comes back
-/// with the events that are left. Its worker's events are then what the calls asked, in their order,
-/// and its replies are those of one thread at the events' places in what the pass has seen.
+/// The pass has made no event, and may make one more than all calls of the script may. It comes
+/// back with the events that are left. Its worker's events are then what the calls asked, in their
+/// order, and its replies are those of one thread at the events' places in what the pass has seen.
 ///
 /// Without memory the worker stops: some first of the events were made, and they stand.
 pub fn play_script<N: TableName, G: Gate, R: Wait>(
@@ -128,8 +128,8 @@ pub fn play_script<N: TableName, G: Gate, R: Wait>(
     requires conf { conf.now ≡ N.conf }
     requires table { pass.table ≡ N.table }
     requires no_event { pass.known.own ≡ [] }
-    requires none_seen { IsWhole pass }
-    requires left { sum (map (λ step. events_of conf.now.slots step.call) script.now)
+    requires none_seen { KnowsOwnEvents pass }
+    requires left { sum (map (λ step. event_bound conf.now.slots step.call) script.now)
         < pass.known.left }
     ensures reaches { Reaches N.conf (length N.budgets) pass result.0 (asked_by script.now) }
     ensures lines { IfOk result.1 (λ out. Tells N.conf (length N.budgets) pass result.0

@@ -1,7 +1,7 @@
 //! A script, and a worker that plays it.
 
 ghost use Rattle.std.specs.Prelude.{◌≡◌, ◌<◌, ◌≤◌, IsTrue, [], length, map, sum, IfSome};
-ghost use Rattle.script_read.specs.Calls.{events_of};
+ghost use Rattle.script_read.specs.Calls.{event_bound};
 ghost use Rattle.worker_play.specs.Goes.{IsWhole};
 
 use apcu_model::Conf;
@@ -38,7 +38,7 @@ pub(crate) fn script_of(alloc: Global, text: &[u8]) -> Result<Script, Fail> {
 
 // Whether so many events are enough for a script, and one is left then.
 fn may_play(script: &Script, slots: u32, left: u32) -> bool
-    ensures { IsTrue result → sum (map (λ step. events_of slots step.call) script.now) < left }
+    ensures { IsTrue result → sum (map (λ step. event_bound slots step.call) script.now) < left }
 {
     if left == 0 {
         return false;

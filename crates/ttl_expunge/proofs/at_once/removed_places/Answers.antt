@@ -1,5 +1,5 @@
 use Rattle.std.proofs.Common.{◌≡◌, ◌<◌, ℕ, length, take, subst, refl, sym, ap, ◌∙◌, arith, rules}
-use Rattle.ttl_expunge.specs.Lists.{places_of}
+use Rattle.ttl_expunge.specs.Lists.{row_places}
 use Rattle.std.proofs.lemmas.Bool.{or_right}
 use Rattle.entry_slots.specs.Lists.{is_at, has_place}
 use Rattle.entry_slots.specs.Standing.{entries}
@@ -46,4 +46,4 @@ returns-then-at-eq0-2-clause-noted g c =
     let s = entries c.args.slots.now in
     let sound = c.standing_laws.ensures.sound c.args.slots.now (g.S.WordsIn.words c.args.seg.now) (g.S.WordsIn.aside c.args.seg.now) s c.requires.stand in
     let end : c.loop-count.count ≡ 64 = omega (arith, c.loop-count.invariant.few, c.loop-count-test.false) in
-    subst (λ (n : ℕ). take n c.loop-count.places ≡ places_of s.removed) end (listing_ends c.loop-count.invariant.listing sound c.if-at-eq0-2.true)
+    subst (λ (n : ℕ). take n c.loop-count.places ≡ row_places s.removed) end (listing_ends c.loop-count.invariant.listing sound c.if-at-eq0-2.true)

@@ -4,7 +4,7 @@ use Rattle.seg_words.specs.Windows.{Aside}
 use Rattle.apcu_model.specs.Cache.{Row}
 use Rattle.entry_slots.specs.Lists.{only_at}
 use Rattle.ttl_expunge.specs.Held.{Drops}
-use Rattle.ttl_expunge.specs.Which.{passes}
+use Rattle.ttl_expunge.specs.Which.{is_to_drop}
 use Rattle.ttl_expunge.proofs.Dropping.{only_of, drops_none}
 use Rattle.entry_slots.specs.Standing.{entries}
 use Rattle.ttl_expunge.proofs.chains.drop_if.Goals as goal
@@ -14,8 +14,8 @@ returns-then-is_dropped-clause-drops g c =
     let s = entries c.args.slots.now in
     let o = only_of c.args.at (c.standing_laws.ensures.sound c.args.slots.now (g.S.WordsIn.words c.args.seg.now) (g.S.WordsIn.aside c.args.seg.now) (entries c.args.slots.now) c.requires.stand) c.requires.there in
     let h = c.head-head.ensures.head o.row (record { there = Contains-append_left s.rows s.removed o.row o.there; place = o.place }) in
-    let is : passes c.args.which c.args.t o.row ≡ true = sym (c.is_dropped.ensures o.row h.ttl h.ctime h.atime) ∙ c.if-is_dropped.true in
-    let all : filter (passes c.args.which c.args.t) (only_at c.args.at s.rows) ≡ only_at c.args.at s.rows = ap (filter (passes c.args.which c.args.t)) o.only ∙ (ap (λ b. cond b (o.row ∷ []) []) is ∙ sym o.only) in
+    let is : is_to_drop c.args.which c.args.t o.row ≡ true = sym (c.is_dropped.ensures o.row h.ttl h.ctime h.atime) ∙ c.if-is_dropped.true in
+    let all : filter (is_to_drop c.args.which c.args.t) (only_at c.args.at s.rows) ≡ only_at c.args.at s.rows = ap (filter (is_to_drop c.args.which c.args.t)) o.only ∙ (ap (λ b. cond b (o.row ∷ []) []) is ∙ sym o.only) in
     subst (λ (l : List Row). Drops s (entries c.drop_row.new.slots) (g.S.WordsIn.aside c.args.seg.now) (g.S.WordsIn.aside c.drop_row.new.seg) c.args.t l) (sym all)
     (subst (λ (a : Aside). Drops s (entries c.drop_row.new.slots) a (g.S.WordsIn.aside c.drop_row.new.seg) c.args.t (only_at c.args.at s.rows)) c.head-head.ensures.kept.aside c.drop_row.ensures.drops)
 
@@ -24,7 +24,7 @@ returns-else-is_dropped-clause-drops g c =
     let s = entries c.args.slots.now in
     let o = only_of c.args.at (c.standing_laws.ensures.sound c.args.slots.now (g.S.WordsIn.words c.args.seg.now) (g.S.WordsIn.aside c.args.seg.now) (entries c.args.slots.now) c.requires.stand) c.requires.there in
     let h = c.head-head.ensures.head o.row (record { there = Contains-append_left s.rows s.removed o.row o.there; place = o.place }) in
-    let is : passes c.args.which c.args.t o.row ≡ false = sym (c.is_dropped.ensures o.row h.ttl h.ctime h.atime) ∙ c.if-is_dropped.false in
-    let none : filter (passes c.args.which c.args.t) (only_at c.args.at s.rows) ≡ [] = ap (filter (passes c.args.which c.args.t)) o.only ∙ ap (λ b. cond b (o.row ∷ []) []) is in
+    let is : is_to_drop c.args.which c.args.t o.row ≡ false = sym (c.is_dropped.ensures o.row h.ttl h.ctime h.atime) ∙ c.if-is_dropped.false in
+    let none : filter (is_to_drop c.args.which c.args.t) (only_at c.args.at s.rows) ≡ [] = ap (filter (is_to_drop c.args.which c.args.t)) o.only ∙ ap (λ b. cond b (o.row ∷ []) []) is in
     subst (λ (l : List Row). Drops s s (g.S.WordsIn.aside c.args.seg.now) (g.S.WordsIn.aside c.head-head.new.seg) c.args.t l) (sym none)
     (drops_none s (g.S.WordsIn.aside c.args.seg.now) (g.S.WordsIn.aside c.head-head.new.seg) c.args.t c.head-head.ensures.kept.aside c.requires.refused)

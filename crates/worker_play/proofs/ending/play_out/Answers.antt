@@ -5,14 +5,14 @@ use Rattle.reply_text.specs.Lines.{script_lines}
 use Rattle.worker_play.specs.Goes.{Tells}
 use Rattle.apcu_model.specs.declared.conf.Conf.{Conf}
 use Rattle.script_read.specs.declared.script.Step.{Step}
-use Rattle.script_read.specs.Calls.{events_of}
+use Rattle.script_read.specs.Calls.{event_bound}
 use Rattle.worker_play.proofs.Going.{OwnLaws}
 use Rattle.worker_play.proofs.Retiring.{one_left, unanswered, plays_out_of, has_asked}
 use Rattle.worker_play.proofs.ending.play_out.Goals as goal
 
 pub retire-ended-requires-clause-left : goal.retire-ended-requires-clause-left
 retire-ended-requires-clause-left g c =
-    let enough = subst (λ (f : Conf). sum (map (λ (s : Step). events_of f.slots s.call) c.args.script.now) < c.args.pass.known.left) c.requires.conf c.requires.left in
+    let enough = subst (λ (f : Conf). sum (map (λ (s : Step). event_bound f.slots s.call) c.args.script.now) < c.args.pass.known.left) c.requires.conf c.requires.left in
     one_left g.N.TableName.conf (length g.N.TableName.budgets) c.args.pass c.play_script-pass.result.0 c.args.script.now c.play_script-pass.ensures.reaches enough
 
 pub returns-in-Ok : goal.returns-in-Ok

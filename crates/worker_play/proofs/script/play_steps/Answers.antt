@@ -4,7 +4,7 @@ use Rattle.script_read.specs.declared.script.Step.{Step}
 use Rattle.play_laws.specs.Own.{asked_by}
 use Rattle.reply_text.specs.Lines.{script_lines}
 use Rattle.std.specs.Prelude.{sum}
-use Rattle.script_read.specs.Calls.{events_of}
+use Rattle.script_read.specs.Calls.{event_bound}
 use Rattle.script_read.specs.Play.{requests_of}
 use Rattle.worker_play.specs.Goes.{wishes_at}
 use Rattle.worker_play.proofs.Going.{Midway, begins, reached, of_ok}
@@ -25,7 +25,7 @@ play_step-next-requires-clause-left g c =
     let script : List Step = c.args.script.now in
     let rest : List Step = drop (c.loop-number.number + 1) script in
     let split = step_item script c.loop-number.number c.at.result.now c.at.ensures.step in
-    let enough = subst (λ (l : List Step). sum (map (λ (s : Step). events_of g.N.TableName.conf.slots s.call) l) < c.loop-number.held.known.left) split c.loop-number.invariant.left in
+    let enough = subst (λ (l : List Step). sum (map (λ (s : Step). event_bound g.N.TableName.conf.slots s.call) l) < c.loop-number.held.known.left) split c.loop-number.invariant.left in
     left_now conf c.at.result.now rest _ enough
 
 pub returns-in-Err-clause-reaches : goal.returns-in-Err-clause-reaches
@@ -43,7 +43,7 @@ loop-number-preserved g c =
     let script : List Step = c.args.script.now in
     let rest : List Step = drop (c.loop-number.number + 1) script in
     let split = step_item script c.loop-number.number c.at.result.now c.at.ensures.step in
-    let enough = subst (λ (l : List Step). sum (map (λ (s : Step). events_of g.N.TableName.conf.slots s.call) l) < c.loop-number.held.known.left) split c.loop-number.invariant.left in
+    let enough = subst (λ (l : List Step). sum (map (λ (s : Step). event_bound g.N.TableName.conf.slots s.call) l) < c.loop-number.held.known.left) split c.loop-number.invariant.left in
     let m = subst (λ (l : List Step). Midway g.N.TableName.conf (length g.N.TableName.budgets) c.args.pass c.loop-number.held (asked_by c.args.script.now) (asked_by l) (λ replies. c.args.out.now ++ script_lines g.N.TableName.conf c.args.script.now replies) (λ later. c.loop-number.out ++ script_lines g.N.TableName.conf l later)) split c.loop-number.invariant.midway in
     let t = of_ok c.play_step-next.result.1 _ c.in_default.is c.play_step-next.ensures.line in
     record {

@@ -5,7 +5,7 @@ use Rattle.std.proofs.lemmas.List.Sums.{sum-map, sum_by-cons}
 use Rattle.std.proofs.lemmas.List.{drop_more}
 use Rattle.std.proofs.Math.ListN.{drop_of_length-le}
 use Rattle.script_read.specs.declared.script.Step.{Step}
-use Rattle.script_read.specs.Calls.{events_of}
+use Rattle.script_read.specs.Calls.{event_bound}
 use Rattle.worker_play_tests.proofs.playing.may_play.Goals as goal
 
 -- the events of a step, and those of the steps after it
@@ -17,7 +17,7 @@ events_behind f steps i step is =
 
 pub loop-i-preserved : goal.loop-i-preserved
 loop-i-preserved c =
-    let next = events_behind (λ (s : Step). events_of c.args.slots s.call) c.args.script.now c.loop-i.i c.at.result.now c.at.ensures.step in
+    let next = events_behind (λ (s : Step). event_bound c.args.slots s.call) c.args.script.now c.loop-i.i c.at.result.now c.at.ensures.step in
     record {
       all = omega (arith, next, c.loop-i.invariant.all, c.events-more.ensures);
       few = omega arith;
@@ -26,5 +26,5 @@ loop-i-preserved c =
 pub returns : goal.returns
 returns c = λ _.
     let past : length c.args.script.now ≤ c.loop-i.i = omega (arith, c.loop-i-test.false) in
-    let none : sum (map (λ (s : Step). events_of c.args.slots s.call) (drop c.loop-i.i c.args.script.now)) ≡ 0 = ap (λ (l : List Step). sum (map (λ (s : Step). events_of c.args.slots s.call) l)) (drop_of_length-le c.args.script.now past) in
+    let none : sum (map (λ (s : Step). event_bound c.args.slots s.call) (drop c.loop-i.i c.args.script.now)) ≡ 0 = ap (λ (l : List Step). sum (map (λ (s : Step). event_bound c.args.slots s.call) l)) (drop_of_length-le c.args.script.now past) in
     omega (arith, none, c.loop-i.invariant.all, c.loop-i.invariant.few)

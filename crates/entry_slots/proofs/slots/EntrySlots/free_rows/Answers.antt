@@ -5,7 +5,7 @@ use Rattle.sma_blocks.specs.Live.{live_blocks}
 use Rattle.sma_blocks.specs.Ready.{IsReady}
 use Rattle.entry_slots.specs.declared.slots.EntrySlots.{EntrySlots}
 use Rattle.entry_slots.specs.Entries.{Entries}
-use Rattle.entry_slots.specs.Standing.{Stands, IsChain, entries}
+use Rattle.entry_slots.specs.Standing.{Stands, IsRowChain, entries}
 use Rattle.entry_slots.proofs.Emptying.{bare, bare_stands, left_bare, all_closed, none_kept}
 use Rattle.entry_slots.proofs.slots.EntrySlots.free_rows.Goals as goal
 
@@ -33,7 +33,7 @@ returns-clause-stand g c =
     let ws : List ℕ = g.S.WordsIn.words c.keep.new.seg in
     let aside : Aside = g.S.WordsIn.aside c.keep.new.seg in
     let e' : EntrySlots = record old { sma = c.keep.new.self; count = 0; standing = c.then-self.result } in
-    let none : old.removed ≡ 0 = subst (λ rows. IsChain (g.S.WordsIn.words c.args.seg.now) old.removed rows) c.requires.alone h.removed_chain in
+    let none : old.removed ≡ 0 = subst (λ rows. IsRowChain (g.S.WordsIn.words c.args.seg.now) old.removed rows) c.requires.alone h.removed_chain in
     let done = bare_stands e' ws aside s.conf h.good
     (λ slot lt. c.keep.ensures.others.before slot (omega (arith, lt, h.from)) ∙ c.end_chains.ensures.ended slot (omega (arith, lt, h.from)))
     none refl c.keep.ensures.ready

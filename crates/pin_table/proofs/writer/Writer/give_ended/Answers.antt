@@ -6,12 +6,12 @@ use Rattle.pin_table.proofs.Lists.{alike}
 use Rattle.apcu_model.specs.declared.event.Event.{Event}
 use Rattle.apcu_model.specs.declared.request.Request.TheVariants as request
 use Rattle.pin_table.specs.Events.{event, fetched_last}
-use Rattle.pin_table.specs.Views.{after_event}
+use Rattle.pin_table.specs.Views.{known_after}
 use Rattle.pin_table.proofs.Books.{fetched_after}
 use Rattle.pin_table.proofs.writer.Writer.give_ended.Goals as goal
 
 -- the end is no fetch
-ends : (b : Book) (w t mask : ℕ) (q : Known) → (in_hand b.hand).worker ≡ w → q ≡ after_event b (event w t request.Retire mask) → fetched_last q.worker q.own false ≡ false
+ends : (b : Book) (w t mask : ℕ) (q : Known) → (in_hand b.hand).worker ≡ w → q ≡ known_after b (event w t request.Retire mask) → fetched_last q.worker q.own false ≡ false
 ends b w t mask q same is =
     let e : Event = event w t request.Retire mask in
     let mine : (e.worker == (in_hand b.hand).worker) ≡ true = alike e.worker (in_hand b.hand).worker (sym same) in

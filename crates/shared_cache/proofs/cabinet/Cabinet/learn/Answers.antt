@@ -4,21 +4,21 @@ use Rattle.apcu_model.specs.History.{start_of, all_legal}
 use Rattle.pin_table.specs.declared.views.Known.{Known}
 use Rattle.pin_table.specs.declared.views.Desk.{Desk}
 use Rattle.pin_table.specs.Events.{events_of}
-use Rattle.pin_table.specs.Views.{taken, rested, with_hand, seen_all}
+use Rattle.pin_table.specs.Views.{taken_in, rested, with_hand, seen_all}
 use Rattle.shared_cache.proofs.Copies.{unchanged}
 use Rattle.shared_cache.proofs.cabinet.Cabinet.learn.Goals as goal
 use Rattle.shared_cache.proofs.cabinet.Cabinet.learn.Given as given
 
 -- the desk as the event begins that does not take place
-begun : (g : given.Over) (c : goal.After-give_seen g) → c.writer-w.result.seat.now.desk ≡ taken c.self.inside.seat.desk c.args.pass.known
-begun g c = c.writer-w.ensures.desk ∙ ap (λ (x : Desk). taken x c.args.pass.known) (c.learn-ended.ensures.desk ∙ sym c.self.invariant.resting)
+begun : (g : given.Over) (c : goal.After-give_seen g) → c.writer-w.result.seat.now.desk ≡ taken_in c.self.inside.seat.desk c.args.pass.known
+begun g c = c.writer-w.ensures.desk ∙ ap (λ (x : Desk). taken_in x c.args.pass.known) (c.learn-ended.ensures.desk ∙ sym c.self.invariant.resting)
 
 table : (g : given.Over) (c : goal.After-give_seen g) → c.writer-w.result.seat.now.table ≡ g.N.TableName.table
 table g c = c.writer-w.result.same_table ∙ (c.writer-w.ensures.table ∙ c.requires.table)
 
 pub invariant_of-self : goal.invariant_of-self
 invariant_of-self g c =
-    let desk : c.give_seen.new.self.1.0.desk ≡ rested (taken c.self.inside.seat.desk c.args.pass.known) (with_hand c.self.inside.seat.desk.book None) =
+    let desk : c.give_seen.new.self.1.0.desk ≡ rested (taken_in c.self.inside.seat.desk c.args.pass.known) (with_hand c.self.inside.seat.desk.book None) =
     c.give_seen.ensures.desk ∙ ap (λ (x : Desk). rested x (with_hand x.book None)) (begun g c) in
     unchanged c.lower_laws.ensures _ _ _ c.self.inside.seat c.give_seen.new.self.1.0 c.self.inside.core c.self.inside.journal c.args.pass.known.worker c.self.invariant
     (c.give_seen.ensures.table ∙ table g c) (ap (λ (x : Desk). x.words) desk) (ap (λ (x : Desk). x.book) desk) (ap (λ (x : Desk). x.windows) desk)
