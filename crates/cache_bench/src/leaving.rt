@@ -27,6 +27,7 @@ pub fn measure_leaving(
     rt: &HostRuntime,
     rows: u32,
     value: &Graph,
+    times: u32,
     is_loud: bool,
 ) -> io::Result<()> {
     let alloc = rt.alloc();
@@ -35,7 +36,7 @@ pub fn measure_leaving(
         return Ok(());
     }
     let mut cache = WordCache::new(alloc, &conf)?;
-    for _ in 0..5 {
+    for _ in 0..times {
         cache.fill(alloc, conf.slots, 1, [value, value, value], 1, 1000);
         let rows = cache.rows();
         let start = Instant::now(rt)?;
