@@ -10,16 +10,17 @@ ghost use Rattle.reply_text.specs.Replies.{unstored_text, found_text, there_text
 ghost use Rattle.reply_text.specs.Lines.{call_text};
 ghost use Rattle.worker_play.specs.Goes.{wishes_at, KnowsOwnEvents, Reaches, Tells};
 
-use crate::events::{cache_info, cas, clear, delete, entry, exists, fetch, inc, key_info, sma_info};
-use crate::events::store;
+use crate::events::{
+    cache_info, cas, clear, delete, entry, exists, fetch, inc, key_info, sma_info, store,
+};
 use crate::noting::{note_there, note_undone, note_value, write_found};
 use io_edges::Gate;
 use notation::ByteOut;
 use php_graph::{Bytes, Graph};
 use pin_table::{Pass, TableName};
 use reply_text::{
-    Notes, write_each, write_fetched, write_flag, write_flags, write_gave, write_info, write_number,
-    write_numbered,
+    Notes, write_each, write_fetched, write_flag, write_flags, write_gave, write_info,
+    write_number, write_numbered,
 };
 use script_read::Call;
 use shared_cache::Shared;
@@ -113,8 +114,8 @@ pub(crate) fn play_call<N: TableName, G: Gate, R: Wait>(
             let (pass, was_set) = cas(rt, shared, pass, key, *expect, *set, t);
             (pass, write_flag(out, was_set))
         }
-        Call::Entry(gen) => {
-            let (pass, value) = entry(rt, alloc, shared, pass, gen, t);
+        Call::Entry(generator) => {
+            let (pass, value) = entry(rt, alloc, shared, pass, generator, t);
             match value {
                 Ok(value) => (pass, write_gave(out, &value)),
                 Err(e) => (pass, Err(e)),

@@ -123,20 +123,20 @@ pub(crate) fn entry<N: TableName, R: Wait>(
     alloc: Global,
     shared: &Shared<N>,
     pass: Pass,
-    gen: &Gen,
+    generator: &Gen,
     t: u64,
 ) -> (Pass, Result<Graph, AllocError>)
     requires table { pass.table ≡ N.table }
     requires whole { KnowsOwnEvents pass }
     requires left { 2 ≤ pass.known.left }
-    requires entry { 0 < length gen.now.levels }
-    requires levels { length gen.now.levels ≤ most_levels }
+    requires entry { 0 < length generator.now.levels }
+    requires levels { length generator.now.levels ≤ most_levels }
     ensures given { IfOk result.1 (λ value. GoesOn N.conf (length N.budgets) pass result.0
-        (wish t (request.Entry gen.now) ∷ []) (Gave value ∷ [])) }
+        (wish t (request.Entry generator.now) ∷ []) (Gave value ∷ [])) }
     ensures same { OnErr result.1 (result.0 ≡ pass) }
 {
     one_event_own();
-    match shared.entry(rt, alloc, pass, gen, t) {
+    match shared.entry(rt, alloc, pass, generator, t) {
         (pass, Ok((value, _fate))) => (pass, Ok(value)),
         (pass, Err(e)) => (pass, Err(e)),
     }
