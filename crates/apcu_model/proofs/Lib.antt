@@ -7,3 +7,4 @@ pub mod Ordering
 pub mod Held
 pub mod Histories
 pub mod Numbering
+mod Tellings

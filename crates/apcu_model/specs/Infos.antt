@@ -20,12 +20,15 @@ use Rattle.apcu_model.specs.Walk.{in_slot_order}
 -- ---- values that are told: each is its places, by the number that its first place gets
 
 -- The places of a value, by the number of the first one.
-abbrev pub Told : Type 1
+abbrev pub Told : Type 0
 Told = ℕ → List Kind
 
 -- a number; from 2^63 on it is told as the last integer of 64 bits
+abbrev pub number_kind : ℕ → Kind
+number_kind n = kinds.Int (pos (min n (2 ^ 63 - 1)))
+
 abbrev pub told_number : ℕ → Told
-told_number n place = kinds.Int (pos (min n (2 ^ 63 - 1))) ∷ []
+told_number n place = number_kind n ∷ []
 
 abbrev pub told_string : List ℕ → Told
 told_string bytes place = kinds.Str bytes ∷ []
@@ -152,7 +155,8 @@ told_gap gap =
 
 -- and where it is not limited, the gaps of the one segment
 abbrev pub told_gaps : List Extent → List (Key × Told)
-told_gaps gaps = told_field (codes "block_lists") (told_list (told_list (map told_gap gaps) ∷ [])) ∷ []
+told_gaps gaps =
+    told_field (codes "block_lists") (told_list (told_list (map told_gap gaps) ∷ [])) ∷ []
 
 -- the runs of words that no block takes, those of removed rows included, by rising place
 abbrev pub gaps_of : Cache → List Extent

@@ -16,6 +16,8 @@ mod plain;
 mod request;
 mod rows;
 mod state;
+mod tables;
+mod telling;
 mod value;
 
 pub use ask::Ask;
@@ -31,4 +33,5 @@ pub use noted::{ListedRow, Noted};
 pub use pairs::Pairs;
 pub use plain::Plain;
 pub use request::{Reply, Request, StoreAnswer};
+pub use tables::{tell_cache, tell_counts, tell_gaps, tell_key, tell_words};
 pub use value::integer;
