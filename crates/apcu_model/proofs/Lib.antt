@@ -8,3 +8,8 @@ pub mod Held
 pub mod Histories
 pub mod Numbering
 mod Tellings
+mod Laying
+mod TableValues
+mod Runs
+mod Listing
+mod Gaps

@@ -170,8 +170,13 @@ values_count depth place (m ∷ ms) all =
     let first = m.1 place in
     let next = place + length first in
     let later = told_values next ms in
-    omega (arith, sum_by-append (λ k. length (children_of k)) first later,
-    length-append first later, all.0.count place, values_count depth next ms all.1)
+    omega (
+      arith,
+      sum_by-append (λ k. length (children_of k)) first later,
+      length-append first later,
+      all.0.count place,
+      values_count depth next ms all.1,
+    )
 
 array_flat : (place : ℕ) (ms : List (Key × Told)) → AreKeys (map (λ m. m.0) ms)
     → IsFlat (kinds.Array (told_members place ms))
@@ -192,8 +197,12 @@ array depth ms keys all = record {
   flat = λ place. (array_flat (place + 1) ms keys, values_flat depth (place + 1) ms all);
   count = λ place.
       let kind = kinds.Array (told_members (place + 1) ms) in
-      omega (arith, sum_by-cons (λ k. length (children_of k)) kind (told_values (place + 1) ms),
-      children_many (place + 1) ms, values_count depth (place + 1) ms all);
+      omega (
+        arith,
+        sum_by-cons (λ k. length (children_of k)) kind (told_values (place + 1) ms),
+        children_many (place + 1) ms,
+        values_count depth (place + 1) ms all,
+      );
 }
 
 -- ---- graphs
@@ -212,8 +221,12 @@ no_backs_in : (g : List Kind) → AllByRecursion IsFlat g
     → sum_by (λ kind. count_by is_back (children_of kind)) g ≡ 0
 no_backs_in [] all = refl
 no_backs_in (kind ∷ g) all =
-    omega (arith, sum_by-cons (λ k. count_by is_back (children_of k)) kind g, all.0.backs,
-    no_backs_in g all.1)
+    omega (
+      arith,
+      sum_by-cons (λ k. count_by is_back (children_of k)) kind g,
+      all.0.backs,
+      no_backs_in g all.1,
+    )
 
 all_well : (g : List Kind) → AllByRecursion IsFlat g
     → AllByRecursion (λ kind. IsTrue (is_well_formed kind)) g

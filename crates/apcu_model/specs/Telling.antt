@@ -1,5 +1,5 @@
 -- How the graphs of the information calls are made: place by place.
-use Rattle.std.specs.Prelude.{◌≡◌, ℕ, zero, suc, ◌+◌, ◌*◌, ◌^◌, ◌≤◌, pos, List, [], ◌∷◌, length}
+use Rattle.std.specs.Prelude.{◌≡◌, ℕ, zero, suc, ◌+◌, ◌*◌, ◌^◌, ◌≤◌, pos, List, [], ◌∷◌, ◌++◌, length}
 use Rattle.std.specs.Prelude.{sum_by}
 use Rattle.std.specs.Borrow.{Bor}
 use Rattle.seg_words.specs.Layout.{words_in}
@@ -13,6 +13,7 @@ use Rattle.php_graph.specs.Graph.{IsGraph, most_values}
 use Rattle.php_graph.specs.Counted.{children_in}
 use Rattle.php_graph.specs.Kept.{kinds_at, offsets_at, offsets_from}
 use Rattle.php_graph.specs.Size.{image_length}
+use Rattle.apcu_model.specs.Infos.{Told}
 
 -- what is known of places so far: where the image has each, how long it is, and that there are few
 pub record IsLaidOut (first : Kind) (others : List Place) (words : ℕ) : Type 0 where
@@ -40,6 +41,11 @@ stepped_members place n step (suc count) =
 abbrev pub stepped_end : ℕ → ℕ → ℕ → ℕ
 stepped_end place step zero = place
 stepped_end place step (suc count) = stepped_end (place + step) step count
+
+-- the places of values, one value after the other
+abbrev pub values_run : ℕ → List Told → List Kind
+values_run place [] = []
+values_run place (v ∷ vs) = v place ++ values_run (place + length (v place)) vs
 
 -- the places are a graph's, unless there are too many
 pub record IsTellable (g : List Kind) : Type 0 where

@@ -6,6 +6,7 @@ mod conf;
 mod counts;
 mod entry;
 mod event;
+mod infos;
 mod integers;
 mod journal;
 mod keys;

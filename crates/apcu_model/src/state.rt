@@ -1,7 +1,7 @@
 ghost use Rattle.std.specs.Prelude.{◌≡◌, ℕ, ◌<◌, ◌≤◌, [], is_some, vec_len, vec_capacity};
 ghost use Rattle.std.specs.Prelude.{MatchOption, IfOk, OnOk, OnErr};
 ghost use Rattle.apcu_model.specs.declared.request.Reply.TheVariants.{Absent, Found};
-ghost use Rattle.apcu_model.specs.Cache.{gap_of};
+ghost use Rattle.apcu_model.specs.Cache.{counts_of, gap_of};
 ghost use Rattle.apcu_model.specs.Change.{cleared, deleted, expired_dropped, expunged, inserted};
 ghost use Rattle.apcu_model.specs.Change.{placed, put_in, with_room};
 ghost use Rattle.apcu_model.specs.Expiry.{live_row};
@@ -9,6 +9,7 @@ ghost use Rattle.apcu_model.specs.Rows.{IsValid, cache_in};
 ghost use Rattle.apcu_model.specs.Sequential.{found_in, is_stored, looked_up};
 
 use crate::conf::Conf;
+use crate::counts::Counts;
 use crate::entry::Entry;
 use crate::rows::{
     drop_expired, drop_expired_in, drop_key, list_extents, live_in, put_row, touch_in,
@@ -148,6 +149,19 @@ impl State {
                 Ok(true)
             }
             None => Ok(false),
+        }
+    }
+
+    // What is counted, and how many rows there are.
+    pub(crate) fn counts(&self) -> Counts
+        ensures { result ≡ counts_of (cache_in self.now) }
+    {
+        Counts {
+            hits: self.hits,
+            misses: self.misses,
+            inserts: self.inserts,
+            expunges: self.expunges,
+            entries: self.rows.len() as u64,
         }
     }
 

@@ -1,10 +1,11 @@
 //! The graphs that the information calls answer, from the numbers and rows that they tell.
 
-ghost use Rattle.std.specs.Prelude.{◌≡◌, ◌+◌, ◌++◌, length, map, IfOk, OnOk};
+ghost use Rattle.std.specs.Prelude.{◌≡◌, ◌+◌, ◌++◌, ◌≤◌, ◌^◌, length, map, IfOk, OnOk};
 ghost use Rattle.std.specs.List.{AllByRecursion};
 ghost use Rattle.php_graph.specs.ByteStrings.{AreBytes};
 ghost use Rattle.apcu_model.specs.Infos.{told_array, told_counts, told_gap, told_gaps, told_list};
 ghost use Rattle.apcu_model.specs.Infos.{told_values};
+ghost use Rattle.apcu_model.specs.Telling.{IsTellable};
 ghost use Rattle.apcu_model.specs.Infos.{told_notes, told_row, told_rows, told_words, word_bytes};
 
 use crate::conf::Conf;
@@ -83,21 +84,19 @@ fn push_row(telling: &mut Telling, alloc: Global, row: ListedRow) -> Result<(), 
         noted.dtime,
         noted.atime,
         bytes_in(noted.size),
-    ])
+    ])?;
+    Ok(())
 }
 
 // How many places a row has in a list.
 const ROW_PLACES: u32 = 9;
 
 // A list of rows.
-fn push_rows(
-    telling: &mut Telling,
-    alloc: Global,
-    rows: Vec<ListedRow>,
-) -> Result<(), AllocError>
+fn push_rows(telling: &mut Telling, alloc: Global, rows: Vec<ListedRow>) -> Result<(), AllocError>
     ensures told { OnOk result (telling.new
         ≡ telling.old ++ told_list (map told_row rows.items) (length telling.old + 1)) }
     ensures keys { OnOk result (AllByRecursion (λ (row : ListedRow). AreBytes row.key) rows.items) }
+    ensures few { OnOk result (length rows.items ≤ 2 ^ 32) }
 {
     if rows.len() > MOST_VALUES as usize {
         return Err(AllocError);
@@ -121,13 +120,15 @@ fn push_gap(telling: &mut Telling, alloc: Global, gap: Extent) -> Result<(), All
     let place = telling.len() + 1;
     let (kind, cells) = array_of(alloc, &[(b"size", 1), (b"offset", 1)], place + 1)?;
     telling.push(kind, cells)?;
-    telling.push_numbers(&[bytes_in(gap.size), bytes_in(gap.place)])
+    telling.push_numbers(&[bytes_in(gap.size), bytes_in(gap.place)])?;
+    Ok(())
 }
 
 // A list of gaps.
 fn push_gaps(telling: &mut Telling, alloc: Global, gaps: &[Extent]) -> Result<(), AllocError>
-    ensures { OnOk result (telling.new
+    ensures told { OnOk result (telling.new
         ≡ telling.old ++ told_list (map told_gap gaps.now) (length telling.old + 1)) }
+    ensures few { OnOk result (length gaps.now ≤ 2 ^ 32) }
 {
     if gaps.len() > MOST_VALUES as usize {
         return Err(AllocError);
@@ -204,6 +205,23 @@ pub fn tell_cache(
     ensures { IfOk result (λ g. g ≡ told_array
         (told_counts conf counts words ++ told_rows rows.items removed.items) 1) }
 {
+    let telling = cache_places(alloc, conf, counts, words, rows, removed)?;
+    Ok(telling.finish())
+}
+
+// The places of a cache with its lists.
+fn cache_places(
+    alloc: Global,
+    conf: Conf,
+    counts: Counts,
+    words: u64,
+    rows: Vec<ListedRow>,
+    removed: Vec<ListedRow>,
+) -> Result<Telling, AllocError>
+    ensures told { IfOk result (λ t. t ≡ told_array
+        (told_counts conf counts words ++ told_rows rows.items removed.items) 1) }
+    ensures tellable { IfOk result (λ t. IsTellable t) }
+{
     if rows.len() > MOST_VALUES as usize {
         return Err(AllocError);
     }
@@ -227,7 +245,7 @@ pub fn tell_cache(
     push_counts(&mut telling, conf, counts, words)?;
     push_rows(&mut telling, alloc, rows)?;
     push_rows(&mut telling, alloc, removed)?;
-    Ok(telling.finish())
+    Ok(telling)
 }
 
 /// What `apcu_sma_info` tells of a segment without its gaps: its words, and how many are free.
@@ -245,14 +263,24 @@ pub fn tell_words(alloc: Global, words: u32, free: u32) -> Result<Graph, AllocEr
 }
 
 /// What `apcu_sma_info` tells of a segment with its gaps.
-pub fn tell_gaps(
+pub fn tell_gaps(alloc: Global, words: u32, free: u32, gaps: &[Extent]) -> Result<Graph, AllocError>
+    ensures { IfOk result
+        (λ g. g ≡ told_array (told_words words free ++ told_gaps gaps.now) 1) }
+{
+    let telling = segment_places(alloc, words, free, gaps)?;
+    Ok(telling.finish())
+}
+
+// The places of a segment with its gaps.
+fn segment_places(
     alloc: Global,
     words: u32,
     free: u32,
     gaps: &[Extent],
-) -> Result<Graph, AllocError>
-    ensures { IfOk result
-        (λ g. g ≡ told_array (told_words words free ++ told_gaps gaps.now) 1) }
+) -> Result<Telling, AllocError>
+    ensures told { IfOk result
+        (λ t. t ≡ told_array (told_words words free ++ told_gaps gaps.now) 1) }
+    ensures tellable { IfOk result (λ t. IsTellable t) }
 {
     let (first, cells) = array_of(
         alloc,
@@ -270,5 +298,5 @@ pub fn tell_gaps(
     let (kind, cells) = list_of(alloc, 1, 1, 6)?;
     telling.push(kind, cells)?;
     push_gaps(&mut telling, alloc, gaps)?;
-    Ok(telling.finish())
+    Ok(telling)
 }

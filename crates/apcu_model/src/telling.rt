@@ -1,8 +1,10 @@
 //! Graphs that are made place by place: arrays of named numbers, and lists of such arrays.
 
 ghost use Rattle.std.specs.Prelude.{◌≡◌, ◌+◌, ◌*◌, ◌^◌, ◌≤◌, ◌<◌, true, [], ◌∷◌, ◌++◌, length, map};
-ghost use Rattle.std.specs.Prelude.{sum_by, nat_lt, IfOk, OnOk};
+ghost use Rattle.std.specs.Prelude.{sum_by, nat_lt, pos, IfOk, OnOk};
 ghost use Rattle.std.specs.List.{list_all};
+ghost use Rattle.php_graph.specs.declared.key.Key.TheVariants as keys;
+ghost use Rattle.php_graph.specs.declared.child.Child.TheVariants.{Own};
 ghost use Rattle.php_graph.specs.declared.kind.Kind.TheVariants as kinds;
 ghost use Rattle.php_graph.specs.Size.{cells_of};
 ghost use Rattle.apcu_model.specs.Infos.{number_kind};
@@ -141,6 +143,13 @@ pub(crate) fn array_of(
     Ok((Kind::Array(Members::from_vec(items)), cells))
 }
 
+// The member of a list under this key, whose value begins at `place`.
+fn item(i: u32, place: u32) -> (Key, Child)
+    ensures { result ≡ (keys.Int (pos i), Own place) }
+{
+    (Key::Int(i64::from(i)), Child::Own(place))
+}
+
 // A list of so many values, which have `step` places each and begin at `place`; and how many words
 // its own place has in an image.
 pub(crate) fn list_of(
@@ -158,7 +167,7 @@ pub(crate) fn list_of(
     let mut items = Vec::with_capacity(alloc, count as usize)?;
     let mut next = place;
     for i in 0..count {
-        items.push((Key::Int(i64::from(i)), Child::Own(next)))?;
+        items.push(item(i, next))?;
         next += step;
     }
     let kind = Kind::Array(Members::from_vec(items));
