@@ -97,7 +97,12 @@ impl Plain {
                 Ok(Reply::Flag(true))
             }
             Request::Entry(generator) => Ok(Reply::Gave(self.state.enter(generator, t)?)),
-            Request::KeyInfo(_) | Request::CacheInfo(_) | Request::SmaInfo(_) => { Err(AllocError) }
+            Request::KeyInfo(key) => match self.state.key_info(key.as_slice(), t)? {
+                Some(info) => Ok(Reply::Info(info)),
+                None => Ok(Reply::Absent),
+            },
+            Request::CacheInfo(limited) => Ok(Reply::Info(self.state.cache_info(*limited)?)),
+            Request::SmaInfo(limited) => Ok(Reply::Info(self.state.sma_info(*limited)?)),
             Request::Retire => Ok(Reply::Ended),
         }
     }
