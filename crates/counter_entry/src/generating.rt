@@ -138,6 +138,8 @@ fn note<S: Segment>(core: &mut Core, seg: &mut S, missing: u32, at: Option<u32>,
     ensures cache { (levels : List EntryLevel) → at ≡ place_under levels t (cache_of core.old)
         → missing ≡ length (missed_levels levels t (cache_of core.old))
         → cache_of core.new ≡ looked_for levels t (cache_of core.old) }
+    ensures keeps { (windows : List ℕ)
+        → KeepsOpen windows (entries core.old.slots) (entries core.new.slots) }
     ensures stand { CacheStands S.WordsIn core.new seg.new }
     ensures beside { KeptBeside S.WordsIn seg.old seg.new }
 {
