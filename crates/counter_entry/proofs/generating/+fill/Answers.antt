@@ -18,7 +18,7 @@ returns-in-Entry-clause-later g n c = λ later on.
     let mid = cache_of c.fill-before.new.core in
     let inner : Generator = c.deref.result.now in
     let level : EntryLevel = record { key = c.in-Entry.key; ttl = c.in-Entry.ttl } in
-    let levels : c.args.gen_.now.levels ≡ level ∷ inner.levels = ap (λ (x : Generator). x.levels) (sym c.kind.ensures ∙ ap generator_of c.in-Entry.is) ∙ ap (λ (x : Generator). level ∷ x.levels) (sym c.deref.ensures) in
+    let levels : c.args.generator.now.levels ≡ level ∷ inner.levels = ap (λ (x : Generator). x.levels) (sym c.kind.ensures ∙ ap generator_of c.in-Entry.is) ∙ ap (λ (x : Generator). level ∷ x.levels) (sym c.deref.ensures) in
     let before = c.fill-before.ensures.later later (goes_on (g.S.WordsIn.aside c.fill-before.new.seg) (g.S.WordsIn.aside c.insert-answer.new.seg) later c.insert-answer.ensures.goes on) in
     let outer = ap (λ (k : List ℕ). inserted held k value level.ttl true c.args.t mid) (sym c.as_slice.ensures.bytes) ∙ c.insert-answer.ensures.later later on in
     ap (λ (l : List EntryLevel). filled held value c.args.t (take c.args.missing l) old) levels

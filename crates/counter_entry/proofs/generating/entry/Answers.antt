@@ -10,15 +10,15 @@ use Rattle.counter_entry.proofs.generating.entry.Goals as goal
 use Rattle.counter_entry.proofs.generating.entry.Given as given
 
 pub fill-filling-requires-clause-missing : goal.fill-filling-requires-clause-missing
-fill-filling-requires-clause-missing g c = omega (arith, c.in_ok-source.ensures.missing, few_missed c.args.gen_.now.levels c.args.t (cache_of c.args.core.now))
+fill-filling-requires-clause-missing g c = omega (arith, c.in_ok-source.ensures.missing, few_missed c.args.generator.now.levels c.args.t (cache_of c.args.core.now))
 
 filling : (g : given.Over) (c : goal.After-fate g) (later : Aside) → Goes (g.S.WordsIn.aside c.fill-filling.new.seg) later
-    → entered (held_blocks later) c.args.gen_.now c.args.t (cache_of c.args.core.now) ≡ record { outermost = c.fill-filling.result.last; cache = cache_of c.fill-filling.new.core }
+    → entered (held_blocks later) c.args.generator.now c.args.t (cache_of c.args.core.now) ≡ record { outermost = c.fill-filling.result.last; cache = cache_of c.fill-filling.new.core }
 filling g c later on =
     let source = c.in_ok-source.source in
     let found = c.in_ok-source.ensures in
-    filled_missed (held_blocks later) c.args.gen_.now c.args.t (cache_of c.args.core.now) (cache_of c.note.new.core) source.value source.missing found.value found.missing
-    (c.note.ensures.cache c.args.gen_.now.levels found.found found.missing)
+    filled_missed (held_blocks later) c.args.generator.now c.args.t (cache_of c.args.core.now) (cache_of c.note.new.core) source.value source.missing found.value found.missing
+    (c.note.ensures.cache c.args.generator.now.levels found.found found.missing)
     ∙ c.fill-filling.ensures.later later on
 
 pub returns-clause-fate : goal.returns-clause-fate
