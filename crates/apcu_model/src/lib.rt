@@ -6,6 +6,7 @@ mod conf;
 mod counts;
 mod entry;
 mod event;
+mod generating;
 mod generator;
 mod integers;
 mod journal;

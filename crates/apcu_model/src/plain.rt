@@ -96,8 +96,8 @@ impl Plain {
                 self.clear();
                 Ok(Reply::Flag(true))
             }
-            Request::Entry(_) | Request::KeyInfo(_) | Request::CacheInfo(_) | Request::SmaInfo(_) =>
-                { Err(AllocError) }
+            Request::Entry(generator) => Ok(Reply::Gave(self.state.enter(generator, t)?)),
+            Request::KeyInfo(_) | Request::CacheInfo(_) | Request::SmaInfo(_) => { Err(AllocError) }
             Request::Retire => Ok(Reply::Ended),
         }
     }
