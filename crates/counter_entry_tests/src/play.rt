@@ -350,8 +350,16 @@ fn entry_of(name: u8, draw: u64) -> Act {
     let second = (name % 20 + 1 + ((draw >> 8) % 19) as u8) % 20;
     let third = 20 + ((draw >> 13) % 4) as u8;
     let inner = Inner {
-        second: if (draw >> 40) % 3 > 0 { Some(second) } else { None },
-        third: if (draw >> 42) % 3 > 0 { Some(third) } else { None },
+        second: if (draw >> 40) % 3 > 0 {
+            Some(second)
+        } else {
+            None
+        },
+        third: if (draw >> 42) % 3 > 0 {
+            Some(third)
+        } else {
+            None
+        },
         ttl,
     };
     if (draw >> 44) % 2 == 0 {
