@@ -57,21 +57,21 @@ pub fn entry<S: Segment>(
     alloc: Global,
     core: &mut Core,
     seg: &mut S,
-    gen_: &Gen,
+    generator: &Gen,
     t: u64,
 ) -> Result<(Graph, Fate), AllocError>
-    requires levels { length gen_.now.levels ≤ 8 }
+    requires levels { length generator.now.levels ≤ 8 }
     requires stand { CacheStands S.WordsIn core.old seg.old }
     requires fresh { (b : ℕ) → has b (S.aside seg.old).refused ≡ false }
-    ensures value { IfOk result (λ r. r.0 ≡ given_by gen_.now t (cache_of core.old)) }
+    ensures value { IfOk result (λ r. r.0 ≡ given_by generator.now t (cache_of core.old)) }
     ensures fate { IfOk result (λ r. r.1 ≡ fate_of
-        (entered (held_blocks (S.aside seg.new)) gen_.now t (cache_of core.old)).outermost) }
+        (entered (held_blocks (S.aside seg.new)) generator.now t (cache_of core.old)).outermost) }
     ensures reply { IfOk result (λ r. Gave r.0
-        ≡ reply_to (held_blocks (S.aside seg.new)) t (Entry gen_.now) (cache_of core.old)) }
+        ≡ reply_to (held_blocks (S.aside seg.new)) t (Entry generator.now) (cache_of core.old)) }
     ensures cache { OnOk result (cache_of core.new
-        ≡ cache_after (held_blocks (S.aside seg.new)) t (Entry gen_.now) (cache_of core.old)) }
+        ≡ cache_after (held_blocks (S.aside seg.new)) t (Entry generator.now) (cache_of core.old)) }
     ensures later { OnOk result ((later : Aside) → Goes (S.aside seg.new) later
-        → cache_of core.new ≡ (entered (held_blocks later) gen_.now t (cache_of core.old)).cache) }
+        → cache_of core.new ≡ (entered (held_blocks later) generator.now t (cache_of core.old)).cache) }
     ensures goes { Goes (S.aside seg.old) (S.aside seg.new) }
     ensures keeps { KeepsOpen (S.aside seg.new).windows
         (entries core.old.slots) (entries core.new.slots) }
@@ -81,9 +81,9 @@ pub fn entry<S: Segment>(
     ensures same { OnErr result (core.new ≡ core.old) }
     ensures kept { OnErr result (Kept S.WordsIn seg.old seg.new) }
 {
-    let source = look_through(alloc, core, seg, gen_, t)?;
+    let source = look_through(alloc, core, seg, generator, t)?;
     note(core, seg, source.missing, source.at, t);
-    let filling = fill(core, seg, gen_, source.missing, &source.value, t);
+    let filling = fill(core, seg, generator, source.missing, &source.value, t);
     Ok((source.value, fate(filling.last)))
 }
 
@@ -92,18 +92,18 @@ fn look_through<S: Segment>(
     alloc: Global,
     core: &Core,
     seg: &mut S,
-    gen_: &Gen,
+    generator: &Gen,
     t: u64,
 ) -> Result<Source, AllocError>
-    requires levels { length gen_.now.levels < 2 ^ 32 }
+    requires levels { length generator.now.levels < 2 ^ 32 }
     requires stand { CacheStands S.WordsIn core.now seg.old }
-    ensures value { IfOk result (λ r. r.value ≡ given_by gen_.now t (cache_of core.now)) }
+    ensures value { IfOk result (λ r. r.value ≡ given_by generator.now t (cache_of core.now)) }
     ensures missing { IfOk result (λ r. r.missing
-        ≡ length (missed_levels gen_.now.levels t (cache_of core.now))) }
-    ensures found { IfOk result (λ r. r.at ≡ place_under gen_.now.levels t (cache_of core.now)) }
+        ≡ length (missed_levels generator.now.levels t (cache_of core.now))) }
+    ensures found { IfOk result (λ r. r.at ≡ place_under generator.now.levels t (cache_of core.now)) }
     ensures kept { Kept S.WordsIn seg.old seg.new }
 {
-    match gen_.kind() {
+    match generator.kind() {
         GenKind::Value(literal) => {
             let value = literal.try_copy(alloc)?;
             Ok(Source {
@@ -138,6 +138,8 @@ fn note<S: Segment>(core: &mut Core, seg: &mut S, missing: u32, at: Option<u32>,
     ensures cache { (levels : List EntryLevel) → at ≡ place_under levels t (cache_of core.old)
         → missing ≡ length (missed_levels levels t (cache_of core.old))
         → cache_of core.new ≡ looked_for levels t (cache_of core.old) }
+    ensures keeps { (windows : List ℕ)
+        → KeepsOpen windows (entries core.old.slots) (entries core.new.slots) }
     ensures stand { CacheStands S.WordsIn core.new seg.new }
     ensures beside { KeptBeside S.WordsIn seg.old seg.new }
 {
@@ -151,16 +153,16 @@ fn note<S: Segment>(core: &mut Core, seg: &mut S, missing: u32, at: Option<u32>,
 fn fill<S: Segment>(
     core: &mut Core,
     seg: &mut S,
-    gen_: &Gen,
+    generator: &Gen,
     missing: u32,
     value: &Graph,
     t: u64,
 ) -> Filling
-    requires missing { missing ≤ length gen_.now.levels }
+    requires missing { missing ≤ length generator.now.levels }
     requires stand { CacheStands S.WordsIn core.old seg.old }
     requires fresh { (b : ℕ) → has b (S.aside seg.old).refused ≡ false }
     ensures later { (later : Aside) → Goes (S.aside seg.new) later
-        → filled (held_blocks later) value.now t (take missing gen_.now.levels) (cache_of core.old)
+        → filled (held_blocks later) value.now t (take missing generator.now.levels) (cache_of core.old)
         ≡ record { outermost = result.last; cache = cache_of core.new } }
     ensures goes { Goes (S.aside seg.old) (S.aside seg.new) }
     ensures keeps { KeepsOpen (S.aside seg.new).windows
@@ -175,7 +177,7 @@ fn fill<S: Segment>(
             swept: false,
         };
     }
-    match gen_.kind() {
+    match generator.kind() {
         GenKind::Value(_) => Filling {
             last: None,
             swept: false,
