@@ -1,4 +1,6 @@
 pub mod Conf
+pub mod Levels
+pub mod Nesting
 pub mod Cache
 pub mod Rows
 pub mod Expiry
@@ -8,6 +10,8 @@ pub mod Facts
 pub mod Walk
 pub mod Infos
 pub mod Telling
+pub mod Lookups
+pub mod Generators
 pub mod Sequential
 pub mod History
 pub mod Journal

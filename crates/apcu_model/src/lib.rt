@@ -6,6 +6,8 @@ mod conf;
 mod counts;
 mod entry;
 mod event;
+mod generating;
+mod generator;
 mod infos;
 mod integers;
 mod journal;
@@ -25,6 +27,7 @@ pub use ask::Ask;
 pub use conf::Conf;
 pub use counts::Counts;
 pub use event::Event;
+pub use generator::{Gen, GenKind};
 pub use journal::{Journal, Mark};
 pub use keys::Keys;
 pub use laws::{
