@@ -15,7 +15,7 @@ use Rattle.apcu_model.specs.Sequential.{looked_up, found_in}
 use Rattle.apcu_model.specs.Expiry.{live_row}
 use Rattle.cache_core.specs.declared.cache.Core.{Core}
 use Rattle.cache_core.specs.declared.scalar.Look.TheVariants as look
-use Rattle.cache_core.specs.Caching.{cache_of}
+use Rattle.cache_core.specs.Caching.{cache_of, CoreStands}
 use Rattle.cache_core.specs.Looking.{look_of}
 use Rattle.pin_table.specs.declared.views.Book.{Book}
 use Rattle.pin_table.specs.declared.views.Desk.{Desk}
@@ -27,7 +27,7 @@ use Rattle.pin_table.specs.Lists.{fresh_desk}
 use Rattle.pin_table.specs.Views.{with_hand, with_event, known_after, rested, copied, pinning_at, reader_after, in_hand, aside_of}
 use Rattle.shared_cache.specs.Laws.{LockLaws}
 use Rattle.shared_cache.specs.Tied.{AreTied}
-use Rattle.shared_cache.specs.Settled.{CoreStands, Settled}
+use Rattle.shared_cache.specs.Settled.{Settled}
 use Rattle.shared_cache.specs.Pinned.{FollowsFound, bearer_of}
 use Rattle.shared_cache.proofs.Windows.{Running, set_other, from_before, named_set}
 use Rattle.shared_cache.proofs.Ends.{Ends}

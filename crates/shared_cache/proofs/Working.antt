@@ -16,7 +16,7 @@ use Rattle.entry_slots.specs.Entries.{Entries}
 use Rattle.entry_slots.specs.Standing.{entries}
 use Rattle.ttl_expunge.specs.Held.{AreRemoved, KeepsOpen}
 use Rattle.cache_core.specs.declared.cache.Core.{Core}
-use Rattle.cache_core.specs.Caching.{cache_of}
+use Rattle.cache_core.specs.Caching.{cache_of, CoreStands}
 use Rattle.pin_table.specs.declared.views.Book.{Book}
 use Rattle.pin_table.specs.declared.views.Desk.{Desk}
 use Rattle.pin_table.specs.declared.writer.Beside.{Beside}
@@ -27,7 +27,7 @@ use Rattle.pin_table.specs.Events.{event, events_of}
 use Rattle.pin_table.specs.Views.{with_hand, taken_in, aside_of}
 use Rattle.pin_table.specs.WriterRest.{beside}
 use Rattle.shared_cache.specs.Laws.{LockLaws}
-use Rattle.shared_cache.specs.Settled.{CoreStands, Settled}
+use Rattle.shared_cache.specs.Settled.{Settled}
 use Rattle.shared_cache.proofs.Windows.{Running, named_set}
 use Rattle.shared_cache.proofs.Alike.{held_alike}
 use Rattle.shared_cache.proofs.Ends.{short_history}

@@ -10,7 +10,7 @@ use Rattle.std.proofs.lemmas.List.Folds.{list_any-append}
 use Rattle.cache_core.proofs.Standing.{head_kept}
 use Rattle.cache_core.proofs.Replacing.{old_is, spot_some, spot_none}
 use Rattle.cache_core.proofs.Live.{not_live, live_as}
-use Rattle.cache_core.proofs.cache.Core.find_spot.Goals as goal
+use Rattle.cache_core.proofs.cache.Core.seek_row.Goals as goal
 
 pub seek-spot-requires-clause-slot : goal.seek-spot-requires-clause-slot
 seek-spot-requires-clause-slot g c = c.requires.slot ∙ ap (λ (x : Entries). slot_of x.conf c.args.key.now) (sym c.requires.stand.whole)
@@ -49,14 +49,12 @@ returns-clause-found g c =
     let at = c.seek-spot.result.at in
     let o = old_is c.args.key.now at sound (spot_some s c.args.key.now at c.seek-spot.ensures.spot.old_is c.if-spot-eq0.false) in
     let h = c.head-head.ensures.head o.row (record { there = Contains-append_left s.rows s.removed o.row o.there; place = o.place }) in
-    let over : is_hard_expired c.args.t o.row ≡ false = sym (c.is_over.ensures o.row h.ttl h.ctime) ∙ c.if-is_over.false in (
-      c.head-head.result,
-      record {
-        row = o.row;
-        live = live_as c.args.key.now c.args.t s.rows o.row sound.apart o.found ∙ ap (λ b. cond (not b) (Some o.row) None) over;
-        first = o.found;
-        there = o.there;
-        place = o.place;
-        head_is = head_kept c.head-head.result o.row c.seek-spot.ensures.kept h;
-      },
-    )
+    let over : is_hard_expired c.args.t o.row ≡ false = sym (c.is_over.ensures o.row h.ttl h.ctime) ∙ c.if-is_over.false in
+    record {
+      row = o.row;
+      live = live_as c.args.key.now c.args.t s.rows o.row sound.apart o.found ∙ ap (λ b. cond (not b) (Some o.row) None) over;
+      first = o.found;
+      there = o.there;
+      place = o.place;
+      head_is = head_kept c.head-head.result o.row c.seek-spot.ensures.kept h;
+    }
