@@ -9,9 +9,9 @@ pub mod Counters
 pub mod Facts
 pub mod Walk
 pub mod Infos
-pub mod Telling
 pub mod Lookups
 pub mod Generators
+pub mod Telling
 pub mod Sequential
 pub mod History
 pub mod Journal

@@ -2,7 +2,7 @@
 use Rattle.std.specs.Prelude.{◌≡◌, ℕ, ◌+◌, ◌≤◌, true, List, None, length, sum}
 use Rattle.atomic_table.specs.Seated.{TableId}
 use Rattle.apcu_model.specs.declared.conf.Conf.{Conf}
-use Rattle.apcu_model.specs.History.{start_of, stage_of, all_legal, marks_of}
+use Rattle.apcu_model.specs.History.{start_of, stage_of, all_legal, are_shallow, marks_of}
 use Rattle.apcu_model.specs.Journal.{Marks}
 use Rattle.cache_core.specs.declared.cache.Core.{Core}
 use Rattle.cache_core.specs.Caching.{cache_of, CoreStands}
@@ -24,6 +24,8 @@ pub record Settled (t : TableId) (conf : Conf) (budgets : List ℕ)
   pub cache : cache_of core ≡ (stage_of conf s.desk.book.history).cache
   -- second: each event of the history is legal
   pub legal : all_legal (length budgets) (start_of conf) s.desk.book.history ≡ true
+  -- and none has more than eight entries in one another, so no two rows have one number
+  pub shallow : are_shallow s.desk.book.history ≡ true
   -- third: each open window is the worker's window after the history
   pub tied : AreTied (stage_of conf s.desk.book.history) s.desk.windows
   -- fourth: the journal is the history's marks, and has room for what is left of the budgets
