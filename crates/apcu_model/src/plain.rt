@@ -57,13 +57,7 @@ impl Plain {
     pub fn counts(&self) -> Counts
         ensures { result ≡ counts_of self.now }
     {
-        Counts {
-            hits: self.state.hits,
-            misses: self.state.misses,
-            inserts: self.state.inserts,
-            expunges: self.state.expunges,
-            entries: self.state.rows.len() as u64,
-        }
+        self.state.counts()
     }
 
     /// Answers a request at the time `t`, in seconds. Where memory is missing, nothing changed.
