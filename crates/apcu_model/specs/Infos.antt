@@ -85,22 +85,23 @@ abbrev pub listed_of : Row → ListedRow
 listed_of row = record { key = row.key; noted = noted_of row }
 
 -- what apcu_key_info tells of a row
-abbrev pub told_notes : Noted → Told
-told_notes row =
-    told_array
-    (told_field (codes "hits") (told_number row.hits)
+abbrev pub note_fields : Noted → List (Key × Told)
+note_fields row =
+    told_field (codes "hits") (told_number row.hits)
     ∷ told_field (codes "access_time") (told_number row.atime)
     ∷ told_field (codes "mtime") (told_number row.mtime)
     ∷ told_field (codes "creation_time") (told_number row.ctime)
     ∷ told_field (codes "deletion_time") (told_number row.dtime)
     ∷ told_field (codes "ttl") (told_number row.ttl)
-    ∷ [])
+    ∷ []
+
+abbrev pub told_notes : Noted → Told
+told_notes row = told_array (note_fields row)
 
 -- what the lists of apcu_cache_info tell of a row
-abbrev pub told_row : ListedRow → Told
-told_row row =
-    told_array
-    (told_field (codes "info") (told_string row.key)
+abbrev pub row_fields : ListedRow → List (Key × Told)
+row_fields row =
+    told_field (codes "info") (told_string row.key)
     ∷ told_field (codes "ttl") (told_number row.noted.ttl)
     ∷ told_field (codes "num_hits") (told_number row.noted.hits)
     ∷ told_field (codes "mtime") (told_number row.noted.mtime)
@@ -108,7 +109,10 @@ told_row row =
     ∷ told_field (codes "deletion_time") (told_number row.noted.dtime)
     ∷ told_field (codes "access_time") (told_number row.noted.atime)
     ∷ told_field (codes "mem_size") (told_number (word_bytes row.noted.size))
-    ∷ [])
+    ∷ []
+
+abbrev pub told_row : ListedRow → Told
+told_row row = told_array (row_fields row)
 
 -- ---- a cache
 
@@ -146,12 +150,14 @@ told_words words free =
     ∷ told_field (codes "avail_mem") (told_number (word_bytes free))
     ∷ []
 
-abbrev pub told_gap : Extent → Told
-told_gap gap =
-    told_array
-    (told_field (codes "size") (told_number (word_bytes gap.size))
+abbrev pub gap_fields : Extent → List (Key × Told)
+gap_fields gap =
+    told_field (codes "size") (told_number (word_bytes gap.size))
     ∷ told_field (codes "offset") (told_number (word_bytes gap.place))
-    ∷ [])
+    ∷ []
+
+abbrev pub told_gap : Extent → Told
+told_gap gap = told_array (gap_fields gap)
 
 -- and where it is not limited, the gaps of the one segment
 abbrev pub told_gaps : List Extent → List (Key × Told)

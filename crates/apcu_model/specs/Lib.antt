@@ -11,6 +11,7 @@ pub mod Walk
 pub mod Infos
 pub mod Lookups
 pub mod Generators
+pub mod Telling
 pub mod Sequential
 pub mod History
 pub mod Journal

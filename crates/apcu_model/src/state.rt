@@ -1,7 +1,7 @@
 ghost use Rattle.std.specs.Prelude.{◌≡◌, ℕ, ◌+◌, ◌<◌, ◌≤◌, ⊤, true, false, [], is_some};
 ghost use Rattle.std.specs.Prelude.{vec_len, vec_capacity, MatchOption, IfOk, OnOk, OnErr};
 ghost use Rattle.apcu_model.specs.declared.request.Reply.TheVariants.{Absent, Found};
-ghost use Rattle.apcu_model.specs.Cache.{gap_of};
+ghost use Rattle.apcu_model.specs.Cache.{counts_of, gap_of};
 ghost use Rattle.apcu_model.specs.Change.{cleared, deleted, expired_dropped, expunged, inserted};
 ghost use Rattle.apcu_model.specs.Change.{placed, put_in, with_room};
 ghost use Rattle.apcu_model.specs.Expiry.{live_row};
@@ -10,6 +10,7 @@ ghost use Rattle.apcu_model.specs.Lookups.{looked_up};
 ghost use Rattle.apcu_model.specs.Sequential.{found_in, is_stored};
 
 use crate::conf::Conf;
+use crate::counts::Counts;
 use crate::entry::Entry;
 use crate::rows::{
     drop_expired, drop_expired_in, drop_key, list_extents, live_in, put_row, touch_in,
@@ -172,6 +173,19 @@ impl State {
         let mut extents = Vec::with_capacity(self.alloc, self.rows.len())?;
         self.rows.reserve(1)?;
         Ok(self.insert_reserved(draft, t, &mut extents))
+    }
+
+    // What is counted, and how many rows there are.
+    pub(crate) fn counts(&self) -> Counts
+        ensures { result ≡ counts_of (cache_in self.now) }
+    {
+        Counts {
+            hits: self.hits,
+            misses: self.misses,
+            inserts: self.inserts,
+            expunges: self.expunges,
+            entries: self.rows.len() as u64,
+        }
     }
 
     // Whether a look-up finds the key.

@@ -1,13 +1,13 @@
 //! A look-up in two steps: what it finds is copied without a change, and noted later.
 
-ghost use Rattle.std.specs.Prelude.{◌≡◌, ℕ, ◌+◌, ◌-◌, ◌<◌, ◌^◌, List, true, length, min};
-ghost use Rattle.std.specs.Prelude.{option_map, Some, IfOk};
+ghost use Rattle.std.specs.Prelude.{◌≡◌, ℕ, ◌<◌, ◌^◌, List, true, length, option_map, Some, IfOk};
 ghost use Rattle.seg_words.specs.Kept.{Kept, KeptBeside};
 ghost use Rattle.apcu_model.specs.Cache.{Row};
 ghost use Rattle.apcu_model.specs.Expiry.{live_row};
 ghost use Rattle.apcu_model.specs.Sequential.{looked_up};
 ghost use Rattle.entry_slots.specs.Lists.{has_place};
 ghost use Rattle.cache_core.specs.Caching.{cache_of, CacheStands};
+ghost use Rattle.cache_core.specs.Noting.{with_misses};
 
 use crate::cache::Core;
 use entry_slots::standing_laws;
@@ -62,9 +62,7 @@ impl Core {
 
     /// Notes that so many look-ups found no row. The count stays at its last number once there.
     pub fn note_misses(&mut self, n: u32)
-        ensures cache { cache_of self.new ≡ record (cache_of self.old) {
-            misses = min ((cache_of self.old).misses + n) (2 ^ 64 - 1);
-        } }
+        ensures cache { cache_of self.new ≡ with_misses n (cache_of self.old) }
         ensures slots { self.new.slots ≡ self.old.slots }
     {
         self.tally = self.tally.after_misses(n);

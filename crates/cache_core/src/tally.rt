@@ -1,5 +1,6 @@
-ghost use Rattle.std.specs.Prelude.{◌≡◌, ◌+◌, ◌-◌, ◌^◌, min, if◌then◌else◌};
+ghost use Rattle.std.specs.Prelude.{◌≡◌, if◌then◌else◌};
 ghost use Rattle.apcu_model.specs.Cache.{risen};
+ghost use Rattle.cache_core.specs.Noting.{risen_by};
 
 /// What a cache counts. Each count stays at its last number once there.
 #[derive(Clone, Copy, Debug, PartialEq, Eq)]
@@ -74,11 +75,18 @@ impl Tally {
 
     // So many look-ups found none.
     pub(crate) fn after_misses(self, n: u32) -> Tally
-        ensures { result ≡ record self { misses = min (self.misses + n) (2 ^ 64 - 1) } }
+        ensures { result ≡ record self { misses = risen_by n self.misses } }
     {
         Tally {
-            misses: self.misses.saturating_add(u64::from(n)),
+            misses: risen(self.misses, n),
             ..self
         }
     }
+}
+
+// The count, so many higher.
+fn risen(count: u64, n: u32) -> u64
+    ensures { result ≡ risen_by n count }
+{
+    count.saturating_add(u64::from(n))
 }

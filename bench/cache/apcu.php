@@ -1,0 +1,133 @@
+<?php
+// What PHP's APCu takes for the calls that cache_bench measures, under the same keys and with the same values. With
+// ROWS it prints for each kind of call several times the picoseconds of one, and how many calls did not answer false;
+// with `clear ROWS` that of dropping all rows, and of dropping them because their time is over.
+// Run with: php -d apc.enable_cli=1 -d apc.shm_size=.. -d apc.entries_hint=ROWS apcu.php [clear] ROWS
+
+const BATCH = 10000;
+const FIRST = 1000000;
+
+// The numbers of every tenth key, in a random order, in batches.
+function shuffled(int $from, int $rows): array
+{
+    $numbers = range(FIRST + $from, FIRST + $rows - 1, 10);
+    shuffle($numbers);
+    return array_chunk($numbers, BATCH);
+}
+
+// A loop over a batch with this expression in it, as a script has it.
+function loop(string $expression): Closure
+{
+    return eval("return function (array \$batch, mixed \$value): int {
+        \$yes = 0;
+        foreach (\$batch as \$i) {
+            \$got = $expression;
+            if (\$got !== false) {
+                \$yes++;
+            }
+        }
+        return \$yes;
+    };");
+}
+
+// Prints the least picoseconds a call of a batch.
+function report(string $name, array $batches, Closure $loop, mixed $value = null): void
+{
+    $least = PHP_INT_MAX;
+    $answers = 0;
+    foreach ($batches as $batch) {
+        $start = hrtime(true);
+        $yes = $loop($batch, $value);
+        $least = min($least, intdiv((hrtime(true) - $start) * 1000, count($batch)));
+        $answers += $yes;
+    }
+    echo "$name $least $answers\n";
+}
+
+function measure(int $rows): void
+{
+    $eight = str_repeat('x', 8);
+    $hundred = str_repeat('x', 100);
+    for ($i = 0; $i < $rows; $i++) {
+        apcu_store('k' . (FIRST + $i), match ($i % 10) { 0 => $eight, 1 => $hundred, default => true });
+    }
+    $few = shuffled(0, $rows);
+    $many = shuffled(1, $rows);
+    $nothing = loop("'k' . \$i");
+    $fetch = loop("apcu_fetch('k' . \$i)");
+    $exists = loop("apcu_exists('k' . \$i)");
+    $store = loop("apcu_store('k' . \$i, \$value)");
+    $add = loop("apcu_add('k' . \$i, \$value)");
+    $delete = loop("apcu_delete('k' . \$i)");
+    $inc = loop("apcu_inc('k' . \$i)");
+    $dec = loop("apcu_dec('k' . \$i)");
+    $cas = loop("apcu_cas('k' . \$i, 7, 7)");
+    $times = 3 + intdiv(200000, $rows);
+    for ($time = 0; $time < $times; $time++) {
+        report('nothing', $few, $nothing);
+        report('fetch_8', $few, $fetch);
+        report('fetch_100', $many, $fetch);
+        report('exists', $few, $exists);
+        report('replace_8', $few, $store, $eight);
+        report('replace_100', $many, $store, $hundred);
+        report('add_there', $few, $add, $eight);
+        report('delete_8', $few, $delete);
+        report('exists_not', $few, $exists);
+        report('store_8', $few, $store, $eight);
+        report('delete_100', $many, $delete);
+        report('store_100', $many, $store, $hundred);
+        report('delete_8', $few, $delete);
+        report('add_8', $few, $add, $eight);
+    }
+    foreach ($few as $batch) {
+        $store($batch, 7);
+    }
+    for ($time = 0; $time < $times; $time++) {
+        report('fetch_int', $few, $fetch);
+        report('cas', $few, $cas);
+        report('inc', $few, $inc);
+        report('dec', $few, $dec);
+    }
+    $left = apcu_cache_info(true)['num_entries'];
+    echo "rows 0 $left\n";
+}
+
+function fill(int $rows, int $ttl): void
+{
+    for ($i = 0; $i < $rows; $i++) {
+        apcu_store('k' . (FIRST + $i), 'xxxxxxxx', $ttl);
+    }
+}
+
+// Stores a text for ever that leaves less free than this.
+function fill_up(int $room): void
+{
+    while (($left = apcu_sma_info(true)['avail_mem']) > 2 * $room) {
+        apcu_store("filler$left", str_repeat('z', intdiv($left - $room, 2)));
+    }
+}
+
+function measure_leaving(int $rows): void
+{
+    fill($rows, 0);
+    $before = apcu_cache_info(true)['num_entries'];
+    $start = hrtime(true);
+    apcu_clear_cache();
+    $time = (hrtime(true) - $start) * 1000;
+    echo "clear $time $before\n";
+    fill($rows, 1);
+    fill_up(100000);
+    sleep(3);
+    $start = hrtime(true);
+    apcu_store('new', str_repeat('z', 300000));
+    $time = (hrtime(true) - $start) * 1000;
+    $left = apcu_cache_info(true)['num_entries'];
+    echo "expire $time $left\n";
+}
+
+mt_srand(1);
+if ($argv[1] === 'clear') {
+    measure_leaving((int) $argv[2]);
+} else {
+    measure((int) $argv[1]);
+}

@@ -1,0 +1,66 @@
+#!/usr/bin/env bash
+# Nanoseconds a call of the cache over words in memory at 1,000, 100,000 and 1,000,000 rows, with as many slots; beside
+# it in the same run PHP's APCu where it is installed, with as many. Of ten rows one has a text of 8 bytes, one a text
+# of 100, and eight a truth value; the calls go over all keys of a text, in a random order. `replace` stores over a row,
+# `store` and `add` make one; `add_there` finds a row and answers false, `exists_not` finds none. A fetch copies the
+# text out, `fetch_int` answers an integer. Each figure is the least of the batches of 10,000 calls or less of several
+# runs of both, without what a loop takes that makes the key alone. Then milliseconds of dropping 100,000 rows that
+# fill a cache: by a clear, and by a store that finds no room while all rows' time is over.
+# Usage: bench/cache/run.sh [PROGRAM [RUNS [ROWS..]]], where PROGRAM is the built cache_bench.
+set -eu
+here=$(cd "$(dirname "${BASH_SOURCE[0]}")" && pwd)
+program=${1:-$here/../../crates/cache_bench/out/cache_bench}
+runs=${2:-3}
+shift $(($# < 2 ? $# : 2))
+sizes=${*:-1000 100000 1000000}
+scratch=$(mktemp -d)
+trap 'rm -rf "$scratch"' EXIT
+php=
+if command -v php >/dev/null && php -m | grep -qx apcu; then php=php; fi
+
+# PHP on a segment of so many megabytes and as many slots as rows.
+in_php() {
+    local size=$1 rows=$2
+    shift 2
+    php -d apc.enable_cli=1 -d apc.shm_size="${size}M" -d apc.entries_hint="$rows" -d apc.ttl=3600 "$here/apcu.php" "$@"
+}
+
+# The table of what both printed: name, least time, and ratio.
+table() {
+    awk -v base="$1" -v unit="$2" '
+        { file = FILENAME ~ /ours$/ ? "ours" : "php" }
+        $1 == "rows" { next }
+        !((file, $1) in best) || $2 < best[file, $1] { best[file, $1] = $2 }
+        file == "ours" && !($1 in seen) { seen[$1]; names[++count] = $1 }
+        function cost(file, name) {
+            return (best[file, name] - (base == "" ? 0 : best[file, base])) / unit
+        }
+        END {
+            for (i = 1; i <= count; i++) {
+                name = names[i]
+                if (name == base) continue
+                if (("php", name) in best)
+                    printf "%-12s %9.1f %9.1f %7.2f\n", name, cost("ours", name), cost("php", name), cost("ours", name) / cost("php", name)
+                else
+                    printf "%-12s %9.1f\n", name, cost("ours", name)
+            }
+        }' "$scratch/ours" "$scratch/php"
+}
+
+for rows in $sizes; do
+    : >"$scratch/ours" && : >"$scratch/php"
+    for _ in $(seq "$runs"); do
+        "$program" "$rows" >>"$scratch/ours"
+        if [ -n "$php" ]; then in_php $((64 + rows / 2000)) "$rows" "$rows" >>"$scratch/php"; fi
+    done
+    printf '\n%-12s %9s %9s %7s\n' "$rows rows" ns php ratio
+    table nothing 1000
+done
+
+: >"$scratch/ours" && : >"$scratch/php"
+for _ in $(seq "$runs"); do
+    "$program" clear 100000 >>"$scratch/ours"
+    if [ -n "$php" ]; then in_php 64 100000 clear 100000 >>"$scratch/php"; fi
+done
+printf '\n%-12s %9s %9s %7s\n' "100000 rows" ms php ratio
+table "" 1e9

@@ -1,0 +1,177 @@
+//! The cache that is measured, and its calls.
+
+ghost use Rattle.apcu_model.specs.Conf.{IsGood};
+
+use crate::clock::since;
+use crate::keys::{FIRST, key_of};
+use apcu_model::{Conf, StoreAnswer};
+use cache_core::{Core, Look};
+use counter_entry::{IncAnswer, cas, inc};
+use max_tree::MaxRow;
+use php_graph::{Graph, Kind};
+use seg_words::{VecWords, WordsIn};
+use std::alloc::{AllocError, Global};
+use std::io;
+use std::marker::Model;
+use std::time::Instant;
+
+// How many calls are measured at once.
+const BATCH: usize = 10_000;
+
+/// A call under a key.
+#[derive(Clone, Copy)]
+pub enum Act<'a> {
+    /// No call: the key alone is made.
+    Nothing,
+    /// A store, with a time to live; the flag tells whether a live row stays.
+    Store(&'a Graph, u32, bool),
+    /// A look-up that answers a scalar at once.
+    Look,
+    /// A look-up that copies the value out.
+    Fetch,
+    Exists,
+    Delete,
+    /// Counts by so much.
+    Inc(i64),
+    /// Sets the integer that it expects.
+    Cas(i64),
+}
+
+/// What was measured of calls of one kind.
+#[derive(Clone, Copy)]
+pub struct Pass {
+    /// The least picoseconds a call of a batch.
+    pub time: u64,
+    /// How many calls answered as a cache that has the row, or takes it.
+    pub answers: u64,
+}
+
+/// A cache over words in memory. Contracts see the cache of one thread.
+#[derive(Drop)]
+pub struct WordCache {
+    words: VecWords,
+    core: Core,
+}
+
+impl Model for WordCache {
+    ghost use Rattle.apcu_model.specs.Cache.{Cache};
+    ghost use Rattle.cache_core.specs.Caching.{cache_of, CacheStands};
+
+    ghost Value = { Cache };
+
+    ghost view = { λ s. cache_of s.core };
+
+    ghost invariant = { λ s. CacheStands ⟦<VecWords as WordsIn>⟧ s.core s.words };
+}
+
+impl WordCache {
+    /// A cache of this shape without rows.
+    pub fn new(alloc: Global, conf: &Conf) -> Result<WordCache, AllocError>
+        requires { IsGood conf.now }
+    {
+        let mut words = VecWords::new(alloc, conf.words)?;
+        let gaps = MaxRow::new(alloc, conf.words as usize / 4 + 1)?;
+        let core = Core::format(&mut words, conf, gaps);
+        Ok(WordCache { words, core })
+    }
+
+    /// How many rows there are.
+    pub fn rows(&self) -> u64 {
+        self.core.counts().entries
+    }
+
+    /// Drops all rows.
+    pub fn clear(&mut self, t: u64) {
+        self.core.clear(&mut self.words, t);
+    }
+
+    // The answer of a look-up that copies the value out: whether that is a string with bytes.
+    fn fetch(&mut self, alloc: Global, key: &[u8; 8], t: u64) -> bool {
+        let Ok(Some(value)) = self.core.fetch(alloc, &mut self.words, key, t) else {
+            return false;
+        };
+        if value.places() == 0 {
+            return false;
+        }
+        match value.kind(1) {
+            Kind::Str(bytes) => !bytes.as_slice().is_empty(),
+            _ => false,
+        }
+    }
+
+    /// One call at the moment `t`; whether the row is there, or was taken.
+    pub fn call(&mut self, alloc: Global, key: &[u8; 8], act: Act<'_>, t: u64) -> bool {
+        let (core, words) = (&mut self.core, &mut self.words);
+        match act {
+            Act::Nothing => key[usize::from(key[7] % 8)] > 0,
+            Act::Store(value, ttl, exclusive) => {
+                core.store(words, key, value, ttl, exclusive, t) == StoreAnswer::Stored
+            }
+            Act::Look => match core.look(words, key, t) {
+                Look::Scalar(_) => true,
+                _ => false,
+            },
+            Act::Fetch => self.fetch(alloc, key, t),
+            Act::Exists => core.exists(words, key, t),
+            Act::Delete => core.delete(words, key, t),
+            Act::Inc(step) => match inc(alloc, core, words, key, step, 0, t) {
+                IncAnswer::Value(_) => true,
+                _ => false,
+            },
+            Act::Cas(expect) => cas(core, words, key, expect, expect, t),
+        }
+    }
+
+    /// Calls of one kind under keys of these numbers; how many answered true.
+    #[inline(never)]
+    pub fn calls(&mut self, alloc: Global, numbers: &[u32], act: Act<'_>, t: u64) -> u64 {
+        let mut answers: u64 = 0;
+        for number in numbers {
+            let key = key_of(*number);
+            let answer = self.call(alloc, &key, act, t);
+            answers = answers.saturating_add(u64::from(answer));
+        }
+        answers
+    }
+
+    /// Measures calls of one kind under keys of these numbers, batch by batch.
+    pub fn pass(
+        &mut self,
+        rt: &HostRuntime,
+        numbers: &[u32],
+        act: Act<'_>,
+        t: u64,
+    ) -> io::Result<Pass> {
+        let mut time = u64::MAX;
+        let mut answers: u64 = 0;
+        let mut from = 0;
+        while from < numbers.len() {
+            let calls = (numbers.len() - from).min(BATCH);
+            let start = Instant::now(rt)?;
+            let yes = self.calls(rt.alloc(), &numbers[from..from + calls], act, t);
+            let spent = since(rt, start)?;
+            time = time.min(spent.saturating_mul(1000) / calls as u64);
+            answers = answers.saturating_add(yes);
+            from += calls;
+        }
+        Ok(Pass { time, answers })
+    }
+
+    /// Stores rows under the first so many keys: of each `step` one has the first value, one the
+    /// second, and the others have the third.
+    pub fn fill(
+        &mut self,
+        alloc: Global,
+        rows: u32,
+        step: u32,
+        values: [&Graph; 3],
+        ttl: u32,
+        t: u64,
+    ) {
+        for i in 0..rows {
+            let which = (i % step).min(2) as usize;
+            let key = key_of(FIRST.wrapping_add(i));
+            let _stored = self.call(alloc, &key, Act::Store(values[which], ttl, false), t);
+        }
+    }
+}

@@ -1,0 +1,47 @@
+//! Measures the cache over words in memory. `cache_bench ROWS` fills a cache with so many rows and
+//! as many slots, and prints for each kind of call several times the picoseconds of one, and how
+//! many calls answered true. `cache_bench clear ROWS` prints that of dropping all rows, and of
+//! dropping them because they are expired. Without arguments it does the same over few rows, and
+//! prints nothing.
+#![tactic(auto)]
+
+mod cache;
+mod clock;
+mod keys;
+mod leaving;
+mod staying;
+mod values;
+
+use crate::leaving::measure_leaving;
+use crate::staying::measure_staying;
+use std::{env, io};
+
+fn main(rt: HostRuntime) -> io::Result<()> {
+    let mut args = env::args(&rt)?;
+    let _program = args.next();
+    let what = args.next();
+    let count = args.next();
+    let alloc = rt.alloc();
+    let (Some(short), Some(long), Some(truth)) = (
+        values::text(alloc, 8),
+        values::text(alloc, 100),
+        values::truth(alloc),
+    ) else {
+        return Ok(());
+    };
+    let values = [&short, &long, &truth];
+    let Some(what) = what else {
+        measure_staying(&rt, 100, values, 1, false)?;
+        measure_leaving(&rt, 100, &short, 1, false)?;
+        return Ok(());
+    };
+    if let Some(count) = count {
+        let rows = count.as_str().parse::<u32>().unwrap_or(0);
+        measure_leaving(&rt, rows, &short, 5, true)?;
+        return Ok(());
+    }
+    let rows = what.as_str().parse::<u32>().unwrap_or(0);
+    let times = 3 + 200_000 / rows.max(1);
+    measure_staying(&rt, rows, values, times, true)?;
+    Ok(())
+}
