@@ -35,16 +35,16 @@ fn give<N: TableName, R: Wait>(
     alloc: Global,
     shared: &Shared<N>,
     pass: Pass,
-    gen_: &Gen,
+    generator: &Gen,
 ) -> (Pass, Result<(Graph, Fate), AllocError>)
     requires table { pass.table ≡ N.table }
     requires left { 2 ≤ pass.known.left }
-    requires two { length gen_.now.levels ≡ 2 }
+    requires two { length generator.now.levels ≡ 2 }
     ensures table { result.0.table ≡ N.table }
     ensures worker { result.0.known.worker ≡ pass.known.worker }
     ensures left { pass.known.left ≤ result.0.known.left + 1 }
 {
-    let (pass, given) = shared.entry(rt, alloc, pass, gen_, 5);
+    let (pass, given) = shared.entry(rt, alloc, pass, generator, 5);
     match given {
         Ok(given) => (pass, Ok(given)),
         Err(e) => (pass, Err(e)),

@@ -24,7 +24,7 @@ entry-requires-clause-fresh g c =
 pub note-requires : goal.note-requires
 note-requires g c = record { room = room_left _ _ _ _ _ _ c.self.invariant c.args.pass.known.left c.requires.left c.writer-w.ensures.room }
 
-passed : (g : given.Over) (c : goal.After-give_pass g) → Passes g.N.TableName.table g.N.TableName.conf g.N.TableName.budgets c.self.inside.seat c.give_pass.new.self.1.0 c.writer-w.result c.entry.new.seg c.self.inside.core c.entry.new.core c.args.pass c.give_pass.result c.args.t (request.Entry c.args.gen_.now) c.self.inside.journal c.note.new.journal
+passed : (g : given.Over) (c : goal.After-give_pass g) → Passes g.N.TableName.table g.N.TableName.conf g.N.TableName.budgets c.self.inside.seat c.give_pass.new.self.1.0 c.writer-w.result c.entry.new.seg c.self.inside.core c.entry.new.core c.args.pass c.give_pass.result c.args.t (request.Entry c.args.generator.now) c.self.inside.journal c.note.new.journal
 passed g c = record {
   works = record {
     laws = c.lower_laws.ensures;
@@ -47,7 +47,7 @@ passed g c = record {
   cache = c.in-Ok.ensures.cache;
   marks = c.note.ensures.marks;
   room = c.note.ensures.room;
-  flat = let few = c.requires.levels in lt-ltb (length c.args.gen_.now.levels) 9 (omega (arith, few));
+  flat = let few = c.requires.levels in lt-ltb (length c.args.generator.now.levels) 9 (omega (arith, few));
 }
 
 pub invariant_of-self : goal.invariant_of-self

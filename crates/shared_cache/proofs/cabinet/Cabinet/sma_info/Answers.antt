@@ -73,4 +73,4 @@ invariant_of-self-in-Err g c =
     undone.settles _ _ _ _ _ _ _ _ _ _ _ _ h
 
 pub returns-in-Ok-clause-told : goal.returns-in-Ok-clause-told
-returns-in-Ok-clause-told g c = passes.follows _ _ _ _ _ _ _ _ _ _ _ _ _ _ _ (passed g c) _ (ap reply.Info c.in-Ok.ensures.told)
+returns-in-Ok-clause-told g c = passes.follows _ _ _ _ _ _ _ _ _ _ _ _ _ _ _ (passed g c) _ (ap reply.Info c.in-Ok.ensures.info)
