@@ -1,5 +1,5 @@
 -- An event that opens no window of the segment.
-use Rattle.std.proofs.Common.{◌≡◌, ℕ, ◌+◌, List, [], ◌∷◌, ◌++◌, length, refl, ap, sym, ◌∙◌, subst}
+use Rattle.std.proofs.Common.{◌≡◌, ℕ, ◌+◌, true, List, [], ◌∷◌, ◌++◌, length, refl, ap, sym, ◌∙◌, subst}
 use Rattle.atomic_table.specs.Seated.{TableId}
 use Rattle.seg_words.specs.Windows.{held_by}
 use Rattle.apcu_model.specs.declared.conf.Conf.{Conf}
