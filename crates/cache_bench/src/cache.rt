@@ -1,9 +1,11 @@
 //! The cache that is measured, and its calls.
 
+ghost use Rattle.std.specs.Prelude.{◌≤◌};
 ghost use Rattle.apcu_model.specs.Conf.{IsGood};
 
 use crate::clock::since;
 use crate::keys::{FIRST, key_of};
+use crate::values::Values;
 use apcu_model::{Conf, StoreAnswer};
 use cache_core::{Core, Look};
 use counter_entry::{IncAnswer, cas, inc};
@@ -157,21 +159,19 @@ impl WordCache {
         Ok(Pass { time, answers })
     }
 
-    /// Stores rows under the first so many keys: of each `step` one has the first value, one the
-    /// second, and the others have the third.
-    pub fn fill(
-        &mut self,
-        alloc: Global,
-        rows: u32,
-        step: u32,
-        values: [&Graph; 3],
-        ttl: u32,
-        t: u64,
-    ) {
+    /// Stores rows under the first so many keys: of each `step` the first has the short text, the
+    /// second the long one, and the others have the truth value.
+    pub fn fill(&mut self, alloc: Global, rows: u32, step: u32, values: &Values, ttl: u32, t: u64)
+        requires { 1 ≤ step }
+    {
         for i in 0..rows {
-            let which = (i % step).min(2) as usize;
+            let value = match i % step {
+                0 => &values.short,
+                1 => &values.long,
+                _ => &values.truth,
+            };
             let key = key_of(FIRST.wrapping_add(i));
-            let _stored = self.call(alloc, &key, Act::Store(values[which], ttl, false), t);
+            let _stored = self.call(alloc, &key, Act::Store(value, ttl, false), t);
         }
     }
 }

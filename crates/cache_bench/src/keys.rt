@@ -1,6 +1,6 @@
 //! Keys of eight bytes, by their numbers.
 
-ghost use Rattle.std.specs.Prelude.{◌≡◌, length};
+ghost use Rattle.std.specs.Prelude.{◌≡◌, ◌≤◌, length};
 
 use std::alloc::{AllocError, Global};
 
@@ -19,7 +19,9 @@ pub fn key_of(number: u32) -> [u8; 8] {
 }
 
 /// Every so many numbers of the first so many keys, in a random order.
-pub fn shuffled(alloc: Global, from: u32, rows: u32, step: u32) -> Result<Vec<u32>, AllocError> {
+pub fn shuffled(alloc: Global, from: u32, rows: u32, step: u32) -> Result<Vec<u32>, AllocError>
+    requires { 1 ≤ step }
+{
     let mut numbers = Vec::new(alloc);
     for i in 0..rows {
         if i % step == from {
