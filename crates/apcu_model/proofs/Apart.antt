@@ -9,7 +9,7 @@ use Rattle.php_graph.specs.declared.kind.Kind.{Kind}
 use Rattle.apcu_model.specs.Cache.{Row, Cache, risen, has_key}
 use Rattle.apcu_model.specs.Change.{is_held, dropped, with_row, placed}
 use Rattle.apcu_model.specs.Expiry.{is_expired}
-use Rattle.apcu_model.specs.Sequential.{touched}
+use Rattle.apcu_model.specs.Lookups.{touched}
 use Rattle.apcu_model.specs.Walk.{is_in_slot, slot_of, in_slot_order}
 use Rattle.apcu_model.specs.Rows.{are_apart, touched_at, cache_in}
 

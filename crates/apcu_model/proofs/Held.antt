@@ -13,6 +13,8 @@ use Rattle.apcu_model.specs.Expiry.{is_expired, live_row}
 use Rattle.apcu_model.specs.Walk.{is_in_slot, in_slot_order, slot_of}
 use Rattle.apcu_model.specs.Change.{Insertion, AreAlike, is_held, dropped, swept, expired_dropped, expunged, deleted, cleared, has_gap, with_room, with_row, placed, put_in, inserted}
 use Rattle.apcu_model.specs.Counters.{Count, begun, counted_at}
+use Rattle.apcu_model.specs.Levels.{EntryLevel, Generator}
+use Rattle.apcu_model.specs.Generators.{Filling, filling_of, filled, given_by, missed_levels, looked_for, entered}
 use Rattle.apcu_model.specs.Sequential.{cache_after, reply_to, is_stored, number_reply}
 
 module _ (held other : List ℕ) (same : AreAlike held other) where
@@ -67,6 +69,15 @@ module _ (held other : List ℕ) (same : AreAlike held other) where
   count_alike key step ttl t c (Some row) = refl
   count_alike key step ttl t c None = ap (begun step) (inserted_alike key (kinds.Int step ∷ []) ttl false t c)
 
+  filled_alike : (value : List Kind) (t : ℕ) (levels : List EntryLevel) (c : Cache) → filled held value t levels c ≡ filled other value t levels c
+  filled_alike value t [] c = refl
+  filled_alike value t (level ∷ levels) c =
+      ap (λ (f : Filling). filling_of (inserted held level.key value level.ttl true t f.cache)) (filled_alike value t levels c)
+      ∙ ap filling_of (inserted_alike level.key value level.ttl true t (filled other value t levels c).cache)
+
+  pub entered_alike : (g : Generator) (t : ℕ) (c : Cache) → entered held g t c ≡ entered other g t c
+  entered_alike g t c = filled_alike (given_by g t c) t (missed_levels g.levels t c) (looked_for g.levels t c)
+
   pub cache_alike : (t : ℕ) (r : Request) (c : Cache) → cache_after held t r c ≡ cache_after other t r c
   cache_alike t (request.Store key graph ttl exclusive) c = ap (λ (i : Insertion). i.cache) (inserted_alike key graph ttl exclusive t c)
   cache_alike t (request.Fetch key) c = refl
@@ -74,7 +85,11 @@ module _ (held other : List ℕ) (same : AreAlike held other) where
   cache_alike t (request.Delete key) c = deleted_alike key t c
   cache_alike t (request.Inc key step ttl) c = ap (λ (n : Count). n.cache) (count_alike key step ttl t c (live_row key t c))
   cache_alike t (request.Cas key expect set) c = refl
+  cache_alike t (request.Entry g) c = ap (λ (f : Filling). f.cache) (entered_alike g t c)
   cache_alike t request.Clear c = cleared_alike t c
+  cache_alike t (request.KeyInfo key) c = refl
+  cache_alike t (request.CacheInfo limited) c = refl
+  cache_alike t (request.SmaInfo limited) c = refl
   cache_alike t request.Retire c = refl
 
   pub reply_alike : (t : ℕ) (r : Request) (c : Cache) → reply_to held t r c ≡ reply_to other t r c
@@ -84,5 +99,9 @@ module _ (held other : List ℕ) (same : AreAlike held other) where
   reply_alike t (request.Delete key) c = refl
   reply_alike t (request.Inc key step ttl) c = ap (λ (n : Count). number_reply n.number) (count_alike key step ttl t c (live_row key t c))
   reply_alike t (request.Cas key expect set) c = refl
+  reply_alike t (request.Entry g) c = refl
   reply_alike t request.Clear c = refl
+  reply_alike t (request.KeyInfo key) c = refl
+  reply_alike t (request.CacheInfo limited) c = refl
+  reply_alike t (request.SmaInfo limited) c = refl
   reply_alike t request.Retire c = refl

@@ -7,3 +7,9 @@ pub mod Ordering
 pub mod Held
 pub mod Histories
 pub mod Numbering
+mod Tellings
+mod Laying
+mod TableValues
+mod Runs
+mod Listing
+mod Gaps

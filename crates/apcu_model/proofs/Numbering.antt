@@ -1,10 +1,10 @@
 -- The numbers of rows are all different, each worker has one window, and that is never one of a row
 -- that holds a scalar.
-use Rattle.std.proofs.Common.{◌≡◌, ◌≢◌, ℕ, ◌+◌, ◌-◌, ◌^◌, ◌<◌, ◌≤◌, ◌==◌, ◌&&◌, ◌⊎◌, inl, inr, Bool, true, false, not, cond, if◌then◌else◌, List, [], ◌∷◌, ◌++◌, length, map, filter, Option, Some, None, refl, ap, sym, ◌∙◌, subst, arith}
+use Rattle.std.proofs.Common.{◌≡◌, ◌≢◌, ℕ, ◌+◌, ◌-◌, ◌*◌, ◌^◌, ◌<◌, ◌≤◌, ◌==◌, ◌&&◌, ◌⊎◌, inl, inr, Bool, true, false, not, cond, if◌then◌else◌, List, [], ◌∷◌, ◌++◌, length, map, filter, Option, Some, None, refl, ap, sym, ◌∙◌, subst, arith}
 use Rattle.std.specs.Prelude.{ℤ, Contains, nat_lt, is_some}
 use Rattle.std.specs.List.{list_any, range_with_len}
 use Rattle.std.specs.Map.{lookup}
-use Rattle.std.proofs.lemmas.Bool.{eq-eqb, eqb-true, ne_eqb, false≢true}
+use Rattle.std.proofs.lemmas.Bool.{and_parts, eq-eqb, eqb-true, ltb-true, ne_eqb, false≢true}
 use Rattle.std.proofs.lemmas.Map.Entries.{lookup-filter-keys}
 use Rattle.std.proofs.lemmas.List.Elements.{Contains-append_left, Contains-append_right, Contains-append_cases}
 use Rattle.php_graph.specs.declared.kind.Kind.{Kind}
@@ -21,8 +21,11 @@ use Rattle.apcu_model.specs.Walk.{is_in_slot, in_slot_order, slot_of}
 use Rattle.apcu_model.specs.Change.{is_held, dropped, swept, expired_dropped, expunged, deleted, cleared, has_gap, with_room, with_row, placed, put_in, inserted}
 use Rattle.apcu_model.specs.Counters.{integer_in, with_integer, integer_at, integer_set, sum_of, counted_on, counted_at, is_integer, is_expected, swapped}
 use Rattle.apcu_model.specs.Rows.{are_apart, touched_at}
-use Rattle.apcu_model.specs.Sequential.{cache_after, looked_up, touched}
-use Rattle.apcu_model.specs.History.{Stage, start_of, is_scalar, opened, opened_at, held_places, after_event, after_events, IsNumbered, stage_of}
+use Rattle.apcu_model.specs.Levels.{EntryLevel}
+use Rattle.apcu_model.specs.Lookups.{looked_up, touched}
+use Rattle.apcu_model.specs.Generators.{filled, given_by, missed_levels, looked_for}
+use Rattle.apcu_model.specs.Sequential.{cache_after}
+use Rattle.apcu_model.specs.History.{Stage, start_of, is_scalar, is_shallow, are_shallow, opened, opened_at, held_places, after_event, after_events, IsNumbered, stage_of}
 use Rattle.apcu_model.proofs.Apart.{are_apart-filter, are_apart-map, are_apart-with_row, touched_key}
 use Rattle.apcu_model.proofs.Scalars.{set_key}
 use Rattle.apcu_model.proofs.OneKey.{found_there, one_of_key}
@@ -174,19 +177,15 @@ numbers_placed held key graph ttl t n c place num small = record { below = below
         let fresh_row : Row = record { key = key; graph = graph; ttl = ttl; ctime = t; mtime = t; atime = t; dtime = 0; hits = 0; place = place; size = n; number = c.next_number } in
         are_apart-with_row fresh_row (filter (λ row. not (pass row)) c.rows) (are_apart-filter (λ row. not (pass row)) c.rows num.keys)
 
--- the cache after a request
-record Grown (c c' : Cache) : Type 0 where
+-- the cache after at most so many insertions
+record Grown (most : ℕ) (c c' : Cache) : Type 0 where
   pub numbers : Numbers c'
-  pub next : c'.next_number ≤ c.next_number + 1
+  pub next : c'.next_number ≤ c.next_number + most
   pub more : c.next_number ≤ c'.next_number
   -- a row that is not new was there, and whether it holds a scalar stays
   pub old : (r : Row) → Contains (c'.rows ++ c'.removed) r → r.number < c.next_number → (p : Row) × Contains (c.rows ++ c.removed) p × (p.number ≡ r.number) × (is_scalar p.graph ≡ is_scalar r.graph)
 
-grown_if : (b : Bool) (c x y : Cache) → Grown c x → Grown c y → Grown c (if b then x else y)
-grown_if true c x y f g = f
-grown_if false c x y f g = g
-
-same_grown : (c c' : Cache) → Sub c c' → Numbers c → Grown c c'
+same_grown : (c c' : Cache) → Sub c c' → Numbers c → Grown 1 c c'
 same_grown c c' s n = record {
   numbers = numbers_sub c c' s n;
   next = omega (arith, s.next);
@@ -194,7 +193,7 @@ same_grown c c' s n = record {
   old = λ r h l. let p = s.from r h in (p.0, p.1, p.2, p.4);
 }
 
-grown_put : (held key : List ℕ) (graph : List Kind) (ttl t n : ℕ) (c room : Cache) (place : Option ℕ) → Sub c room → Numbers c → c.next_number < 2 ^ 64 - 1 → Grown c (put_in held key graph ttl t n room place).cache
+grown_put : (held key : List ℕ) (graph : List Kind) (ttl t n : ℕ) (c room : Cache) (place : Option ℕ) → Sub c room → Numbers c → c.next_number < 2 ^ 64 - 1 → Grown 1 c (put_in held key graph ttl t n room place).cache
 grown_put held key graph ttl t n c room None s num small = same_grown c room s num
 grown_put held key graph ttl t n c room (Some place) s num small = record {
   numbers = numbers_placed held key graph ttl t n room place (numbers_sub c room s num) (omega (arith, small, s.next));
@@ -284,27 +283,101 @@ sub_swapped key expect set t c keys = go (live_row key t c) refl
     go None live = sub_refl c
     go (Some row) live = at_int row live (integer_in row.graph) refl
 
-grown_inserted : (held key : List ℕ) (graph : List Kind) (ttl : ℕ) (exclusive : Bool) (t : ℕ) (c : Cache) → Numbers c → c.next_number < 2 ^ 64 - 1 → Grown c (inserted held key graph ttl exclusive t c).cache
+grown_inserted : (held key : List ℕ) (graph : List Kind) (ttl : ℕ) (exclusive : Bool) (t : ℕ) (c : Cache) → Numbers c → c.next_number < 2 ^ 64 - 1 → Grown 1 c (inserted held key graph ttl exclusive t c).cache
 grown_inserted held key graph ttl exclusive t c num small = go (nat_lt (c.conf.words - c.conf.slots) (block_size (length key) graph)) (exclusive && is_some (live_row key t c))
   where
-    go : (a b : Bool) → Grown c (if a then record { answer = answers.TooLarge; cache = c } else if b then record { answer = answers.Exists; cache = c } else put_in held key graph ttl t (block_size (length key) graph) (with_room held (block_size (length key) graph) t c) (gap_of (with_room held (block_size (length key) graph) t c) (block_size (length key) graph))).cache
+    go : (a b : Bool) → Grown 1 c (if a then record { answer = answers.TooLarge; cache = c } else if b then record { answer = answers.Exists; cache = c } else put_in held key graph ttl t (block_size (length key) graph) (with_room held (block_size (length key) graph) t c) (gap_of (with_room held (block_size (length key) graph) t c) (block_size (length key) graph))).cache
     go true b = same_grown c c (sub_refl c) num
     go false true = same_grown c c (sub_refl c) num
     go false false = grown_put held key graph ttl t (block_size (length key) graph) c (with_room held (block_size (length key) graph) t c) (gap_of (with_room held (block_size (length key) graph) t c) (block_size (length key) graph)) (sub_room held (block_size (length key) graph) t c) num small
 
-grown_counted : (held key : List ℕ) (step : ℤ) (ttl t : ℕ) (c : Cache) → Numbers c → c.next_number < 2 ^ 64 - 1 → (o : Option Row) → live_row key t c ≡ o → Grown c (counted_at held key step ttl t c o).cache
+grown_counted : (held key : List ℕ) (step : ℤ) (ttl t : ℕ) (c : Cache) → Numbers c → c.next_number < 2 ^ 64 - 1 → (o : Option Row) → live_row key t c ≡ o → Grown 1 c (counted_at held key step ttl t c o).cache
 grown_counted held key step ttl t c num small (Some row) live = same_grown c (counted_on key step t c (integer_in row.graph)).cache (sub_counted key step t c row live num.keys) num
 grown_counted held key step ttl t c num small None live = grown_inserted held key (kinds.Int step ∷ []) ttl false t c num small
 
-grown_after : (held : List ℕ) (t : ℕ) (r : Request) (c : Cache) → Numbers c → c.next_number < 2 ^ 64 - 1 → Grown c (cache_after held t r c)
-grown_after held t (request.Store key graph ttl exclusive) c num small = grown_inserted held key graph ttl exclusive t c num small
-grown_after held t (request.Fetch key) c num small = same_grown c (looked_up key t (live_row key t c) c) (sub_looked key t (live_row key t c) c) num
-grown_after held t (request.Exists key) c num small = same_grown c c (sub_refl c) num
-grown_after held t (request.Delete key) c num small = same_grown c (deleted held key t c) (sub_deleted held key t c) num
-grown_after held t (request.Inc key step ttl) c num small = grown_counted held key step ttl t c num small (live_row key t c) refl
-grown_after held t (request.Cas key expect set) c num small = same_grown c (swapped key expect set t c) (sub_swapped key expect set t c num.keys) num
-grown_after held t request.Clear c num small = same_grown c (cleared held t c) (sub_cleared held t c) num
-grown_after held t request.Retire c num small = same_grown c c (sub_refl c) num
+-- more insertions after some
+grown_on : (m n : ℕ) (c d e : Cache) → Grown m c d → Grown n d e → Grown (m + n) c e
+grown_on m n c d e f g = record {
+  numbers = g.numbers;
+  next = omega (arith, f.next, g.next);
+  more = omega (arith, f.more, g.more);
+  old = λ r h l. let p = g.old r h (omega (arith, l, f.more)) in let q = f.old p.0 p.1 (omega (arith, p.2, l)) in (q.0, q.1, q.2 ∙ p.2, q.3 ∙ p.3);
+}
+
+grown_most : (m n : ℕ) (c d : Cache) → m ≤ n → Grown m c d → Grown n c d
+grown_most m n c d l f = record { numbers = f.numbers; next = omega (arith, l, f.next); more = f.more; old = f.old }
+
+none_grown : (c d : Cache) → Sub c d → Numbers c → Grown 0 c d
+none_grown c d s n = record {
+  numbers = numbers_sub c d s n;
+  next = omega (arith, s.next);
+  more = omega (arith, s.next);
+  old = λ r h l. let p = s.from r h in (p.0, p.1, p.2, p.4);
+}
+
+grown_filled : (held : List ℕ) (value : List Kind) (t : ℕ) (levels : List EntryLevel) (c : Cache) → Numbers c → c.next_number + length levels < 2 ^ 64 → Grown (length levels) c (filled held value t levels c).cache
+grown_filled held value t [] c num small = none_grown c c (sub_refl c) num
+grown_filled held value t (level ∷ levels) c num small =
+    let d = (filled held value t levels c).cache in
+    let inner = grown_filled held value t levels c num (omega (arith, small)) in
+    let outer = grown_inserted held level.key value level.ttl true t d inner.numbers (omega (arith, small, inner.next)) in
+    grown_most (length levels + 1) (length (level ∷ levels)) c (filled held value t (level ∷ levels) c).cache (omega arith)
+    (grown_on (length levels) 1 c d (filled held value t (level ∷ levels) c).cache inner outer)
+
+sub_looked_for : (levels : List EntryLevel) (t : ℕ) (c : Cache) → Sub c (looked_for levels t c)
+sub_looked_for [] t c = sub_refl c
+sub_looked_for (level ∷ levels) t c =
+    let row = live_row level.key t c in
+    let missed = looked_up level.key t None c in
+    sub_if (is_some row) c (looked_up level.key t row c) (looked_for levels t missed) (sub_looked level.key t row c)
+    (sub_trans c missed (looked_for levels t missed) (sub_looked level.key t None c) (sub_looked_for levels t missed))
+
+few_missed : (levels : List EntryLevel) (t : ℕ) (c : Cache) → length (missed_levels levels t c) ≤ length levels
+few_missed [] t c = omega arith
+few_missed (level ∷ levels) t c =
+    let rest = few_missed levels t c in
+    elim (is_some (live_row level.key t c)) as (λ b. length (if b then [] else level ∷ missed_levels levels t c) ≤ length (level ∷ levels)) [
+      | true ↦ omega arith
+      | false ↦ omega (arith, rest)
+    ]
+
+grown_entered : (held : List ℕ) (value : List Kind) (t : ℕ) (levels : List EntryLevel) (c : Cache) → Numbers c → c.next_number + 8 < 2 ^ 64 → length levels ≤ 8 → Grown 8 c (filled held value t (missed_levels levels t c) (looked_for levels t c)).cache
+grown_entered held value t levels c num small few =
+    let missed = missed_levels levels t c in
+    let looked = looked_for levels t c in
+    let s = sub_looked_for levels t c in
+    let less = few_missed levels t c in
+    let first = none_grown c looked s num in
+    let rest = grown_filled held value t missed looked first.numbers (omega (arith, small, few, less, s.next)) in
+    grown_most (0 + length missed) 8 c (filled held value t missed looked).cache (omega (arith, few, less))
+    (grown_on 0 (length missed) c looked (filled held value t missed looked).cache first rest)
+
+-- at most eight insertions are made in one event
+grown_after : (held : List ℕ) (t : ℕ) (r : Request) (c : Cache) → Numbers c → c.next_number + 8 < 2 ^ 64 → is_shallow r ≡ true → Grown 8 c (cache_after held t r c)
+grown_after held t r c num small shallow = go r shallow
+  where
+    one : (d : Cache) → Grown 1 c d → Grown 8 c d
+    one d f = grown_most 1 8 c d (omega arith) f
+
+    same : (d : Cache) → Sub c d → Grown 8 c d
+    same d s = one d (same_grown c d s num)
+
+    less : c.next_number < 2 ^ 64 - 1
+    less = omega (arith, small)
+
+    go : (r : Request) → is_shallow r ≡ true → Grown 8 c (cache_after held t r c)
+    go (request.Store key graph ttl exclusive) few = one (inserted held key graph ttl exclusive t c).cache (grown_inserted held key graph ttl exclusive t c num less)
+    go (request.Fetch key) few = same (looked_up key t (live_row key t c) c) (sub_looked key t (live_row key t c) c)
+    go (request.Exists key) few = same c (sub_refl c)
+    go (request.Delete key) few = same (deleted held key t c) (sub_deleted held key t c)
+    go (request.Inc key step ttl) few = one (counted_at held key step ttl t c (live_row key t c)).cache (grown_counted held key step ttl t c num less (live_row key t c) refl)
+    go (request.Cas key expect set) few = same (swapped key expect set t c) (sub_swapped key expect set t c num.keys)
+    go (request.Entry g) few = grown_entered held (given_by g t c) t g.levels c num small (omega (arith, ltb-true (length g.levels) 9 few))
+    go request.Clear few = same (cleared held t c) (sub_cleared held t c)
+    go (request.KeyInfo key) few = same c (sub_refl c)
+    go (request.CacheInfo limited) few = same c (sub_refl c)
+    go (request.SmaInfo limited) few = same c (sub_refl c)
+    go request.Retire few = same c (sub_refl c)
 
 -- one window for each worker
 abbrev Single : List (ℕ × ℕ) → Type 0
@@ -348,7 +421,11 @@ opened_one worker t (request.Exists key) c = inl refl
 opened_one worker t (request.Delete key) c = inl refl
 opened_one worker t (request.Inc key step ttl) c = inl refl
 opened_one worker t (request.Cas key expect set) c = inl refl
+opened_one worker t (request.Entry g) c = inl refl
 opened_one worker t request.Clear c = inl refl
+opened_one worker t (request.KeyInfo key) c = inl refl
+opened_one worker t (request.CacheInfo limited) c = inl refl
+opened_one worker t (request.SmaInfo limited) c = inl refl
 opened_one worker t request.Retire c = inl refl
 
 one_number : (worker : ℕ) (c : Cache) (new : List (ℕ × ℕ)) → OpensOn worker c new → (new ≡ []) ⊎ ((n : ℕ) × (new ≡ (worker, n) ∷ []))
@@ -360,7 +437,7 @@ record Whole (c : Cache) (ws : List (ℕ × ℕ)) : Type 0 where
   pub below : (w : ℕ × ℕ) → Contains ws w → w.1 < c.next_number
   pub whole : (w : ℕ × ℕ) (row : Row) → Contains ws w → Contains (c.rows ++ c.removed) row → row.number ≡ w.1 → is_scalar row.graph ≡ false
 
-whole_after : (worker : ℕ) (c c' : Cache) (new ws : List (ℕ × ℕ)) → OpensOn worker c new → Numbers c → Grown c c' → Whole c ws → Whole c' (new ++ filter (λ (w : ℕ × ℕ). not (w.0 == worker)) ws)
+whole_after : (worker : ℕ) (c c' : Cache) (new ws : List (ℕ × ℕ)) → OpensOn worker c new → Numbers c → Grown 8 c c' → Whole c ws → Whole c' (new ++ filter (λ (w : ℕ × ℕ). not (w.0 == worker)) ws)
 whole_after worker c c' new ws opens num grown h = record {
   below = λ w l. elim (cases w l) [ inl k ↦ omega (arith, grown.more, h.below w k) | inr o ↦ omega (arith, grown.more, num.below o.0 o.1, o.3) ];
   whole = λ w row l there e. elim (cases w l) [
@@ -393,10 +470,11 @@ record Ordered (m : Stage) : Type 0 where
   pub whole : Whole m.cache m.windows
 
 -- from any stage on, for as many events as the numbers last
-grown_all : (m : Stage) (h : List Event) → Ordered m → m.cache.next_number + length h < 2 ^ 64 - 1 → Ordered (after_events m h)
-grown_all m [] o small = o
-grown_all m (e ∷ h) o small =
-    let g = grown_after (held_places m e.mask) e.t e.request m.cache o.numbers (omega (arith, small)) in
+grown_all : (m : Stage) (h : List Event) → Ordered m → m.cache.next_number + 8 * length h < 2 ^ 64 → are_shallow h ≡ true → Ordered (after_events m h)
+grown_all m [] o small shallow = o
+grown_all m (e ∷ h) o small shallow =
+    let few = and_parts (is_shallow e.request) (are_shallow h) shallow in
+    let g = grown_after (held_places m e.mask) e.t e.request m.cache o.numbers (omega (arith, small)) few.0 in
     let new = opened e.worker e.t e.request m.cache in
     let opens = opened_one e.worker e.t e.request m.cache in
     let next : Ordered (after_event m e) = record {
@@ -404,14 +482,14 @@ grown_all m (e ∷ h) o small =
       single = single_after e.worker new m.windows (one_number e.worker m.cache new opens) o.single;
       whole = whole_after e.worker m.cache (after_event m e).cache new m.windows opens o.numbers g o.whole;
     } in
-    grown_all (after_event m e) h next (omega (arith, small, g.next))
+    grown_all (after_event m e) h next (omega (arith, small, g.next)) few.1
 
-pub is_numbered : (conf : Conf) (h : List Event) → length h ≤ 4194304 → IsNumbered (stage_of conf h)
-is_numbered conf h short =
+pub is_numbered : (conf : Conf) (h : List Event) → length h ≤ 4194304 → are_shallow h ≡ true → IsNumbered (stage_of conf h)
+is_numbered conf h short shallow =
     let start : Ordered (start_of conf) = record {
       numbers = record { below = λ p c. absurd (none_in_nil p c); apart = λ p q c. absurd (none_in_nil p c); keys = refl };
       single = λ w c. absurd (none_in_nil w c);
       whole = record { below = λ w c. absurd (none_in_nil w c); whole = λ w row c. absurd (none_in_nil w c) };
     } in
-    let g = grown_all (start_of conf) h start (omega (arith, short)) in
+    let g = grown_all (start_of conf) h start (omega (arith, short)) shallow in
     record { one = g.single; numbers = λ p q c d e. (g.numbers.apart p q c d e).0; whole = g.whole.whole }

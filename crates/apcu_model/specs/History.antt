@@ -1,6 +1,7 @@
 -- Events, and who still copies a value after them.
 use Rattle.std.specs.Prelude.{◌≡◌, ℕ, ◌^◌, ◌==◌, ◌&&◌, ◌||◌, not, nat_lt, if◌then◌else◌, Bool, true}
-use Rattle.std.specs.Prelude.{false, List, [], ◌∷◌, ◌++◌, map, filter, Option, Some, None, is_some}
+use Rattle.std.specs.Prelude.{false, List, [], ◌∷◌, ◌++◌, length, map, filter, Option, Some, None}
+use Rattle.std.specs.Prelude.{is_some}
 use Rattle.std.specs.Prelude.{Contains}
 use Rattle.std.specs.Int.{bit_at}
 use Rattle.std.specs.List.{list_any, list_all, range_with_len}
@@ -12,7 +13,8 @@ use Rattle.apcu_model.specs.declared.event.Event.{Event}
 use Rattle.apcu_model.specs.declared.journal.Mark.{Mark}
 use Rattle.apcu_model.specs.declared.request.Request.{Request}
 use Rattle.apcu_model.specs.declared.request.Request.TheVariants.{Store, Fetch, Exists, Delete}
-use Rattle.apcu_model.specs.declared.request.Request.TheVariants.{Inc, Cas, Clear, Retire}
+use Rattle.apcu_model.specs.declared.request.Request.TheVariants.{Inc, Cas, Entry, Clear, KeyInfo}
+use Rattle.apcu_model.specs.declared.request.Request.TheVariants.{CacheInfo, SmaInfo, Retire}
 use Rattle.apcu_model.specs.declared.request.Reply.{Reply}
 use Rattle.apcu_model.specs.Cache.{Row, Cache, empty_cache}
 use Rattle.apcu_model.specs.Expiry.{live_row}
@@ -79,7 +81,11 @@ opened worker t (Exists key) c = []
 opened worker t (Delete key) c = []
 opened worker t (Inc key step ttl) c = []
 opened worker t (Cas key expect set) c = []
+opened worker t (Entry g) c = []
 opened worker t Clear c = []
+opened worker t (KeyInfo key) c = []
+opened worker t (CacheInfo limited) c = []
+opened worker t (SmaInfo limited) c = []
 opened worker t Retire c = []
 
 abbrev pub reply_in : Stage → Event → Reply
@@ -105,6 +111,15 @@ abbrev pub all_legal : ℕ → Stage → List Event → Bool
 all_legal workers m [] = true
 all_legal workers m (e ∷ events) =
     is_legal_mask workers e.worker m e.mask && all_legal workers (after_event m e) events
+
+-- an entry is at most the eighth from outside: so one event makes at most eight insertions
+abbrev pub is_shallow : Request → Bool
+is_shallow (Entry g) = nat_lt (length g.levels) 9
+is_shallow _ = true
+
+abbrev pub are_shallow : List Event → Bool
+are_shallow [] = true
+are_shallow (e ∷ events) = is_shallow e.request && are_shallow events
 
 abbrev pub mark_of : Event → Mark
 mark_of e = record { worker = e.worker; mask = e.mask }

@@ -1,4 +1,6 @@
 pub mod Conf
+pub mod Levels
+pub mod Nesting
 pub mod Cache
 pub mod Rows
 pub mod Expiry
@@ -6,6 +8,10 @@ pub mod Change
 pub mod Counters
 pub mod Facts
 pub mod Walk
+pub mod Infos
+pub mod Lookups
+pub mod Generators
+pub mod Telling
 pub mod Sequential
 pub mod History
 pub mod Journal

@@ -4,7 +4,7 @@ use Rattle.std.specs.List.{list_any}
 use Rattle.apcu_model.specs.declared.state.State.{State}
 use Rattle.apcu_model.specs.Cache.{Row, Cache, has_key}
 use Rattle.apcu_model.specs.Conf.{IsGood}
-use Rattle.apcu_model.specs.Sequential.{touched}
+use Rattle.apcu_model.specs.Lookups.{touched}
 
 -- no two rows with one key: each row's key differs from those of the rows after it
 abbrev pub are_apart : List Row → Bool

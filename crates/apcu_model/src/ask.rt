@@ -1,3 +1,4 @@
+use crate::generator::Gen;
 use php_graph::Graph;
 
 /// What a worker asks, lent: the requests with their keys and values by reference. Contracts see
@@ -25,6 +26,10 @@ pub enum Ask<'a> {
         expect: i64,
         set: i64,
     },
+    Entry(&'a Gen),
     Clear,
+    KeyInfo(&'a [u8]),
+    CacheInfo(bool),
+    SmaInfo(bool),
     Retire,
 }

@@ -6,8 +6,11 @@ ghost use Rattle.apcu_model.specs.declared.request.Request.{Request};
 ghost use Rattle.apcu_model.specs.Cache.{Row, Cache};
 ghost use Rattle.apcu_model.specs.Change.{AreAlike, ForgetsCounts, KeepsCounts, is_expunged};
 ghost use Rattle.apcu_model.specs.Change.{with_room, with_row};
+ghost use Rattle.apcu_model.specs.Generators.{entered};
 ghost use Rattle.apcu_model.specs.History.{IsNumbered, Stage, after_event, after_events, all_legal};
-ghost use Rattle.apcu_model.specs.History.{held_places, is_legal_mask, mark_of, marks_of, stage_of};
+ghost use Rattle.apcu_model.specs.History.{are_shallow, held_places, is_legal_mask, is_shallow};
+ghost use Rattle.apcu_model.specs.History.{mark_of, marks_of, stage_of};
+ghost use Rattle.apcu_model.specs.Levels.{Generator};
 ghost use Rattle.apcu_model.specs.Rows.{are_apart};
 ghost use Rattle.apcu_model.specs.Sequential.{cache_after, reply_to};
 ghost use Rattle.apcu_model.specs.Walk.{in_slot_order, slot_of};
@@ -56,13 +59,15 @@ pub fn held_alike()
     ensures reply { (held other : List ℕ) → AreAlike held other
         → (t : ℕ) (request : Request) (c : Cache)
         → reply_to held t request c ≡ reply_to other t request c }
+    ensures entered { (held other : List ℕ) → AreAlike held other
+        → (g : Generator) (t : ℕ) (c : Cache) → entered held g t c ≡ entered other g t c }
 {}
 
-/// After at most 2^22 events rows and removed rows of one number have one place, and each worker
+/// After at most 2^22 events, each of at most eight insertions, rows and removed rows of one number have one place, and each worker
 /// has one window.
 pub fn numbered()
     ensures { (conf : Conf) (history : List Event) → length history ≤ 4194304
-        → IsNumbered (stage_of conf history) }
+        → are_shallow history ≡ true → IsNumbered (stage_of conf history) }
 {}
 
 /// What comes of one event more.
@@ -73,6 +78,8 @@ pub fn one_event_more()
         → all_legal workers m (events ++ e ∷ [])
         ≡ (all_legal workers m events
         && is_legal_mask workers e.worker (after_events m events) e.mask) }
+    ensures shallow { (events : List Event) (e : Event)
+        → are_shallow (events ++ e ∷ []) ≡ (are_shallow events && is_shallow e.request) }
     ensures marks { (events : List Event) (e : Event)
         → marks_of (events ++ e ∷ []) ≡ marks_of events ++ mark_of e ∷ [] }
 {}

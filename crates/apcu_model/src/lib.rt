@@ -6,27 +6,36 @@ mod conf;
 mod counts;
 mod entry;
 mod event;
+mod generating;
+mod generator;
+mod infos;
 mod integers;
 mod journal;
 mod keys;
 mod laws;
+mod noted;
 mod pairs;
 mod plain;
 mod request;
 mod rows;
 mod state;
+mod tables;
+mod telling;
 mod value;
 
 pub use ask::Ask;
 pub use conf::Conf;
 pub use counts::Counts;
 pub use event::Event;
+pub use generator::{Gen, GenKind};
 pub use journal::{Journal, Mark};
 pub use keys::Keys;
 pub use laws::{
     count_laws, held_alike, numbered, one_event_more, order_single, rows_stay_apart, works_alone,
 };
+pub use noted::{ListedRow, Noted};
 pub use pairs::Pairs;
 pub use plain::Plain;
 pub use request::{Reply, Request, StoreAnswer};
+pub use tables::{tell_cache, tell_counts, tell_gaps, tell_key, tell_words};
 pub use value::integer;

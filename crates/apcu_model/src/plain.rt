@@ -57,13 +57,7 @@ impl Plain {
     pub fn counts(&self) -> Counts
         ensures { result ≡ counts_of self.now }
     {
-        Counts {
-            hits: self.state.hits,
-            misses: self.state.misses,
-            inserts: self.state.inserts,
-            expunges: self.state.expunges,
-            entries: self.state.rows.len() as u64,
-        }
+        self.state.counts()
     }
 
     /// Answers a request at the time `t`, in seconds. Where memory is missing, nothing changed.
@@ -96,6 +90,13 @@ impl Plain {
                 self.clear();
                 Ok(Reply::Flag(true))
             }
+            Request::Entry(generator) => Ok(Reply::Gave(self.state.enter(generator, t)?)),
+            Request::KeyInfo(key) => match self.state.key_info(key.as_slice(), t)? {
+                Some(info) => Ok(Reply::Info(info)),
+                None => Ok(Reply::Absent),
+            },
+            Request::CacheInfo(limited) => Ok(Reply::Info(self.state.cache_info(*limited)?)),
+            Request::SmaInfo(limited) => Ok(Reply::Info(self.state.sma_info(*limited)?)),
             Request::Retire => Ok(Reply::Ended),
         }
     }

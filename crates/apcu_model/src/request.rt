@@ -1,4 +1,5 @@
 use crate::ask::Ask;
+use crate::generator::Gen;
 use php_graph::{Bytes, Graph};
 
 /// What a worker asks of the cache. Each request is one event.
@@ -32,8 +33,16 @@ pub enum Request {
         expect: i64,
         set: i64,
     },
+    /// `apcu_entry`, with what gives the value where no row has the key.
+    Entry(Gen),
     /// `apcu_clear_cache`.
     Clear,
+    /// `apcu_key_info`.
+    KeyInfo(Bytes),
+    /// `apcu_cache_info`; limited to its numbers, or with the lists of rows and removed rows.
+    CacheInfo(bool),
+    /// `apcu_sma_info`; limited to its numbers, or with the list of gaps.
+    SmaInfo(bool),
     /// The worker's last event: it asks nothing more.
     Retire,
 }
@@ -71,7 +80,11 @@ impl Request {
                 expect: *expect,
                 set: *set,
             },
+            Request::Entry(generator) => Ask::Entry(generator),
             Request::Clear => Ask::Clear,
+            Request::KeyInfo(key) => Ask::KeyInfo(key.as_slice()),
+            Request::CacheInfo(limited) => Ask::CacheInfo(*limited),
+            Request::SmaInfo(limited) => Ask::SmaInfo(*limited),
             Request::Retire => Ask::Retire,
         }
     }
@@ -90,6 +103,10 @@ pub enum Reply {
     Number(i64),
     /// Nothing was counted: the value is no integer, or a new row finds no place.
     NoNumber,
+    /// The value that a generator gave.
+    Gave(Graph),
+    /// What an information call tells.
+    Info(Graph),
     /// The worker's end.
     Ended,
 }

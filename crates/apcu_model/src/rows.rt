@@ -1,4 +1,5 @@
-ghost use Rattle.std.specs.Prelude.{◌≡◌, ◌<◌, ◌≤◌, ◌&&◌, not, true, false, if◌then◌else◌, length};
+ghost use Rattle.std.specs.Prelude.{◌≡◌, ◌+◌, ◌<◌, ◌≤◌, ◌&&◌, not, true, false, if◌then◌else◌};
+ghost use Rattle.std.specs.Prelude.{length};
 ghost use Rattle.std.specs.Prelude.{map, filter, find, vec_len, vec_capacity, None, Some};
 ghost use Rattle.std.specs.Prelude.{MatchOption, slice_index_or};
 ghost use Rattle.std.specs.List.{list_any};
@@ -104,7 +105,9 @@ pub(crate) fn drop_expired_in(rows: &mut Vec<Entry>, conf: Conf, slot: u64, t: u
 pub(crate) fn put_row(rows: &mut Vec<Entry>, new: Entry)
     requires apart { are_apart rows.old.items ≡ true }
     requires room { vec_len rows.old < vec_capacity rows.old }
-    ensures { rows.new.items ≡ with_row new rows.old.items }
+    ensures items { rows.new.items ≡ with_row new rows.old.items }
+    ensures more { vec_len rows.new ≤ vec_len rows.old + 1 }
+    ensures capacity { vec_capacity rows.new ≡ vec_capacity rows.old }
 {
     match place_of(rows, new.key.as_slice()) {
         Some(i) => rows[i] = new,

@@ -1,14 +1,16 @@
-ghost use Rattle.std.specs.Prelude.{◌≡◌, ℕ, ◌<◌, ◌≤◌, [], is_some, vec_len, vec_capacity};
-ghost use Rattle.std.specs.Prelude.{MatchOption, IfOk, OnOk, OnErr};
+ghost use Rattle.std.specs.Prelude.{◌≡◌, ℕ, ◌+◌, ◌<◌, ◌≤◌, ⊤, true, false, [], is_some};
+ghost use Rattle.std.specs.Prelude.{vec_len, vec_capacity, MatchOption, IfOk, OnOk, OnErr};
 ghost use Rattle.apcu_model.specs.declared.request.Reply.TheVariants.{Absent, Found};
-ghost use Rattle.apcu_model.specs.Cache.{gap_of};
+ghost use Rattle.apcu_model.specs.Cache.{counts_of, gap_of};
 ghost use Rattle.apcu_model.specs.Change.{cleared, deleted, expired_dropped, expunged, inserted};
 ghost use Rattle.apcu_model.specs.Change.{placed, put_in, with_room};
 ghost use Rattle.apcu_model.specs.Expiry.{live_row};
 ghost use Rattle.apcu_model.specs.Rows.{IsValid, cache_in};
-ghost use Rattle.apcu_model.specs.Sequential.{found_in, is_stored, looked_up};
+ghost use Rattle.apcu_model.specs.Lookups.{looked_up};
+ghost use Rattle.apcu_model.specs.Sequential.{found_in, is_stored};
 
 use crate::conf::Conf;
+use crate::counts::Counts;
 use crate::entry::Entry;
 use crate::rows::{
     drop_expired, drop_expired_in, drop_key, list_extents, live_in, put_row, touch_in,
@@ -87,6 +89,7 @@ impl State {
         ensures valid { IsValid self.new }
         ensures less { vec_len self.new.rows ≤ vec_len self.old.rows }
         ensures capacity { vec_capacity self.new.rows ≡ vec_capacity self.old.rows }
+        ensures extents { vec_capacity extents.new ≡ vec_capacity extents.old }
     {
         let place = self.gap(n, extents);
         if place.is_some() {
@@ -108,6 +111,8 @@ impl State {
         ensures cache { cache_in self.new
             ≡ placed [] draft.key draft.graph draft.ttl t draft.size (cache_in self.old) place }
         ensures valid { IsValid self.new }
+        ensures more { vec_len self.new.rows ≤ vec_len self.old.rows + 1 }
+        ensures capacity { vec_capacity self.new.rows ≡ vec_capacity self.old.rows }
     {
         let slot = hash_of(draft.key.as_slice()) % u64::from(self.conf.slots);
         drop_expired_in(&mut self.rows, self.conf, slot, t);
@@ -128,7 +133,32 @@ impl State {
         self.inserts = self.inserts.saturating_add(1);
     }
 
-    // Makes room and puts the row there. Memory is taken before anything changes.
+    // Makes room and puts the row there, where memory for it was taken. Whether it found a place.
+    fn insert_reserved(&mut self, draft: Draft, t: u64, extents: &mut Vec<Extent>) -> bool
+        requires valid { IsValid self.old }
+        requires listed { vec_len self.old.rows ≤ vec_capacity extents.old }
+        requires room { vec_len self.old.rows < vec_capacity self.old.rows }
+        ensures reply { let d = draft in let room = with_room [] d.size t (cache_in self.old) in
+            result
+            ≡ is_stored (put_in [] d.key d.graph d.ttl t d.size room (gap_of room d.size)).answer }
+        ensures after { let d = draft in let room = with_room [] d.size t (cache_in self.old) in
+            cache_in self.new
+            ≡ (put_in [] d.key d.graph d.ttl t d.size room (gap_of room d.size)).cache }
+        ensures valid { IsValid self.new }
+        ensures more { vec_len self.new.rows ≤ vec_len self.old.rows + 1 }
+        ensures capacity { vec_capacity self.new.rows ≡ vec_capacity self.old.rows }
+        ensures extents { vec_capacity extents.new ≡ vec_capacity extents.old }
+    {
+        match self.make_room(draft.size, t, extents) {
+            Some(place) => {
+                self.put(draft, place, t);
+                true
+            }
+            None => false,
+        }
+    }
+
+    // Memory is taken before anything changes.
     fn insert(&mut self, draft: Draft, t: u64) -> Result<bool, AllocError>
         requires { IsValid self.old }
         ensures reply { let d = draft in let room = with_room [] d.size t (cache_in self.old) in
@@ -142,12 +172,19 @@ impl State {
     {
         let mut extents = Vec::with_capacity(self.alloc, self.rows.len())?;
         self.rows.reserve(1)?;
-        match self.make_room(draft.size, t, &mut extents) {
-            Some(place) => {
-                self.put(draft, place, t);
-                Ok(true)
-            }
-            None => Ok(false),
+        Ok(self.insert_reserved(draft, t, &mut extents))
+    }
+
+    // What is counted, and how many rows there are.
+    pub(crate) fn counts(&self) -> Counts
+        ensures { result ≡ counts_of (cache_in self.now) }
+    {
+        Counts {
+            hits: self.hits,
+            misses: self.misses,
+            inserts: self.inserts,
+            expunges: self.expunges,
+            entries: self.rows.len() as u64,
         }
     }
 
@@ -156,6 +193,32 @@ impl State {
         ensures { result ≡ is_some (live_row key.now t (cache_in self.now)) }
     {
         live_in(&self.rows, key, t).is_some()
+    }
+
+    // What is to be inserted: nothing where an empty segment could not take it, or where it is
+    // exclusive and a live row has the key.
+    fn draft(&self, key: Bytes, value: Graph, ttl: u32, exclusive: bool, t: u64) -> Option<Draft>
+        requires { IsValid self.now }
+        ensures refused { let i = inserted [] key value ttl exclusive t (cache_in self.now) in
+            MatchOption result
+            ((is_stored i.answer ≡ false) × (i.cache ≡ cache_in self.now)) (λ d. ⊤) }
+        ensures taken { let i = inserted [] key value ttl exclusive t (cache_in self.now) in
+            MatchOption result ⊤ (λ d. let room = with_room [] d.size t (cache_in self.now) in
+            i ≡ put_in [] d.key d.graph d.ttl t d.size room (gap_of room d.size)) }
+    {
+        let size = block_words(key.as_slice().len() as u64, &value);
+        if u64::from(self.conf.words - self.conf.slots) < size {
+            return None;
+        }
+        if exclusive && self.is_live(key.as_slice(), t) {
+            return None;
+        }
+        Some(Draft {
+            key,
+            graph: value,
+            ttl,
+            size: size as u32,
+        })
     }
 
     // Stores a value, and answers whether it stands in the cache.
@@ -175,20 +238,34 @@ impl State {
         ensures err { OnErr result (cache_in self.new ≡ cache_in self.old) }
         ensures valid { IsValid self.new }
     {
-        let size = block_words(key.as_slice().len() as u64, &value);
-        if u64::from(self.conf.words - self.conf.slots) < size {
-            return Ok(false);
+        match self.draft(key, value, ttl, exclusive, t) {
+            Some(draft) => self.insert(draft, t),
+            None => Ok(false),
         }
-        if exclusive && self.is_live(key.as_slice(), t) {
-            return Ok(false);
+    }
+
+    // Stores a value where no live row has the key, where memory for it was taken.
+    pub(crate) fn add_reserved(
+        &mut self,
+        key: Bytes,
+        value: Graph,
+        ttl: u32,
+        t: u64,
+        extents: &mut Vec<Extent>,
+    )
+        requires valid { IsValid self.old }
+        requires listed { vec_len self.old.rows ≤ vec_capacity extents.old }
+        requires room { vec_len self.old.rows < vec_capacity self.old.rows }
+        ensures after { cache_in self.new
+            ≡ (inserted [] key value ttl true t (cache_in self.old)).cache }
+        ensures valid { IsValid self.new }
+        ensures more { vec_len self.new.rows ≤ vec_len self.old.rows + 1 }
+        ensures capacity { vec_capacity self.new.rows ≡ vec_capacity self.old.rows }
+        ensures extents { vec_capacity extents.new ≡ vec_capacity extents.old }
+    {
+        if let Some(draft) = self.draft(key, value, ttl, true, t) {
+            self.insert_reserved(draft, t, extents);
         }
-        let draft = Draft {
-            key,
-            graph: value,
-            ttl,
-            size: size as u32,
-        };
-        self.insert(draft, t)
     }
 
     // The value that a look-up of the key finds.
@@ -209,6 +286,8 @@ impl State {
         ensures cache { cache_in self.new
             ≡ looked_up key.now t (live_row key.now t (cache_in self.old)) (cache_in self.old) }
         ensures valid { IsValid self.new }
+        ensures len { vec_len self.new.rows ≡ vec_len self.old.rows }
+        ensures capacity { vec_capacity self.new.rows ≡ vec_capacity self.old.rows }
     {
         if self.is_live(key, t) {
             touch_in(&mut self.rows, key, t);

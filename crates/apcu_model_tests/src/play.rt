@@ -199,6 +199,8 @@ pub(crate) enum Call {
     Inc(u8, i64, u32, Option<i64>),
     // from an integer to another
     Cas(u8, i64, i64, bool),
+    // by keys with times to live, from outside in, and the value inside; what it gives
+    Entry([(u8, u32); 3], Value, i64),
     Clear,
     // the number 1 under the keys 1 to 30: they fill 480 words; the first has this ttl
     Fill(u32),
@@ -216,6 +218,44 @@ fn put(
     let value = value_of(rt, pair.alloc, value)?;
     let key = key(pair.alloc, name)?;
     store(rt, pair, key, value, how)
+}
+
+// No key: fewer than three are asked for.
+pub(crate) const NONE: (u8, u32) = (0, 0);
+
+// The generator with these keys from outside in, and their times to live.
+pub(crate) fn generator(alloc: Global, keys: &[(u8, u32)], value: Graph) -> Result<Gen, Fail> {
+    let mut generator = Gen::value(value);
+    for (name, ttl) in keys.iter().rev() {
+        if *name > 0 {
+            let inner = Box::new(alloc, generator)?;
+            generator = Gen::entry(key(alloc, *name)?, *ttl, inner);
+        }
+    }
+    Ok(generator)
+}
+
+fn given(rt: &impl Abort, reply: Reply) -> i64 {
+    match reply {
+        Reply::Gave(value) => number_of(&value),
+        _ => panic!(rt; "an entry is answered by a value"),
+    }
+}
+
+fn enter(
+    rt: &impl Abort,
+    pair: &mut Pair,
+    keys: &[(u8, u32)],
+    value: Value,
+    t: u64,
+) -> Result<i64, Fail> {
+    let value = value_of(rt, pair.alloc, value)?;
+    let request = Request::Entry(generator(pair.alloc, keys, value)?);
+    let told = pair.asked.ask(&request, t)?;
+    let again = pair.lending.ask(&request, t)?;
+    let number = given(rt, told);
+    assert_eq!(rt; given(rt, again), number);
+    Ok(number)
 }
 
 fn fill(rt: &impl Abort, pair: &mut Pair, first: u32, t: u64) -> Result<(), Fail> {
@@ -276,6 +316,10 @@ fn do_call(rt: &impl Abort, pair: &mut Pair, call: Call, t: u64) -> Result<(), F
         | Call::Inc(name, _, _, _)
         | Call::Cas(name, _, _, _) => {
             answer(rt, pair, name, call, t)?;
+        }
+        Call::Entry(keys, value, expected) => {
+            let number = enter(rt, pair, &keys, value, t)?;
+            assert_eq!(rt; number, expected);
         }
         Call::Clear => clear(rt, pair, t)?,
         Call::Fill(ttl) => fill(rt, pair, ttl, t)?,

@@ -1,4 +1,4 @@
-use crate::play::{Call, Value, key, play, small, value_of};
+use crate::play::{Call, NONE, Value, generator, key, play, small, value_of};
 use apcu_model::*;
 use php_graph::Bytes;
 use std::alloc::Global;
@@ -98,6 +98,109 @@ fn swaps_what_is_expected(rt: HostRuntime) -> Result<(), Fail> {
             (111, Call::Counts(2, 0, 2, 0, 2)),
         ],
     )
+}
+
+// The value inside is stored under both keys; then the inner one alone gives it to another key.
+#[test]
+fn enters_what_is_missing(rt: HostRuntime) -> Result<(), Fail> {
+    play(
+        &rt,
+        rt.alloc(),
+        0,
+        &[
+            (100, Call::Entry([(1, 0), (2, 0), NONE], Value::Int(7), 7)),
+            (100, Call::Counts(0, 2, 2, 0, 2)),
+            (100, Call::Fetch(2, Some(7))),
+            (100, Call::Entry([(1, 0), NONE, NONE], Value::Int(8), 7)),
+            (100, Call::Counts(2, 2, 2, 0, 2)),
+            (100, Call::Delete(1, true)),
+            (100, Call::Entry([(1, 0), (2, 0), (3, 0)], Value::Int(9), 7)),
+            (100, Call::Counts(3, 3, 3, 0, 2)),
+            (100, Call::Fetch(1, Some(7))),
+            (100, Call::Exists(3, false)),
+            (100, Call::Entry([NONE, NONE, NONE], Value::Int(5), 5)),
+            (100, Call::Counts(4, 3, 3, 0, 2)),
+        ],
+    )
+}
+
+// Each new row has its own time to live. A key that is there twice is missed twice, and stored
+// once, by the inner entry.
+#[test]
+fn enters_each_level(rt: HostRuntime) -> Result<(), Fail> {
+    play(
+        &rt,
+        rt.alloc(),
+        0,
+        &[
+            (
+                100,
+                Call::Entry([(1, 10), (2, 20), (3, 0)], Value::Int(7), 7),
+            ),
+            (111, Call::Exists(1, false)),
+            (111, Call::Exists(2, true)),
+            (121, Call::Exists(2, false)),
+            (121, Call::Fetch(3, Some(7))),
+            (121, Call::Entry([(2, 0), (3, 0), NONE], Value::Int(8), 7)),
+            (121, Call::Counts(2, 4, 4, 0, 3)),
+            (121, Call::Entry([(4, 0), (4, 10), NONE], Value::Int(9), 9)),
+            (121, Call::Counts(2, 6, 5, 0, 4)),
+            (132, Call::Exists(4, false)),
+        ],
+    )
+}
+
+// A value that can't be stored is given all the same. Of two blocks that do not fit beside each
+// other the outer one is stored last, so it stays; and the misses, counted before, are forgotten.
+#[test]
+fn enters_what_finds_no_place(rt: HostRuntime) -> Result<(), Fail> {
+    play(
+        &rt,
+        rt.alloc(),
+        0,
+        &[
+            (
+                100,
+                Call::Entry([(1, 0), NONE, NONE], Value::Text(3_729), -1),
+            ),
+            (100, Call::Exists(1, false)),
+            (100, Call::Counts(0, 1, 0, 0, 0)),
+            (
+                100,
+                Call::Entry([(1, 0), (2, 0), NONE], Value::Text(2_000), -1),
+            ),
+            (100, Call::Exists(1, true)),
+            (100, Call::Exists(2, false)),
+            (100, Call::Counts(0, 0, 1, 1, 1)),
+            (100, Call::Clear),
+            (100, Call::Fill(0)),
+            (100, Call::Entry([(31, 0), (32, 0), NONE], Value::Int(7), 7)),
+            (100, Call::Counts(0, 0, 2, 1, 2)),
+        ],
+    )
+}
+
+// A generator tells how many entries it has, and a request lends it.
+#[test]
+fn tells_its_entries(rt: HostRuntime) -> Result<(), Fail> {
+    let alloc = rt.alloc();
+    let value = value_of(&rt, alloc, Value::Int(7))?;
+    let request = Request::Entry(generator(alloc, &[(1, 0), (2, 5)], value)?);
+    match request.lent() {
+        Ask::Entry(generator) => {
+            assert_eq!(rt; generator.entries(), 2);
+            match generator.kind() {
+                GenKind::Entry(key, ttl, inner) => {
+                    assert_eq!(rt; key.as_slice(), b"k01".as_slice());
+                    assert_eq!(rt; *ttl, 0);
+                    assert_eq!(rt; inner.entries(), 1);
+                }
+                GenKind::Value(_) => panic!(rt; "it has two entries"),
+            }
+        }
+        _ => panic!(rt; "an entry is lent as an entry"),
+    }
+    Ok(())
 }
 
 #[test]

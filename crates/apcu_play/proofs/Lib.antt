@@ -2,4 +2,3 @@ pub mod Masks
 pub mod Written
 pub mod Telling
 pub mod Whole
-pub mod ProgramWords

@@ -1,4 +1,3 @@
 pub mod Output
 pub mod Message
-pub mod Options
 pub mod Run

@@ -3,7 +3,6 @@
 #![tactic(auto)]
 
 mod messages;
-mod options;
 mod play;
 mod printing;
 mod running;

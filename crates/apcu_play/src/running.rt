@@ -1,18 +1,18 @@
-ghost use Rattle.std.specs.Prelude.{◌≡◌, ◌≢◌, ◌↔◌, ◌⊎◌, ◌+◌, ◌<◌, ◌≤◌, ℕ, List, length, Some, None, IfOk, IfErr, IfSome, OnErr, IsErrOf, Err};
+ghost use Rattle.std.specs.Prelude.{◌≡◌, ◌≢◌, ◌⊎◌, ◌+◌, ◌<◌, ◌≤◌, ℕ, List, length, Some, None, IfOk, IfErr, IfSome, OnErr, IsErrOf, Err};
 ghost use Rattle.std.specs.Io.KnownBytes.{prepend_known, append_known, IsAtEnd};
 ghost use Rattle.io_edges.specs.Faults.{Rose};
 ghost use Rattle.io_edges.specs.Reading.{HasTaken};
 ghost use Rattle.apcu_model.specs.Conf.{IsGood};
 ghost use Rattle.script_read.specs.Gives.{IsFirstScriptFault, ReadsScripts};
 ghost use Rattle.apcu_play.specs.Message.{message_of, script_message};
-ghost use Rattle.apcu_play.specs.Options.{conf_of};
-ghost use Rattle.apcu_play.specs.Run.{longest_input, WasRead, AnswersInput, Replays, ReplaysPart, IsRefusedAt, IsRefused, IsCrowded, TellsMessage, TellsRefusal, Completes};
+ghost use Rattle.conf_read.specs.Options.{conf_of};
+ghost use Rattle.apcu_play.specs.Run.{longest_input, WasRead, AnswersInput, Replays, ReplaysPart, IsRefusedAt, IsRefused, IsCrowded, TellsMessage, TellsRefusal, IsUnlessMemory, Completes};
 
 use crate::messages::{tell, tell_fault};
-use crate::options::told_conf;
 use crate::play::play;
 use crate::status::Status;
 use apcu_model::Conf;
+use conf_read::{ConfFault, read_conf};
 use crew_play::CrewFault;
 use io_edges::{Gate, ReadError, Sink, Source, read_all, write_all};
 use notation::{ByteOut, Reason};
@@ -171,7 +171,8 @@ fn outcome<R: Threads + Wait + Sync, S: Source, K: Sink, G: Gate + Sync>(
 ) -> Ending
     ensures replayed { IfSome (conf_of words.now) (λ conf. result.status ≡ Status.Done
         → Replays conf (S.left input.old) (S.left input.new) (K.held out.old) (K.held out.new)) }
-    ensures usage { (result.status ≡ Status.Usage) ↔ (conf_of words.now ≡ None) }
+    ensures usage { result.status ≡ Status.Usage → conf_of words.now ≡ None }
+    ensures faulty_words { conf_of words.now ≡ None → IsUnlessMemory Status.Usage result.status }
     ensures script { result.status ≡ Status.Script
         → IsRefusedAt (S.left input.old) (S.left input.new) result.place result.reason }
     ensures too_many { IfSome (conf_of words.now) (λ conf. result.status ≡ Status.TooMany
@@ -190,9 +191,10 @@ fn outcome<R: Threads + Wait + Sync, S: Source, K: Sink, G: Gate + Sync>(
     ensures unchanged { result.status ≢ Status.Done → result.status ≢ Status.WriteFault
         → (K.held out.new ≡ K.held out.old) × (K.faults out.new ≡ K.faults out.old) }
 {
-    match told_conf(words) {
-        Some(conf) => outcome_on(rt, alloc, &conf, input, out, gate),
-        None => Ending::of(Status::Usage),
+    match read_conf(alloc, words) {
+        Ok(conf) => outcome_on(rt, alloc, &conf, input, out, gate),
+        Err(ConfFault::Usage) => Ending::of(Status::Usage),
+        Err(ConfFault::Memory) => Ending::of(Status::NoMemory),
     }
 }
 
@@ -244,7 +246,8 @@ pub fn run<R: Threads + Wait + Sync, S: Source, K: Sink, E: Sink, G: Gate + Sync
         → Replays conf (S.left input.old) (S.left input.new) (K.held out.old) (K.held out.new)) }
 
     // Each other status, and when it comes.
-    ensures usage { (result ≡ Status.Usage) ↔ (conf_of words.now ≡ None) }
+    ensures usage { result ≡ Status.Usage → conf_of words.now ≡ None }
+    ensures faulty_words { conf_of words.now ≡ None → IsUnlessMemory Status.Usage result }
     ensures script { result ≡ Status.Script → IsRefused (S.left input.old) (S.left input.new) }
     ensures too_many { IfSome (conf_of words.now) (λ conf. result ≡ Status.TooMany
         → IsCrowded conf (S.left input.old) (S.left input.new)) }

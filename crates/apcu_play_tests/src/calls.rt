@@ -115,3 +115,43 @@ fn a_row_expires(rt: HostRuntime) -> Result<(), Fail> {
     let printed = b"b:1;\ni:1;b:1;\nb:0;b:0;\nb:1;\nb:0;\n";
     expect_lines(&rt, rt.alloc(), "0", script, printed, 6)
 }
+
+// What a generator gives is stored under each key that was missed, inner first.
+#[test]
+fn entries(rt: HostRuntime) -> Result<(), Fail> {
+    let script = b"worker\n\
+        apcu_entry s:2:\"k1\"; (apcu_entry s:2:\"k2\"; (i:7;))\n\
+        apcu_fetch s:2:\"k2\";\n\
+        apcu_entry s:2:\"k1\"; (i:8;)\n";
+    expect_lines(&rt, rt.alloc(), "0", script, b"i:7;\ni:7;b:1;\ni:7;\n", 4)
+}
+
+#[test]
+fn information(rt: HostRuntime) -> Result<(), Fail> {
+    let script = b"worker\n\
+        time i:100;\n\
+        apcu_store s:1:\"a\"; i:1; i:10;\n\
+        time i:105;\n\
+        apcu_fetch s:1:\"a\";\n\
+        apcu_key_info s:1:\"a\";\n\
+        apcu_key_info s:1:\"x\";\n\
+        apcu_cache_info b:0;\n\
+        apcu_sma_info b:1;\n\
+        time i:111;\n\
+        apcu_key_info s:1:\"a\";\n";
+    let printed = b"b:1;\n\
+        i:1;b:1;\n\
+        a:6:{s:4:\"hits\";i:1;s:11:\"access_time\";i:105;s:5:\"mtime\";i:100;\
+        s:13:\"creation_time\";i:100;s:13:\"deletion_time\";i:0;s:3:\"ttl\";i:10;}\n\
+        N;\n\
+        a:10:{s:9:\"num_slots\";i:32;s:3:\"ttl\";i:0;s:8:\"num_hits\";i:1;\
+        s:10:\"num_misses\";i:0;s:11:\"num_inserts\";i:1;s:11:\"num_entries\";i:1;\
+        s:8:\"expunges\";i:0;s:8:\"mem_size\";i:128;\
+        s:10:\"cache_list\";a:1:{i:0;a:8:{s:4:\"info\";s:1:\"a\";s:3:\"ttl\";i:10;\
+        s:8:\"num_hits\";i:1;s:5:\"mtime\";i:100;s:13:\"creation_time\";i:100;\
+        s:13:\"deletion_time\";i:0;s:11:\"access_time\";i:105;s:8:\"mem_size\";i:128;}}\
+        s:12:\"deleted_list\";a:0:{}}\n\
+        a:3:{s:7:\"num_seg\";i:1;s:8:\"seg_size\";i:4096;s:9:\"avail_mem\";i:3712;}\n\
+        N;\n";
+    expect_lines(&rt, rt.alloc(), "0", script, printed, 8)
+}

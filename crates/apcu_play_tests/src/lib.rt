@@ -6,6 +6,8 @@ mod calls;
 #[cfg(test)]
 mod counting;
 #[cfg(test)]
+mod differences;
+#[cfg(test)]
 mod faults;
 #[cfg(test)]
 mod options;

@@ -82,6 +82,32 @@ fn what_a_small_segment_holds(rt: HostRuntime) -> Result<(), Fail> {
     Ok(())
 }
 
+// A value that is too large to be stored is given all the same.
+#[test]
+fn an_entry_that_does_not_fit(rt: HostRuntime) -> Result<(), Fail> {
+    use Piece::{Text, Zs};
+    let script = script_of(
+        rt.alloc(),
+        &[
+            Text(b"apcu_entry s:1:\"k\"; (s:3729:\""),
+            Zs(3729),
+            Text(b"\";)\napcu_exists s:1:\"k\";\n"),
+        ],
+    )?;
+    let mut wanted = ByteOut::new(rt.alloc());
+    wanted.push(b"s:3729:\"")?;
+    push_zs(&mut wanted, 3729)?;
+    wanted.push(b"\";\nb:0;\n")?;
+    expect_lines(
+        &rt,
+        rt.alloc(),
+        "0",
+        script.as_slice(),
+        wanted.as_slice(),
+        3,
+    )
+}
+
 // Three large rows; these lines, which delete the first two; and a row that takes both their places.
 fn in_the_place_of_two(alloc: Global, deletions: &'static [u8]) -> Result<ByteOut, Fail> {
     use Piece::{Text, Zs};
@@ -148,6 +174,19 @@ fn a_full_segment_makes_room(rt: HostRuntime) -> Result<(), Fail> {
             b"b:1;\nb:0;b:0;\na:1:{s:3:\"k31\";b:1;}\n".as_slice(),
             36,
         ),
+        (
+            "0",
+            b"",
+            b"apcu_store s:3:\"k31\"; i:1;\napcu_cache_info b:1;\napcu_sma_info b:0;\n",
+            b"b:1;\n\
+            a:8:{s:9:\"num_slots\";i:32;s:3:\"ttl\";i:0;s:8:\"num_hits\";i:0;\
+            s:10:\"num_misses\";i:0;s:11:\"num_inserts\";i:1;s:11:\"num_entries\";i:1;\
+            s:8:\"expunges\";i:1;s:8:\"mem_size\";i:128;}\n\
+            a:4:{s:7:\"num_seg\";i:1;s:8:\"seg_size\";i:4096;s:9:\"avail_mem\";i:3712;\
+            s:11:\"block_lists\";a:1:{i:0;a:1:{i:0;a:2:{s:4:\"size\";i:3712;\
+            s:6:\"offset\";i:384;}}}}\n",
+            34,
+        ),
         // One row is expired, and goes alone.
         (
             "10",
@@ -156,9 +195,13 @@ fn a_full_segment_makes_room(rt: HostRuntime) -> Result<(), Fail> {
             apcu_store s:3:\"k31\"; i:1;\n\
             apcu_fetch s:3:\"k02\";\n\
             apcu_fetch s:3:\"k01\";\n\
-            apcu_exists a:3:{i:0;s:3:\"k03\";i:1;s:3:\"k30\";i:2;s:3:\"k31\";}\n",
-            b"b:1;\ni:1;b:1;\nb:0;b:0;\na:3:{s:3:\"k03\";b:1;s:3:\"k30\";b:1;s:3:\"k31\";b:1;}\n",
-            37,
+            apcu_exists a:3:{i:0;s:3:\"k03\";i:1;s:3:\"k30\";i:2;s:3:\"k31\";}\n\
+            apcu_cache_info b:1;\n",
+            b"b:1;\ni:1;b:1;\nb:0;b:0;\na:3:{s:3:\"k03\";b:1;s:3:\"k30\";b:1;s:3:\"k31\";b:1;}\n\
+            a:8:{s:9:\"num_slots\";i:32;s:3:\"ttl\";i:10;s:8:\"num_hits\";i:1;\
+            s:10:\"num_misses\";i:1;s:11:\"num_inserts\";i:31;s:11:\"num_entries\";i:30;\
+            s:8:\"expunges\";i:0;s:8:\"mem_size\";i:3840;}\n",
+            38,
         ),
     ] {
         let script = behind_thirty(alloc, first, lines)?;

@@ -116,27 +116,36 @@ core_cleared laws old new {before} {after} t whole sound drops conf tally later 
     }) in
     (same, whole_made new gone e same)
 
--- and once it was used
-pub core_touched : (old new : Core) {words windows : List ℕ} (key : List ℕ) (t at : ℕ) (row : Row) → entries old.slots ≡ entries_of (cache_of old) → IsOld (entries old.slots) key at → IsSound (entries old.slots) words windows
-    → entries new.slots ≡ touched_in at t (entries old.slots) → new.conf ≡ old.conf → new.tally ≡ record old.tally { hits = risen old.tally.hits } → live_row key t (cache_of old) ≡ Some row
-    → (cache_of new ≡ looked_up key t (live_row key t (cache_of old)) (cache_of old)) × (entries new.slots ≡ entries_of (cache_of new))
-core_touched old new key t at row whole o sound now conf tally live =
-    let s = entries old.slots in
-    let c = cache_of old in
-    let used : Cache = record c { rows = map {A = Row} (λ r. if has_key key r then touched t r else r) c.rows; hits = risen c.hits } in
-    let e : entries new.slots ≡ entries_of used =
-    now
-    ∙ (ap (λ (l : List Row). let x : Entries = record s { rows = l } in x) (touched_keyed key at t o sound)
-    ∙ ap (λ (y : Entries). let x : Entries = record y { rows = map {A = Row} (λ r. if has_key key r then touched t r else r) c.rows } in x) whole) in
-    let same : cache_of new ≡ used = cache_made new used e conf (record {
+-- a core's cache once the row at a place was used
+abbrev pub used_at : ℕ → ℕ → Cache → Cache
+used_at at t c = record c { rows = map {A = Row} {B = Row} (touched_row at t) c.rows; hits = risen c.hits }
+
+pub core_used : (old new : Core) (at t : ℕ) → entries old.slots ≡ entries_of (cache_of old) → entries new.slots ≡ touched_in at t (entries old.slots) → new.conf ≡ old.conf → new.tally ≡ record old.tally { hits = risen old.tally.hits }
+    → (cache_of new ≡ used_at at t (cache_of old)) × (entries new.slots ≡ entries_of (cache_of new))
+core_used old new at t whole now conf tally =
+    let d : Cache = used_at at t (cache_of old) in
+    let e : entries new.slots ≡ entries_of d = now ∙ ap (λ (y : Entries). touched_in at t y) whole in
+    let same : cache_of new ≡ d = cache_made new d e conf (record {
       hits = ap (λ (x : Tally). x.hits) tally;
       misses = ap (λ (x : Tally). x.misses) tally;
       inserts = ap (λ (x : Tally). x.inserts) tally;
       expunges = ap (λ (x : Tally). x.expunges) tally;
-    }) in (
-      same ∙ ap (λ (r : Option Row). looked_up key t r c) (sym live),
-      whole_made new used e same,
-    )
+    }) in
+    (same, whole_made new d e same)
+
+-- that is the one of the key
+pub used_keyed : (old : Core) {words windows : List ℕ} (key : List ℕ) (at t : ℕ) (row : Row) → IsOld (entries old.slots) key at → IsSound (entries old.slots) words windows
+    → used_at at t (cache_of old) ≡ looked_up key t (Some row) (cache_of old)
+used_keyed old key at t row o sound =
+    ap (λ (l : List Row). let x : Cache = record (cache_of old) { rows = l; hits = risen (cache_of old).hits } in x) (touched_keyed key at t o sound)
+
+-- so it is once a look-up found it
+pub core_touched : (old new : Core) {words windows : List ℕ} (key : List ℕ) (t at : ℕ) (row : Row) → entries old.slots ≡ entries_of (cache_of old) → IsOld (entries old.slots) key at → IsSound (entries old.slots) words windows
+    → entries new.slots ≡ touched_in at t (entries old.slots) → new.conf ≡ old.conf → new.tally ≡ record old.tally { hits = risen old.tally.hits } → live_row key t (cache_of old) ≡ Some row
+    → (cache_of new ≡ looked_up key t (live_row key t (cache_of old)) (cache_of old)) × (entries new.slots ≡ entries_of (cache_of new))
+core_touched old new key t at row whole o sound now conf tally live =
+    let used = core_used old new at t whole now conf tally in
+    (used.0 ∙ (used_keyed old key at t row o sound ∙ ap (λ (r : Option Row). looked_up key t r (cache_of old)) (sym live)), used.1)
 
 -- a core's cache once the row at a place holds an integer that was set
 abbrev pub numbered : ℕ → ℤ → ℕ → Cache → Cache

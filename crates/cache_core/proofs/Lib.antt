@@ -6,3 +6,5 @@ pub mod Insertions
 pub mod Keyed
 pub mod Adding
 pub mod Tags
+pub mod Spotting
+pub mod Rising

@@ -1,9 +1,10 @@
 -- What the words of a segment and a core stand for.
-use Rattle.std.specs.Prelude.{◌≡◌}
+use Rattle.std.specs.Prelude.{◌≡◌, ℕ, List}
+use Rattle.seg_words.specs.Windows.{Aside}
 use Rattle.seg_words.specs.declared.segment.WordsIn.{Ghosts}
 use Rattle.apcu_model.specs.Cache.{Cache}
 use Rattle.entry_slots.specs.Entries.{entries_of}
-use Rattle.entry_slots.specs.Standing.{Stand, entries}
+use Rattle.entry_slots.specs.Standing.{Stand, Stands, entries}
 use Rattle.cache_core.specs.declared.cache.Core.{Core}
 
 -- the cache that a core keeps
@@ -22,4 +23,9 @@ cache_of core = record {
 -- The words stand for it: no block is loose, and the shape is that of the words.
 pub record CacheStands {X R : Type 0} (g : Ghosts X R) (core : Core) (seg : X) : Type 0 where
   pub stand : Stand g core.slots seg
+  pub whole : entries core.slots ≡ entries_of (cache_of core)
+
+-- So do words alone, with what is kept beside them.
+pub record CoreStands (core : Core) (words : List ℕ) (aside : Aside) : Type 0 where
+  pub stand : Stands core.slots words aside (entries core.slots)
   pub whole : entries core.slots ≡ entries_of (cache_of core)

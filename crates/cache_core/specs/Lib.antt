@@ -5,3 +5,5 @@ pub mod Caching
 pub mod Lending
 pub mod Storing
 pub mod Integers
+pub mod Spots
+pub mod Noting

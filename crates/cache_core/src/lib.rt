@@ -6,6 +6,7 @@ mod dropping;
 mod integers;
 mod looking;
 mod lower;
+mod noting;
 mod placing;
 mod scalar;
 mod storing;

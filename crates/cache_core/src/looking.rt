@@ -8,7 +8,7 @@ ghost use Rattle.apcu_model.specs.Expiry.{live_row, is_hard_expired};
 ghost use Rattle.apcu_model.specs.Sequential.{looked_up};
 ghost use Rattle.apcu_model.specs.Walk.{slot_of};
 ghost use Rattle.entry_slots.specs.declared.head.Head.{Head};
-ghost use Rattle.entry_slots.specs.Spots.{IsSpot};
+ghost use Rattle.entry_slots.specs.Spots.{IsSpot, IsSpotOf};
 ghost use Rattle.entry_slots.specs.Standing.{entries};
 ghost use Rattle.cache_core.specs.Caching.{cache_of, CacheStands};
 ghost use Rattle.cache_core.specs.Looking.{look_at, look_of, IsFound};
@@ -65,6 +65,36 @@ impl Core {
         Some((at, head))
     }
 
+    // Where the row of the key stands or a new one would, and what its first words say if a look-up
+    // finds it; `slot` is the key's.
+    fn seek_row<S: Segment>(
+        &self,
+        seg: &mut S,
+        key: &[u8],
+        slot: u32,
+        t: u64,
+    ) -> (Spot, Option<Head>)
+        requires short { length key.now < 2 ^ 32 }
+        requires slot { slot ≡ slot_of self.now.conf key.now }
+        requires stand { CacheStands S.WordsIn self.now seg.old }
+        ensures spot { IsSpotOf (entries self.now.slots) key.now t result.0 }
+        ensures found { IfSome result.1 (λ head.
+            IsFound S.WordsIn seg.old key.now t (cache_of self.now) result.0.at head) }
+        ensures none { IfNone result.1 (live_row key.now t (cache_of self.now) ≡ None) }
+        ensures kept { Kept S.WordsIn seg.old seg.new }
+    {
+        standing_laws();
+        let spot = self.slots.seek(seg, key, slot, self.conf.ttl, t);
+        if spot.at == 0 {
+            return (spot, None);
+        }
+        let head = self.slots.head(seg, spot.at);
+        if is_over(head, t) {
+            return (spot, None);
+        }
+        (spot, Some(head))
+    }
+
     // Where the row stands that a look-up of the key finds; `slot` is the key's.
     pub(crate) fn find_spot<S: Segment>(
         &self,
@@ -82,27 +112,35 @@ impl Core {
         ensures none { IfNone result (live_row key.now t (cache_of self.now) ≡ None) }
         ensures kept { Kept S.WordsIn seg.old seg.new }
     {
-        standing_laws();
-        let spot = self.slots.seek(seg, key, slot, self.conf.ttl, t);
-        if spot.at == 0 {
-            return None;
+        let (spot, found) = self.seek_row(seg, key, slot, t);
+        match found {
+            Some(_) => Some(spot),
+            None => None,
         }
-        let head = self.slots.head(seg, spot.at);
-        if is_over(head, t) {
-            return None;
-        }
-        Some(spot)
     }
 
-    // Whether a look-up of the key finds a row; `slot` is the key's.
-    pub(crate) fn exists_in<S: Segment>(&self, seg: &mut S, key: &[u8], slot: u32, t: u64) -> bool
+    // Where a new row of the key would stand, unless a look-up finds one; `slot` is the key's.
+    pub(crate) fn new_spot<S: Segment>(
+        &self,
+        seg: &mut S,
+        key: &[u8],
+        slot: u32,
+        t: u64,
+    ) -> Option<Spot>
         requires short { length key.now < 2 ^ 32 }
         requires slot { slot ≡ slot_of self.now.conf key.now }
         requires stand { CacheStands S.WordsIn self.now seg.old }
-        ensures found { result ≡ is_some (live_row key.now t (cache_of self.now)) }
+        ensures spot { IfSome result (λ spot.
+            IsSpotOf (entries self.now.slots) key.now t spot) }
+        ensures some { IfSome result (λ spot. live_row key.now t (cache_of self.now) ≡ None) }
+        ensures none { IfNone result (is_some (live_row key.now t (cache_of self.now)) ≡ true) }
         ensures kept { Kept S.WordsIn seg.old seg.new }
     {
-        self.find_spot(seg, key, slot, t).is_some()
+        let (spot, found) = self.seek_row(seg, key, slot, t);
+        match found {
+            Some(_) => None,
+            None => Some(spot),
+        }
     }
 
     /// Whether a look-up of the key at the moment `t`, in seconds, finds a row. Nothing is counted.

@@ -5,8 +5,10 @@ ghost use Rattle.apcu_model.specs.Walk.{slot_of};
 ghost use Rattle.entry_slots.specs.Entries.{block_for};
 ghost use Rattle.entry_slots.specs.Spots.{IsSpotOf};
 ghost use Rattle.entry_slots.specs.Standing.{Stand, entries};
-ghost use Rattle.ttl_expunge.specs.Held.{AreRemoved};
+ghost use Rattle.ttl_expunge.specs.Dropping.{expired_in};
+ghost use Rattle.ttl_expunge.specs.Held.{AreRemoved, Drops};
 ghost use Rattle.cache_core.specs.Placing.{Replaces, Puts};
+ghost use Rattle.cache_core.specs.Spots.{IsSpotIfAny};
 
 use crate::lower::lower_laws;
 use entry_slots::{EntrySlots, Spot};
@@ -51,14 +53,48 @@ fn replace<S: Segment>(
     }
 }
 
+// Drops the expired rows of a key's slot, and finds where the row of the key stands then. The spot,
+// if it was found before, is where it stands now.
+fn spot_swept<S: Segment>(
+    slots: &mut EntrySlots,
+    seg: &mut S,
+    key: &[u8],
+    slot: u32,
+    spot: Option<Spot>,
+    limit: u32,
+    t: u64,
+) -> Spot
+    requires stand { Stand S.WordsIn slots.old seg.old }
+    requires short { length key.now < 2 ^ 32 }
+    requires slot { slot ≡ slot_of (entries slots.old).conf key.now }
+    requires spot { IsSpotIfAny (entries slots.old) key.now t spot }
+    requires limit { limit ≡ (entries slots.old).conf.ttl }
+    requires refused { AreRemoved (S.aside seg.old) (entries slots.old).removed }
+    ensures drops { Drops (entries slots.old) (entries slots.new)
+        (S.aside seg.old) (S.aside seg.new) t (expired_in t slot (entries slots.old)) }
+    ensures spot { IsSpotOf (entries slots.new) key.now t result }
+    ensures stand { Stand S.WordsIn slots.new seg.new }
+    ensures rest { S.rest seg.new ≡ S.rest seg.old }
+{
+    let Some(spot) = spot else {
+        return seek_swept(slots, seg, key, slot, limit, t);
+    };
+    if !slots.has_expired(seg, spot, limit, t) {
+        return spot;
+    }
+    seek_swept(slots, seg, key, slot, limit, t)
+}
+
 // A new row in the block at `at`, which was taken for it: the expired rows of its slot are dropped,
-// and so is the row of its key, in whose place it stands. `limit` is the cache's time limit.
+// and so is the row of its key, in whose place it stands. The spot of the key may have been found
+// before. `limit` is the cache's time limit.
 pub(crate) fn put_in<S: Segment>(
     slots: &mut EntrySlots,
     seg: &mut S,
     at: u32,
     key: &[u8],
     slot: u32,
+    spot: Option<Spot>,
     g: &Graph,
     ttl: u32,
     limit: u32,
@@ -67,6 +103,7 @@ pub(crate) fn put_in<S: Segment>(
     requires stand { Stand S.WordsIn slots.old seg.old }
     requires short { length key.now < 2 ^ 32 }
     requires slot { slot ≡ slot_of (entries slots.old).conf key.now }
+    requires spot { IsSpotIfAny (entries slots.old) key.now t spot }
     requires limit { limit ≡ (entries slots.old).conf.ttl }
     requires taken { Contains (entries slots.old).taken (block_for at key.now g.now) }
     requires refused { AreRemoved (S.aside seg.old) (entries slots.old).removed }
@@ -76,6 +113,6 @@ pub(crate) fn put_in<S: Segment>(
     ensures rest { S.rest seg.new ≡ S.rest seg.old }
 {
     lower_laws();
-    let spot = seek_swept(slots, seg, key, slot, limit, t);
+    let spot = spot_swept(slots, seg, key, slot, spot, limit, t);
     replace(slots, seg, at, key, g, ttl, t, spot);
 }

@@ -1,7 +1,7 @@
 //! Storing.
 
 ghost use Rattle.std.specs.Prelude.{◌≡◌, ◌≢◌, ℕ, ◌<◌, ◌^◌, ◌-◌, ◌&&◌, nat_lt, false, List};
-ghost use Rattle.std.specs.Prelude.{length, is_some, IfSome, IfNone};
+ghost use Rattle.std.specs.Prelude.{length, ◌==◌, None, if◌then◌else◌, IfOk, IfErr, OnOk};
 ghost use Rattle.seg_words.specs.Kept.{Kept};
 ghost use Rattle.seg_words.specs.Windows.{Aside, has, held_blocks};
 ghost use Rattle.seg_words.specs.Probing.{Goes};
@@ -13,12 +13,14 @@ ghost use Rattle.entry_slots.specs.Standing.{entries};
 ghost use Rattle.ttl_expunge.specs.Held.{AreRemoved, AreHeld, KeepsOpen};
 ghost use Rattle.cache_core.specs.Caching.{cache_of, CacheStands};
 ghost use Rattle.cache_core.specs.Storing.{added, IsEarly};
+ghost use Rattle.cache_core.specs.Spots.{IsSpotIfAny, HaveSameRows};
 ghost use Rattle.apcu_model.specs.declared.request.StoreAnswer.TheVariants as answers;
 
 use crate::cache::Core;
 use crate::lower::lower_laws;
 use crate::placing::put_in;
 use apcu_model::StoreAnswer;
+use entry_slots::Spot;
 use php_graph::{Graph, block_words};
 use seg_words::{Segment, WordsIn};
 use ttl_expunge::{make_room_next, sweep_removed};
@@ -55,16 +57,19 @@ impl Core {
         ensures refused { AreRemoved (S.aside seg.new) (cache_of self.new).removed }
         ensures held { result ≢ answers.TooLarge → result ≢ answers.Exists
             → AreHeld (S.aside seg.new) (cache_of self.new).removed }
+        ensures kept { IsEarly result → Kept S.WordsIn seg.old seg.new }
         ensures stand { CacheStands S.WordsIn self.new seg.new }
         ensures rest { S.rest seg.new ≡ S.rest seg.old }
     {
         lower_laws();
         let slot = self.slots.slot_of_key(key);
-        if let Some(answer) = self.refusal(seg, key, slot, g, exclusive, t) {
-            return answer;
+        match self.seek_new(seg, key, slot, g, exclusive, t) {
+            Err(answer) => answer,
+            Ok(spot) => {
+                self.sweep(seg);
+                self.add(seg, key, slot, spot, g, ttl, t)
+            }
         }
-        self.sweep(seg);
-        self.add(seg, key, slot, g, ttl, t)
     }
 
     /// Stores a value as `store` does, after an insertion of the same event that answered `Stored`
@@ -99,14 +104,15 @@ impl Core {
     {
         lower_laws();
         let slot = self.slots.slot_of_key(key);
-        if let Some(answer) = self.refusal(seg, key, slot, g, exclusive, t) {
-            return answer;
+        match self.seek_new(seg, key, slot, g, exclusive, t) {
+            Err(answer) => answer,
+            Ok(spot) => self.add(seg, key, slot, spot, g, ttl, t),
         }
-        self.add(seg, key, slot, g, ttl, t)
     }
 
-    // Why the value is not stored, though there may be room for it.
-    fn refusal<S: Segment>(
+    // Why the value is not stored, though there may be room for it; or else, where an exclusive
+    // store has looked for it, where the new row would stand.
+    fn seek_new<S: Segment>(
         &self,
         seg: &mut S,
         key: &[u8],
@@ -114,33 +120,34 @@ impl Core {
         g: &Graph,
         exclusive: bool,
         t: u64,
-    ) -> Option<StoreAnswer>
+    ) -> Result<Option<Spot>, StoreAnswer>
         requires short { length key.now < 2 ^ 32 }
         requires slot { slot ≡ slot_of self.now.conf key.now }
         requires stand { CacheStands S.WordsIn self.now seg.old }
-        ensures none { IfNone result ((held : List ℕ) (ttl : ℕ)
+        ensures added { OnOk result ((held : List ℕ) (ttl : ℕ)
             → inserted held key.now g.now ttl exclusive t (cache_of self.now)
             ≡ added held key.now g.now ttl t (cache_of self.now)) }
-        ensures some { IfSome result (λ answer. (held : List ℕ) (ttl : ℕ)
+        ensures fits { OnOk result (block_size (length key.now) g.now < 2 ^ 32) }
+        ensures spot { IfOk result (λ found.
+            IsSpotIfAny (entries self.now.slots) key.now t found) }
+        ensures refused { IfErr result (λ answer. (held : List ℕ) (ttl : ℕ)
             → inserted held key.now g.now ttl exclusive t (cache_of self.now)
             ≡ record { answer = answer; cache = cache_of self.now }) }
-        ensures which { IfSome result (λ answer. IsEarly answer) }
-        ensures fits { IfNone result (block_size (length key.now) g.now < 2 ^ 32) }
+        ensures early { IfErr result (λ answer. IsEarly answer) }
         ensures kept { Kept S.WordsIn seg.old seg.new }
     {
         let room = self.conf.words - self.conf.slots;
         let n = block_words(key.len() as u64, g);
         if n > u64::from(room) {
-            return Some(StoreAnswer::TooLarge);
+            return Err(StoreAnswer::TooLarge);
         }
         if !exclusive {
-            return None;
+            return Ok(None);
         }
-        let live = self.exists_in(seg, key, slot, t);
-        if live {
-            return Some(StoreAnswer::Exists);
+        match self.new_spot(seg, key, slot, t) {
+            Some(spot) => Ok(Some(spot)),
+            None => Err(StoreAnswer::Exists),
         }
-        None
     }
 
     // Frees the removed rows that nobody copies any more.
@@ -148,6 +155,7 @@ impl Core {
         requires stand { CacheStands S.WordsIn self.old seg.old }
         requires fresh { (b : ℕ) → has b (S.aside seg.old).refused ≡ false }
         ensures conf { self.new.conf ≡ self.old.conf }
+        ensures alike { HaveSameRows (entries self.old.slots) (entries self.new.slots) }
         ensures later { (later : Aside) → Goes (S.aside seg.new) later
             → cache_of self.new ≡ swept (held_blocks later) (cache_of self.old) }
         ensures goes { Goes (S.aside seg.old) (S.aside seg.new) }
@@ -162,12 +170,14 @@ impl Core {
         sweep_removed(&mut self.slots, seg);
     }
 
-    // Makes room for a new row, and puts it there.
+    // Makes room for a new row, and puts it there: at the spot, if it was found before and no row
+    // had to go.
     fn add<S: Segment>(
         &mut self,
         seg: &mut S,
         key: &[u8],
         slot: u32,
+        spot: Option<Spot>,
         g: &Graph,
         ttl: u32,
         t: u64,
@@ -175,12 +185,15 @@ impl Core {
         requires short { length key.now < 2 ^ 32 }
         requires slot { slot ≡ slot_of self.old.conf key.now }
         requires fits { block_size (length key.now) g.now < 2 ^ 32 }
+        requires spot { IsSpotIfAny (entries self.old.slots) key.now t spot }
         requires stand { CacheStands S.WordsIn self.old seg.old }
         requires held { AreHeld (S.aside seg.old) (cache_of self.old).removed }
         requires refused { AreRemoved (S.aside seg.old) (cache_of self.old).removed }
         ensures later { (later : Aside) → Goes (S.aside seg.new) later
             → added (held_blocks later) key.now g.now ttl t (cache_of self.old)
             ≡ record { answer = result; cache = cache_of self.new } }
+        ensures fits { result ≢ answers.TooLarge }
+        ensures new { result ≢ answers.Exists }
         ensures goes { Goes (S.aside seg.old) (S.aside seg.new) }
         ensures keeps { KeepsOpen (S.aside seg.new).windows
             (entries self.old.slots) (entries self.new.slots) }
@@ -192,13 +205,23 @@ impl Core {
         lower_laws();
         let n = block_words(key.len() as u64, g);
         let limit = self.conf.ttl;
+        let before = self.slots.rows();
         let (place, full) = make_room_next(&mut self.slots, seg, n as u32, limit, t);
         self.tally = self.tally.after_room(full);
         let Some(at) = place else {
             return StoreAnswer::NoRoom;
         };
-        put_in(&mut self.slots, seg, at, key, slot, g, ttl, limit, t);
+        let after = self.slots.rows();
+        let spot = if_still(spot, before, after);
+        put_in(&mut self.slots, seg, at, key, slot, spot, g, ttl, limit, t);
         self.tally = self.tally.after_insert();
         StoreAnswer::Stored
     }
+}
+
+// The spot, where no row has gone.
+fn if_still(spot: Option<Spot>, before: u32, after: u32) -> Option<Spot>
+    ensures { result ≡ (if after == before then spot else None) }
+{
+    if after == before { spot } else { None }
 }

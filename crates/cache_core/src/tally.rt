@@ -1,5 +1,6 @@
 ghost use Rattle.std.specs.Prelude.{◌≡◌, if◌then◌else◌};
 ghost use Rattle.apcu_model.specs.Cache.{risen};
+ghost use Rattle.cache_core.specs.Noting.{risen_by};
 
 /// What a cache counts. Each count stays at its last number once there.
 #[derive(Clone, Copy, Debug, PartialEq, Eq)]
@@ -71,4 +72,21 @@ impl Tally {
             ..self
         }
     }
+
+    // So many look-ups found none.
+    pub(crate) fn after_misses(self, n: u32) -> Tally
+        ensures { result ≡ record self { misses = risen_by n self.misses } }
+    {
+        Tally {
+            misses: risen(self.misses, n),
+            ..self
+        }
+    }
+}
+
+// The count, so many higher.
+fn risen(count: u64, n: u32) -> u64
+    ensures { result ≡ risen_by n count }
+{
+    count.saturating_add(u64::from(n))
 }

@@ -9,3 +9,15 @@ pub enum IncAnswer {
     /// What the counter is now.
     Value(i64),
 }
+
+/// Where the value of a generator came from.
+#[derive(Clone, Copy, Debug, PartialEq, Eq)]
+pub enum Fate {
+    /// A look-up found a row of the outermost key, which holds the value.
+    Found,
+    /// It found none: the value was found under a key further in, or made by the literal.
+    Made {
+        /// Whether the value now stands under the outermost key.
+        stored: bool,
+    },
+}

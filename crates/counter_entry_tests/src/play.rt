@@ -1,9 +1,9 @@
-ghost use Rattle.std.specs.Prelude.{◌≡◌, ◌%◌, ◌≤◌};
+ghost use Rattle.std.specs.Prelude.{◌≡◌, ◌%◌, ◌≤◌, length};
 ghost use Rattle.apcu_model.specs.Conf.{IsGood};
 
-use apcu_model::{Conf, Counts, Plain, StoreAnswer};
+use apcu_model::{Conf, Counts, Gen, Plain, Reply, Request, StoreAnswer};
 use cache_core::{Core, Look, Scalar};
-use counter_entry::{IncAnswer, cas, inc};
+use counter_entry::{Fate, IncAnswer, cas, entry, inc};
 use max_tree::MaxRow;
 use php_graph::{Builder, Bytes, Graph, Item, Kind, Wants};
 use seg_words::{VecWords, WordsIn};
@@ -43,17 +43,28 @@ fn key(alloc: Global, name: u8) -> Result<Bytes, Fail> {
     Ok(Bytes::of(alloc, &[b'k', b'0' + name / 10, b'0' + name % 10])?)
 }
 
+// The numbers of the keys of two entries inside another, if there are so many, and the ttl of each.
+#[derive(Clone, Copy)]
+pub(crate) struct Inner {
+    pub(crate) second: Option<u8>,
+    pub(crate) third: Option<u8>,
+    pub(crate) ttl: u32,
+}
+
 // A call under a key.
 #[derive(Clone, Copy)]
 pub(crate) enum Act {
     // with a ttl
     Store(Value, u32),
     Fetch,
+    Exists,
     Delete,
     // by a step, with a ttl
     Inc(i64, u32),
     // from an integer to another
     Cas(i64, i64),
+    // round other entries, round a literal
+    Entry(Inner, Value),
 }
 
 // Whether it was done, or the number that was found or counted; -1 stands for another value.
@@ -61,6 +72,8 @@ pub(crate) enum Act {
 pub(crate) enum Answer {
     Flag(bool),
     Number(Option<i64>),
+    // the number, or below 0 the length of the text, and where it came from
+    Gave(i64, Fate),
 }
 
 fn number_of(value: &Graph) -> i64 {
@@ -70,6 +83,62 @@ fn number_of(value: &Graph) -> i64 {
     match value.kind(1) {
         Kind::Int(n) => *n,
         _ => -1,
+    }
+}
+
+// The number that a value is, or below 0 the length of its text.
+fn told(value: &Graph) -> i64 {
+    if value.places() == 0 {
+        return 0;
+    }
+    match value.kind(1) {
+        Kind::Int(n) => *n,
+        Kind::Str(text) => -(text.as_slice().len() as i64),
+        _ => 0,
+    }
+}
+
+// The generator of an entry of this key.
+fn generator_of(
+    rt: &impl Abort,
+    alloc: Global,
+    name: Bytes,
+    inner: Inner,
+    value: Value,
+) -> Result<Gen, Fail> {
+    let mut generator = Gen::value(value_of(rt, alloc, value)?);
+    if let Some(third) = inner.third {
+        generator = Gen::entry(key(alloc, third)?, inner.ttl, Box::new(alloc, generator)?);
+    }
+    if let Some(second) = inner.second {
+        generator = Gen::entry(key(alloc, second)?, inner.ttl, Box::new(alloc, generator)?);
+    }
+    Ok(Gen::entry(name, inner.ttl, Box::new(alloc, generator)?))
+}
+
+// What the plain cache gives by a generator of which no key stands twice.
+fn plainly_given(
+    rt: &impl Abort,
+    plain: &mut Plain,
+    name: &[u8],
+    generator: Gen,
+    t: u64,
+) -> Result<Answer, Fail> {
+    let was_there = plain.exists(name, t);
+    let reply = plain.ask(&Request::Entry(generator), t)?;
+    let fate = if was_there {
+        Fate::Found
+    } else {
+        Fate::Made {
+            stored: plain.exists(name, t),
+        }
+    };
+    match reply {
+        Reply::Gave(value) => Ok(Answer::Gave(told(&value), fate)),
+        _ => {
+            assert!(rt; false);
+            Ok(Answer::Flag(false))
+        }
     }
 }
 
@@ -92,7 +161,13 @@ fn plainly(
             plain.note_fetch(key.as_slice(), t);
             Ok(Answer::Number(found))
         }
+        Act::Exists => Ok(Answer::Flag(plain.exists(key.as_slice(), t))),
         Act::Delete => Ok(Answer::Flag(plain.delete(key.as_slice(), t))),
+        Act::Entry(inner, value) => {
+            let name = Bytes::of(alloc, key.as_slice())?;
+            let generator = generator_of(rt, alloc, name, inner, value)?;
+            plainly_given(rt, plain, key.as_slice(), generator, t)
+        }
         Act::Inc(step, ttl) => Ok(Answer::Number(plain.inc(key.as_slice(), step, ttl, t)?)),
         Act::Cas(expect, set) => Ok(Answer::Flag(plain.cas(key.as_slice(), expect, set, t))),
     }
@@ -151,6 +226,13 @@ impl Small {
         counted(inc(alloc, &mut self.core, &mut self.words, key, step, ttl, t))
     }
 
+    fn give(&mut self, alloc: Global, generator: &Gen, t: u64) -> Result<Answer, Fail>
+        requires { length generator.now.levels ≤ 8 }
+    {
+        let (value, fate) = entry(alloc, &mut self.core, &mut self.words, generator, t)?;
+        Ok(Answer::Gave(told(&value), fate))
+    }
+
     fn swap(&mut self, key: &Bytes, expect: i64, set: i64, t: u64) -> bool {
         cas(
             &mut self.core,
@@ -180,7 +262,13 @@ impl Small {
                 Ok(Answer::Flag(stored == StoreAnswer::Stored))
             }
             Act::Fetch => Ok(Answer::Number(found_by(self.core.look(&mut self.words, name, t)))),
+            Act::Exists => Ok(Answer::Flag(self.core.exists(&mut self.words, name, t))),
             Act::Delete => Ok(Answer::Flag(self.core.delete(&mut self.words, name, t))),
+            Act::Entry(inner, value) => {
+                let outer = Bytes::of(alloc, name)?;
+                let generator = generator_of(rt, alloc, outer, inner, value)?;
+                self.give(alloc, &generator, t)
+            }
             Act::Inc(step, ttl) => Ok(Answer::Number(self.count(alloc, key, (step, ttl), t))),
             Act::Cas(expect, set) => Ok(Answer::Flag(self.swap(key, expect, set, t))),
         }
@@ -256,9 +344,37 @@ fn next(state: u64) -> u64 {
         .wrapping_add(1_442_695_040_888_963_407)
 }
 
-fn act_of(draw: u64) -> Act {
+// An entry of a key with this number round others of other numbers.
+fn entry_of(name: u8, draw: u64) -> Act {
+    let ttl = ((draw >> 50) % 6) as u32;
+    let second = (name % 20 + 1 + ((draw >> 8) % 19) as u8) % 20;
+    let third = 20 + ((draw >> 13) % 4) as u8;
+    let inner = Inner {
+        second: if (draw >> 40) % 3 > 0 {
+            Some(second)
+        } else {
+            None
+        },
+        third: if (draw >> 42) % 3 > 0 {
+            Some(third)
+        } else {
+            None
+        },
+        ttl,
+    };
+    if (draw >> 44) % 2 == 0 {
+        Act::Entry(inner, Value::Int(((draw >> 30) % 4) as i64))
+    } else {
+        Act::Entry(inner, Value::Text(((draw >> 24) % 5_000) as usize))
+    }
+}
+
+fn act_of(name: u8, draw: u64) -> Act {
     let ttl = ((draw >> 50) % 6) as u32;
     let small = ((draw >> 30) % 4) as i64;
+    if (draw >> 16) % 4 == 0 {
+        return entry_of(name, draw);
+    }
     match (draw >> 20) % 16 {
         0 | 1 => Act::Store(Value::Int(small), ttl),
         2 | 3 => Act::Store(Value::Text(((draw >> 30) % 1500) as usize), ttl),
@@ -287,7 +403,8 @@ pub(crate) fn many(
     for _call in 0..calls {
         draw = next(draw);
         t = t.wrapping_add((draw >> 60) % 2);
-        let step = (t, ((draw >> 33) % 20) as u8, act_of(draw));
+        let name = ((draw >> 33) % 20) as u8;
+        let step = (t, name, act_of(name, draw));
         both(rt, alloc, &mut small, &mut plain, step)?;
     }
     Ok(())

@@ -1,5 +1,6 @@
-use crate::play::{Act, Answer, Value, fills, many, play};
+use crate::play::{Act, Answer, Inner, Value, fills, many, play};
 use apcu_model::Counts;
+use counter_entry::Fate;
 use std::test::Fail;
 
 const YES: Answer = Answer::Flag(true);
@@ -69,6 +70,73 @@ fn makes_room_by_all_rows(rt: HostRuntime) -> Result<(), Fail> {
     };
     assert_eq!(rt; counts, wanted);
     Ok(())
+}
+
+const ALONE: Inner = Inner {
+    second: None,
+    third: None,
+    ttl: 0,
+};
+
+const ROUND_TWO: Inner = Inner {
+    second: Some(2),
+    third: None,
+    ttl: 0,
+};
+
+// It was found under the outermost key.
+const fn found(n: i64) -> Answer {
+    Answer::Gave(n, Fate::Found)
+}
+
+// It was found under another key, or made.
+const fn made(n: i64, stored: bool) -> Answer {
+    Answer::Gave(n, Fate::Made { stored })
+}
+
+// A literal is stored under both keys, and found under each of them later. What was found under the
+// inner key is stored under the outer.
+#[test]
+fn gives_by_generators(rt: HostRuntime) -> Result<(), Fail> {
+    play(
+        &rt,
+        rt.alloc(),
+        &[
+            (100, 1, Act::Entry(ROUND_TWO, Value::Int(7)), made(7, true)),
+            (100, 2, Act::Fetch, to(7)),
+            (100, 1, Act::Entry(ALONE, Value::Int(8)), found(7)),
+            (100, 1, Act::Delete, YES),
+            (100, 1, Act::Entry(ROUND_TWO, Value::Int(9)), made(7, true)),
+            (100, 1, Act::Fetch, to(7)),
+        ],
+    )
+}
+
+// A literal that cannot fit is given all the same, and stored nowhere.
+#[test]
+fn gives_what_is_too_large(rt: HostRuntime) -> Result<(), Fail> {
+    play(
+        &rt,
+        rt.alloc(),
+        &[
+            (
+                100,
+                1,
+                Act::Entry(ALONE, Value::Text(3_729)),
+                made(-3_729, false),
+            ),
+            (100, 1, Act::Exists, NO),
+            (
+                100,
+                1,
+                Act::Entry(ALONE, Value::Text(3_728)),
+                made(-3_728, true),
+            ),
+            (100, 1, Act::Entry(ROUND_TWO, Value::Int(1)), found(-3_728)),
+            (100, 2, Act::Entry(ALONE, Value::Int(1)), made(1, true)),
+            (100, 1, Act::Exists, NO),
+        ],
+    )
 }
 
 // The plain cache is the judge of thousands of calls.

@@ -87,7 +87,7 @@ fn play_named<N: TableName + Send + Sync, G: Gate + Sync, R: Threads + Wait + Sy
     let (ended, texts) = play_crew(
         rt, alloc, conf, &shared, passes, ended, texts, scripts, count, gate,
     );
-    let Closed { journal, counts: _ } = shared.close(ended);
+    let Closed { journal, counts: _ } = shared.close(rt, ended);
     let texts = whole(alloc, texts)?;
     Ok(Played { journal, texts })
 }
@@ -118,7 +118,7 @@ pub fn play_scripts<G: Gate + Sync, R: Threads + Wait + Sync>(
 {
     let budgets = budgets(alloc, conf.slots, scripts)?;
     let texts = Vec::with_capacity(alloc, scripts.len() as usize)?;
-    match open_cache(alloc, conf, &budgets) {
+    match open_cache(rt, alloc, conf, &budgets) {
         Ok(fresh) => Ok(play_named::<Brand, G, R>(rt, alloc, conf, fresh, texts, scripts, gate)?),
         Err(_) => Err(CrewFault::Memory),
     }

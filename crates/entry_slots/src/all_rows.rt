@@ -56,6 +56,13 @@ impl EntrySlots {
         self.sma.to
     }
 
+    /// The allocator, for what is told of the gaps.
+    pub fn sma(&self) -> &Sma
+        ensures { result.now ≡ self.now.sma }
+    {
+        &self.sma
+    }
+
     /// How many rows there are.
     pub fn rows(&self) -> u32
         requires stand { IsStanding self.now }

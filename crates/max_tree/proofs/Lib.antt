@@ -6,3 +6,4 @@ pub mod Largest
 pub mod Paging
 pub mod Topping
 pub mod Halving
+pub mod Marking

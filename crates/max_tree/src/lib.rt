@@ -2,6 +2,7 @@
 //! is not 0, and the largest, without looking at them all.
 #![tactic(auto)]
 
+mod marks;
 mod nodes;
 mod pages;
 mod pairs;

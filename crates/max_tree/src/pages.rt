@@ -2,6 +2,7 @@ ghost use Rattle.std.specs.Prelude.{◌≡◌, ◌≢◌, ℕ, ◌+◌, ◌*◌,
 ghost use Rattle.std.specs.Prelude.{slice_set, MatchOption, min};
 ghost use Rattle.max_tree.specs.Pages.{largest, page, IsPaged};
 
+use crate::marks::{highest, marks_before, marks_from};
 use crate::row::PAGE;
 use crate::tree::MaxTree;
 
@@ -53,8 +54,15 @@ pub fn first_in_page(numbers: &[u32], k: usize, n: u32) -> Option<usize>
         × (at < PAGE * k + PAGE) × (at < length numbers.now) × (n ≤ slice_index numbers.now at)) }
 {
     let start = PAGE * k;
-    let left = numbers.len() - start;
-    for i in start..start + left.min(PAGE) {
+    if numbers.len() - start >= PAGE {
+        let marks = marks_from(numbers, start, n);
+        if marks == 0 {
+            return None;
+        }
+        return Some(start + (PAGE - 1 - highest(marks)));
+    }
+    // The last page may have fewer numbers.
+    for i in start..numbers.len() {
         if numbers[i] >= n {
             return Some(i);
         }
@@ -71,6 +79,14 @@ pub fn last_in(numbers: &[u32], low: usize, high: usize) -> Option<usize>
     ensures found { MatchOption result (Unit {0})
         (λ at. (low ≤ at) × (at < high) × (slice_index numbers.now at ≢ 0)) }
 {
+    if numbers.len() - low >= PAGE && high - low <= PAGE {
+        let marks = marks_before(numbers, low, (high - low) as u32);
+        if marks == 0 {
+            return None;
+        }
+        return Some(low + highest(marks));
+    }
+    // The last page may have fewer numbers.
     let mut i = high;
     while i > low {
         i -= 1;

@@ -181,6 +181,37 @@ fn finds_numbers_of_a_row(rt: HostRuntime) -> Result<(), Fail> {
     Ok(())
 }
 
+// Pages have 32 numbers, and the last one of these has 4.
+#[test]
+fn finds_numbers_at_the_ends_of_pages(rt: HostRuntime) -> Result<(), Fail> {
+    let steps = [
+        Step::Put(0, 3),
+        Step::Put(31, 5),
+        Step::Put(32, 4),
+        Step::Put(63, 6),
+        Step::Put(95, 1),
+        Step::Put(96, 8),
+        Step::Put(99, 8),
+        Step::First(1, Some(0)),
+        Step::First(4, Some(31)),
+        Step::First(6, Some(63)),
+        Step::First(7, Some(96)),
+        Step::First(9, None),
+        Step::LastBefore(0, None),
+        Step::LastBefore(31, Some(0)),
+        Step::LastBefore(32, Some(31)),
+        Step::LastBefore(33, Some(32)),
+        Step::LastBefore(63, Some(32)),
+        Step::LastBefore(64, Some(63)),
+        Step::LastBefore(95, Some(63)),
+        Step::LastBefore(96, Some(95)),
+        Step::LastBefore(97, Some(96)),
+        Step::LastBefore(99, Some(96)),
+    ];
+    assert_eq!(rt; play_on_row(rt.alloc(), 100, &steps)?, 22);
+    Ok(())
+}
+
 #[test]
 fn finds_numbers_of_pairs(rt: HostRuntime) -> Result<(), Fail> {
     let steps = [

@@ -15,7 +15,11 @@ is_fetch (request.Exists key) = false
 is_fetch (request.Delete key) = false
 is_fetch (request.Inc key step ttl) = false
 is_fetch (request.Cas key expect set) = false
+is_fetch (request.Entry g) = false
 is_fetch request.Clear = false
+is_fetch (request.KeyInfo key) = false
+is_fetch (request.CacheInfo limited) = false
+is_fetch (request.SmaInfo limited) = false
 is_fetch request.Retire = false
 
 -- the events of the worker w, in order

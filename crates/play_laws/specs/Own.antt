@@ -6,7 +6,7 @@ use Rattle.apcu_model.specs.declared.request.Request.TheVariants as requests
 use Rattle.apcu_model.specs.declared.request.Reply.{Reply}
 use Rattle.apcu_model.specs.History.{Stage, start_of, reply_in, after_event}
 use Rattle.script_read.specs.declared.script.Step.{Step}
-use Rattle.script_read.specs.Play.{Wish, requests_of}
+use Rattle.script_read.specs.Play.{Wish, wish_at, requests_of}
 
 -- the replies of a worker's events, each that of one thread at its place
 abbrev pub own_replies_from : ℕ → Stage → List Event → List Reply
@@ -28,7 +28,7 @@ wish_in e = record { request = e.request; t = e.t }
 abbrev pub asked_by : List Step → List Wish
 asked_by [] = []
 asked_by (step ∷ steps) =
-    map (λ r. record { request = r; t = step.t }) (requests_of step.call) ++ asked_by steps
+    map (wish_at step.t) (requests_of step.call) ++ asked_by steps
 
 -- and its worker's end
 abbrev pub all_asked : List Step → List Wish

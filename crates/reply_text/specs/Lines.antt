@@ -3,11 +3,16 @@ use Rattle.std.specs.Prelude.{ℕ, ◌-◌, true, List, [], ◌∷◌, ◌++◌,
 use Rattle.apcu_model.specs.declared.conf.Conf.{Conf}
 use Rattle.apcu_model.specs.declared.request.Reply.{Reply}
 use Rattle.script_read.specs.declared.call.Call.{Call}
-use Rattle.script_read.specs.declared.call.Call.TheVariants.{StoreOne, StoreMany, FetchOne, FetchMany, ExistsOne, ExistsMany, DeleteOne, DeleteMany, Inc, Cas, Clear, Enabled}
+use Rattle.script_read.specs.declared.call.Call.TheVariants.{StoreOne, StoreMany, FetchOne}
+use Rattle.script_read.specs.declared.call.Call.TheVariants.{FetchMany, ExistsOne, ExistsMany}
+use Rattle.script_read.specs.declared.call.Call.TheVariants.{DeleteOne, DeleteMany, Inc, Cas, Clear}
+use Rattle.script_read.specs.declared.call.Call.TheVariants.{Enabled, Entry, KeyInfo, CacheInfo}
+use Rattle.script_read.specs.declared.call.Call.TheVariants.{SmaInfo}
 use Rattle.script_read.specs.declared.script.Step.{Step}
 use Rattle.script_read.specs.Grammar.{ends_line}
 use Rattle.script_read.specs.Play.{Next, Asks, Leaves, next_of}
-use Rattle.reply_text.specs.Replies.{flag_text, done_text, fetched_text, number_text, unstored_text, undeleted_text, there_text, found_text}
+use Rattle.reply_text.specs.Replies.{flag_text, done_text, fetched_text, number_text, unstored_text}
+use Rattle.reply_text.specs.Replies.{undeleted_text, there_text, found_text, gave_text, info_text}
 
 -- what a call prints for its own replies
 abbrev pub call_text : Call → List Reply → List ℕ
@@ -22,8 +27,12 @@ call_text (DeleteOne key) replies = done_text replies
 call_text (DeleteMany keys) replies = undeleted_text keys replies
 call_text (Inc key step ttl) replies = number_text replies
 call_text (Cas key expect set) replies = done_text replies
+call_text (Entry gen) replies = gave_text replies
 call_text Clear replies = flag_text true
 call_text Enabled replies = flag_text true
+call_text (KeyInfo key) replies = info_text replies
+call_text (CacheInfo limited) replies = info_text replies
+call_text (SmaInfo limited) replies = info_text replies
 
 -- the replies before these others
 abbrev pub before : List Reply → List Reply → List Reply

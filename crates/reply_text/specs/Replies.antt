@@ -1,5 +1,6 @@
 -- What a call prints for its own replies, in serialize notation.
-use Rattle.std.specs.Prelude.{ℕ, ◌+◌, Bool, true, false, if◌then◌else◌, List, [], ◌∷◌, ◌++◌, length, map, codes, Option, Some, None, ℤ}
+use Rattle.std.specs.Prelude.{ℕ, ◌+◌, Bool, true, false, if◌then◌else◌, List, [], ◌∷◌, ◌++◌, length}
+use Rattle.std.specs.Prelude.{map, codes, Option, Some, None, ℤ}
 use Rattle.std.specs.Fmt.{decimal}
 use Rattle.std.specs.Str.{bytes_eq}
 use Rattle.php_graph.specs.declared.kind.Kind.{Kind}
@@ -7,7 +8,8 @@ use Rattle.notation.specs.Notation.{text_from, text_of, integer_text, string_tex
 use Rattle.notation.specs.Keys.{written_key}
 use Rattle.php_graph.specs.Numbers.{int_of_text}
 use Rattle.apcu_model.specs.declared.request.Reply.{Reply}
-use Rattle.apcu_model.specs.declared.request.Reply.TheVariants.{Flag, Found, Absent, Number, NoNumber}
+use Rattle.apcu_model.specs.declared.request.Reply.TheVariants.{Flag, Found, Absent, Number}
+use Rattle.apcu_model.specs.declared.request.Reply.TheVariants.{NoNumber, Gave, Info}
 
 -- ---- one reply
 
@@ -47,6 +49,24 @@ number_one _ = codes "b:0;b:0;"
 abbrev pub number_text : List Reply → List ℕ
 number_text [] = []
 number_text (reply ∷ replies) = number_one reply
+
+-- the value that an entry gave
+abbrev pub gave_one : Reply → List ℕ
+gave_one (Gave g) = text_of g
+gave_one _ = []
+
+abbrev pub gave_text : List Reply → List ℕ
+gave_text [] = []
+gave_text (reply ∷ replies) = gave_one reply
+
+-- information as an array, or a null where there is no such row
+abbrev pub info_one : Reply → List ℕ
+info_one (Info g) = text_of g
+info_one _ = codes "N;"
+
+abbrev pub info_text : List Reply → List ℕ
+info_text [] = []
+info_text (reply ∷ replies) = info_one reply
 
 -- ---- answered arrays
 

@@ -6,5 +6,6 @@ mod replies;
 
 pub use notes::Notes;
 pub use replies::{
-    write_each, write_fetched, write_flag, write_flags, write_number, write_numbered, write_values,
+    write_each, write_fetched, write_flag, write_flags, write_gave, write_info, write_number,
+    write_numbered, write_values,
 };

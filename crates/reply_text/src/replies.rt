@@ -1,11 +1,14 @@
 //! What a call prints for its own replies, in serialize notation.
 
-ghost use Rattle.std.specs.Prelude.{◌≡◌, ℕ, ◌+◌, ◌<◌, ◌^◌, ◌++◌, List, [], length, map, codes, OnOk, Option};
+ghost use Rattle.std.specs.Prelude.{◌≡◌, ℕ, ◌+◌, ◌<◌, ◌^◌, ◌++◌, List, [], length, map, codes};
+ghost use Rattle.std.specs.Prelude.{OnOk, Option};
 ghost use Rattle.std.specs.Option.{option_map};
 ghost use Rattle.std.specs.Fmt.{decimal};
 ghost use Rattle.notation.specs.Notation.{array_head, integer_text, string_text};
-ghost use Rattle.apcu_model.specs.Sequential.{number_reply};
-ghost use Rattle.reply_text.specs.Replies.{flag_text, fetched, fetched_one, number_one, array_text, all_with, numbered, value_members};
+ghost use Rattle.apcu_model.specs.declared.request.Reply.TheVariants.{Gave};
+ghost use Rattle.apcu_model.specs.Sequential.{number_reply, info_reply};
+ghost use Rattle.reply_text.specs.Replies.{flag_text, fetched, fetched_one, number_one, array_text};
+ghost use Rattle.reply_text.specs.Replies.{all_with, numbered, value_members, gave_one, info_one};
 
 use itoa::Buffer;
 use notation::{ByteOut, write_key, write_value};
@@ -45,6 +48,24 @@ pub fn write_number(out: &mut ByteOut, number: Option<i64>) -> Result<(), AllocE
             out.push(b"b:1;")
         }
         None => out.push(b"b:0;b:0;"),
+    }
+}
+
+/// The value that `apcu_entry` gave.
+pub fn write_gave(out: &mut ByteOut, value: &Graph) -> Result<(), AllocError>
+    ensures { OnOk result (out.new ≡ out.old ++ gave_one (Gave value.now)) }
+{
+    write_value(value, 0, out)
+}
+
+/// What `apcu_key_info`, `apcu_cache_info` or `apcu_sma_info` told, or a null where no live row has
+/// the key.
+pub fn write_info(out: &mut ByteOut, info: Option<Graph>) -> Result<(), AllocError>
+    ensures { OnOk result (out.new ≡ out.old ++ info_one (info_reply info)) }
+{
+    match info {
+        Some(graph) => write_value(&graph, 0, out),
+        None => out.push(b"N;"),
     }
 }
 

@@ -7,7 +7,7 @@ use Rattle.script_read.specs.declared.script.Step.{Step}
 use Rattle.script_read.specs.Grammar.{AreScripts}
 use Rattle.script_read.specs.Ties.{AreSomeBytes, ScriptsTake, ScriptsAgain}
 use Rattle.script_read.specs.Gives.{ReadsScripts}
-use Rattle.script_read.proofs.Forms.{ok_is}
+use Rattle.script_read.proofs.Binding.{ok_is}
 
 pub found_read : ScriptsTake → (bytes : List ℕ) (r : Result (List (List Step)) ScriptFault) → AreSomeBytes bytes → ReadsScripts bytes r → IfOk r (AreScripts bytes)
 found_read takes bytes (Ok scripts) fits read = takes bytes scripts fits read

@@ -6,7 +6,7 @@ use Rattle.apcu_model.specs.declared.request.Request.{Request}
 use Rattle.apcu_model.specs.declared.request.Request.TheVariants as requests
 use Rattle.apcu_model.specs.declared.request.Reply.{Reply}
 use Rattle.script_read.specs.declared.call.Call.{Call}
-use Rattle.script_read.specs.declared.call.Call.TheVariants.{StoreOne, StoreMany, FetchOne, FetchMany, ExistsOne, ExistsMany, DeleteOne, DeleteMany, Inc, Cas, Clear, Enabled}
+use Rattle.script_read.specs.declared.call.Call.TheVariants.{StoreOne, StoreMany, FetchOne, FetchMany, ExistsOne, ExistsMany, DeleteOne, DeleteMany, Inc, Cas, Entry, Clear, Enabled, KeyInfo, CacheInfo, SmaInfo}
 use Rattle.script_read.specs.Calls.{event_bound}
 use Rattle.script_read.specs.Play.{Asks, asks_each, next_of}
 
@@ -33,5 +33,9 @@ asks_few conf (DeleteOne key) replies request e = each_few (requests.Delete key 
 asks_few conf (DeleteMany keys) replies request e = many_few requests.Delete keys replies request e
 asks_few conf (Inc key step ttl) replies request e = each_few (requests.Inc key step ttl ∷ []) replies request e
 asks_few conf (Cas key expect set) replies request e = each_few (requests.Cas key expect set ∷ []) replies request e
+asks_few conf (Entry gen) replies request e = each_few (requests.Entry gen ∷ []) replies request e
+asks_few conf (KeyInfo key) replies request e = each_few (requests.KeyInfo key ∷ []) replies request e
+asks_few conf (CacheInfo limited) replies request e = each_few (requests.CacheInfo limited ∷ []) replies request e
+asks_few conf (SmaInfo limited) replies request e = each_few (requests.SmaInfo limited ∷ []) replies request e
 asks_few conf Clear replies request e = each_few (requests.Clear ∷ []) replies request e
 asks_few conf Enabled replies request e = each_few [] replies request e

@@ -1,6 +1,6 @@
--- What follows a word is read as it is spelled, whatever the form: by the form's five cases.
-use Rattle.std.proofs.Common.{◌≡◌, ℕ, Bool, true, false, cond, List, [], ◌∷◌, ◌++◌, Option, Some, None, Result, Ok, Err, inl, inr, refl, sym, ap, ap₂, subst, ◌∙◌, append_assoc}
-use Rattle.std.specs.Prelude.{◌==◌, ◌⊎◌, codes}
+-- What follows a word is read as it is spelled, whatever the form: by the cases of forms.
+use Rattle.std.proofs.Common.{◌≡◌, ℕ, true, cond, List, [], ◌∷◌, ◌++◌, Some, Result, Ok, inl, inr, sym, ap, ap₂, ◌∙◌, append_assoc}
+use Rattle.std.specs.Prelude.{◌==◌, codes}
 use Rattle.std.specs.Option.{option_and_then}
 use Rattle.std.proofs.lemmas.Bool.{eqb-true}
 use Rattle.php_graph.specs.declared.kind.Kind.{Kind}
@@ -11,24 +11,19 @@ use Rattle.notation.specs.Marks.{◌>>=◌, fail}
 use Rattle.notation.specs.Notation.{text_of}
 use Rattle.notation.specs.Reading.{reading_of}
 use Rattle.script_read.specs.declared.effect.Effect.{Effect}
-use Rattle.script_read.specs.Table.{Form, Done, Need, May, Refuse}
-use Rattle.script_read.specs.Grammar.{arguments_text, AreArguments, ends_line, effect_by}
-use Rattle.script_read.specs.Reading.{space_at, one_more_at, end_at, ends_here, rest_at}
+use Rattle.apcu_model.specs.Levels.{Generator}
+use Rattle.script_read.specs.Table.{Form, Done, Need, May, Make, Refuse}
+use Rattle.script_read.specs.Grammar.{WrittenGen, Argument, Plain, Making, gen_text, arguments_text, AreArguments, ends_line, gen_meant, inner_levels, effect_by}
+use Rattle.script_read.specs.Reading.{space_at, one_more_at, end_at, ends_here, generator_at, rest_at}
 use Rattle.script_read.specs.Ties.{AreSomeBytes}
+use Rattle.script_read.proofs.Binding.{ValuesTake, ValuesAgain, bind_ok, ok_is, some_is, then_some, chosen, bytes_after}
+use Rattle.script_read.proofs.GenSpelled.{GensTake, GensAgain}
 
--- ---- what is known of values and said of forms
-
--- what is read of a value is a graph, and is spelled there
-abbrev pub ValuesTake : Type 0
-ValuesTake = (bytes : List ℕ) (g : List Kind) (rest : List ℕ) → AreSomeBytes bytes → reading_of bytes ≡ Ok (g, rest) → IsGraph g × (bytes ≡ text_of g ++ rest)
-
--- what is spelled is read, whatever follows
-abbrev pub ValuesAgain : Type 0
-ValuesAgain = (g : List Kind) (rest : List ℕ) → IsGraph g → reading_of (text_of g ++ rest) ≡ Ok (g, rest)
+-- ---- what is said of forms
 
 -- arguments stand there that have this effect
 pub record IsSaid (form : Form) (bytes : List ℕ) (e : Effect) (rest : List ℕ) : Type 0 where
-  pub arguments : List (List Kind)
+  pub arguments : List Argument
   pub values : AreArguments arguments
   pub meaning : effect_by form arguments ≡ Some e
   pub text : bytes ≡ arguments_text arguments ++ (ends_line ++ rest)
@@ -37,31 +32,8 @@ abbrev pub FormsTake : Type 0
 FormsTake = (form : Form) (last bytes : List ℕ) (e : Effect) (rest : List ℕ) → AreSomeBytes bytes → rest_at form last bytes ≡ Ok (e, rest) → IsSaid form bytes e rest
 
 abbrev pub FormsAgain : Type 0
-FormsAgain = (form : Form) (arguments : List (List Kind)) (e : Effect) (last rest : List ℕ) → AreArguments arguments → effect_by form arguments ≡ Some e
+FormsAgain = (form : Form) (arguments : List Argument) (e : Effect) (last rest : List ℕ) → AreArguments arguments → effect_by form arguments ≡ Some e
     → rest_at form last (arguments_text arguments ++ (ends_line ++ rest)) ≡ Ok (e, rest)
-
--- ---- steps that did not fail
-
-pub bind_ok : {A B : Type 0} (r : Result A Fault) (f : A → Result B Fault) (y : B) → (r >>= f) ≡ Ok y → (x : A) × (r ≡ Ok x) × (f x ≡ Ok y)
-bind_ok (Ok x) f y e = (x, refl, e)
-bind_ok (Err d) f y e = absurd cc
-
-abbrev done : {A : Type 0} → A → Result A Fault
-done x = Ok x
-
-pub ok_is : {A : Type 0} (x y : A) → done x ≡ done y → x ≡ y
-ok_is x y e = cc
-
-pub some_is : {A : Type 0} (x y : A) → Some x ≡ Some y → x ≡ y
-some_is x y e = cc
-
-pub then_some : {A B : Type 0} (f : A → Option B) (o : Option A) (y : B) → option_and_then f o ≡ Some y → (x : A) × (o ≡ Some x) × (f x ≡ Some y)
-then_some f (Some x) y e = (x, refl, e)
-then_some f None y e = absurd cc
-
-pub chosen : {A : Type 0} (b : Bool) (x y z : A) → cond b x y ≡ z → ((b ≡ true) × (x ≡ z)) ⊎ ((b ≡ false) × (y ≡ z))
-chosen true x y z e = inl (refl, e)
-chosen false x y z e = inr (refl, e)
 
 -- ---- spaces and ends
 
@@ -92,33 +64,42 @@ end_takes (b ∷ bytes) rest e =
 abbrev after_value : (List Kind → Form) → List ℕ → Result (List Kind × List ℕ) Fault → Result (Effect × List ℕ) Fault
 after_value next argument r = r >>= λ v. rest_at (next v.0) argument v.1
 
+abbrev after_gen : (Generator → Form) → List ℕ → Result (Generator × List ℕ) Fault → Result (Effect × List ℕ) Fault
+after_gen next argument r = r >>= λ v. rest_at (next v.0) argument v.1
+
 value_again : ValuesAgain → (next : List Kind → Form) (g : List Kind) (more behind : List ℕ) → IsGraph g
     → after_value next ((text_of g ++ more) ++ behind) (reading_of ((text_of g ++ more) ++ behind)) ≡ rest_at (next g) ((text_of g ++ more) ++ behind) (more ++ behind)
 value_again values next g more behind graph =
     ap (after_value next ((text_of g ++ more) ++ behind)) (ap reading_of (append_assoc (text_of g) more behind) ∙ values g (more ++ behind) graph)
 
-pub forms_again : ValuesAgain → FormsAgain
+gen_again : GensAgain → (next : Generator → Form) (written : WrittenGen) (gen : Generator) (more behind : List ℕ) → AreArguments (Making written ∷ []) → gen_meant inner_levels written ≡ Some gen
+    → after_gen next ((gen_text written ++ more) ++ behind) (generator_at inner_levels ((gen_text written ++ more) ++ behind)) ≡ rest_at (next gen) ((gen_text written ++ more) ++ behind) (more ++ behind)
+gen_again gens next written gen more behind are means =
+    ap (after_gen next ((gen_text written ++ more) ++ behind)) (ap (generator_at inner_levels) (append_assoc (gen_text written) more behind) ∙ gens inner_levels written gen (more ++ behind) are.0 means)
+
+pub forms_again : ValuesAgain → GensAgain → FormsAgain
 unfolding rest_at space_at end_at
-forms_again values (Done x) [] e last rest are means = ap (λ (y : Effect). Ok (y, rest)) (some_is x e means)
-forms_again values (Done x) (a ∷ more) e last rest are means = absurd cc
-forms_again values (Need next) [] e last rest are means = absurd cc
-forms_again values (Need next) (g ∷ more) e last rest are means =
+forms_again values gens (Done x) [] e last rest are means = ap (λ (y : Effect). Ok (y, rest)) (some_is x e means)
+forms_again values gens (Done x) (a ∷ more) e last rest are means = absurd cc
+forms_again values gens (Need next) [] e last rest are means = absurd cc
+forms_again values gens (Need next) (Making written ∷ more) e last rest are means = absurd cc
+forms_again values gens (Need next) (Plain g ∷ more) e last rest are means =
     value_again values next g (arguments_text more) (ends_line ++ rest) are.0
-    ∙ forms_again values (next g) more e ((text_of g ++ arguments_text more) ++ (ends_line ++ rest)) rest are.1 means
-forms_again values (May short next) [] e last rest are means = forms_again values short [] e last rest are means
-forms_again values (May short next) (g ∷ more) e last rest are means =
+    ∙ forms_again values gens (next g) more e ((text_of g ++ arguments_text more) ++ (ends_line ++ rest)) rest are.1 means
+forms_again values gens (May short next) [] e last rest are means = forms_again values gens short [] e last rest are means
+forms_again values gens (May short next) (Making written ∷ more) e last rest are means = absurd cc
+forms_again values gens (May short next) (Plain g ∷ more) e last rest are means =
     value_again values next g (arguments_text more) (ends_line ++ rest) are.0
-    ∙ forms_again values (next g) more e ((text_of g ++ arguments_text more) ++ (ends_line ++ rest)) rest are.1 means
-forms_again values (Refuse reason) arguments e last rest are means = absurd cc
+    ∙ forms_again values gens (next g) more e ((text_of g ++ arguments_text more) ++ (ends_line ++ rest)) rest are.1 means
+forms_again values gens (Make next) [] e last rest are means = absurd cc
+forms_again values gens (Make next) (Plain g ∷ more) e last rest are means = absurd cc
+forms_again values gens (Make next) (Making written ∷ more) e last rest are means =
+    let m = then_some (λ gen. effect_by (next gen) more) (gen_meant inner_levels written) e means in
+    gen_again gens next written m.0 (arguments_text more) (ends_line ++ rest) (are.0, tt) m.1
+    ∙ forms_again values gens (next m.0) more e ((gen_text written ++ arguments_text more) ++ (ends_line ++ rest)) rest are.1 m.2
+forms_again values gens (Refuse reason) arguments e last rest are means = absurd cc
 
 -- ---- what is read is spelled
-
-pub bytes_behind : (a b : List ℕ) → AreSomeBytes (a ++ b) → AreSomeBytes b
-bytes_behind [] b fits = fits
-bytes_behind (x ∷ a) b fits = bytes_behind a b fits.1
-
-pub bytes_after : (bytes a b : List ℕ) → bytes ≡ a ++ b → AreSomeBytes bytes → AreSomeBytes b
-bytes_after bytes a b e fits = bytes_behind a b (subst AreSomeBytes e fits)
 
 -- one more argument stands before the others
 one_more_said : (bytes argument text behind more : List ℕ) (rest : List ℕ) → bytes ≡ codes " " ++ argument → argument ≡ text ++ behind → behind ≡ more ++ (ends_line ++ rest)
@@ -131,13 +112,13 @@ ends_said : (short : Form) (next : List Kind → Form) (bytes : List ℕ) (e : E
 ends_said short next [] e rest ends said = absurd cc
 ends_said short next (b ∷ bytes) e rest ends said = by_arguments said.arguments said.values said.meaning said.text
   where
-    by_arguments : (arguments : List (List Kind)) → AreArguments arguments → effect_by short arguments ≡ Some e → b ∷ bytes ≡ arguments_text arguments ++ (ends_line ++ rest) → IsSaid (May short next) (b ∷ bytes) e rest
+    by_arguments : (arguments : List Argument) → AreArguments arguments → effect_by short arguments ≡ Some e → b ∷ bytes ≡ arguments_text arguments ++ (ends_line ++ rest) → IsSaid (May short next) (b ∷ bytes) e rest
     by_arguments [] are means text = record { arguments = []; values = tt; meaning = means; text = text }
     by_arguments (a ∷ more) are means text = let ten : b ≡ 10 = eqb-true b 10 ends in absurd cc
 
-pub forms_take : ValuesTake → FormsTake
+pub forms_take : ValuesTake → GensTake → FormsTake
 unfolding rest_at
-forms_take values (Done x) last bytes e rest fits read =
+forms_take values gens (Done x) last bytes e rest fits read =
     let a = bind_ok (end_at bytes) (λ after. Ok (x, after)) (e, rest) read in
     let made : Effect × List ℕ = (x, a.0) in
     let is : made ≡ (e, rest) = ok_is made (e, rest) a.2 in
@@ -147,34 +128,47 @@ forms_take values (Done x) last bytes e rest fits read =
       meaning = ap (λ (m : Effect × List ℕ). Some m.0) is;
       text = end_takes bytes a.0 a.1 ∙ ap (λ (m : Effect × List ℕ). ends_line ++ m.1) is;
     }
-forms_take values (Need next) last bytes e rest fits read =
+forms_take values gens (Need next) last bytes e rest fits read =
     let a = bind_ok (space_at bytes) (λ argument. after_value next argument (reading_of argument)) (e, rest) read in
     let b = bind_ok (reading_of a.0) (λ v. rest_at (next v.0) a.0 v.1) (e, rest) a.2 in
     let space = space_takes bytes a.0 a.1 in
     let inside = bytes_after bytes (codes " ") a.0 space fits in
     let v = values a.0 b.0.0 b.0.1 inside b.1 in
-    let more = forms_take values (next b.0.0) a.0 b.0.1 e rest (bytes_after a.0 (text_of b.0.0) b.0.1 v.1 inside) b.2 in
+    let more = forms_take values gens (next b.0.0) a.0 b.0.1 e rest (bytes_after a.0 (text_of b.0.0) b.0.1 v.1 inside) b.2 in
     record {
-      arguments = b.0.0 ∷ more.arguments;
+      arguments = Plain b.0.0 ∷ more.arguments;
       values = (v.0, more.values);
       meaning = more.meaning;
       text = one_more_said bytes a.0 (text_of b.0.0) b.0.1 (arguments_text more.arguments) rest space v.1 more.text;
     }
-forms_take values (May short next) last bytes e rest fits read =
+forms_take values gens (May short next) last bytes e rest fits read =
     elim (chosen (ends_here bytes) (rest_at short last bytes) (space_at bytes >>= λ argument. after_value next argument (reading_of argument)) (Ok (e, rest)) read) [
-      | inl p ↦ ends_said short next bytes e rest p.0 (forms_take values short last bytes e rest fits p.1)
+      | inl p ↦ ends_said short next bytes e rest p.0 (forms_take values gens short last bytes e rest fits p.1)
       | inr p ↦
           let a = bind_ok (space_at bytes) (λ argument. after_value next argument (reading_of argument)) (e, rest) p.1 in
           let b = bind_ok (reading_of a.0) (λ v. rest_at (next v.0) a.0 v.1) (e, rest) a.2 in
           let space = space_takes bytes a.0 a.1 in
           let inside = bytes_after bytes (codes " ") a.0 space fits in
           let v = values a.0 b.0.0 b.0.1 inside b.1 in
-          let more = forms_take values (next b.0.0) a.0 b.0.1 e rest (bytes_after a.0 (text_of b.0.0) b.0.1 v.1 inside) b.2 in
+          let more = forms_take values gens (next b.0.0) a.0 b.0.1 e rest (bytes_after a.0 (text_of b.0.0) b.0.1 v.1 inside) b.2 in
           record {
-            arguments = b.0.0 ∷ more.arguments;
+            arguments = Plain b.0.0 ∷ more.arguments;
             values = (v.0, more.values);
             meaning = more.meaning;
             text = one_more_said bytes a.0 (text_of b.0.0) b.0.1 (arguments_text more.arguments) rest space v.1 more.text;
           }
     ]
-forms_take values (Refuse reason) last bytes e rest fits read = absurd cc
+forms_take values gens (Make next) last bytes e rest fits read =
+    let a = bind_ok (space_at bytes) (λ argument. after_gen next argument (generator_at inner_levels argument)) (e, rest) read in
+    let b = bind_ok (generator_at inner_levels a.0) (λ v. rest_at (next v.0) a.0 v.1) (e, rest) a.2 in
+    let space = space_takes bytes a.0 a.1 in
+    let inside = bytes_after bytes (codes " ") a.0 space fits in
+    let v = gens inner_levels a.0 b.0.0 b.0.1 inside b.1 in
+    let more = forms_take values gens (next b.0.0) a.0 b.0.1 e rest (bytes_after a.0 (gen_text v.written) b.0.1 v.text inside) b.2 in
+    record {
+      arguments = Making v.written ∷ more.arguments;
+      values = (v.values, more.values);
+      meaning = ap (option_and_then (λ gen. effect_by (next gen) more.arguments)) v.meaning ∙ more.meaning;
+      text = one_more_said bytes a.0 (gen_text v.written) b.0.1 (arguments_text more.arguments) rest space v.text more.text;
+    }
+forms_take values gens (Refuse reason) last bytes e rest fits read = absurd cc

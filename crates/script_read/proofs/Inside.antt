@@ -1,5 +1,5 @@
 -- A fault of scripts lies within their bytes.
-use Rattle.std.proofs.Common.{◌≡◌, ℕ, zero, suc, ◌≤◌, Bool, true, false, cond, List, [], ◌∷◌, length, Result, Ok, Err, subst, arith}
+use Rattle.std.proofs.Common.{◌≡◌, ℕ, zero, suc, ◌≤◌, Bool, true, false, cond, List, [], ◌∷◌, length, drop, Option, Some, None, Result, Ok, Err, subst, arith}
 use Rattle.std.specs.Prelude.{◌==◌, nat_lt, MatchResult}
 use Rattle.std.proofs.lemmas.List.{length-drop}
 use Rattle.php_graph.specs.declared.kind.Kind.{Kind}
@@ -7,12 +7,15 @@ use Rattle.notation.specs.declared.fault.Reason.TheVariants as reasons
 use Rattle.notation.specs.declared.fault.Fault.{Fault}
 use Rattle.notation.specs.Marks.{◌>>=◌, fail}
 use Rattle.notation.specs.Reading.{reading_of}
+use Rattle.apcu_model.specs.Levels.{Generator}
 use Rattle.script_read.specs.declared.effect.Effect.{Effect}
 use Rattle.script_read.specs.declared.effect.Effect.TheVariants.{Sets, Calls}
 use Rattle.script_read.specs.declared.script.Step.{Step}
-use Rattle.script_read.specs.Table.{Form, Done, Need, May, Refuse}
-use Rattle.script_read.specs.Grammar.{most_workers}
-use Rattle.script_read.specs.Reading.{space_at, one_more_at, end_at, ends_here, rest_at, word_len, line_word, behind_word, worker_at, form_after, line_at, is_worker, Rest, with_effect, lines_at, scripts_at}
+use Rattle.script_read.specs.Table.{Form, Done, Need, May, Make, Refuse}
+use Rattle.script_read.specs.Arguments.{key, ttl}
+use Rattle.script_read.specs.GenParts.{literal_gen, entry_round}
+use Rattle.script_read.specs.Grammar.{entry_word, inner_levels, most_workers}
+use Rattle.script_read.specs.Reading.{space_at, one_more_at, end_at, ends_here, chosen, choice_at, separator_at, limit_at, literal_at, entry_at, begins_entry, generator_at, rest_at, word_len, line_word, behind_word, worker_at, form_after, line_at, is_worker, Rest, with_effect, lines_at, scripts_at}
 
 -- no more than n bytes are left, or are there from the fault on
 abbrev Within : {A : Type 0} → ℕ → (A → List ℕ) → Result A Fault → Type 0
@@ -66,6 +69,52 @@ value_within law n bytes h = by_result (reading_of bytes) (law bytes)
     by_result (Ok x) within = omega (arith, within, h)
     by_result (Err e) within = omega (arith, within, h)
 
+chosen_within : {A : Type 0} (n : ℕ) (o : Option A) (argument rest : List ℕ) → length argument ≤ n → length rest ≤ n → Within n (behind {A = A}) (chosen o argument rest)
+chosen_within n (Some x) argument rest h k = k
+chosen_within n None argument rest h k = h
+
+choice_within : {A : Type 0} → ValuesInside → (choose : List Kind → Option A) (n : ℕ) (bytes : List ℕ) → length bytes ≤ n → Within n (behind {A = A}) (choice_at choose bytes)
+choice_within law choose n bytes h = then_within n behind behind (reading_of bytes) (λ v. chosen (choose v.0) bytes v.1) (value_within law n bytes h) (λ v k. chosen_within n (choose v.0) bytes v.1 h k)
+
+separator_within : (separator n : ℕ) (bytes : List ℕ) → length bytes ≤ n → Within n same (separator_at separator bytes)
+unfolding separator_at
+separator_within separator n [] h = omega arith
+separator_within separator n (b ∷ rest) h = cond_within n same (b == separator) (Ok rest) (fail reasons.Separator (b ∷ rest)) (omega (arith, h)) h
+
+limit_within : ValuesInside → (n : ℕ) (bytes : List ℕ) → length bytes ≤ n → Within n (behind {A = ℕ}) (limit_at bytes)
+unfolding limit_at
+limit_within law n [] h = omega arith
+limit_within law n (b ∷ rest) h =
+    let fewer : length rest ≤ n = omega (arith, h) in
+    cond_within n behind (b == 41) (Ok (0, rest)) (cond (b == 32) (choice_at ttl rest >>= λ t. separator_at 41 t.1 >>= λ after. Ok (t.0, after)) (fail reasons.Separator (b ∷ rest))) fewer
+    (cond_within n behind (b == 32) (choice_at ttl rest >>= λ t. separator_at 41 t.1 >>= λ after. Ok (t.0, after)) (fail reasons.Separator (b ∷ rest))
+    (then_within n behind behind (choice_at ttl rest) (λ t. separator_at 41 t.1 >>= λ after. Ok (t.0, after)) (choice_within law ttl n rest fewer)
+    (λ t k. then_within n same behind (separator_at 41 t.1) (λ after. Ok (t.0, after)) (separator_within 41 n t.1 k) (λ after m. m))) h)
+
+literal_within : ValuesInside → (n : ℕ) (bytes : List ℕ) → length bytes ≤ n → Within n (behind {A = Generator}) (literal_at bytes)
+unfolding literal_at
+literal_within law n [] h = omega arith
+literal_within law n (b ∷ rest) h =
+    let fewer : length rest ≤ n = omega (arith, h) in
+    cond_within n behind (b == 40) (reading_of rest >>= λ v. separator_at 41 v.1 >>= λ after. Ok (literal_gen v.0, after)) (fail reasons.Argument (b ∷ rest))
+    (then_within n behind behind (reading_of rest) (λ v. separator_at 41 v.1 >>= λ after. Ok (literal_gen v.0, after)) (value_within law n rest fewer)
+    (λ v k. then_within n same behind (separator_at 41 v.1) (λ after. Ok (literal_gen v.0, after)) (separator_within 41 n v.1 k) (λ after m. m))) h
+
+entry_within : ValuesInside → (n : ℕ) (inner_at : List ℕ → Result (Generator × List ℕ) Fault) → ((bytes : List ℕ) → length bytes ≤ n → Within n (behind {A = Generator}) (inner_at bytes)) → (bytes : List ℕ) → length bytes ≤ n → Within n (behind {A = Generator}) (entry_at inner_at bytes)
+entry_within law n inner_at inner bytes h =
+    then_within n behind behind (choice_at key bytes) (λ k. separator_at 32 k.1 >>= λ argument. inner_at argument >>= λ i. limit_at i.1 >>= λ t. Ok (entry_round k.0 t.0 i.0, t.1)) (choice_within law key n bytes h)
+    (λ k p. then_within n same behind (separator_at 32 k.1) (λ argument. inner_at argument >>= λ i. limit_at i.1 >>= λ t. Ok (entry_round k.0 t.0 i.0, t.1)) (separator_within 32 n k.1 p)
+    (λ argument q. then_within n behind behind (inner_at argument) (λ i. limit_at i.1 >>= λ t. Ok (entry_round k.0 t.0 i.0, t.1)) (inner argument q)
+    (λ i r. then_within n behind behind (limit_at i.1) (λ t. Ok (entry_round k.0 t.0 i.0, t.1)) (limit_within law n i.1 r) (λ t m. m))))
+
+gen_within : ValuesInside → (levels n : ℕ) (bytes : List ℕ) → length bytes ≤ n → Within n (behind {A = Generator}) (generator_at levels bytes)
+unfolding generator_at
+gen_within law zero n bytes h = cond_within n behind (begins_entry bytes) (fail reasons.Generator bytes) (literal_at bytes) h (literal_within law n bytes h)
+gen_within law (suc levels) n bytes h =
+    let inside = drop (length entry_word) bytes in
+    cond_within n behind (begins_entry bytes) (entry_at (generator_at levels) inside) (literal_at bytes)
+    (entry_within law n (generator_at levels) (gen_within law levels n) inside (omega (arith, h, length-drop (length entry_word) bytes))) (literal_within law n bytes h)
+
 form_within : ValuesInside → (form : Form) (n : ℕ) (last bytes : List ℕ) → length last ≤ n → length bytes ≤ n → Within n (behind {A = Effect}) (rest_at form last bytes)
 unfolding rest_at
 form_within law (Done e) n last bytes l h = then_within n same behind (end_at bytes) (λ after. Ok (e, after)) (end_within n bytes h) (λ after k. k)
@@ -76,6 +125,9 @@ form_within law (May short next) n last bytes l h =
     cond_within n behind (ends_here bytes) (rest_at short last bytes) (space_at bytes >>= λ argument. reading_of argument >>= λ v. rest_at (next v.0) argument v.1) (form_within law short n last bytes l h)
     (then_within n same behind (space_at bytes) (λ argument. reading_of argument >>= λ v. rest_at (next v.0) argument v.1) (space_within n bytes h)
     (λ argument k. then_within n behind behind (reading_of argument) (λ v. rest_at (next v.0) argument v.1) (value_within law n argument k) (λ v m. form_within law (next v.0) n argument v.1 k m)))
+form_within law (Make next) n last bytes l h =
+    then_within n same behind (space_at bytes) (λ argument. generator_at inner_levels argument >>= λ v. rest_at (next v.0) argument v.1) (space_within n bytes h)
+    (λ argument k. then_within n behind behind (generator_at inner_levels argument) (λ v. rest_at (next v.0) argument v.1) (gen_within law inner_levels n argument k) (λ v m. form_within law (next v.0) n argument v.1 k m))
 form_within law (Refuse reason) n last bytes l h = l
 
 worker_within : (n begun : ℕ) (line : List ℕ) → length line ≤ n → Within n same (worker_at begun line)

@@ -28,7 +28,7 @@ later_among text (word ∷ words) are any = by_first text word words (bytes_eq t
 
 are_later : AllByRecursion (λ word. form_of word ≡ later) later_words
 unfolding form_in
-are_later = (refl, (refl, (refl, (refl, (refl, (refl, (refl, tt)))))))
+are_later = (refl, (refl, (refl, tt)))
 
 pub later_form : (text : List ℕ) → list_any (bytes_eq text) later_words ≡ true → form_of text ≡ later
 later_form text any = later_among text later_words are_later any
@@ -46,5 +46,5 @@ none_later : (text : List ℕ) (words : List (List ℕ)) → list_any (bytes_eq 
 none_later text [] any = tt
 none_later text (word ∷ words) any = let p = or_false (bytes_eq text word) (list_any (bytes_eq text) words) any in (p.0, none_later text words p.1)
 
-pub no_form : (text : List ℕ) → bytes_eq text (codes "time") ≡ false → bytes_eq text (codes "apcu_store") ≡ false → bytes_eq text (codes "apcu_add") ≡ false → bytes_eq text (codes "apcu_fetch") ≡ false → bytes_eq text (codes "apcu_exists") ≡ false → bytes_eq text (codes "apcu_delete") ≡ false → bytes_eq text (codes "apcu_inc") ≡ false → bytes_eq text (codes "apcu_dec") ≡ false → bytes_eq text (codes "apcu_cas") ≡ false → bytes_eq text (codes "apcu_clear_cache") ≡ false → bytes_eq text (codes "apcu_enabled") ≡ false → list_any (bytes_eq text) later_words ≡ false → form_of text ≡ Refuse reasons.Line
-no_form text e1 e2 e3 e4 e5 e6 e7 e8 e9 e10 e11 any = no_row text table (e1, (e2, (e3, (e4, (e5, (e6, (e7, (e8, (e9, (e10, (e11, none_later text later_words any)))))))))))
+pub no_form : (text : List ℕ) → bytes_eq text (codes "time") ≡ false → bytes_eq text (codes "apcu_store") ≡ false → bytes_eq text (codes "apcu_add") ≡ false → bytes_eq text (codes "apcu_fetch") ≡ false → bytes_eq text (codes "apcu_exists") ≡ false → bytes_eq text (codes "apcu_delete") ≡ false → bytes_eq text (codes "apcu_inc") ≡ false → bytes_eq text (codes "apcu_dec") ≡ false → bytes_eq text (codes "apcu_cas") ≡ false → bytes_eq text (codes "apcu_entry") ≡ false → bytes_eq text (codes "apcu_clear_cache") ≡ false → bytes_eq text (codes "apcu_enabled") ≡ false → bytes_eq text (codes "apcu_key_info") ≡ false → bytes_eq text (codes "apcu_cache_info") ≡ false → bytes_eq text (codes "apcu_sma_info") ≡ false → list_any (bytes_eq text) later_words ≡ false → form_of text ≡ Refuse reasons.Line
+no_form text e1 e2 e3 e4 e5 e6 e7 e8 e9 e10 e11 e12 e13 e14 e15 any = no_row text table (e1, (e2, (e3, (e4, (e5, (e6, (e7, (e8, (e9, (e10, (e11, (e12, (e13, (e14, (e15, none_later text later_words any)))))))))))))))

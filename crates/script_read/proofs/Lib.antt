@@ -1,4 +1,7 @@
 pub mod Values
+pub mod Binding
+pub mod GenSpelled
+pub mod GenSteps
 pub mod Forms
 pub mod Spelled
 pub mod Rows

@@ -6,14 +6,17 @@ use Rattle.php_graph.specs.declared.kind.Kind.{Kind}
 use Rattle.notation.specs.declared.fault.Fault.{Fault}
 use Rattle.notation.specs.Marks.{◌>>=◌, fail}
 use Rattle.notation.specs.Reading.{reading_of}
-use Rattle.script_read.specs.declared.call.Call.TheVariants.{StoreOne, StoreMany, Inc, Cas}
+use Rattle.apcu_model.specs.Levels.{Generator}
+use Rattle.script_read.specs.declared.call.Call.TheVariants.{StoreOne, StoreMany, Inc, Cas, Entry, KeyInfo, CacheInfo, SmaInfo}
 use Rattle.script_read.specs.declared.effect.Effect.{Effect}
 use Rattle.script_read.specs.declared.effect.Effect.TheVariants.{Sets, Calls}
 use Rattle.script_read.specs.declared.given.Stored.{Stored}
 use Rattle.script_read.specs.declared.given.Stored.TheVariants as stores
-use Rattle.script_read.specs.Arguments.{any_value, key, integer, null, ttl, moment, asked_of, stored}
-use Rattle.script_read.specs.Table.{Form, Done, Need, May, Refuse, or_refuse, taken, needs, may, calls, store_one, store_many, store_by, fetch_of, exists_of, delete_of, step_by, count_form, cas_form, form_in, form_of}
-use Rattle.script_read.specs.Reading.{space_at, ends_here, end_at, chosen, choice_at, argument_at, optional_at, last_argument_at, rest_at, line_word, behind_word, before_worker, form_after, line_at}
+use Rattle.script_read.specs.Arguments.{any_value, key, integer, truth, null, ttl, moment, asked_of, stored}
+use Rattle.script_read.specs.Table.{Form, Done, Need, May, Make, Refuse, or_refuse, taken, needs, may, calls, store_one, store_many, store_by, fetch_of, exists_of, delete_of, step_by, count_form, cas_form, entry_form, key_info_form, info_form, form_in, form_of}
+use Rattle.script_read.specs.GenParts.{entry_round}
+use Rattle.script_read.specs.Grammar.{inner_levels}
+use Rattle.script_read.specs.Reading.{space_at, ends_here, end_at, chosen, choice_at, argument_at, optional_at, last_argument_at, generator_at, gen_argument_at, rest_at, line_word, behind_word, before_worker, form_after, line_at}
 use Rattle.script_read.specs.declared.keyword.Keyword.{Keyword}
 use Rattle.script_read.specs.declared.fault.Stop.{Stop}
 use Rattle.script_read.specs.declared.fault.Stop.TheVariants as stops
@@ -25,6 +28,7 @@ abbrev pub Goes : Form → Type 0
 Goes (Done e) = Unit {0}
 Goes (Need next) = Unit {0}
 Goes (May short next) = Goes short
+Goes (Make next) = Unit {0}
 Goes (Refuse reason) = ⊥
 
 -- such a form does not look at what stands last
@@ -33,6 +37,7 @@ unfolding rest_at
 last_is (Done e) a b bytes goes = refl
 last_is (Need next) a b bytes goes = refl
 last_is (May short next) a b bytes goes = ap (λ (r : Result (Effect × List ℕ) Fault). cond (ends_here bytes) r (space_at bytes >>= λ argument. reading_of argument >>= λ v. rest_at (next v.0) argument v.1)) (last_is short a b bytes goes)
+last_is (Make next) a b bytes goes = refl
 last_is (Refuse reason) a b bytes goes = absurd goes
 
 -- what follows an argument
@@ -66,7 +71,20 @@ may_is {A = A} default choose next last bytes goes = by_end (ends_here bytes)
     by_end true = last_is (next default) last [] bytes (goes default)
     by_end false = space_on choose next (space_at bytes) goes
 
--- ---- words, each by the two above
+gen_on : (next : Generator → Form) (argument : List ℕ) (r : Result (Generator × List ℕ) Fault) → ((x : Generator) → Goes (next x)) → (r >>= λ v. rest_at (next v.0) argument v.1) ≡ on next r
+gen_on next argument (Err e) goes = refl
+gen_on next argument (Ok v) goes = last_is (next v.0) argument [] v.1 (goes v.0)
+
+space_gen : (next : Generator → Form) (r : Result (List ℕ) Fault) → ((x : Generator) → Goes (next x))
+    → (r >>= λ argument. generator_at inner_levels argument >>= λ v. rest_at (next v.0) argument v.1) ≡ on next (r >>= λ argument. generator_at inner_levels argument)
+space_gen next (Err e) goes = refl
+space_gen next (Ok argument) goes = gen_on next argument (generator_at inner_levels argument) goes
+
+pub make_is : (next : Generator → Form) (last bytes : List ℕ) → ((x : Generator) → Goes (next x)) → rest_at (Make next) last bytes ≡ on next (gen_argument_at bytes)
+unfolding rest_at
+make_is next last bytes goes = space_gen next (space_at bytes) goes
+
+-- ---- words, each by the three above
 
 then_is : {A B : Type 0} (r : Result A Fault) (f g : A → Result B Fault) → ((x : A) → f x ≡ g x) → (r >>= f) ≡ (r >>= g)
 then_is (Ok x) f g same = same x
@@ -155,6 +173,40 @@ cas_is last bytes =
     ∙ then_is (argument_at key bytes) _ _ (λ k. needs_is integer (λ expect. needs integer (λ set. calls (Cas k.0 expect set))) [] k.1 (λ expect. tt)
     ∙ then_is (argument_at integer k.1) _ _ (λ expect. needs_is integer (λ set. calls (Cas k.0 expect.0 set)) [] expect.1 (λ set. tt)))
 
+-- ---- entries and information
+
+pub entry_is : (last bytes : List ℕ) → rest_at entry_form last bytes
+    ≡ (argument_at key bytes >>= λ k. gen_argument_at k.1 >>= λ gen. optional_at 0 ttl gen.1 >>= ended (λ t. Calls (Entry (entry_round k.0 t gen.0))))
+unfolding rest_at
+entry_is last bytes =
+    needs_is key (λ k. Make (λ gen. may 0 ttl (λ t. calls (Entry (entry_round k t gen))))) last bytes (λ k. tt)
+    ∙ then_is (argument_at key bytes) _ _ (λ k. make_is (λ gen. may 0 ttl (λ t. calls (Entry (entry_round k.0 t gen)))) [] k.1 (λ gen. tt)
+    ∙ then_is (gen_argument_at k.1) _ _ (λ gen. may_is 0 ttl (λ t. calls (Entry (entry_round k.0 t gen.0))) [] gen.1 (λ t. tt)))
+
+-- the arguments were read one after the other
+pub entry_at_is : (last bytes k behind_key : List ℕ) (inner : Generator) (behind_gen : List ℕ) (t : ℕ) (behind_ttl after : List ℕ) (gen : Generator)
+    → argument_at key bytes ≡ Ok (k, behind_key) → gen_argument_at behind_key ≡ Ok (inner, behind_gen) → optional_at 0 ttl behind_gen ≡ Ok (t, behind_ttl) → end_at behind_ttl ≡ Ok after → entry_round k t inner ≡ gen
+    → rest_at entry_form last bytes ≡ Ok (Calls (Entry gen), after)
+entry_at_is last bytes k behind_key inner behind_gen t behind_ttl after gen e1 e2 e3 e4 is =
+    entry_is last bytes
+    ∙ (ap (λ (r : Result (List ℕ × List ℕ) Fault). r >>= λ k. gen_argument_at k.1 >>= λ gen. optional_at 0 ttl gen.1 >>= ended (λ t. Calls (Entry (entry_round k.0 t gen.0)))) e1
+    ∙ (ap (λ (r : Result (Generator × List ℕ) Fault). r >>= λ gen. optional_at 0 ttl gen.1 >>= ended (λ t. Calls (Entry (entry_round k t gen.0)))) e2
+    ∙ (ap (λ (r : Result (ℕ × List ℕ) Fault). r >>= ended (λ t. Calls (Entry (entry_round k t inner)))) e3
+    ∙ (ap (λ (r : Result (List ℕ) Fault). r >>= λ rest. Ok (Calls (Entry (entry_round k t inner)), rest)) e4
+    ∙ ap (λ (g : Generator). Ok (Calls (Entry g), after)) is))))
+
+pub key_info_is : (last bytes : List ℕ) → rest_at key_info_form last bytes ≡ (argument_at key bytes >>= ended (λ k. Calls (KeyInfo k)))
+unfolding rest_at
+key_info_is last bytes = needs_is key (λ k. calls (KeyInfo k)) last bytes (λ k. tt)
+
+pub cache_info_is : (last bytes : List ℕ) → rest_at (info_form CacheInfo) last bytes ≡ (optional_at false truth bytes >>= ended (λ limited. Calls (CacheInfo limited)))
+unfolding rest_at
+cache_info_is last bytes = may_is false truth (λ limited. calls (CacheInfo limited)) last bytes (λ limited. tt)
+
+pub sma_info_is : (last bytes : List ℕ) → rest_at (info_form SmaInfo) last bytes ≡ (optional_at false truth bytes >>= ended (λ limited. Calls (SmaInfo limited)))
+unfolding rest_at
+sma_info_is last bytes = may_is false truth (λ limited. calls (SmaInfo limited)) last bytes (λ limited. tt)
+
 -- ---- stores
 
 pub stored_at : (exclusive : Bool) (last bytes : List ℕ) (s : Stored) (rest : List ℕ) → argument_at stored bytes ≡ Ok (s, rest) → rest_at (needs stored (store_by exclusive)) last bytes ≡ rest_at (store_by exclusive s) [] rest
@@ -179,7 +231,7 @@ first_reads begun line word keyword reason none is named refused =
     ∙ ap (λ (f : Form). rest_at f line (behind_word line)) refused))
 
 -- the fault that begins with these bytes, whatever is to be read
-fault_is : (A B : Type 0) (e : Stop) (reason : Reason) (bytes : List ℕ) → Stops {Y = A} e (fail reason bytes) → Stops {Y = B} e (fail reason bytes)
+pub fault_is : (A B : Type 0) (e : Stop) (reason : Reason) (bytes : List ℕ) → Stops {Y = A} e (fail reason bytes) → Stops {Y = B} e (fail reason bytes)
 fault_is A B stops.Memory reason bytes stop = tt
 fault_is A B (stops.Fault f) reason bytes stop = cc
 

@@ -1,5 +1,5 @@
 -- Scripts are read as they are spelled: by lines.
-use Rattle.std.proofs.Common.{◌≡◌, ℕ, zero, suc, ◌+◌, ◌-◌, ◌≤◌, ◌<◌, Bool, true, false, cond, List, [], ◌∷◌, ◌++◌, length, take, drop, Option, Some, None, Result, Ok, inl, inr, refl, sym, ap, ap₂, subst, ◌∙◌, append_assoc, length-append, take-append-drop, arith}
+use Rattle.std.proofs.Common.{◌≡◌, ℕ, zero, suc, ◌+◌, ◌-◌, ◌≤◌, ◌<◌, Bool, true, false, cond, List, [], ◌∷◌, ◌++◌, length, take, drop, Option, Some, Result, Ok, inl, inr, refl, sym, ap, ap₂, subst, ◌∙◌, append_assoc, length-append, take-append-drop, arith}
 use Rattle.std.specs.Prelude.{◌&&◌, not, nat_lt, codes}
 use Rattle.std.specs.Option.{option_and_then, option_map}
 use Rattle.std.specs.List.{flat_map, AllByRecursion, list_all, prefix_len}
@@ -10,20 +10,16 @@ use Rattle.std.proofs.Math.Seq.{take-append_seam, drop-append_seam}
 use Rattle.notation.specs.declared.fault.Reason.TheVariants as reasons
 use Rattle.notation.specs.declared.fault.Fault.{Fault}
 use Rattle.notation.specs.Marks.{◌>>=◌, fail}
-use Rattle.php_graph.specs.declared.kind.Kind.{Kind}
-use Rattle.notation.specs.Notation.{text_of}
 use Rattle.script_read.specs.declared.effect.Effect.{Effect}
 use Rattle.script_read.specs.declared.effect.Effect.TheVariants.{Sets, Calls}
 use Rattle.script_read.specs.declared.script.Step.{Step}
-use Rattle.script_read.specs.Table.{Form, Done, Need, May, Refuse, table, form_in, form_of}
-use Rattle.script_read.specs.Grammar.{Line, arguments_text, AreArguments, ends_line, line_text, script_text, effect_by, effect_of, steps_after, steps_of, Mean, most_workers, AreScripts}
+use Rattle.script_read.specs.Table.{Form, Done, Need, May, Make, Refuse, table, form_in, form_of}
+use Rattle.script_read.specs.Grammar.{Argument, Line, argument_text, arguments_text, AreArguments, ends_line, line_text, script_text, effect_by, effect_of, steps_after, steps_of, Mean, most_workers, AreScripts}
 use Rattle.script_read.specs.Reading.{ends_word, word_len, line_word, behind_word, end_at, rest_at, worker_at, before_worker, line_at, is_worker, Rest, with_effect, lines_at, scripts_at}
 use Rattle.script_read.specs.Ties.{AreSomeBytes}
-use Rattle.script_read.proofs.Forms.{ValuesTake, ValuesAgain, FormsTake, FormsAgain, bind_ok, ok_is, some_is, then_some, chosen, end_takes, bytes_after, forms_take, forms_again}
-
-map_some : {A B : Type 0} (f : A → B) (o : Option A) (y : B) → option_map f o ≡ Some y → (x : A) × (o ≡ Some x) × (f x ≡ y)
-map_some f (Some x) y e = (x, refl, some_is (f x) y e)
-map_some f None y e = absurd cc
+use Rattle.script_read.proofs.Binding.{ValuesTake, ValuesAgain, bind_ok, ok_is, some_is, then_some, map_some, chosen, bytes_after}
+use Rattle.script_read.proofs.GenSpelled.{gens_again, gens_take}
+use Rattle.script_read.proofs.Forms.{FormsTake, FormsAgain, end_takes, forms_take, forms_again}
 
 -- ---- words
 
@@ -47,7 +43,7 @@ is_false true e = absurd cc
 is_false false e = refl
 
 -- a line that says something begins with a word of the table
-word_in_rows : (rows : List (List ℕ × Form)) (w : List ℕ) (arguments : List (List Kind)) (e : Effect) → are_row_words rows ≡ true → effect_by (form_in rows w) arguments ≡ Some e → is_row_word w ≡ true
+word_in_rows : (rows : List (List ℕ × Form)) (w : List ℕ) (arguments : List Argument) (e : Effect) → are_row_words rows ≡ true → effect_by (form_in rows w) arguments ≡ Some e → is_row_word w ≡ true
 unfolding form_in
 word_in_rows [] w arguments e words means = absurd cc
 word_in_rows (row ∷ rows) w arguments e words means =
@@ -79,9 +75,9 @@ pub record EndsWord (bytes : List ℕ) : Type 0 where
   pub is : bytes ≡ first ∷ others
   pub ends : ends_word first ≡ true
 
-behind_is : (arguments : List (List Kind)) (rest : List ℕ) → EndsWord (arguments_text arguments ++ (ends_line ++ rest))
+behind_is : (arguments : List Argument) (rest : List ℕ) → EndsWord (arguments_text arguments ++ (ends_line ++ rest))
 behind_is [] rest = record { first = 10; others = rest; is = refl; ends = refl }
-behind_is (a ∷ more) rest = record { first = 32; others = (text_of a ++ arguments_text more) ++ (ends_line ++ rest); is = refl; ends = refl }
+behind_is (a ∷ more) rest = record { first = 32; others = (argument_text a ++ arguments_text more) ++ (ends_line ++ rest); is = refl; ends = refl }
 
 len_again : (w behind : List ℕ) → list_all is_letter w ≡ true → EndsWord behind → word_len (w ++ behind) ≡ length w
 len_again w behind letters p = ap (λ (l : List ℕ). word_len (w ++ l)) p.is ∙ word_len_again w p.first p.others letters p.ends
@@ -195,7 +191,7 @@ others_again forms begun (body ∷ others) (steps ∷ scripts) are means few (su
 pub scripts_again : ValuesAgain → (bytes : List ℕ) (scripts : List (List Step)) → AreScripts bytes scripts → scripts_at bytes ≡ Ok scripts
 unfolding scripts_at
 scripts_again values bytes scripts are =
-    let forms = forms_again values in
+    let forms = forms_again values (gens_again values) in
     let read : lines_at (length bytes) 0 0 bytes ≡ rest_is [] scripts = subst (λ (l : List ℕ). lines_at (length l) 0 0 l ≡ rest_is [] scripts) (sym are.text)
     (others_again forms 0 are.lines scripts are.values are.meaning (omega (arith, are.workers)) (length (flat_map script_text are.lines)) 0 (omega arith)) in
     ap (λ (r : Result Rest Fault). r >>= λ rest. Ok rest.1) read
@@ -220,6 +216,7 @@ unfolding rest_at
 no_worker_first forms (Done x) last bytes e rest read = cc
 no_worker_first forms (Need next) last bytes e rest read = cc
 no_worker_first forms (May short next) last bytes e rest read = cc
+no_worker_first forms (Make next) last bytes e rest read = cc
 no_worker_first forms (Refuse reason) last bytes e rest read = cc
 
 -- a line was read
@@ -331,7 +328,7 @@ pub scripts_take : ValuesTake → (bytes : List ℕ) (scripts : List (List Step)
 unfolding scripts_at
 scripts_take values bytes scripts fits e =
     let a = bind_ok (lines_at (length bytes) 0 0 bytes) (λ rest. Ok rest.1) scripts e in
-    let r = lines_take (forms_take values) (length bytes) 0 0 bytes a.0.0 a.0.1 fits (omega arith) a.1 in
+    let r = lines_take (forms_take values (gens_take values)) (length bytes) 0 0 bytes a.0.0 a.0.1 fits (omega arith) a.1 in
     let none : r.body ≡ [] = r.first refl in
     subst (AreScripts bytes) (ok_is a.0.1 scripts a.2)
     (record {

@@ -1,5 +1,7 @@
 -- What a value is as an argument: nothing where it is of the wrong kind or range.
-use Rattle.std.specs.Prelude.{ℕ, nat_le, if◌then◌else◌, List, [], ◌∷◌, Option, Some, None, IsSome, ℤ, pos, negsuc}
+use Rattle.std.specs.Prelude.{ℕ, Bool, nat_le, if◌then◌else◌, List, [], ◌∷◌, Option, Some, None}
+use Rattle.std.specs.Prelude.{IsSome}
+use Rattle.std.specs.Prelude.{ℤ, pos, negsuc}
 use Rattle.std.specs.Fmt.{signed_decimal}
 use Rattle.std.specs.Option.{option_and_then, option_map}
 use Rattle.php_graph.specs.declared.key.Key.{Key}
@@ -36,6 +38,10 @@ key _ = None
 abbrev pub integer : List Kind → Option ℤ
 integer (kinds.Int n ∷ []) = Some n
 integer _ = None
+
+abbrev pub truth : List Kind → Option Bool
+truth (kinds.Bool b ∷ []) = Some b
+truth _ = None
 
 abbrev pub null : List Kind → Option (Unit {0})
 null (kinds.Null ∷ []) = Some tt

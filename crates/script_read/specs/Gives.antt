@@ -12,7 +12,7 @@ use Rattle.script_read.specs.declared.keyword.Keyword.{Keyword}
 use Rattle.script_read.specs.declared.keyword.Keyword.TheVariants as keywords
 use Rattle.script_read.specs.declared.script.Step.{Step}
 use Rattle.notation.specs.declared.fault.Reason.TheVariants as reasons
-use Rattle.script_read.specs.Calls.{last_moment}
+use Rattle.script_read.specs.Calls.{last_moment, HasLevels}
 use Rattle.script_read.specs.Table.{Form, Refuse, later, form_of}
 use Rattle.script_read.specs.Reading.{scripts_at}
 
@@ -49,12 +49,16 @@ form_named keywords.Delete = form_of (codes "apcu_delete")
 form_named keywords.Inc = form_of (codes "apcu_inc")
 form_named keywords.Dec = form_of (codes "apcu_dec")
 form_named keywords.Cas = form_of (codes "apcu_cas")
+form_named keywords.Entry = form_of (codes "apcu_entry")
 form_named keywords.Clear = form_of (codes "apcu_clear_cache")
 form_named keywords.Enabled = form_of (codes "apcu_enabled")
+form_named keywords.KeyInfo = form_of (codes "apcu_key_info")
+form_named keywords.CacheInfo = form_of (codes "apcu_cache_info")
+form_named keywords.SmaInfo = form_of (codes "apcu_sma_info")
 form_named keywords.Later = later
 form_named keywords.Unknown = Refuse reasons.Line
 
--- a moment that a line sets is one
-abbrev pub IsSoon : Effect → Type 0
-IsSoon (Sets t) = t ≤ last_moment
-IsSoon (Calls call) = Unit {0}
+-- what a line does is in range: the moment that it sets, or the levels of its call
+abbrev pub IsInRange : Effect → Type 0
+IsInRange (Sets t) = t ≤ last_moment
+IsInRange (Calls call) = HasLevels call

@@ -1,28 +1,59 @@
 -- What scripts are spelled as, and what the lines mean.
-use Rattle.std.specs.Prelude.{◌≡◌, ℕ, ◌≤◌, List, [], ◌∷◌, ◌++◌, length, codes, Option, Some, None}
+use Rattle.std.specs.Prelude.{◌≡◌, ℕ, zero, suc, ◌≤◌, List, [], ◌∷◌, ◌++◌, length, codes}
+use Rattle.std.specs.Prelude.{Option, Some, None}
 use Rattle.std.specs.Option.{option_and_then, option_map}
 use Rattle.std.specs.List.{flat_map, AllByRecursion}
 use Rattle.php_graph.specs.declared.kind.Kind.{Kind}
 use Rattle.php_graph.specs.Graph.{IsGraph}
 use Rattle.notation.specs.Notation.{text_of}
+use Rattle.apcu_model.specs.Levels.{Generator}
 use Rattle.script_read.specs.declared.effect.Effect.{Effect}
 use Rattle.script_read.specs.declared.effect.Effect.TheVariants.{Sets, Calls}
 use Rattle.script_read.specs.declared.script.Step.{Step}
-use Rattle.script_read.specs.Table.{Form, Done, Need, May, form_of}
+use Rattle.script_read.specs.Arguments.{key, ttl}
+use Rattle.script_read.specs.GenParts.{literal_gen, entry_round}
+use Rattle.script_read.specs.Table.{Form, Done, Need, May, Make, form_of}
 
 -- ---- what is written
 
--- a word with its arguments, which are values
+-- a generator: a value, or an entry's key, the generator inside it, and its limit of time where it
+-- has one
+pub data WrittenGen : Type 0 where
+  Literal : List Kind → WrittenGen
+  Nested : List Kind → WrittenGen → WrittenGen
+  Limited : List Kind → WrittenGen → List Kind → WrittenGen
+
+pub data Argument : Type 0 where
+  Plain : List Kind → Argument
+  Making : WrittenGen → Argument
+
+-- a word with its arguments
 pub record Line : Type 0 where
   pub word : List ℕ
-  pub arguments : List (List Kind)
+  pub arguments : List Argument
 
 -- ---- its text
 
+-- how an entry inside a generator begins
+abbrev pub entry_word : List ℕ
+entry_word = codes "(apcu_entry "
+
+abbrev pub gen_text : WrittenGen → List ℕ
+gen_text (Literal g) = codes "(" ++ (text_of g ++ codes ")")
+gen_text (Nested k inner) =
+    entry_word ++ (text_of k ++ (codes " " ++ (gen_text inner ++ codes ")")))
+gen_text (Limited k inner t) =
+    entry_word ++ (text_of k ++ (codes " "
+    ++ (gen_text inner ++ (codes " " ++ (text_of t ++ codes ")")))))
+
+abbrev pub argument_text : Argument → List ℕ
+argument_text (Plain g) = text_of g
+argument_text (Making written) = gen_text written
+
 -- each after a space
-abbrev pub arguments_text : List (List Kind) → List ℕ
+abbrev pub arguments_text : List Argument → List ℕ
 arguments_text [] = []
-arguments_text (g ∷ more) = codes " " ++ (text_of g ++ arguments_text more)
+arguments_text (a ∷ more) = codes " " ++ (argument_text a ++ arguments_text more)
 
 -- a line feed
 abbrev pub ends_line : List ℕ
@@ -35,17 +66,50 @@ line_text line = line.word ++ (arguments_text line.arguments ++ ends_line)
 abbrev pub script_text : List Line → List ℕ
 script_text lines = codes "worker" ++ (ends_line ++ flat_map line_text lines)
 
-abbrev pub AreArguments : List (List Kind) → Type 0
-AreArguments arguments = AllByRecursion IsGraph arguments
+-- ---- which values are written
+
+abbrev pub IsWrittenGen : WrittenGen → Type 0
+IsWrittenGen (Literal g) = IsGraph g
+IsWrittenGen (Nested k inner) = IsGraph k × IsWrittenGen inner
+IsWrittenGen (Limited k inner t) = IsGraph k × IsWrittenGen inner × IsGraph t
+
+abbrev pub IsArgument : Argument → Type 0
+IsArgument (Plain g) = IsGraph g
+IsArgument (Making written) = IsWrittenGen written
+
+abbrev pub AreArguments : List Argument → Type 0
+AreArguments arguments = AllByRecursion IsArgument arguments
 
 -- ---- what is meant
 
+-- an entry, where its parts mean something
+abbrev pub entry_meant : Option (List ℕ) → Option Generator → Option ℕ → Option Generator
+entry_meant k inner t =
+    option_and_then (λ bytes. option_and_then
+    (λ gen. option_map (λ limit. entry_round bytes limit gen) t) inner) k
+
+-- What a generator makes its value of, where so many entries may lie in one another. A limit of
+-- time that is left out is none.
+abbrev pub gen_meant : ℕ → WrittenGen → Option Generator
+gen_meant levels (Literal g) = Some (literal_gen g)
+gen_meant zero (Nested k inner) = None
+gen_meant (suc levels) (Nested k inner) = entry_meant (key k) (gen_meant levels inner) (Some 0)
+gen_meant zero (Limited k inner t) = None
+gen_meant (suc levels) (Limited k inner t) =
+    entry_meant (key k) (gen_meant levels inner) (ttl t)
+
+-- how many entries may lie inside the line's own
+abbrev pub inner_levels : ℕ
+inner_levels = 7
+
 -- what the arguments say, by what may follow
-abbrev pub effect_by : Form → List (List Kind) → Option Effect
+abbrev pub effect_by : Form → List Argument → Option Effect
 effect_by (Done e) [] = Some e
-effect_by (Need next) (g ∷ more) = effect_by (next g) more
+effect_by (Need next) (Plain g ∷ more) = effect_by (next g) more
 effect_by (May short next) [] = effect_by short []
-effect_by (May short next) (g ∷ more) = effect_by (next g) more
+effect_by (May short next) (Plain g ∷ more) = effect_by (next g) more
+effect_by (Make next) (Making written ∷ more) =
+    option_and_then (λ gen. effect_by (next gen) more) (gen_meant inner_levels written)
 effect_by _ _ = None
 
 abbrev pub effect_of : Line → Option Effect

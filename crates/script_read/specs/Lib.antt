@@ -1,5 +1,6 @@
 pub mod Calls
 pub mod Arguments
+pub mod GenParts
 pub mod Table
 pub mod Grammar
 pub mod Reading

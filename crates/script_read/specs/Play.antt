@@ -1,5 +1,7 @@
 -- What workers ask of the cache, and what comes of a journal.
-use Rattle.std.specs.Prelude.{ℕ, ◌&&◌, Bool, true, false, if◌then◌else◌, List, [], ◌∷◌, ◌++◌, length, map, Option, Some, None, slice_get, slice_set, unwrap_or, is_none, IsTrue, IsSome}
+use Rattle.std.specs.Prelude.{ℕ, ◌&&◌, Bool, true, false, if◌then◌else◌, List, [], ◌∷◌, ◌++◌}
+use Rattle.std.specs.Prelude.{length, map, Option, Some, None, slice_get, slice_set, unwrap_or}
+use Rattle.std.specs.Prelude.{is_none, IsTrue, IsSome}
 use Rattle.std.specs.Option.{option_and_then}
 use Rattle.apcu_model.specs.declared.conf.Conf.{Conf}
 use Rattle.apcu_model.specs.declared.event.Event.{Event}
@@ -9,7 +11,11 @@ use Rattle.apcu_model.specs.declared.request.Request.TheVariants as requests
 use Rattle.apcu_model.specs.declared.request.Reply.{Reply}
 use Rattle.apcu_model.specs.History.{Stage, start_of, is_legal_mask, reply_in, after_event}
 use Rattle.script_read.specs.declared.call.Call.{Call}
-use Rattle.script_read.specs.declared.call.Call.TheVariants.{StoreOne, StoreMany, FetchOne, FetchMany, ExistsOne, ExistsMany, DeleteOne, DeleteMany, Inc, Cas, Clear, Enabled}
+use Rattle.script_read.specs.declared.call.Call.TheVariants.{StoreOne, StoreMany, FetchOne}
+use Rattle.script_read.specs.declared.call.Call.TheVariants.{FetchMany, ExistsOne, ExistsMany}
+use Rattle.script_read.specs.declared.call.Call.TheVariants.{DeleteOne, DeleteMany, Inc, Cas, Clear}
+use Rattle.script_read.specs.declared.call.Call.TheVariants.{Enabled, Entry, KeyInfo, CacheInfo}
+use Rattle.script_read.specs.declared.call.Call.TheVariants.{SmaInfo}
 use Rattle.script_read.specs.declared.script.Step.{Step}
 
 -- what a call asks, one request after the other; whether the cache is enabled asks nothing
@@ -25,8 +31,12 @@ requests_of (DeleteOne key) = requests.Delete key ∷ []
 requests_of (DeleteMany keys) = map requests.Delete keys
 requests_of (Inc key step ttl) = requests.Inc key step ttl ∷ []
 requests_of (Cas key expect set) = requests.Cas key expect set ∷ []
+requests_of (Entry gen) = requests.Entry gen ∷ []
 requests_of Clear = requests.Clear ∷ []
 requests_of Enabled = []
+requests_of (KeyInfo key) = requests.KeyInfo key ∷ []
+requests_of (CacheInfo limited) = requests.CacheInfo limited ∷ []
+requests_of (SmaInfo limited) = requests.SmaInfo limited ∷ []
 
 -- What a call does next, after it got some replies: it asks once more, or it is done and leaves the
 -- replies that belong to the calls after it.
@@ -48,9 +58,19 @@ pub record Wish : Type 0 where
   pub request : Request
   pub t : ℕ
 
+-- the moment of a request of a call at moment t: those that use no moment have 0
+abbrev pub moment_for : ℕ → Request → ℕ
+moment_for t (requests.CacheInfo limited) = 0
+moment_for t (requests.SmaInfo limited) = 0
+moment_for t requests.Retire = 0
+moment_for t _ = t
+
+abbrev pub wish_at : ℕ → Request → Wish
+wish_at t request = record { request = request; t = moment_for t request }
+
 -- the call's request, or else what the calls after it want
 abbrev pub continued : ℕ → (List Reply → Option Wish) → Next → Option Wish
-continued t later (Asks request) = Some (record { request = request; t = t })
+continued t later (Asks request) = Some (wish_at t request)
 continued t later (Leaves others) = later others
 
 -- A worker's next request after these replies: that of the first call that is not done; after the

@@ -1,5 +1,7 @@
 -- Reading scripts from left to right, to their end or to the first fault.
-use Rattle.std.specs.Prelude.{ℕ, zero, suc, Bool, false, ◌&&◌, ◌||◌, not, ◌==◌, nat_le, nat_lt, if◌then◌else◌, List, [], ◌∷◌, length, take, drop, codes, Option, Some, None, Result, Ok}
+use Rattle.std.specs.Prelude.{ℕ, zero, suc, Bool, false, ◌&&◌, ◌||◌, not, ◌==◌, nat_le, nat_lt}
+use Rattle.std.specs.Prelude.{if◌then◌else◌, List, [], ◌∷◌, length, take, drop, codes, Option, Some}
+use Rattle.std.specs.Prelude.{None, Result, Ok}
 use Rattle.std.specs.List.{position_or_len}
 use Rattle.std.specs.Str.{bytes_eq}
 use Rattle.php_graph.specs.declared.kind.Kind.{Kind}
@@ -7,11 +9,14 @@ use Rattle.notation.specs.declared.fault.Reason.TheVariants as reasons
 use Rattle.notation.specs.declared.fault.Fault.{Fault}
 use Rattle.notation.specs.Marks.{◌>>=◌, fail}
 use Rattle.notation.specs.Reading.{reading_of}
+use Rattle.apcu_model.specs.Levels.{Generator}
 use Rattle.script_read.specs.declared.effect.Effect.{Effect}
 use Rattle.script_read.specs.declared.effect.Effect.TheVariants.{Sets, Calls}
 use Rattle.script_read.specs.declared.script.Step.{Step}
-use Rattle.script_read.specs.Table.{Form, Done, Need, May, Refuse, form_of}
-use Rattle.script_read.specs.Grammar.{most_workers}
+use Rattle.script_read.specs.Arguments.{key, ttl}
+use Rattle.script_read.specs.GenParts.{literal_gen, entry_round}
+use Rattle.script_read.specs.Table.{Form, Done, Need, May, Make, Refuse, form_of}
+use Rattle.script_read.specs.Grammar.{entry_word, inner_levels, most_workers}
 
 -- ---- words
 
@@ -82,6 +87,59 @@ abbrev pub last_argument_at : {A : Type 0}
 last_argument_at choose bytes =
     argument_at choose bytes >>= λ x. end_at x.1 >>= λ rest. Ok (x.0, rest)
 
+-- ---- generators
+
+-- the byte that is due inside a generator
+unfoldable pub separator_at : ℕ → List ℕ → Result (List ℕ) Fault
+separator_at separator [] = fail reasons.End []
+separator_at separator (b ∷ rest) =
+    if b == separator then Ok rest else fail reasons.Separator (b ∷ rest)
+
+-- the end of an entry, with its limit of time before it where it has one
+unfoldable pub limit_at : List ℕ → Result (ℕ × List ℕ) Fault
+limit_at [] = fail reasons.End []
+limit_at (b ∷ rest) =
+    if b == 41 then Ok (0, rest)
+    else if b == 32
+    then (choice_at ttl rest >>= λ t. separator_at 41 t.1 >>= λ after. Ok (t.0, after))
+    else fail reasons.Separator (b ∷ rest)
+
+-- a value in parentheses
+unfoldable pub literal_at : List ℕ → Result (Generator × List ℕ) Fault
+literal_at [] = fail reasons.End []
+literal_at (b ∷ rest) =
+    if b == 40
+    then (reading_of rest >>= λ v. separator_at 41 v.1 >>= λ after. Ok (literal_gen v.0, after))
+    else fail reasons.Argument (b ∷ rest)
+
+-- an entry behind its word, where this reads the generator inside it
+abbrev pub entry_at : (List ℕ → Result (Generator × List ℕ) Fault)
+    → List ℕ → Result (Generator × List ℕ) Fault
+entry_at inner_at bytes = do
+  k ← choice_at key bytes
+  argument ← separator_at 32 k.1
+  inner ← inner_at argument
+  t ← limit_at inner.1
+  Ok (entry_round k.0 t.0 inner.0, t.1)
+
+-- an entry, and no value, begins here
+abbrev pub begins_entry : List ℕ → Bool
+begins_entry bytes = bytes_eq (take (length entry_word) bytes) entry_word
+
+-- A generator, where so many entries may lie in one another. One more is refused at its
+-- parenthesis, before anything of it is read.
+unfoldable pub generator_at : ℕ → List ℕ → Result (Generator × List ℕ) Fault
+generator_at zero bytes =
+    if begins_entry bytes then fail reasons.Generator bytes else literal_at bytes
+generator_at (suc levels) bytes =
+    if begins_entry bytes
+    then entry_at (generator_at levels) (drop (length entry_word) bytes)
+    else literal_at bytes
+
+-- an argument that is due
+abbrev pub gen_argument_at : List ℕ → Result (Generator × List ℕ) Fault
+gen_argument_at bytes = space_at bytes >>= λ argument. generator_at inner_levels argument
+
 -- ---- lines
 
 -- What may follow, to the end of the line. What stands last began at the first of these bytes.
@@ -95,6 +153,10 @@ rest_at (May short next) last bytes =
     if ends_here bytes then rest_at short last bytes
     else (space_at bytes >>= λ argument.
     reading_of argument >>= λ v. rest_at (next v.0) argument v.1)
+rest_at (Make next) last bytes = do
+  argument ← space_at bytes
+  gen ← generator_at inner_levels argument
+  rest_at (next gen.0) argument gen.1
 rest_at (Refuse reason) last bytes = fail reason last
 
 -- the line `worker`, where so many scripts have begun

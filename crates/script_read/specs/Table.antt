@@ -1,20 +1,28 @@
 -- The words of lines, and the arguments that each takes.
-use Rattle.std.specs.Prelude.{ℕ, Bool, true, false, List, [], ◌∷◌, ◌++◌, map, codes, Option, Some, None, if◌then◌else◌, ℤ, pos}
+use Rattle.std.specs.Prelude.{ℕ, Bool, true, false, List, [], ◌∷◌, ◌++◌, map, codes, Option, Some}
+use Rattle.std.specs.Prelude.{None, if◌then◌else◌, ℤ, pos}
 use Rattle.std.specs.Int.{w64, int_wrapping_neg}
 use Rattle.std.specs.Option.{option_map}
 use Rattle.std.specs.Str.{bytes_eq}
 use Rattle.php_graph.specs.declared.kind.Kind.{Kind}
+use Rattle.apcu_model.specs.Levels.{Generator}
 use Rattle.notation.specs.declared.fault.Reason.{Reason}
 use Rattle.notation.specs.declared.fault.Reason.TheVariants.{Argument, Line, Unbuilt}
 use Rattle.script_read.specs.declared.call.Call.{Call}
-use Rattle.script_read.specs.declared.call.Call.TheVariants.{StoreOne, StoreMany, FetchOne, FetchMany, ExistsOne, ExistsMany, DeleteOne, DeleteMany, Inc, Cas, Clear, Enabled}
+use Rattle.script_read.specs.declared.call.Call.TheVariants.{StoreOne, StoreMany, FetchOne}
+use Rattle.script_read.specs.declared.call.Call.TheVariants.{FetchMany, ExistsOne, ExistsMany}
+use Rattle.script_read.specs.declared.call.Call.TheVariants.{DeleteOne, DeleteMany, Inc, Cas, Clear}
+use Rattle.script_read.specs.declared.call.Call.TheVariants.{Enabled, Entry, KeyInfo, CacheInfo}
+use Rattle.script_read.specs.declared.call.Call.TheVariants.{SmaInfo}
 use Rattle.script_read.specs.declared.effect.Effect.{Effect}
 use Rattle.script_read.specs.declared.effect.Effect.TheVariants.{Sets, Calls}
 use Rattle.script_read.specs.declared.given.Asked.{Asked}
 use Rattle.script_read.specs.declared.given.Asked.TheVariants as asks
 use Rattle.script_read.specs.declared.given.Stored.{Stored}
 use Rattle.script_read.specs.declared.given.Stored.TheVariants as stores
-use Rattle.script_read.specs.Arguments.{any_value, key, integer, null, ttl, moment, asked_of, stored}
+use Rattle.script_read.specs.Arguments.{any_value, key, integer, truth, null, ttl, moment}
+use Rattle.script_read.specs.Arguments.{asked_of, stored}
+use Rattle.script_read.specs.GenParts.{entry_round}
 
 -- ---- forms
 
@@ -26,6 +34,8 @@ pub data Form : Type 0 where
   Need : (List Kind → Form) → Form
   -- the same, or the end: then it goes on as if nothing more could come
   May : Form → (List Kind → Form) → Form
+  -- a generator
+  Make : (Generator → Form) → Form
   -- nothing: what stands last is refused for the reason
   Refuse : Reason → Form
 
@@ -90,6 +100,18 @@ abbrev pub cas_form : Form
 cas_form =
     needs key (λ k. needs integer (λ expect. needs integer (λ set. calls (Cas k expect set))))
 
+-- a key, what gives the value where no live row has it, and a limit of time
+abbrev pub entry_form : Form
+entry_form =
+    needs key (λ k. Make (λ gen. may 0 ttl (λ t. calls (Entry (entry_round k t gen)))))
+
+abbrev pub key_info_form : Form
+key_info_form = needs key (λ k. calls (KeyInfo k))
+
+-- whether the lists are left out, which they are not where nothing is said
+abbrev pub info_form : (Bool → Call) → Form
+info_form info = may false truth (λ limited. calls (info limited))
+
 -- the words, `worker` apart
 abbrev pub built : List (List ℕ × Form)
 built =
@@ -102,18 +124,18 @@ built =
     ∷ (codes "apcu_inc", count_form false)
     ∷ (codes "apcu_dec", count_form true)
     ∷ (codes "apcu_cas", cas_form)
+    ∷ (codes "apcu_entry", entry_form)
     ∷ (codes "apcu_clear_cache", calls Clear)
     ∷ (codes "apcu_enabled", calls Enabled)
+    ∷ (codes "apcu_key_info", key_info_form)
+    ∷ (codes "apcu_cache_info", info_form CacheInfo)
+    ∷ (codes "apcu_sma_info", info_form SmaInfo)
     ∷ []
 
 -- words that are not built yet
 abbrev pub later_words : List (List ℕ)
 later_words =
-    codes "apcu_entry"
-    ∷ codes "apcu_key_info"
-    ∷ codes "apcu_cache_info"
-    ∷ codes "apcu_sma_info"
-    ∷ codes "APCUIterator"
+    codes "APCUIterator"
     ∷ codes "APCUIterator_delete"
     ∷ codes "APCUIterator_totals"
     ∷ []

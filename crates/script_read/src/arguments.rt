@@ -1,14 +1,16 @@
 //! The arguments of lines: values, and what is made of them.
 
-ghost use Rattle.std.specs.Prelude.{◌≡◌, ℕ, ◌≤◌, ◌<◌, List, length, pos, Err, IfOk};
+ghost use Rattle.std.specs.Prelude.{◌≡◌, ℕ, ◌≤◌, ◌<◌, false, List, length, pos, Err, IfOk};
 ghost use Rattle.notation.specs.Marks.{fail};
 ghost use Rattle.notation.specs.Reading.{reading_of};
 ghost use Rattle.script_read.specs.Calls.{last_moment};
-ghost use Rattle.script_read.specs.Arguments.{any_value, key, integer, null, ttl, moment, asked_of, stored};
-ghost use Rattle.script_read.specs.Reading.{space_at, end_at, one_more_at, ends_here, argument_at, optional_at};
+ghost use Rattle.script_read.specs.Arguments.{any_value, key, integer, truth, null, ttl, moment};
+ghost use Rattle.script_read.specs.Arguments.{asked_of, stored};
+ghost use Rattle.script_read.specs.Reading.{space_at, end_at, one_more_at, ends_here, choice_at};
+ghost use Rattle.script_read.specs.Reading.{argument_at, optional_at};
 ghost use Rattle.script_read.specs.Gives.{GivesItem};
 
-use crate::choices::{asked_of, integer_of, is_null, moment_of, stored_of, ttl_of};
+use crate::choices::{asked_of, integer_of, is_null, moment_of, stored_of, truth_of, ttl_of};
 use crate::fault::Stop;
 use crate::given::{Asked, Stored};
 use notation::{Cursor, Fault, ReadFault, Reason, read_value};
@@ -27,7 +29,7 @@ pub(crate) fn fault(reason: Reason, bytes: &[u8]) -> Stop
 
 // A space before an argument that is due.
 #[tactic(auto, unfolding(crate::specs::Reading::space_at))]
-fn space(bytes: &[u8]) -> Result<&[u8], Stop>
+pub(crate) fn space(bytes: &[u8]) -> Result<&[u8], Stop>
     ensures read { GivesItem (λ rest. rest.now) result (space_at bytes.now) }
     ensures fewer { IfOk result (λ rest. length rest.now < length bytes.now) }
 {
@@ -73,7 +75,7 @@ fn ends_here(bytes: &[u8]) -> bool
 }
 
 // A value in the notation.
-fn value(alloc: Global, bytes: &[u8]) -> Result<(Graph, &[u8]), Stop>
+pub(crate) fn value(alloc: Global, bytes: &[u8]) -> Result<(Graph, &[u8]), Stop>
     ensures read { GivesItem (λ x. (x.0, x.1.now)) result (reading_of bytes.now) }
     ensures no_more { IfOk result (λ x. length x.1.now ≤ length bytes.now) }
 {
@@ -97,17 +99,25 @@ pub(crate) fn value_argument(alloc: Global, bytes: &[u8]) -> Result<(Graph, &[u8
     value(alloc, argument)
 }
 
+// One key, behind the space before it.
+pub(crate) fn key_choice(alloc: Global, argument: &[u8]) -> Result<(Bytes, &[u8]), Stop>
+    ensures read { GivesItem (λ x. (x.0, x.1.now)) result (choice_at key argument.now) }
+    ensures no_more { IfOk result (λ x. length x.1.now ≤ length argument.now) }
+{
+    let (graph, rest) = value(alloc, argument)?;
+    match graph.into_string() {
+        Ok(key) => Ok((key, rest)),
+        Err(_) => Err(fault(Reason::Argument, argument)),
+    }
+}
+
 // One key.
 pub(crate) fn key_argument(alloc: Global, bytes: &[u8]) -> Result<(Bytes, &[u8]), Stop>
     ensures read { GivesItem (λ x. (x.0, x.1.now)) result (argument_at key bytes.now) }
     ensures fewer { IfOk result (λ x. length x.1.now < length bytes.now) }
 {
     let argument = space(bytes)?;
-    let (graph, rest) = value(alloc, argument)?;
-    match graph.into_string() {
-        Ok(key) => Ok((key, rest)),
-        Err(_) => Err(fault(Reason::Argument, argument)),
-    }
+    key_choice(alloc, argument)
 }
 
 // An integer.
@@ -174,6 +184,18 @@ pub(crate) fn moment_argument(alloc: Global, bytes: &[u8]) -> Result<(u64, &[u8]
     }
 }
 
+// A limit of time, behind the space before it.
+pub(crate) fn ttl_choice(alloc: Global, argument: &[u8]) -> Result<(u32, &[u8]), Stop>
+    ensures read { GivesItem (λ x. (x.0, x.1.now)) result (choice_at ttl argument.now) }
+    ensures no_more { IfOk result (λ x. length x.1.now ≤ length argument.now) }
+{
+    let (graph, rest) = value(alloc, argument)?;
+    match ttl_of(&graph) {
+        Some(ttl) => Ok((ttl, rest)),
+        None => Err(fault(Reason::Argument, argument)),
+    }
+}
+
 // A limit of time, or 0 where the line ends.
 pub(crate) fn ttl_argument(alloc: Global, bytes: &[u8]) -> Result<(u32, &[u8]), Stop>
     ensures read { GivesItem (λ x. (x.0, x.1.now)) result (optional_at 0 ttl bytes.now) }
@@ -183,9 +205,21 @@ pub(crate) fn ttl_argument(alloc: Global, bytes: &[u8]) -> Result<(u32, &[u8]), 
         return Ok((0, bytes));
     }
     let argument = space(bytes)?;
+    ttl_choice(alloc, argument)
+}
+
+// A truth value, or false where the line ends.
+pub(crate) fn truth_argument(alloc: Global, bytes: &[u8]) -> Result<(bool, &[u8]), Stop>
+    ensures read { GivesItem (λ x. (x.0, x.1.now)) result (optional_at false truth bytes.now) }
+    ensures no_more { IfOk result (λ x. length x.1.now ≤ length bytes.now) }
+{
+    if ends_here(bytes) {
+        return Ok((false, bytes));
+    }
+    let argument = space(bytes)?;
     let (graph, rest) = value(alloc, argument)?;
-    match ttl_of(&graph) {
-        Some(ttl) => Ok((ttl, rest)),
+    match truth_of(&graph) {
+        Some(truth) => Ok((truth, rest)),
         None => Err(fault(Reason::Argument, argument)),
     }
 }

@@ -1,7 +1,7 @@
 ghost use Rattle.std.specs.Prelude.{◌≡◌};
 ghost use Rattle.script_read.specs.Calls.{event_bound};
 
-use apcu_model::{Keys, Pairs};
+use apcu_model::{Gen, Keys, Pairs};
 use php_graph::{Bytes, Graph};
 
 /// A call of a script, as PHP's manual has the functions of APCu.
@@ -47,10 +47,18 @@ pub enum Call {
         expect: i64,
         set: i64,
     },
+    /// `apcu_entry`: the generator is an entry, and eight lie in one another at most.
+    Entry(Gen),
     /// `apcu_clear_cache`.
     Clear,
     /// `apcu_enabled`, which asks nothing of the cache.
     Enabled,
+    /// `apcu_key_info`.
+    KeyInfo(Bytes),
+    /// `apcu_cache_info`; where it is true, without the lists of rows.
+    CacheInfo(bool),
+    /// `apcu_sma_info`; where it is true, without the list of gaps.
+    SmaInfo(bool),
 }
 
 impl Call {
@@ -65,7 +73,11 @@ impl Call {
             | Call::DeleteOne(_)
             | Call::Inc { .. }
             | Call::Cas { .. }
-            | Call::Clear => 1,
+            | Call::Entry(_)
+            | Call::Clear
+            | Call::KeyInfo(_)
+            | Call::CacheInfo(_)
+            | Call::SmaInfo(_) => 1,
             Call::StoreMany { pairs, .. } => u64::from(pairs.len()),
             Call::FetchMany(keys) | Call::ExistsMany(keys) | Call::DeleteMany(keys) => {
                 u64::from(keys.len())

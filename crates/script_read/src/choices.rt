@@ -1,10 +1,13 @@
 //! What a value is as an argument.
 
-ghost use Rattle.std.specs.Prelude.{◌≡◌, ◌≤◌, true, ◌↔◌, List, [], ◌∷◌, ◌++◌, length, take, Option, Some, None, IfOk, IfSome, IsSome};
+ghost use Rattle.std.specs.Prelude.{◌≡◌, ◌≤◌, true, ◌↔◌, List, [], ◌∷◌, ◌++◌, length, take, Option};
+ghost use Rattle.std.specs.Prelude.{Some, None, IfOk, IfSome, IsSome};
 ghost use Rattle.std.specs.Option.{is_some, option_map};
 ghost use Rattle.php_graph.specs.Graph.{IsGraph, kind_at};
 ghost use Rattle.script_read.specs.Calls.{last_moment};
-ghost use Rattle.script_read.specs.Arguments.{key, integer, null, ttl, moment, keys, pairs, string_at, value_at, key_bytes, asked_of, stored, IsThere};
+ghost use Rattle.script_read.specs.Arguments.{key, integer, truth, null, ttl, moment, keys, pairs};
+ghost use Rattle.script_read.specs.Arguments.{string_at, value_at, key_bytes, asked_of, stored};
+ghost use Rattle.script_read.specs.Arguments.{IsThere};
 
 use crate::given::{Asked, Stored};
 use apcu_model::{Keys, Pairs};
@@ -42,6 +45,19 @@ pub(crate) fn moment_of(graph: &Graph) -> Option<u64>
 {
     match integer_of(graph) {
         Some(n) if 0 <= n && n <= 999999999999 => Some(n as u64),
+        _ => None,
+    }
+}
+
+// The truth value that a value is.
+pub(crate) fn truth_of(graph: &Graph) -> Option<bool>
+    ensures { result ≡ truth graph.now }
+{
+    if graph.places() != 1 {
+        return None;
+    }
+    match graph.kind(1) {
+        Kind::Bool(truth) => Some(*truth),
         _ => None,
     }
 }

@@ -16,8 +16,12 @@ pub(crate) enum Keyword {
     Inc,
     Dec,
     Cas,
+    Entry,
     Clear,
     Enabled,
+    KeyInfo,
+    CacheInfo,
+    SmaInfo,
     /// A call that is not built yet.
     Later,
     /// No word of the language.
@@ -47,10 +51,18 @@ impl Keyword {
             Keyword::Dec
         } else if is_word(text, b"apcu_cas") {
             Keyword::Cas
+        } else if is_word(text, b"apcu_entry") {
+            Keyword::Entry
         } else if is_word(text, b"apcu_clear_cache") {
             Keyword::Clear
         } else if is_word(text, b"apcu_enabled") {
             Keyword::Enabled
+        } else if is_word(text, b"apcu_key_info") {
+            Keyword::KeyInfo
+        } else if is_word(text, b"apcu_cache_info") {
+            Keyword::CacheInfo
+        } else if is_word(text, b"apcu_sma_info") {
+            Keyword::SmaInfo
         } else if is_later(text) {
             Keyword::Later
         } else {
@@ -63,11 +75,7 @@ impl Keyword {
 fn is_later(text: &[u8]) -> bool
     ensures { result ≡ list_any (bytes_eq text.now) later_words }
 {
-    is_word(text, b"apcu_entry")
-        || is_word(text, b"apcu_key_info")
-        || is_word(text, b"apcu_cache_info")
-        || is_word(text, b"apcu_sma_info")
-        || is_word(text, b"APCUIterator")
+    is_word(text, b"APCUIterator")
         || is_word(text, b"APCUIterator_delete")
         || is_word(text, b"APCUIterator_totals")
 }

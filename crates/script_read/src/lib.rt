@@ -6,6 +6,7 @@ mod call;
 mod choices;
 mod effect;
 mod fault;
+mod generators;
 mod given;
 mod keyword;
 mod laws;

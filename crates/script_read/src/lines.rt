@@ -1,19 +1,26 @@
 //! Lines: what follows each word, to the end of its line.
 
 ghost use Rattle.std.specs.Prelude.{◌≡◌, ℕ, ◌≤◌, ◌<◌, List, codes, length, false, true, IfOk, OnOk};
+ghost use Rattle.script_read.specs.declared.call.Call.TheVariants.{CacheInfo, SmaInfo};
+ghost use Rattle.script_read.specs.Calls.{HasLevels};
 ghost use Rattle.script_read.specs.Arguments.{asked_of, stored};
-ghost use Rattle.script_read.specs.Table.{Refuse, needs, calls, form_of, store_one, store_many, store_by, step_by, count_form, cas_form};
+ghost use Rattle.script_read.specs.Table.{Refuse, needs, calls, form_of, store_one, store_many};
+ghost use Rattle.script_read.specs.Table.{store_by, step_by, count_form, cas_form};
+ghost use Rattle.script_read.specs.Table.{entry_form, key_info_form, info_form};
 ghost use Rattle.script_read.specs.Grammar.{most_workers};
-ghost use Rattle.script_read.specs.Reading.{ends_word, word_len, line_word, behind_word, last_argument_at, rest_at, before_worker, worker_at, line_at};
-ghost use Rattle.script_read.specs.Gives.{GivesItem, form_named, IsSoon};
+ghost use Rattle.script_read.specs.Reading.{ends_word, word_len, line_word, behind_word};
+ghost use Rattle.script_read.specs.Reading.{last_argument_at, rest_at, before_worker, worker_at};
+ghost use Rattle.script_read.specs.Reading.{line_at};
+ghost use Rattle.script_read.specs.Gives.{GivesItem, form_named, IsInRange};
 
 use crate::arguments::{
     asked_argument, end, fault, integer_argument, key_argument, moment_argument, null_argument,
-    step_argument, stored_argument, ttl_argument, value_argument,
+    step_argument, stored_argument, truth_argument, ttl_argument, value_argument,
 };
 use crate::call::Call;
 use crate::effect::Effect;
 use crate::fault::Stop;
+use crate::generators::{entry_round, gen_argument};
 use crate::given::{Asked, Stored};
 use crate::keyword::Keyword;
 use apcu_model::Pairs;
@@ -27,7 +34,7 @@ fn time(alloc: Global, bytes: &[u8]) -> Result<(Effect, &[u8]), Stop>
     ensures read { (last : List ℕ) → GivesItem (λ x. (x.0, x.1.now)) result
         (rest_at (form_of (codes "time")) last bytes.now) }
     ensures fewer { IfOk result (λ x. length x.1.now < length bytes.now) }
-    ensures soon { IfOk result (λ x. IsSoon x.0) }
+    ensures range { IfOk result (λ x. IsInRange x.0) }
 {
     let (t, rest) = moment_argument(alloc, bytes)?;
     let rest = end(rest)?;
@@ -40,7 +47,7 @@ fn store(alloc: Global, exclusive: bool, bytes: &[u8]) -> Result<(Effect, &[u8])
     ensures read { (last : List ℕ) → GivesItem (λ x. (x.0, x.1.now)) result
         (rest_at (needs stored (store_by exclusive)) last bytes.now) }
     ensures fewer { IfOk result (λ x. length x.1.now < length bytes.now) }
-    ensures soon { IfOk result (λ x. IsSoon x.0) }
+    ensures range { IfOk result (λ x. IsInRange x.0) }
 {
     let (first, rest) = stored_argument(alloc, bytes)?;
     match first {
@@ -60,7 +67,7 @@ fn store_one(
     ensures read { (last : List ℕ) → GivesItem (λ x. (x.0, x.1.now)) result
         (rest_at (store_one exclusive key) last bytes.now) }
     ensures fewer { IfOk result (λ x. length x.1.now < length bytes.now) }
-    ensures soon { IfOk result (λ x. IsSoon x.0) }
+    ensures range { IfOk result (λ x. IsInRange x.0) }
 {
     let (value, rest) = value_argument(alloc, bytes)?;
     let (ttl, rest) = ttl_argument(alloc, rest)?;
@@ -85,7 +92,7 @@ fn store_many(
     ensures read { (last : List ℕ) → GivesItem (λ x. (x.0, x.1.now)) result
         (rest_at (store_many exclusive pairs) last bytes.now) }
     ensures fewer { IfOk result (λ x. length x.1.now < length bytes.now) }
-    ensures soon { IfOk result (λ x. IsSoon x.0) }
+    ensures range { IfOk result (λ x. IsInRange x.0) }
 {
     let rest = null_argument(alloc, bytes)?;
     let (ttl, rest) = ttl_argument(alloc, rest)?;
@@ -114,7 +121,7 @@ fn fetch(alloc: Global, bytes: &[u8]) -> Result<(Effect, &[u8]), Stop>
     ensures read { (last : List ℕ) → GivesItem (λ x. (x.0, x.1.now)) result
         (rest_at (form_of (codes "apcu_fetch")) last bytes.now) }
     ensures fewer { IfOk result (λ x. length x.1.now < length bytes.now) }
-    ensures soon { IfOk result (λ x. IsSoon x.0) }
+    ensures range { IfOk result (λ x. IsInRange x.0) }
 {
     let (asked, rest) = asked(alloc, bytes)?;
     let call = match asked {
@@ -130,7 +137,7 @@ fn exists(alloc: Global, bytes: &[u8]) -> Result<(Effect, &[u8]), Stop>
     ensures read { (last : List ℕ) → GivesItem (λ x. (x.0, x.1.now)) result
         (rest_at (form_of (codes "apcu_exists")) last bytes.now) }
     ensures fewer { IfOk result (λ x. length x.1.now < length bytes.now) }
-    ensures soon { IfOk result (λ x. IsSoon x.0) }
+    ensures range { IfOk result (λ x. IsInRange x.0) }
 {
     let (asked, rest) = asked(alloc, bytes)?;
     let call = match asked {
@@ -146,7 +153,7 @@ fn delete(alloc: Global, bytes: &[u8]) -> Result<(Effect, &[u8]), Stop>
     ensures read { (last : List ℕ) → GivesItem (λ x. (x.0, x.1.now)) result
         (rest_at (form_of (codes "apcu_delete")) last bytes.now) }
     ensures fewer { IfOk result (λ x. length x.1.now < length bytes.now) }
-    ensures soon { IfOk result (λ x. IsSoon x.0) }
+    ensures range { IfOk result (λ x. IsInRange x.0) }
 {
     let (asked, rest) = asked(alloc, bytes)?;
     let call = match asked {
@@ -162,7 +169,7 @@ fn count(alloc: Global, down: bool, bytes: &[u8]) -> Result<(Effect, &[u8]), Sto
     ensures read { (last : List ℕ) → GivesItem (λ x. (x.0, x.1.now)) result
         (rest_at (count_form down) last bytes.now) }
     ensures fewer { IfOk result (λ x. length x.1.now < length bytes.now) }
-    ensures soon { IfOk result (λ x. IsSoon x.0) }
+    ensures range { IfOk result (λ x. IsInRange x.0) }
 {
     let (key, rest) = key_argument(alloc, bytes)?;
     let (step, rest) = step_argument(alloc, rest)?;
@@ -185,7 +192,7 @@ fn cas(alloc: Global, bytes: &[u8]) -> Result<(Effect, &[u8]), Stop>
     ensures read { (last : List ℕ) → GivesItem (λ x. (x.0, x.1.now)) result
         (rest_at cas_form last bytes.now) }
     ensures fewer { IfOk result (λ x. length x.1.now < length bytes.now) }
-    ensures soon { IfOk result (λ x. IsSoon x.0) }
+    ensures range { IfOk result (λ x. IsInRange x.0) }
 {
     let (key, rest) = key_argument(alloc, bytes)?;
     let (expect, rest) = integer_argument(alloc, rest)?;
@@ -194,13 +201,69 @@ fn cas(alloc: Global, bytes: &[u8]) -> Result<(Effect, &[u8]), Stop>
     Ok((Effect::Calls(Call::Cas { key, expect, set }), rest))
 }
 
+// The arguments of `apcu_entry`.
+#[tactic(auto, using(crate::proofs::Rows::entry_is))]
+fn entry(alloc: Global, bytes: &[u8]) -> Result<(Effect, &[u8]), Stop>
+    ensures read { (last : List ℕ) → GivesItem (λ x. (x.0, x.1.now)) result
+        (rest_at entry_form last bytes.now) }
+    ensures fewer { IfOk result (λ x. length x.1.now < length bytes.now) }
+    ensures range { IfOk result (λ x. IsInRange x.0) }
+{
+    let (key, rest) = key_argument(alloc, bytes)?;
+    let (inner, rest) = gen_argument(alloc, rest)?;
+    let (ttl, rest) = ttl_argument(alloc, rest)?;
+    let rest = end(rest)?;
+    let generator = entry_round(alloc, key, ttl, inner)?;
+    Ok((Effect::Calls(Call::Entry(generator)), rest))
+}
+
+// The argument of `apcu_key_info`.
+#[tactic(auto, using(crate::proofs::Rows::key_info_is))]
+fn key_info(alloc: Global, bytes: &[u8]) -> Result<(Effect, &[u8]), Stop>
+    ensures read { (last : List ℕ) → GivesItem (λ x. (x.0, x.1.now)) result
+        (rest_at key_info_form last bytes.now) }
+    ensures fewer { IfOk result (λ x. length x.1.now < length bytes.now) }
+    ensures range { IfOk result (λ x. IsInRange x.0) }
+{
+    let (key, rest) = key_argument(alloc, bytes)?;
+    let rest = end(rest)?;
+    Ok((Effect::Calls(Call::KeyInfo(key)), rest))
+}
+
+// The argument of `apcu_cache_info`.
+#[tactic(auto, using(crate::proofs::Rows::cache_info_is))]
+fn cache_info(alloc: Global, bytes: &[u8]) -> Result<(Effect, &[u8]), Stop>
+    ensures read { (last : List ℕ) → GivesItem (λ x. (x.0, x.1.now)) result
+        (rest_at (info_form CacheInfo) last bytes.now) }
+    ensures fewer { IfOk result (λ x. length x.1.now < length bytes.now) }
+    ensures range { IfOk result (λ x. IsInRange x.0) }
+{
+    let (limited, rest) = truth_argument(alloc, bytes)?;
+    let rest = end(rest)?;
+    Ok((Effect::Calls(Call::CacheInfo(limited)), rest))
+}
+
+// The argument of `apcu_sma_info`.
+#[tactic(auto, using(crate::proofs::Rows::sma_info_is))]
+fn sma_info(alloc: Global, bytes: &[u8]) -> Result<(Effect, &[u8]), Stop>
+    ensures read { (last : List ℕ) → GivesItem (λ x. (x.0, x.1.now)) result
+        (rest_at (info_form SmaInfo) last bytes.now) }
+    ensures fewer { IfOk result (λ x. length x.1.now < length bytes.now) }
+    ensures range { IfOk result (λ x. IsInRange x.0) }
+{
+    let (limited, rest) = truth_argument(alloc, bytes)?;
+    let rest = end(rest)?;
+    Ok((Effect::Calls(Call::SmaInfo(limited)), rest))
+}
+
 // A call without arguments.
 #[tactic(auto, unfolding(crate::specs::Reading::rest_at))]
 fn bare(call: Call, bytes: &[u8]) -> Result<(Effect, &[u8]), Stop>
+    requires { HasLevels call }
     ensures read { (last : List ℕ) → GivesItem (λ x. (x.0, x.1.now)) result
         (rest_at (calls call) last bytes.now) }
     ensures fewer { IfOk result (λ x. length x.1.now < length bytes.now) }
-    ensures soon { IfOk result (λ x. IsSoon x.0) }
+    ensures range { IfOk result (λ x. IsInRange x.0) }
 {
     let rest = end(bytes)?;
     Ok((Effect::Calls(call), rest))
@@ -217,7 +280,7 @@ fn effect<'a>(
     ensures read { GivesItem (λ x. (x.0, x.1.now)) result
         (rest_at (form_named word) line.now rest.now) }
     ensures fewer { IfOk result (λ x. length x.1.now < length rest.now) }
-    ensures soon { IfOk result (λ x. IsSoon x.0) }
+    ensures range { IfOk result (λ x. IsInRange x.0) }
 {
     match word {
         Keyword::Time => time(alloc, rest),
@@ -229,8 +292,12 @@ fn effect<'a>(
         Keyword::Inc => count(alloc, false, rest),
         Keyword::Dec => count(alloc, true, rest),
         Keyword::Cas => cas(alloc, rest),
+        Keyword::Entry => entry(alloc, rest),
         Keyword::Clear => bare(Call::Clear, rest),
         Keyword::Enabled => bare(Call::Enabled, rest),
+        Keyword::KeyInfo => key_info(alloc, rest),
+        Keyword::CacheInfo => cache_info(alloc, rest),
+        Keyword::SmaInfo => sma_info(alloc, rest),
         Keyword::Later | Keyword::Unknown => Err(fault(reason_of(word), line)),
     }
 }
@@ -295,7 +362,7 @@ pub(crate) fn line<'a>(
     ensures read { GivesItem (λ x. (x.0, x.1.now)) result (line_at begun line.now) }
     ensures some { OnOk result (0 < begun) }
     ensures fewer { IfOk result (λ x. length x.1.now < length behind.now) }
-    ensures soon { IfOk result (λ x. IsSoon x.0) }
+    ensures range { IfOk result (λ x. IsInRange x.0) }
 {
     let word = Keyword::of(word);
     if begun == 0 {

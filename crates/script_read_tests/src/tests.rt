@@ -1,6 +1,6 @@
 //! Scripts that are read, and first faults.
 
-use apcu_model::{Keys, Pairs};
+use apcu_model::{Gen, GenKind, Keys, Pairs};
 use notation::{ByteOut, Cursor, Reason, read_value};
 use php_graph::{Bytes, Graph};
 use script_read::{Call, Script, ScriptFault, Scripts, Step, read_scripts};
@@ -21,8 +21,12 @@ enum Asked {
     DeleteMany(&'static [&'static [u8]]),
     Inc(&'static [u8], i64, u32),
     Cas(&'static [u8], i64, i64),
+    Entry(&'static [(&'static [u8], u32)], &'static [u8]),
     Clear,
     Enabled,
+    KeyInfo(&'static [u8]),
+    CacheInfo(bool),
+    SmaInfo(bool),
 }
 
 fn is_value(alloc: Global, text: &[u8], value: &Graph) -> Result<bool, Fail> {
@@ -58,6 +62,31 @@ fn are_pairs(alloc: Global, expected: &[(&[u8], &[u8])], pairs: &Pairs) -> Resul
     Ok(true)
 }
 
+// The keys and limits of time from outside in, and the value inside.
+fn is_generator(
+    alloc: Global,
+    levels: &[(&[u8], u32)],
+    literal: &[u8],
+    generator: &Gen,
+) -> Result<bool, Fail> {
+    let mut inside = generator;
+    for level in levels {
+        match inside.kind() {
+            GenKind::Entry(key, ttl, inner) => {
+                if key.as_slice() != level.0 || *ttl != level.1 {
+                    return Ok(false);
+                }
+                inside = inner;
+            }
+            GenKind::Value(_) => return Ok(false),
+        }
+    }
+    match inside.kind() {
+        GenKind::Value(value) => is_value(alloc, literal, value),
+        GenKind::Entry(..) => Ok(false),
+    }
+}
+
 fn is_call(alloc: Global, expected: Asked, call: &Call) -> Result<bool, Fail> {
     match (expected, call) {
         (
@@ -89,7 +118,13 @@ fn is_call(alloc: Global, expected: Asked, call: &Call) -> Result<bool, Fail> {
         (Asked::Cas(k, e, s), Call::Cas { key, expect, set }) => {
             Ok(key.as_slice() == k && *expect == e && *set == s)
         }
+        (Asked::Entry(levels, literal), Call::Entry(generator)) => {
+            is_generator(alloc, levels, literal, generator)
+        }
         (Asked::Clear, Call::Clear) | (Asked::Enabled, Call::Enabled) => Ok(true),
+        (Asked::KeyInfo(k), Call::KeyInfo(key)) => Ok(key.as_slice() == k),
+        (Asked::CacheInfo(l), Call::CacheInfo(limited))
+        | (Asked::SmaInfo(l), Call::SmaInfo(limited)) => Ok(*limited == l),
         _ => Ok(false),
     }
 }
@@ -174,6 +209,80 @@ fn calls_in_all_their_forms(rt: HostRuntime) -> Result<(), Fail> {
 }
 
 #[test]
+fn entries_and_information(rt: HostRuntime) -> Result<(), Fail> {
+    let text = b"worker\n\
+        time i:100;\n\
+        apcu_entry s:1:\"k\"; (i:7;)\n\
+        apcu_entry s:2:\"k1\"; (apcu_entry s:2:\"k2\"; (i:7;)) i:4294967295;\n\
+        apcu_entry s:0:\"\"; (apcu_entry s:1:\"b\"; (a:1:{i:0;R:1;}) i:60;)\n\
+        apcu_entry s:1:\"k\"; (apcu_entry s:1:\"k\"; (apcu_entry s:1:\"k\"; (s:1:\")\";) i:0;) i:1;) i:2;\n\
+        apcu_key_info s:1:\"x\";\n\
+        apcu_cache_info\n\
+        apcu_cache_info b:0;\n\
+        apcu_cache_info b:1;\n\
+        apcu_sma_info\n\
+        apcu_sma_info b:0;\n\
+        apcu_sma_info b:1;\n";
+    let rows: [Row; 11] = [
+        (100, Asked::Entry(&[(b"k", 0)], b"i:7;"), 1),
+        (
+            100,
+            Asked::Entry(&[(b"k1", 4294967295), (b"k2", 0)], b"i:7;"),
+            1,
+        ),
+        (
+            100,
+            Asked::Entry(&[(b"", 0), (b"b", 60)], b"a:1:{i:0;R:1;}"),
+            1,
+        ),
+        (
+            100,
+            Asked::Entry(&[(b"k", 2), (b"k", 1), (b"k", 0)], b"s:1:\")\";"),
+            1,
+        ),
+        (100, Asked::KeyInfo(b"x"), 1),
+        (100, Asked::CacheInfo(false), 1),
+        (100, Asked::CacheInfo(false), 1),
+        (100, Asked::CacheInfo(true), 1),
+        (100, Asked::SmaInfo(false), 1),
+        (100, Asked::SmaInfo(false), 1),
+        (100, Asked::SmaInfo(true), 1),
+    ];
+    expect_steps(&rt, rt.alloc(), text, &rows)
+}
+
+// A line `apcu_entry` of so many entries in one another.
+fn nested(alloc: Global, levels: u32) -> Result<ByteOut, Fail> {
+    let mut text = ByteOut::new(alloc);
+    text.push(b"worker\napcu_entry s:1:\"k\"; ")?;
+    for _ in 1..levels {
+        text.push(b"(apcu_entry s:1:\"k\"; ")?;
+    }
+    text.push(b"(i:1;)")?;
+    for _ in 1..levels {
+        text.push(b")")?;
+    }
+    text.push(b"\n")?;
+    Ok(text)
+}
+
+#[test]
+fn as_many_levels_as_may_be(rt: HostRuntime) -> Result<(), Fail> {
+    let text = nested(rt.alloc(), 8)?;
+    assert!(rt; text.as_slice().len() < 1000);
+    let scripts = read_scripts(rt.alloc(), text.as_slice())?;
+    assert!(rt; scripts.len() == 1);
+    assert!(rt; scripts.at(0).len() == 1);
+    match &scripts.at(0).at(0).call {
+        Call::Entry(generator) => assert_eq!(rt; generator.entries(), 8),
+        _ => assert!(rt; false),
+    }
+    let text = nested(rt.alloc(), 9)?;
+    refused(&rt, rt.alloc(), text.as_slice(), 174, Reason::Generator);
+    Ok(())
+}
+
+#[test]
 fn no_scripts(rt: HostRuntime) -> Result<(), Fail> {
     let mut none = read_scripts(rt.alloc(), b"")?;
     assert_eq!(rt; none.len(), 0);
@@ -251,7 +360,7 @@ fn values_at_fault(rt: HostRuntime) {
 
 #[test]
 fn lines_at_fault(rt: HostRuntime) {
-    let rows: [Fault; 33] = [
+    let rows: [Fault; 34] = [
         (b"worker", 6, Reason::End),
         (b"worker ", 7, Reason::End),
         (b"worker N;\n", 7, Reason::Argument),
@@ -260,12 +369,13 @@ fn lines_at_fault(rt: HostRuntime) {
         (b"\n", 0, Reason::Line),
         (b"apcu_fetch s:1:\"a\";\n", 0, Reason::Line),
         (b"time i:1;\n", 0, Reason::Line),
-        (b"apcu_entry s:1:\"a\";\n", 0, Reason::Unbuilt),
+        (b"apcu_entry s:1:\"a\";\n", 0, Reason::Line),
+        (b"APCUIterator N;\n", 0, Reason::Unbuilt),
         (b"worker\nworker N;\n", 14, Reason::Argument),
         (b"worker\nworker\ntime N;\n", 19, Reason::Argument),
         (b"worker\n\n", 7, Reason::Line),
         (b"worker\napcu_foo\n", 7, Reason::Line),
-        (b"worker\napcu_entry x", 7, Reason::Unbuilt),
+        (b"worker\nAPCUIterator x", 7, Reason::Unbuilt),
         (b"worker\nAPCUIterator_totals\n", 7, Reason::Unbuilt),
         (b"worker\ntime", 11, Reason::End),
         (b"worker\ntime ", 12, Reason::End),
@@ -388,6 +498,152 @@ fn arguments_at_fault(rt: HostRuntime) {
         ),
         (b"worker\napcu_store a:0:{} i:1;\n", 25, Reason::Argument),
         (b"worker\napcu_store a:0:{} N; N;\n", 28, Reason::Argument),
+    ];
+    for row in &rows {
+        refused(&rt, rt.alloc(), row.0, row.1, row.2);
+    }
+}
+
+#[test]
+fn entries_at_fault(rt: HostRuntime) {
+    let rows: [Fault; 28] = [
+        (b"worker\napcu_entry\n", 17, Reason::Argument),
+        (b"worker\napcu_entry i:1; (i:1;)\n", 18, Reason::Argument),
+        (b"worker\napcu_entry s:1:\"k\";\n", 26, Reason::Argument),
+        (b"worker\napcu_entry s:1:\"k\"; ", 27, Reason::End),
+        (
+            b"worker\napcu_entry s:1:\"k\"; i:1;\n",
+            27,
+            Reason::Argument,
+        ),
+        (b"worker\napcu_entry s:1:\"k\"; (", 28, Reason::End),
+        (b"worker\napcu_entry s:1:\"k\"; ()\n", 28, Reason::Tag),
+        (
+            b"worker\napcu_entry s:1:\"k\"; (i:05;)\n",
+            30,
+            Reason::Number,
+        ),
+        (b"worker\napcu_entry s:1:\"k\"; (i:1;", 32, Reason::End),
+        (
+            b"worker\napcu_entry s:1:\"k\"; (i:1;\n",
+            32,
+            Reason::Separator,
+        ),
+        (
+            b"worker\napcu_entry s:1:\"k\"; (i:1; )\n",
+            32,
+            Reason::Separator,
+        ),
+        (b"worker\napcu_entry s:1:\"k\"; (i:1;)", 33, Reason::End),
+        (
+            b"worker\napcu_entry s:1:\"k\"; (i:1;)x\n",
+            33,
+            Reason::Separator,
+        ),
+        (
+            b"worker\napcu_entry s:1:\"k\"; (i:1;) N;\n",
+            34,
+            Reason::Argument,
+        ),
+        (
+            b"worker\napcu_entry s:1:\"k\"; (i:1;) i:-1;\n",
+            34,
+            Reason::Argument,
+        ),
+        (
+            b"worker\napcu_entry s:1:\"k\"; (i:1;) i:1; i:1;\n",
+            39,
+            Reason::Argument,
+        ),
+        (
+            b"worker\napcu_entry s:1:\"k\"; (apcu_entry)\n",
+            29,
+            Reason::Mark,
+        ),
+        (
+            b"worker\napcu_entry s:1:\"k\"; (apcu_entry i:1; (i:1;))\n",
+            39,
+            Reason::Argument,
+        ),
+        (
+            b"worker\napcu_entry s:1:\"k\"; (apcu_entry s:1:\"j\";\n",
+            47,
+            Reason::Separator,
+        ),
+        (
+            b"worker\napcu_entry s:1:\"k\"; (apcu_entry s:1:\"j\";)\n",
+            47,
+            Reason::Separator,
+        ),
+        (
+            b"worker\napcu_entry s:1:\"k\"; (apcu_entry s:1:\"j\";",
+            47,
+            Reason::End,
+        ),
+        (
+            b"worker\napcu_entry s:1:\"k\"; (apcu_entry s:1:\"j\"; ",
+            48,
+            Reason::End,
+        ),
+        (
+            b"worker\napcu_entry s:1:\"k\"; (apcu_entry s:1:\"j\"; \n",
+            48,
+            Reason::Argument,
+        ),
+        (
+            b"worker\napcu_entry s:1:\"k\"; (apcu_entry s:1:\"j\"; i:1;)\n",
+            48,
+            Reason::Argument,
+        ),
+        (
+            b"worker\napcu_entry s:1:\"k\"; (apcu_entry s:1:\"j\"; (i:1;)",
+            54,
+            Reason::End,
+        ),
+        (
+            b"worker\napcu_entry s:1:\"k\"; (apcu_entry s:1:\"j\"; (i:1;)\n",
+            54,
+            Reason::Separator,
+        ),
+        (
+            b"worker\napcu_entry s:1:\"k\"; (apcu_entry s:1:\"j\"; (i:1;) i:4294967296;)\n",
+            55,
+            Reason::Argument,
+        ),
+        (
+            b"worker\napcu_entry s:1:\"k\"; (apcu_entry s:1:\"j\"; (i:1;) i:5; )\n",
+            59,
+            Reason::Separator,
+        ),
+    ];
+    for row in &rows {
+        refused(&rt, rt.alloc(), row.0, row.1, row.2);
+    }
+}
+
+#[test]
+fn information_at_fault(rt: HostRuntime) {
+    let rows: [Fault; 12] = [
+        (b"worker\napcu_key_info\n", 20, Reason::Argument),
+        (b"worker\napcu_key_info i:1;\n", 21, Reason::Argument),
+        (
+            b"worker\napcu_key_info a:1:{i:0;s:1:\"a\";}\n",
+            21,
+            Reason::Argument,
+        ),
+        (
+            b"worker\napcu_key_info s:1:\"a\"; N;\n",
+            30,
+            Reason::Argument,
+        ),
+        (b"worker\napcu_cache_info", 22, Reason::End),
+        (b"worker\napcu_cache_info i:1;\n", 23, Reason::Argument),
+        (b"worker\napcu_cache_info b:2;\n", 25, Reason::Number),
+        (b"worker\napcu_cache_info b:1;x\n", 27, Reason::Separator),
+        (b"worker\napcu_cache_info b:1; b:0;\n", 28, Reason::Argument),
+        (b"worker\napcu_sma_info ", 21, Reason::End),
+        (b"worker\napcu_sma_info N;\n", 21, Reason::Argument),
+        (b"worker\napcu_sma_info s:1:\"1\";\n", 21, Reason::Argument),
     ];
     for row in &rows {
         refused(&rt, rt.alloc(), row.0, row.1, row.2);

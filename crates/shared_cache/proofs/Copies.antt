@@ -1,5 +1,5 @@
 -- The event of a fetch that pins a block, an event that did not take place, and the start.
-use Rattle.std.proofs.Common.{◌≡◌, ℕ, zero, suc, ◌+◌, ◌<◌, ◌≤◌, true, List, [], ◌∷◌, ◌++◌, length, Some, None, ap, sym, ◌∙◌, subst, sum, slice_set, replicate, arith}
+use Rattle.std.proofs.Common.{◌≡◌, ℕ, zero, suc, ◌+◌, ◌<◌, ◌≤◌, true, List, [], ◌∷◌, ◌++◌, length, Some, None, refl, ap, sym, ◌∙◌, subst, sum, slice_set, replicate, arith}
 use mathlib.Core.Option.{some, some-injective, some-ne-none}
 use lib.ListN.{get_elem?}
 use Rattle.atomic_table.specs.Seated.{TableId}
@@ -9,13 +9,13 @@ use Rattle.apcu_model.specs.declared.event.Event.{Event}
 use Rattle.apcu_model.specs.declared.request.Request.TheVariants as request
 use Rattle.apcu_model.specs.declared.request.Reply.TheVariants as reply
 use Rattle.apcu_model.specs.Cache.{Cache, empty_cache}
-use Rattle.apcu_model.specs.History.{Stage, start_of, stage_of, after_event, all_legal, marks_of}
+use Rattle.apcu_model.specs.History.{Stage, start_of, stage_of, after_event, all_legal, are_shallow, marks_of}
 use Rattle.apcu_model.specs.Journal.{Marks}
 use Rattle.apcu_model.specs.Sequential.{looked_up, found_in}
 use Rattle.apcu_model.specs.Expiry.{live_row}
 use Rattle.cache_core.specs.declared.cache.Core.{Core}
 use Rattle.cache_core.specs.declared.scalar.Look.TheVariants as look
-use Rattle.cache_core.specs.Caching.{cache_of}
+use Rattle.cache_core.specs.Caching.{cache_of, CoreStands}
 use Rattle.cache_core.specs.Looking.{look_of}
 use Rattle.pin_table.specs.declared.views.Book.{Book}
 use Rattle.pin_table.specs.declared.views.Desk.{Desk}
@@ -27,7 +27,7 @@ use Rattle.pin_table.specs.Lists.{fresh_desk}
 use Rattle.pin_table.specs.Views.{with_hand, with_event, known_after, rested, copied, pinning_at, reader_after, in_hand, aside_of}
 use Rattle.shared_cache.specs.Laws.{LockLaws}
 use Rattle.shared_cache.specs.Tied.{AreTied}
-use Rattle.shared_cache.specs.Settled.{CoreStands, Settled}
+use Rattle.shared_cache.specs.Settled.{Settled}
 use Rattle.shared_cache.specs.Pinned.{FollowsFound, bearer_of}
 use Rattle.shared_cache.proofs.Windows.{Running, set_other, from_before, named_set}
 use Rattle.shared_cache.proofs.Ends.{Ends}
@@ -92,6 +92,7 @@ module _ (t : TableId) (conf : Conf) (budgets : List ℕ) (s0 s1 : Writing) (w0 
     run = runs;
     book = books;
     small = h.works.small;
+    flat = refl;
     table = h.seat ∙ whose;
     after = ap (λ (x : Desk). x.book) h.desk ∙ ap (λ v. with_event d.book (event v time (request.Fetch key) d.mask)) who;
     resting = h.desk ∙ sym (ap (λ (x : Desk). rested x x.book) h.desk);
@@ -137,6 +138,7 @@ unchanged laws t conf budgets s0 s1 c j w ok table words book windows resting =
           (core_closed laws c s0.desk.words (aside_of s0.desk) (aside_of s1.desk) (λ at n. named_set laws s0.desk.windows w at (subst (λ l. is_named l at ≡ true) windows n)) ok.stands);
       cache = ok.cache ∙ ap (λ es. (stage_of conf es).cache) (sym h);
       legal = ap (all_legal (length budgets) (start_of conf)) h ∙ ok.legal;
+      shallow = ap are_shallow h ∙ ok.shallow;
       tied = subst (λ es. AreTied (stage_of conf es) s1.desk.windows) (sym h) (subst (AreTied (stage_of conf s0.desk.book.history)) (sym windows) (λ v at g pos. ok.tied v at (set_other s0.desk.windows w v at g pos).1 pos));
       journal_is = ok.journal_is ∙ ap marks_of (sym h);
       enough = ok.enough;
@@ -162,6 +164,7 @@ fresh_settled laws t conf budgets s core j words table desk st cache empty room 
       (core_closed laws core words nothing_aside (aside_of (fresh_desk words budgets)) none st);
   cache = cache ∙ ap (λ (x : Desk). (stage_of conf x.book.history).cache) (sym desk);
   legal = ap (λ (x : Desk). all_legal (length budgets) (start_of conf) x.book.history) desk;
+  shallow = ap (λ (x : Desk). are_shallow x.book.history) desk;
   tied = λ v at h pos. absurd (closed at (zero_there (length budgets) v at (subst (λ (x : Desk). get_elem? x.windows v ≡ some at) desk h)) pos);
   journal_is = empty ∙ ap (λ (x : Desk). marks_of x.book.history) (sym desk);
   enough = let l = ap length empty in omega (arith, l, room);

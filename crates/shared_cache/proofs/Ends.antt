@@ -7,10 +7,10 @@ use Rattle.apcu_model.specs.declared.conf.Conf.{Conf}
 use Rattle.apcu_model.specs.declared.event.Event.{Event}
 use Rattle.apcu_model.specs.declared.request.Request.{Request}
 use Rattle.apcu_model.specs.declared.request.Reply.{Reply}
-use Rattle.apcu_model.specs.History.{Stage, start_of, stage_of, all_legal, is_legal_mask, reply_in, after_event, mark_of, marks_of}
+use Rattle.apcu_model.specs.History.{Stage, start_of, stage_of, all_legal, is_legal_mask, is_shallow, are_shallow, reply_in, after_event, mark_of, marks_of}
 use Rattle.apcu_model.specs.Journal.{Marks}
 use Rattle.cache_core.specs.declared.cache.Core.{Core}
-use Rattle.cache_core.specs.Caching.{cache_of}
+use Rattle.cache_core.specs.Caching.{cache_of, CoreStands}
 use Rattle.pin_table.specs.declared.views.Known.{Known}
 use Rattle.pin_table.specs.declared.views.Book.{Book}
 use Rattle.pin_table.specs.declared.views.Desk.{Desk}
@@ -19,7 +19,7 @@ use Rattle.pin_table.specs.Events.{event, events_of}
 use Rattle.pin_table.specs.Views.{with_hand, with_event, known_after, rested, aside_of}
 use Rattle.shared_cache.specs.Laws.{LockLaws}
 use Rattle.shared_cache.specs.Tied.{AreTied}
-use Rattle.shared_cache.specs.Settled.{CoreStands, Settled}
+use Rattle.shared_cache.specs.Settled.{Settled}
 use Rattle.shared_cache.specs.Follows.{Follows}
 use Rattle.shared_cache.proofs.Windows.{Running, legal_mask}
 
@@ -48,6 +48,7 @@ pub record Ends (t : TableId) (conf : Conf) (budgets : List ℕ) (s0 s1 : Writin
   pub run : Running d p.known s0.desk.windows
   pub book : d.book ≡ with_hand s0.desk.book (Some p.known)
   pub small : d.mask < 2 ^ 64
+  pub flat : is_shallow r ≡ true
   pub table : s1.table ≡ t
   pub after : s1.desk.book ≡ with_event d.book (event p.known.worker time r d.mask)
   pub resting : s1.desk ≡ rested s1.desk s1.desk.book
@@ -96,6 +97,7 @@ module _ (t : TableId) (conf : Conf) (budgets : List ℕ) (s0 s1 : Writing) (d :
     stands = h.stands;
     cache = h.cache ∙ ap (λ (n : Stage). n.cache) (sym next);
     legal = ap (all_legal (length budgets) (start_of conf)) history ∙ all;
+    shallow = ap are_shallow history ∙ (h.laws.shallow s0.desk.book.history e ∙ (ap (λ b. b && is_shallow r) h.settled.shallow ∙ h.flat));
     tied = subst (λ (n : Stage). AreTied n s1.desk.windows) (sym next) h.tied;
     journal_is = h.marks ∙ (ap (λ l. l ++ mark_of e ∷ []) h.settled.journal_is ∙ (sym (h.laws.marks s0.desk.book.history e) ∙ ap marks_of (sym history)));
     enough = let l = ap length h.marks in omega (arith, l, length-append j0.marks (mark_of e ∷ []), h.room, h.settled.enough);

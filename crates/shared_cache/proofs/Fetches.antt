@@ -31,14 +31,13 @@ use Rattle.cache_core.specs.declared.cache.Core.{Core}
 use Rattle.cache_core.specs.declared.scalar.Scalar.{Scalar}
 use Rattle.cache_core.specs.declared.scalar.Scalar.TheVariants as scalars
 use Rattle.cache_core.specs.declared.scalar.Look.TheVariants as look
-use Rattle.cache_core.specs.Caching.{cache_of}
+use Rattle.cache_core.specs.Caching.{cache_of, CoreStands}
 use Rattle.cache_core.specs.Looking.{scalar_kind, scalar_of, look_at, look_of}
 use Rattle.pin_table.specs.Pins.{MayPin, content_of}
 use Rattle.pin_table.specs.Events.{event}
 use Rattle.shared_cache.specs.Laws.{LockLaws}
 use Rattle.shared_cache.specs.Pinned.{graph_of}
 use Rattle.shared_cache.specs.Tied.{IsTied, AreTied}
-use Rattle.shared_cache.specs.Settled.{CoreStands}
 
 found_there : {X : Type 0} (p : X → Bool) (xs : List X) (x : X) → find p xs ≡ Some x → Contains xs x
 found_there p [] x h = absurd (cc h)

@@ -6,3 +6,4 @@ pub mod Unnamed
 pub mod Passes
 pub mod Fetches
 pub mod Copies
+pub mod Undone

@@ -4,27 +4,34 @@ use Rattle.atomic_table.specs.Seated.{TableId}
 use Rattle.seg_words.specs.Windows.{held_by}
 use Rattle.apcu_model.specs.declared.conf.Conf.{Conf}
 use Rattle.apcu_model.specs.declared.event.Event.{Event}
+use Rattle.php_graph.specs.declared.kind.Kind.{Kind}
 use Rattle.apcu_model.specs.declared.request.Request.{Request}
+use Rattle.apcu_model.specs.declared.request.Request.TheVariants as request
 use Rattle.apcu_model.specs.declared.request.Reply.{Reply}
+use Rattle.apcu_model.specs.declared.request.Reply.TheVariants as reply
 use Rattle.apcu_model.specs.Cache.{Cache}
-use Rattle.apcu_model.specs.History.{Stage, stage_of, after_event}
+use Rattle.apcu_model.specs.History.{Stage, stage_of, held_places, is_shallow, after_event}
 use Rattle.apcu_model.specs.Journal.{Marks}
+use Rattle.apcu_model.specs.Levels.{Generator}
+use Rattle.apcu_model.specs.Generators.{Filling, entered}
 use Rattle.apcu_model.specs.Sequential.{cache_after, reply_to}
 use Rattle.entry_slots.specs.Standing.{entries}
 use Rattle.ttl_expunge.specs.Held.{KeepsOpen}
 use Rattle.cache_core.specs.declared.cache.Core.{Core}
-use Rattle.cache_core.specs.Caching.{cache_of}
+use Rattle.cache_core.specs.Caching.{cache_of, CoreStands}
 use Rattle.pin_table.specs.declared.views.Desk.{Desk}
 use Rattle.pin_table.specs.declared.writer.Writer.{Writer}
 use Rattle.pin_table.specs.Values.{Writing, Bearer}
 use Rattle.pin_table.specs.Events.{event}
 use Rattle.pin_table.specs.Views.{with_event, known_after, rested, aside_of}
 use Rattle.shared_cache.specs.Tied.{AreTied}
-use Rattle.shared_cache.specs.Settled.{CoreStands, Settled}
-use Rattle.shared_cache.specs.Follows.{Follows}
+use Rattle.shared_cache.specs.Settled.{Settled}
+use Rattle.counter_entry.specs.declared.answer.Fate.{Fate}
+use Rattle.counter_entry.specs.Generating.{fate_of}
+use Rattle.shared_cache.specs.Follows.{Follows, FollowsEntry}
 use Rattle.shared_cache.proofs.Windows.{Running, StayOpen, tied_after}
 use Rattle.shared_cache.proofs.Ends.{Ends, short_history}
-use Rattle.shared_cache.proofs.Working.{Works, worker, table, book, run, cache_in, reply_is, core_closed}
+use Rattle.shared_cache.proofs.Working.{Works, worker, table, book, run, cache_in, reply_is, entered_is, core_closed}
 use Rattle.shared_cache.proofs.Ends as all_ends
 
 -- One event of the pass p, from the seat s0 to the seat s1, that opens no window.
@@ -39,6 +46,7 @@ pub record Passes (t : TableId) (conf : Conf) (budgets : List ℕ) (s0 s1 : Writ
   pub cache : cache_of c1 ≡ cache_after (held_by w.seat.now.desk.mask w.seat.now.desk.windows) time r (cache_of c0)
   pub marks : j1.marks ≡ j0.marks ++ (record { worker = w.worker; mask = w.seat.now.desk.mask }) ∷ []
   pub room : j1.room + 1 ≡ j0.room
+  pub flat : is_shallow r ≡ true
 
 module _ (t : TableId) (conf : Conf) (budgets : List ℕ) (s0 s1 : Writing) (w0 w : Writer) (c0 c1 : Core) (p q : Bearer) (time : ℕ) (r : Request) (j0 j1 : Marks)
     (h : Passes t conf budgets s0 s1 w0 w c0 c1 p q time r j0 j1) where
@@ -74,6 +82,7 @@ module _ (t : TableId) (conf : Conf) (budgets : List ℕ) (s0 s1 : Writing) (w0 
     run = runs;
     book = book t conf budgets s0 w0 w c0 p j0 h.works;
     small = h.works.small;
+    flat = h.flat;
     table = h.seat ∙ whose;
     after = ap (λ (x : Desk). x.book) h.desk ∙ ap (λ v. with_event d.book (event v time r d.mask)) who;
     resting = h.desk ∙ sym (ap (λ (x : Desk). rested x x.book) h.desk);
@@ -95,3 +104,15 @@ module _ (t : TableId) (conf : Conf) (budgets : List ℕ) (s0 s1 : Writing) (w0 
 
   pub follows : (y : Reply) → y ≡ reply_to (held_by w.seat.now.desk.mask w.seat.now.desk.windows) time r (cache_of c0) → Follows conf (length budgets) p q time r y
   follows y is = all_ends.follows t conf budgets s0 s1 w.seat.now.desk c0 c1 p q time r j0 j1 ends y (reply_is t conf budgets s0 w0 w c0 p j0 h.works time r y is)
+
+-- the event of a generator
+pub follows_entry : (t : TableId) (conf : Conf) (budgets : List ℕ) (s0 s1 : Writing) (w0 w : Writer) (c0 c1 : Core) (p q : Bearer) (time : ℕ) (g : Generator) (j0 j1 : Marks)
+    (h : Passes t conf budgets s0 s1 w0 w c0 c1 p q time (request.Entry g) j0 j1) (value : List Kind) (fate : Fate)
+    → reply.Gave value ≡ reply_to (held_by w.seat.now.desk.mask w.seat.now.desk.windows) time (request.Entry g) (cache_of c0)
+    → fate ≡ fate_of (entered (held_by w.seat.now.desk.mask w.seat.now.desk.windows) g time (cache_of c0)).outermost
+    → FollowsEntry conf (length budgets) p q time g value fate
+follows_entry t conf budgets s0 s1 w0 w c0 c1 p q time g j0 j1 h value fate gives is = record {
+  follows = follows t conf budgets s0 s1 w0 w c0 c1 p q time (request.Entry g) j0 j1 h (reply.Gave value) gives;
+  fate_is = is ∙ (ap (λ (f : Filling). fate_of f.outermost) (entered_is t conf budgets s0 w0 w c0 p j0 h.works g time)
+      ∙ ap (λ l. fate_of (entered (held_places (stage_of conf l) w.seat.now.desk.mask) g time (stage_of conf l).cache).outermost) (sym h.works.seen.1));
+}

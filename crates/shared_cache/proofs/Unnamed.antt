@@ -49,7 +49,7 @@ module _ (laws : LockLaws) (t : TableId) (conf : Conf) (budgets : List ℕ) (s :
       let there : Contains ((cache_of c).rows ++ (cache_of c).removed) tie.row = subst (λ (x : Cache). Contains (x.rows ++ x.removed) tie.row) (sym ok.cache) tie.there in
       let same : tie.row ≡ row = laws.one c.slots s.desk.words (aside_of s.desk) (entries c.slots) tie.row row ok.stands.stand there listed tie.place in
       let w = window_there v tie.row.number m.windows tie.window in
-      (laws.numbered conf s.desk.book.history (short_history t conf budgets s c j ok)).whole w.0 row w.1
+      (laws.numbered conf s.desk.book.history (short_history t conf budgets s c j ok) ok.shallow).whole w.0 row w.1
       (subst (λ (x : Cache). Contains (x.rows ++ x.removed) row) ok.cache listed) (ap (λ (r : Row). r.number) (sym same) ∙ sym w.2)
 
   -- as the writer w takes the pass p

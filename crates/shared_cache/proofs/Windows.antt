@@ -93,7 +93,11 @@ opens_own w v ne t (request.Exists key) c l = refl
 opens_own w v ne t (request.Delete key) c l = refl
 opens_own w v ne t (request.Inc key step ttl) c l = refl
 opens_own w v ne t (request.Cas key expect set) c l = refl
+opens_own w v ne t (request.Entry g) c l = refl
 opens_own w v ne t request.Clear c l = refl
+opens_own w v ne t (request.KeyInfo key) c l = refl
+opens_own w v ne t (request.CacheInfo limited) c l = refl
+opens_own w v ne t (request.SmaInfo limited) c l = refl
 opens_own w v ne t request.Retire c l = refl
 
 -- the windows of others stay as they were

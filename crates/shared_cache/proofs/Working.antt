@@ -8,7 +8,9 @@ use Rattle.apcu_model.specs.declared.conf.Conf.{Conf}
 use Rattle.apcu_model.specs.declared.request.Request.{Request}
 use Rattle.apcu_model.specs.declared.request.Reply.{Reply}
 use Rattle.apcu_model.specs.Cache.{Row, Cache}
+use Rattle.apcu_model.specs.Levels.{Generator}
 use Rattle.apcu_model.specs.Change.{AreAlike}
+use Rattle.apcu_model.specs.Generators.{entered}
 use Rattle.apcu_model.specs.History.{stage_of, held_places, reply_in, after_event}
 use Rattle.apcu_model.specs.Journal.{Marks}
 use Rattle.apcu_model.specs.Sequential.{cache_after, reply_to}
@@ -16,7 +18,7 @@ use Rattle.entry_slots.specs.Entries.{Entries}
 use Rattle.entry_slots.specs.Standing.{entries}
 use Rattle.ttl_expunge.specs.Held.{AreRemoved, KeepsOpen}
 use Rattle.cache_core.specs.declared.cache.Core.{Core}
-use Rattle.cache_core.specs.Caching.{cache_of}
+use Rattle.cache_core.specs.Caching.{cache_of, CoreStands}
 use Rattle.pin_table.specs.declared.views.Book.{Book}
 use Rattle.pin_table.specs.declared.views.Desk.{Desk}
 use Rattle.pin_table.specs.declared.writer.Beside.{Beside}
@@ -27,7 +29,7 @@ use Rattle.pin_table.specs.Events.{event, events_of}
 use Rattle.pin_table.specs.Views.{with_hand, taken_in, aside_of}
 use Rattle.pin_table.specs.WriterRest.{beside}
 use Rattle.shared_cache.specs.Laws.{LockLaws}
-use Rattle.shared_cache.specs.Settled.{CoreStands, Settled}
+use Rattle.shared_cache.specs.Settled.{Settled}
 use Rattle.shared_cache.proofs.Windows.{Running, named_set}
 use Rattle.shared_cache.proofs.Alike.{held_alike}
 use Rattle.shared_cache.proofs.Ends.{short_history}
@@ -97,7 +99,7 @@ module _ (t : TableId) (conf : Conf) (budgets : List ℕ) (s0 : Writing) (w0 w :
 
   pub alike : AreAlike (held_by w.seat.now.desk.mask w.seat.now.desk.windows) (held_places (stage_of conf s0.desk.book.history) w.seat.now.desk.mask)
   alike = held_alike h.laws (stage_of conf s0.desk.book.history) w.seat.now.desk p.known s0.desk.windows
-      (h.laws.numbered conf s0.desk.book.history (short_history t conf budgets s0 c0 j0 h.settled)) run h.settled.tied
+      (h.laws.numbered conf s0.desk.book.history (short_history t conf budgets s0 c0 j0 h.settled) h.settled.shallow) run h.settled.tied
 
   -- the cache after the event, by the history
   pub cache_in : (time : ℕ) (r : Request) (c : Cache) → c ≡ cache_after (held_by w.seat.now.desk.mask w.seat.now.desk.windows) time r (cache_of c0)
@@ -112,3 +114,9 @@ module _ (t : TableId) (conf : Conf) (budgets : List ℕ) (s0 : Writing) (w0 w :
   reply_is time r y is = is
       ∙ (ap (reply_to (held_by w.seat.now.desk.mask w.seat.now.desk.windows) time r) h.settled.cache
       ∙ h.laws.reply (held_by w.seat.now.desk.mask w.seat.now.desk.windows) (held_places (stage_of conf s0.desk.book.history) w.seat.now.desk.mask) alike time r (stage_of conf s0.desk.book.history).cache)
+
+  -- and what comes of storing under a generator's keys
+  pub entered_is : (g : Generator) (time : ℕ) → entered (held_by w.seat.now.desk.mask w.seat.now.desk.windows) g time (cache_of c0)
+      ≡ entered (held_places (stage_of conf s0.desk.book.history) w.seat.now.desk.mask) g time (stage_of conf s0.desk.book.history).cache
+  entered_is g time = ap (entered (held_by w.seat.now.desk.mask w.seat.now.desk.windows) g time) h.settled.cache
+      ∙ h.laws.entered (held_by w.seat.now.desk.mask w.seat.now.desk.windows) (held_places (stage_of conf s0.desk.book.history) w.seat.now.desk.mask) alike g time (stage_of conf s0.desk.book.history).cache

@@ -1,10 +1,17 @@
 -- One event of a worker.
 use Rattle.std.specs.Prelude.{◌≡◌, ℕ, ◌+◌, true, List, [], ◌∷◌, ◌++◌}
+use Rattle.php_graph.specs.declared.kind.Kind.{Kind}
 use Rattle.apcu_model.specs.declared.conf.Conf.{Conf}
 use Rattle.apcu_model.specs.declared.event.Event.{Event}
 use Rattle.apcu_model.specs.declared.request.Request.{Request}
+use Rattle.apcu_model.specs.declared.request.Request.TheVariants as request
 use Rattle.apcu_model.specs.declared.request.Reply.{Reply}
-use Rattle.apcu_model.specs.History.{start_of, stage_of, all_legal, reply_in}
+use Rattle.apcu_model.specs.declared.request.Reply.TheVariants as reply
+use Rattle.apcu_model.specs.Levels.{Generator}
+use Rattle.apcu_model.specs.Generators.{entered}
+use Rattle.apcu_model.specs.History.{Stage, start_of, stage_of, all_legal, held_places, reply_in}
+use Rattle.counter_entry.specs.declared.answer.Fate.{Fate}
+use Rattle.counter_entry.specs.Generating.{fate_of}
 use Rattle.pin_table.specs.Values.{Bearer}
 use Rattle.pin_table.specs.Events.{event, events_of}
 
@@ -25,3 +32,11 @@ pub record Follows (conf : Conf) (workers : ℕ) (p q : Bearer) (t : ℕ) (r : R
   pub legal : all_legal workers (start_of conf) q.known.seen ≡ true
   pub reply : y
       ≡ reply_in (stage_of conf (p.known.seen ++ between)) (event p.known.worker t r mask)
+
+-- The event of a generator: the pass q is p after it, and the value is the one that it gives. Its
+-- fate is by the blocks that are held in the event, of which the mask tells.
+pub record FollowsEntry (conf : Conf) (workers : ℕ) (p q : Bearer) (t : ℕ) (g : Generator)
+    (value : List Kind) (fate : Fate) : Type 0 where
+  pub follows : Follows conf workers p q t (request.Entry g) (reply.Gave value)
+  pub fate_is : let before : Stage = stage_of conf (p.known.seen ++ follows.between) in
+      fate ≡ fate_of (entered (held_places before follows.mask) g t before.cache).outermost

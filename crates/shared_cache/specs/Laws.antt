@@ -10,9 +10,12 @@ use Rattle.apcu_model.specs.declared.conf.Conf.{Conf}
 use Rattle.apcu_model.specs.declared.event.Event.{Event}
 use Rattle.apcu_model.specs.declared.request.Request.{Request}
 use Rattle.apcu_model.specs.Cache.{Row, Cache}
+use Rattle.apcu_model.specs.Levels.{Generator}
 use Rattle.apcu_model.specs.Change.{AreAlike}
+use Rattle.apcu_model.specs.Generators.{entered}
 use Rattle.apcu_model.specs.History.{IsNumbered, Stage, after_event, after_events, all_legal}
-use Rattle.apcu_model.specs.History.{is_legal_mask, mark_of, marks_of, stage_of}
+use Rattle.apcu_model.specs.History.{is_legal_mask, is_shallow, are_shallow, mark_of, marks_of}
+use Rattle.apcu_model.specs.History.{stage_of}
 use Rattle.apcu_model.specs.Sequential.{cache_after, reply_to}
 use Rattle.entry_slots.specs.declared.slots.EntrySlots.{EntrySlots}
 use Rattle.entry_slots.specs.Lists.{has_place}
@@ -55,6 +58,8 @@ pub record LockLaws : Type 0 where
       → all_legal workers m (events ++ e ∷ [])
       ≡ (all_legal workers m events
       && is_legal_mask workers e.worker (after_events m events) e.mask)
+  pub shallow : (events : List Event) (e : Event)
+      → are_shallow (events ++ e ∷ []) ≡ (are_shallow events && is_shallow e.request)
   pub marks : (events : List Event) (e : Event)
       → marks_of (events ++ e ∷ []) ≡ marks_of events ++ mark_of e ∷ []
   -- of held places only the members count
@@ -62,7 +67,9 @@ pub record LockLaws : Type 0 where
       → cache_after held t request c ≡ cache_after other t request c
   pub reply : (held other : List ℕ) → AreAlike held other → (t : ℕ) (request : Request) (c : Cache)
       → reply_to held t request c ≡ reply_to other t request c
+  pub entered : (held other : List ℕ) → AreAlike held other
+      → (g : Generator) (t : ℕ) (c : Cache) → entered held g t c ≡ entered other g t c
   -- rows of one number have one place, each worker has one window, and none is of a row that holds
   -- null, a truth value or an integer
   pub numbered : (conf : Conf) (history : List Event) → length history ≤ 4194304
-      → IsNumbered (stage_of conf history)
+      → are_shallow history ≡ true → IsNumbered (stage_of conf history)

@@ -1,22 +1,14 @@
 -- What holds of the value under the lock while no one has it.
 use Rattle.std.specs.Prelude.{◌≡◌, ℕ, ◌+◌, ◌≤◌, true, List, None, length, sum}
 use Rattle.atomic_table.specs.Seated.{TableId}
-use Rattle.seg_words.specs.Windows.{Aside}
 use Rattle.apcu_model.specs.declared.conf.Conf.{Conf}
-use Rattle.apcu_model.specs.History.{start_of, stage_of, all_legal, marks_of}
+use Rattle.apcu_model.specs.History.{start_of, stage_of, all_legal, are_shallow, marks_of}
 use Rattle.apcu_model.specs.Journal.{Marks}
-use Rattle.entry_slots.specs.Entries.{entries_of}
-use Rattle.entry_slots.specs.Standing.{Stands, entries}
 use Rattle.cache_core.specs.declared.cache.Core.{Core}
-use Rattle.cache_core.specs.Caching.{cache_of}
+use Rattle.cache_core.specs.Caching.{cache_of, CoreStands}
 use Rattle.pin_table.specs.Values.{Writing}
 use Rattle.pin_table.specs.Views.{aside_of, rested}
 use Rattle.shared_cache.specs.Tied.{AreTied}
-
--- words, with what is kept beside them, stand for the cache that a core keeps; no block is loose
-pub record CoreStands (core : Core) (words : List ℕ) (aside : Aside) : Type 0 where
-  pub stand : Stands core.slots words aside (entries core.slots)
-  pub whole : entries core.slots ≡ entries_of (cache_of core)
 
 -- The writer's seat of a table, a core and a journal agree on one history.
 pub record Settled (t : TableId) (conf : Conf) (budgets : List ℕ)
@@ -32,6 +24,8 @@ pub record Settled (t : TableId) (conf : Conf) (budgets : List ℕ)
   pub cache : cache_of core ≡ (stage_of conf s.desk.book.history).cache
   -- second: each event of the history is legal
   pub legal : all_legal (length budgets) (start_of conf) s.desk.book.history ≡ true
+  -- and none has more than eight entries in one another, so no two rows have one number
+  pub shallow : are_shallow s.desk.book.history ≡ true
   -- third: each open window is the worker's window after the history
   pub tied : AreTied (stage_of conf s.desk.book.history) s.desk.windows
   -- fourth: the journal is the history's marks, and has room for what is left of the budgets

@@ -1,12 +1,13 @@
 //! What stands behind the lock.
 
 ghost use Rattle.std.specs.Prelude.{◌≡◌, ℕ, ◌<◌, ◌≤◌, ◌^◌, true, List, length};
+ghost use Rattle.std.specs.Prelude.{IfOk, OnErr};
 ghost use Rattle.apcu_model.specs.declared.request.Request.TheVariants as request;
 ghost use Rattle.apcu_model.specs.declared.request.Reply.TheVariants as reply;
-ghost use Rattle.apcu_model.specs.Sequential.{is_stored};
+ghost use Rattle.apcu_model.specs.Sequential.{info_reply, is_stored};
 ghost use Rattle.counter_entry.specs.Numbers.{reply_of};
 ghost use Rattle.shared_cache.specs.Settled.{Settled};
-ghost use Rattle.shared_cache.specs.Follows.{Follows};
+ghost use Rattle.shared_cache.specs.Follows.{Follows, FollowsEntry};
 ghost use Rattle.shared_cache.specs.Pinned.{IsFetched};
 ghost use Rattle.shared_cache.specs.Learned.{Learns};
 ghost use Rattle.pin_table.specs.Lists.{AllOf, known_list};
@@ -17,12 +18,13 @@ use crate::closed::Closed;
 use crate::lower::lower_laws;
 use crate::noting::note;
 use crate::pinned::Pinned;
-use apcu_model::{Ask, Journal, StoreAnswer};
+use apcu_model::{Ask, Gen, Journal, StoreAnswer};
 use cache_core::{Core, Look};
-use counter_entry::{IncAnswer, cas, inc};
+use cache_info::{cache_info, key_info, sma_info};
+use counter_entry::{Fate, IncAnswer, cas, entry, inc};
 use php_graph::Graph;
 use pin_table::{Ended, EndedList, Pass, PinTable, TableName, WriterSeat};
-use std::alloc::Global;
+use std::alloc::{AllocError, Global};
 use std::marker::{Model, PhantomData};
 use value_image::images_are_runs;
 
@@ -200,6 +202,117 @@ impl<N: TableName> Cabinet<N> {
         let found = cas(&mut self.core, &mut w, key, expect, set, t);
         note(&mut self.journal, &w);
         (w.give_pass(Ask::Cas { key, expect, set }, t), found)
+    }
+
+    // The value of a generator, which is stored under the keys that missed. Without memory there was
+    // no event.
+    pub(crate) fn entry(
+        &mut self,
+        table: &PinTable,
+        alloc: Global,
+        pass: Pass,
+        generator: &Gen,
+        t: u64,
+    ) -> (Pass, Result<(Graph, Fate), AllocError>)
+        requires table { table.now ≡ N.table }
+        requires pass { pass.table ≡ N.table }
+        requires left { 1 ≤ pass.known.left }
+        requires entry { 1 ≤ length generator.now.levels }
+        requires levels { length generator.now.levels ≤ 8 }
+        ensures given { IfOk result.1 (λ v. FollowsEntry N.conf (length N.budgets) pass result.0 t
+            generator.now v.0 v.1) }
+        ensures same { OnErr result.1 (result.0 ≡ pass) }
+    {
+        lower_laws();
+        let mut w = table.writer(&mut self.seat, pass);
+        match entry(alloc, &mut self.core, &mut w, generator, t) {
+            Ok(given) => {
+                note(&mut self.journal, &w);
+                (w.give_pass(Ask::Entry(generator), t), Ok(given))
+            }
+            Err(e) => (w.give_back(), Err(e)),
+        }
+    }
+
+    // What is told of the row that a look-up of the key finds. Without memory there was no event,
+    // here and in the two calls below.
+    pub(crate) fn key_info(
+        &mut self,
+        table: &PinTable,
+        alloc: Global,
+        pass: Pass,
+        key: &[u8],
+        t: u64,
+    ) -> (Pass, Result<Option<Graph>, AllocError>)
+        requires table { table.now ≡ N.table }
+        requires pass { pass.table ≡ N.table }
+        requires left { 1 ≤ pass.known.left }
+        requires short { length key.now < 2 ^ 32 }
+        ensures told { IfOk result.1 (λ info. Follows N.conf (length N.budgets) pass result.0 t
+            (request.KeyInfo key.now) (info_reply info)) }
+        ensures same { OnErr result.1 (result.0 ≡ pass) }
+    {
+        lower_laws();
+        let mut w = table.writer(&mut self.seat, pass);
+        match key_info(alloc, &mut self.core, &mut w, key, t) {
+            Ok(info) => {
+                note(&mut self.journal, &w);
+                (w.give_pass(Ask::KeyInfo(key), t), Ok(info))
+            }
+            Err(e) => (w.give_back(), Err(e)),
+        }
+    }
+
+    // What is told of the cache.
+    pub(crate) fn cache_info(
+        &mut self,
+        table: &PinTable,
+        alloc: Global,
+        pass: Pass,
+        limited: bool,
+    ) -> (Pass, Result<Graph, AllocError>)
+        requires table { table.now ≡ N.table }
+        requires pass { pass.table ≡ N.table }
+        requires left { 1 ≤ pass.known.left }
+        ensures told { IfOk result.1 (λ info. Follows N.conf (length N.budgets) pass result.0 0
+            (request.CacheInfo limited) (reply.Info info)) }
+        ensures same { OnErr result.1 (result.0 ≡ pass) }
+    {
+        lower_laws();
+        let mut w = table.writer(&mut self.seat, pass);
+        match cache_info(alloc, &mut self.core, &mut w, limited) {
+            Ok(info) => {
+                note(&mut self.journal, &w);
+                (w.give_pass(Ask::CacheInfo(limited), 0), Ok(info))
+            }
+            Err(e) => (w.give_back(), Err(e)),
+        }
+    }
+
+    // What is told of the words: what is free.
+    pub(crate) fn sma_info(
+        &mut self,
+        table: &PinTable,
+        alloc: Global,
+        pass: Pass,
+        limited: bool,
+    ) -> (Pass, Result<Graph, AllocError>)
+        requires table { table.now ≡ N.table }
+        requires pass { pass.table ≡ N.table }
+        requires left { 1 ≤ pass.known.left }
+        ensures told { IfOk result.1 (λ info. Follows N.conf (length N.budgets) pass result.0 0
+            (request.SmaInfo limited) (reply.Info info)) }
+        ensures same { OnErr result.1 (result.0 ≡ pass) }
+    {
+        lower_laws();
+        let mut w = table.writer(&mut self.seat, pass);
+        match sma_info(alloc, &mut self.core, &mut w, limited) {
+            Ok(info) => {
+                note(&mut self.journal, &w);
+                (w.give_pass(Ask::SmaInfo(limited), 0), Ok(info))
+            }
+            Err(e) => (w.give_back(), Err(e)),
+        }
     }
 
     // A worker's last event.

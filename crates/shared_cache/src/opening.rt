@@ -15,6 +15,7 @@ use pin_table::{EndedList, Passes, PinTable, TableName, WriterSeat};
 use seg_words::VecWords;
 use std::alloc::{AllocError, Global};
 use std::marker::Model;
+use std::sync::Wait;
 
 // The most events that the workers of one cache may make, all together.
 const MOST_EVENTS: u64 = 4_194_304;
@@ -94,14 +95,21 @@ impl Model for Fresh {
 /// Opens an empty cache of this shape for as many workers as there are budgets: how many events
 /// each may make, its end included.
 ///
-/// All memory that the cache ever needs is taken here, but for what is copied out of it.
-pub fn open_cache(alloc: Global, conf: &Conf, budgets: &[u32]) -> Result<Fresh, OpenFault>
+/// All memory that the cache ever needs is taken here, but for what is copied out of it. It is handed
+/// the runtime as the calls on the cache are, though it waits for nobody.
+pub fn open_cache<R: Wait>(
+    rt: &R,
+    alloc: Global,
+    conf: &Conf,
+    budgets: &[u32],
+) -> Result<Fresh, OpenFault>
     ensures conf { IfOk result (λ f. f.conf ≡ conf.now) }
     ensures budgets { IfOk result (λ f. f.budgets ≡ budgets.now) }
     ensures good { IfOk result (λ _. MayOpen conf.now budgets.now) }
     ensures bad { IfErr result (λ e. e ≡ BadConf → MayOpen conf.now budgets.now → ⊥) }
     ensures memory { IfErr result (λ e. e ≡ Memory → MayOpen conf.now budgets.now) }
 {
+    let _ = rt;
     if !conf.good() || budgets.len() > MOST_WORKERS {
         return Err(OpenFault::BadConf);
     }

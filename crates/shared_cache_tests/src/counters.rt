@@ -170,7 +170,7 @@ fn two_count<N: TableName + Send + Sync, R: Threads + Wait + Sync>(
     let (first, second, swapped) = finishes(rt, &shared, a.0, b.0, value);
     ended.push(first);
     ended.push(second);
-    Some((shared.close(ended), a.1, b.1, swapped))
+    Some((shared.close(rt, ended), a.1, b.1, swapped))
 }
 
 // How often a number was met.
@@ -188,7 +188,7 @@ fn once(answer: Option<i64>, number: i64) -> u32 {
 fn two_workers_count(rt: HostRuntime) -> Result<(), Fail> {
     let value = text(&rt, rt.alloc())?;
     let budgets = [4, 10];
-    let Ok(fresh) = open_cache(rt.alloc(), &CONF, &budgets) else {
+    let Ok(fresh) = open_cache(&rt, rt.alloc(), &CONF, &budgets) else {
         return Err(Fail::new("open_cache"));
     };
     let Some((closed, met, other, swapped)) = two_count::<Brand, _>(&rt, fresh, &value) else {

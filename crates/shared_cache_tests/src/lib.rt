@@ -4,6 +4,12 @@
 #[cfg(test)]
 mod counters;
 #[cfg(test)]
+mod dropped_copy;
+#[cfg(test)]
+mod generators;
+#[cfg(test)]
+mod infos;
+#[cfg(test)]
 mod steps;
 #[cfg(test)]
 mod tests;

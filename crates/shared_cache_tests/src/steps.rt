@@ -37,7 +37,12 @@ fn look<N: TableName, R: Wait>(rt: &R, shared: &Shared<N>, pass: Pass, key: &[u8
     shared.exists(rt, pass, key, 6)
 }
 
-fn remove<N: TableName, R: Wait>(rt: &R, shared: &Shared<N>, pass: Pass, key: &[u8]) -> (Pass, bool)
+pub(crate) fn remove<N: TableName, R: Wait>(
+    rt: &R,
+    shared: &Shared<N>,
+    pass: Pass,
+    key: &[u8],
+) -> (Pass, bool)
     requires table { pass.table ≡ N.table }
     requires left { 2 ≤ pass.known.left }
     requires short { length key.now < 2 ^ 32 }

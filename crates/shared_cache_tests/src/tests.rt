@@ -30,8 +30,8 @@ pub(crate) fn text(rt: &impl Abort, alloc: Global) -> Result<Graph, Fail> {
 }
 
 // What open_cache refuses.
-fn fault(alloc: Global, conf: &Conf, budgets: &[u32]) -> Option<OpenFault> {
-    match open_cache(alloc, conf, budgets) {
+fn fault(rt: &impl Wait, alloc: Global, conf: &Conf, budgets: &[u32]) -> Option<OpenFault> {
+    match open_cache(rt, alloc, conf, budgets) {
         Ok(_) => None,
         Err(fault) => Some(fault),
     }
@@ -45,11 +45,11 @@ fn opens_or_not(rt: HostRuntime) -> Result<(), Fail> {
         ttl: 0,
     };
     let bad = Some(OpenFault::BadConf);
-    assert_eq!(rt; fault(rt.alloc(), &odd, &[1]), bad);
-    assert_eq!(rt; fault(rt.alloc(), &CONF, &[1, 0]), bad);
-    assert_eq!(rt; fault(rt.alloc(), &CONF, &[1; 65]), bad);
-    assert_eq!(rt; fault(rt.alloc(), &CONF, &[4_194_304, 1]), bad);
-    assert_eq!(rt; fault(rt.alloc(), &CONF, &[1; 64]), None);
+    assert_eq!(rt; fault(&rt, rt.alloc(), &odd, &[1]), bad);
+    assert_eq!(rt; fault(&rt, rt.alloc(), &CONF, &[1, 0]), bad);
+    assert_eq!(rt; fault(&rt, rt.alloc(), &CONF, &[1; 65]), bad);
+    assert_eq!(rt; fault(&rt, rt.alloc(), &CONF, &[4_194_304, 1]), bad);
+    assert_eq!(rt; fault(&rt, rt.alloc(), &CONF, &[1; 64]), None);
     Ok(())
 }
 
@@ -98,14 +98,14 @@ fn two_threads<N: TableName + Send + Sync, R: Threads + Wait + Sync>(
     let (first, second) = learns(rt, &shared, a.0, b.0);
     ended.push(first);
     ended.push(second);
-    Some((shared.close(ended), a.1, b.1))
+    Some((shared.close(rt, ended), a.1, b.1))
 }
 
 #[test]
 fn two_workers(rt: HostRuntime) -> Result<(), Fail> {
     let value = text(&rt, rt.alloc())?;
     let budgets = [7, 8];
-    let Ok(fresh) = open_cache(rt.alloc(), &CONF, &budgets) else {
+    let Ok(fresh) = open_cache(&rt, rt.alloc(), &CONF, &budgets) else {
         return Err(Fail::new("open_cache"));
     };
     let Some((closed, met, other)) = two_threads::<Brand, _>(&rt, rt.alloc(), fresh, &value) else {

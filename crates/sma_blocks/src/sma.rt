@@ -279,20 +279,16 @@ impl Sma {
         at
     }
 
-    // The place up to which the words from the edge `end` on are free.
-    fn free_after<S: Segment>(&self, seg: &mut S, end: u32) -> u32
-        requires ready { IsReady self.now (S.words seg.old) (S.aside seg.old) }
-        requires edge { IsEdge (S.words seg.old) self.now.from end }
+    // The place up to which the words from the edge `end` on are free. It reads the index alone.
+    fn free_after<S: Segment>(&self, seg: &S, end: u32) -> u32
+        requires ready { IsReady self.now (S.words seg.now) (S.aside seg.now) }
+        requires edge { IsEdge (S.words seg.now) self.now.from end }
         requires inside { end ≤ self.now.to }
-        ensures free { IsFreeAfter (S.words seg.old) end result }
+        ensures free { IsFreeAfter (S.words seg.now) end result }
         ensures within { result ≤ self.now.to }
-        ensures kept { Kept S.WordsIn seg.old seg.new }
     {
         if end < self.to {
-            let next = self.part_at(seg, end);
-            if next.is_gap {
-                return end + next.size;
-            }
+            return end + self.sizes.get(end as usize / 2);
         }
         end
     }

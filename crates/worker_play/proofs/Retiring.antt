@@ -9,7 +9,7 @@ use Rattle.apcu_model.specs.declared.request.Reply.TheVariants as replies
 use Rattle.pin_table.specs.Values.{Bearer}
 use Rattle.script_read.specs.declared.script.Step.{Step}
 use Rattle.script_read.specs.Calls.{event_bound}
-use Rattle.script_read.specs.Play.{requests_of}
+use Rattle.script_read.specs.Play.{wish_at, requests_of}
 use Rattle.script_read.specs.Grammar.{ends_line}
 use Rattle.reply_text.specs.Lines.{call_text, script_lines}
 use Rattle.play_laws.specs.Own.{own_replies, wish_in, asked_by, all_asked}
@@ -23,7 +23,7 @@ use Rattle.worker_play.proofs.Steps.{asks_events, sum_step, lines_step}
 asked_count : (slots : ℕ) (steps : List Step) → length (asked_by steps) ≡ sum (map (λ (s : Step). event_bound slots s.call) steps)
 asked_count slots [] = refl
 asked_count slots (step ∷ steps) =
-    omega (arith, length-append (wishes_at step.t (requests_of step.call)) (asked_by steps), length-map (requests_of step.call) (wish step.t), asks_events slots step.call, asked_count slots steps, sum_step (λ (s : Step). event_bound slots s.call) step steps)
+    omega (arith, length-append (wishes_at step.t (requests_of step.call)) (asked_by steps), length-map (requests_of step.call) (wish_at step.t), asks_events slots step.call, asked_count slots steps, sum_step (λ (s : Step). event_bound slots s.call) step steps)
 
 -- an event is left for the end
 pub one_left : (conf : Conf) (workers : ℕ) (p q : Bearer) (script : List Step) → Reaches conf workers p q (asked_by script) → sum (map (λ (s : Step). event_bound conf.slots s.call) script) < p.known.left → 1 ≤ q.known.left
@@ -41,7 +41,7 @@ lines_more : (conf : Conf) (script : List Step) (own later : List Reply) → len
 lines_more conf [] own later count = refl
 lines_more conf (step ∷ steps) own later count =
     let asked = length-append (wishes_at step.t (requests_of step.call)) (asked_by steps) in
-    let calls = length-map (requests_of step.call) (wish step.t) in
+    let calls = length-map (requests_of step.call) (wish_at step.t) in
     let s = split_at (length (requests_of step.call)) own (omega (arith, count, asked, calls)) in
     let rest : length s.1 ≡ length (asked_by steps) = omega (arith, count, ap length s.2, length-append s.0 s.1, s.3, asked, calls) in
     subst (λ (l : List Reply). script_lines conf (step ∷ steps) (l ++ later) ≡ script_lines conf (step ∷ steps) l) (sym s.2)

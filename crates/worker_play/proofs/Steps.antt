@@ -11,11 +11,11 @@ use Rattle.apcu_model.specs.declared.request.Request.TheVariants as requests
 use Rattle.apcu_model.specs.declared.request.Reply.{Reply}
 use Rattle.pin_table.specs.Values.{Bearer}
 use Rattle.script_read.specs.declared.call.Call.{Call}
-use Rattle.script_read.specs.declared.call.Call.TheVariants.{StoreOne, StoreMany, FetchOne, FetchMany, ExistsOne, ExistsMany, DeleteOne, DeleteMany, Inc, Cas, Clear, Enabled}
+use Rattle.script_read.specs.declared.call.Call.TheVariants.{StoreOne, StoreMany, FetchOne, FetchMany, ExistsOne, ExistsMany, DeleteOne, DeleteMany, Inc, Cas, Entry, Clear, Enabled, KeyInfo, CacheInfo, SmaInfo}
 use Rattle.script_read.specs.declared.script.Step.{Step}
 use Rattle.script_read.specs.Calls.{event_bound}
 use Rattle.script_read.specs.Grammar.{ends_line}
-use Rattle.script_read.specs.Play.{Wish, Leaves, asks_each, requests_of}
+use Rattle.script_read.specs.Play.{Wish, wish_at, Leaves, asks_each, requests_of}
 use Rattle.play_laws.specs.Own.{asked_by}
 use Rattle.reply_text.specs.Lines.{call_text, before, lines_from, script_lines}
 use Rattle.worker_play.specs.Goes.{wish, wishes_at, GoesOn, Reaches, Tells}
@@ -33,8 +33,12 @@ asks_events slots (DeleteOne key) = refl
 asks_events slots (DeleteMany keys) = length-map keys requests.Delete
 asks_events slots (Inc key step ttl) = refl
 asks_events slots (Cas key expect set) = refl
+asks_events slots (Entry gen) = refl
 asks_events slots Clear = refl
 asks_events slots Enabled = refl
+asks_events slots (KeyInfo key) = refl
+asks_events slots (CacheInfo limited) = refl
+asks_events slots (SmaInfo limited) = refl
 
 -- a call that has its replies is done
 asks_all : (rs : List Request) (own later : List Reply) → length own ≡ length rs → asks_each rs (own ++ later) ≡ Leaves later
@@ -60,7 +64,7 @@ pub step_goes_on : (conf : Conf) (workers : ℕ) (p o q : Bearer) (all : List Wi
     → Tells conf workers o q (wishes_at step.t (requests_of step.call)) (λ replies. out ++ (call_text step.call replies ++ ends_line)) new
     → Midway conf workers p q all (asked_by steps) told (λ later. new ++ script_lines conf steps later)
 step_goes_on conf workers p o q all step steps told out new m t =
-    let count = t.1.count ∙ length-map (requests_of step.call) (wish step.t) in
+    let count = t.1.count ∙ length-map (requests_of step.call) (wish_at step.t) in
     goes_on conf workers p o q all (wishes_at step.t (requests_of step.call)) (asked_by steps) t.0 told (λ later. out ++ script_lines conf (step ∷ steps) later) (λ later. new ++ script_lines conf steps later) m t.1
     (λ later. ap (λ (l : List ℕ). out ++ l) (lines_step conf step steps t.0 later count)
     ∙ (sym (append_assoc out (call_text step.call t.0 ++ ends_line) (script_lines conf steps later)) ∙ ap (λ (l : List ℕ). l ++ script_lines conf steps later) (sym t.2)))
@@ -88,7 +92,7 @@ left_now conf step steps n enough =
 pub left_after : (conf : Conf) (workers : ℕ) (o q : Bearer) (step : Step) (steps : List Step) (replies : List Reply) → GoesOn conf workers o q (wishes_at step.t (requests_of step.call)) replies → sum (map (λ (s : Step). event_bound conf.slots s.call) (step ∷ steps)) < o.known.left
     → sum (map (λ (s : Step). event_bound conf.slots s.call) steps) < q.known.left
 left_after conf workers o q step steps replies g enough =
-    omega (arith, g.left, enough, sum_step (λ (s : Step). event_bound conf.slots s.call) step steps, asks_events conf.slots step.call, length-map (requests_of step.call) (wish step.t))
+    omega (arith, g.left, enough, sum_step (λ (s : Step). event_bound conf.slots s.call) step steps, asks_events conf.slots step.call, length-map (requests_of step.call) (wish_at step.t))
 
 -- the step that a script has at a place
 pub step_item : {A : Type 0} (xs : List A) (i : ℕ) (x : A) → slice_get xs i ≡ Some x → drop i xs ≡ x ∷ drop (i + 1) xs

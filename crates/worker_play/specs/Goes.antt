@@ -7,15 +7,16 @@ use Rattle.apcu_model.specs.declared.request.Reply.{Reply}
 use Rattle.apcu_model.specs.History.{start_of, all_legal}
 use Rattle.pin_table.specs.Values.{Bearer}
 use Rattle.pin_table.specs.Events.{events_of}
-use Rattle.script_read.specs.Play.{Wish}
+use Rattle.script_read.specs.Play.{Wish, wish_at}
 use Rattle.play_laws.specs.Own.{own_replies, wish_in}
 
 -- a request at a moment
 abbrev pub wish : ℕ → Request → Wish
 wish t r = record { request = r; t = t }
 
+-- what a call at this moment asks
 abbrev pub wishes_at : ℕ → List Request → List Wish
-wishes_at t requests = map (wish t) requests
+wishes_at t requests = map (wish_at t) requests
 
 -- in what the pass has seen its worker's events are its own, all of them
 abbrev pub KnowsOwnEvents : Bearer → Type 0

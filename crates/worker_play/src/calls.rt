@@ -4,19 +4,23 @@
 ghost use Rattle.std.specs.Prelude.{◌≡◌, ◌<◌, ◌^◌, ◌++◌, [], length, map, codes, OnOk};
 ghost use Rattle.apcu_model.specs.declared.request.Request.TheVariants.{Store, Fetch, Exists};
 ghost use Rattle.apcu_model.specs.declared.request.Request.TheVariants.{Delete};
+ghost use Rattle.script_read.specs.Calls.{HasLevels};
 ghost use Rattle.script_read.specs.Play.{requests_of};
 ghost use Rattle.reply_text.specs.Replies.{unstored_text, found_text, there_text, undeleted_text};
 ghost use Rattle.reply_text.specs.Lines.{call_text};
 ghost use Rattle.worker_play.specs.Goes.{wishes_at, KnowsOwnEvents, Reaches, Tells};
 
-use crate::events::{cas, clear, delete, exists, fetch, inc, store};
+use crate::events::{
+    cache_info, cas, clear, delete, entry, exists, fetch, inc, key_info, sma_info, store,
+};
 use crate::noting::{note_there, note_undone, note_value, write_found};
 use io_edges::Gate;
 use notation::ByteOut;
 use php_graph::{Bytes, Graph};
 use pin_table::{Pass, TableName};
 use reply_text::{
-    Notes, write_each, write_fetched, write_flag, write_flags, write_number, write_numbered,
+    Notes, write_each, write_fetched, write_flag, write_flags, write_gave, write_info,
+    write_number, write_numbered,
 };
 use script_read::Call;
 use shared_cache::Shared;
@@ -38,6 +42,7 @@ pub(crate) fn play_call<N: TableName, G: Gate, R: Wait>(
     requires table { pass.table ≡ N.table }
     requires whole { KnowsOwnEvents pass }
     requires left { length (requests_of call.now) < pass.known.left }
+    requires levels { HasLevels call.now }
     ensures reaches { Reaches N.conf (length N.budgets) pass result.0
         (wishes_at t (requests_of call.now)) }
     ensures line { OnOk result.1 (Tells N.conf (length N.budgets) pass result.0
@@ -109,11 +114,39 @@ pub(crate) fn play_call<N: TableName, G: Gate, R: Wait>(
             let (pass, was_set) = cas(rt, shared, pass, key, *expect, *set, t);
             (pass, write_flag(out, was_set))
         }
+        Call::Entry(generator) => {
+            let (pass, value) = entry(rt, alloc, shared, pass, generator, t);
+            match value {
+                Ok(value) => (pass, write_gave(out, &value)),
+                Err(e) => (pass, Err(e)),
+            }
+        }
         Call::Clear => {
             let pass = clear(rt, shared, pass, t);
             (pass, write_flag(out, true))
         }
         Call::Enabled => (pass, write_flag(out, true)),
+        Call::KeyInfo(key) => {
+            let (pass, info) = key_info(rt, alloc, shared, pass, key, t);
+            match info {
+                Ok(info) => (pass, write_info(out, info)),
+                Err(e) => (pass, Err(e)),
+            }
+        }
+        Call::CacheInfo(limited) => {
+            let (pass, info) = cache_info(rt, alloc, shared, pass, *limited);
+            match info {
+                Ok(info) => (pass, write_info(out, Some(info))),
+                Err(e) => (pass, Err(e)),
+            }
+        }
+        Call::SmaInfo(limited) => {
+            let (pass, info) = sma_info(rt, alloc, shared, pass, *limited);
+            match info {
+                Ok(info) => (pass, write_info(out, Some(info))),
+                Err(e) => (pass, Err(e)),
+            }
+        }
     }
 }
 

@@ -1,15 +1,17 @@
 //! The events of a worker, each on one key: the pass goes on by one wish and its reply.
 
-ghost use Rattle.std.specs.Prelude.{◌≡◌, ◌≤◌, true, List, [], ◌∷◌, length, IfOk};
+ghost use Rattle.std.specs.Prelude.{◌≡◌, ◌≤◌, ◌<◌, true, List, [], ◌∷◌, length, IfOk, OnErr};
 ghost use Rattle.php_graph.specs.declared.kind.Kind.{Kind};
 ghost use Rattle.apcu_model.specs.declared.request.Request.TheVariants as request;
 ghost use Rattle.apcu_model.specs.declared.request.Reply.{Reply};
-ghost use Rattle.apcu_model.specs.declared.request.Reply.TheVariants.{Flag, Found};
-ghost use Rattle.apcu_model.specs.Sequential.{number_reply};
+ghost use Rattle.apcu_model.specs.declared.request.Reply.TheVariants.{Flag, Found, Gave, Info};
+ghost use Rattle.apcu_model.specs.Sequential.{info_reply, number_reply};
+ghost use Rattle.script_read.specs.Calls.{most_levels};
 ghost use Rattle.reply_text.specs.Replies.{fetched};
 ghost use Rattle.worker_play.specs.Goes.{wish, KnowsOwnEvents, GoesOn};
 
 use crate::scalar::graph_of_scalar;
+use apcu_model::Gen;
 use io_edges::{Gate, Point};
 use php_graph::{Bytes, Graph};
 use pin_table::{Pass, TableName};
@@ -113,6 +115,89 @@ pub(crate) fn cas<N: TableName, R: Wait>(
 {
     one_event_own();
     shared.cas(rt, pass, key.as_slice(), expect, set, t)
+}
+
+// The value that a generator gives. There was no event where memory is missing.
+pub(crate) fn entry<N: TableName, R: Wait>(
+    rt: &R,
+    alloc: Global,
+    shared: &Shared<N>,
+    pass: Pass,
+    generator: &Gen,
+    t: u64,
+) -> (Pass, Result<Graph, AllocError>)
+    requires table { pass.table ≡ N.table }
+    requires whole { KnowsOwnEvents pass }
+    requires left { 2 ≤ pass.known.left }
+    requires entry { 0 < length generator.now.levels }
+    requires levels { length generator.now.levels ≤ most_levels }
+    ensures given { IfOk result.1 (λ value. GoesOn N.conf (length N.budgets) pass result.0
+        (wish t (request.Entry generator.now) ∷ []) (Gave value ∷ [])) }
+    ensures same { OnErr result.1 (result.0 ≡ pass) }
+{
+    one_event_own();
+    match shared.entry(rt, alloc, pass, generator, t) {
+        (pass, Ok((value, _fate))) => (pass, Ok(value)),
+        (pass, Err(e)) => (pass, Err(e)),
+    }
+}
+
+// What is noted of a key's row, if a look-up finds one. There was no event where memory is missing.
+pub(crate) fn key_info<N: TableName, R: Wait>(
+    rt: &R,
+    alloc: Global,
+    shared: &Shared<N>,
+    pass: Pass,
+    key: &Bytes,
+    t: u64,
+) -> (Pass, Result<Option<Graph>, AllocError>)
+    requires table { pass.table ≡ N.table }
+    requires whole { KnowsOwnEvents pass }
+    requires left { 2 ≤ pass.known.left }
+    ensures told { IfOk result.1 (λ info. GoesOn N.conf (length N.budgets) pass result.0
+        (wish t (request.KeyInfo key.now) ∷ []) (info_reply info ∷ [])) }
+    ensures same { OnErr result.1 (result.0 ≡ pass) }
+{
+    one_event_own();
+    shared.key_info(rt, alloc, pass, key.as_slice(), t)
+}
+
+// What the cache tells of itself. There was no event where memory is missing.
+pub(crate) fn cache_info<N: TableName, R: Wait>(
+    rt: &R,
+    alloc: Global,
+    shared: &Shared<N>,
+    pass: Pass,
+    limited: bool,
+) -> (Pass, Result<Graph, AllocError>)
+    requires table { pass.table ≡ N.table }
+    requires whole { KnowsOwnEvents pass }
+    requires left { 2 ≤ pass.known.left }
+    ensures told { IfOk result.1 (λ info. GoesOn N.conf (length N.budgets) pass result.0
+        (wish 0 (request.CacheInfo limited) ∷ []) (Info info ∷ [])) }
+    ensures same { OnErr result.1 (result.0 ≡ pass) }
+{
+    one_event_own();
+    shared.cache_info(rt, alloc, pass, limited)
+}
+
+// What the segment tells of its room. There was no event where memory is missing.
+pub(crate) fn sma_info<N: TableName, R: Wait>(
+    rt: &R,
+    alloc: Global,
+    shared: &Shared<N>,
+    pass: Pass,
+    limited: bool,
+) -> (Pass, Result<Graph, AllocError>)
+    requires table { pass.table ≡ N.table }
+    requires whole { KnowsOwnEvents pass }
+    requires left { 2 ≤ pass.known.left }
+    ensures told { IfOk result.1 (λ info. GoesOn N.conf (length N.budgets) pass result.0
+        (wish 0 (request.SmaInfo limited) ∷ []) (Info info ∷ [])) }
+    ensures same { OnErr result.1 (result.0 ≡ pass) }
+{
+    one_event_own();
+    shared.sma_info(rt, alloc, pass, limited)
 }
 
 // Drops all rows.

@@ -1,7 +1,7 @@
 //! A worker's script.
 
 ghost use Rattle.std.specs.Prelude.{◌≡◌, ℕ, ◌<◌, ◌++◌, List, [], length, map, sum, IfOk, OnOk};
-ghost use Rattle.script_read.specs.Calls.{event_bound};
+ghost use Rattle.script_read.specs.Calls.{HasLevels, event_bound};
 ghost use Rattle.script_read.specs.Grammar.{ends_line};
 ghost use Rattle.script_read.specs.Play.{requests_of};
 ghost use Rattle.play_laws.specs.Own.{asked_by};
@@ -48,6 +48,7 @@ fn play_step<N: TableName, G: Gate, R: Wait>(
     requires table { pass.table ≡ N.table }
     requires whole { KnowsOwnEvents pass }
     requires left { length (requests_of step.now.call) < pass.known.left }
+    requires levels { HasLevels step.now.call }
     ensures reaches { Reaches N.conf (length N.budgets) pass result.0
         (wishes_at step.now.t (requests_of step.now.call)) }
     ensures line { OnOk result.1 (Tells N.conf (length N.budgets) pass result.0

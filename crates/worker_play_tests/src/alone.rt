@@ -41,7 +41,7 @@ fn plays_alone<N: TableName, R: Wait>(
     let pass = one_pass::<N>(&mut passes)?;
     let (pass, printed) = plays(rt, alloc, &CONF, &shared, pass, script, &NoGate)?;
     ended.push(shared.retire(rt, pass));
-    Some((shared.close(ended), printed))
+    Some((shared.close(rt, ended), printed))
 }
 
 // A script alone: what it prints, and how many events it makes, its end included.
@@ -56,7 +56,7 @@ struct Alone {
 // made.
 fn expect<R: Wait + Abort>(rt: &R, alloc: Global, case: Alone) -> Result<(), Fail> {
     let script = script_of(alloc, case.script)?;
-    let Ok(fresh) = open_cache(alloc, &CONF, &[case.events]) else {
+    let Ok(fresh) = open_cache(rt, alloc, &CONF, &[case.events]) else {
         return Err(Fail::new("open_cache"));
     };
     let played = plays_alone::<Brand, _>(rt, alloc, fresh, case.events, &script);

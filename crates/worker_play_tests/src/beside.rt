@@ -3,7 +3,7 @@
 ghost use Rattle.std.specs.Prelude.{◌≡◌, ◌≤◌, [], ◌∷◌, length, IfSome};
 ghost use Rattle.std.specs.Thread.{IsSync};
 ghost use Rattle.pin_table.specs.Lists.{fresh, fresh_pass};
-ghost use Rattle.worker_play.specs.Goes.{IsWhole};
+ghost use Rattle.worker_play.specs.Goes.{KnowsOwnEvents};
 
 use crate::gates::Noting;
 use crate::playing::{CONF, plays, script_of};
@@ -59,13 +59,13 @@ fn plays_both<N: TableName + Send + Sync, G: Gate + Sync, R: Threads + Wait + Sy
         rt,
         || -> Option<(Pass, Result<ByteOut, PlayFault>)>
             requires { (CONF ≡ N.conf) × (first.table ≡ N.table) × (first.known.own ≡ [])
-                × IsWhole first }
+                × KnowsOwnEvents first }
             ensures { IfSome result (λ r. (r.0.table ≡ N.table)
                 × (r.0.known.worker ≡ first.known.worker) × (1 ≤ r.0.known.left)) }
         { plays(rt, alloc, &CONF, &shared, first, &scripts.0, gate) },
         || -> Option<(Pass, Result<ByteOut, PlayFault>)>
             requires { (CONF ≡ N.conf) × (second.table ≡ N.table) × (second.known.own ≡ [])
-                × IsWhole second }
+                × KnowsOwnEvents second }
             ensures { IfSome result (λ r. (r.0.table ≡ N.table)
                 × (r.0.known.worker ≡ second.known.worker) × (1 ≤ r.0.known.left)) }
         { plays(rt, alloc, &CONF, &shared, second, &scripts.1, gate) },
@@ -74,7 +74,7 @@ fn plays_both<N: TableName + Send + Sync, G: Gate + Sync, R: Threads + Wait + Sy
     let (second, other) = b?;
     ended.push(shared.retire(rt, first));
     ended.push(shared.retire(rt, second));
-    Some((shared.close(ended), printed, other))
+    Some((shared.close(rt, ended), printed, other))
 }
 
 // The points of one worker, and whose event each mark is and whom it met.
@@ -118,7 +118,7 @@ fn copies_what_is_deleted_meanwhile(rt: HostRuntime) -> Result<(), Fail> {
         apcu_store a:2:{s:1:\"a\";s:3:\"new\";s:1:\"b\";i:7;} N;\n",
     )?;
     let gate = Noting::new(&rt, alloc, 64)?;
-    let Ok(fresh) = open_cache(alloc, &CONF, &[6, 4]) else {
+    let Ok(fresh) = open_cache(&rt, alloc, &CONF, &[6, 4]) else {
         return Err(Fail::new("open_cache"));
     };
     let played = plays_both::<Brand, _, _>(&rt, alloc, fresh, &(first, second), &gate);

@@ -2,7 +2,7 @@
 
 ghost use Rattle.std.specs.Prelude.{◌≡◌, ◌<◌, ◌≤◌, IsTrue, [], length, map, sum, IfSome};
 ghost use Rattle.script_read.specs.Calls.{event_bound};
-ghost use Rattle.worker_play.specs.Goes.{IsWhole};
+ghost use Rattle.worker_play.specs.Goes.{KnowsOwnEvents};
 
 use apcu_model::Conf;
 use io_edges::Gate;
@@ -67,7 +67,7 @@ pub(crate) fn plays<N: TableName, G: Gate, R: Wait>(
     requires conf { conf.now ≡ N.conf }
     requires table { pass.table ≡ N.table }
     requires no_event { pass.known.own ≡ [] }
-    requires none_seen { IsWhole pass }
+    requires none_seen { KnowsOwnEvents pass }
     ensures table { IfSome result (λ r. r.0.table ≡ N.table) }
     ensures worker { IfSome result (λ r. r.0.known.worker ≡ pass.known.worker) }
     ensures left { IfSome result (λ r. 1 ≤ r.0.known.left) }

@@ -1,5 +1,5 @@
-use Rattle.apcu_model.proofs.Held.{cache_alike, reply_alike}
+use Rattle.apcu_model.proofs.Held.{cache_alike, reply_alike, entered_alike}
 use Rattle.apcu_model.proofs.laws.held_alike.Goals as goal
 
 pub returns : goal.returns
-returns c = record { cache = cache_alike; reply = reply_alike }
+returns c = record { cache = cache_alike; reply = reply_alike; entered = entered_alike }

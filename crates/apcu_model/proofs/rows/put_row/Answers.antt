@@ -3,8 +3,8 @@ use Rattle.apcu_model.specs.Cache.{Row, has_key}
 use Rattle.apcu_model.proofs.Apart.{with_row-set}
 use Rattle.apcu_model.proofs.rows.put_row.Goals as goal
 
-pub returns-in-Some : goal.returns-in-Some
-returns-in-Some c =
+pub returns-in-Some-clause-items : goal.returns-in-Some-clause-items
+returns-in-Some-clause-items c =
     let key : c.as_slice.result.now ≡ c.args.new.key = c.as_slice.ensures.bytes ∙ ap (λ (r : Row). r.key) c.new.view_is in
     let i = c.in-Some.i in
     let at = subst

@@ -1,4 +1,4 @@
-use Rattle.apcu_play.specs.Options.{conf_of}
+use Rattle.conf_read.specs.Options.{conf_of}
 use Rattle.apcu_play.proofs.Whole.{completes_if}
 use Rattle.apcu_play.proofs.running.run.Goals as goal
 
@@ -8,7 +8,7 @@ returns-clause-complete g c =
     (g.K.Sink.held c.args.out.now) (g.K.Sink.held c.outcome-ending.new.out) (g.S.Source.faults c.args.input.now) (g.S.Source.faults c.outcome-ending.new.input)
     (g.K.Sink.faults c.args.out.now) (g.K.Sink.faults c.outcome-ending.new.out) c.outcome-ending.result.status
     c.outcome-ending.ensures.replayed
-    c.outcome-ending.ensures.usage.0
+    c.outcome-ending.ensures.usage
     (λ is. record { place = c.outcome-ending.result.place; reason = c.outcome-ending.result.reason; at = c.outcome-ending.ensures.script is })
     c.outcome-ending.ensures.too_many
     c.outcome-ending.ensures.longer

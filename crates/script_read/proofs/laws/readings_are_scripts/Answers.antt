@@ -1,4 +1,4 @@
-use Rattle.script_read.proofs.Forms.{ValuesTake}
+use Rattle.script_read.proofs.Binding.{ValuesTake}
 use Rattle.script_read.proofs.Spelled.{scripts_take, scripts_again, scripts_one}
 use Rattle.script_read.proofs.laws.readings_are_scripts.Goals as goal
 

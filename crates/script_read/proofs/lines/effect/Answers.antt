@@ -69,6 +69,13 @@ returns-in-Cas-clause-read c =
     let rest = c.args.rest.now in
     moved _ c.cas.result _ _ (ap (λ (w : Keyword). rest_at (form_named w) line rest) c.in-Cas.is) (c.cas.ensures.read line)
 
+pub returns-in-Entry-clause-read : goal.returns-in-Entry-clause-read
+unfolding form_in
+returns-in-Entry-clause-read c =
+    let line = c.args.line.now in
+    let rest = c.args.rest.now in
+    moved _ c.entry.result _ _ (ap (λ (w : Keyword). rest_at (form_named w) line rest) c.in-Entry.is) (c.entry.ensures.read line)
+
 pub returns-in-Clear-clause-read : goal.returns-in-Clear-clause-read
 unfolding form_in
 returns-in-Clear-clause-read c =
@@ -82,3 +89,24 @@ returns-in-Enabled-clause-read c =
     let line = c.args.line.now in
     let rest = c.args.rest.now in
     moved _ c.bare-in-Enabled.result _ _ (ap (λ (w : Keyword). rest_at (form_named w) line rest) c.in-Enabled.is) (c.bare-in-Enabled.ensures.read line)
+
+pub returns-in-KeyInfo-clause-read : goal.returns-in-KeyInfo-clause-read
+unfolding form_in
+returns-in-KeyInfo-clause-read c =
+    let line = c.args.line.now in
+    let rest = c.args.rest.now in
+    moved _ c.key_info.result _ _ (ap (λ (w : Keyword). rest_at (form_named w) line rest) c.in-KeyInfo.is) (c.key_info.ensures.read line)
+
+pub returns-in-CacheInfo-clause-read : goal.returns-in-CacheInfo-clause-read
+unfolding form_in
+returns-in-CacheInfo-clause-read c =
+    let line = c.args.line.now in
+    let rest = c.args.rest.now in
+    moved _ c.cache_info.result _ _ (ap (λ (w : Keyword). rest_at (form_named w) line rest) c.in-CacheInfo.is) (c.cache_info.ensures.read line)
+
+pub returns-in-SmaInfo-clause-read : goal.returns-in-SmaInfo-clause-read
+unfolding form_in
+returns-in-SmaInfo-clause-read c =
+    let line = c.args.line.now in
+    let rest = c.args.rest.now in
+    moved _ c.sma_info.result _ _ (ap (λ (w : Keyword). rest_at (form_named w) line rest) c.in-SmaInfo.is) (c.sma_info.ensures.read line)

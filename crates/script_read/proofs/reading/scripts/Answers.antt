@@ -7,7 +7,7 @@ use Rattle.script_read.specs.declared.effect.Effect.TheVariants.{Sets, Calls}
 use Rattle.script_read.specs.declared.script.Step.{Step}
 use Rattle.script_read.specs.Growing.{last_len}
 use Rattle.script_read.specs.Reading.{is_worker, worker_at, line_at, scripts_at}
-use Rattle.script_read.specs.Gives.{Stops, IsSoon}
+use Rattle.script_read.specs.Gives.{Stops, IsInRange}
 use Rattle.script_read.proofs.Walking.{IsSoFar, begins, one_longer, begun_last, grown_length, grown_last, worker_goes_on, moment_goes_on, call_goes_on, worker_fails, line_fails, is_done, word_is}
 use Rattle.script_read.proofs.reading.scripts.Goals as goal
 
@@ -73,7 +73,7 @@ loop-rest-preserved-in-Sets c =
     let read : line_at (length front) rest ≡ Ok (Sets c.in-Sets.moment, after) = subst (λ (n : ℕ). line_at n rest ≡ was_read after c.in_ok-effect.effect) c.len-else-is_word.ensures c.in_ok-effect.ensures.read ∙ ap (was_read after) c.in-Sets.is in
     record {
       so_far = moment_goes_on front c.loop-rest.t c.in-Sets.moment rest after whole some word read fewer c.loop-rest.invariant.so_far;
-      soon = subst IsSoon c.in-Sets.is c.in_ok-effect.ensures.soon;
+      soon = subst IsInRange c.in-Sets.is c.in_ok-effect.ensures.range;
       few = omega (arith, fewer, c.loop-rest.invariant.few);
       workers = c.loop-rest.invariant.workers;
     }

@@ -13,8 +13,10 @@ returns c = record {
   own = c.rule_laws.ensures.own;
   after = c.one_event_more.ensures.after;
   legal = c.one_event_more.ensures.legal;
+  shallow = c.one_event_more.ensures.shallow;
   marks = c.one_event_more.ensures.marks;
   cache = c.held_alike.ensures.cache;
   reply = c.held_alike.ensures.reply;
+  entered = c.held_alike.ensures.entered;
   numbered = c.numbered.ensures;
 }

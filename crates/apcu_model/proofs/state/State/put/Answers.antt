@@ -20,7 +20,7 @@ returns-clause-cache c =
     let new = new_row s d.key d.graph d.ttl c.args.t d.size c.args.place in
     let slot : c.hash_of.result % c.from.result ≡ slot_of s.conf d.key = rw (c.hash_of.ensures, c.from.ensures, c.as_slice.ensures.bytes) refl in
     let rows : c.put_row.new.rows.items ≡ with_row new (fresh_rows s (slot_of s.conf d.key) c.args.t) =
-    c.put_row.ensures ∙ ap (with_row new) (c.drop_expired_in.ensures.items ∙ ap (λ (k : ℕ). fresh_rows s k c.args.t) slot) in
+    c.put_row.ensures.items ∙ ap (with_row new) (c.drop_expired_in.ensures.items ∙ ap (λ (k : ℕ). fresh_rows s k c.args.t) slot) in
     ap
     (λ (xs : List Row). let e : Cache = record (cache_in s) { rows = xs; next_number = c.saturating_add-self.result; inserts = c.saturating_add-self-2.result } in e)
     rows
@@ -39,5 +39,5 @@ returns-clause-valid c =
     let fresh = ap are_apart c.drop_expired_in.ensures.items ∙ are_apart-filter (λ row. not (is_in_slot s.conf slot row && is_expired s.conf c.args.t row)) s.rows.items c.requires.valid.apart in
     record {
       good = c.requires.valid.good;
-      apart = ap are_apart c.put_row.ensures ∙ are_apart-with_row new c.drop_expired_in.new.rows.items fresh;
+      apart = ap are_apart c.put_row.ensures.items ∙ are_apart-with_row new c.drop_expired_in.new.rows.items fresh;
     }

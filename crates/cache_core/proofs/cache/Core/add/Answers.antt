@@ -1,5 +1,12 @@
-use Rattle.std.proofs.Common.{◌≡◌, ℕ, Bool, refl, sym, ap, ◌∙◌, subst}
-use Rattle.seg_words.specs.Windows.{Aside}
+use Rattle.std.proofs.Common.{◌≡◌, ℕ, Bool, List, length, refl, sym, ap, ◌∙◌, subst}
+use Rattle.seg_words.specs.Windows.{Aside, held_blocks}
+use Rattle.php_graph.specs.Size.{block_size}
+use Rattle.apcu_model.specs.Cache.{Row}
+use Rattle.apcu_model.specs.Change.{with_room}
+use Rattle.entry_slots.specs.declared.spots.Spot.{Spot}
+use Rattle.entry_slots.specs.Standing.{entries}
+use Rattle.cache_core.specs.Spots.{IsSpotIfAny, HaveSameRows}
+use Rattle.cache_core.proofs.Spotting.{rows_stay, still_spot}
 use Rattle.seg_words.specs.Probing.{goes_nowhere}
 use Rattle.std.specs.Prelude.{Option}
 use Rattle.apcu_model.specs.declared.conf.Conf.{Conf}
@@ -27,6 +34,28 @@ put_in-requires-clause-slot g c = c.requires.slot ∙ ap (λ (k : Conf). slot_of
 
 pub put_in-requires-clause-limit : goal.put_in-requires-clause-limit
 put_in-requires-clause-limit g c = ap (λ (x : Entries). x.conf.ttl) (sym c.requires.stand.whole) ∙ sym (ap (λ k. k.ttl) c.make_room_next-place.ensures.made.conf_is)
+
+pub rows-before-requires : goal.rows-before-requires
+rows-before-requires g c = record { stand = record { words = g.S.WordsIn.words c.args.seg.now; aside = g.S.WordsIn.aside c.args.seg.now; stand = c.requires.stand.stand } }
+
+pub rows-after-requires : goal.rows-after-requires
+rows-after-requires g c = record { stand = record { words = g.S.WordsIn.words c.make_room_next-place.new.seg; aside = g.S.WordsIn.aside c.make_room_next-place.new.seg; stand = c.make_room_next-place.ensures.stand } }
+
+pub put_in-requires-clause-spot : goal.put_in-requires-clause-spot
+put_in-requires-clause-spot g c =
+    let old = entries c.args.self.now.slots in
+    let new = entries c.make_room_next-place.new.slots in
+    let made = made_as c.block_words-n.ensures c.in-Some.is c.make_room_next-place.ensures.made in
+    let now = g.S.WordsIn.aside c.make_room_next-place.new.seg in
+    let cache = cache_of c.args.self.now in
+    let n = block_size (length c.args.key.now) c.args.g.now in
+    let rows : new.rows ≡ (with_room (held_blocks now) n c.args.t cache).rows = ap (λ (x : Entries). x.rows) (made.room cache now c.requires.stand.whole (goes_nowhere now now refl)) in
+    let same : c.rows-after.result ≡ c.rows-before.result → HaveSameRows old new = λ e. record {
+      conf = made.conf_is;
+      rows = rows ∙ rows_stay (held_blocks now) n c.args.t cache (sym (ap (λ (l : List Row). length l) rows) ∙ (sym c.rows-after.ensures.rows ∙ (e ∙ c.rows-before.ensures.rows)));
+    } in
+    subst (λ (o : Option Spot). IsSpotIfAny new c.args.key.now c.args.t o) (sym c.if_still-spot.ensures)
+    (still_spot c.args.key.now c.args.t c.args.spot c.rows-before.result c.rows-after.result same c.requires.spot)
 
 pub returns-in_default-clause-later : goal.returns-in_default-clause-later
 returns-in_default-clause-later g c = λ later on.

@@ -1,4 +1,4 @@
-use Rattle.std.proofs.Common.{refl, sym, ap, ◌∙◌}
+use Rattle.std.proofs.Common.{inl, inr, refl, sym, ap, ◌∙◌}
 use Rattle.seg_words.specs.Windows.{held_blocks}
 use Rattle.seg_words.specs.Probing.{goes_nowhere, goes_on}
 use Rattle.apcu_model.specs.Change.{Insertion}
@@ -8,38 +8,48 @@ use Rattle.entry_slots.specs.Entries.{Entries}
 use Rattle.cache_core.specs.Caching.{cache_of}
 use Rattle.cache_core.specs.Storing.{added}
 use Rattle.cache_core.proofs.Insertions.{added_swept}
+use Rattle.cache_core.proofs.Spotting.{same_spot_if}
 use Rattle.cache_core.proofs.cache.Core.store.Goals as goal
 
-pub refusal-requires-clause-slot : goal.refusal-requires-clause-slot
-refusal-requires-clause-slot g c = c.slot_of_key-slot.ensures.slot ∙ ap (λ (x : Entries). slot_of x.conf c.args.key.now) c.requires.stand.whole
+pub seek_new-requires-clause-slot : goal.seek_new-requires-clause-slot
+seek_new-requires-clause-slot g c = c.slot_of_key-slot.ensures.slot ∙ ap (λ (x : Entries). slot_of x.conf c.args.key.now) c.requires.stand.whole
 
 pub add-requires-clause-slot : goal.add-requires-clause-slot
 add-requires-clause-slot g c =
     c.slot_of_key-slot.ensures.slot ∙ (ap (λ (x : Entries). slot_of x.conf c.args.key.now) c.requires.stand.whole ∙ ap (λ (k : Conf). slot_of k c.args.key.now) (sym c.sweep.ensures.conf))
 
-pub returns-in-Some-clause-answer : goal.returns-in-Some-clause-answer
-returns-in-Some-clause-answer g c = ap (λ (i : Insertion). i.answer) (sym (c.in-Some.ensures.some (held_blocks (g.S.WordsIn.aside c.refusal.new.seg)) c.args.ttl))
+pub add-requires-clause-spot : goal.add-requires-clause-spot
+add-requires-clause-spot g c = same_spot_if c.args.key.now c.args.t c.in-Ok.spot c.sweep.ensures.alike c.in-Ok.ensures.spot
 
-pub returns-in-Some-clause-cache : goal.returns-in-Some-clause-cache
-returns-in-Some-clause-cache g c = ap (λ (i : Insertion). i.cache) (sym (c.in-Some.ensures.some (held_blocks (g.S.WordsIn.aside c.refusal.new.seg)) c.args.ttl))
+pub returns-in-Ok-clause-kept : goal.returns-in-Ok-clause-kept
+returns-in-Ok-clause-kept g c = λ early. absurd (elim early [
+  | inl large ↦ c.add.ensures.fits large
+  | inr exists ↦ c.add.ensures.new exists
+])
 
-pub returns-in-Some-clause-later : goal.returns-in-Some-clause-later
-returns-in-Some-clause-later g c = λ later on. c.in-Some.ensures.some (held_blocks later) c.args.ttl
+pub returns-in-Err-clause-answer : goal.returns-in-Err-clause-answer
+returns-in-Err-clause-answer g c = ap (λ (i : Insertion). i.answer) (sym (c.in-Err.ensures.refused (held_blocks (g.S.WordsIn.aside c.seek_new.new.seg)) c.args.ttl))
 
-pub returns-clause-later : goal.returns-clause-later
-returns-clause-later g c = λ later on.
+pub returns-in-Err-clause-cache : goal.returns-in-Err-clause-cache
+returns-in-Err-clause-cache g c = ap (λ (i : Insertion). i.cache) (sym (c.in-Err.ensures.refused (held_blocks (g.S.WordsIn.aside c.seek_new.new.seg)) c.args.ttl))
+
+pub returns-in-Err-clause-later : goal.returns-in-Err-clause-later
+returns-in-Err-clause-later g c = λ later on. c.in-Err.ensures.refused (held_blocks later) c.args.ttl
+
+pub returns-in-Ok-clause-later : goal.returns-in-Ok-clause-later
+returns-in-Ok-clause-later g c = λ later on.
     let held = held_blocks later in
     let swept = c.sweep.ensures.later later (goes_on (g.S.WordsIn.aside c.sweep.new.seg) (g.S.WordsIn.aside c.add.new.seg) later c.add.ensures.goes on) in
-    c.in_default.ensures.none held c.args.ttl
+    c.in-Ok.ensures.added held c.args.ttl
     ∙ (sym (added_swept held c.args.key.now c.args.g.now c.args.ttl c.args.t (cache_of c.args.self.now))
     ∙ (ap (added held c.args.key.now c.args.g.now c.args.ttl c.args.t) (sym swept) ∙ c.add.ensures.later later on))
 
-pub returns-clause-answer : goal.returns-clause-answer
-returns-clause-answer g c =
+pub returns-in-Ok-clause-answer : goal.returns-in-Ok-clause-answer
+returns-in-Ok-clause-answer g c =
     let now = g.S.WordsIn.aside c.add.new.seg in
-    ap (λ (i : Insertion). i.answer) (sym (returns-clause-later g c now (goes_nowhere now now refl)))
+    ap (λ (i : Insertion). i.answer) (sym (returns-in-Ok-clause-later g c now (goes_nowhere now now refl)))
 
-pub returns-clause-cache : goal.returns-clause-cache
-returns-clause-cache g c =
+pub returns-in-Ok-clause-cache : goal.returns-in-Ok-clause-cache
+returns-in-Ok-clause-cache g c =
     let now = g.S.WordsIn.aside c.add.new.seg in
-    ap (λ (i : Insertion). i.cache) (sym (returns-clause-later g c now (goes_nowhere now now refl)))
+    ap (λ (i : Insertion). i.cache) (sym (returns-in-Ok-clause-later g c now (goes_nowhere now now refl)))

@@ -6,30 +6,30 @@ use Rattle.apcu_model.specs.Walk.{slot_of}
 use Rattle.entry_slots.specs.Entries.{Entries}
 use Rattle.cache_core.proofs.cache.Core.store_next.Goals as goal
 
-pub refusal-requires-clause-slot : goal.refusal-requires-clause-slot
-refusal-requires-clause-slot g c = c.slot_of_key-slot.ensures.slot ∙ ap (λ (x : Entries). slot_of x.conf c.args.key.now) c.requires.stand.whole
+pub seek_new-requires-clause-slot : goal.seek_new-requires-clause-slot
+seek_new-requires-clause-slot g c = c.slot_of_key-slot.ensures.slot ∙ ap (λ (x : Entries). slot_of x.conf c.args.key.now) c.requires.stand.whole
 
 pub add-requires-clause-slot : goal.add-requires-clause-slot
 add-requires-clause-slot g c = c.slot_of_key-slot.ensures.slot ∙ ap (λ (x : Entries). slot_of x.conf c.args.key.now) c.requires.stand.whole
 
-pub returns-in-Some-clause-answer : goal.returns-in-Some-clause-answer
-returns-in-Some-clause-answer g c = ap (λ (i : Insertion). i.answer) (sym (c.in-Some.ensures.some (held_blocks (g.S.WordsIn.aside c.refusal.new.seg)) c.args.ttl))
+pub returns-in-Err-clause-answer : goal.returns-in-Err-clause-answer
+returns-in-Err-clause-answer g c = ap (λ (i : Insertion). i.answer) (sym (c.in-Err.ensures.refused (held_blocks (g.S.WordsIn.aside c.seek_new.new.seg)) c.args.ttl))
 
-pub returns-in-Some-clause-cache : goal.returns-in-Some-clause-cache
-returns-in-Some-clause-cache g c = ap (λ (i : Insertion). i.cache) (sym (c.in-Some.ensures.some (held_blocks (g.S.WordsIn.aside c.refusal.new.seg)) c.args.ttl))
+pub returns-in-Err-clause-cache : goal.returns-in-Err-clause-cache
+returns-in-Err-clause-cache g c = ap (λ (i : Insertion). i.cache) (sym (c.in-Err.ensures.refused (held_blocks (g.S.WordsIn.aside c.seek_new.new.seg)) c.args.ttl))
 
-pub returns-in-Some-clause-later : goal.returns-in-Some-clause-later
-returns-in-Some-clause-later g c = λ later on. c.in-Some.ensures.some (held_blocks later) c.args.ttl
+pub returns-in-Err-clause-later : goal.returns-in-Err-clause-later
+returns-in-Err-clause-later g c = λ later on. c.in-Err.ensures.refused (held_blocks later) c.args.ttl
 
-pub returns-clause-later : goal.returns-clause-later
-returns-clause-later g c = λ later on. c.in_default.ensures.none (held_blocks later) c.args.ttl ∙ c.add.ensures.later later on
+pub returns-in-Ok-clause-later : goal.returns-in-Ok-clause-later
+returns-in-Ok-clause-later g c = λ later on. c.in-Ok.ensures.added (held_blocks later) c.args.ttl ∙ c.add.ensures.later later on
 
-pub returns-clause-answer : goal.returns-clause-answer
-returns-clause-answer g c =
+pub returns-in-Ok-clause-answer : goal.returns-in-Ok-clause-answer
+returns-in-Ok-clause-answer g c =
     let now = g.S.WordsIn.aside c.add.new.seg in
-    ap (λ (i : Insertion). i.answer) (sym (returns-clause-later g c now (goes_nowhere now now refl)))
+    ap (λ (i : Insertion). i.answer) (sym (returns-in-Ok-clause-later g c now (goes_nowhere now now refl)))
 
-pub returns-clause-cache : goal.returns-clause-cache
-returns-clause-cache g c =
+pub returns-in-Ok-clause-cache : goal.returns-in-Ok-clause-cache
+returns-in-Ok-clause-cache g c =
     let now = g.S.WordsIn.aside c.add.new.seg in
-    ap (λ (i : Insertion). i.cache) (sym (returns-clause-later g c now (goes_nowhere now now refl)))
+    ap (λ (i : Insertion). i.cache) (sym (returns-in-Ok-clause-later g c now (goes_nowhere now now refl)))

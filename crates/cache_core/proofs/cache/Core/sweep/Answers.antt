@@ -1,7 +1,8 @@
-use Rattle.std.proofs.Common.{refl}
+use Rattle.std.proofs.Common.{refl, ap}
 use Rattle.seg_words.specs.Windows.{held_blocks}
 use Rattle.seg_words.specs.Probing.{goes_nowhere}
 use Rattle.apcu_model.specs.Change.{swept}
+use Rattle.entry_slots.specs.Entries.{Entries}
 use Rattle.cache_core.specs.declared.cache.Core.{Core}
 use Rattle.cache_core.specs.Caching.{cache_of}
 use Rattle.cache_core.proofs.Caching.{cache_made, whole_made, swept_later, sweeps_keep, sweeps_held}
@@ -19,6 +20,7 @@ returns g c =
     let e = swept_later old sweeps whole after (goes_nowhere after after refl) in
     record {
       conf = refl;
+      alike = record { conf = ap (λ (x : Entries). x.conf) sweeps.swept; rows = ap (λ (x : Entries). x.rows) sweeps.swept };
       later = λ later on. cache_made new (swept (held_blocks later) old) (swept_later old sweeps whole later on) refl (record { hits = refl; misses = refl; inserts = refl; expunges = refl });
       goes = sweeps.goes;
       keeps = sweeps_keep sweeps;

@@ -35,8 +35,20 @@ returns-then-is_word-10 c = same_form c.args.text.now _ (sym c.is_word-else-is_w
 pub returns-then-is_word-11 : goal.returns-then-is_word-11
 returns-then-is_word-11 c = same_form c.args.text.now _ (sym c.is_word-else-is_word-10.ensures ∙ c.if-is_word-11.true)
 
+pub returns-then-is_word-12 : goal.returns-then-is_word-12
+returns-then-is_word-12 c = same_form c.args.text.now _ (sym c.is_word-else-is_word-11.ensures ∙ c.if-is_word-12.true)
+
+pub returns-then-is_word-13 : goal.returns-then-is_word-13
+returns-then-is_word-13 c = same_form c.args.text.now _ (sym c.is_word-else-is_word-12.ensures ∙ c.if-is_word-13.true)
+
+pub returns-then-is_word-14 : goal.returns-then-is_word-14
+returns-then-is_word-14 c = same_form c.args.text.now _ (sym c.is_word-else-is_word-13.ensures ∙ c.if-is_word-14.true)
+
+pub returns-then-is_word-15 : goal.returns-then-is_word-15
+returns-then-is_word-15 c = same_form c.args.text.now _ (sym c.is_word-else-is_word-14.ensures ∙ c.if-is_word-15.true)
+
 pub returns-then-is_later : goal.returns-then-is_later
 returns-then-is_later c = later_form c.args.text.now (sym c.is_later.ensures ∙ c.if-is_later.true)
 
 pub returns-else-is_later : goal.returns-else-is_later
-returns-else-is_later c = no_form c.args.text.now (sym c.is_word.ensures ∙ c.if-is_word.false) (sym c.is_word-else-is_word.ensures ∙ c.if-is_word-2.false) (sym c.is_word-else-is_word-2.ensures ∙ c.if-is_word-3.false) (sym c.is_word-else-is_word-3.ensures ∙ c.if-is_word-4.false) (sym c.is_word-else-is_word-4.ensures ∙ c.if-is_word-5.false) (sym c.is_word-else-is_word-5.ensures ∙ c.if-is_word-6.false) (sym c.is_word-else-is_word-6.ensures ∙ c.if-is_word-7.false) (sym c.is_word-else-is_word-7.ensures ∙ c.if-is_word-8.false) (sym c.is_word-else-is_word-8.ensures ∙ c.if-is_word-9.false) (sym c.is_word-else-is_word-9.ensures ∙ c.if-is_word-10.false) (sym c.is_word-else-is_word-10.ensures ∙ c.if-is_word-11.false) (sym c.is_later.ensures ∙ c.if-is_later.false)
+returns-else-is_later c = no_form c.args.text.now (sym c.is_word.ensures ∙ c.if-is_word.false) (sym c.is_word-else-is_word.ensures ∙ c.if-is_word-2.false) (sym c.is_word-else-is_word-2.ensures ∙ c.if-is_word-3.false) (sym c.is_word-else-is_word-3.ensures ∙ c.if-is_word-4.false) (sym c.is_word-else-is_word-4.ensures ∙ c.if-is_word-5.false) (sym c.is_word-else-is_word-5.ensures ∙ c.if-is_word-6.false) (sym c.is_word-else-is_word-6.ensures ∙ c.if-is_word-7.false) (sym c.is_word-else-is_word-7.ensures ∙ c.if-is_word-8.false) (sym c.is_word-else-is_word-8.ensures ∙ c.if-is_word-9.false) (sym c.is_word-else-is_word-9.ensures ∙ c.if-is_word-10.false) (sym c.is_word-else-is_word-10.ensures ∙ c.if-is_word-11.false) (sym c.is_word-else-is_word-11.ensures ∙ c.if-is_word-12.false) (sym c.is_word-else-is_word-12.ensures ∙ c.if-is_word-13.false) (sym c.is_word-else-is_word-13.ensures ∙ c.if-is_word-14.false) (sym c.is_word-else-is_word-14.ensures ∙ c.if-is_word-15.false) (sym c.is_later.ensures ∙ c.if-is_later.false)

@@ -45,6 +45,7 @@ passed g c = record {
   cache = c.clear.ensures.cache;
   marks = c.note.ensures.marks;
   room = c.note.ensures.room;
+  flat = refl;
 }
 
 pub invariant_of-self : goal.invariant_of-self

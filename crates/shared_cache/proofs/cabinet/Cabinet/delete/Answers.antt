@@ -1,4 +1,4 @@
-use Rattle.std.proofs.Common.{◌∙◌, ap}
+use Rattle.std.proofs.Common.{◌∙◌, ap, refl}
 use Rattle.apcu_model.specs.declared.request.Request.TheVariants as request
 use Rattle.apcu_model.specs.declared.request.Reply.TheVariants as reply
 use Rattle.cache_core.specs.Caching.{cache_of}
@@ -46,6 +46,7 @@ passed g c = record {
   cache = c.delete-found.ensures.cache;
   marks = c.note.ensures.marks;
   room = c.note.ensures.room;
+  flat = refl;
 }
 
 pub invariant_of-self : goal.invariant_of-self

@@ -44,6 +44,7 @@ passed g c =
       cache = refl;
       marks = c.note.ensures.marks;
       room = c.note.ensures.room;
+      flat = refl;
     }
 
 pub invariant_of-self : goal.invariant_of-self

@@ -1,4 +1,4 @@
-use Rattle.std.proofs.Common.{◌∙◌, length, subst, w64, to_z, of_z}
+use Rattle.std.proofs.Common.{◌∙◌, length, subst, w64, to_z, of_z, refl}
 use Rattle.std.proofs.lemmas.Int.{to_z-of_z}
 use Rattle.apcu_model.specs.declared.request.Request.TheVariants as request
 use Rattle.counter_entry.specs.Numbers.{reply_of}
@@ -53,6 +53,7 @@ passed g c = record {
   cache = c.inc-answer.ensures.cache;
   marks = c.note.ensures.marks;
   room = c.note.ensures.room;
+  flat = refl;
 }
 
 pub invariant_of-self : goal.invariant_of-self

@@ -1,4 +1,4 @@
-use Rattle.std.proofs.Common.{◌∙◌}
+use Rattle.std.proofs.Common.{◌∙◌, refl}
 use Rattle.apcu_model.specs.declared.request.Request.TheVariants as request
 use Rattle.apcu_model.specs.declared.request.Reply.TheVariants as reply
 use Rattle.cache_core.specs.Caching.{cache_of}
@@ -53,6 +53,7 @@ invariant_of-self g c =
             cache = c.look-look.ensures.cache;
             marks = c.note.ensures.marks;
             room = c.note.ensures.room;
+            flat = refl;
           } in
           rw w.self-inside-is (passes.settles _ _ _ _ _ _ _ _ _ _ _ _ _ _ _ h)
       | in-Scalar w ↦
@@ -78,6 +79,7 @@ invariant_of-self g c =
             cache = c.look-look.ensures.cache;
             marks = c.note.ensures.marks;
             room = c.note.ensures.room;
+            flat = refl;
           } in
           rw w.self-inside-is (passes.settles _ _ _ _ _ _ _ _ _ _ _ _ _ _ _ h)
       | in-Hit w ↦
@@ -134,6 +136,7 @@ returns g c =
             cache = c.look-look.ensures.cache;
             marks = c.note.ensures.marks;
             room = c.note.ensures.room;
+            flat = refl;
           } in
           rw w.result-is (passes.follows _ _ _ _ _ _ _ _ _ _ _ _ _ _ _ h reply.Absent (miss_of c.args.key.now c.args.t (cache_of c.self.inside.core) w.in-Miss.ensures.look))
       | in-Scalar w ↦
@@ -159,6 +162,7 @@ returns g c =
             cache = c.look-look.ensures.cache;
             marks = c.note.ensures.marks;
             room = c.note.ensures.room;
+            flat = refl;
           } in
           rw w.result-is (passes.follows _ _ _ _ _ _ _ _ _ _ _ _ _ _ _ h (reply.Found (graph_of w.in-Scalar.scalar))
           (scalar_found c.self.inside.core c.self.inside.seat.desk.words (aside_of c.self.inside.seat.desk) c.args.key.now c.args.t w.in-Scalar.scalar c.self.invariant.stands w.in-Scalar.ensures.look))

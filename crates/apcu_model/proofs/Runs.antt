@@ -1,0 +1,159 @@
+-- Values that are told one after the other.
+use Rattle.std.proofs.Common.{◌≡◌, ◌∙◌, ℕ, zero, suc, ◌+◌, ◌*◌, List, [], ◌∷◌, ◌++◌, length, map}
+use Rattle.std.proofs.Common.{refl, sym, ap, ◌<◌, get_or, drop}
+use Rattle.std.proofs.Math.Seq.{drop-cons}
+use Rattle.std.proofs.Common.{arith, length-append, append-nil}
+use Rattle.std.proofs.lemmas.List.{append_assoc}
+use Rattle.std.specs.Prelude.{pos, codes}
+use Rattle.php_graph.specs.declared.key.Key.{Key}
+use Rattle.php_graph.specs.declared.key.Key.TheVariants as keys
+use Rattle.php_graph.specs.declared.child.Child.{Child}
+use Rattle.php_graph.specs.declared.child.Child.TheVariants.{Own}
+use Rattle.php_graph.specs.declared.kind.Kind.{Kind}
+use Rattle.php_graph.specs.declared.kind.Kind.TheVariants as kinds
+use Rattle.seg_words.specs.declared.extents.Extent.{Extent}
+use Rattle.apcu_model.specs.declared.conf.Conf.{Conf}
+use Rattle.apcu_model.specs.declared.counts.Counts.{Counts}
+use Rattle.apcu_model.specs.declared.noted.ListedRow.{ListedRow}
+use Rattle.apcu_model.specs.Infos.{Told, told_members, told_values, told_numbered, told_list}
+use Rattle.apcu_model.specs.Infos.{told_row, told_gap, told_array, told_counts, told_rows}
+use Rattle.apcu_model.specs.Infos.{told_words, told_gaps, number_kind, word_bytes}
+use Rattle.apcu_model.specs.Telling.{values_run, stepped_members, stepped_end}
+
+-- places that come in three steps
+pub joined : (old : List Kind) (a b : Kind) (more : List Kind)
+    → old ++ a ∷ [] ++ b ∷ [] ++ more ≡ old ++ (a ∷ b ∷ more)
+joined old a b more =
+    append_assoc (old ++ a ∷ []) (b ∷ []) more ∙ append_assoc old (a ∷ []) (b ∷ more)
+
+-- one value more of those that are left
+pub run_goes_on : (old new : List Kind) (v : Told) (vs : List Told)
+    → new ≡ old ++ v (length old + 1)
+    → new ++ values_run (length new + 1) vs ≡ old ++ values_run (length old + 1) (v ∷ vs)
+run_goes_on old new v vs is =
+    let first = v (length old + 1) in
+    let place : length new + 1 ≡ length old + 1 + length first =
+    omega (arith, ap length is, length-append old first) in
+    let rest = values_run (length old + 1 + length first) vs in
+    ap (λ n. new ++ values_run n vs) place ∙ ap (λ l. l ++ rest) is ∙ append_assoc old first rest
+
+-- one gap more of those that are left
+pub gap_goes_on : (gaps : List Extent) (k : ℕ) (old new : List Kind) (d : Extent)
+    → k < length gaps → new ≡ old ++ told_gap (get_or gaps k d) (length old + 1)
+    → new ++ values_run (length new + 1) (map told_gap (drop (k + 1) gaps))
+    ≡ old ++ values_run (length old + 1) (map told_gap (drop k gaps))
+gap_goes_on gaps k old new d low is =
+    let next : k + 1 ≡ suc k = omega arith in
+    let split = drop-cons gaps k d low
+    ∙ sym (ap (λ n. get_or gaps k d ∷ drop n gaps) next) in
+    run_goes_on old new (told_gap (get_or gaps k d)) (map told_gap (drop (k + 1) gaps)) is
+    ∙ sym (ap (λ l. old ++ values_run (length old + 1) (map told_gap l)) split)
+
+values_are : (place n : ℕ) (vs : List Told)
+    → told_values place (told_numbered n vs) ≡ values_run place vs
+values_are place n [] = refl
+values_are place n (v ∷ vs) =
+    ap (λ l. v place ++ l) (values_are (place + length (v place)) (n + 1) vs)
+
+-- a list with its values
+pub list_told : (old : List Kind) (vs : List Told) (members : List (Key × Child))
+    → members ≡ told_members (length old + 1 + 1) (told_numbered 0 vs)
+    → old ++ kinds.Array members ∷ []
+    ++ values_run (length (old ++ kinds.Array members ∷ []) + 1) vs
+    ≡ old ++ told_list vs (length old + 1)
+list_told old vs members are =
+    let kind = kinds.Array members in
+    let place : length (old ++ kind ∷ []) + 1 ≡ length old + 1 + 1 =
+    omega (arith, length-append old (kind ∷ [])) in
+    let run = values_run (length old + 1 + 1) vs in
+    ap (λ n. old ++ kind ∷ [] ++ values_run n vs) place ∙ append_assoc old (kind ∷ []) run
+    ∙ ap (λ ms. old ++ kinds.Array ms ∷ run) are
+    ∙ ap (λ l. old ++ kinds.Array (told_members (length old + 1 + 1) (told_numbered 0 vs)) ∷ l)
+    (sym (values_are (length old + 1 + 1) 0 vs))
+
+pub rows_stepped : (place n : ℕ) (rows : List ListedRow)
+    → told_members place (told_numbered n (map told_row rows))
+    ≡ stepped_members place n 9 (length rows)
+rows_stepped place n [] = refl
+rows_stepped place n (row ∷ rows) =
+    ap (λ l. (keys.Int (pos n), Own place) ∷ l) (rows_stepped (place + 9) (n + 1) rows)
+
+pub gaps_stepped : (place n : ℕ) (gaps : List Extent)
+    → told_members place (told_numbered n (map told_gap gaps))
+    ≡ stepped_members place n 3 (length gaps)
+gaps_stepped place n [] = refl
+gaps_stepped place n (gap ∷ gaps) =
+    ap (λ l. (keys.Int (pos n), Own place) ∷ l) (gaps_stepped (place + 3) (n + 1) gaps)
+
+pub nine_steps : (place count : ℕ) → stepped_end place 9 count ≡ place + 9 * count
+nine_steps place zero = omega arith
+nine_steps place (suc count) = omega (arith, nine_steps (place + 9) count)
+
+pub three_steps : (place count : ℕ) → stepped_end place 3 count ≡ place + 3 * count
+three_steps place zero = omega arith
+three_steps place (suc count) = omega (arith, three_steps (place + 3) count)
+
+pub nothing_left : {X : Type 0} (l : List X) → length l ≡ 0 → l ≡ []
+nothing_left [] h = refl
+nothing_left (x ∷ xs) h = absurd (omega arith)
+
+-- ---- the two answers with lists
+
+steps_many : (place n : ℕ) (rows : List ListedRow)
+    → length (told_values place (told_numbered n (map told_row rows))) ≡ 9 * length rows
+steps_many place n [] = refl
+steps_many place n (row ∷ rows) =
+    let rest = told_values (place + 9) (told_numbered (n + 1) (map told_row rows)) in
+    omega (arith, length-append (told_row row place) rest, steps_many (place + 9) (n + 1) rows)
+
+lists_join : (old : List Kind) (a b : Told)
+    → old ++ a (length old + 1) ++ b (length (old ++ a (length old + 1)) + 1)
+    ≡ old ++ (a (length old + 1) ++ (b (length old + 1 + length (a (length old + 1))) ++ []))
+lists_join old a b =
+    let first = a (length old + 1) in
+    let place : length (old ++ first) + 1 ≡ length old + 1 + length first =
+    omega (arith, length-append old first) in
+    ap (λ n. old ++ first ++ b n) place
+    ∙ append_assoc old first (b (length old + 1 + length first))
+    ∙ ap (λ l. old ++ (first ++ l)) (sym (append-nil (b (length old + 1 + length first))))
+
+-- the places of a cache's numbers, before those of its lists
+abbrev pub cache_front : Conf → Counts → ℕ → ℕ → List Kind
+cache_front conf counts words many =
+    kinds.Array (told_members 2 (told_counts conf counts words)
+    ++ (keys.Str (codes "cache_list"), Own 10)
+    ∷ (keys.Str (codes "deleted_list"), Own (10 + (1 + 9 * many))) ∷ [])
+    ∷ told_values 2 (told_counts conf counts words)
+
+pub cache_told : (conf : Conf) (counts : Counts) (words many : ℕ) (rows removed : List ListedRow)
+    → many ≡ length rows
+    → let front = cache_front conf counts words many in
+    let all = front ++ told_list (map told_row rows) (length front + 1) in
+    all ++ told_list (map told_row removed) (length all + 1)
+    ≡ told_array (told_counts conf counts words ++ told_rows rows removed) 1
+cache_told conf counts words many rows removed are =
+    let front = cache_front conf counts words many in
+    let first = told_list (map told_row rows) in
+    let second = told_list (map told_row removed) in
+    let same : 10 + (1 + 9 * many) ≡ 10 + length (first 10) =
+    omega (arith, are, steps_many 11 0 rows) in
+    lists_join front first second
+    ∙ ap (λ n. kinds.Array (told_members 2 (told_counts conf counts words)
+    ++ (keys.Str (codes "cache_list"), Own 10) ∷ (keys.Str (codes "deleted_list"), Own n) ∷ [])
+    ∷ told_values 2 (told_counts conf counts words)
+    ++ (first 10 ++ (second (10 + length (first 10)) ++ []))) same
+
+pub gaps_told : (words free : ℕ) (gaps : List Extent)
+    → let one = told_list (map told_gap gaps) 6 in
+    kinds.Array ((keys.Str (codes "num_seg"), Own 2) ∷ (keys.Str (codes "seg_size"), Own 3)
+    ∷ (keys.Str (codes "avail_mem"), Own 4) ∷ (keys.Str (codes "block_lists"), Own 5) ∷ [])
+    ∷ number_kind 1 ∷ number_kind (word_bytes words) ∷ number_kind (word_bytes free)
+    ∷ kinds.Array ((keys.Int (pos 0), Own 6) ∷ []) ∷ one
+    ≡ told_array (told_words words free ++ told_gaps gaps) 1
+gaps_told words free gaps =
+    let one = told_list (map told_gap gaps) 6 in
+    let same = sym (append-nil one) ∙ sym (append-nil (one ++ [])) in
+    ap (λ l. kinds.Array ((keys.Str (codes "num_seg"), Own 2) ∷ (keys.Str (codes "seg_size"), Own 3)
+    ∷ (keys.Str (codes "avail_mem"), Own 4) ∷ (keys.Str (codes "block_lists"), Own 5) ∷ [])
+    ∷ number_kind 1 ∷ number_kind (word_bytes words) ∷ number_kind (word_bytes free)
+    ∷ kinds.Array ((keys.Int (pos 0), Own 6) ∷ []) ∷ l) same

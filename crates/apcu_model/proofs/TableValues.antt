@@ -1,0 +1,226 @@
+-- The tables of the information calls can be told as graphs.
+use Rattle.std.proofs.Common.{◌≡◌, ◌∙◌, ℕ, zero, suc, ◌+◌, ◌≤◌, ◌<◌, ◌^◌, ◌&&◌, Bool, true, false}
+use Rattle.std.proofs.Common.{List, [], ◌∷◌, ◌++◌, length, map, refl, sym, ap, arith, min}
+use Rattle.std.proofs.lemmas.List.{length-map}
+use Rattle.std.specs.Prelude.{codes, nat_lt, nat_le, pos, not}
+use Rattle.std.specs.List.{AllByRecursion, list_all}
+use Rattle.std.proofs.lemmas.Bool.{and_parts, and_from}
+use Rattle.std.proofs.lemmas.Bool.Decides.{nat_tests}
+use Rattle.php_graph.specs.declared.key.Key.{Key}
+use Rattle.php_graph.specs.declared.key.Key.TheVariants as keys
+use Rattle.php_graph.specs.declared.kind.Kind.TheVariants as kinds
+use Rattle.php_graph.specs.ByteStrings.{AreBytes}
+use Rattle.php_graph.specs.Numbers.{int_of_text}
+use Rattle.php_graph.specs.Graph.{is_array_key, are_distinct, holds_key, FitsKey}
+use Rattle.seg_words.specs.declared.extents.Extent.{Extent}
+use Rattle.apcu_model.specs.declared.conf.Conf.{Conf}
+use Rattle.apcu_model.specs.declared.counts.Counts.{Counts}
+use Rattle.apcu_model.specs.declared.noted.Noted.{Noted}
+use Rattle.apcu_model.specs.declared.noted.ListedRow.{ListedRow}
+use Rattle.apcu_model.specs.Infos.{Told, told_number, number_kind, told_string, told_numbered}
+use Rattle.apcu_model.specs.Infos.{told_list, told_array, told_notes, told_row, told_rows, told_gap}
+use Rattle.apcu_model.specs.Infos.{told_counts, told_words, told_gaps, word_bytes}
+use Rattle.apcu_model.specs.Infos.{note_fields, row_fields, gap_fields}
+use Rattle.apcu_model.specs.Telling.{IsTellable}
+use Rattle.apcu_model.proofs.Tellings.{IsValue, IsFlat, AreKeys, single, array, tellable}
+
+-- a value of fewer levels
+deeper : (d e : ℕ) (v : Told) → d ≤ e → IsValue d v → IsValue e v
+deeper d e v up is = record {
+  ends = λ level place before after deep at.
+      is.ends level place before after (omega (arith, up, deep)) at;
+  flat = is.flat;
+  count = is.count;
+}
+
+number_value : (n : ℕ) → IsValue 1 (told_number n)
+number_value n =
+    single (number_kind n) refl (record {
+      well = refl;
+      fits = record { sfits = omega arith };
+      other = λ x e. absurd cc;
+      backs = refl;
+    })
+
+string_value : (bytes : List ℕ) → AreBytes bytes → IsValue 1 (told_string bytes)
+string_value bytes are =
+    single (kinds.Str bytes) refl (record {
+      well = refl;
+      fits = are;
+      other = λ x e. absurd cc;
+      backs = refl;
+    })
+
+-- ---- names
+
+-- a name of the tables
+abbrev is_short : List ℕ → Bool
+is_short name = nat_lt (length name) 256 && list_all (λ b. nat_lt b 256) name
+
+bytes_fit : (bytes : List ℕ) → list_all (λ b. nat_lt b 256) bytes ≡ true
+    → AllByRecursion (λ b. b < 256) bytes
+bytes_fit [] h = tt
+bytes_fit (b ∷ bs) h =
+    let p = and_parts (nat_lt b 256) (list_all (λ x. nat_lt x 256) bs) h in
+    let low : b < 256 = grind (arith, nat_tests, p.0) in
+    (low, bytes_fit bs p.1)
+
+names_fit : (names : List (List ℕ)) → list_all is_short names ≡ true
+    → AllByRecursion FitsKey (map keys.Str names)
+names_fit [] h = tt
+names_fit (name ∷ names) h =
+    let p = and_parts (is_short name) (list_all is_short names) h in
+    let q = and_parts (nat_lt (length name) 256) (list_all (λ b. nat_lt b 256) name) p.0 in
+    let few : length name < 2 ^ 32 = grind (arith, nat_tests, q.0) in
+    ((few, bytes_fit name q.1), names_fit names p.1)
+
+-- ---- lists
+
+abbrev keys_of_list : ℕ → List Told → List Key
+keys_of_list n values = map (λ m. m.0) (told_numbered n values)
+
+later_keys : (n m : ℕ) → n < m → (values : List Told)
+    → holds_key (keys_of_list m values) (keys.Int (pos n)) ≡ false
+later_keys n m low [] = refl
+later_keys n m low (v ∷ vs) =
+    let less : nat_lt n m ≡ true = grind (arith, nat_tests) in
+    rw less (later_keys n (m + 1) (omega (arith, low)) vs)
+
+keys_differ : (n : ℕ) (values : List Told) → are_distinct (keys_of_list n values) ≡ true
+keys_differ n [] = refl
+keys_differ n (v ∷ vs) =
+    and_from (not (holds_key (keys_of_list (n + 1) vs) (keys.Int (pos n))))
+    (are_distinct (keys_of_list (n + 1) vs))
+    (ap not (later_keys n (n + 1) (omega arith) vs)) (keys_differ (n + 1) vs)
+
+keys_allowed : (n : ℕ) (values : List Told)
+    → list_all is_array_key (keys_of_list n values) ≡ true
+keys_allowed n [] = refl
+keys_allowed n (v ∷ vs) = keys_allowed (n + 1) vs
+
+keys_fit : (n : ℕ) (values : List Told) → n + length values ≤ 2 ^ 32
+    → AllByRecursion FitsKey (keys_of_list n values)
+keys_fit n [] few = tt
+keys_fit n (v ∷ vs) few =
+    (record { sfits = omega (arith, few) }, keys_fit (n + 1) vs (omega (arith, few)))
+
+numbered_values : (d n : ℕ) (values : List Told) → AllByRecursion (IsValue d) values
+    → AllByRecursion (λ (m : Key × Told). IsValue d m.1) (told_numbered n values)
+numbered_values d n [] all = tt
+numbered_values d n (v ∷ vs) all = (all.0, numbered_values d (n + 1) vs all.1)
+
+list_value : (d : ℕ) (values : List Told) → AllByRecursion (IsValue d) values
+    → length values ≤ 2 ^ 32 → IsValue (suc d) (told_list values)
+list_value d values all few =
+    let keys : AreKeys (keys_of_list 0 values) = record {
+      distinct = keys_differ 0 values;
+      keys = keys_allowed 0 values;
+      fits = keys_fit 0 values (omega (arith, few));
+    } in
+    array d (told_numbered 0 values) keys (numbered_values d 0 values all)
+
+-- ---- the tables
+
+notes_keys : (row : Noted) → IsValue 2 (told_notes row)
+unfolding int_of_text
+notes_keys row =
+    let names = codes "hits" ∷ codes "access_time" ∷ codes "mtime" ∷ codes "creation_time"
+    ∷ codes "deletion_time" ∷ codes "ttl" ∷ [] in
+    array 1 (note_fields row)
+    (record { distinct = refl; keys = refl; fits = names_fit names refl })
+    (number_value row.hits, (number_value row.atime, (number_value row.mtime, (number_value row.ctime, (number_value row.dtime, (number_value row.ttl, tt))))))
+
+row_value : (row : ListedRow) → AreBytes row.key → IsValue 2 (told_row row)
+unfolding int_of_text
+row_value row are =
+    let names = codes "info" ∷ codes "ttl" ∷ codes "num_hits" ∷ codes "mtime"
+    ∷ codes "creation_time" ∷ codes "deletion_time" ∷ codes "access_time"
+    ∷ codes "mem_size" ∷ [] in
+    array 1 (row_fields row)
+    (record { distinct = refl; keys = refl; fits = names_fit names refl })
+    (string_value row.key are, (number_value row.noted.ttl, (number_value row.noted.hits, (number_value row.noted.mtime, (number_value row.noted.ctime, (number_value row.noted.dtime, (number_value row.noted.atime, (number_value (word_bytes row.noted.size), tt))))))))
+
+rows_values : (rows : List ListedRow) → AllByRecursion (λ (row : ListedRow). AreBytes row.key) rows
+    → AllByRecursion (IsValue 2) (map told_row rows)
+rows_values [] are = tt
+rows_values (row ∷ rows) are = (row_value row are.0, rows_values rows are.1)
+
+gap_value : (gap : Extent) → IsValue 2 (told_gap gap)
+unfolding int_of_text
+gap_value gap =
+    let names = codes "size" ∷ codes "offset" ∷ [] in
+    array 1 (gap_fields gap)
+    (record { distinct = refl; keys = refl; fits = names_fit names refl })
+    (number_value (word_bytes gap.size), (number_value (word_bytes gap.place), tt))
+
+gaps_values : (gaps : List Extent) → AllByRecursion (IsValue 2) (map told_gap gaps)
+gaps_values [] = tt
+gaps_values (gap ∷ gaps) = (gap_value gap, gaps_values gaps)
+
+rows_list : (rows : List ListedRow) → AllByRecursion (λ (row : ListedRow). AreBytes row.key) rows
+    → length rows ≤ 2 ^ 32 → IsValue 3 (told_list (map told_row rows))
+rows_list rows are few =
+    list_value 2 (map told_row rows) (rows_values rows are)
+    (omega (arith, few, length-map rows told_row))
+
+pub key_tellable : (row : Noted) → IsTellable (told_notes row 1)
+key_tellable row = tellable 2 (told_notes row) (notes_keys row) (omega arith)
+
+-- a number among values of three levels
+number_three : (n : ℕ) → IsValue 3 (told_number n)
+number_three n = deeper 1 3 (told_number n) (omega arith) (number_value n)
+
+pub counts_tellable : (conf : Conf) (counts : Counts) (words : ℕ)
+    → IsTellable (told_array (told_counts conf counts words) 1)
+unfolding int_of_text
+counts_tellable conf counts words =
+    let names = codes "num_slots" ∷ codes "ttl" ∷ codes "num_hits" ∷ codes "num_misses"
+    ∷ codes "num_inserts" ∷ codes "num_entries" ∷ codes "expunges" ∷ codes "mem_size" ∷ [] in
+    tellable 2 (told_array (told_counts conf counts words))
+    (array 1 (told_counts conf counts words)
+    (record { distinct = refl; keys = refl; fits = names_fit names refl })
+    (number_value conf.slots, (number_value conf.ttl, (number_value counts.hits, (number_value counts.misses, (number_value counts.inserts, (number_value counts.entries, (number_value counts.expunges, (number_value (word_bytes words), tt)))))))))
+    (omega arith)
+
+pub cache_tellable : (conf : Conf) (counts : Counts) (words : ℕ) (rows removed : List ListedRow)
+    → AllByRecursion (λ (row : ListedRow). AreBytes row.key) rows
+    → AllByRecursion (λ (row : ListedRow). AreBytes row.key) removed
+    → length rows ≤ 2 ^ 32 → length removed ≤ 2 ^ 32
+    → IsTellable (told_array (told_counts conf counts words ++ told_rows rows removed) 1)
+unfolding int_of_text
+cache_tellable conf counts words rows removed are gone few left =
+    let names = codes "num_slots" ∷ codes "ttl" ∷ codes "num_hits" ∷ codes "num_misses"
+    ∷ codes "num_inserts" ∷ codes "num_entries" ∷ codes "expunges" ∷ codes "mem_size"
+    ∷ codes "cache_list" ∷ codes "deleted_list" ∷ [] in
+    tellable 4 (told_array (told_counts conf counts words ++ told_rows rows removed))
+    (array 3 (told_counts conf counts words ++ told_rows rows removed)
+    (record { distinct = refl; keys = refl; fits = names_fit names refl })
+    (number_three conf.slots, (number_three conf.ttl, (number_three counts.hits, (number_three counts.misses, (number_three counts.inserts, (number_three counts.entries, (number_three counts.expunges, (number_three (word_bytes words), (rows_list rows are few, (rows_list removed gone left, tt)))))))))))
+    (omega arith)
+
+pub words_tellable : (words free : ℕ) → IsTellable (told_array (told_words words free) 1)
+unfolding int_of_text
+words_tellable words free =
+    let names = codes "num_seg" ∷ codes "seg_size" ∷ codes "avail_mem" ∷ [] in
+    tellable 2 (told_array (told_words words free))
+    (array 1 (told_words words free)
+    (record { distinct = refl; keys = refl; fits = names_fit names refl })
+    (number_value 1, (number_value (word_bytes words), (number_value (word_bytes free), tt))))
+    (omega arith)
+
+pub gaps_tellable : (words free : ℕ) (gaps : List Extent) → length gaps ≤ 2 ^ 32
+    → IsTellable (told_array (told_words words free ++ told_gaps gaps) 1)
+unfolding int_of_text
+gaps_tellable words free gaps few =
+    let names = codes "num_seg" ∷ codes "seg_size" ∷ codes "avail_mem" ∷ codes "block_lists"
+    ∷ [] in
+    let inner = list_value 2 (map told_gap gaps) (gaps_values gaps)
+    (omega (arith, few, length-map gaps told_gap)) in
+    let outer = list_value 3 (told_list (map told_gap gaps) ∷ []) (inner, tt) (omega arith) in
+    let number : (n : ℕ) → IsValue 4 (told_number n) =
+    λ n. deeper 1 4 (told_number n) (omega arith) (number_value n) in
+    tellable 5 (told_array (told_words words free ++ told_gaps gaps))
+    (array 4 (told_words words free ++ told_gaps gaps)
+    (record { distinct = refl; keys = refl; fits = names_fit names refl })
+    (number 1, (number (word_bytes words), (number (word_bytes free), (outer, tt)))))
+    (omega arith)

@@ -1,0 +1,13 @@
+-- What a generator is seen as.
+use Rattle.std.specs.Prelude.{ℕ, List}
+use Rattle.php_graph.specs.declared.kind.Kind.{Kind}
+
+-- one `apcu_entry` of a generator: under which key, and how long a new row lives, in seconds
+pub record EntryLevel : Type 0 where
+  pub key : List ℕ
+  pub ttl : ℕ
+
+-- the entries from outside in, and the value inside the innermost
+pub record Generator : Type 0 where
+  pub levels : List EntryLevel
+  pub literal : List Kind

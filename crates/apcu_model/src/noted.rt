@@ -1,0 +1,27 @@
+use php_graph::Bytes;
+
+/// What a cache notes of a row beside its key and its value, as the information calls tell it.
+#[derive(Clone, Copy, Debug, PartialEq, Eq)]
+pub struct Noted {
+    /// How many seconds it lives from its creation on; 0 is for ever.
+    pub ttl: u32,
+    /// When it was created, in seconds.
+    pub ctime: u64,
+    /// When its value was changed last.
+    pub mtime: u64,
+    /// When it was used last.
+    pub atime: u64,
+    /// When it was dropped, for a removed row; else 0.
+    pub dtime: u64,
+    /// How often it was fetched.
+    pub hits: u64,
+    /// The size of its block in words.
+    pub size: u32,
+}
+
+/// A row as `apcu_cache_info` lists it.
+#[derive(Debug, Drop)]
+pub struct ListedRow {
+    pub key: Bytes,
+    pub noted: Noted,
+}

@@ -1,0 +1,302 @@
+//! The graphs that the information calls answer, from the numbers and rows that they tell.
+
+ghost use Rattle.std.specs.Prelude.{◌≡◌, ◌+◌, ◌++◌, ◌≤◌, ◌^◌, length, map, IfOk, OnOk};
+ghost use Rattle.std.specs.List.{AllByRecursion};
+ghost use Rattle.php_graph.specs.ByteStrings.{AreBytes};
+ghost use Rattle.apcu_model.specs.Infos.{told_array, told_counts, told_gap, told_gaps, told_list};
+ghost use Rattle.apcu_model.specs.Infos.{told_values};
+ghost use Rattle.apcu_model.specs.Telling.{IsTellable};
+ghost use Rattle.apcu_model.specs.Infos.{told_notes, told_row, told_rows, told_words, word_bytes};
+
+use crate::conf::Conf;
+use crate::counts::Counts;
+use crate::noted::{ListedRow, Noted};
+use crate::telling::{Telling, array_of, list_of};
+use php_graph::{Graph, MOST_VALUES};
+use seg_words::Extent;
+use std::alloc::{AllocError, Global};
+
+// The bytes of so many words.
+fn bytes_in(words: u32) -> u64
+    ensures { result ≡ word_bytes words }
+{
+    8 * u64::from(words)
+}
+
+/// What `apcu_key_info` tells of a row.
+pub fn tell_key(alloc: Global, row: Noted) -> Result<Graph, AllocError>
+    ensures { IfOk result (λ g. g ≡ told_notes row 1) }
+{
+    let (first, cells) = array_of(
+        alloc,
+        &[
+            (b"hits", 1),
+            (b"access_time", 1),
+            (b"mtime", 1),
+            (b"creation_time", 1),
+            (b"deletion_time", 1),
+            (b"ttl", 1),
+        ],
+        2,
+    )?;
+    let mut telling = Telling::new(alloc, first, cells);
+    telling.push_numbers(&[
+        row.hits,
+        row.atime,
+        row.mtime,
+        row.ctime,
+        row.dtime,
+        u64::from(row.ttl),
+    ])?;
+    Ok(telling.finish())
+}
+
+// The places of a row in a list.
+fn push_row(telling: &mut Telling, alloc: Global, row: ListedRow) -> Result<(), AllocError>
+    ensures told { OnOk result
+        (telling.new ≡ telling.old ++ told_row row (length telling.old + 1)) }
+    ensures key { AreBytes row.key }
+{
+    let place = telling.len() + 1;
+    let noted = row.noted;
+    let _bytes = row.key.as_slice();
+    let (kind, cells) = array_of(
+        alloc,
+        &[
+            (b"info", 1),
+            (b"ttl", 1),
+            (b"num_hits", 1),
+            (b"mtime", 1),
+            (b"creation_time", 1),
+            (b"deletion_time", 1),
+            (b"access_time", 1),
+            (b"mem_size", 1),
+        ],
+        place + 1,
+    )?;
+    telling.push(kind, cells)?;
+    telling.push_string(row.key)?;
+    telling.push_numbers(&[
+        u64::from(noted.ttl),
+        noted.hits,
+        noted.mtime,
+        noted.ctime,
+        noted.dtime,
+        noted.atime,
+        bytes_in(noted.size),
+    ])?;
+    Ok(())
+}
+
+// How many places a row has in a list.
+const ROW_PLACES: u32 = 9;
+
+// A list of rows.
+fn push_rows(telling: &mut Telling, alloc: Global, rows: Vec<ListedRow>) -> Result<(), AllocError>
+    ensures told { OnOk result (telling.new
+        ≡ telling.old ++ told_list (map told_row rows.items) (length telling.old + 1)) }
+    ensures keys { OnOk result (AllByRecursion (λ (row : ListedRow). AreBytes row.key) rows.items) }
+    ensures few { OnOk result (length rows.items ≤ 2 ^ 32) }
+{
+    if rows.len() > MOST_VALUES as usize {
+        return Err(AllocError);
+    }
+    let place = telling.len() + 1;
+    let (kind, cells) = list_of(alloc, rows.len() as u32, ROW_PLACES, place + 1)?;
+    telling.push(kind, cells)?;
+    for row in rows {
+        push_row(telling, alloc, row)?;
+    }
+    Ok(())
+}
+
+// How many places a gap has in a list.
+const GAP_PLACES: u32 = 3;
+
+// The places of a gap in a list.
+fn push_gap(telling: &mut Telling, alloc: Global, gap: Extent) -> Result<(), AllocError>
+    ensures { OnOk result (telling.new ≡ telling.old ++ told_gap gap (length telling.old + 1)) }
+{
+    let place = telling.len() + 1;
+    let (kind, cells) = array_of(alloc, &[(b"size", 1), (b"offset", 1)], place + 1)?;
+    telling.push(kind, cells)?;
+    telling.push_numbers(&[bytes_in(gap.size), bytes_in(gap.place)])?;
+    Ok(())
+}
+
+// A list of gaps.
+fn push_gaps(telling: &mut Telling, alloc: Global, gaps: &[Extent]) -> Result<(), AllocError>
+    ensures told { OnOk result (telling.new
+        ≡ telling.old ++ told_list (map told_gap gaps.now) (length telling.old + 1)) }
+    ensures few { OnOk result (length gaps.now ≤ 2 ^ 32) }
+{
+    if gaps.len() > MOST_VALUES as usize {
+        return Err(AllocError);
+    }
+    let place = telling.len() + 1;
+    let (kind, cells) = list_of(alloc, gaps.len() as u32, GAP_PLACES, place + 1)?;
+    telling.push(kind, cells)?;
+    for gap in gaps {
+        push_gap(telling, alloc, *gap)?;
+    }
+    Ok(())
+}
+
+/// What `apcu_cache_info` tells of a cache without its lists, where the blocks of its rows have so
+/// many words.
+pub fn tell_counts(
+    alloc: Global,
+    conf: Conf,
+    counts: Counts,
+    words: u64,
+) -> Result<Graph, AllocError>
+    ensures { IfOk result (λ g. g ≡ told_array (told_counts conf counts words) 1) }
+{
+    let (first, cells) = array_of(
+        alloc,
+        &[
+            (b"num_slots", 1),
+            (b"ttl", 1),
+            (b"num_hits", 1),
+            (b"num_misses", 1),
+            (b"num_inserts", 1),
+            (b"num_entries", 1),
+            (b"expunges", 1),
+            (b"mem_size", 1),
+        ],
+        2,
+    )?;
+    let mut telling = Telling::new(alloc, first, cells);
+    push_counts(&mut telling, conf, counts, words)?;
+    Ok(telling.finish())
+}
+
+// The numbers that stand in each answer of `apcu_cache_info`.
+fn push_counts(
+    telling: &mut Telling,
+    conf: Conf,
+    counts: Counts,
+    words: u64,
+) -> Result<(), AllocError>
+    ensures { OnOk result
+        (telling.new ≡ telling.old ++ told_values 2 (told_counts conf counts words)) }
+{
+    telling.push_numbers(&[
+        u64::from(conf.slots),
+        u64::from(conf.ttl),
+        counts.hits,
+        counts.misses,
+        counts.inserts,
+        counts.entries,
+        counts.expunges,
+        words.saturating_mul(8),
+    ])
+}
+
+/// What `apcu_cache_info` tells of a cache with its lists: these rows, and these removed rows.
+pub fn tell_cache(
+    alloc: Global,
+    conf: Conf,
+    counts: Counts,
+    words: u64,
+    rows: Vec<ListedRow>,
+    removed: Vec<ListedRow>,
+) -> Result<Graph, AllocError>
+    ensures { IfOk result (λ g. g ≡ told_array
+        (told_counts conf counts words ++ told_rows rows.items removed.items) 1) }
+{
+    let telling = cache_places(alloc, conf, counts, words, rows, removed)?;
+    Ok(telling.finish())
+}
+
+// The places of a cache with its lists.
+fn cache_places(
+    alloc: Global,
+    conf: Conf,
+    counts: Counts,
+    words: u64,
+    rows: Vec<ListedRow>,
+    removed: Vec<ListedRow>,
+) -> Result<Telling, AllocError>
+    ensures told { IfOk result (λ t. t ≡ told_array
+        (told_counts conf counts words ++ told_rows rows.items removed.items) 1) }
+    ensures tellable { IfOk result (λ t. IsTellable t) }
+{
+    if rows.len() > MOST_VALUES as usize {
+        return Err(AllocError);
+    }
+    let (first, cells) = array_of(
+        alloc,
+        &[
+            (b"num_slots", 1),
+            (b"ttl", 1),
+            (b"num_hits", 1),
+            (b"num_misses", 1),
+            (b"num_inserts", 1),
+            (b"num_entries", 1),
+            (b"expunges", 1),
+            (b"mem_size", 1),
+            (b"cache_list", 1 + ROW_PLACES * rows.len() as u32),
+            (b"deleted_list", 1),
+        ],
+        2,
+    )?;
+    let mut telling = Telling::new(alloc, first, cells);
+    push_counts(&mut telling, conf, counts, words)?;
+    push_rows(&mut telling, alloc, rows)?;
+    push_rows(&mut telling, alloc, removed)?;
+    Ok(telling)
+}
+
+/// What `apcu_sma_info` tells of a segment without its gaps: its words, and how many are free.
+pub fn tell_words(alloc: Global, words: u32, free: u32) -> Result<Graph, AllocError>
+    ensures { IfOk result (λ g. g ≡ told_array (told_words words free) 1) }
+{
+    let (first, cells) = array_of(
+        alloc,
+        &[(b"num_seg", 1), (b"seg_size", 1), (b"avail_mem", 1)],
+        2,
+    )?;
+    let mut telling = Telling::new(alloc, first, cells);
+    telling.push_numbers(&[1, bytes_in(words), bytes_in(free)])?;
+    Ok(telling.finish())
+}
+
+/// What `apcu_sma_info` tells of a segment with its gaps.
+pub fn tell_gaps(alloc: Global, words: u32, free: u32, gaps: &[Extent]) -> Result<Graph, AllocError>
+    ensures { IfOk result
+        (λ g. g ≡ told_array (told_words words free ++ told_gaps gaps.now) 1) }
+{
+    let telling = segment_places(alloc, words, free, gaps)?;
+    Ok(telling.finish())
+}
+
+// The places of a segment with its gaps.
+fn segment_places(
+    alloc: Global,
+    words: u32,
+    free: u32,
+    gaps: &[Extent],
+) -> Result<Telling, AllocError>
+    ensures told { IfOk result
+        (λ t. t ≡ told_array (told_words words free ++ told_gaps gaps.now) 1) }
+    ensures tellable { IfOk result (λ t. IsTellable t) }
+{
+    let (first, cells) = array_of(
+        alloc,
+        &[
+            (b"num_seg", 1),
+            (b"seg_size", 1),
+            (b"avail_mem", 1),
+            (b"block_lists", 1),
+        ],
+        2,
+    )?;
+    let mut telling = Telling::new(alloc, first, cells);
+    telling.push_numbers(&[1, bytes_in(words), bytes_in(free)])?;
+    // the one segment's list, in a list of all segments
+    let (kind, cells) = list_of(alloc, 1, 1, 6)?;
+    telling.push(kind, cells)?;
+    push_gaps(&mut telling, alloc, gaps)?;
+    Ok(telling)
+}

@@ -1,0 +1,20 @@
+use Rattle.std.proofs.Common.{refl, ◌∙◌}
+use Rattle.entry_slots.specs.Standing.{entries}
+use Rattle.cache_core.specs.declared.cache.Core.{Core}
+use Rattle.cache_core.proofs.Live.{old_live}
+use Rattle.cache_core.proofs.Keyed.{core_used, used_keyed}
+use Rattle.cache_core.proofs.cache.Core.note_hit.Goals as goal
+
+pub returns-clause-cache : goal.returns-clause-cache
+returns-clause-cache g c = λ key seen row live place.
+    let core = c.args.self.now in
+    let new : Core = record core { slots = c.touch.new.self; tally = c.after_hit-self.result } in
+    let sound = c.standing_laws.ensures.sound core.slots (g.S.WordsIn.words c.args.seg.now) (g.S.WordsIn.aside c.args.seg.now) (entries core.slots) c.requires.stand.stand in
+    (core_used core new c.args.at c.args.t c.requires.stand.whole c.touch.ensures.touched refl c.after_hit-self.ensures).0
+    ∙ used_keyed core key c.args.at c.args.t row (old_live key seen c.args.at row sound live place) sound
+
+pub returns-clause-stand : goal.returns-clause-stand
+returns-clause-stand g c =
+    let core = c.args.self.now in
+    let new : Core = record core { slots = c.touch.new.self; tally = c.after_hit-self.result } in
+    record { stand = c.touch.ensures.stand; whole = (core_used core new c.args.at c.args.t c.requires.stand.whole c.touch.ensures.touched refl c.after_hit-self.ensures).1 }

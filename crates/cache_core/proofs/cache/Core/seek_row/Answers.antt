@@ -1,0 +1,60 @@
+use Rattle.std.proofs.Common.{◌≡◌, true, false, cond, not, sym, ap, ◌∙◌, Some, None}
+use Rattle.std.proofs.lemmas.Bool.{or_left}
+use Rattle.std.proofs.lemmas.List.Elements.{Contains-append_left}
+use Rattle.apcu_model.specs.Expiry.{is_hard_expired}
+use Rattle.apcu_model.specs.Walk.{slot_of}
+use Rattle.entry_slots.specs.Entries.{Entries}
+use Rattle.entry_slots.specs.Lists.{is_at, has_place}
+use Rattle.entry_slots.specs.Standing.{entries}
+use Rattle.std.proofs.lemmas.List.Folds.{list_any-append}
+use Rattle.cache_core.proofs.Standing.{head_kept}
+use Rattle.cache_core.proofs.Replacing.{old_is, spot_some, spot_none}
+use Rattle.cache_core.proofs.Live.{not_live, live_as}
+use Rattle.cache_core.proofs.cache.Core.seek_row.Goals as goal
+
+pub seek-spot-requires-clause-slot : goal.seek-spot-requires-clause-slot
+seek-spot-requires-clause-slot g c = c.requires.slot ∙ ap (λ (x : Entries). slot_of x.conf c.args.key.now) (sym c.requires.stand.whole)
+
+pub seek-spot-requires-clause-limit : goal.seek-spot-requires-clause-limit
+seek-spot-requires-clause-limit g c = ap (λ (x : Entries). x.conf.ttl) (sym c.requires.stand.whole)
+
+pub returns-then-spot-eq0-clause-none : goal.returns-then-spot-eq0-clause-none
+returns-then-spot-eq0-clause-none g c =
+    let s = entries c.args.self.now.slots in
+    let sound = c.standing_laws.ensures.sound c.args.self.now.slots (g.S.WordsIn.words c.args.seg.now) (g.S.WordsIn.aside c.args.seg.now) s c.requires.stand.stand in
+    not_live c.args.key.now c.args.t s.rows (spot_none c.args.key.now c.seek-spot.result.at sound c.seek-spot.ensures.spot.old_is c.if-spot-eq0.true)
+
+pub head-head-requires-clause-there : goal.head-head-requires-clause-there
+head-head-requires-clause-there g c =
+    let s = entries c.args.self.now.slots in
+    let sound = c.standing_laws.ensures.sound c.args.self.now.slots (g.S.WordsIn.words c.args.seg.now) (g.S.WordsIn.aside c.args.seg.now) s c.requires.stand.stand in
+    let at = c.seek-spot.result.at in
+    list_any-append (is_at at) s.rows s.removed
+    ∙ or_left (has_place at s.rows) (has_place at s.removed) (old_is c.args.key.now at sound (spot_some s c.args.key.now at c.seek-spot.ensures.spot.old_is c.if-spot-eq0.false)).listed
+
+pub returns-then-is_over-clause-none : goal.returns-then-is_over-clause-none
+returns-then-is_over-clause-none g c =
+    let s = entries c.args.self.now.slots in
+    let sound = c.standing_laws.ensures.sound c.args.self.now.slots (g.S.WordsIn.words c.args.seg.now) (g.S.WordsIn.aside c.args.seg.now) s c.requires.stand.stand in
+    let at = c.seek-spot.result.at in
+    let o = old_is c.args.key.now at sound (spot_some s c.args.key.now at c.seek-spot.ensures.spot.old_is c.if-spot-eq0.false) in
+    let h = c.head-head.ensures.head o.row (record { there = Contains-append_left s.rows s.removed o.row o.there; place = o.place }) in
+    let over : is_hard_expired c.args.t o.row ≡ true = sym (c.is_over.ensures o.row h.ttl h.ctime) ∙ c.if-is_over.true in
+    live_as c.args.key.now c.args.t s.rows o.row sound.apart o.found ∙ ap (λ b. cond (not b) (Some o.row) None) over
+
+pub returns-clause-found : goal.returns-clause-found
+returns-clause-found g c =
+    let s = entries c.args.self.now.slots in
+    let sound = c.standing_laws.ensures.sound c.args.self.now.slots (g.S.WordsIn.words c.args.seg.now) (g.S.WordsIn.aside c.args.seg.now) s c.requires.stand.stand in
+    let at = c.seek-spot.result.at in
+    let o = old_is c.args.key.now at sound (spot_some s c.args.key.now at c.seek-spot.ensures.spot.old_is c.if-spot-eq0.false) in
+    let h = c.head-head.ensures.head o.row (record { there = Contains-append_left s.rows s.removed o.row o.there; place = o.place }) in
+    let over : is_hard_expired c.args.t o.row ≡ false = sym (c.is_over.ensures o.row h.ttl h.ctime) ∙ c.if-is_over.false in
+    record {
+      row = o.row;
+      live = live_as c.args.key.now c.args.t s.rows o.row sound.apart o.found ∙ ap (λ b. cond (not b) (Some o.row) None) over;
+      first = o.found;
+      there = o.there;
+      place = o.place;
+      head_is = head_kept c.head-head.result o.row c.seek-spot.ensures.kept h;
+    }

@@ -1,0 +1,16 @@
+-- What is told of an entry by its first words.
+use Rattle.apcu_model.specs.declared.noted.Noted.{Noted}
+use Rattle.apcu_model.specs.Cache.{Row}
+use Rattle.entry_slots.specs.declared.head.Head.{Head}
+
+-- what they say beside the key and the value
+abbrev pub noted_in : Head → Noted
+noted_in head = record {
+  ttl = head.ttl;
+  ctime = head.ctime;
+  mtime = head.mtime;
+  atime = head.atime;
+  dtime = head.dtime;
+  hits = head.hits;
+  size = head.size;
+}

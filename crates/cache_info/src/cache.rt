@@ -1,0 +1,47 @@
+//! What is told of the cache.
+
+ghost use Rattle.std.specs.Prelude.{◌≡◌, ℕ, IfOk};
+ghost use Rattle.seg_words.specs.Kept.{Kept};
+ghost use Rattle.seg_words.specs.Windows.{held_blocks};
+ghost use Rattle.apcu_model.specs.declared.request.Request.TheVariants.{CacheInfo};
+ghost use Rattle.apcu_model.specs.declared.request.Reply.TheVariants.{Info};
+ghost use Rattle.apcu_model.specs.Infos.{cache_info_of};
+ghost use Rattle.apcu_model.specs.Sequential.{reply_to};
+ghost use Rattle.cache_core.specs.Caching.{cache_of, CacheStands};
+
+use crate::rows::{list_removed, list_rows, words_of};
+use apcu_model::{tell_cache, tell_counts};
+use cache_core::Core;
+use php_graph::Graph;
+use seg_words::{Segment, WordsIn};
+use std::alloc::{AllocError, Global};
+
+/// Tells of the cache as `apcu_cache_info` does: its shape, what it counts and its rows, those
+/// whose time is over too. Unless `limited`, the rows are listed by slot and place, and then the
+/// removed rows in the order in which they were dropped. Nothing changes.
+///
+/// It takes as long as there are slots and rows. Want of memory is the only refusal.
+pub fn cache_info<S: Segment>(
+    alloc: Global,
+    core: &mut Core,
+    seg: &mut S,
+    limited: bool,
+) -> Result<Graph, AllocError>
+    requires stand { CacheStands S.WordsIn core.old seg.old }
+    ensures info { IfOk result (λ g. g ≡ cache_info_of limited (cache_of core.old)) }
+    ensures reply { (t : ℕ) → IfOk result (λ g. Info g
+        ≡ reply_to (held_blocks (S.aside seg.new)) t (CacheInfo limited) (cache_of core.old)) }
+    ensures same { core.new ≡ core.old }
+    ensures kept { Kept S.WordsIn seg.old seg.new }
+{
+    let conf = *core.conf();
+    let counts = core.counts();
+    let slots = core.slots();
+    let words = words_of(slots, seg);
+    if limited {
+        return tell_counts(alloc, conf, counts, words);
+    }
+    let rows = list_rows(alloc, slots, seg)?;
+    let removed = list_removed(alloc, slots, seg)?;
+    tell_cache(alloc, conf, counts, words, rows, removed)
+}

@@ -1,0 +1,43 @@
+//! What is told of a key.
+
+ghost use Rattle.std.specs.Prelude.{◌≡◌, ◌<◌, ◌^◌, length, IfOk};
+ghost use Rattle.seg_words.specs.Kept.{Kept};
+ghost use Rattle.seg_words.specs.Windows.{held_blocks};
+ghost use Rattle.apcu_model.specs.declared.request.Request.TheVariants.{KeyInfo};
+ghost use Rattle.apcu_model.specs.Infos.{key_info_of};
+ghost use Rattle.apcu_model.specs.Sequential.{info_reply, reply_to};
+ghost use Rattle.cache_core.specs.Caching.{cache_of, CacheStands};
+
+use crate::entry::noted_at;
+use apcu_model::tell_key;
+use cache_core::Core;
+use php_graph::Graph;
+use seg_words::{Segment, WordsIn};
+use std::alloc::{AllocError, Global};
+
+/// Tells of the row that a look-up of the key at the moment `t`, in seconds, finds, as
+/// `apcu_key_info` does; `None` exactly where it finds none, as for a row whose own time is over.
+/// Nothing is counted, and the row is not used.
+///
+/// Want of memory is the only refusal.
+pub fn key_info<S: Segment>(
+    alloc: Global,
+    core: &mut Core,
+    seg: &mut S,
+    key: &[u8],
+    t: u64,
+) -> Result<Option<Graph>, AllocError>
+    requires short { length key.now < 2 ^ 32 }
+    requires stand { CacheStands S.WordsIn core.old seg.old }
+    ensures info { IfOk result (λ g. g ≡ key_info_of key.now t (cache_of core.old)) }
+    ensures reply { IfOk result (λ g. info_reply g
+        ≡ reply_to (held_blocks (S.aside seg.new)) t (KeyInfo key.now) (cache_of core.old)) }
+    ensures same { core.new ≡ core.old }
+    ensures kept { Kept S.WordsIn seg.old seg.new }
+{
+    let Some((at, _value)) = core.peek(seg, key, t) else {
+        return Ok(None);
+    };
+    let row = noted_at(core.slots(), seg, at);
+    Ok(Some(tell_key(alloc, row)?))
+}

@@ -1,0 +1,62 @@
+-- The numbers that the values of options write.
+use Rattle.std.specs.Prelude.{ℕ, ◌+◌, ◌-◌, ◌*◌, ◌/◌, ◌%◌, Bool, ◌&&◌, ◌||◌, ◌==◌, nat_le, nat_lt, if◌then◌else◌, List, length, take, get_or, Option, Some, None}
+use Rattle.std.specs.Option.{option_and_then, option_map}
+use Rattle.std.specs.Str.{all_ascii_digits}
+use Rattle.std.specs.Str.Parse.{digits_value}
+
+-- ---- numbers
+
+-- digits, at least one and at most so many
+abbrev pub is_number : ℕ → List ℕ → Bool
+is_number most text =
+    all_ascii_digits text && (nat_lt 0 (length text) && nat_le (length text) most)
+
+-- the number that they write, where it is not above this one; zeros may stand in front
+abbrev pub number_in : ℕ → ℕ → List ℕ → Option ℕ
+number_in most high text =
+    if is_number most text && nat_le (digits_value 10 text) high
+    then Some (digits_value 10 text)
+    else None
+
+-- ---- sizes
+
+-- how many bytes a letter stands for: K, M and G, or k, m and g; 1 where it is none of them
+abbrev pub unit_of : ℕ → ℕ
+unit_of letter =
+    if letter == 75 || letter == 107 then 1024
+    else if letter == 77 || letter == 109 then 1048576
+    else if letter == 71 || letter == 103 then 1073741824
+    else 1
+
+-- the last byte, and what stands before it
+abbrev pub last_byte : List ℕ → ℕ
+last_byte text = get_or text (length text - 1) 0
+
+abbrev pub but_last : List ℕ → List ℕ
+but_last text = take (length text - 1) text
+
+abbrev pub most_bytes : ℕ
+most_bytes = 134217728
+
+-- a number of at most ten digits, and at most one letter behind it
+abbrev pub bytes_in : List ℕ → Option ℕ
+bytes_in text =
+    if unit_of (last_byte text) == 1 then number_in 10 most_bytes text
+    else option_map (λ n. n * unit_of (last_byte text)) (number_in 10 most_bytes (but_last text))
+
+-- the words of 8 bytes of a segment: an even number of them, from 256 bytes to 128 MB
+abbrev pub words_by : ℕ → Option ℕ
+words_by bytes =
+    if bytes % 16 == 0 && (nat_le 256 bytes && nat_le bytes most_bytes)
+    then Some (bytes / 8)
+    else None
+
+abbrev pub words_told : List ℕ → Option ℕ
+words_told text = option_and_then words_by (bytes_in text)
+
+-- ---- slots
+
+-- so many slots of so many words: an even number of them, which leaves 16 words for blocks
+abbrev pub slots_by : ℕ → ℕ → Option ℕ
+slots_by words slots =
+    if slots % 2 == 0 && (nat_le 2 slots && nat_le (slots + 16) words) then Some slots else None

@@ -1,0 +1,98 @@
+// The numbers that the values of options write.
+ghost use Rattle.std.specs.Prelude.{◌≡◌, ◌<◌, ◌≤◌, ◌+◌, ◌%◌, ◌^◌, IfSome};
+ghost use Rattle.conf_read.specs.Numbers.{number_in, unit_of, bytes_in, words_told, slots_by};
+
+// The most bytes of a segment.
+const MOST_BYTES: u32 = 134_217_728;
+
+// The most slots.
+const MOST_SLOTS: u32 = 1_048_576;
+
+// The number that a text writes in at most so many digits, where it is not above another.
+fn number_in(text: &[u8], most: usize, high: u32) -> Option<u32>
+    ensures is { result ≡ number_in most high text.now }
+    ensures low { IfSome result (λ n. n ≤ high) }
+{
+    if text.is_empty() || text.len() > most || text[0] == b'+' {
+        return None;
+    }
+    let number = match str::from_utf8(text) {
+        Ok(text) => text.parse::<u32>().ok()?,
+        Err(_) => return None,
+    };
+    if number <= high { Some(number) } else { None }
+}
+
+// How many bytes a letter behind a number stands for; 1 where it is none of a unit.
+fn unit_of(letter: u8) -> u64
+    ensures { result ≡ unit_of letter }
+{
+    match letter {
+        b'K' | b'k' => 1024,
+        b'M' | b'm' => 1_048_576,
+        b'G' | b'g' => 1_073_741_824,
+        _ => 1,
+    }
+}
+
+// The bytes that a size says.
+fn bytes_in(text: &[u8]) -> Option<u64>
+    ensures is { result ≡ bytes_in text.now }
+    ensures few { IfSome result (λ bytes. bytes < 2 ^ 60) }
+{
+    let [digits @ .., last] = text else {
+        return None;
+    };
+    let unit = unit_of(*last);
+    if unit == 1 {
+        Some(u64::from(number_in(text, 10, MOST_BYTES)?))
+    } else {
+        Some(u64::from(number_in(digits, 10, MOST_BYTES)?) * unit)
+    }
+}
+
+// The words of a segment of this size.
+pub(crate) fn words_told(text: &str) -> Option<u32>
+    ensures is { result ≡ words_told text.now }
+    ensures even { IfSome result (λ words. words % 2 ≡ 0) }
+    ensures least { IfSome result (λ words. 32 ≤ words) }
+    ensures most { IfSome result (λ words. words ≤ 16777216) }
+{
+    let bytes = bytes_in(text.as_bytes())?;
+    if bytes % 16 == 0 && bytes >= 256 && bytes <= u64::from(MOST_BYTES) {
+        Some((bytes / 8) as u32)
+    } else {
+        None
+    }
+}
+
+// The number of slots that a text writes.
+pub(crate) fn slots_told(text: &str) -> Option<u32>
+    ensures is { result ≡ number_in 20 1048576 text.now }
+    ensures most { IfSome result (λ slots. slots ≤ 1048576) }
+{
+    number_in(text.as_bytes(), 20, MOST_SLOTS)
+}
+
+// So many slots of so many words, where there can be.
+pub(crate) fn slots_by(words: u32, slots: u32) -> Option<u32>
+    requires { slots ≤ 1048576 }
+    ensures is { result ≡ slots_by words slots }
+    ensures even { IfSome result (λ slots. slots % 2 ≡ 0) }
+    ensures least { IfSome result (λ slots. 2 ≤ slots) }
+    ensures most { IfSome result (λ slots. slots ≤ 1048576) }
+    ensures room { IfSome result (λ slots. slots + 16 ≤ words) }
+{
+    if slots % 2 == 0 && slots >= 2 && slots + 16 <= words {
+        Some(slots)
+    } else {
+        None
+    }
+}
+
+// The seconds of a time limit.
+pub(crate) fn seconds_told(text: &str) -> Option<u32>
+    ensures { result ≡ number_in 20 4294967295 text.now }
+{
+    number_in(text.as_bytes(), 20, u32::MAX)
+}

@@ -1,0 +1,150 @@
+use apcu_model::Conf;
+use conf_read::{ConfFault, read_conf};
+use std::alloc::Global;
+use std::process::Abort;
+use std::test::Fail;
+
+// The program is called with these words behind its name.
+fn expect<R: Abort>(
+    rt: &R,
+    alloc: Global,
+    options: &[&str],
+    wanted: Result<Conf, ConfFault>,
+) -> Result<(), Fail> {
+    let mut words = Vec::new(alloc);
+    words.push(String::from_str(alloc, "apcu_run")?)?;
+    for option in options {
+        words.push(String::from_str(alloc, option)?)?;
+    }
+    assert_eq!(rt; read_conf(alloc, &words), wanted);
+    Ok(())
+}
+
+#[test]
+fn words_in_order(rt: HostRuntime) -> Result<(), Fail> {
+    for (options, words, slots, ttl) in [
+        ([].as_slice(), 4_194_304, 4096, 0),
+        (&["--"], 4_194_304, 4096, 0),
+        (&["--slots", "32"], 4_194_304, 32, 0),
+        (&["--slots=32"], 4_194_304, 32, 0),
+        (&["--shm-size=64k"], 8192, 4096, 0),
+        (&["--ttl", "4294967295"], 4_194_304, 4096, 4_294_967_295),
+        (
+            &["--shm-size", "4096", "--slots", "32", "--ttl", "7"],
+            512,
+            32,
+            7,
+        ),
+        (
+            &["--ttl", "7", "--shm-size", "4096", "--slots", "32"],
+            512,
+            32,
+            7,
+        ),
+        (&["--slots", "32", "--ttl=7", "--shm-size=4096"], 512, 32, 7),
+    ] {
+        let wanted = Conf { words, slots, ttl };
+        expect(&rt, rt.alloc(), options, Ok(wanted))?;
+    }
+    Ok(())
+}
+
+#[test]
+fn words_out_of_order(rt: HostRuntime) -> Result<(), Fail> {
+    for options in [
+        ["--help"].as_slice(),
+        &["-h"],
+        &["help"],
+        &["--version"],
+        &["--segments", "2"],
+        &["--tt", "7"],
+        &["-ttl", "7"],
+        &["32"],
+        &[""],
+        &["-"],
+        &["--slots", "32", "0"],
+        &["--", "--slots"],
+        &["--ttl"],
+        &["--ttl", "--slots", "32"],
+        &["--ttl", "-1"],
+        &["--ttl", "7", "--ttl", "7"],
+        &["--slots=32", "--ttl=7", "--slots=32"],
+    ] {
+        expect(&rt, rt.alloc(), options, Err(ConfFault::Usage))?;
+    }
+    Ok(())
+}
+
+#[test]
+fn no_word_at_all(rt: HostRuntime) {
+    assert_eq!(rt; read_conf(rt.alloc(), &[]), Err(ConfFault::Usage));
+}
+
+#[test]
+fn values_in_their_range(rt: HostRuntime) -> Result<(), Fail> {
+    for (size, slots, ttl, wanted) in [
+        ("256", "2", "0", [32, 2, 0]),
+        ("256", "16", "4294967295", [32, 16, 4_294_967_295]),
+        ("0000004096", "00000000000000000032", "0", [512, 32, 0]),
+        ("4k", "32", "00000000000000000010", [512, 32, 10]),
+        ("1K", "32", "0", [128, 32, 0]),
+        ("1m", "1048", "10", [131_072, 1048, 10]),
+        ("1M", "1048", "10", [131_072, 1048, 10]),
+        ("128M", "1048576", "0", [16_777_216, 1_048_576, 0]),
+        ("134217728", "32", "0", [16_777_216, 32, 0]),
+    ] {
+        let [words, slots_wanted, ttl_wanted] = wanted;
+        let options = ["--shm-size", size, "--slots", slots, "--ttl", ttl];
+        let wanted = Conf {
+            words,
+            slots: slots_wanted,
+            ttl: ttl_wanted,
+        };
+        expect(&rt, rt.alloc(), options.as_slice(), Ok(wanted))?;
+    }
+    Ok(())
+}
+
+#[test]
+fn values_out_of_their_range(rt: HostRuntime) -> Result<(), Fail> {
+    for (size, slots, ttl) in [
+        ("4096", "31", "0"),
+        ("4097", "32", "0"),
+        ("4104", "32", "0"),
+        ("240", "2", "0"),
+        ("256", "18", "0"),
+        ("4096", "0", "0"),
+        ("128M", "1048578", "0"),
+        ("134217744", "32", "0"),
+        ("1G", "32", "0"),
+        ("1g", "32", "0"),
+        ("00000004096", "32", "0"),
+        ("", "32", "0"),
+        ("K", "32", "0"),
+        ("4kk", "32", "0"),
+        ("4x", "32", "0"),
+        ("+4096", "32", "0"),
+        ("4096", "", "0"),
+        ("4096", "+32", "0"),
+        ("4096", "000000000000000000032", "0"),
+        ("4096", "18446744073709551648", "0"),
+        ("4096", "32", "4294967296"),
+        ("4096", "32", ""),
+        ("4096", "32", "1s"),
+    ] {
+        let options = ["--shm-size", size, "--slots", slots, "--ttl", ttl];
+        expect(&rt, rt.alloc(), options.as_slice(), Err(ConfFault::Usage))?;
+    }
+    Ok(())
+}
+
+#[test]
+fn slots_need_room(rt: HostRuntime) -> Result<(), Fail> {
+    // The 4096 slots of a cache without `--slots` have no room in 256 bytes.
+    expect(
+        &rt,
+        rt.alloc(),
+        &["--shm-size", "256"],
+        Err(ConfFault::Usage),
+    )
+}

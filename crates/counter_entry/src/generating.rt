@@ -1,0 +1,245 @@
+//! Values by generators: found under one of their keys, or made and stored under those that missed.
+
+ghost use Rattle.std.specs.Prelude.{◌≡◌, ℕ, ◌<◌, ◌≤◌, ◌^◌, ◌||◌, Bool, true, false, List, length};
+ghost use Rattle.std.specs.Prelude.{take};
+ghost use Rattle.std.specs.Prelude.{Some, IfSome, IfOk, OnOk, OnErr};
+ghost use Rattle.seg_words.specs.Kept.{Kept, KeptBeside};
+ghost use Rattle.seg_words.specs.Probing.{Goes};
+ghost use Rattle.seg_words.specs.Windows.{Aside, has, held_blocks};
+ghost use Rattle.apcu_model.specs.declared.request.Request.TheVariants.{Entry};
+ghost use Rattle.apcu_model.specs.declared.request.Reply.TheVariants.{Gave};
+ghost use Rattle.apcu_model.specs.Change.{inserted};
+ghost use Rattle.apcu_model.specs.Generators.{given_by, missed_levels, looked_for, filled};
+ghost use Rattle.apcu_model.specs.Generators.{entered};
+ghost use Rattle.apcu_model.specs.Levels.{EntryLevel};
+ghost use Rattle.apcu_model.specs.Sequential.{cache_after, reply_to};
+ghost use Rattle.entry_slots.specs.Lists.{has_place};
+ghost use Rattle.entry_slots.specs.Standing.{entries};
+ghost use Rattle.ttl_expunge.specs.Held.{AreRemoved, KeepsOpen};
+ghost use Rattle.cache_core.specs.Caching.{cache_of, CacheStands};
+ghost use Rattle.counter_entry.specs.Generating.{place_under, fate_of, makes_room, IsReady};
+
+use crate::answer::Fate;
+use apcu_model::{Gen, GenKind, StoreAnswer};
+use cache_core::Core;
+use php_graph::Graph;
+use seg_words::{Segment, WordsIn};
+use std::alloc::{AllocError, Global};
+
+// What the look-ups of a generator's keys come to.
+#[derive(Drop)]
+struct Source {
+    // a copy of the value that it gives
+    value: Graph,
+    // how many of its keys missed, from outside in
+    missing: u32,
+    // the place of the row that was found under the next one
+    at: Option<u32>,
+}
+
+// What storing under a generator's keys has come to.
+#[derive(Clone, Copy)]
+struct Filling {
+    // the last answer, if anything was to be stored
+    last: Option<StoreAnswer>,
+    // whether the removed rows were swept in this event
+    swept: bool,
+}
+
+/// Gives the value of a generator at the moment `t`, in seconds, as PHP's `apcu_entry` does: its
+/// keys are looked up from outside in, as far as a row is found. The value is that row's, or else
+/// the literal inside. Each key that missed counts a miss, and the one that was found a hit. Then
+/// the value is stored under the keys that missed, the innermost first, each with its own time to
+/// live and never over a live row.
+///
+/// The value is copied before the first change: where memory is missing for it, nothing changed. No
+/// place may be refused before in this event.
+pub fn entry<S: Segment>(
+    alloc: Global,
+    core: &mut Core,
+    seg: &mut S,
+    generator: &Gen,
+    t: u64,
+) -> Result<(Graph, Fate), AllocError>
+    requires levels { length generator.now.levels ≤ 8 }
+    requires stand { CacheStands S.WordsIn core.old seg.old }
+    requires fresh { (b : ℕ) → has b (S.aside seg.old).refused ≡ false }
+    ensures value { IfOk result (λ r. r.0 ≡ given_by generator.now t (cache_of core.old)) }
+    ensures fate { IfOk result (λ r. r.1 ≡ fate_of
+        (entered (held_blocks (S.aside seg.new)) generator.now t (cache_of core.old)).outermost) }
+    ensures reply { IfOk result (λ r. Gave r.0
+        ≡ reply_to (held_blocks (S.aside seg.new)) t (Entry generator.now) (cache_of core.old)) }
+    ensures cache { OnOk result (cache_of core.new
+        ≡ cache_after (held_blocks (S.aside seg.new)) t (Entry generator.now) (cache_of core.old)) }
+    ensures later { OnOk result ((later : Aside) → Goes (S.aside seg.new) later
+        → cache_of core.new ≡ (entered (held_blocks later) generator.now t (cache_of core.old)).cache) }
+    ensures goes { Goes (S.aside seg.old) (S.aside seg.new) }
+    ensures keeps { KeepsOpen (S.aside seg.new).windows
+        (entries core.old.slots) (entries core.new.slots) }
+    ensures refused { AreRemoved (S.aside seg.new) (cache_of core.new).removed }
+    ensures stand { CacheStands S.WordsIn core.new seg.new }
+    ensures rest { S.rest seg.new ≡ S.rest seg.old }
+    ensures same { OnErr result (core.new ≡ core.old) }
+    ensures kept { OnErr result (Kept S.WordsIn seg.old seg.new) }
+{
+    let source = look_through(alloc, core, seg, generator, t)?;
+    note(core, seg, source.missing, source.at, t);
+    let filling = fill(core, seg, generator, source.missing, &source.value, t);
+    Ok((source.value, fate(filling.last)))
+}
+
+// Looks the keys of a generator up from outside in, as far as a row is found, and copies the value.
+fn look_through<S: Segment>(
+    alloc: Global,
+    core: &Core,
+    seg: &mut S,
+    generator: &Gen,
+    t: u64,
+) -> Result<Source, AllocError>
+    requires levels { length generator.now.levels < 2 ^ 32 }
+    requires stand { CacheStands S.WordsIn core.now seg.old }
+    ensures value { IfOk result (λ r. r.value ≡ given_by generator.now t (cache_of core.now)) }
+    ensures missing { IfOk result (λ r. r.missing
+        ≡ length (missed_levels generator.now.levels t (cache_of core.now))) }
+    ensures found { IfOk result (λ r. r.at ≡ place_under generator.now.levels t (cache_of core.now)) }
+    ensures kept { Kept S.WordsIn seg.old seg.new }
+{
+    match generator.kind() {
+        GenKind::Value(literal) => {
+            let value = literal.try_copy(alloc)?;
+            Ok(Source {
+                value,
+                missing: 0,
+                at: None,
+            })
+        }
+        GenKind::Entry(key, _, inner) => {
+            if let Some((at, value)) = core.copy_live(alloc, seg, key.as_slice(), t)? {
+                return Ok(Source {
+                    value,
+                    missing: 0,
+                    at: Some(at),
+                });
+            }
+            let source = look_through(alloc, core, seg, inner, t)?;
+            Ok(Source {
+                value: source.value,
+                missing: source.missing + 1,
+                at: source.at,
+            })
+        }
+    }
+}
+
+// Notes the look-ups: so many missed, and the row at this place was found, if there is one.
+fn note<S: Segment>(core: &mut Core, seg: &mut S, missing: u32, at: Option<u32>, t: u64)
+    requires stand { CacheStands S.WordsIn core.old seg.old }
+    requires there { (levels : List EntryLevel)
+        × (at ≡ place_under levels t (cache_of core.old)) }
+    ensures cache { (levels : List EntryLevel) → at ≡ place_under levels t (cache_of core.old)
+        → missing ≡ length (missed_levels levels t (cache_of core.old))
+        → cache_of core.new ≡ looked_for levels t (cache_of core.old) }
+    ensures keeps { (windows : List ℕ)
+        → KeepsOpen windows (entries core.old.slots) (entries core.new.slots) }
+    ensures stand { CacheStands S.WordsIn core.new seg.new }
+    ensures beside { KeptBeside S.WordsIn seg.old seg.new }
+{
+    core.note_misses(missing);
+    if let Some(at) = at {
+        core.note_hit(seg, at, t);
+    }
+}
+
+// Stores the value under the first keys of a generator, the innermost of them first.
+fn fill<S: Segment>(
+    core: &mut Core,
+    seg: &mut S,
+    generator: &Gen,
+    missing: u32,
+    value: &Graph,
+    t: u64,
+) -> Filling
+    requires missing { missing ≤ length generator.now.levels }
+    requires stand { CacheStands S.WordsIn core.old seg.old }
+    requires fresh { (b : ℕ) → has b (S.aside seg.old).refused ≡ false }
+    ensures later { (later : Aside) → Goes (S.aside seg.new) later
+        → filled (held_blocks later) value.now t (take missing generator.now.levels) (cache_of core.old)
+        ≡ record { outermost = result.last; cache = cache_of core.new } }
+    ensures goes { Goes (S.aside seg.old) (S.aside seg.new) }
+    ensures keeps { KeepsOpen (S.aside seg.new).windows
+        (entries core.old.slots) (entries core.new.slots) }
+    ensures ready { IsReady result.swept (S.aside seg.new) (cache_of core.new).removed }
+    ensures stand { CacheStands S.WordsIn core.new seg.new }
+    ensures rest { S.rest seg.new ≡ S.rest seg.old }
+{
+    if missing == 0 {
+        return Filling {
+            last: None,
+            swept: false,
+        };
+    }
+    match generator.kind() {
+        GenKind::Value(_) => Filling {
+            last: None,
+            swept: false,
+        },
+        GenKind::Entry(key, ttl, inner) => {
+            let before = fill(core, seg, inner, missing - 1, value, t);
+            let answer = insert(core, seg, key.as_slice(), value, *ttl, before.swept, t);
+            Filling {
+                last: Some(answer),
+                swept: has_swept(before.swept, answer),
+            }
+        }
+    }
+}
+
+// Stores the value under a key where no live row has it.
+fn insert<S: Segment>(
+    core: &mut Core,
+    seg: &mut S,
+    key: &[u8],
+    value: &Graph,
+    ttl: u32,
+    swept: bool,
+    t: u64,
+) -> StoreAnswer
+    requires short { length key.now < 2 ^ 32 }
+    requires stand { CacheStands S.WordsIn core.old seg.old }
+    requires ready { IsReady swept (S.aside seg.old) (cache_of core.old).removed }
+    ensures later { (later : Aside) → Goes (S.aside seg.new) later
+        → inserted (held_blocks later) key.now value.now ttl true t (cache_of core.old)
+        ≡ record { answer = result; cache = cache_of core.new } }
+    ensures goes { Goes (S.aside seg.old) (S.aside seg.new) }
+    ensures keeps { KeepsOpen (S.aside seg.new).windows
+        (entries core.old.slots) (entries core.new.slots) }
+    ensures ready { IsReady (swept || makes_room result)
+        (S.aside seg.new) (cache_of core.new).removed }
+    ensures stand { CacheStands S.WordsIn core.new seg.new }
+    ensures rest { S.rest seg.new ≡ S.rest seg.old }
+{
+    if swept {
+        core.store_next(seg, key, value, ttl, true, t)
+    } else {
+        core.store(seg, key, value, ttl, true, t)
+    }
+}
+
+// Whether the removed rows were swept, now that a value was stored with this answer.
+fn has_swept(before: bool, answer: StoreAnswer) -> bool
+    ensures { result ≡ (before || makes_room answer) }
+{
+    before || answer == StoreAnswer::NoRoom || answer == StoreAnswer::Stored
+}
+
+// What became of a value, by the last answer of storing it.
+fn fate(last: Option<StoreAnswer>) -> Fate
+    ensures { result ≡ fate_of last }
+{
+    match last {
+        None => Fate::Found,
+        Some(answer) => Fate::Made {
+            stored: answer == StoreAnswer::Stored,
+        },
+    }
+}
