@@ -58,6 +58,8 @@ function measure(int $rows): void
     $exists = loop("apcu_exists('k' . \$i)");
     $store = loop("apcu_store('k' . \$i, \$value)");
     $add = loop("apcu_add('k' . \$i, \$value)");
+    $entry = loop("apcu_entry('k' . \$i, \$value)");
+    $make = fn() => $eight;
     $delete = loop("apcu_delete('k' . \$i)");
     $inc = loop("apcu_inc('k' . \$i)");
     $dec = loop("apcu_dec('k' . \$i)");
@@ -78,6 +80,9 @@ function measure(int $rows): void
         report('store_100', $many, $store, $hundred);
         report('delete_8', $few, $delete);
         report('add_8', $few, $add, $eight);
+        report('entry_there', $few, $entry, $make);
+        report('delete_8', $few, $delete);
+        report('entry_8', $few, $entry, $make);
     }
     foreach ($few as $batch) {
         $store($batch, 7);

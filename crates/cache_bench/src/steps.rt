@@ -19,6 +19,8 @@ pub enum Step {
     DeleteLong,
     StoreLong,
     AddShort,
+    EntryThere,
+    EntryNew,
     FetchInteger,
     Cas,
     Inc,
@@ -26,7 +28,7 @@ pub enum Step {
 }
 
 /// Calls under keys of texts, in an order in which each meets what it is to meet.
-pub const TEXTS: [Step; 14] = [
+pub const TEXTS: [Step; 17] = [
     Step::Nothing,
     Step::FetchShort,
     Step::FetchLong,
@@ -41,6 +43,9 @@ pub const TEXTS: [Step; 14] = [
     Step::StoreLong,
     Step::DeleteShort,
     Step::AddShort,
+    Step::EntryThere,
+    Step::DeleteShort,
+    Step::EntryNew,
 ];
 
 /// Calls under keys of integers.
@@ -63,6 +68,8 @@ impl Step {
             Step::DeleteLong => "delete_100",
             Step::StoreLong => "store_100",
             Step::AddShort => "add_8",
+            Step::EntryThere => "entry_there",
+            Step::EntryNew => "entry_8",
             Step::FetchInteger => "fetch_int",
             Step::Cas => "cas",
             Step::Inc => "inc",
@@ -88,6 +95,7 @@ impl Step {
             Step::ReplaceLong | Step::StoreLong => Act::Store(&values.long, 0, false),
             Step::AddThere | Step::AddShort => Act::Store(&values.short, 0, true),
             Step::DeleteShort | Step::DeleteLong => Act::Delete,
+            Step::EntryThere | Step::EntryNew => Act::Entry(&values.short),
             Step::FetchInteger => Act::Look,
             Step::Cas => Act::Cas(7),
             Step::Inc => Act::Inc(1),
