@@ -9,30 +9,30 @@ use Rattle.counter_entry.proofs.Levels.{few_missed, filled_missed}
 use Rattle.counter_entry.proofs.generating.entry.Goals as goal
 use Rattle.counter_entry.proofs.generating.entry.Given as given
 
-pub fill-filling-requires-clause-missing : goal.fill-filling-requires-clause-missing
-fill-filling-requires-clause-missing g c = omega (arith, c.in_ok-source.ensures.missing, few_missed c.args.generator.now.levels c.args.t (cache_of c.args.core.now))
+pub fill-progress-requires-clause-missing : goal.fill-progress-requires-clause-missing
+fill-progress-requires-clause-missing g c = omega (arith, c.in_ok-origin.ensures.missing, few_missed c.args.generator.now.levels c.args.t (cache_of c.args.core.now))
 
-filling : (g : given.Over) (c : goal.After-fate g) (later : Aside) → Goes (g.S.WordsIn.aside c.fill-filling.new.seg) later
-    → entered (held_blocks later) c.args.generator.now c.args.t (cache_of c.args.core.now) ≡ record { outermost = c.fill-filling.result.last; cache = cache_of c.fill-filling.new.core }
-filling g c later on =
-    let source = c.in_ok-source.source in
-    let found = c.in_ok-source.ensures in
-    filled_missed (held_blocks later) c.args.generator.now c.args.t (cache_of c.args.core.now) (cache_of c.note.new.core) source.value source.missing found.value found.missing
+progressed : (g : given.Over) (c : goal.After-fate g) (later : Aside) → Goes (g.S.WordsIn.aside c.fill-progress.new.seg) later
+    → entered (held_blocks later) c.args.generator.now c.args.t (cache_of c.args.core.now) ≡ record { outermost = c.fill-progress.result.last; cache = cache_of c.fill-progress.new.core }
+progressed g c later on =
+    let origin = c.in_ok-origin.origin in
+    let found = c.in_ok-origin.ensures in
+    filled_missed (held_blocks later) c.args.generator.now c.args.t (cache_of c.args.core.now) (cache_of c.note.new.core) origin.value origin.missing found.value found.missing
     (c.note.ensures.cache c.args.generator.now.levels found.found found.missing)
-    ∙ c.fill-filling.ensures.later later on
+    ∙ c.fill-progress.ensures.later later on
 
 pub returns-clause-fate : goal.returns-clause-fate
 returns-clause-fate g c =
-    let now = g.S.WordsIn.aside c.fill-filling.new.seg in
-    c.fate.ensures ∙ ap (λ (f : Filling). fate_of f.outermost) (sym (filling g c now (goes_nowhere now now refl)))
+    let now = g.S.WordsIn.aside c.fill-progress.new.seg in
+    c.fate.ensures ∙ ap (λ (f : Filling). fate_of f.outermost) (sym (progressed g c now (goes_nowhere now now refl)))
 
 pub returns-clause-cache : goal.returns-clause-cache
 returns-clause-cache g c =
-    let now = g.S.WordsIn.aside c.fill-filling.new.seg in
-    ap (λ (f : Filling). f.cache) (sym (filling g c now (goes_nowhere now now refl)))
+    let now = g.S.WordsIn.aside c.fill-progress.new.seg in
+    ap (λ (f : Filling). f.cache) (sym (progressed g c now (goes_nowhere now now refl)))
 
 pub returns-clause-later : goal.returns-clause-later
-returns-clause-later g c = λ later on. ap (λ (f : Filling). f.cache) (sym (filling g c later on))
+returns-clause-later g c = λ later on. ap (λ (f : Filling). f.cache) (sym (progressed g c later on))
 
 pub returns-clause-keeps : goal.returns-clause-keeps
-returns-clause-keeps g c = open_then c.fill-filling.ensures.goes (c.note.ensures.keeps (g.S.WordsIn.aside c.note.new.seg).windows) c.fill-filling.ensures.keeps
+returns-clause-keeps g c = open_then c.fill-progress.ensures.goes (c.note.ensures.keeps (g.S.WordsIn.aside c.note.new.seg).windows) c.fill-progress.ensures.keeps
