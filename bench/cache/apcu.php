@@ -51,8 +51,6 @@ function measure(int $rows): void
     for ($i = 0; $i < $rows; $i++) {
         apcu_store('k' . (FIRST + $i), match ($i % 10) { 0 => $eight, 1 => $hundred, default => true });
     }
-    $few = shuffled(0, $rows);
-    $many = shuffled(1, $rows);
     $nothing = loop("'k' . \$i");
     $fetch = loop("apcu_fetch('k' . \$i)");
     $exists = loop("apcu_exists('k' . \$i)");
@@ -66,6 +64,8 @@ function measure(int $rows): void
     $cas = loop("apcu_cas('k' . \$i, 7, 7)");
     $times = 3 + intdiv(200000, $rows);
     for ($time = 0; $time < $times; $time++) {
+        $few = shuffled(0, $rows);
+        $many = shuffled(1, $rows);
         report('nothing', $few, $nothing);
         report('fetch_8', $few, $fetch);
         report('fetch_100', $many, $fetch);
@@ -88,6 +88,7 @@ function measure(int $rows): void
         $store($batch, 7);
     }
     for ($time = 0; $time < $times; $time++) {
+        $few = shuffled(0, $rows);
         report('fetch_int', $few, $fetch);
         report('cas', $few, $cas);
         report('inc', $few, $inc);

@@ -1,7 +1,7 @@
 //! Calls on a cache that keeps its rows, or gets them back.
 
 use crate::cache::{Act, WordCache};
-use crate::keys::shuffled;
+use crate::keys::{numbers, shuffle};
 use crate::steps::{INTEGERS, Step, TEXTS};
 use crate::values::Values;
 use apcu_model::Conf;
@@ -54,17 +54,21 @@ pub fn measure_staying(
     }
     let mut cache = WordCache::new(alloc, &conf)?;
     cache.fill(alloc, rows, STEP, values, 0, NOW);
-    let short = shuffled(alloc, 0, rows, STEP)?;
-    let long = shuffled(alloc, 1, rows, STEP)?;
+    let mut short = numbers(alloc, 0, rows, STEP)?;
+    let mut long = numbers(alloc, 1, rows, STEP)?;
+    let mut state = 1;
     for _ in 0..times {
+        state = shuffle(short.as_mut_slice(), state);
+        state = shuffle(long.as_mut_slice(), state);
         for step in TEXTS {
-            let numbers = if step.is_long() { &long } else { &short };
-            report(rt, &mut cache, numbers.as_slice(), values, step, is_loud)?;
+            let keys = if step.is_long() { &long } else { &short };
+            report(rt, &mut cache, keys.as_slice(), values, step, is_loud)?;
         }
     }
     let put = Act::Store(&values.number, 0, false);
     let _stored = cache.calls(alloc, short.as_slice(), put, NOW);
     for _ in 0..times {
+        state = shuffle(short.as_mut_slice(), state);
         for step in INTEGERS {
             report(rt, &mut cache, short.as_slice(), values, step, is_loud)?;
         }
