@@ -1,0 +1,4 @@
+mod Walking
+mod GapRuns
+mod RowWords
+mod KeyBytes
