@@ -96,7 +96,7 @@ found_there p (x ∷ rows) row h = go (p x) (found_there p rows row) h
     go true later q = let e : x ≡ row = cc q in subst (λ z. Contains (x ∷ rows) z) e (Contains-first x rows)
     go false later q = Contains-later x rows row (later q)
 
-live_there : (key : List ℕ) (t : ℕ) (c : Cache) (row : Row) → live_row key t c ≡ Some row → Contains c.rows row
+pub live_there : (key : List ℕ) (t : ℕ) (c : Cache) (row : Row) → live_row key t c ≡ Some row → Contains c.rows row
 live_there key t c row h = found_there (λ row. has_key key row && not (is_hard_expired t row)) c.rows row h
 
 int_kind : (g : List Kind) (n : ℤ) → integer_in g ≡ Some n → kind_at g 1 ≡ Some (kinds.Int n)

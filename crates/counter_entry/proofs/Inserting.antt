@@ -1,58 +1,25 @@
--- One insertion of an event after the other, and the look-ups before them.
-use Rattle.std.proofs.Common.{◌≡◌, ◌≢◌, inl, inr, ℕ, Bool, true, false, ◌||◌, List, ◌++◌, map, Option, Some, None, refl, sym, ap, ◌∙◌, subst}
+-- Rows under open windows stay through the look-ups and insertions of an event.
+use Rattle.std.proofs.Common.{◌≡◌, inl, inr, ℕ, Bool, true, false, List, ◌++◌, map, Option, Some, None, refl, sym, ◌∙◌, subst}
 use Rattle.std.specs.Prelude.{Contains, if◌then◌else◌}
-use Rattle.std.proofs.lemmas.Bool.{false≢true}
 use Rattle.std.proofs.lemmas.List.Elements.{Contains-append_left, Contains-append_right, Contains-append_cases}
-use Rattle.seg_words.specs.Windows.{Aside, has, is_named}
+use Rattle.seg_words.specs.Windows.{Aside, is_named}
 use Rattle.seg_words.specs.Probing.{Goes}
 use Rattle.seg_words.specs.Members.{Contains-map}
-use Rattle.apcu_model.specs.declared.request.StoreAnswer.{StoreAnswer}
-use Rattle.apcu_model.specs.declared.request.StoreAnswer.TheVariants as answers
 use Rattle.apcu_model.specs.Cache.{Row, Cache, has_key}
 use Rattle.apcu_model.specs.Sequential.{touched, looked_up}
 use Rattle.entry_slots.specs.Entries.{Entries}
 use Rattle.entry_slots.specs.Standing.{entries}
-use Rattle.ttl_expunge.specs.Held.{AreRemoved, AreHeld, KeepsOpen}
+use Rattle.ttl_expunge.specs.Held.{KeepsOpen}
 use Rattle.cache_core.specs.declared.cache.Core.{Core}
 use Rattle.cache_core.specs.Caching.{cache_of}
-use Rattle.cache_core.specs.Storing.{IsEarly}
-use Rattle.counter_entry.specs.Generating.{makes_room, IsReady}
-
--- nothing is refused yet
-pub ready_fresh : (aside : Aside) (removed : List Row) → ((b : ℕ) → has b aside.refused ≡ false) → IsReady false aside removed
-ready_fresh aside removed fresh = record {
-  fresh = λ h. fresh;
-  held = λ h. absurd (false≢true h);
-  refused = record { each = λ b h. absurd (false≢true (sym (fresh b) ∙ h)) };
-}
-
--- after the first insertion
-pub ready_first : (answer : StoreAnswer) (old new : Aside) (removed : List Row) → ((b : ℕ) → has b old.refused ≡ false) → AreRemoved new removed → (IsEarly answer → new ≡ old)
-    → (answer ≢ answers.TooLarge → answer ≢ answers.Exists → AreHeld new removed) → IsReady (false || makes_room answer) new removed
-ready_first answers.TooLarge old new removed fresh refused early held = ready_fresh new removed (λ b. ap (λ (a : Aside). has b a.refused) (early (inl refl)) ∙ fresh b)
-ready_first answers.Exists old new removed fresh refused early held = ready_fresh new removed (λ b. ap (λ (a : Aside). has b a.refused) (early (inr refl)) ∙ fresh b)
-ready_first answers.NoRoom old new removed fresh refused early held = record {
-  fresh = λ h. absurd (false≢true (sym h));
-  held = λ h. held (λ e. absurd (cc e)) (λ e. absurd (cc e));
-  refused = refused;
-}
-ready_first answers.Stored old new removed fresh refused early held = record {
-  fresh = λ h. absurd (false≢true (sym h));
-  held = λ h. held (λ e. absurd (cc e)) (λ e. absurd (cc e));
-  refused = refused;
-}
-
--- after a later one
-pub ready_next : (answer : StoreAnswer) (new : Aside) (removed : List Row) → AreRemoved new removed → AreHeld new removed → IsReady (true || makes_room answer) new removed
-ready_next answer new removed refused held = record { fresh = λ h. absurd (false≢true (sym h)); held = λ h. held; refused = refused }
 
 -- rows under open windows stay through one step after the other
 pub open_then : {old mid new : Entries} {between after : Aside} → Goes between after → KeepsOpen between.windows old mid → KeepsOpen after.windows mid new → KeepsOpen after.windows old new
 open_then {between = between} {after} goes one two = record {
   each = λ row l named.
       let k = one.each row l (goes.closes row.place named) in
-      let j = two.each k.0 k.1.0 (subst (λ p. is_named after.windows p ≡ true) (sym k.1.1.0) named) in
-      (j.0, j.1.0, j.1.1.0 ∙ k.1.1.0, j.1.1.1 ∙ k.1.1.1);
+      let j = two.each k.0 k.1 (subst (λ p. is_named after.windows p ≡ true) (sym k.2) named) in
+      (j.0, j.1, j.2 ∙ k.2, j.3 ∙ k.3);
 }
 
 -- and through a look-up

@@ -1,12 +1,12 @@
 -- What the look-ups of several keys leave, and what storing under the first of them does.
-use Rattle.std.proofs.Common.{◌≡◌, ◌≢◌, ℕ, zero, suc, ◌+◌, ◌-◌, ◌≤◌, Bool, true, false, cond, List, [], ◌∷◌, length, take, Option, Some, None, refl, sym, ap, ◌∙◌, subst, arith}
+use Rattle.std.proofs.Common.{◌≡◌, ◌≢◌, ℕ, zero, suc, ◌+◌, ◌-◌, ◌≤◌, true, List, [], ◌∷◌, length, take, Option, Some, None, refl, sym, ap, ◌∙◌, arith}
 use Rattle.std.specs.Prelude.{is_some, option_map, if◌then◌else◌}
 use Rattle.php_graph.specs.declared.kind.Kind.{Kind}
 use Rattle.apcu_model.specs.declared.request.StoreAnswer.{StoreAnswer}
 use Rattle.apcu_model.specs.Cache.{Row, Cache}
-use Rattle.apcu_model.specs.Change.{Insertion, inserted}
+use Rattle.apcu_model.specs.Change.{inserted}
 use Rattle.apcu_model.specs.Expiry.{live_row}
-use Rattle.apcu_model.specs.Generators.{value_or, value_under, given_by, missed_levels, looked_for, Filling, filling_of, filled}
+use Rattle.apcu_model.specs.Generators.{given_by, missed_levels, looked_for, Filling, filling_of, filled, entered}
 use Rattle.apcu_model.specs.Levels.{EntryLevel, Generator}
 use Rattle.apcu_model.specs.Sequential.{looked_up}
 use Rattle.cache_core.specs.Noting.{with_misses}
@@ -107,40 +107,6 @@ few_missed (level ∷ levels) t c = go (live_row level.key t c) refl (few_missed
         let more : length (missed_levels (level ∷ levels) t c) ≡ suc (length (missed_levels levels t c)) = ap (λ (l : List EntryLevel). length l) (missed_next level levels t c e) in
         omega (arith, more, on)
 
--- one level more: its key has a live row ..
-pub record AreFound (level : EntryLevel) (inner : Generator) (t : ℕ) (c : Cache) (value : List Kind) (missing : ℕ) (at : Option ℕ) : Type 0 where
-  pub value_is : value ≡ value_under (level ∷ inner.levels) inner.literal t c
-  pub missing_is : missing ≡ length (missed_levels (level ∷ inner.levels) t c)
-  pub place_is : at ≡ place_under (level ∷ inner.levels) t c
-
-pub found_first : (level : EntryLevel) (inner : Generator) (t : ℕ) (c : Cache) (at : ℕ) (value : List Kind) → Some (at, value) ≡ option_map (λ (row : Row). (row.place, row.graph)) (live_row level.key t c) → AreFound level inner t c value 0 (Some at)
-found_first level inner t c at value h = go (live_row level.key t c) refl h
-  where
-    go : (o : Option Row) → live_row level.key t c ≡ o → Some (at, value) ≡ option_map (λ (row : Row). (row.place, row.graph)) o → AreFound level inner t c value 0 (Some at)
-    go None e q = absurd (cc q)
-    go (Some row) e q =
-        let pair : (at, value) ≡ (row.place, row.graph) = cc q in
-        record {
-          value_is = ap (λ (p : ℕ × List Kind). p.1) pair ∙ sym (ap (λ (o : Option Row). value_or o (value_under inner.levels inner.literal t c)) e);
-          missing_is = sym (ap (λ (l : List EntryLevel). length l) (missed_found level inner.levels t c row e));
-          place_is = ap (λ (p : ℕ × List Kind). Some p.0) pair ∙ sym (ap (λ (o : Option Row). option_map (λ (row : Row). row.place) (first_row o (row_under inner.levels t c))) e);
-        }
-
--- .. or none, and those further in are asked
-pub found_later : (level : EntryLevel) (inner : Generator) (t : ℕ) (c : Cache) (value : List Kind) (missing : ℕ) (at : Option ℕ) → None ≡ option_map (λ (row : Row). (row.place, row.graph)) (live_row level.key t c)
-    → value ≡ given_by inner t c → missing ≡ length (missed_levels inner.levels t c) → at ≡ place_under inner.levels t c → AreFound level inner t c value (missing + 1) at
-found_later level inner t c value missing at h v m p = go (live_row level.key t c) refl h
-  where
-    go : (o : Option Row) → live_row level.key t c ≡ o → None ≡ option_map (λ (row : Row). (row.place, row.graph)) o → AreFound level inner t c value (missing + 1) at
-    go (Some row) e q = absurd (cc q)
-    go None e q =
-        let more : length (missed_levels (level ∷ inner.levels) t c) ≡ suc (length (missed_levels inner.levels t c)) = ap (λ (l : List EntryLevel). length l) (missed_next level inner.levels t c e) in
-        record {
-          value_is = v ∙ sym (ap (λ (o : Option Row). value_or o (value_under inner.levels inner.literal t c)) e);
-          missing_is = omega (arith, m, more);
-          place_is = p ∙ sym (ap (λ (o : Option Row). option_map (λ (row : Row). row.place) (first_row o (row_under inner.levels t c))) e);
-        }
-
 -- several keys, the first and the others
 pub take_first : (n : ℕ) (level : EntryLevel) (levels : List EntryLevel) → n ≢ 0 → take n (level ∷ levels) ≡ level ∷ take (n - 1) levels
 take_first zero level levels some = absurd (some refl)
@@ -153,3 +119,11 @@ pub filled_first : (held : List ℕ) (value : List Kind) (t n : ℕ) (level : En
 filled_first held value t n level levels c mid new last answer some inner outer =
     ap (λ (l : List EntryLevel). filled held value t l c) (take_first n level levels some)
     ∙ (ap (λ (f : Filling). filling_of (inserted held level.key value level.ttl true t f.cache)) inner ∙ ap filling_of outer)
+
+-- the value is stored under the keys that missed
+pub filled_missed : (held : List ℕ) (g : Generator) (t : ℕ) (c looked : Cache) (value : List Kind) (missing : ℕ) → value ≡ given_by g t c → missing ≡ length (missed_levels g.levels t c) → looked ≡ looked_for g.levels t c
+    → entered held g t c ≡ filled held value t (take missing g.levels) looked
+filled_missed held g t c looked value missing value_is missing_is looked_is =
+    let missed : missed_levels g.levels t c ≡ take missing g.levels = sym (ap (λ k. take k g.levels) missing_is ∙ taken_missed g.levels t c) in
+    ap (λ (v : List Kind). filled held v t (missed_levels g.levels t c) (looked_for g.levels t c)) (sym value_is)
+    ∙ (ap (λ (l : List EntryLevel). filled held value t l (looked_for g.levels t c)) missed ∙ ap (λ (x : Cache). filled held value t (take missing g.levels) x) (sym looked_is))

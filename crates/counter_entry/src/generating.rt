@@ -1,7 +1,7 @@
 //! Values by generators: found under one of their keys, or made and stored under those that missed.
 
-ghost use Rattle.std.specs.Prelude.{◌≡◌, ℕ, ◌<◌, ◌≤◌, ◌^◌, ◌||◌, Bool, true, false, List, length, take};
-ghost use Rattle.std.specs.Prelude.{Some, IfSome, IfOk, OnOk, OnErr};
+ghost use Rattle.std.specs.Prelude.{◌≡◌, ℕ, ◌<◌, ◌≤◌, ◌^◌, ◌||◌, true, false, List, length, take};
+ghost use Rattle.std.specs.Prelude.{IfOk, OnOk, OnErr};
 ghost use Rattle.seg_words.specs.Kept.{Kept, KeptBeside};
 ghost use Rattle.seg_words.specs.Probing.{Goes};
 ghost use Rattle.seg_words.specs.Windows.{Aside, has, held_blocks};
@@ -27,7 +27,7 @@ use std::alloc::{AllocError, Global};
 
 // What the look-ups of a generator's keys come to.
 #[derive(Drop)]
-struct Source {
+struct Origin {
     // a copy of the value that it gives
     value: Graph,
     // how many of its keys missed, from outside in
@@ -38,7 +38,7 @@ struct Source {
 
 // What storing under a generator's keys has come to.
 #[derive(Clone, Copy)]
-struct Filling {
+struct Progress {
     // the last answer, if anything was to be stored
     last: Option<StoreAnswer>,
     // whether the removed rows were swept in this event
@@ -57,21 +57,22 @@ pub fn entry<S: Segment>(
     alloc: Global,
     core: &mut Core,
     seg: &mut S,
-    gen_: &Gen,
+    generator: &Gen,
     t: u64,
 ) -> Result<(Graph, Fate), AllocError>
-    requires levels { length gen_.now.levels ≤ 8 }
+    requires levels { length generator.now.levels ≤ 8 }
     requires stand { CacheStands S.WordsIn core.old seg.old }
     requires fresh { (b : ℕ) → has b (S.aside seg.old).refused ≡ false }
-    ensures value { IfOk result (λ r. r.0 ≡ given_by gen_.now t (cache_of core.old)) }
+    ensures value { IfOk result (λ r. r.0 ≡ given_by generator.now t (cache_of core.old)) }
     ensures fate { IfOk result (λ r. r.1 ≡ fate_of
-        (entered (held_blocks (S.aside seg.new)) gen_.now t (cache_of core.old)).outermost) }
+        (entered (held_blocks (S.aside seg.new)) generator.now t (cache_of core.old)).outermost) }
     ensures reply { IfOk result (λ r. Gave r.0
-        ≡ reply_to (held_blocks (S.aside seg.new)) t (Entry gen_.now) (cache_of core.old)) }
+        ≡ reply_to (held_blocks (S.aside seg.new)) t (Entry generator.now) (cache_of core.old)) }
     ensures cache { OnOk result (cache_of core.new
-        ≡ cache_after (held_blocks (S.aside seg.new)) t (Entry gen_.now) (cache_of core.old)) }
+        ≡ cache_after (held_blocks (S.aside seg.new)) t (Entry generator.now) (cache_of core.old)) }
     ensures later { OnOk result ((later : Aside) → Goes (S.aside seg.new) later
-        → cache_of core.new ≡ (entered (held_blocks later) gen_.now t (cache_of core.old)).cache) }
+        → cache_of core.new
+        ≡ (entered (held_blocks later) generator.now t (cache_of core.old)).cache) }
     ensures goes { Goes (S.aside seg.old) (S.aside seg.new) }
     ensures keeps { KeepsOpen (S.aside seg.new).windows
         (entries core.old.slots) (entries core.new.slots) }
@@ -81,10 +82,10 @@ pub fn entry<S: Segment>(
     ensures same { OnErr result (core.new ≡ core.old) }
     ensures kept { OnErr result (Kept S.WordsIn seg.old seg.new) }
 {
-    let source = look_through(alloc, core, seg, gen_, t)?;
-    note(core, seg, source.missing, source.at, t);
-    let filling = fill(core, seg, gen_, source.missing, &source.value, t);
-    Ok((source.value, fate(filling.last)))
+    let origin = look_through(alloc, core, seg, generator, t)?;
+    note(core, seg, origin.missing, origin.at, t);
+    let progress = fill(core, seg, generator, origin.missing, &origin.value, t);
+    Ok((origin.value, fate(progress.last)))
 }
 
 // Looks the keys of a generator up from outside in, as far as a row is found, and copies the value.
@@ -92,21 +93,22 @@ fn look_through<S: Segment>(
     alloc: Global,
     core: &Core,
     seg: &mut S,
-    gen_: &Gen,
+    generator: &Gen,
     t: u64,
-) -> Result<Source, AllocError>
-    requires levels { length gen_.now.levels < 2 ^ 32 }
+) -> Result<Origin, AllocError>
+    requires levels { length generator.now.levels < 2 ^ 32 }
     requires stand { CacheStands S.WordsIn core.now seg.old }
-    ensures value { IfOk result (λ r. r.value ≡ given_by gen_.now t (cache_of core.now)) }
+    ensures value { IfOk result (λ r. r.value ≡ given_by generator.now t (cache_of core.now)) }
     ensures missing { IfOk result (λ r. r.missing
-        ≡ length (missed_levels gen_.now.levels t (cache_of core.now))) }
-    ensures found { IfOk result (λ r. r.at ≡ place_under gen_.now.levels t (cache_of core.now)) }
+        ≡ length (missed_levels generator.now.levels t (cache_of core.now))) }
+    ensures found { IfOk result (λ r. r.at
+        ≡ place_under generator.now.levels t (cache_of core.now)) }
     ensures kept { Kept S.WordsIn seg.old seg.new }
 {
-    match gen_.kind() {
+    match generator.kind() {
         GenKind::Value(literal) => {
             let value = literal.try_copy(alloc)?;
-            Ok(Source {
+            Ok(Origin {
                 value,
                 missing: 0,
                 at: None,
@@ -114,17 +116,17 @@ fn look_through<S: Segment>(
         }
         GenKind::Entry(key, _, inner) => {
             if let Some((at, value)) = core.copy_live(alloc, seg, key.as_slice(), t)? {
-                return Ok(Source {
+                return Ok(Origin {
                     value,
                     missing: 0,
                     at: Some(at),
                 });
             }
-            let source = look_through(alloc, core, seg, inner, t)?;
-            Ok(Source {
-                value: source.value,
-                missing: source.missing + 1,
-                at: source.at,
+            let origin = look_through(alloc, core, seg, inner, t)?;
+            Ok(Origin {
+                value: origin.value,
+                missing: origin.missing + 1,
+                at: origin.at,
             })
         }
     }
@@ -138,6 +140,8 @@ fn note<S: Segment>(core: &mut Core, seg: &mut S, missing: u32, at: Option<u32>,
     ensures cache { (levels : List EntryLevel) → at ≡ place_under levels t (cache_of core.old)
         → missing ≡ length (missed_levels levels t (cache_of core.old))
         → cache_of core.new ≡ looked_for levels t (cache_of core.old) }
+    ensures keeps { (windows : List ℕ)
+        → KeepsOpen windows (entries core.old.slots) (entries core.new.slots) }
     ensures stand { CacheStands S.WordsIn core.new seg.new }
     ensures beside { KeptBeside S.WordsIn seg.old seg.new }
 {
@@ -151,16 +155,17 @@ fn note<S: Segment>(core: &mut Core, seg: &mut S, missing: u32, at: Option<u32>,
 fn fill<S: Segment>(
     core: &mut Core,
     seg: &mut S,
-    gen_: &Gen,
+    generator: &Gen,
     missing: u32,
     value: &Graph,
     t: u64,
-) -> Filling
-    requires missing { missing ≤ length gen_.now.levels }
+) -> Progress
+    requires missing { missing ≤ length generator.now.levels }
     requires stand { CacheStands S.WordsIn core.old seg.old }
     requires fresh { (b : ℕ) → has b (S.aside seg.old).refused ≡ false }
     ensures later { (later : Aside) → Goes (S.aside seg.new) later
-        → filled (held_blocks later) value.now t (take missing gen_.now.levels) (cache_of core.old)
+        → filled (held_blocks later) value.now t (take missing generator.now.levels)
+        (cache_of core.old)
         ≡ record { outermost = result.last; cache = cache_of core.new } }
     ensures goes { Goes (S.aside seg.old) (S.aside seg.new) }
     ensures keeps { KeepsOpen (S.aside seg.new).windows
@@ -170,20 +175,20 @@ fn fill<S: Segment>(
     ensures rest { S.rest seg.new ≡ S.rest seg.old }
 {
     if missing == 0 {
-        return Filling {
+        return Progress {
             last: None,
             swept: false,
         };
     }
-    match gen_.kind() {
-        GenKind::Value(_) => Filling {
+    match generator.kind() {
+        GenKind::Value(_) => Progress {
             last: None,
             swept: false,
         },
         GenKind::Entry(key, ttl, inner) => {
             let before = fill(core, seg, inner, missing - 1, value, t);
             let answer = insert(core, seg, key.as_slice(), value, *ttl, before.swept, t);
-            Filling {
+            Progress {
                 last: Some(answer),
                 swept: has_swept(before.swept, answer),
             }

@@ -99,21 +99,21 @@ fn told(value: &Graph) -> i64 {
 }
 
 // The generator of an entry of this key.
-fn generator(
+fn generator_of(
     rt: &impl Abort,
     alloc: Global,
     name: Bytes,
     inner: Inner,
     value: Value,
 ) -> Result<Gen, Fail> {
-    let mut gen_ = Gen::value(value_of(rt, alloc, value)?);
+    let mut generator = Gen::value(value_of(rt, alloc, value)?);
     if let Some(third) = inner.third {
-        gen_ = Gen::entry(key(alloc, third)?, inner.ttl, Box::new(alloc, gen_)?);
+        generator = Gen::entry(key(alloc, third)?, inner.ttl, Box::new(alloc, generator)?);
     }
     if let Some(second) = inner.second {
-        gen_ = Gen::entry(key(alloc, second)?, inner.ttl, Box::new(alloc, gen_)?);
+        generator = Gen::entry(key(alloc, second)?, inner.ttl, Box::new(alloc, generator)?);
     }
-    Ok(Gen::entry(name, inner.ttl, Box::new(alloc, gen_)?))
+    Ok(Gen::entry(name, inner.ttl, Box::new(alloc, generator)?))
 }
 
 // What the plain cache gives by a generator of which no key stands twice.
@@ -121,11 +121,11 @@ fn plainly_given(
     rt: &impl Abort,
     plain: &mut Plain,
     name: &[u8],
-    gen_: Gen,
+    generator: Gen,
     t: u64,
 ) -> Result<Answer, Fail> {
     let was_there = plain.exists(name, t);
-    let reply = plain.ask(&Request::Entry(gen_), t)?;
+    let reply = plain.ask(&Request::Entry(generator), t)?;
     let fate = if was_there {
         Fate::Found
     } else {
@@ -165,8 +165,8 @@ fn plainly(
         Act::Delete => Ok(Answer::Flag(plain.delete(key.as_slice(), t))),
         Act::Entry(inner, value) => {
             let name = Bytes::of(alloc, key.as_slice())?;
-            let gen_ = generator(rt, alloc, name, inner, value)?;
-            plainly_given(rt, plain, key.as_slice(), gen_, t)
+            let generator = generator_of(rt, alloc, name, inner, value)?;
+            plainly_given(rt, plain, key.as_slice(), generator, t)
         }
         Act::Inc(step, ttl) => Ok(Answer::Number(plain.inc(key.as_slice(), step, ttl, t)?)),
         Act::Cas(expect, set) => Ok(Answer::Flag(plain.cas(key.as_slice(), expect, set, t))),
@@ -226,10 +226,10 @@ impl Small {
         counted(inc(alloc, &mut self.core, &mut self.words, key, step, ttl, t))
     }
 
-    fn give(&mut self, alloc: Global, gen_: &Gen, t: u64) -> Result<Answer, Fail>
-        requires { length gen_.now.levels ≤ 8 }
+    fn give(&mut self, alloc: Global, generator: &Gen, t: u64) -> Result<Answer, Fail>
+        requires { length generator.now.levels ≤ 8 }
     {
-        let (value, fate) = entry(alloc, &mut self.core, &mut self.words, gen_, t)?;
+        let (value, fate) = entry(alloc, &mut self.core, &mut self.words, generator, t)?;
         Ok(Answer::Gave(told(&value), fate))
     }
 
@@ -266,8 +266,8 @@ impl Small {
             Act::Delete => Ok(Answer::Flag(self.core.delete(&mut self.words, name, t))),
             Act::Entry(inner, value) => {
                 let outer = Bytes::of(alloc, name)?;
-                let gen_ = generator(rt, alloc, outer, inner, value)?;
-                self.give(alloc, &gen_, t)
+                let generator = generator_of(rt, alloc, outer, inner, value)?;
+                self.give(alloc, &generator, t)
             }
             Act::Inc(step, ttl) => Ok(Answer::Number(self.count(alloc, key, (step, ttl), t))),
             Act::Cas(expect, set) => Ok(Answer::Flag(self.swap(key, expect, set, t))),
@@ -350,8 +350,16 @@ fn entry_of(name: u8, draw: u64) -> Act {
     let second = (name % 20 + 1 + ((draw >> 8) % 19) as u8) % 20;
     let third = 20 + ((draw >> 13) % 4) as u8;
     let inner = Inner {
-        second: if (draw >> 40) % 3 > 0 { Some(second) } else { None },
-        third: if (draw >> 42) % 3 > 0 { Some(third) } else { None },
+        second: if (draw >> 40) % 3 > 0 {
+            Some(second)
+        } else {
+            None
+        },
+        third: if (draw >> 42) % 3 > 0 {
+            Some(third)
+        } else {
+            None
+        },
         ttl,
     };
     if (draw >> 44) % 2 == 0 {

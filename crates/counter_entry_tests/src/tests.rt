@@ -119,9 +119,19 @@ fn gives_what_is_too_large(rt: HostRuntime) -> Result<(), Fail> {
         &rt,
         rt.alloc(),
         &[
-            (100, 1, Act::Entry(ALONE, Value::Text(3_729)), made(-3_729, false)),
+            (
+                100,
+                1,
+                Act::Entry(ALONE, Value::Text(3_729)),
+                made(-3_729, false),
+            ),
             (100, 1, Act::Exists, NO),
-            (100, 1, Act::Entry(ALONE, Value::Text(3_728)), made(-3_728, true)),
+            (
+                100,
+                1,
+                Act::Entry(ALONE, Value::Text(3_728)),
+                made(-3_728, true),
+            ),
             (100, 1, Act::Entry(ROUND_TWO, Value::Int(1)), found(-3_728)),
             (100, 2, Act::Entry(ALONE, Value::Int(1)), made(1, true)),
             (100, 1, Act::Exists, NO),

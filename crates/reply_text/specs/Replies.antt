@@ -1,6 +1,6 @@
 -- What a call prints for its own replies, in serialize notation.
 use Rattle.std.specs.Prelude.{ℕ, ◌+◌, Bool, true, false, if◌then◌else◌, List, [], ◌∷◌, ◌++◌, length}
-use Rattle.std.specs.Prelude.{map, codes, Option, Some, None, ℤ}
+use Rattle.std.specs.Prelude.{map, codes, Option, Some, None}
 use Rattle.std.specs.Fmt.{decimal}
 use Rattle.std.specs.Str.{bytes_eq}
 use Rattle.php_graph.specs.declared.kind.Kind.{Kind}
@@ -9,7 +9,7 @@ use Rattle.notation.specs.Keys.{written_key}
 use Rattle.php_graph.specs.Numbers.{int_of_text}
 use Rattle.apcu_model.specs.declared.request.Reply.{Reply}
 use Rattle.apcu_model.specs.declared.request.Reply.TheVariants.{Flag, Found, Absent, Number}
-use Rattle.apcu_model.specs.declared.request.Reply.TheVariants.{NoNumber, Gave, Info}
+use Rattle.apcu_model.specs.declared.request.Reply.TheVariants.{Gave, Info}
 
 -- ---- one reply
 

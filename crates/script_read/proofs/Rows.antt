@@ -183,18 +183,6 @@ entry_is last bytes =
     ∙ then_is (argument_at key bytes) _ _ (λ k. make_is (λ gen. may 0 ttl (λ t. calls (Entry (entry_round k.0 t gen)))) [] k.1 (λ gen. tt)
     ∙ then_is (gen_argument_at k.1) _ _ (λ gen. may_is 0 ttl (λ t. calls (Entry (entry_round k.0 t gen.0))) [] gen.1 (λ t. tt)))
 
--- the arguments were read one after the other
-pub entry_at_is : (last bytes k behind_key : List ℕ) (inner : Generator) (behind_gen : List ℕ) (t : ℕ) (behind_ttl after : List ℕ) (gen : Generator)
-    → argument_at key bytes ≡ Ok (k, behind_key) → gen_argument_at behind_key ≡ Ok (inner, behind_gen) → optional_at 0 ttl behind_gen ≡ Ok (t, behind_ttl) → end_at behind_ttl ≡ Ok after → entry_round k t inner ≡ gen
-    → rest_at entry_form last bytes ≡ Ok (Calls (Entry gen), after)
-entry_at_is last bytes k behind_key inner behind_gen t behind_ttl after gen e1 e2 e3 e4 is =
-    entry_is last bytes
-    ∙ (ap (λ (r : Result (List ℕ × List ℕ) Fault). r >>= λ k. gen_argument_at k.1 >>= λ gen. optional_at 0 ttl gen.1 >>= ended (λ t. Calls (Entry (entry_round k.0 t gen.0)))) e1
-    ∙ (ap (λ (r : Result (Generator × List ℕ) Fault). r >>= λ gen. optional_at 0 ttl gen.1 >>= ended (λ t. Calls (Entry (entry_round k t gen.0)))) e2
-    ∙ (ap (λ (r : Result (ℕ × List ℕ) Fault). r >>= ended (λ t. Calls (Entry (entry_round k t inner)))) e3
-    ∙ (ap (λ (r : Result (List ℕ) Fault). r >>= λ rest. Ok (Calls (Entry (entry_round k t inner)), rest)) e4
-    ∙ ap (λ (g : Generator). Ok (Calls (Entry g), after)) is))))
-
 pub key_info_is : (last bytes : List ℕ) → rest_at key_info_form last bytes ≡ (argument_at key bytes >>= ended (λ k. Calls (KeyInfo k)))
 unfolding rest_at
 key_info_is last bytes = needs_is key (λ k. calls (KeyInfo k)) last bytes (λ k. tt)

@@ -1,0 +1,14 @@
+use Rattle.std.proofs.Common.{◌≡◌}
+use Rattle.conf_read.specs.Options.{conf_of}
+use Rattle.apcu_play.proofs.Unmet.{unmet}
+use Rattle.apcu_play.proofs.running.outcome.Goals as goal
+
+-- where no memory was found for the words, it is not known what they call for
+pub returns-in-Err-Memory-clause-replayed : goal.returns-in-Err-Memory-clause-replayed
+returns-in-Err-Memory-clause-replayed g c = unmet _ (conf_of c.args.words.now) (λ is. cc)
+
+pub returns-in-Err-Memory-clause-too_many : goal.returns-in-Err-Memory-clause-too_many
+returns-in-Err-Memory-clause-too_many g c = unmet _ (conf_of c.args.words.now) (λ is. cc)
+
+pub returns-in-Err-Memory-clause-cut : goal.returns-in-Err-Memory-clause-cut
+returns-in-Err-Memory-clause-cut g c = unmet _ (conf_of c.args.words.now) (λ is. cc)
