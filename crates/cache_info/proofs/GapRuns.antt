@@ -1,12 +1,11 @@
 -- The gaps beside live blocks, from the first one on.
-use Rattle.std.proofs.Common.{◌≡◌, ◌∙◌, inl, inr, ℕ, zero, suc, ◌+◌, ◌-◌, ◌<◌, ◌≤◌, ◌==◌, ◌&&◌, Bool}
-use Rattle.std.proofs.Common.{true, false, cond, not, List, [], ◌∷◌, ◌++◌, map, filter, refl, sym, ap}
-use Rattle.std.proofs.Common.{subst, arith, Option, Some, None, append-nil}
+use Rattle.std.proofs.Common.{◌≡◌, ◌∙◌, inl, inr, ℕ, zero, suc, ◌+◌, ◌-◌, ◌<◌, ◌≤◌, ◌==◌, Bool}
+use Rattle.std.proofs.Common.{true, false, cond, List, [], ◌∷◌, filter, refl, sym, ap}
+use Rattle.std.proofs.Common.{subst, arith, Option, Some, None}
 use Rattle.std.specs.Prelude.{nat_le, find, option_map}
-use Rattle.std.specs.List.{count_by, list_all, range_with_len}
-use Rattle.std.proofs.lemmas.Bool.{cases_Bool, eqb-true}
+use Rattle.std.specs.List.{count_by, range_with_len}
+use Rattle.std.proofs.lemmas.Bool.{cases_Bool, eqb-true, ne_eqb}
 use Rattle.std.proofs.lemmas.Bool.Decides.{nat_tests}
-use Rattle.std.proofs.lemmas.List.{map-append}
 use Rattle.seg_words.specs.declared.extents.Extent.{Extent}
 use Rattle.seg_words.specs.Gaps.{meets, is_free, free_runs, runs_of, with_word}
 use Rattle.seg_words.specs.Members.{count-cons, filter_alike}
@@ -75,25 +74,29 @@ gap_here at lo hi (q ∷ rs) h r is = elim (cases_Bool (nat_le at q.place)) [
       let past : nat_le end q.place ≡ false = grind (arith, nat_tests, h.1) in
       let all = all_left at end hi rs (omega (arith, up)) h.2 in
       let later = all_left end end hi rs (omega arith) h.2 in
-      subst (λ x. (lo ≤ x.place) × IsNextGap at hi (q ∷ rs) x) same
-      (h.0, record {
-        left = rw (t, past) (ap (λ l. q ∷ l) (all ∙ sym later));
-        up = up;
-        some = h.1;
-        end = behind_end end hi rs h.2;
-      })
+      subst (λ x. (lo ≤ x.place) × IsNextGap at hi (q ∷ rs) x) same (
+        h.0,
+        record {
+          left = rw (t, past) (ap (λ l. q ∷ l) (all ∙ sym later));
+          up = up;
+          some = h.1;
+          end = behind_end end hi rs h.2;
+        },
+      )
   | inr f ↦
       let skipped : find (λ run. nat_le at run.place) (q ∷ rs)
-          ≡ find (λ run. nat_le at run.place) rs = rw f refl in
+      ≡ find (λ run. nat_le at run.place) rs = rw f refl in
       let i = gap_here at (q.place + q.size) hi rs h.2 r (sym skipped ∙ is) in
       let low : q.place < r.place + r.size = omega (arith, i.0, i.1.some) in
-      let past : nat_le (r.place + r.size) q.place ≡ false = grind (arith, nat_tests, low) in
-      (omega (arith, h.0, i.0), record {
-        left = rw (f, past) i.1.left;
-        up = i.1.up;
-        some = i.1.some;
-        end = i.1.end;
-      })
+      let past : nat_le (r.place + r.size) q.place ≡ false = grind (arith, nat_tests, low) in (
+        omega (arith, h.0, i.0),
+        record {
+          left = rw (f, past) i.1.left;
+          up = i.1.up;
+          some = i.1.some;
+          end = i.1.end;
+        },
+      )
 ]
 
 pub gaps_end : (at : ℕ) (rs : List Extent) → find (λ run. nat_le at run.place) rs ≡ None
@@ -105,9 +108,44 @@ gaps_end at (q ∷ rs) is = elim (cases_Bool (nat_le at q.place)) [
       absurd cc
   | inr f ↦
       let skipped : find (λ run. nat_le at run.place) (q ∷ rs)
-          ≡ find (λ run. nat_le at run.place) rs = rw f refl in
+      ≡ find (λ run. nat_le at run.place) rs = rw f refl in
       rw f (gaps_end at rs (sym skipped ∙ is))
 ]
+
+-- a gap as the allocator answers it
+abbrev pub pair_of : Extent → ℕ × ℕ
+pair_of run = (run.place, run.size)
+
+-- the gap that it finds is the next one
+pub gap_found : (at lo hi : ℕ) (rs : List Extent) → AreBehind lo hi rs → (gap : Extent)
+    → Some (pair_of gap) ≡ option_map pair_of (find (λ run. nat_le at run.place) rs)
+    → IsNextGap at hi rs gap
+gap_found at lo hi rs h gap is = go (find (λ run. nat_le at run.place) rs) refl is
+  where
+    go : (o : Option Extent) → find (λ run. nat_le at run.place) rs ≡ o
+        → Some (pair_of gap) ≡ option_map pair_of o → IsNextGap at hi rs gap
+    go None e found = absurd cc
+    go (Some r) e found =
+        let pairs : pair_of gap ≡ pair_of r = cc in
+        let same : gap ≡ r = λ i. record { place = (pairs i).0; size = (pairs i).1 } in
+        subst (λ x. IsNextGap at hi rs x) (sym same) (gap_here at lo hi rs h r e).1
+
+-- where it finds none, none is left
+pub gap_none : (at : ℕ) (rs : List Extent)
+    → ◌≡◌ {A = Option (ℕ × ℕ)} None (option_map pair_of (find (λ run. nat_le at run.place) rs))
+    → left_from at rs ≡ []
+gap_none at rs is = go (find (λ run. nat_le at run.place) rs) refl is
+  where
+    go : (o : Option Extent) → find (λ run. nat_le at run.place) rs ≡ o
+        → ◌≡◌ {A = Option (ℕ × ℕ)} None (option_map pair_of o) → left_from at rs ≡ []
+    go None e none = gaps_end at rs e
+    go (Some r) e none = absurd cc
+
+-- all gaps
+pub gaps_behind : (from to : ℕ) (es : List Extent)
+    → AreBehind from (from + (to - from)) (free_runs from to es)
+gaps_behind from to es =
+    runs_behind (λ w. is_free w 1 es) (to - from) from (from + (to - from)) (omega arith)
 
 -- ---- the same blocks in another order
 
@@ -118,12 +156,14 @@ free_count a n (e ∷ es) = elim (cases_Bool (meets a n e)) [
       let one : cond {A = ℕ} (meets a n e) 1 0 ≡ 1 = ap (λ b. cond {A = ℕ} b 1 0) t in
       let some : count_by (meets a n) (e ∷ es) ≡ suc (count_by (meets a n) es) =
       omega (arith, one, count-cons (meets a n) e es) in
-      rw (t, some) refl
+      let left : is_free a n (e ∷ es) ≡ false = rw t refl in
+      left ∙ sym (ne_eqb (count_by (meets a n) (e ∷ es)) 0 (λ z. omega (arith, z, some)))
   | inr f ↦
       let none : cond {A = ℕ} (meets a n e) 1 0 ≡ 0 = ap (λ b. cond {A = ℕ} b 1 0) f in
       let same : count_by (meets a n) (e ∷ es) ≡ count_by (meets a n) es =
       omega (arith, none, count-cons (meets a n) e es) in
-      rw (f, same) (free_count a n es)
+      let left : is_free a n (e ∷ es) ≡ is_free a n es = rw f refl in
+      left ∙ free_count a n es ∙ sym (ap (λ k. k == 0) same)
 ]
 
 free_alike : (xs ys : List Extent) → HaveSame xs ys → (a n : ℕ)

@@ -2,3 +2,5 @@ mod Walking
 mod GapRuns
 mod RowWords
 mod KeyBytes
+mod Listed
+mod Whole

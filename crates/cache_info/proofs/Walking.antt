@@ -1,9 +1,11 @@
 -- Walks along the entries of a list, by the place of each.
 use Rattle.std.proofs.Common.{◌≡◌, ◌≢◌, ◌∙◌, inl, inr, ℕ, zero, suc, ◌+◌, ◌≤◌, true, false, cond}
-use Rattle.std.proofs.Common.{List, [], ◌∷◌, ◌++◌, take, drop, refl, sym, ap, subst, arith}
+use Rattle.std.proofs.Common.{List, [], ◌∷◌, ◌++◌, length, take, drop, refl, sym, ap, subst, arith}
 use Rattle.std.proofs.lemmas.Bool.{eq-eqb, false≢true, or_left, or_right, cases_Bool}
 use Rattle.std.proofs.lemmas.Bool.{false_from_ne_true}
 use Rattle.std.proofs.lemmas.List.Elements.{Contains-append_left, Contains-append_right}
+use Rattle.std.proofs.lemmas.List.Sums.{length-filter, count_by-le-length}
+use Rattle.std.proofs.Math.ListN.{drop_of_length-le}
 use Rattle.std.specs.List.{Contains, count_by}
 use Rattle.seg_words.specs.Members.{count-cons, counted_some, Contains-first, Contains-later}
 use Rattle.seg_words.specs.Members.{Contains-filter, any_there, any_from}
@@ -67,8 +69,13 @@ next_is (f ∷ fs) back row one = elim (cases_Bool (is_at row.place f)) [
   | inl t ↦
       let here : cond {A = ℕ} (is_at row.place f) 1 0 ≡ 1 = ap (λ b. cond {A = ℕ} b 1 0) t in
       let member = Contains-append_right fs (row ∷ back) row (Contains-first row back) in
-      absurd (omega (arith, one, here, count-cons (is_at row.place) f (fs ++ row ∷ back),
-      counted_some (is_at row.place) (fs ++ row ∷ back) row member (eq-eqb row.place row.place refl)))
+      absurd (omega (
+        arith,
+        one,
+        here,
+        count-cons (is_at row.place) f (fs ++ row ∷ back),
+        counted_some (is_at row.place) (fs ++ row ∷ back) row member (eq-eqb row.place row.place refl),
+      ))
   | inr n ↦
       rw n (next_is fs back row (omega (arith, one, count-cons (is_at row.place) f (fs ++ row ∷ back))))
 ]
@@ -85,7 +92,7 @@ none_among at rows few among none =
 
 pub record IsHere (s : Entries) (rows : List Row) (passed at : ℕ) : Type 0 where
   pub left : IsLeft rows passed at
-  pub listed : IsListed s at left.row
+  pub member : IsListed s at left.row
   pub in_listed : has_place at (listed s) ≡ true
   pub in_rows : has_place at rows ≡ true
   pub next : place_after at rows ≡ first_place (drop (passed + 1) rows)
@@ -101,7 +108,7 @@ chain_here laws e words aside s slot passed at stand is some =
     let there = Contains-append_left s.rows s.removed left.row walk.there in
     record {
       left = left;
-      listed = record { there = there; place = left.place };
+      member = record { there = there; place = left.place };
       in_listed = any_from (is_at at) (s.rows ++ s.removed) left.row there (eq-eqb left.row.place at left.place);
       in_rows = any_from (is_at at) chain left.row left.there (eq-eqb left.row.place at left.place);
       next = sym (ap (λ n. place_after n chain) left.place) ∙ walk.next;
@@ -115,6 +122,20 @@ chain_end laws e words aside s slot passed stand is =
     (none_among 0 (listed s) (chain_of s slot)
     (λ row c. Contains-append_left s.rows s.removed row (Contains-filter (is_in_slot s.conf slot) s.rows row c).0)
     (laws.sound e words aside s stand).placed) is
+
+-- a chain is no longer than all rows
+pub chain_over : (s : Entries) (slot end passed : ℕ) → end ≡ length s.rows → end ≤ passed
+    → drop passed (chain_of s slot) ≡ []
+chain_over s slot end passed is over =
+    let short : length (chain_of s slot) ≤ passed =
+    omega (
+      arith,
+      is,
+      over,
+      length-filter (is_in_slot s.conf slot) s.rows,
+      count_by-le-length (is_in_slot s.conf slot) s.rows,
+    ) in
+    drop_of_length-le (chain_of s slot) short
 
 -- ---- removed rows
 
@@ -131,7 +152,7 @@ removed_here laws e words aside s passed at stand is some =
     let few = subst (λ l. count_by (is_at left.row.place) l ≤ 1) left.whole one in
     record {
       left = left;
-      listed = record { there = there; place = left.place };
+      member = record { there = there; place = left.place };
       in_listed = any_from (is_at at) (s.rows ++ s.removed) left.row there (eq-eqb left.row.place at left.place);
       in_rows = any_from (is_at at) s.removed left.row left.there (eq-eqb left.row.place at left.place);
       next = sym (ap (λ n. place_after n s.removed) left.place)

@@ -7,8 +7,8 @@ use Rattle.entry_slots.specs.Standing.{entries}
 use Rattle.cache_info.proofs.RowWords.{size_of}
 use Rattle.cache_info.proofs.rows.add_chain.Given as goal
 
-abbrev pub invariant-loop-_passed : goal.invariant-loop-_passed
-invariant-loop-_passed g l = record {
+abbrev pub invariant-loop-passed : goal.invariant-loop-passed
+invariant-loop-passed g l = record {
   at : l.at ≡ first_place (drop l._passed (chain_of (entries l.slots) l.slot));
   words : min (l.sum + sum_by size_of (drop l._passed (chain_of (entries l.slots) l.slot))) (2 ^ 64 - 1)
       ≡ min (l.words + sum_by size_of (chain_of (entries l.slots) l.slot)) (2 ^ 64 - 1);

@@ -6,8 +6,8 @@ use Rattle.entry_slots.specs.Entries.{chain_of}
 use Rattle.entry_slots.specs.Standing.{entries}
 use Rattle.cache_info.proofs.rows.list_chain.Given as goal
 
-abbrev pub invariant-loop-_passed : goal.invariant-loop-_passed
-invariant-loop-_passed g l = record {
+abbrev pub invariant-loop-passed : goal.invariant-loop-passed
+invariant-loop-passed g l = record {
   at : l.at ≡ first_place (drop l._passed (chain_of (entries l.slots) l.slot));
   rows : l.list.items ++ map listed_of (drop l._passed (chain_of (entries l.slots) l.slot))
       ≡ l.initial.list.items ++ map listed_of (chain_of (entries l.slots) l.slot);

@@ -5,13 +5,13 @@ use Rattle.sma_blocks.specs.Live.{live_blocks}
 use Rattle.cache_info.proofs.GapRuns.{left_from}
 use Rattle.cache_info.proofs.segment.list_gaps.Given as goal
 
-abbrev pub invariant-loop-from : goal.invariant-loop-from
-invariant-loop-from g l = record {
+abbrev pub invariant-loop-place : goal.invariant-loop-place
+invariant-loop-place g l = record {
   gaps : l.list.items ++ left_from l.from (free_runs l.sma.from l.sma.to (live_blocks (g.S.WordsIn.words l.fn.seg) l.sma.from))
       ≡ free_runs l.sma.from l.sma.to (live_blocks (g.S.WordsIn.words l.fn.seg) l.sma.from);
   low : l.from ≤ l.sma.from + (l.sma.to - l.sma.from);
   kept : Kept g.S.WordsIn l.fn.seg l.seg;
 }
 
-abbrev pub decreases-loop-from : goal.decreases-loop-from
-decreases-loop-from g l = l.sma.from + (l.sma.to - l.sma.from) - l.from
+abbrev pub decreases-loop-place : goal.decreases-loop-place
+decreases-loop-place g l = l.sma.from + (l.sma.to - l.sma.from) - l.from
