@@ -1,0 +1,6 @@
+mod Walking
+mod GapRuns
+mod RowWords
+mod KeyBytes
+mod Listed
+mod Whole

@@ -1,6 +1,6 @@
 -- What the crates below promise of all entries, gathered: see their public laws.
-use Rattle.std.specs.Prelude.{◌≡◌, ◌≢◌, ℕ, ◌<◌, ◌≤◌, ◌+◌, true, List, ◌∷◌, ◌++◌, length, take}
-use Rattle.std.specs.Prelude.{Contains}
+use Rattle.std.specs.Prelude.{◌≡◌, ℕ, true, List, ◌∷◌, ◌++◌, length, take}
+use Rattle.seg_words.specs.Layout.{words_in}
 use Rattle.seg_words.specs.Windows.{Aside}
 use Rattle.php_graph.specs.ByteStrings.{AreBytes}
 use Rattle.value_image.specs.Packed.{words_of, bytes_of}
@@ -23,5 +23,6 @@ pub record InfoLaws : Type 0 where
       (front : List Row) (row : Row) (back : List Row) → Stands e words aside s
       → chain_of s slot ≡ front ++ row ∷ back → IsAtRow s slot front row back
   -- bytes come back from their words
+  pub packed : (bytes : List ℕ) → length (words_of bytes) ≡ words_in (length bytes)
   pub back : (bytes rest : List ℕ) → AreBytes bytes
       → take (length bytes) (bytes_of (words_of bytes ++ rest)) ≡ bytes

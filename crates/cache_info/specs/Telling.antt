@@ -1,6 +1,5 @@
 -- What is told of an entry by its first words.
 use Rattle.apcu_model.specs.declared.noted.Noted.{Noted}
-use Rattle.apcu_model.specs.Cache.{Row}
 use Rattle.entry_slots.specs.declared.head.Head.{Head}
 
 -- what they say beside the key and the value

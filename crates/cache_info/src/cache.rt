@@ -39,9 +39,9 @@ pub fn cache_info<S: Segment>(
     let slots = core.slots();
     let words = words_of(slots, seg);
     if limited {
-        return tell_counts(alloc, conf, counts, words);
+        return Ok(tell_counts(alloc, conf, counts, words)?);
     }
     let rows = list_rows(alloc, slots, seg)?;
     let removed = list_removed(alloc, slots, seg)?;
-    tell_cache(alloc, conf, counts, words, rows, removed)
+    Ok(tell_cache(alloc, conf, counts, words, rows, removed)?)
 }

@@ -21,16 +21,13 @@ use sma_blocks::Sma;
 use std::alloc::{AllocError, Global};
 
 // The gaps, by rising place.
-fn list_gaps<S: Segment>(
-    alloc: Global,
-    sma: &Sma,
-    seg: &mut S,
-) -> Result<Vec<Extent>, AllocError>
+fn list_gaps<S: Segment>(alloc: Global, sma: &Sma, seg: &mut S) -> Result<Vec<Extent>, AllocError>
     requires ready { IsReady sma.now (S.words seg.old) (S.aside seg.old) }
     ensures gaps { IfOk result (λ list. list.items ≡ free_runs sma.now.from sma.now.to
         (live_blocks (S.words seg.old) sma.now.from)) }
     ensures kept { Kept S.WordsIn seg.old seg.new }
 {
+    let (_from, _to) = (sma.from, sma.to);
     let mut list = Vec::new(alloc);
     let mut from = 0;
     while let Some((place, size)) = sma.gap_from(seg, from) {
@@ -62,8 +59,8 @@ pub fn sma_info<S: Segment>(
     let sma = core.slots().sma();
     let free = sma.free_words(seg);
     if limited {
-        return tell_words(alloc, words, free);
+        return Ok(tell_words(alloc, words, free)?);
     }
     let gaps = list_gaps(alloc, sma, seg)?;
-    tell_gaps(alloc, words, free, &gaps)
+    Ok(tell_gaps(alloc, words, free, &gaps)?)
 }
