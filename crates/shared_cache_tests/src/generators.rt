@@ -51,6 +51,13 @@ fn give<N: TableName, R: Wait>(
     }
 }
 
+fn number_in(scalar: Scalar) -> Option<i64> {
+    match scalar {
+        Scalar::Int(n) => Some(n),
+        Scalar::Null | Scalar::Bool(_) => None,
+    }
+}
+
 // The integer that a fetch finds.
 fn fetched<N: TableName, R: Wait>(
     rt: &R,
@@ -67,8 +74,8 @@ fn fetched<N: TableName, R: Wait>(
     ensures left { result.0.known.left + 1 ≡ pass.known.left }
 {
     match shared.pin(rt, pass, key, 6) {
-        Pinned::Scalar(pass, Scalar::Int(n)) => (pass, Some(n)),
-        Pinned::Scalar(pass, Scalar::Null | Scalar::Bool(_)) | Pinned::Miss(pass) => (pass, None),
+        Pinned::Scalar(pass, scalar) => (pass, number_in(scalar)),
+        Pinned::Miss(pass) => (pass, None),
         Pinned::Hit(copying) => {
             let (pass, _) = shared.copy_out(alloc, copying);
             (pass, None)
