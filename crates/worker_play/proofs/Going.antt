@@ -1,6 +1,6 @@
 -- Passes after some events.
 use Rattle.std.proofs.Common.{◌≡◌, ℕ, Bool, true, false, cond, List, [], ◌∷◌, ◌++◌, length, map, refl, sym, ap, ap₂, subst, ◌∙◌, append_assoc, length-append, arith}
-use Rattle.std.specs.Prelude.{◌==◌, Result, Ok, Err, OnOk}
+use Rattle.std.specs.Prelude.{◌==◌, Result, Ok, Err, IfOk, OnOk}
 use mathlib.Core.List.{IsPrefix}
 use Rattle.std.proofs.lemmas.Bool.{eq-eqb}
 use Rattle.std.proofs.lemmas.List.{append-nil, map-append}
@@ -107,6 +107,13 @@ tells_reach conf workers p q ws rs g = record { made = ws; later = []; parts = a
 pub on_ok : {X E P Q : Type 0} (r : Result X E) → (P → Q) → OnOk r P → OnOk r Q
 on_ok (Ok x) f p = f p
 on_ok (Err e) f p = tt
+
+pub if_ok : {X E : Type 0} {P Q : X → Type 0} (r : Result X E) → ((x : X) → P x → Q x) → IfOk r P → IfOk r Q
+if_ok (Ok x) f p = f x p
+if_ok (Err e) f p = tt
+
+pub of_if_ok : {X E : Type 0} (P : X → Type 0) (r : Result X E) (x : X) → r ≡ Ok x → IfOk r P → P x
+of_if_ok {X} {E} P r x is p = subst (λ (r : Result X E). IfOk r P) is p
 
 pub of_ok : {X E P : Type 0} (r : Result X E) (x : X) → r ≡ Ok x → OnOk r P → P
 of_ok {X} {E} {P} r x is p = subst (λ (r : Result X E). OnOk r P) is p
