@@ -5,6 +5,7 @@ ghost use Rattle.std.specs.Prelude.{vec_capacity, Some};
 ghost use Rattle.std.specs.Thread.{IsSync};
 ghost use Rattle.script_read.specs.Calls.{event_bound};
 ghost use Rattle.pin_table.specs.Lists.{fresh};
+ghost use Rattle.script_read.specs.contracts.script.Scripts as kept_scripts;
 ghost use Rattle.crew_play.specs.Budgets.{budgets_of};
 ghost use Rattle.crew_play.specs.Crew.{AllEnd};
 ghost use Rattle.worker_play.specs.Ends.{Ends};
@@ -74,6 +75,7 @@ pub(crate) fn play_crew<N: TableName + Send + Sync, G: Gate + Sync, R: Threads +
     if count == 0 {
         return (ended, texts);
     }
+    scripts_cross();
     let before = count - 1;
     let (pass, script) = last_worker::<N>(&mut passes, scripts, count);
     let (front, last) = join(
@@ -109,3 +111,8 @@ pub(crate) fn play_crew<N: TableName + Send + Sync, G: Gate + Sync, R: Threads +
     texts.push_reserved(text);
     (ended, texts)
 }
+
+// Scripts may be read on any thread. The proof that a crew is played on threads of its own cites it.
+fn scripts_cross()
+    ensures { IsSync kept_scripts.the_row }
+{}
