@@ -51,19 +51,21 @@ function measure(int $rows): void
     for ($i = 0; $i < $rows; $i++) {
         apcu_store('k' . (FIRST + $i), match ($i % 10) { 0 => $eight, 1 => $hundred, default => true });
     }
-    $few = shuffled(0, $rows);
-    $many = shuffled(1, $rows);
     $nothing = loop("'k' . \$i");
     $fetch = loop("apcu_fetch('k' . \$i)");
     $exists = loop("apcu_exists('k' . \$i)");
     $store = loop("apcu_store('k' . \$i, \$value)");
     $add = loop("apcu_add('k' . \$i, \$value)");
+    $entry = loop("apcu_entry('k' . \$i, \$value)");
+    $make = fn() => $eight;
     $delete = loop("apcu_delete('k' . \$i)");
     $inc = loop("apcu_inc('k' . \$i)");
     $dec = loop("apcu_dec('k' . \$i)");
     $cas = loop("apcu_cas('k' . \$i, 7, 7)");
     $times = 3 + intdiv(200000, $rows);
     for ($time = 0; $time < $times; $time++) {
+        $few = shuffled(0, $rows);
+        $many = shuffled(1, $rows);
         report('nothing', $few, $nothing);
         report('fetch_8', $few, $fetch);
         report('fetch_100', $many, $fetch);
@@ -78,11 +80,15 @@ function measure(int $rows): void
         report('store_100', $many, $store, $hundred);
         report('delete_8', $few, $delete);
         report('add_8', $few, $add, $eight);
+        report('entry_there', $few, $entry, $make);
+        report('delete_8', $few, $delete);
+        report('entry_8', $few, $entry, $make);
     }
     foreach ($few as $batch) {
         $store($batch, 7);
     }
     for ($time = 0; $time < $times; $time++) {
+        $few = shuffled(0, $rows);
         report('fetch_int', $few, $fetch);
         report('cas', $few, $cas);
         report('inc', $few, $inc);

@@ -1,11 +1,12 @@
 #!/usr/bin/env bash
 # Nanoseconds a call of the cache over words in memory at 1,000, 100,000 and 1,000,000 rows, with as many slots; beside
 # it in the same run PHP's APCu where it is installed, with as many. Of ten rows one has a text of 8 bytes, one a text
-# of 100, and eight a truth value; the calls go over all keys of a text, in a random order. `replace` stores over a row,
-# `store` and `add` make one; `add_there` finds a row and answers false, `exists_not` finds none. A fetch copies the
-# text out, `fetch_int` answers an integer. Each figure is the least of the batches of 10,000 calls or less of several
-# runs of both, without what a loop takes that makes the key alone. Then milliseconds of dropping 100,000 rows that
-# fill a cache: by a clear, and by a store that finds no room while all rows' time is over.
+# of 100, and eight a truth value; the calls go over all keys of a text, each time in another random order. `replace`
+# stores over a row, `store` and `add` make one; `add_there` finds a row and answers false, `exists_not` finds none. A
+# fetch copies the text out, `fetch_int` answers an integer. An entry finds a row (`entry_there`) or makes one; its
+# generator is made for each call, where PHP's is a closure that is there. Each figure is the least of the batches of
+# 10,000 calls or less of several runs of both, without what a loop takes that makes the key alone. Then milliseconds of
+# dropping 100,000 rows that fill a cache: by a clear, and by a store that finds no room while all rows' time is over.
 # Usage: bench/cache/run.sh [PROGRAM [RUNS [ROWS..]]], where PROGRAM is the built cache_bench.
 set -eu
 here=$(cd "$(dirname "${BASH_SOURCE[0]}")" && pwd)

@@ -4,7 +4,9 @@ use Rattle.std.specs.Fmt.{decimal}
 use Rattle.notation.specs.declared.fault.Reason.{Reason}
 use Rattle.notation.specs.declared.fault.Reason.TheVariants as reasons
 use Rattle.apcu_play.specs.declared.status.Status.{Status}
-use Rattle.apcu_play.specs.declared.status.Status.TheVariants.{Done, Usage, Script, ReadFault, WriteFault, NoMemory, TooLong, TooMany}
+use Rattle.apcu_play.specs.declared.status.Status.TheVariants.{Done, Usage, Script, ReadFault}
+use Rattle.apcu_play.specs.declared.status.Status.TheVariants.{WriteFault, NoMemory, TooLong}
+use Rattle.apcu_play.specs.declared.status.Status.TheVariants.{TooMany}
 
 abbrev pub code_of : Status → ℕ
 code_of Done = 0

@@ -1,13 +1,15 @@
 -- What a run promises. `left` is what a source has left, `held` what a sink holds, before and after
 -- the run; a source or a sink may not tell.
-use Rattle.std.specs.Prelude.{◌≡◌, ◌⊎◌, Bool, true, false, ℕ, ◌<◌, ◌≤◌, List, length, take, Option, Some}
+use Rattle.std.specs.Prelude.{◌≡◌, ◌⊎◌, Bool, true, false, ℕ, ◌<◌, ◌≤◌, List, length, take, Option}
+use Rattle.std.specs.Prelude.{Some}
 use Rattle.std.specs.Io.KnownBytes.{prepend_known, append_known, IsAtEnd}
 use Rattle.io_edges.specs.Faults.{Rose}
 use Rattle.apcu_model.specs.declared.conf.Conf.{Conf}
 use Rattle.apcu_model.specs.declared.journal.Mark.{Mark}
 use Rattle.script_read.specs.declared.script.Step.{Step}
 use Rattle.apcu_play.specs.declared.status.Status.{Status}
-use Rattle.apcu_play.specs.declared.status.Status.TheVariants.{Done, Script, NoMemory, TooLong, TooMany}
+use Rattle.apcu_play.specs.declared.status.Status.TheVariants.{Done, Script, NoMemory, TooLong}
+use Rattle.apcu_play.specs.declared.status.Status.TheVariants.{TooMany}
 use Rattle.notation.specs.declared.fault.Reason.{Reason}
 use Rattle.script_read.specs.Gives.{IsFirstScriptFault}
 use Rattle.apcu_play.specs.Message.{script_message}

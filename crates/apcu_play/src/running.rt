@@ -1,4 +1,5 @@
-ghost use Rattle.std.specs.Prelude.{◌≡◌, ◌≢◌, ◌⊎◌, ◌+◌, ◌<◌, ◌≤◌, ℕ, List, length, Some, None, IfOk, IfErr, IfSome, OnErr, IsErrOf, Err};
+ghost use Rattle.std.specs.Prelude.{◌≡◌, ◌≢◌, ◌⊎◌, ◌+◌, ◌<◌, ◌≤◌, ℕ, List, length, Some, None};
+ghost use Rattle.std.specs.Prelude.{IfOk, IfErr, IfSome, OnErr, IsErrOf, Err};
 ghost use Rattle.std.specs.Io.KnownBytes.{prepend_known, append_known, IsAtEnd};
 ghost use Rattle.io_edges.specs.Faults.{Rose};
 ghost use Rattle.io_edges.specs.Reading.{HasTaken};
@@ -6,7 +7,9 @@ ghost use Rattle.apcu_model.specs.Conf.{IsGood};
 ghost use Rattle.script_read.specs.Gives.{IsFirstScriptFault, ReadsScripts};
 ghost use Rattle.apcu_play.specs.Message.{message_of, script_message};
 ghost use Rattle.conf_read.specs.Options.{conf_of};
-ghost use Rattle.apcu_play.specs.Run.{longest_input, WasRead, AnswersInput, Replays, ReplaysPart, IsRefusedAt, IsRefused, IsCrowded, TellsMessage, TellsRefusal, IsUnlessMemory, Completes};
+ghost use Rattle.apcu_play.specs.Run.{longest_input, WasRead, AnswersInput, Replays, ReplaysPart};
+ghost use Rattle.apcu_play.specs.Run.{IsRefusedAt, IsRefused, IsCrowded, TellsMessage};
+ghost use Rattle.apcu_play.specs.Run.{TellsRefusal, IsUnlessMemory, Completes};
 
 use crate::messages::{tell, tell_fault};
 use crate::play::play;
@@ -217,20 +220,19 @@ fn tell_ending<E: Sink>(err: &mut E, ending: Ending)
 }
 
 /// Plays the scripts of `input`, each worker on a thread of its own, and prints on `out` what each
-/// worker's calls answer and the journal: the order in which the calls took effect. What went wrong is told on `err`, a line.
+/// worker's calls answer and the journal: the order in which the calls took effect. What went wrong
+/// is told on `err`, a line.
 ///
-/// `words` are the program's words with its name first: the name alone, or the name and then
-/// exactly `--shm-size`, SIZE, `--slots`, N, `--ttl`, N. SIZE is one to ten digits with at most one
-/// of `K`, `M`, `G`, `k`, `m` and `g` behind them, a multiple of 16 bytes from 256 to 134,217,728
-/// (PHP's `apc.shm_size`, 32M where it is left out); the slots an even number from 2 to 1,048,576
-/// that leaves 16 of the segment's words of 8 bytes (4096); the last the seconds of PHP's `apc.ttl`
-/// (0). A script's calls are those of PHP's APCu functions, one on a line, with their arguments in
-/// PHP's serialize notation.
+/// `words` are the program's words with its name first. They call for a cache as
+/// `conf_read::read_conf` reads them: `--shm-size` (PHP's `apc.shm_size`, 32M where it is left
+/// out), `--slots` (4096) and `--ttl` (the seconds of PHP's `apc.ttl`, 0), in any order, each at
+/// most once. A script's calls are those of PHP's APCu functions, one on a line, with their
+/// arguments in PHP's serialize notation.
 ///
-/// Whatever the scripts and however the workers meet, each reply printed is the one that a cache of one thread gives at that
-/// call's place in the printed journal (`replayed`). Every other status has its cause in a clause
-/// of its own, and leaves `out` as it was, but for `WriteFault`, which leaves the first of what was
-/// to be printed.
+/// Whatever the scripts and however the workers meet, each reply printed is the one that a cache of
+/// one thread gives at that call's place in the printed journal (`replayed`). Every other status
+/// has its cause in a clause of its own, and leaves `out` as it was, but for `WriteFault`, which
+/// leaves the first of what was to be printed.
 pub fn run<R: Threads + Wait + Sync, S: Source, K: Sink, E: Sink, G: Gate + Sync>(
     rt: &R,
     alloc: Global,

@@ -1,14 +1,16 @@
 //! The cache that is measured, and its calls.
 
+ghost use Rattle.std.specs.Prelude.{◌≤◌, length, IfSome};
 ghost use Rattle.apcu_model.specs.Conf.{IsGood};
 
 use crate::clock::since;
 use crate::keys::{FIRST, key_of};
-use apcu_model::{Conf, StoreAnswer};
+use crate::values::Values;
+use apcu_model::{Conf, Gen, StoreAnswer};
 use cache_core::{Core, Look};
-use counter_entry::{IncAnswer, cas, inc};
+use counter_entry::{Fate, IncAnswer, cas, entry, inc};
 use max_tree::MaxRow;
-use php_graph::{Graph, Kind};
+use php_graph::{Bytes, Graph, Kind};
 use seg_words::{VecWords, WordsIn};
 use std::alloc::{AllocError, Global};
 use std::io;
@@ -35,6 +37,8 @@ pub enum Act<'a> {
     Inc(i64),
     /// Sets the integer that it expects.
     Cas(i64),
+    /// Gives this value where no row is found, and stores it. The generator is made for the call.
+    Entry(&'a Graph),
 }
 
 /// What was measured of calls of one kind.
@@ -51,6 +55,15 @@ pub struct Pass {
 pub struct WordCache {
     words: VecWords,
     core: Core,
+}
+
+// The entry of a key that gives this value; `None` where memory is missing.
+fn generator(alloc: Global, key: &[u8; 8], value: &Graph) -> Option<Gen>
+    ensures { IfSome result (λ generator. length generator.levels ≤ 8) }
+{
+    let inner = Gen::value(value.try_copy(alloc).ok()?);
+    let key = Bytes::of(alloc, key).ok()?;
+    Some(Gen::entry(key, 0, Box::new(alloc, inner).ok()?))
 }
 
 impl Model for WordCache {
@@ -99,6 +112,18 @@ impl WordCache {
         }
     }
 
+    // Whether the value is found, or made and stored.
+    fn entry(&mut self, alloc: Global, key: &[u8; 8], value: &Graph, t: u64) -> bool {
+        let Some(generator) = generator(alloc, key, value) else {
+            return false;
+        };
+        match entry(alloc, &mut self.core, &mut self.words, &generator, t) {
+            Ok((_, Fate::Found)) => true,
+            Ok((_, Fate::Made { stored })) => stored,
+            Err(_) => false,
+        }
+    }
+
     /// One call at the moment `t`; whether the row is there, or was taken.
     pub fn call(&mut self, alloc: Global, key: &[u8; 8], act: Act<'_>, t: u64) -> bool {
         let (core, words) = (&mut self.core, &mut self.words);
@@ -119,6 +144,7 @@ impl WordCache {
                 _ => false,
             },
             Act::Cas(expect) => cas(core, words, key, expect, expect, t),
+            Act::Entry(value) => self.entry(alloc, key, value, t),
         }
     }
 
@@ -157,21 +183,19 @@ impl WordCache {
         Ok(Pass { time, answers })
     }
 
-    /// Stores rows under the first so many keys: of each `step` one has the first value, one the
-    /// second, and the others have the third.
-    pub fn fill(
-        &mut self,
-        alloc: Global,
-        rows: u32,
-        step: u32,
-        values: [&Graph; 3],
-        ttl: u32,
-        t: u64,
-    ) {
+    /// Stores rows under the first so many keys: of each `step` the first has the short text, the
+    /// second the long one, and the others have the truth value.
+    pub fn fill(&mut self, alloc: Global, rows: u32, step: u32, values: &Values, ttl: u32, t: u64)
+        requires { 1 ≤ step }
+    {
         for i in 0..rows {
-            let which = (i % step).min(2) as usize;
+            let value = match i % step {
+                0 => &values.short,
+                1 => &values.long,
+                _ => &values.truth,
+            };
             let key = key_of(FIRST.wrapping_add(i));
-            let _stored = self.call(alloc, &key, Act::Store(values[which], ttl, false), t);
+            let _stored = self.call(alloc, &key, Act::Store(value, ttl, false), t);
         }
     }
 }

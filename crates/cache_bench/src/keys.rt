@@ -1,6 +1,6 @@
 //! Keys of eight bytes, by their numbers.
 
-ghost use Rattle.std.specs.Prelude.{◌≡◌, length};
+ghost use Rattle.std.specs.Prelude.{◌≡◌, ◌≤◌, length};
 
 use std::alloc::{AllocError, Global};
 
@@ -18,27 +18,29 @@ pub fn key_of(number: u32) -> [u8; 8] {
     key
 }
 
-/// Every so many numbers of the first so many keys, in a random order.
-pub fn shuffled(alloc: Global, from: u32, rows: u32, step: u32) -> Result<Vec<u32>, AllocError> {
+/// The numbers of every so many of the first so many keys, from one of them on.
+pub fn numbers(alloc: Global, from: u32, rows: u32, step: u32) -> Result<Vec<u32>, AllocError>
+    requires { 1 ≤ step }
+{
     let mut numbers = Vec::new(alloc);
     for i in 0..rows {
         if i % step == from {
             numbers.push(FIRST.wrapping_add(i))?;
         }
     }
-    shuffle(numbers.as_mut_slice());
     Ok(numbers)
 }
 
-// Brings numbers into a random order.
-fn shuffle(numbers: &mut [u32])
+/// Brings numbers into a random order, and says the next state of the random numbers.
+pub fn shuffle(numbers: &mut [u32], first: u64) -> u64
     ensures { length numbers.new ≡ length numbers.old }
 {
-    let mut state = 1;
+    let mut state = first;
     for i in 0..numbers.len() {
         state = drawn(state);
         numbers.swap(i, (state >> 33) as usize % (i + 1));
     }
+    state
 }
 
 // The next number of a linear congruential generator.

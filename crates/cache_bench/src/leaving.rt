@@ -3,8 +3,8 @@
 use crate::cache::{Act, WordCache};
 use crate::clock::since;
 use crate::keys::{FIRST, key_of};
+use crate::values::Values;
 use apcu_model::Conf;
-use php_graph::Graph;
 use std::io;
 use std::time::Instant;
 
@@ -26,7 +26,7 @@ fn shape(rows: u32) -> Conf {
 pub fn measure_leaving(
     rt: &HostRuntime,
     rows: u32,
-    value: &Graph,
+    values: &Values,
     times: u32,
     is_loud: bool,
 ) -> io::Result<()> {
@@ -37,15 +37,15 @@ pub fn measure_leaving(
     }
     let mut cache = WordCache::new(alloc, &conf)?;
     for _ in 0..times {
-        cache.fill(alloc, conf.slots, 1, [value, value, value], 1, 1000);
+        cache.fill(alloc, conf.slots, 1, values, 1, 1000);
         let rows = cache.rows();
         let start = Instant::now(rt)?;
         cache.clear(1000);
         let cleared = since(rt, start)?;
-        cache.fill(alloc, conf.slots, 1, [value, value, value], 1, 1000);
+        cache.fill(alloc, conf.slots, 1, values, 1, 1000);
         let key = key_of(FIRST - 1);
         let start = Instant::now(rt)?;
-        let _stored = cache.call(alloc, &key, Act::Store(value, 0, false), 2000);
+        let _stored = cache.call(alloc, &key, Act::Store(&values.short, 0, false), 2000);
         let expired = since(rt, start)?;
         let left = cache.rows();
         cache.clear(2000);

@@ -10,10 +10,12 @@ mod clock;
 mod keys;
 mod leaving;
 mod staying;
+mod steps;
 mod values;
 
 use crate::leaving::measure_leaving;
 use crate::staying::measure_staying;
+use crate::values::Values;
 use std::{env, io};
 
 fn main(rt: HostRuntime) -> io::Result<()> {
@@ -21,27 +23,21 @@ fn main(rt: HostRuntime) -> io::Result<()> {
     let _program = args.next();
     let what = args.next();
     let count = args.next();
-    let alloc = rt.alloc();
-    let (Some(short), Some(long), Some(truth)) = (
-        values::text(alloc, 8),
-        values::text(alloc, 100),
-        values::truth(alloc),
-    ) else {
+    let Some(values) = Values::new(rt.alloc()) else {
         return Ok(());
     };
-    let values = [&short, &long, &truth];
     let Some(what) = what else {
-        measure_staying(&rt, 100, values, 1, false)?;
-        measure_leaving(&rt, 100, &short, 1, false)?;
+        measure_staying(&rt, 100, &values, 1, false)?;
+        measure_leaving(&rt, 100, &values, 1, false)?;
         return Ok(());
     };
     if let Some(count) = count {
         let rows = count.as_str().parse::<u32>().unwrap_or(0);
-        measure_leaving(&rt, rows, &short, 5, true)?;
+        measure_leaving(&rt, rows, &values, 5, true)?;
         return Ok(());
     }
     let rows = what.as_str().parse::<u32>().unwrap_or(0);
     let times = 3 + 200_000 / rows.max(1);
-    measure_staying(&rt, rows, values, times, true)?;
+    measure_staying(&rt, rows, &values, times, true)?;
     Ok(())
 }

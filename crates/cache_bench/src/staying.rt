@@ -1,9 +1,10 @@
 //! Calls on a cache that keeps its rows, or gets them back.
 
 use crate::cache::{Act, WordCache};
-use crate::keys::shuffled;
-use apcu_model::{Conf, integer};
-use php_graph::Graph;
+use crate::keys::{numbers, shuffle};
+use crate::steps::{INTEGERS, Step, TEXTS};
+use crate::values::Values;
+use apcu_model::Conf;
 use std::io;
 
 // Of so many rows one has a short text, one a long one, and the others a truth value.
@@ -12,24 +13,18 @@ const STEP: u32 = 10;
 // The moment of all calls.
 const NOW: u64 = 1000;
 
-// Calls of one kind under keys of these numbers, and what they are called in a table.
-type Step<'a> = (&'a str, &'a [u32], Act<'a>);
-
-// Measures the steps one after the other, so many times, and prints what was measured.
+// Measures a kind of call, and prints what was measured.
 fn report(
     rt: &HostRuntime,
     cache: &mut WordCache,
-    steps: &[Step<'_>],
-    times: u32,
+    numbers: &[u32],
+    values: &Values,
+    step: Step,
     is_loud: bool,
 ) -> io::Result<()> {
-    for _ in 0..times {
-        for (name, numbers, act) in steps {
-            let pass = cache.pass(rt, numbers, *act, NOW)?;
-            if is_loud {
-                println!(rt; "{name} {} {}", pass.time, pass.answers)?;
-            }
-        }
+    let pass = cache.pass(rt, numbers, step.act(values), NOW)?;
+    if is_loud {
+        println!(rt; "{} {} {}", step.name(), pass.time, pass.answers)?;
     }
     Ok(())
 }
@@ -44,11 +39,11 @@ fn shape(rows: u32) -> Conf {
     }
 }
 
-/// Measures each kind of call on so many rows with these values.
+/// Measures each kind of call on so many rows, so many times.
 pub fn measure_staying(
     rt: &HostRuntime,
     rows: u32,
-    values: [&Graph; 3],
+    values: &Values,
     times: u32,
     is_loud: bool,
 ) -> io::Result<()> {
@@ -59,39 +54,25 @@ pub fn measure_staying(
     }
     let mut cache = WordCache::new(alloc, &conf)?;
     cache.fill(alloc, rows, STEP, values, 0, NOW);
-    let short = shuffled(alloc, 0, rows, STEP)?;
-    let long = shuffled(alloc, 1, rows, STEP)?;
-    let short = short.as_slice();
-    let long = long.as_slice();
-    let put_short = Act::Store(values[0], 0, false);
-    let put_long = Act::Store(values[1], 0, false);
-    let add_short = Act::Store(values[0], 0, true);
-    let texts = [
-        ("nothing", short, Act::Nothing),
-        ("fetch_8", short, Act::Fetch),
-        ("fetch_100", long, Act::Fetch),
-        ("exists", short, Act::Exists),
-        ("replace_8", short, put_short),
-        ("replace_100", long, put_long),
-        ("add_there", short, add_short),
-        ("delete_8", short, Act::Delete),
-        ("exists_not", short, Act::Exists),
-        ("store_8", short, put_short),
-        ("delete_100", long, Act::Delete),
-        ("store_100", long, put_long),
-        ("delete_8", short, Act::Delete),
-        ("add_8", short, add_short),
-    ];
-    report(rt, &mut cache, &texts, times, is_loud)?;
-    let number = integer(alloc, 7);
-    let _stored = cache.calls(alloc, short, Act::Store(&number, 0, false), NOW);
-    let numbers = [
-        ("fetch_int", short, Act::Look),
-        ("cas", short, Act::Cas(7)),
-        ("inc", short, Act::Inc(1)),
-        ("dec", short, Act::Inc(-1)),
-    ];
-    report(rt, &mut cache, &numbers, times, is_loud)?;
+    let mut short = numbers(alloc, 0, rows, STEP)?;
+    let mut long = numbers(alloc, 1, rows, STEP)?;
+    let mut state = 1;
+    for _ in 0..times {
+        state = shuffle(short.as_mut_slice(), state);
+        state = shuffle(long.as_mut_slice(), state);
+        for step in TEXTS {
+            let keys = if step.is_long() { &long } else { &short };
+            report(rt, &mut cache, keys.as_slice(), values, step, is_loud)?;
+        }
+    }
+    let put = Act::Store(&values.number, 0, false);
+    let _stored = cache.calls(alloc, short.as_slice(), put, NOW);
+    for _ in 0..times {
+        state = shuffle(short.as_mut_slice(), state);
+        for step in INTEGERS {
+            report(rt, &mut cache, short.as_slice(), values, step, is_loud)?;
+        }
+    }
     if is_loud {
         println!(rt; "rows 0 {}", cache.rows())?;
     }

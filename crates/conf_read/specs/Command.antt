@@ -1,7 +1,9 @@
 -- The options of the program, over clap's own definitions: `fault_of` is what is wrong with words,
 -- and `matches_of` what they give.
-use Rattle.std.specs.Prelude.{Bool, true, false, not, ◌||◌, List, [], ◌∷◌, map, codes, Option, Some, String, string_bytes}
-use Rattle.clap.specs.Words.{App, Rule, Text, fault_of, first_of, matches_of, new_app, new_rule, with_rule}
+use Rattle.std.specs.Prelude.{Bool, true, false, not, ◌||◌, List, [], ◌∷◌, map, codes, Option, Some}
+use Rattle.std.specs.Prelude.{String, string_bytes}
+use Rattle.clap.specs.Words.{App, Rule, Text, fault_of, first_of, matches_of, new_app, new_rule}
+use Rattle.clap.specs.Words.{with_rule}
 
 -- an option of one value, by its long name
 abbrev pub option_rule : Text → Rule

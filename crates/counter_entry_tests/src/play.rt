@@ -1,4 +1,4 @@
-ghost use Rattle.std.specs.Prelude.{◌≡◌, ◌%◌, ◌≤◌, length};
+ghost use Rattle.std.specs.Prelude.{◌≡◌, ◌+◌, ◌%◌, ◌≤◌, length, IfOk};
 ghost use Rattle.apcu_model.specs.Conf.{IsGood};
 
 use apcu_model::{Conf, Counts, Gen, Plain, Reply, Request, StoreAnswer};
@@ -98,6 +98,18 @@ fn told(value: &Graph) -> i64 {
     }
 }
 
+// An entry of the key of this number round a generator, if there is a number.
+fn round_if(alloc: Global, name: Option<u8>, ttl: u32, generator: Gen) -> Result<Gen, Fail>
+    ensures { IfOk result (λ g. length g.levels ≤ length generator.levels + 1) }
+{
+    let Some(name) = name else {
+        return Ok(generator);
+    };
+    let name = key(alloc, name)?;
+    let inner = Box::new(alloc, generator)?;
+    Ok(Gen::entry(name, ttl, inner))
+}
+
 // The generator of an entry of this key.
 fn generator_of(
     rt: &impl Abort,
@@ -105,15 +117,14 @@ fn generator_of(
     name: Bytes,
     inner: Inner,
     value: Value,
-) -> Result<Gen, Fail> {
-    let mut generator = Gen::value(value_of(rt, alloc, value)?);
-    if let Some(third) = inner.third {
-        generator = Gen::entry(key(alloc, third)?, inner.ttl, Box::new(alloc, generator)?);
-    }
-    if let Some(second) = inner.second {
-        generator = Gen::entry(key(alloc, second)?, inner.ttl, Box::new(alloc, generator)?);
-    }
-    Ok(Gen::entry(name, inner.ttl, Box::new(alloc, generator)?))
+) -> Result<Gen, Fail>
+    ensures { IfOk result (λ g. length g.levels ≤ 8) }
+{
+    let literal = Gen::value(value_of(rt, alloc, value)?);
+    let third = round_if(alloc, inner.third, inner.ttl, literal)?;
+    let second = round_if(alloc, inner.second, inner.ttl, third)?;
+    let boxed = Box::new(alloc, second)?;
+    Ok(Gen::entry(name, inner.ttl, boxed))
 }
 
 // What the plain cache gives by a generator of which no key stands twice.

@@ -244,6 +244,9 @@ entry_made levels bytes inside last rest bs k m gen t graph key_is made gen_is w
 abbrev TakesAt : ℕ → Type 0
 TakesAt levels = (bytes : List ℕ) (gen : Generator) (rest : List ℕ) → AreSomeBytes bytes → generator_at levels bytes ≡ Ok (gen, rest) → IsGenSaid levels bytes gen rest
 
+entry_front : (inside key_text rest argument written behind : List ℕ) → inside ≡ key_text ++ rest → rest ≡ 32 ∷ argument → argument ≡ written ++ behind → inside ≡ key_text ++ (32 ∷ (written ++ behind))
+entry_front inside key_text rest argument written behind e1 e2 e3 = e1 ∙ ap (λ (l : List ℕ). key_text ++ l) (e2 ∙ ap (λ (l : List ℕ). 32 ∷ l) e3)
+
 entry_takes : ValuesTake → (levels : ℕ) → TakesAt levels → (bytes inside : List ℕ) (gen : Generator) (rest : List ℕ) → AreSomeBytes bytes → bytes ≡ entry_word ++ inside → entry_at (generator_at levels) inside ≡ Ok (gen, rest) → IsGenSaid (suc levels) bytes gen rest
 entry_takes values levels gens bytes inside gen rest fits word e =
     let a = bind_ok (choice_at key inside) (λ k. separator_at 32 k.1 >>= λ argument. generator_at levels argument >>= λ made. limit_at made.1 >>= λ t. Ok (entry_round k.0 t.0 made.0, t.1)) (gen, rest) e in
@@ -258,7 +261,7 @@ entry_takes values levels gens bytes inside gen rest fits word e =
     let fits3 = bytes_after a.0.1 (codes " ") b.0 space fits2 in
     let m = gens b.0 c.0.0 c.0.1 fits3 c.1 in
     let fits4 = bytes_after b.0 (gen_text m.written) c.0.1 m.text fits3 in
-    let front : inside ≡ text_of k.value ++ (32 ∷ (gen_text m.written ++ c.0.1)) = k.text ∙ ap (λ (l : List ℕ). text_of k.value ++ l) (space ∙ ap (λ (l : List ℕ). 32 ∷ l) m.text) in
+    let front = entry_front inside (text_of k.value) a.0.1 b.0 (gen_text m.written) c.0.1 k.text space m.text in
     subst (λ (q : Generator × List ℕ). IsGenSaid (suc levels) bytes q.0 q.1) is
     (entry_made levels bytes inside c.0.1 d.0.1 a.0.0 k.value m.written c.0.0 d.0.0 k.graph k.meaning m.values m.meaning word front (limit_takes values c.0.1 d.0.0 d.0.1 fits4 d.1))
 

@@ -128,3 +128,8 @@ module _ (t : TableId) (conf : Conf) (budgets : List ℕ) (s0 s1 : Writing) (d :
         legal = ap (all_legal (length budgets) (start_of conf)) saw ∙ all;
         reply = is ∙ ap (λ l. reply_in (stage_of conf l) e) (sym hist);
       }
+
+  -- and so is what else is so at the event's place
+  pub follows_with : (y : Reply) → y ≡ reply_in m e → (At : ℕ → List Event → Type 0) → At d.mask h.seen.0 → (f : Follows conf (length budgets) p q time r y) × At f.mask f.between
+  unfolding follows
+  follows_with y is At a = (follows y is, a)

@@ -1,5 +1,5 @@
 -- An event that opens no window of the segment.
-use Rattle.std.proofs.Common.{◌≡◌, ℕ, ◌+◌, List, [], ◌∷◌, ◌++◌, length, refl, ap, sym, ◌∙◌, subst}
+use Rattle.std.proofs.Common.{◌≡◌, ℕ, ◌+◌, true, List, [], ◌∷◌, ◌++◌, length, refl, ap, sym, ◌∙◌, subst}
 use Rattle.atomic_table.specs.Seated.{TableId}
 use Rattle.seg_words.specs.Windows.{held_by}
 use Rattle.apcu_model.specs.declared.conf.Conf.{Conf}
@@ -111,8 +111,11 @@ pub follows_entry : (t : TableId) (conf : Conf) (budgets : List ℕ) (s0 s1 : Wr
     → reply.Gave value ≡ reply_to (held_by w.seat.now.desk.mask w.seat.now.desk.windows) time (request.Entry g) (cache_of c0)
     → fate ≡ fate_of (entered (held_by w.seat.now.desk.mask w.seat.now.desk.windows) g time (cache_of c0)).outermost
     → FollowsEntry conf (length budgets) p q time g value fate
-follows_entry t conf budgets s0 s1 w0 w c0 c1 p q time g j0 j1 h value fate gives is = record {
-  follows = follows t conf budgets s0 s1 w0 w c0 c1 p q time (request.Entry g) j0 j1 h (reply.Gave value) gives;
-  fate_is = is ∙ (ap (λ (f : Filling). fate_of f.outermost) (entered_is t conf budgets s0 w0 w c0 p j0 h.works g time)
-      ∙ ap (λ l. fate_of (entered (held_places (stage_of conf l) w.seat.now.desk.mask) g time (stage_of conf l).cache).outermost) (sym h.works.seen.1));
-}
+unfolding ends
+follows_entry t conf budgets s0 s1 w0 w c0 c1 p q time g j0 j1 h value fate gives is =
+    let at : ℕ → List Event → Type 0 = λ mask between. fate ≡ fate_of (entered (held_places (stage_of conf (p.known.seen ++ between)) mask) g time (stage_of conf (p.known.seen ++ between)).cache).outermost in
+    let followed = all_ends.follows_with t conf budgets s0 s1 w.seat.now.desk c0 c1 p q time (request.Entry g) j0 j1 (ends t conf budgets s0 s1 w0 w c0 c1 p q time (request.Entry g) j0 j1 h)
+    (reply.Gave value) (reply_is t conf budgets s0 w0 w c0 p j0 h.works time (request.Entry g) (reply.Gave value) gives) at
+    (is ∙ (ap (λ (f : Filling). fate_of f.outermost) (entered_is t conf budgets s0 w0 w c0 p j0 h.works g time)
+    ∙ ap (λ l. fate_of (entered (held_places (stage_of conf l) w.seat.now.desk.mask) g time (stage_of conf l).cache).outermost) (sym h.works.seen.1))) in
+    record { follows = followed.0; fate_is = followed.1 }

@@ -217,7 +217,6 @@ impl<N: TableName> Cabinet<N> {
         requires table { table.now ≡ N.table }
         requires pass { pass.table ≡ N.table }
         requires left { 1 ≤ pass.known.left }
-        requires entry { 1 ≤ length generator.now.levels }
         requires levels { length generator.now.levels ≤ 8 }
         ensures given { IfOk result.1 (λ v. FollowsEntry N.conf (length N.budgets) pass result.0 t
             generator.now v.0 v.1) }

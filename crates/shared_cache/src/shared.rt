@@ -190,17 +190,19 @@ impl<N: TableName> Shared<N> {
         rt: &R,
         alloc: Global,
         pass: Pass,
-        gen_: &Gen,
+        generator: &Gen,
         t: u64,
     ) -> (Pass, Result<(Graph, Fate), AllocError>)
         requires table { pass.table ≡ N.table }
         requires left { 2 ≤ pass.known.left }
-        requires levels { length gen_.now.levels ≤ 8 }
+        requires levels { length generator.now.levels ≤ 8 }
         ensures given { IfOk result.1 (λ v. FollowsEntry N.conf (length N.budgets) pass result.0 t
-            gen_.now v.0 v.1) }
+            generator.now v.0 v.1) }
         ensures same { OnErr result.1 (result.0 ≡ pass) }
     {
-        self.lock.lock(rt).entry(&self.table, alloc, pass, gen_, t)
+        self.lock
+            .lock(rt)
+            .entry(&self.table, alloc, pass, generator, t)
     }
 
     /// Tells of the row that a look-up of the key finds at the moment `t`, in seconds: its hits, its

@@ -35,19 +35,26 @@ fn give<N: TableName, R: Wait>(
     alloc: Global,
     shared: &Shared<N>,
     pass: Pass,
-    gen_: &Gen,
+    generator: &Gen,
 ) -> (Pass, Result<(Graph, Fate), AllocError>)
     requires table { pass.table ≡ N.table }
     requires left { 2 ≤ pass.known.left }
-    requires two { length gen_.now.levels ≡ 2 }
+    requires two { length generator.now.levels ≡ 2 }
     ensures table { result.0.table ≡ N.table }
     ensures worker { result.0.known.worker ≡ pass.known.worker }
     ensures left { pass.known.left ≤ result.0.known.left + 1 }
 {
-    let (pass, given) = shared.entry(rt, alloc, pass, gen_, 5);
+    let (pass, given) = shared.entry(rt, alloc, pass, generator, 5);
     match given {
         Ok(given) => (pass, Ok(given)),
         Err(e) => (pass, Err(e)),
+    }
+}
+
+fn number_in(scalar: Scalar) -> Option<i64> {
+    match scalar {
+        Scalar::Int(n) => Some(n),
+        Scalar::Null | Scalar::Bool(_) => None,
     }
 }
 
@@ -67,8 +74,8 @@ fn fetched<N: TableName, R: Wait>(
     ensures left { result.0.known.left + 1 ≡ pass.known.left }
 {
     match shared.pin(rt, pass, key, 6) {
-        Pinned::Scalar(pass, Scalar::Int(n)) => (pass, Some(n)),
-        Pinned::Scalar(pass, Scalar::Null | Scalar::Bool(_)) | Pinned::Miss(pass) => (pass, None),
+        Pinned::Scalar(pass, scalar) => (pass, number_in(scalar)),
+        Pinned::Miss(pass) => (pass, None),
         Pinned::Hit(copying) => {
             let (pass, _) = shared.copy_out(alloc, copying);
             (pass, None)

@@ -1,6 +1,6 @@
 -- Passes after some events.
 use Rattle.std.proofs.Common.{◌≡◌, ℕ, Bool, true, false, cond, List, [], ◌∷◌, ◌++◌, length, map, refl, sym, ap, ap₂, subst, ◌∙◌, append_assoc, length-append, arith}
-use Rattle.std.specs.Prelude.{◌==◌, Result, Ok, Err, OnOk}
+use Rattle.std.specs.Prelude.{◌==◌, Result, Ok, Err, IfOk, OnOk, OnErr}
 use mathlib.Core.List.{IsPrefix}
 use Rattle.std.proofs.lemmas.Bool.{eq-eqb}
 use Rattle.std.proofs.lemmas.List.{append-nil, map-append}
@@ -104,9 +104,24 @@ one laws conf workers p q t r s y f whole same =
 pub tells_reach : (conf : Conf) (workers : ℕ) (p q : Bearer) (ws : List Wish) (rs : List Reply) → GoesOn conf workers p q ws rs → Reaches conf workers p q ws
 tells_reach conf workers p q ws rs g = record { made = ws; later = []; parts = append-nil ws; replies = rs; goes = g }
 
+-- where memory is missing, nothing was made
+pub nothing_made : {X E : Type 0} (conf : Conf) (workers : ℕ) (p q : Bearer) (ws : List Wish) (r : Result X E) (e : E) → r ≡ Err e → OnErr r (q ≡ p) → KnowsOwnEvents p
+    → Reaches conf workers p q ws
+nothing_made {X} {E} conf workers p q ws r e is same whole =
+    let back : q ≡ p = subst (λ (r : Result X E). OnErr r (q ≡ p)) is same in
+    let nothing : Reaches conf workers p p ws = record { made = []; later = ws; parts = refl; replies = []; goes = none conf workers p whole } in
+    subst (λ (o : Bearer). Reaches conf workers p o ws) (sym back) nothing
+
 pub on_ok : {X E P Q : Type 0} (r : Result X E) → (P → Q) → OnOk r P → OnOk r Q
 on_ok (Ok x) f p = f p
 on_ok (Err e) f p = tt
+
+pub if_ok : {X E : Type 0} {P Q : X → Type 0} (r : Result X E) → ((x : X) → P x → Q x) → IfOk r P → IfOk r Q
+if_ok (Ok x) f p = f x p
+if_ok (Err e) f p = tt
+
+pub of_if_ok : {X E : Type 0} (P : X → Type 0) (r : Result X E) (x : X) → r ≡ Ok x → IfOk r P → P x
+of_if_ok {X} {E} P r x is p = subst (λ (r : Result X E). IfOk r P) is p
 
 pub of_ok : {X E P : Type 0} (r : Result X E) (x : X) → r ≡ Ok x → OnOk r P → P
 of_ok {X} {E} {P} r x is p = subst (λ (r : Result X E). OnOk r P) is p

@@ -136,9 +136,10 @@ pub(crate) fn entry<N: TableName, R: Wait>(
     ensures same { OnErr result.1 (result.0 ≡ pass) }
 {
     one_event_own();
-    match shared.entry(rt, alloc, pass, generator, t) {
-        (pass, Ok((value, _fate))) => (pass, Ok(value)),
-        (pass, Err(e)) => (pass, Err(e)),
+    let (pass, given) = shared.entry(rt, alloc, pass, generator, t);
+    match given {
+        Ok((value, _fate)) => (pass, Ok(value)),
+        Err(e) => (pass, Err(e)),
     }
 }
 

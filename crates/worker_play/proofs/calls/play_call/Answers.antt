@@ -7,7 +7,7 @@ use Rattle.reply_text.specs.Replies.{unstored_text}
 use Rattle.reply_text.specs.Lines.{call_text}
 use Rattle.std.specs.Prelude.{OnOk}
 use Rattle.worker_play.specs.Goes.{wishes_at, Reaches, Tells}
-use Rattle.worker_play.proofs.Going.{none, tells_reach, on_ok}
+use Rattle.worker_play.proofs.Going.{none, nothing_made, tells_reach, on_ok}
 use Rattle.worker_play.proofs.calls.play_call.Goals as goal
 
 pub returns-in-StoreMany-clause-reaches : goal.returns-in-StoreMany-clause-reaches
@@ -29,3 +29,19 @@ pub returns-in-Enabled-clause-line : goal.returns-in-Enabled-clause-line
 returns-in-Enabled-clause-line g c =
     on_ok c.write_flag-in-Enabled.result (λ e. subst (λ (call : Call). Tells g.N.TableName.conf (length g.N.TableName.budgets) c.args.pass c.args.pass (wishes_at c.args.t (requests_of call)) (λ replies. c.args.out.now ++ call_text call replies) c.write_flag-in-Enabled.new.out)
     (sym c.in-Enabled.is) ([], none _ _ _ c.requires.whole, e)) c.write_flag-in-Enabled.ensures
+
+pub returns-in-Err-value-clause-reaches : goal.returns-in-Err-value-clause-reaches
+returns-in-Err-value-clause-reaches g c =
+    nothing_made _ _ _ _ _ c.entry-pass.result.1 c.in-Err-value.e c.in-Err-value.is c.entry-pass.ensures.same c.requires.whole
+
+pub returns-in-Err-info-clause-reaches : goal.returns-in-Err-info-clause-reaches
+returns-in-Err-info-clause-reaches g c =
+    nothing_made _ _ _ _ _ c.key_info-pass.result.1 c.in-Err-info.e c.in-Err-info.is c.key_info-pass.ensures.same c.requires.whole
+
+pub returns-in-Err-info-2-clause-reaches : goal.returns-in-Err-info-2-clause-reaches
+returns-in-Err-info-2-clause-reaches g c =
+    nothing_made _ _ _ _ _ c.cache_info-pass.result.1 c.in-Err-info-2.e c.in-Err-info-2.is c.cache_info-pass.ensures.same c.requires.whole
+
+pub returns-in-Err-info-3-clause-reaches : goal.returns-in-Err-info-3-clause-reaches
+returns-in-Err-info-3-clause-reaches g c =
+    nothing_made _ _ _ _ _ c.sma_info-pass.result.1 c.in-Err-info-3.e c.in-Err-info-3.is c.sma_info-pass.ensures.same c.requires.whole
