@@ -39,9 +39,9 @@ pub fn cache_info<S: Segment>(
     let slots = core.slots();
     let words = words_of(slots, seg);
     if limited {
-        return Ok(tell_counts(alloc, conf, counts, words)?);
+        return tell_counts(alloc, conf, counts, words);
     }
     let rows = list_rows(alloc, slots, seg)?;
     let removed = list_removed(alloc, slots, seg)?;
-    Ok(tell_cache(alloc, conf, counts, words, rows, removed)?)
+    tell_cache(alloc, conf, counts, words, rows, removed)
 }

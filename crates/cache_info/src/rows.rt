@@ -36,7 +36,8 @@ fn list_chain<S: Segment>(
         if at == 0 {
             return Ok(());
         }
-        list.push(listed_at(alloc, slots, seg, at)?)?;
+        let row = listed_at(alloc, slots, seg, at)?;
+        list.push(row)?;
         at = slots.after(seg, at);
     }
     Ok(())

@@ -59,8 +59,8 @@ pub fn sma_info<S: Segment>(
     let sma = core.slots().sma();
     let free = sma.free_words(seg);
     if limited {
-        return Ok(tell_words(alloc, words, free)?);
+        return tell_words(alloc, words, free);
     }
     let gaps = list_gaps(alloc, sma, seg)?;
-    Ok(tell_gaps(alloc, words, free, &gaps)?)
+    tell_gaps(alloc, words, free, &gaps)
 }

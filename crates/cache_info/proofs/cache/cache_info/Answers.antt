@@ -1,9 +1,11 @@
-use Rattle.std.proofs.Common.{◌∙◌, ap, sym, map}
+use Rattle.std.proofs.Common.{◌++◌, ◌≡◌, ◌∙◌, ap, sym, map}
 use Rattle.std.specs.Prelude.{Bool, sum_by}
+use Rattle.std.proofs.lemmas.Result.{IfOk-weaker}
+use Rattle.php_graph.specs.declared.graph.Graph.{Graph}
 use Rattle.apcu_model.specs.declared.conf.Conf.{Conf}
 use Rattle.apcu_model.specs.declared.request.Reply.TheVariants.{Info}
 use Rattle.apcu_model.specs.Cache.{Row}
-use Rattle.apcu_model.specs.Infos.{cache_info_of, listed_of, number_kind, word_bytes}
+use Rattle.apcu_model.specs.Infos.{told_array, told_counts, told_rows, cache_info_of, listed_of, number_kind, word_bytes}
 use Rattle.apcu_model.specs.Walk.{in_slot_order}
 use Rattle.entry_slots.specs.declared.slots.EntrySlots.{EntrySlots}
 use Rattle.entry_slots.specs.Entries.{Entries}
@@ -18,12 +20,14 @@ returns-then-limited-clause-info g c =
     let all = cache_of core in
     let slots = c.slots-slots.ensures.value in
     let words = c.words_of-words.ensures.words ∙ ap (λ (e : EntrySlots). number_kind (word_bytes (sum_by (λ (row : Row). row.size) (entries e).rows))) slots in
-    c.in_ok-tell_counts.ensures
-    ∙ limited_told all c.conf-conf.result.now c.counts-counts.result c.words_of-words.result c.conf-conf.ensures c.counts-counts.ensures words
-    ∙ ap (λ (b : Bool). cache_info_of b all) (sym c.if-limited.true)
+    let told = limited_told all c.conf-conf.result.now c.counts-counts.result c.words_of-words.result c.conf-conf.ensures c.counts-counts.ensures words
+    ∙ ap (λ (b : Bool). cache_info_of b all) (sym c.if-limited.true) in
+    IfOk-weaker c.tell_counts.result (λ (x : Graph). x ≡ told_array (told_counts c.conf-conf.result.now c.counts-counts.result c.words_of-words.result) 1) (λ (x : Graph). x ≡ cache_info_of c.args.limited all) (λ x is. is ∙ told) c.tell_counts.ensures
 
 pub returns-then-limited-clause-reply : goal.returns-then-limited-clause-reply
-returns-then-limited-clause-reply g c = λ t. ap Info (returns-then-limited-clause-info g c)
+returns-then-limited-clause-reply g c = λ t.
+    let all = cache_of c.args.core.now in
+    IfOk-weaker c.tell_counts.result (λ (x : Graph). x ≡ cache_info_of c.args.limited all) (λ (x : Graph). Info x ≡ Info (cache_info_of c.args.limited all)) (λ x is. ap Info is) (returns-then-limited-clause-info g c)
 
 pub returns-clause-info : goal.returns-clause-info
 returns-clause-info g c =
@@ -34,9 +38,11 @@ returns-clause-info g c =
     let shape = ap (λ (s : Entries). s.conf) c.requires.stand.whole in
     let rows = c.in_ok-rows.ensures.rows ∙ ap (λ (e : EntrySlots). map listed_of (in_slot_order (entries e).conf (entries e).rows)) slots ∙ ap (λ (f : Conf). map listed_of (in_slot_order f all.rows)) shape in
     let removed = c.in_ok-removed.ensures.rows ∙ ap (λ (e : EntrySlots). map listed_of (entries e).removed) slots in
-    c.in_ok-tell_cache.ensures
-    ∙ whole_told all c.conf-conf.result.now c.counts-counts.result c.words_of-words.result c.in_ok-rows.rows.items c.in_ok-removed.removed.items c.conf-conf.ensures c.counts-counts.ensures words rows removed
-    ∙ ap (λ (b : Bool). cache_info_of b all) (sym c.if-limited.false)
+    let told = whole_told all c.conf-conf.result.now c.counts-counts.result c.words_of-words.result c.in_ok-rows.rows.items c.in_ok-removed.removed.items c.conf-conf.ensures c.counts-counts.ensures words rows removed
+    ∙ ap (λ (b : Bool). cache_info_of b all) (sym c.if-limited.false) in
+    IfOk-weaker c.tell_cache.result (λ (x : Graph). x ≡ told_array (told_counts c.conf-conf.result.now c.counts-counts.result c.words_of-words.result ++ told_rows c.in_ok-rows.rows.items c.in_ok-removed.removed.items) 1) (λ (x : Graph). x ≡ cache_info_of c.args.limited all) (λ x is. is ∙ told) c.tell_cache.ensures
 
 pub returns-clause-reply : goal.returns-clause-reply
-returns-clause-reply g c = λ t. ap Info (returns-clause-info g c)
+returns-clause-reply g c = λ t.
+    let all = cache_of c.args.core.now in
+    IfOk-weaker c.tell_cache.result (λ (x : Graph). x ≡ cache_info_of c.args.limited all) (λ (x : Graph). Info x ≡ Info (cache_info_of c.args.limited all)) (λ x is. ap Info is) (returns-clause-info g c)

@@ -25,11 +25,11 @@ loop-passed-preserved g c =
     let s = entries c.args.slots.now in
     let i = c.loop-passed.invariant in
     let here = (chain_here c.lower_laws.ensures c.args.slots.now (g.S.WordsIn.words c.args.seg.now) (g.S.WordsIn.aside c.args.seg.now) (entries c.args.slots.now) c.args.slot c.loop-passed._passed c.loop-passed.at c.requires.stand c.loop-passed.invariant.at c.if-at-eq0.false) in
-    let row = c.in_ok-listed_at.ensures in
+    let row = c.in_ok-row.ensures in
     let next = c.after-at.ensures in
     record {
       at = next.row c.args.slot c.requires.slot here.in_rows ∙ here.next;
-      rows = row_goes_on (chain_of s c.args.slot) c.loop-passed._passed here.left.row c.in_ok-listed_at.field-0 c.loop-passed.list.items c.push.new.self.items here.left.left (row.row here.left.row here.member) c.in_ok-push.ensures.items ∙ i.rows;
+      rows = row_goes_on (chain_of s c.args.slot) c.loop-passed._passed here.left.row c.in_ok-row.row c.loop-passed.list.items c.push.new.self.items here.left.left (row.row here.left.row here.member) c.in_ok-push.ensures.items ∙ i.rows;
       kept = record { words = next.kept.words ∙ row.kept.words ∙ i.kept.words; aside = next.kept.aside ∙ row.kept.aside ∙ i.kept.aside; rest = next.kept.rest ∙ row.kept.rest ∙ i.kept.rest };
     }
 
