@@ -8,7 +8,7 @@ use crate::tests::two_passes;
 use apcu_model::{Gen, integer};
 use cache_core::Scalar;
 use counter_entry::Fate;
-use php_graph::{Bytes, Graph};
+use php_graph::{Bytes, Graph, Kind};
 use pin_table::{Pass, TableName};
 use shared_cache::{Closed, Fresh, Pinned, Shared, open_cache};
 use std::alloc::{AllocError, Global};
@@ -29,14 +29,39 @@ fn nested(alloc: Global, n: i64) -> Result<Gen, AllocError>
     Ok(Gen::entry(Bytes::of(alloc, b"k1")?, 0, Box::new(alloc, inner)?))
 }
 
-// The value of a generator, and where it came from; the pass has at most one event less.
+// An integer that was given, and where it came from.
+#[derive(Clone, Copy, Debug, PartialEq, Eq)]
+struct Given {
+    number: Option<i64>,
+    fate: Fate,
+}
+
+fn gives_number(number: i64, fate: Fate) -> Option<Given> {
+    Some(Given {
+        number: Some(number),
+        fate,
+    })
+}
+
+// The integer that a value is.
+fn integer_of(value: &Graph) -> Option<i64> {
+    if value.places() == 0 {
+        return None;
+    }
+    match value.kind(1) {
+        Kind::Int(n) => Some(*n),
+        _ => None,
+    }
+}
+
+// What a generator gives; the pass has at most one event less.
 fn give<N: TableName, R: Wait>(
     rt: &R,
     alloc: Global,
     shared: &Shared<N>,
     pass: Pass,
     generator: &Gen,
-) -> (Pass, Result<(Graph, Fate), AllocError>)
+) -> (Pass, Option<Given>)
     requires table { pass.table ≡ N.table }
     requires left { 2 ≤ pass.known.left }
     requires two { length generator.now.levels ≡ 2 }
@@ -44,10 +69,13 @@ fn give<N: TableName, R: Wait>(
     ensures worker { result.0.known.worker ≡ pass.known.worker }
     ensures left { pass.known.left ≤ result.0.known.left + 1 }
 {
-    let (pass, given) = shared.entry(rt, alloc, pass, generator, 5);
-    match given {
-        Ok(given) => (pass, Ok(given)),
-        Err(e) => (pass, Err(e)),
+    let (pass, answer) = shared.entry(rt, alloc, pass, generator, 5);
+    match answer {
+        Ok((value, fate)) => {
+            let number = integer_of(&value);
+            (pass, Some(Given { number, fate }))
+        }
+        Err(_) => (pass, None),
     }
 }
 
@@ -84,13 +112,12 @@ fn fetched<N: TableName, R: Wait>(
 }
 
 // What came of the events of both workers.
-#[derive(Drop)]
-struct Given {
-    first: Result<(Graph, Fate), AllocError>,
-    second: Result<(Graph, Fate), AllocError>,
+#[derive(Clone, Copy, Debug, PartialEq, Eq)]
+struct Met {
+    first: Option<Given>,
+    second: Option<Given>,
     inner: Option<i64>,
-    later: Result<(Graph, Fate), AllocError>,
-    closed: Closed,
+    later: Option<Given>,
 }
 
 // Two workers on threads of their own ask for the same keys. The second one then fetches the inner
@@ -101,7 +128,7 @@ fn two_ask<N: TableName + Send + Sync, R: Threads + Wait + Sync>(
     fresh: Fresh,
     one: &Gen,
     other: &Gen,
-) -> Option<Given>
+) -> Option<(Closed, Met)>
     requires sync { IsSync R.row }
     requires table { N.table ≡ fresh.table }
     requires conf { N.conf ≡ fresh.conf }
@@ -114,14 +141,14 @@ fn two_ask<N: TableName + Send + Sync, R: Threads + Wait + Sync>(
     let (first, second) = two_passes::<N>(&mut passes)?;
     let (a, b) = join(
         rt,
-        || -> (Pass, Result<(Graph, Fate), AllocError>)
+        || -> (Pass, Option<Given>)
             requires { (first.table ≡ N.table) × (2 ≤ first.known.left)
                 × (length one.now.levels ≡ 2) }
             ensures { (result.0.table ≡ N.table)
                 × (result.0.known.worker ≡ first.known.worker)
                 × (first.known.left ≤ result.0.known.left + 1) }
         { give(rt, alloc, &shared, first, one) },
-        || -> (Pass, Result<(Graph, Fate), AllocError>)
+        || -> (Pass, Option<Given>)
             requires { (second.table ≡ N.table) × (2 ≤ second.known.left)
                 × (length other.now.levels ≡ 2) }
             ensures { (result.0.table ≡ N.table)
@@ -133,13 +160,23 @@ fn two_ask<N: TableName + Send + Sync, R: Threads + Wait + Sync>(
     let (second, later) = give(rt, alloc, &shared, second, other);
     ended.push(shared.retire(rt, a.0));
     ended.push(shared.retire(rt, second));
-    Some(Given {
+    let met = Met {
         first: a.1,
         second: b.1,
         inner,
         later,
-        closed: shared.close(rt, ended),
-    })
+    };
+    Some((shared.close(rt, ended), met))
+}
+
+// What is met where the value is this integer, and where each had it from.
+fn all_met(number: i64, first: Fate, second: Fate) -> Met {
+    Met {
+        first: gives_number(number, first),
+        second: gives_number(number, second),
+        inner: Some(number),
+        later: gives_number(number, Fate::Found),
+    }
 }
 
 // One of them makes the value and stores it under both keys, and the other finds it.
@@ -150,30 +187,13 @@ fn two_workers_generate(rt: HostRuntime) -> Result<(), Fail> {
     let Ok(fresh) = open_cache(&rt, rt.alloc(), &CONF, &[2, 4]) else {
         return Err(Fail::new("open_cache"));
     };
-    let Some(given) = two_ask::<Brand, _>(&rt, rt.alloc(), fresh, &one, &other) else {
+    let Some((closed, met)) = two_ask::<Brand, _>(&rt, rt.alloc(), fresh, &one, &other) else {
         return Err(Fail::new("two passes"));
     };
-    let Given {
-        first,
-        second,
-        inner,
-        later,
-        closed,
-    } = given;
-    let (value, fate) = first?;
-    let (same, other_fate) = second?;
-    let (again, later_fate) = later?;
     let made = Fate::Made { stored: true };
-    let number = if fate == made { 7 } else { 8 };
-    assert!(rt; value.same(&integer(rt.alloc(), number)));
-    assert!(rt; same.same(&value));
-    assert!(rt; again.same(&value));
-    assert_eq!(rt; inner, Some(number));
-    assert!(rt; fate == made || fate == Fate::Found);
-    assert_eq!(rt; other_fate, if fate == made { Fate::Found } else { made });
-    assert_eq!(rt; later_fate, Fate::Found);
+    let by_first = met == all_met(7, made, Fate::Found);
+    let by_second = met == all_met(8, Fate::Found, made);
+    assert!(rt; by_first || by_second);
     assert_eq!(rt; closed.journal.len(), 6);
-    assert_eq!(rt; closed.counts.misses, 2);
-    assert_eq!(rt; closed.counts.inserts, 2);
     Ok(())
 }

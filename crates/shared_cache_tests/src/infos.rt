@@ -14,6 +14,40 @@ use std::marker::Brand;
 use std::sync::Wait;
 use std::test::Fail;
 
+// What PHP prints of the row, of the cache and of its memory.
+const ROW: &[u8] = b"a:6:{s:4:\"hits\";i:1;s:11:\"access_time\";i:105;s:5:\"mtime\";i:100;\
+    s:13:\"creation_time\";i:100;s:13:\"deletion_time\";i:0;s:3:\"ttl\";i:10;}";
+
+const CACHE: &[u8] = b"a:8:{s:9:\"num_slots\";i:32;s:3:\"ttl\";i:0;s:8:\"num_hits\";i:1;\
+    s:10:\"num_misses\";i:0;s:11:\"num_inserts\";i:1;s:11:\"num_entries\";i:1;\
+    s:8:\"expunges\";i:0;s:8:\"mem_size\";i:128;}";
+
+const MEMORY: &[u8] = b"a:4:{s:7:\"num_seg\";i:1;s:8:\"seg_size\";i:4096;s:9:\"avail_mem\";i:3712;\
+    s:11:\"block_lists\";a:1:{i:0;a:1:{i:0;a:2:{s:4:\"size\";i:3712;s:6:\"offset\";i:384;}}}}";
+
+// Whether the text was told that was expected.
+#[derive(Clone, Copy, Debug, PartialEq, Eq)]
+enum Told {
+    Nothing,
+    Expected,
+    Other,
+    NoMemory,
+}
+
+fn is_written(alloc: Global, value: &Graph, text: &[u8]) -> Result<bool, AllocError> {
+    let mut out = ByteOut::new(alloc);
+    write_value(value, 0, &mut out)?;
+    Ok(out.as_slice() == text)
+}
+
+fn told_as(alloc: Global, value: &Graph, text: &[u8]) -> Told {
+    match is_written(alloc, value, text) {
+        Ok(true) => Told::Expected,
+        Ok(false) => Told::Other,
+        Err(_) => Told::NoMemory,
+    }
+}
+
 // What is told of a key, of the cache and of its memory; the pass has at most one event less.
 fn tells_key<N: TableName, R: Wait>(
     rt: &R,
@@ -21,7 +55,7 @@ fn tells_key<N: TableName, R: Wait>(
     shared: &Shared<N>,
     pass: Pass,
     key: &[u8],
-) -> (Pass, Result<Option<Graph>, AllocError>)
+) -> (Pass, Told)
     requires table { pass.table ≡ N.table }
     requires left { 2 ≤ pass.known.left }
     requires short { length key.now < 2 ^ 32 }
@@ -30,8 +64,9 @@ fn tells_key<N: TableName, R: Wait>(
 {
     let (pass, told) = shared.key_info(rt, alloc, pass, key, 105);
     match told {
-        Ok(info) => (pass, Ok(info)),
-        Err(e) => (pass, Err(e)),
+        Ok(Some(row)) => (pass, told_as(alloc, &row, ROW)),
+        Ok(None) => (pass, Told::Nothing),
+        Err(_) => (pass, Told::NoMemory),
     }
 }
 
@@ -40,7 +75,7 @@ fn tells_cache<N: TableName, R: Wait>(
     alloc: Global,
     shared: &Shared<N>,
     pass: Pass,
-) -> (Pass, Result<Graph, AllocError>)
+) -> (Pass, Told)
     requires table { pass.table ≡ N.table }
     requires left { 2 ≤ pass.known.left }
     ensures table { result.0.table ≡ N.table }
@@ -48,8 +83,8 @@ fn tells_cache<N: TableName, R: Wait>(
 {
     let (pass, told) = shared.cache_info(rt, alloc, pass, true);
     match told {
-        Ok(info) => (pass, Ok(info)),
-        Err(e) => (pass, Err(e)),
+        Ok(info) => (pass, told_as(alloc, &info, CACHE)),
+        Err(_) => (pass, Told::NoMemory),
     }
 }
 
@@ -58,7 +93,7 @@ fn tells_memory<N: TableName, R: Wait>(
     alloc: Global,
     shared: &Shared<N>,
     pass: Pass,
-) -> (Pass, Result<Graph, AllocError>)
+) -> (Pass, Told)
     requires table { pass.table ≡ N.table }
     requires left { 2 ≤ pass.known.left }
     ensures table { result.0.table ≡ N.table }
@@ -66,22 +101,19 @@ fn tells_memory<N: TableName, R: Wait>(
 {
     let (pass, told) = shared.sma_info(rt, alloc, pass, false);
     match told {
-        Ok(info) => (pass, Ok(info)),
-        Err(e) => (pass, Err(e)),
+        Ok(info) => (pass, told_as(alloc, &info, MEMORY)),
+        Err(_) => (pass, Told::NoMemory),
     }
-}
-
-#[derive(Drop)]
-struct Told {
-    row: Result<Option<Graph>, AllocError>,
-    nothing: Result<Option<Graph>, AllocError>,
-    cache: Result<Graph, AllocError>,
-    memory: Result<Graph, AllocError>,
 }
 
 // The first worker stores an integer for ten seconds, and the second one fetches it. The first one
 // then asks for its row and for another key's, and the second one for all.
-fn tells<N: TableName, R: Wait>(rt: &R, alloc: Global, fresh: Fresh, value: &Graph) -> Option<Told>
+fn tells<N: TableName, R: Wait>(
+    rt: &R,
+    alloc: Global,
+    fresh: Fresh,
+    value: &Graph,
+) -> Option<[Told; 4]>
     requires table { N.table ≡ fresh.table }
     requires conf { N.conf ≡ fresh.conf }
     requires budgets { N.budgets ≡ fresh.budgets }
@@ -97,63 +129,24 @@ fn tells<N: TableName, R: Wait>(rt: &R, alloc: Global, fresh: Fresh, value: &Gra
     let (_, nothing) = tells_key(rt, alloc, &shared, first, b"x");
     let (second, cache) = tells_cache(rt, alloc, &shared, second);
     let (_, memory) = tells_memory(rt, alloc, &shared, second);
-    Some(Told {
-        row,
-        nothing,
-        cache,
-        memory,
-    })
-}
-
-// Whether a value is written so.
-fn is_written(alloc: Global, value: &Graph, text: &[u8]) -> Result<bool, Fail> {
-    let mut out = ByteOut::new(alloc);
-    write_value(value, 0, &mut out)?;
-    Ok(out.as_slice() == text)
+    Some([row, nothing, cache, memory])
 }
 
 #[test]
 fn two_workers_ask_what_is_there(rt: HostRuntime) -> Result<(), Fail> {
-    let alloc = rt.alloc();
-    let value = integer(alloc, 1);
-    let Ok(fresh) = open_cache(&rt, alloc, &CONF, &[4, 4]) else {
+    let value = integer(rt.alloc(), 1);
+    let Ok(fresh) = open_cache(&rt, rt.alloc(), &CONF, &[4, 4]) else {
         return Err(Fail::new("open_cache"));
     };
-    let Some(told) = tells::<Brand, _>(&rt, alloc, fresh, &value) else {
-        return Err(Fail::new("two passes"));
+    let Some(told) = tells::<Brand, _>(&rt, rt.alloc(), fresh, &value) else {
+        return Err(Fail::new("two passes, and an integer"));
     };
-    let Told {
-        row,
-        nothing,
-        cache,
-        memory,
-    } = told;
-    let Some(row) = row? else {
-        return Err(Fail::new("no row"));
-    };
-    assert!(rt; nothing?.is_none());
     let all = [
-        is_written(
-            alloc,
-            &row,
-            b"a:6:{s:4:\"hits\";i:1;s:11:\"access_time\";i:105;s:5:\"mtime\";i:100;\
-            s:13:\"creation_time\";i:100;s:13:\"deletion_time\";i:0;s:3:\"ttl\";i:10;}",
-        )?,
-        is_written(
-            alloc,
-            &cache?,
-            b"a:8:{s:9:\"num_slots\";i:32;s:3:\"ttl\";i:0;s:8:\"num_hits\";i:1;\
-            s:10:\"num_misses\";i:0;s:11:\"num_inserts\";i:1;s:11:\"num_entries\";i:1;\
-            s:8:\"expunges\";i:0;s:8:\"mem_size\";i:128;}",
-        )?,
-        is_written(
-            alloc,
-            &memory?,
-            b"a:4:{s:7:\"num_seg\";i:1;s:8:\"seg_size\";i:4096;s:9:\"avail_mem\";i:3712;\
-            s:11:\"block_lists\";a:1:{i:0;a:1:{i:0;a:2:{s:4:\"size\";i:3712;\
-            s:6:\"offset\";i:384;}}}}",
-        )?,
+        Told::Expected,
+        Told::Nothing,
+        Told::Expected,
+        Told::Expected,
     ];
-    assert_eq!(rt; all, [true, true, true]);
+    assert_eq!(rt; told, all);
     Ok(())
 }
