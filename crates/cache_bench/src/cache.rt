@@ -8,6 +8,7 @@ use crate::keys::{FIRST, key_of};
 use crate::values::Values;
 use apcu_model::{Conf, Gen, StoreAnswer};
 use cache_core::{Core, Look};
+use cache_info::{cache_info, key_info, sma_info};
 use counter_entry::{Fate, IncAnswer, cas, entry, inc};
 use max_tree::MaxRow;
 use php_graph::{Bytes, Graph, Kind};
@@ -39,6 +40,21 @@ pub enum Act<'a> {
     Cas(i64),
     /// Gives this value where no row is found, and stores it. The generator is made for the call.
     Entry(&'a Graph),
+    /// Tells of the row.
+    KeyInfo,
+}
+
+/// What is told of a cache.
+#[derive(Clone, Copy)]
+pub enum Told {
+    /// What is counted, and the words.
+    Counts,
+    /// Each row and each removed one beside it.
+    Rows,
+    /// How many words are free.
+    Free,
+    /// Each gap beside it.
+    Gaps,
 }
 
 /// What was measured of calls of one kind.
@@ -145,7 +161,23 @@ impl WordCache {
             },
             Act::Cas(expect) => cas(core, words, key, expect, expect, t),
             Act::Entry(value) => self.entry(alloc, key, value, t),
+            Act::KeyInfo => match key_info(alloc, core, words, key, t) {
+                Ok(Some(_)) => true,
+                _ => false,
+            },
         }
+    }
+
+    /// Tells of the cache; how many places the value has.
+    pub fn tell(&mut self, alloc: Global, what: Told) -> Result<u32, AllocError> {
+        let (core, words) = (&mut self.core, &mut self.words);
+        let value = match what {
+            Told::Counts => cache_info(alloc, core, words, true)?,
+            Told::Rows => cache_info(alloc, core, words, false)?,
+            Told::Free => sma_info(alloc, core, words, true)?,
+            Told::Gaps => sma_info(alloc, core, words, false)?,
+        };
+        Ok(value.places())
     }
 
     /// Calls of one kind under keys of these numbers; how many answered true.
