@@ -140,6 +140,15 @@ impl WordCache {
         }
     }
 
+    // Whether something is told of the row.
+    #[tactic(auto, using(crate::proofs::Told::still_stands))]
+    fn tell_key(&mut self, alloc: Global, key: &[u8; 8], t: u64) -> bool {
+        match key_info(alloc, &mut self.core, &mut self.words, key, t) {
+            Ok(told) => told.is_some(),
+            Err(_) => false,
+        }
+    }
+
     /// One call at the moment `t`; whether the row is there, or was taken.
     pub fn call(&mut self, alloc: Global, key: &[u8; 8], act: Act<'_>, t: u64) -> bool {
         let (core, words) = (&mut self.core, &mut self.words);
@@ -161,23 +170,36 @@ impl WordCache {
             },
             Act::Cas(expect) => cas(core, words, key, expect, expect, t),
             Act::Entry(value) => self.entry(alloc, key, value, t),
-            Act::KeyInfo => match key_info(alloc, core, words, key, t) {
-                Ok(Some(_)) => true,
-                _ => false,
-            },
+            Act::KeyInfo => self.tell_key(alloc, key, t),
+        }
+    }
+
+    // Tells of the rows; how many places the value has.
+    #[tactic(auto, using(crate::proofs::Told::still_stands))]
+    fn tell_rows(&mut self, alloc: Global, limited: bool) -> Result<u32, AllocError> {
+        match cache_info(alloc, &mut self.core, &mut self.words, limited) {
+            Ok(value) => Ok(value.places()),
+            Err(fault) => Err(fault),
+        }
+    }
+
+    // Tells of the words; how many places the value has.
+    #[tactic(auto, using(crate::proofs::Told::still_stands))]
+    fn tell_words(&mut self, alloc: Global, limited: bool) -> Result<u32, AllocError> {
+        match sma_info(alloc, &mut self.core, &mut self.words, limited) {
+            Ok(value) => Ok(value.places()),
+            Err(fault) => Err(fault),
         }
     }
 
     /// Tells of the cache; how many places the value has.
-    pub fn tell(&mut self, alloc: Global, what: Told) -> Result<u32, AllocError> {
-        let (core, words) = (&mut self.core, &mut self.words);
-        let value = match what {
-            Told::Counts => cache_info(alloc, core, words, true)?,
-            Told::Rows => cache_info(alloc, core, words, false)?,
-            Told::Free => sma_info(alloc, core, words, true)?,
-            Told::Gaps => sma_info(alloc, core, words, false)?,
-        };
-        Ok(value.places())
+    pub fn tell(&mut self, alloc: Global, told: Told) -> Result<u32, AllocError> {
+        match told {
+            Told::Counts => self.tell_rows(alloc, true),
+            Told::Rows => self.tell_rows(alloc, false),
+            Told::Free => self.tell_words(alloc, true),
+            Told::Gaps => self.tell_words(alloc, false),
+        }
     }
 
     /// Calls of one kind under keys of these numbers; how many answered true.
