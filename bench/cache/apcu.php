@@ -1,8 +1,9 @@
 <?php
 // What PHP's APCu takes for the calls that cache_bench measures, under the same keys and with the same values. With
 // ROWS it prints for each kind of call several times the picoseconds of one, and how many calls did not answer false;
-// with `clear ROWS` that of dropping all rows, and of dropping them because their time is over.
-// Run with: php -d apc.enable_cli=1 -d apc.shm_size=.. -d apc.entries_hint=ROWS apcu.php [clear] ROWS
+// with `clear ROWS` that of dropping all rows, and of dropping them because their time is over, and with `info ROWS`
+// that of telling of them.
+// Run with: php -d apc.enable_cli=1 -d apc.shm_size=.. -d apc.entries_hint=ROWS apcu.php [clear|info] ROWS
 
 const BATCH = 10000;
 const FIRST = 1000000;
@@ -44,13 +45,19 @@ function report(string $name, array $batches, Closure $loop, mixed $value = null
     echo "$name $least $answers\n";
 }
 
+// Of ten rows one has the short text, one the long one, and the others a truth value.
+function fill_mixed(int $rows, string $short, string $long): void
+{
+    for ($i = 0; $i < $rows; $i++) {
+        apcu_store('k' . (FIRST + $i), match ($i % 10) { 0 => $short, 1 => $long, default => true });
+    }
+}
+
 function measure(int $rows): void
 {
     $eight = str_repeat('x', 8);
     $hundred = str_repeat('x', 100);
-    for ($i = 0; $i < $rows; $i++) {
-        apcu_store('k' . (FIRST + $i), match ($i % 10) { 0 => $eight, 1 => $hundred, default => true });
-    }
+    fill_mixed($rows, $eight, $hundred);
     $nothing = loop("'k' . \$i");
     $fetch = loop("apcu_fetch('k' . \$i)");
     $exists = loop("apcu_exists('k' . \$i)");
@@ -58,6 +65,7 @@ function measure(int $rows): void
     $add = loop("apcu_add('k' . \$i, \$value)");
     $entry = loop("apcu_entry('k' . \$i, \$value)");
     $make = fn() => $eight;
+    $info = loop("apcu_key_info('k' . \$i)");
     $delete = loop("apcu_delete('k' . \$i)");
     $inc = loop("apcu_inc('k' . \$i)");
     $dec = loop("apcu_dec('k' . \$i)");
@@ -83,6 +91,7 @@ function measure(int $rows): void
         report('entry_there', $few, $entry, $make);
         report('delete_8', $few, $delete);
         report('entry_8', $few, $entry, $make);
+        report('key_info', $few, $info);
     }
     foreach ($few as $batch) {
         $store($batch, 7);
@@ -131,9 +140,32 @@ function measure_leaving(int $rows): void
     echo "expire $time $left\n";
 }
 
-mt_srand(1);
-if ($argv[1] === 'clear') {
-    measure_leaving((int) $argv[2]);
-} else {
-    measure((int) $argv[1]);
+function measure_telling(int $rows): void
+{
+    fill_mixed($rows, str_repeat('x', 8), str_repeat('x', 100));
+    for ($i = 0; $i < $rows; $i += 10) {
+        apcu_delete('k' . (FIRST + $i));
+    }
+    $calls = [
+        'cache_info_limited' => fn() => apcu_cache_info(true),
+        'cache_info' => fn() => apcu_cache_info(),
+        'sma_info_limited' => fn() => apcu_sma_info(true),
+        'sma_info' => fn() => apcu_sma_info(),
+    ];
+    for ($time = 0; $time < 5; $time++) {
+        foreach ($calls as $name => $call) {
+            $start = hrtime(true);
+            $told = $call();
+            $spent = (hrtime(true) - $start) * 1000;
+            $places = count($told, COUNT_RECURSIVE);
+            echo "$name $spent $places\n";
+        }
+    }
 }
+
+mt_srand(1);
+match ($argv[1]) {
+    'clear' => measure_leaving((int) $argv[2]),
+    'info' => measure_telling((int) $argv[2]),
+    default => measure((int) $argv[1]),
+};

@@ -6,7 +6,8 @@
 # fetch copies the text out, `fetch_int` answers an integer. An entry finds a row (`entry_there`) or makes one; its
 # generator is made for each call, where PHP's is a closure that is there. Each figure is the least of the batches of
 # 10,000 calls or less of several runs of both, without what a loop takes that makes the key alone. Then milliseconds of
-# dropping 100,000 rows that fill a cache: by a clear, and by a store that finds no room while all rows' time is over.
+# dropping 100,000 rows that fill a cache: by a clear, and by a store that finds no room while all rows' time is over;
+# and of telling of 10,000 rows, of which each tenth left a gap.
 # Usage: bench/cache/run.sh [PROGRAM [RUNS [ROWS..]]], where PROGRAM is the built cache_bench.
 set -eu
 here=$(cd "$(dirname "${BASH_SOURCE[0]}")" && pwd)
@@ -37,13 +38,14 @@ table() {
             return (best[file, name] - (base == "" ? 0 : best[file, base])) / unit
         }
         END {
+            places = base == "" ? 3 : 1
             for (i = 1; i <= count; i++) {
                 name = names[i]
                 if (name == base) continue
                 if (("php", name) in best)
-                    printf "%-12s %9.1f %9.1f %7.2f\n", name, cost("ours", name), cost("php", name), cost("ours", name) / cost("php", name)
+                    printf "%-18s %9.*f %9.*f %7.2f\n", name, places, cost("ours", name), places, cost("php", name), cost("ours", name) / cost("php", name)
                 else
-                    printf "%-12s %9.1f\n", name, cost("ours", name)
+                    printf "%-18s %9.*f\n", name, places, cost("ours", name)
             }
         }' "$scratch/ours" "$scratch/php"
 }
@@ -54,14 +56,17 @@ for rows in $sizes; do
         "$program" "$rows" >>"$scratch/ours"
         if [ -n "$php" ]; then in_php $((64 + rows / 2000)) "$rows" "$rows" >>"$scratch/php"; fi
     done
-    printf '\n%-12s %9s %9s %7s\n' "$rows rows" ns php ratio
+    printf '\n%-18s %9s %9s %7s\n' "$rows rows" ns php ratio
     table nothing 1000
 done
 
-: >"$scratch/ours" && : >"$scratch/php"
-for _ in $(seq "$runs"); do
-    "$program" clear 100000 >>"$scratch/ours"
-    if [ -n "$php" ]; then in_php 64 100000 clear 100000 >>"$scratch/php"; fi
+for work in "clear 100000" "info 10000"; do
+    read -r what rows <<<"$work"
+    : >"$scratch/ours" && : >"$scratch/php"
+    for _ in $(seq "$runs"); do
+        "$program" "$what" "$rows" >>"$scratch/ours"
+        if [ -n "$php" ]; then in_php 64 "$rows" "$what" "$rows" >>"$scratch/php"; fi
+    done
+    printf '\n%-18s %9s %9s %7s\n' "$rows rows" ms php ratio
+    table "" 1e9
 done
-printf '\n%-12s %9s %9s %7s\n' "100000 rows" ms php ratio
-table "" 1e9

@@ -8,6 +8,7 @@ use crate::keys::{FIRST, key_of};
 use crate::values::Values;
 use apcu_model::{Conf, Gen, StoreAnswer};
 use cache_core::{Core, Look};
+use cache_info::{cache_info, key_info, sma_info};
 use counter_entry::{Fate, IncAnswer, cas, entry, inc};
 use max_tree::MaxRow;
 use php_graph::{Bytes, Graph, Kind};
@@ -39,6 +40,21 @@ pub enum Act<'a> {
     Cas(i64),
     /// Gives this value where no row is found, and stores it. The generator is made for the call.
     Entry(&'a Graph),
+    /// Tells of the row.
+    KeyInfo,
+}
+
+/// What is told of a cache.
+#[derive(Clone, Copy)]
+pub enum Told {
+    /// What is counted, and the words.
+    Counts,
+    /// Each row and each removed one beside it.
+    Rows,
+    /// How many words are free.
+    Free,
+    /// Each gap beside it.
+    Gaps,
 }
 
 /// What was measured of calls of one kind.
@@ -124,6 +140,15 @@ impl WordCache {
         }
     }
 
+    // Whether something is told of the row.
+    #[tactic(auto, using(crate::proofs::Told::still_stands))]
+    fn tell_key(&mut self, alloc: Global, key: &[u8; 8], t: u64) -> bool {
+        match key_info(alloc, &mut self.core, &mut self.words, key, t) {
+            Ok(told) => told.is_some(),
+            Err(_) => false,
+        }
+    }
+
     /// One call at the moment `t`; whether the row is there, or was taken.
     pub fn call(&mut self, alloc: Global, key: &[u8; 8], act: Act<'_>, t: u64) -> bool {
         let (core, words) = (&mut self.core, &mut self.words);
@@ -145,6 +170,35 @@ impl WordCache {
             },
             Act::Cas(expect) => cas(core, words, key, expect, expect, t),
             Act::Entry(value) => self.entry(alloc, key, value, t),
+            Act::KeyInfo => self.tell_key(alloc, key, t),
+        }
+    }
+
+    // Tells of the rows; how many places the value has.
+    #[tactic(auto, using(crate::proofs::Told::still_stands))]
+    fn tell_rows(&mut self, alloc: Global, limited: bool) -> Result<u32, AllocError> {
+        match cache_info(alloc, &mut self.core, &mut self.words, limited) {
+            Ok(value) => Ok(value.places()),
+            Err(fault) => Err(fault),
+        }
+    }
+
+    // Tells of the words; how many places the value has.
+    #[tactic(auto, using(crate::proofs::Told::still_stands))]
+    fn tell_words(&mut self, alloc: Global, limited: bool) -> Result<u32, AllocError> {
+        match sma_info(alloc, &mut self.core, &mut self.words, limited) {
+            Ok(value) => Ok(value.places()),
+            Err(fault) => Err(fault),
+        }
+    }
+
+    /// Tells of the cache; how many places the value has.
+    pub fn tell(&mut self, alloc: Global, told: Told) -> Result<u32, AllocError> {
+        match told {
+            Told::Counts => self.tell_rows(alloc, true),
+            Told::Rows => self.tell_rows(alloc, false),
+            Told::Free => self.tell_words(alloc, true),
+            Told::Gaps => self.tell_words(alloc, false),
         }
     }
 

@@ -1,8 +1,8 @@
 //! Measures the cache over words in memory. `cache_bench ROWS` fills a cache with so many rows and
 //! as many slots, and prints for each kind of call several times the picoseconds of one, and how
 //! many calls answered true. `cache_bench clear ROWS` prints that of dropping all rows, and of
-//! dropping them because they are expired. Without arguments it does the same over few rows, and
-//! prints nothing.
+//! dropping them because they are expired, and `cache_bench info ROWS` that of telling of them.
+//! Without arguments it does the same over few rows, and prints nothing.
 #![tactic(auto)]
 
 mod cache;
@@ -11,10 +11,12 @@ mod keys;
 mod leaving;
 mod staying;
 mod steps;
+mod telling;
 mod values;
 
 use crate::leaving::measure_leaving;
 use crate::staying::measure_staying;
+use crate::telling::measure_telling;
 use crate::values::Values;
 use std::{env, io};
 
@@ -29,11 +31,15 @@ fn main(rt: HostRuntime) -> io::Result<()> {
     let Some(what) = what else {
         measure_staying(&rt, 100, &values, 1, false)?;
         measure_leaving(&rt, 100, &values, 1, false)?;
+        measure_telling(&rt, 100, &values, 1, false)?;
         return Ok(());
     };
     if let Some(count) = count {
         let rows = count.as_str().parse::<u32>().unwrap_or(0);
-        measure_leaving(&rt, rows, &values, 5, true)?;
+        match what.as_str() {
+            "info" => measure_telling(&rt, rows, &values, 5, true)?,
+            _ => measure_leaving(&rt, rows, &values, 5, true)?,
+        }
         return Ok(());
     }
     let rows = what.as_str().parse::<u32>().unwrap_or(0);

@@ -29,8 +29,8 @@ fn report(
     Ok(())
 }
 
-// The shape of a cache of so many rows, with as many slots.
-fn shape(rows: u32) -> Conf {
+/// The shape of a cache of so many rows, with as many slots.
+pub fn shape(rows: u32) -> Conf {
     let slots = rows.clamp(2, 1_048_576) / 2 * 2;
     Conf {
         words: (18 * slots).clamp(64, 16_777_216),

@@ -21,6 +21,7 @@ pub enum Step {
     AddShort,
     EntryThere,
     EntryNew,
+    KeyInfo,
     FetchInteger,
     Cas,
     Inc,
@@ -28,7 +29,7 @@ pub enum Step {
 }
 
 /// Calls under keys of texts, in an order in which each meets what it is to meet.
-pub const TEXTS: [Step; 17] = [
+pub const TEXTS: [Step; 18] = [
     Step::Nothing,
     Step::FetchShort,
     Step::FetchLong,
@@ -46,6 +47,7 @@ pub const TEXTS: [Step; 17] = [
     Step::EntryThere,
     Step::DeleteShort,
     Step::EntryNew,
+    Step::KeyInfo,
 ];
 
 /// Calls under keys of integers.
@@ -70,6 +72,7 @@ impl Step {
             Step::AddShort => "add_8",
             Step::EntryThere => "entry_there",
             Step::EntryNew => "entry_8",
+            Step::KeyInfo => "key_info",
             Step::FetchInteger => "fetch_int",
             Step::Cas => "cas",
             Step::Inc => "inc",
@@ -96,6 +99,7 @@ impl Step {
             Step::AddThere | Step::AddShort => Act::Store(&values.short, 0, true),
             Step::DeleteShort | Step::DeleteLong => Act::Delete,
             Step::EntryThere | Step::EntryNew => Act::Entry(&values.short),
+            Step::KeyInfo => Act::KeyInfo,
             Step::FetchInteger => Act::Look,
             Step::Cas => Act::Cas(7),
             Step::Inc => Act::Inc(1),
