@@ -24,7 +24,7 @@ use Rattle.cache_core.specs.Caching.{cache_of, CacheStands}
 use Rattle.cache_core.specs.Integers.{NameNoScalar}
 use Rattle.cache_core.specs.Looking.{scalar_of}
 use Rattle.counter_entry.specs.declared.looking.Found.TheVariants.{Nothing, Other, Integer}
-use Rattle.counter_entry.specs.Numbers.{integer_of, found_at, found_of, begun_answer, number_in}
+use Rattle.counter_entry.specs.Numbers.{integer_of, found_at, found_of, begun_answer, number_answered}
 
 integer_is : (g : List Kind) → integer_of (scalar_of g) ≡ integer_in g
 integer_is [] = refl
@@ -164,7 +164,7 @@ set_keeps windows key n t old new is = record {
       | inr k ↦ (row, Contains-append_right (map {A = Row} {B = Row} f c.rows) c.removed row k, refl, refl)
     ]
 
-pub number_begun : (step : ℤ) (a : StoreAnswer) → number_if step a ≡ number_in (begun_answer step a)
+pub number_begun : (step : ℤ) (a : StoreAnswer) → number_if step a ≡ number_answered (begun_answer step a)
 number_begun step answers.Stored = refl
 number_begun step answers.TooLarge = refl
 number_begun step answers.Exists = refl

@@ -40,7 +40,7 @@ makes_room answers.Exists = false
 
 -- The next insertion of an event may come: no place is refused as long as the removed rows were not
 -- swept in it, and each of them is held once they were.
-pub record IsReady (swept : Bool) (aside : Aside) (removed : List Row) : Type 0 where
+pub record MayStoreNext (swept : Bool) (aside : Aside) (removed : List Row) : Type 0 where
   pub fresh : swept ≡ false → (b : ℕ) → has b aside.refused ≡ false
   pub held : swept ≡ true → AreHeld aside removed
   pub refused : AreRemoved aside removed

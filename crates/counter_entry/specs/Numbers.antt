@@ -60,10 +60,10 @@ abbrev pub inc_answer : List ℕ → List ℕ → ℤ → ℕ → ℕ → Cache 
 inc_answer held key step ttl t c = answer_at held key step ttl t c (live_row key t c)
 
 -- the number that it gives, if any
-abbrev pub number_in : IncAnswer → Option ℤ
-number_in (Value n) = Some n
-number_in NotInteger = None
-number_in NoRoom = None
+abbrev pub number_answered : IncAnswer → Option ℤ
+number_answered (Value n) = Some n
+number_answered NotInteger = None
+number_answered NoRoom = None
 
 -- the reply of one thread that it is
 abbrev pub reply_of : IncAnswer → Reply

@@ -6,7 +6,7 @@ ghost use Rattle.apcu_model.specs.Counters.{begun, counted};
 ghost use Rattle.apcu_model.specs.Sequential.{cache_after, reply_to};
 ghost use Rattle.cache_core.specs.Caching.{cache_of, CacheStands};
 ghost use Rattle.cache_core.specs.Integers.{NameNoScalar};
-ghost use Rattle.counter_entry.specs.Numbers.{begun_answer, inc_answer, new_counter, number_in};
+ghost use Rattle.counter_entry.specs.Numbers.{begun_answer, inc_answer, new_counter, number_answered};
 ghost use Rattle.counter_entry.specs.Numbers.{reply_of};
 ghost use Rattle.entry_slots.specs.Standing.{entries};
 ghost use Rattle.ttl_expunge.specs.Held.{AreRemoved, KeepsOpen};
@@ -48,7 +48,7 @@ pub fn inc<S: Segment>(
         (cache_of core.old) }
     ensures later { (later : Aside) → Goes (S.aside seg.new) later
         → counted (held_blocks later) key.now step ttl t (cache_of core.old)
-        ≡ record { number = number_in result; cache = cache_of core.new } }
+        ≡ record { number = number_answered result; cache = cache_of core.new } }
     ensures goes { Goes (S.aside seg.old) (S.aside seg.new) }
     ensures keeps { KeepsOpen (S.aside seg.new).windows
         (entries core.old.slots) (entries core.new.slots) }
@@ -96,7 +96,7 @@ fn begin<S: Segment>(
         (cache_of core.old)).answer }
     ensures later { (later : Aside) → Goes (S.aside seg.new) later
         → begun step (new_counter (held_blocks later) key.now step ttl t (cache_of core.old))
-        ≡ record { number = number_in result; cache = cache_of core.new } }
+        ≡ record { number = number_answered result; cache = cache_of core.new } }
     ensures goes { Goes (S.aside seg.old) (S.aside seg.new) }
     ensures keeps { KeepsOpen (S.aside seg.new).windows
         (entries core.old.slots) (entries core.new.slots) }

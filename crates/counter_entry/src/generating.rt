@@ -16,7 +16,7 @@ ghost use Rattle.entry_slots.specs.Lists.{has_place};
 ghost use Rattle.entry_slots.specs.Standing.{entries};
 ghost use Rattle.ttl_expunge.specs.Held.{AreRemoved, KeepsOpen};
 ghost use Rattle.cache_core.specs.Caching.{cache_of, CacheStands};
-ghost use Rattle.counter_entry.specs.Generating.{place_under, fate_of, makes_room, IsReady};
+ghost use Rattle.counter_entry.specs.Generating.{place_under, fate_of, makes_room, MayStoreNext};
 
 use crate::answer::Fate;
 use apcu_model::{Gen, GenKind, StoreAnswer};
@@ -170,7 +170,7 @@ fn fill<S: Segment>(
     ensures goes { Goes (S.aside seg.old) (S.aside seg.new) }
     ensures keeps { KeepsOpen (S.aside seg.new).windows
         (entries core.old.slots) (entries core.new.slots) }
-    ensures ready { IsReady result.swept (S.aside seg.new) (cache_of core.new).removed }
+    ensures ready { MayStoreNext result.swept (S.aside seg.new) (cache_of core.new).removed }
     ensures stand { CacheStands S.WordsIn core.new seg.new }
     ensures rest { S.rest seg.new ≡ S.rest seg.old }
 {
@@ -208,14 +208,14 @@ fn insert<S: Segment>(
 ) -> StoreAnswer
     requires short { length key.now < 2 ^ 32 }
     requires stand { CacheStands S.WordsIn core.old seg.old }
-    requires ready { IsReady swept (S.aside seg.old) (cache_of core.old).removed }
+    requires ready { MayStoreNext swept (S.aside seg.old) (cache_of core.old).removed }
     ensures later { (later : Aside) → Goes (S.aside seg.new) later
         → inserted (held_blocks later) key.now value.now ttl true t (cache_of core.old)
         ≡ record { answer = result; cache = cache_of core.new } }
     ensures goes { Goes (S.aside seg.old) (S.aside seg.new) }
     ensures keeps { KeepsOpen (S.aside seg.new).windows
         (entries core.old.slots) (entries core.new.slots) }
-    ensures ready { IsReady (swept || makes_room result)
+    ensures ready { MayStoreNext (swept || makes_room result)
         (S.aside seg.new) (cache_of core.new).removed }
     ensures stand { CacheStands S.WordsIn core.new seg.new }
     ensures rest { S.rest seg.new ≡ S.rest seg.old }

@@ -112,7 +112,8 @@ pub(crate) fn play_crew<N: TableName + Send + Sync, G: Gate + Sync, R: Threads +
     (ended, texts)
 }
 
-// Scripts may be read on any thread. The proof that a crew is played on threads of its own cites it.
+// Scripts may be read on any thread. The proof that a crew is played on threads of its own cites
+// it.
 fn scripts_cross()
     ensures { IsSync kept_scripts.the_row }
 {}

@@ -204,8 +204,8 @@ impl<N: TableName> Cabinet<N> {
         (w.give_pass(Ask::Cas { key, expect, set }, t), found)
     }
 
-    // The value of a generator, which is stored under the keys that missed. Without memory there was
-    // no event.
+    // The value of a generator, which is stored under the keys that missed. Without memory there
+    // was no event.
     pub(crate) fn entry(
         &mut self,
         table: &PinTable,

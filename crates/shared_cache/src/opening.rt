@@ -95,8 +95,8 @@ impl Model for Fresh {
 /// Opens an empty cache of this shape for as many workers as there are budgets: how many events
 /// each may make, its end included.
 ///
-/// All memory that the cache ever needs is taken here, but for what is copied out of it. It is handed
-/// the runtime as the calls on the cache are, though it waits for nobody.
+/// All memory that the cache ever needs is taken here, but for what is copied out of it. It is
+/// handed the runtime as the calls on the cache are, though it waits for nobody.
 pub fn open_cache<R: Wait>(
     rt: &R,
     alloc: Global,

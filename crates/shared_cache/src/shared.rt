@@ -205,8 +205,8 @@ impl<N: TableName> Shared<N> {
             .entry(&self.table, alloc, pass, generator, t)
     }
 
-    /// Tells of the row that a look-up of the key finds at the moment `t`, in seconds: its hits, its
-    /// moments and its time to live; None where it finds none. Nothing is counted.
+    /// Tells of the row that a look-up of the key finds at the moment `t`, in seconds: its hits,
+    /// its moments and its time to live; None where it finds none. Nothing is counted.
     ///
     /// Without memory for the answer there was no event, and the pass comes back as it was. See
     /// `apcu_key_info` in the PHP manual.
@@ -230,8 +230,9 @@ impl<N: TableName> Shared<N> {
             .key_info(&self.table, alloc, pass, key, t)
     }
 
-    /// Tells of the cache: its slots, its limit, what was counted, how many rows there are and their
-    /// bytes, and unless it is `limited` each row and each removed row. Its event has the moment 0.
+    /// Tells of the cache: its slots, its limit, what was counted, how many rows there are and
+    /// their bytes, and unless it is `limited` each row and each removed row. Its event has the
+    /// moment 0.
     ///
     /// Without memory for the answer there was no event, and the pass comes back as it was. See
     /// `apcu_cache_info` in the PHP manual.
