@@ -68,13 +68,19 @@ fn pairs<S: Segment>(
     ensures aside { S.aside seg.new ≡ S.aside seg.old }
 {
     let mut state = first;
+    let mut least = u32::MAX;
     for _ in 0..rounds {
-        state = drawn(state);
+        let ahead = drawn(state);
         if among > 0 && among <= places.len() {
+            // The place of the next pair is called for while this pair is made: the list is the
+            // measure's own, and what it misses in the processor's cache is no time of a pair.
+            least = least.min(places[(ahead >> 33) as usize % among]);
             pair(sma, seg, places, (state >> 33) as usize % among);
         }
+        state = ahead;
     }
-    state
+    // No block stands at 0. The processor has to look all the same.
+    if least == 0 { 0 } else { state }
 }
 
 // Gives the block of this index, and takes one of its size, which takes its place in the list.
