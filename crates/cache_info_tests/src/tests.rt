@@ -12,15 +12,15 @@ const fn key(name: u8) -> [u8; 3] {
 
 // The text is these parts, one after the other.
 fn reads(rt: &impl Abort, told: &ByteOut, parts: &[&str]) {
-    let text = told.as_slice();
-    let mut place = 0;
+    let mut left = told.as_slice();
     for part in parts {
         let bytes = part.as_bytes();
-        assert!(rt; bytes.len() <= text.len() - place);
-        assert!(rt; &text[place..place + bytes.len()] == bytes);
-        place += bytes.len();
+        let len = bytes.len();
+        assert!(rt; len <= left.len());
+        assert!(rt; &left[..len] == bytes);
+        left = &left[len..];
     }
-    assert_eq!(rt; place, text.len());
+    assert!(rt; left.is_empty());
 }
 
 // A row that was fetched, and a key without a row; a row whose time is over is not told.
