@@ -2,7 +2,9 @@
 
 ghost use Rattle.std.specs.Prelude.{◌≡◌, ◌≤◌, [], ◌∷◌, length, IfSome};
 ghost use Rattle.std.specs.Thread.{IsSync};
-ghost use Rattle.pin_table.specs.Lists.{fresh, fresh_pass};
+ghost use Rattle.pin_table.specs.Lists.{fresh, fresh_pass, known_list};
+ghost use Rattle.pin_table.specs.Views.{is_among};
+ghost use Rattle.script_read.specs.contracts.script.Script as kept_script;
 ghost use Rattle.worker_play.specs.Goes.{KnowsOwnEvents};
 
 use crate::gates::Noting;
@@ -32,6 +34,11 @@ fn two_passes<N: TableName>(passes: &mut Passes) -> Option<(Pass, Pass)>
     Some((first, second))
 }
 
+// A script may be read on any thread.
+fn script_crosses()
+    ensures { IsSync kept_script.the_row }
+{}
+
 // Both play their scripts, then the first one ends, and the second one.
 fn plays_both<N: TableName + Send + Sync, G: Gate + Sync, R: Threads + Wait + Sync>(
     rt: &R,
@@ -53,6 +60,7 @@ fn plays_both<N: TableName + Send + Sync, G: Gate + Sync, R: Threads + Wait + Sy
     requires budgets { N.budgets ≡ fresh.budgets }
     requires two { length fresh.budgets ≡ 2 }
 {
+    script_crosses();
     let (shared, mut passes, mut ended) = fresh.name::<N>();
     let (first, second) = two_passes::<N>(&mut passes)?;
     let (a, b) = join(
