@@ -24,6 +24,7 @@ use Rattle.apcu_model.specs.Rows.{are_apart, touched_at}
 use Rattle.apcu_model.specs.Levels.{EntryLevel}
 use Rattle.apcu_model.specs.Lookups.{looked_up, touched}
 use Rattle.apcu_model.specs.Generators.{filled, given_by, missed_levels, looked_for}
+use Rattle.apcu_model.specs.Chunks.{is_in_chunk, chunk_dropped}
 use Rattle.apcu_model.specs.Sequential.{cache_after}
 use Rattle.apcu_model.specs.History.{Stage, start_of, is_scalar, is_shallow, are_shallow, opened, opened_at, held_places, after_event, after_events, IsNumbered, stage_of}
 use Rattle.apcu_model.proofs.Apart.{are_apart-filter, are_apart-map, are_apart-with_row, touched_key}
@@ -377,6 +378,9 @@ grown_after held t r c num small shallow = go r shallow
     go (request.KeyInfo key) few = same c (sub_refl c)
     go (request.CacheInfo limited) few = same c (sub_refl c)
     go (request.SmaInfo limited) few = same c (sub_refl c)
+    go (request.Chunk search from size list fields) few = same c (sub_refl c)
+    go (request.ChunkDelete search from size) few = same (chunk_dropped held search from size t c) (sub_dropped held t (is_in_chunk search t c from size) c)
+    go (request.Totals search list) few = same c (sub_refl c)
     go request.Retire few = same c (sub_refl c)
 
 -- one window for each worker
@@ -426,6 +430,9 @@ opened_one worker t request.Clear c = inl refl
 opened_one worker t (request.KeyInfo key) c = inl refl
 opened_one worker t (request.CacheInfo limited) c = inl refl
 opened_one worker t (request.SmaInfo limited) c = inl refl
+opened_one worker t (request.Chunk search from size list fields) c = inl refl
+opened_one worker t (request.ChunkDelete search from size) c = inl refl
+opened_one worker t (request.Totals search list) c = inl refl
 opened_one worker t request.Retire c = inl refl
 
 one_number : (worker : ℕ) (c : Cache) (new : List (ℕ × ℕ)) → OpensOn worker c new → (new ≡ []) ⊎ ((n : ℕ) × (new ≡ (worker, n) ∷ []))

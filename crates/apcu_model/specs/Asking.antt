@@ -1,8 +1,15 @@
 -- What is asked with lent keys and values.
+use Rattle.std.specs.Prelude.{Option, option_map}
+use Rattle.std.specs.Borrow.{Bor}
 use Rattle.apcu_model.specs.declared.ask.Ask.{Ask}
 use Rattle.apcu_model.specs.declared.ask.Ask.TheVariants as ask
+use Rattle.apcu_model.specs.declared.searching.Pattern.{Pattern}
 use Rattle.apcu_model.specs.declared.request.Request.{Request}
 use Rattle.apcu_model.specs.declared.request.Request.TheVariants as request
+
+-- the pattern that is lent, if there is one
+abbrev pub pattern_lent : Option (Bor Pattern) → Option Pattern
+pattern_lent search = option_map {A = Bor Pattern} (λ p. p.now) search
 
 -- the request that an ask stands for
 abbrev pub asked : Ask → Request
@@ -17,4 +24,8 @@ asked ask.Clear = request.Clear
 asked (ask.KeyInfo key) = request.KeyInfo key.now
 asked (ask.CacheInfo limited) = request.CacheInfo limited
 asked (ask.SmaInfo limited) = request.SmaInfo limited
+asked (ask.Chunk search from size list fields) =
+    request.Chunk (pattern_lent search) from size list fields
+asked (ask.ChunkDelete search from size) = request.ChunkDelete (pattern_lent search) from size
+asked (ask.Totals search list) = request.Totals (pattern_lent search) list
 asked ask.Retire = request.Retire

@@ -14,7 +14,8 @@ use Rattle.apcu_model.specs.declared.journal.Mark.{Mark}
 use Rattle.apcu_model.specs.declared.request.Request.{Request}
 use Rattle.apcu_model.specs.declared.request.Request.TheVariants.{Store, Fetch, Exists, Delete}
 use Rattle.apcu_model.specs.declared.request.Request.TheVariants.{Inc, Cas, Entry, Clear, KeyInfo}
-use Rattle.apcu_model.specs.declared.request.Request.TheVariants.{CacheInfo, SmaInfo, Retire}
+use Rattle.apcu_model.specs.declared.request.Request.TheVariants.{CacheInfo, SmaInfo, Chunk, ChunkDelete}
+use Rattle.apcu_model.specs.declared.request.Request.TheVariants.{Totals, Retire}
 use Rattle.apcu_model.specs.declared.request.Reply.{Reply}
 use Rattle.apcu_model.specs.Cache.{Row, Cache, empty_cache}
 use Rattle.apcu_model.specs.Expiry.{live_row}
@@ -86,6 +87,9 @@ opened worker t Clear c = []
 opened worker t (KeyInfo key) c = []
 opened worker t (CacheInfo limited) c = []
 opened worker t (SmaInfo limited) c = []
+opened worker t (Chunk search from size list fields) c = []
+opened worker t (ChunkDelete search from size) c = []
+opened worker t (Totals search list) c = []
 opened worker t Retire c = []
 
 abbrev pub reply_in : Stage → Event → Reply
