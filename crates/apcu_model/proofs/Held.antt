@@ -91,9 +91,9 @@ module _ (held other : List ℕ) (same : AreAlike held other) where
   cache_alike t (request.KeyInfo key) c = refl
   cache_alike t (request.CacheInfo limited) c = refl
   cache_alike t (request.SmaInfo limited) c = refl
-  cache_alike t (request.Chunk search from size list fields) c = refl
-  cache_alike t (request.ChunkDelete search from size) c = dropped_alike t (is_in_chunk search t c from size) c
-  cache_alike t (request.Totals search list) c = refl
+  cache_alike t (request.Chunk wanted from size list fields) c = refl
+  cache_alike t (request.ChunkDelete wanted from size) c = dropped_alike t (is_in_chunk wanted t c from size) c
+  cache_alike t (request.Totals wanted list) c = refl
   cache_alike t request.Retire c = refl
 
   pub reply_alike : (t : ℕ) (r : Request) (c : Cache) → reply_to held t r c ≡ reply_to other t r c
@@ -108,7 +108,7 @@ module _ (held other : List ℕ) (same : AreAlike held other) where
   reply_alike t (request.KeyInfo key) c = refl
   reply_alike t (request.CacheInfo limited) c = refl
   reply_alike t (request.SmaInfo limited) c = refl
-  reply_alike t (request.Chunk search from size list fields) c = refl
-  reply_alike t (request.ChunkDelete search from size) c = refl
-  reply_alike t (request.Totals search list) c = refl
+  reply_alike t (request.Chunk wanted from size list fields) c = refl
+  reply_alike t (request.ChunkDelete wanted from size) c = refl
+  reply_alike t (request.Totals wanted list) c = refl
   reply_alike t request.Retire c = refl

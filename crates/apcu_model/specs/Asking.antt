@@ -9,7 +9,7 @@ use Rattle.apcu_model.specs.declared.request.Request.TheVariants as request
 
 -- the pattern that is lent, if there is one
 abbrev pub pattern_lent : Option (Bor Pattern) → Option Pattern
-pattern_lent search = option_map {A = Bor Pattern} (λ p. p.now) search
+pattern_lent wanted = option_map (λ (p : Bor Pattern). p.now) wanted
 
 -- the request that an ask stands for
 abbrev pub asked : Ask → Request
@@ -24,8 +24,8 @@ asked ask.Clear = request.Clear
 asked (ask.KeyInfo key) = request.KeyInfo key.now
 asked (ask.CacheInfo limited) = request.CacheInfo limited
 asked (ask.SmaInfo limited) = request.SmaInfo limited
-asked (ask.Chunk search from size list fields) =
-    request.Chunk (pattern_lent search) from size list fields
-asked (ask.ChunkDelete search from size) = request.ChunkDelete (pattern_lent search) from size
-asked (ask.Totals search list) = request.Totals (pattern_lent search) list
+asked (ask.Chunk wanted from size list fields) =
+    request.Chunk (pattern_lent wanted) from size list fields
+asked (ask.ChunkDelete wanted from size) = request.ChunkDelete (pattern_lent wanted) from size
+asked (ask.Totals wanted list) = request.Totals (pattern_lent wanted) list
 asked ask.Retire = request.Retire

@@ -30,7 +30,7 @@ finds fold text bytes =
 
 -- the pattern matches the key; where there is none, each key matches
 abbrev pub key_matches : Option Pattern → List ℕ → Bool
-key_matches search key = option_map_or (λ p. finds p.fold p.text key) search true
+key_matches wanted key = option_map_or (λ p. finds p.fold p.text key) wanted true
 
 -- the text is UTF-8, and the grammar reads a pattern there within its limit on nesting
 abbrev pub is_pattern : Bool → List ℕ → Bool

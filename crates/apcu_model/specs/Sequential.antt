@@ -45,9 +45,9 @@ info_reply None = Absent
 
 -- a request of an iterator
 abbrev pub is_iteration : Request → Bool
-is_iteration (Chunk search from size list fields) = true
-is_iteration (ChunkDelete search from size) = true
-is_iteration (Totals search list) = true
+is_iteration (Chunk wanted from size list fields) = true
+is_iteration (ChunkDelete wanted from size) = true
+is_iteration (Totals wanted list) = true
 is_iteration (Store key value ttl exclusive) = false
 is_iteration (Fetch key) = false
 is_iteration (Exists key) = false
@@ -74,10 +74,10 @@ reply_to held t Clear c = Flag true
 reply_to held t (KeyInfo key) c = info_reply (key_info_of key t c)
 reply_to held t (CacheInfo limited) c = Info (cache_info_of limited c)
 reply_to held t (SmaInfo limited) c = Info (sma_info_of limited c)
-reply_to held t (Chunk search from size list fields) c =
-    replies.Chunk (chunk_of search from size list fields t c)
-reply_to held t (ChunkDelete search from size) c = replies.Next (chunk_end search t c from size)
-reply_to held t (Totals search list) c = totals_of (all_items search list t c)
+reply_to held t (Chunk wanted from size list fields) c =
+    replies.Chunk (chunk_of wanted from size list fields t c)
+reply_to held t (ChunkDelete wanted from size) c = replies.Next (chunk_end wanted t c from size)
+reply_to held t (Totals wanted list) c = totals_of (all_items wanted list t c)
 reply_to held t Retire c = Ended
 
 abbrev pub cache_after : List ℕ → ℕ → Request → Cache → Cache
@@ -93,7 +93,7 @@ cache_after held t Clear c = cleared held t c
 cache_after held t (KeyInfo key) c = c
 cache_after held t (CacheInfo limited) c = c
 cache_after held t (SmaInfo limited) c = c
-cache_after held t (Chunk search from size list fields) c = c
-cache_after held t (ChunkDelete search from size) c = chunk_dropped held search from size t c
-cache_after held t (Totals search list) c = c
+cache_after held t (Chunk wanted from size list fields) c = c
+cache_after held t (ChunkDelete wanted from size) c = chunk_dropped held wanted from size t c
+cache_after held t (Totals wanted list) c = c
 cache_after held t Retire c = c
