@@ -4,16 +4,11 @@ use Rattle.atomic_table.specs.Seated.{TableId}
 use Rattle.seg_words.specs.Windows.{held_by}
 use Rattle.apcu_model.specs.declared.conf.Conf.{Conf}
 use Rattle.apcu_model.specs.declared.event.Event.{Event}
-use Rattle.php_graph.specs.declared.kind.Kind.{Kind}
 use Rattle.apcu_model.specs.declared.request.Request.{Request}
-use Rattle.apcu_model.specs.declared.request.Request.TheVariants as request
 use Rattle.apcu_model.specs.declared.request.Reply.{Reply}
-use Rattle.apcu_model.specs.declared.request.Reply.TheVariants as reply
 use Rattle.apcu_model.specs.Cache.{Cache}
-use Rattle.apcu_model.specs.History.{Stage, stage_of, held_places, is_shallow, after_event}
+use Rattle.apcu_model.specs.History.{Stage, stage_of, is_shallow, after_event}
 use Rattle.apcu_model.specs.Journal.{Marks}
-use Rattle.apcu_model.specs.Levels.{Generator}
-use Rattle.apcu_model.specs.Generators.{Filling, entered}
 use Rattle.apcu_model.specs.Sequential.{cache_after, reply_to}
 use Rattle.entry_slots.specs.Standing.{entries}
 use Rattle.ttl_expunge.specs.Held.{KeepsOpen}
@@ -26,12 +21,11 @@ use Rattle.pin_table.specs.Events.{event}
 use Rattle.pin_table.specs.Views.{with_event, known_after, rested, aside_of}
 use Rattle.shared_cache.specs.Tied.{AreTied}
 use Rattle.shared_cache.specs.Settled.{Settled}
-use Rattle.counter_entry.specs.declared.answer.Fate.{Fate}
-use Rattle.counter_entry.specs.Generating.{fate_of}
-use Rattle.shared_cache.specs.Follows.{Follows, FollowsEntry}
+use Rattle.shared_cache.specs.Follows.{Follows}
+use Rattle.shared_cache.specs.Turns.{FollowsAt}
 use Rattle.shared_cache.proofs.Windows.{Running, StayOpen, tied_after}
 use Rattle.shared_cache.proofs.Ends.{Ends, short_history}
-use Rattle.shared_cache.proofs.Working.{Works, worker, table, book, run, cache_in, reply_is, entered_is, core_closed}
+use Rattle.shared_cache.proofs.Working.{Works, worker, table, book, run, alike, cache_in, reply_is, core_closed}
 use Rattle.shared_cache.proofs.Ends as all_ends
 
 -- One event of the pass p, from the seat s0 to the seat s1, that opens no window.
@@ -102,20 +96,13 @@ module _ (t : TableId) (conf : Conf) (budgets : List ℕ) (s0 s1 : Writing) (w0 
   pub settles : Settled t conf budgets s1 c1 j1
   settles = all_ends.settles t conf budgets s0 s1 w.seat.now.desk c0 c1 p q time r j0 j1 ends
 
+  -- at its place in the history
+  pub follows_at : (y : Reply) → y ≡ reply_to (held_by w.seat.now.desk.mask w.seat.now.desk.windows) time r (cache_of c0)
+      → FollowsAt conf (length budgets) p q time r y s0.desk.book.history w.seat.now.desk.mask w.seat.now.desk.windows
+  follows_at y is =
+      let f = all_ends.follows_with t conf budgets s0 s1 w.seat.now.desk c0 c1 p q time r j0 j1 ends y (reply_is t conf budgets s0 w0 w c0 p j0 h.works time r y is)
+      (λ mask between. (mask ≡ d.mask) × (p.known.seen ++ between ≡ s0.desk.book.history)) (refl, h.works.seen.1) in
+      record { follows = f.0; mask_is = f.1.0; before = f.1.1; held = alike t conf budgets s0 w0 w c0 p j0 h.works }
+
   pub follows : (y : Reply) → y ≡ reply_to (held_by w.seat.now.desk.mask w.seat.now.desk.windows) time r (cache_of c0) → Follows conf (length budgets) p q time r y
   follows y is = all_ends.follows t conf budgets s0 s1 w.seat.now.desk c0 c1 p q time r j0 j1 ends y (reply_is t conf budgets s0 w0 w c0 p j0 h.works time r y is)
-
--- the event of a generator
-pub follows_entry : (t : TableId) (conf : Conf) (budgets : List ℕ) (s0 s1 : Writing) (w0 w : Writer) (c0 c1 : Core) (p q : Bearer) (time : ℕ) (g : Generator) (j0 j1 : Marks)
-    (h : Passes t conf budgets s0 s1 w0 w c0 c1 p q time (request.Entry g) j0 j1) (value : List Kind) (fate : Fate)
-    → reply.Gave value ≡ reply_to (held_by w.seat.now.desk.mask w.seat.now.desk.windows) time (request.Entry g) (cache_of c0)
-    → fate ≡ fate_of (entered (held_by w.seat.now.desk.mask w.seat.now.desk.windows) g time (cache_of c0)).outermost
-    → FollowsEntry conf (length budgets) p q time g value fate
-unfolding ends
-follows_entry t conf budgets s0 s1 w0 w c0 c1 p q time g j0 j1 h value fate gives is =
-    let at : ℕ → List Event → Type 0 = λ mask between. fate ≡ fate_of (entered (held_places (stage_of conf (p.known.seen ++ between)) mask) g time (stage_of conf (p.known.seen ++ between)).cache).outermost in
-    let followed = all_ends.follows_with t conf budgets s0 s1 w.seat.now.desk c0 c1 p q time (request.Entry g) j0 j1 (ends t conf budgets s0 s1 w0 w c0 c1 p q time (request.Entry g) j0 j1 h)
-    (reply.Gave value) (reply_is t conf budgets s0 w0 w c0 p j0 h.works time (request.Entry g) (reply.Gave value) gives) at
-    (is ∙ (ap (λ (f : Filling). fate_of f.outermost) (entered_is t conf budgets s0 w0 w c0 p j0 h.works g time)
-    ∙ ap (λ l. fate_of (entered (held_places (stage_of conf l) w.seat.now.desk.mask) g time (stage_of conf l).cache).outermost) (sym h.works.seen.1))) in
-    record { follows = followed.0; fate_is = followed.1 }

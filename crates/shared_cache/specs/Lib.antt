@@ -1,8 +1,9 @@
+pub mod Laws
 pub mod Tied
 pub mod Settled
 pub mod Follows
+pub mod Turns
 pub mod Pinned
 pub mod Learned
 pub mod Closing
 pub mod Opening
-pub mod Laws

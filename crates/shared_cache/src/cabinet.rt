@@ -1,13 +1,12 @@
 //! What stands behind the lock.
 
-ghost use Rattle.std.specs.Prelude.{◌≡◌, ℕ, ◌<◌, ◌≤◌, ◌^◌, true, List, length};
-ghost use Rattle.std.specs.Prelude.{IfOk, OnErr};
+ghost use Rattle.std.specs.Prelude.{◌≡◌, ℕ, ◌<◌, ◌≤◌, ◌^◌, true, length};
 ghost use Rattle.apcu_model.specs.declared.request.Request.TheVariants as request;
 ghost use Rattle.apcu_model.specs.declared.request.Reply.TheVariants as reply;
-ghost use Rattle.apcu_model.specs.Sequential.{info_reply, is_stored};
+ghost use Rattle.apcu_model.specs.Sequential.{is_stored};
 ghost use Rattle.counter_entry.specs.Numbers.{reply_of};
 ghost use Rattle.shared_cache.specs.Settled.{Settled};
-ghost use Rattle.shared_cache.specs.Follows.{Follows, FollowsEntry};
+ghost use Rattle.shared_cache.specs.Follows.{Follows};
 ghost use Rattle.shared_cache.specs.Pinned.{IsFetched};
 ghost use Rattle.shared_cache.specs.Learned.{Learns};
 ghost use Rattle.pin_table.specs.Lists.{AllOf, known_list};
@@ -18,13 +17,13 @@ use crate::closed::Closed;
 use crate::lower::lower_laws;
 use crate::noting::note;
 use crate::pinned::Pinned;
-use apcu_model::{Ask, Gen, Journal, StoreAnswer};
+use crate::turn::{begin, end};
+use apcu_model::{Ask, Journal, StoreAnswer};
 use cache_core::{Core, Look};
-use cache_info::{cache_info, key_info, sma_info};
-use counter_entry::{Fate, IncAnswer, cas, entry, inc};
+use counter_entry::{IncAnswer, cas, inc};
 use php_graph::Graph;
 use pin_table::{Ended, EndedList, Pass, PinTable, TableName, WriterSeat};
-use std::alloc::{AllocError, Global};
+use std::alloc::Global;
 use std::marker::{Model, PhantomData};
 use value_image::images_are_runs;
 
@@ -32,9 +31,9 @@ use value_image::images_are_runs;
 // history.
 #[derive(Drop)]
 pub(crate) struct Cabinet<N: TableName> {
-    seat: WriterSeat,
-    journal: Journal,
-    core: Core,
+    pub(crate) seat: WriterSeat,
+    pub(crate) journal: Journal,
+    pub(crate) core: Core,
     of: PhantomData<N>,
 }
 
@@ -77,11 +76,9 @@ impl<N: TableName> Cabinet<N> {
         ensures { Follows N.conf (length N.budgets) pass result.0 t
             (request.Exists key.now) (reply.Flag result.1) }
     {
-        lower_laws();
-        let mut w = table.writer(&mut self.seat, pass);
+        let mut w = begin::<N>(table, &mut self.seat, pass);
         let found = self.core.exists(&mut w, key, t);
-        note(&mut self.journal, &w);
-        (w.give_pass(Ask::Exists(key), t), found)
+        (end::<N>(&mut self.journal, w, Ask::Exists(key), t), found)
     }
 
     // Deletes the row that a look-up of the key finds; whether it finds one.
@@ -99,11 +96,9 @@ impl<N: TableName> Cabinet<N> {
         ensures { Follows N.conf (length N.budgets) pass result.0 t
             (request.Delete key.now) (reply.Flag result.1) }
     {
-        lower_laws();
-        let mut w = table.writer(&mut self.seat, pass);
+        let mut w = begin::<N>(table, &mut self.seat, pass);
         let found = self.core.delete(&mut w, key, t);
-        note(&mut self.journal, &w);
-        (w.give_pass(Ask::Delete(key), t), found)
+        (end::<N>(&mut self.journal, w, Ask::Delete(key), t), found)
     }
 
     // Drops all rows, and forgets all that was counted.
@@ -113,11 +108,9 @@ impl<N: TableName> Cabinet<N> {
         requires left { 1 ≤ pass.known.left }
         ensures { Follows N.conf (length N.budgets) pass result t request.Clear (reply.Flag true) }
     {
-        lower_laws();
-        let mut w = table.writer(&mut self.seat, pass);
+        let mut w = begin::<N>(table, &mut self.seat, pass);
         self.core.clear(&mut w, t);
-        note(&mut self.journal, &w);
-        w.give_pass(Ask::Clear, t)
+        end::<N>(&mut self.journal, w, Ask::Clear, t)
     }
 
     // Stores a value under a key, or with `exclusive` only where no live row has it; whether it was
@@ -139,18 +132,15 @@ impl<N: TableName> Cabinet<N> {
         ensures { Follows N.conf (length N.budgets) pass result.0 t
             (request.Store key.now value.now ttl exclusive) (reply.Flag result.1) }
     {
-        lower_laws();
-        let mut w = table.writer(&mut self.seat, pass);
+        let mut w = begin::<N>(table, &mut self.seat, pass);
         let answer = self.core.store(&mut w, key, value, ttl, exclusive, t);
-        let stored = was_stored(answer);
-        note(&mut self.journal, &w);
         let ask = Ask::Store {
             key,
             value,
             ttl,
             exclusive,
         };
-        (w.give_pass(ask, t), stored)
+        (end::<N>(&mut self.journal, w, ask, t), was_stored(answer))
     }
 
     // Counts by the step: the integer of the row that a look-up of the key finds, or from 0 where
@@ -172,11 +162,10 @@ impl<N: TableName> Cabinet<N> {
         ensures { Follows N.conf (length N.budgets) pass result.0 t
             (request.Inc key.now step ttl) (reply_of result.1) }
     {
-        lower_laws();
-        let mut w = table.writer(&mut self.seat, pass);
+        let mut w = begin::<N>(table, &mut self.seat, pass);
         let answer = inc(alloc, &mut self.core, &mut w, key, step, ttl, t);
-        note(&mut self.journal, &w);
-        (w.give_pass(Ask::Inc { key, step, ttl }, t), answer)
+        let ask = Ask::Inc { key, step, ttl };
+        (end::<N>(&mut self.journal, w, ask, t), answer)
     }
 
     // Sets the integer of the row that a look-up of the key finds, where it is the expected one;
@@ -197,121 +186,10 @@ impl<N: TableName> Cabinet<N> {
         ensures { Follows N.conf (length N.budgets) pass result.0 t
             (request.Cas key.now expect set) (reply.Flag result.1) }
     {
-        lower_laws();
-        let mut w = table.writer(&mut self.seat, pass);
+        let mut w = begin::<N>(table, &mut self.seat, pass);
         let found = cas(&mut self.core, &mut w, key, expect, set, t);
-        note(&mut self.journal, &w);
-        (w.give_pass(Ask::Cas { key, expect, set }, t), found)
-    }
-
-    // The value of a generator, which is stored under the keys that missed. Without memory there
-    // was no event.
-    pub(crate) fn entry(
-        &mut self,
-        table: &PinTable,
-        alloc: Global,
-        pass: Pass,
-        generator: &Gen,
-        t: u64,
-    ) -> (Pass, Result<(Graph, Fate), AllocError>)
-        requires table { table.now ≡ N.table }
-        requires pass { pass.table ≡ N.table }
-        requires left { 1 ≤ pass.known.left }
-        requires levels { length generator.now.levels ≤ 8 }
-        ensures given { IfOk result.1 (λ v. FollowsEntry N.conf (length N.budgets) pass result.0 t
-            generator.now v.0 v.1) }
-        ensures same { OnErr result.1 (result.0 ≡ pass) }
-    {
-        lower_laws();
-        let mut w = table.writer(&mut self.seat, pass);
-        match entry(alloc, &mut self.core, &mut w, generator, t) {
-            Ok(given) => {
-                note(&mut self.journal, &w);
-                (w.give_pass(Ask::Entry(generator), t), Ok(given))
-            }
-            Err(e) => (w.give_back(), Err(e)),
-        }
-    }
-
-    // What is told of the row that a look-up of the key finds. Without memory there was no event,
-    // here and in the two calls below.
-    pub(crate) fn key_info(
-        &mut self,
-        table: &PinTable,
-        alloc: Global,
-        pass: Pass,
-        key: &[u8],
-        t: u64,
-    ) -> (Pass, Result<Option<Graph>, AllocError>)
-        requires table { table.now ≡ N.table }
-        requires pass { pass.table ≡ N.table }
-        requires left { 1 ≤ pass.known.left }
-        requires short { length key.now < 2 ^ 32 }
-        ensures told { IfOk result.1 (λ info. Follows N.conf (length N.budgets) pass result.0 t
-            (request.KeyInfo key.now) (info_reply info)) }
-        ensures same { OnErr result.1 (result.0 ≡ pass) }
-    {
-        lower_laws();
-        let mut w = table.writer(&mut self.seat, pass);
-        match key_info(alloc, &mut self.core, &mut w, key, t) {
-            Ok(info) => {
-                note(&mut self.journal, &w);
-                (w.give_pass(Ask::KeyInfo(key), t), Ok(info))
-            }
-            Err(e) => (w.give_back(), Err(e)),
-        }
-    }
-
-    // What is told of the cache.
-    pub(crate) fn cache_info(
-        &mut self,
-        table: &PinTable,
-        alloc: Global,
-        pass: Pass,
-        limited: bool,
-    ) -> (Pass, Result<Graph, AllocError>)
-        requires table { table.now ≡ N.table }
-        requires pass { pass.table ≡ N.table }
-        requires left { 1 ≤ pass.known.left }
-        ensures told { IfOk result.1 (λ info. Follows N.conf (length N.budgets) pass result.0 0
-            (request.CacheInfo limited) (reply.Info info)) }
-        ensures same { OnErr result.1 (result.0 ≡ pass) }
-    {
-        lower_laws();
-        let mut w = table.writer(&mut self.seat, pass);
-        match cache_info(alloc, &mut self.core, &mut w, limited) {
-            Ok(info) => {
-                note(&mut self.journal, &w);
-                (w.give_pass(Ask::CacheInfo(limited), 0), Ok(info))
-            }
-            Err(e) => (w.give_back(), Err(e)),
-        }
-    }
-
-    // What is told of the words: what is free.
-    pub(crate) fn sma_info(
-        &mut self,
-        table: &PinTable,
-        alloc: Global,
-        pass: Pass,
-        limited: bool,
-    ) -> (Pass, Result<Graph, AllocError>)
-        requires table { table.now ≡ N.table }
-        requires pass { pass.table ≡ N.table }
-        requires left { 1 ≤ pass.known.left }
-        ensures told { IfOk result.1 (λ info. Follows N.conf (length N.budgets) pass result.0 0
-            (request.SmaInfo limited) (reply.Info info)) }
-        ensures same { OnErr result.1 (result.0 ≡ pass) }
-    {
-        lower_laws();
-        let mut w = table.writer(&mut self.seat, pass);
-        match sma_info(alloc, &mut self.core, &mut w, limited) {
-            Ok(info) => {
-                note(&mut self.journal, &w);
-                (w.give_pass(Ask::SmaInfo(limited), 0), Ok(info))
-            }
-            Err(e) => (w.give_back(), Err(e)),
-        }
+        let ask = Ask::Cas { key, expect, set };
+        (end::<N>(&mut self.journal, w, ask, t), found)
     }
 
     // A worker's last event.

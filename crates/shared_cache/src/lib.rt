@@ -9,6 +9,8 @@
 //! `Shared::close` gives the journal of all events.
 #![tactic(auto)]
 
+mod answering;
+mod asking;
 mod cabinet;
 mod closed;
 mod lower;
@@ -16,6 +18,7 @@ mod noting;
 mod opening;
 mod pinned;
 mod shared;
+mod turn;
 
 pub use closed::Closed;
 pub use opening::{Fresh, OpenFault, open_cache};

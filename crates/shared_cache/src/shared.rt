@@ -1,13 +1,13 @@
 //! The cache that workers share, and how it is opened.
 
-ghost use Rattle.std.specs.Prelude.{◌≡◌, ℕ, ◌<◌, ◌≤◌, ◌^◌, true, List, length, IfOk, OnErr};
+ghost use Rattle.std.specs.Prelude.{◌≡◌, ℕ, ◌<◌, ◌≤◌, ◌^◌, true, List, length, IfOk};
 ghost use Rattle.php_graph.specs.declared.kind.Kind.{Kind};
 ghost use Rattle.value_image.specs.Image.{IsImageOf};
 ghost use Rattle.apcu_model.specs.declared.request.Request.TheVariants as request;
 ghost use Rattle.apcu_model.specs.declared.request.Reply.TheVariants as reply;
-ghost use Rattle.apcu_model.specs.Sequential.{info_reply, number_reply};
+ghost use Rattle.apcu_model.specs.Sequential.{number_reply};
 ghost use Rattle.counter_entry.specs.Numbers.{reply_of};
-ghost use Rattle.shared_cache.specs.Follows.{Follows, FollowsEntry};
+ghost use Rattle.shared_cache.specs.Follows.{Follows};
 ghost use Rattle.shared_cache.specs.Pinned.{IsFetched};
 ghost use Rattle.shared_cache.specs.Learned.{Learns};
 ghost use Rattle.pin_table.specs.Lists.{AllOf, known_list};
@@ -17,8 +17,7 @@ ghost use Rattle.shared_cache.specs.Closing.{IsClosed};
 use crate::cabinet::Cabinet;
 use crate::closed::Closed;
 use crate::pinned::Pinned;
-use apcu_model::Gen;
-use counter_entry::{Fate, IncAnswer};
+use counter_entry::IncAnswer;
 use php_graph::Graph;
 use pin_table::{Copying, Ended, EndedList, Image, Pass, PinTable, TableName};
 use std::alloc::{AllocError, Global};
@@ -35,9 +34,9 @@ use value_image::unpersist;
 #[derive(Drop)]
 pub struct Shared<N: TableName> {
     // for the empty list of further places that a new counter's value has
-    alloc: Global,
-    table: PinTable,
-    lock: Mutex<Cabinet<N>>,
+    pub(crate) alloc: Global,
+    pub(crate) table: PinTable,
+    pub(crate) lock: Mutex<Cabinet<N>>,
 }
 
 impl<N: TableName> Model for Shared<N> {
@@ -175,106 +174,6 @@ impl<N: TableName> Shared<N> {
         self.lock
             .lock(rt)
             .cas(&self.table, pass, key, expect, set, t)
-    }
-
-    /// Gives the value of a generator at the moment `t`, in seconds: that of the first key, from
-    /// outside in, under which a look-up finds a row, or else the literal inside. Each key that
-    /// missed counts a miss, and is then stored with the value unless a row lives there by now, the
-    /// innermost first, each with its own time to live; the key that was found counts a hit. All of
-    /// this is one event. The fate tells whether the outermost key was found, or stored.
-    ///
-    /// Without memory for the value there was no event, and the pass comes back as it was. See
-    /// `apcu_entry` in the PHP manual.
-    pub fn entry<R: Wait>(
-        &self,
-        rt: &R,
-        alloc: Global,
-        pass: Pass,
-        generator: &Gen,
-        t: u64,
-    ) -> (Pass, Result<(Graph, Fate), AllocError>)
-        requires table { pass.table ≡ N.table }
-        requires left { 2 ≤ pass.known.left }
-        requires levels { length generator.now.levels ≤ 8 }
-        ensures given { IfOk result.1 (λ v. FollowsEntry N.conf (length N.budgets) pass result.0 t
-            generator.now v.0 v.1) }
-        ensures same { OnErr result.1 (result.0 ≡ pass) }
-    {
-        self.lock
-            .lock(rt)
-            .entry(&self.table, alloc, pass, generator, t)
-    }
-
-    /// Tells of the row that a look-up of the key finds at the moment `t`, in seconds: its hits,
-    /// its moments and its time to live; None where it finds none. Nothing is counted.
-    ///
-    /// Without memory for the answer there was no event, and the pass comes back as it was. See
-    /// `apcu_key_info` in the PHP manual.
-    pub fn key_info<R: Wait>(
-        &self,
-        rt: &R,
-        alloc: Global,
-        pass: Pass,
-        key: &[u8],
-        t: u64,
-    ) -> (Pass, Result<Option<Graph>, AllocError>)
-        requires table { pass.table ≡ N.table }
-        requires left { 2 ≤ pass.known.left }
-        requires short { length key.now < 2 ^ 32 }
-        ensures told { IfOk result.1 (λ info. Follows N.conf (length N.budgets) pass result.0 t
-            (request.KeyInfo key.now) (info_reply info)) }
-        ensures same { OnErr result.1 (result.0 ≡ pass) }
-    {
-        self.lock
-            .lock(rt)
-            .key_info(&self.table, alloc, pass, key, t)
-    }
-
-    /// Tells of the cache: its slots, its limit, what was counted, how many rows there are and
-    /// their bytes, and unless it is `limited` each row and each removed row. Its event has the
-    /// moment 0.
-    ///
-    /// Without memory for the answer there was no event, and the pass comes back as it was. See
-    /// `apcu_cache_info` in the PHP manual.
-    pub fn cache_info<R: Wait>(
-        &self,
-        rt: &R,
-        alloc: Global,
-        pass: Pass,
-        limited: bool,
-    ) -> (Pass, Result<Graph, AllocError>)
-        requires table { pass.table ≡ N.table }
-        requires left { 2 ≤ pass.known.left }
-        ensures told { IfOk result.1 (λ info. Follows N.conf (length N.budgets) pass result.0 0
-            (request.CacheInfo limited) (reply.Info info)) }
-        ensures same { OnErr result.1 (result.0 ≡ pass) }
-    {
-        self.lock
-            .lock(rt)
-            .cache_info(&self.table, alloc, pass, limited)
-    }
-
-    /// Tells of the memory that the rows share: its bytes, how many are free, and unless it is
-    /// `limited` where the free ones are. Its event has the moment 0.
-    ///
-    /// Without memory for the answer there was no event, and the pass comes back as it was. See
-    /// `apcu_sma_info` in the PHP manual.
-    pub fn sma_info<R: Wait>(
-        &self,
-        rt: &R,
-        alloc: Global,
-        pass: Pass,
-        limited: bool,
-    ) -> (Pass, Result<Graph, AllocError>)
-        requires table { pass.table ≡ N.table }
-        requires left { 2 ≤ pass.known.left }
-        ensures told { IfOk result.1 (λ info. Follows N.conf (length N.budgets) pass result.0 0
-            (request.SmaInfo limited) (reply.Info info)) }
-        ensures same { OnErr result.1 (result.0 ≡ pass) }
-    {
-        self.lock
-            .lock(rt)
-            .sma_info(&self.table, alloc, pass, limited)
     }
 
     /// Fetches the value of a key at the moment `t`, in seconds. Null, a truth value or an integer

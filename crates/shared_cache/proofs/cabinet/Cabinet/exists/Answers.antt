@@ -1,54 +1,25 @@
-use Rattle.std.proofs.Common.{◌∙◌, refl, ap}
-use Rattle.apcu_model.specs.declared.request.Request.TheVariants as request
+use Rattle.std.proofs.Common.{ap, refl}
 use Rattle.apcu_model.specs.declared.request.Reply.TheVariants as reply
-use Rattle.entry_slots.specs.Standing.{entries}
-use Rattle.shared_cache.proofs.Passes.{Passes}
-use Rattle.shared_cache.proofs.Working.{Took, begun_stands, kept_stands, kept_open}
-use Rattle.shared_cache.proofs.Passes as passes
-use Rattle.shared_cache.proofs.Ends.{room_left}
+use Rattle.shared_cache.proofs.Turning.{turn_of, keeps_all}
 use Rattle.shared_cache.proofs.cabinet.Cabinet.exists.Goals as goal
-use Rattle.shared_cache.proofs.cabinet.Cabinet.exists.Given as given
 
 pub exists-found-requires-clause-stand : goal.exists-found-requires-clause-stand
 exists-found-requires-clause-stand g c =
-    let took : Took g.N.TableName.table c.self.inside.seat c.args.pass c.writer-w.result = record { table = c.writer-w.result.same_table ∙ (c.writer-w.ensures.table ∙ c.requires.table); desk = c.writer-w.ensures.desk; worker = c.writer-w.ensures.worker } in
-    let st = begun_stands c.lower_laws.ensures _ _ _ _ c.self.inside.core took c.self.invariant.stands in
-    record { stand = st.stand; whole = st.whole }
+    let k = c.begin-w.ensures.taken _ _ c.self.invariant in
+    record { stand = k.stands.stand; whole = k.stands.whole }
 
-pub note-requires : goal.note-requires
-note-requires g c = record { room = room_left _ _ _ _ _ _ c.self.invariant c.args.pass.known.left c.requires.left c.writer-w.ensures.room }
-
-passed : (g : given.Over) (c : goal.After-give_pass g) → Passes g.N.TableName.table g.N.TableName.conf g.N.TableName.budgets c.self.inside.seat c.give_pass.new.self.1.0 c.writer-w.result c.exists-found.new.seg c.self.inside.core c.self.inside.core c.args.pass c.give_pass.result c.args.t (request.Exists c.args.key.now) c.self.inside.journal c.note.new.journal
-passed g c =
-    let took : Took g.N.TableName.table c.self.inside.seat c.args.pass c.writer-w.result = record { table = c.writer-w.result.same_table ∙ (c.writer-w.ensures.table ∙ c.requires.table); desk = c.writer-w.ensures.desk; worker = c.writer-w.ensures.worker } in
-    let st = begun_stands c.lower_laws.ensures _ _ _ _ c.self.inside.core took c.self.invariant.stands in
-    record {
-      works = record {
-        laws = c.lower_laws.ensures;
-        settled = c.self.invariant;
-        pass = c.requires.pass;
-        took = took;
-        rest = c.exists-found.ensures.kept.rest;
-        order = c.give_pass.ensures.order;
-        small = c.note.ensures.small;
-        seen = c.writer-w.ensures.seen;
-        own = c.writer-w.ensures.own;
-        some_left = c.requires.left;
-      };
-      seat = c.give_pass.ensures.table;
-      desk = c.give_pass.ensures.desk;
-      given = c.give_pass.ensures.pass;
-      known = c.give_pass.ensures.known;
-      keeps = kept_open _ (entries c.self.inside.core.slots);
-      stands = kept_stands c.self.inside.core _ _ _ _ c.exists-found.ensures.kept.words c.exists-found.ensures.kept.aside st;
-      cache = refl;
-      marks = c.note.ensures.marks;
-      room = c.note.ensures.room;
-      flat = refl;
-    }
+pub end-requires : goal.end-requires
+end-requires g c = turn_of (c.begin-w.ensures.taken _ _ c.self.invariant) c.exists-found.ensures.kept.rest
 
 pub invariant_of-self : goal.invariant_of-self
-invariant_of-self g c = passes.settles _ _ _ _ _ _ _ _ _ _ _ _ _ _ _ (passed g c)
+invariant_of-self g c =
+    let k = c.begin-w.ensures.taken _ _ c.self.invariant in
+    c.end.ensures.settled (turn_of k c.exists-found.ensures.kept.rest) _
+    (keeps_all k c.exists-found.ensures.kept.words c.exists-found.ensures.kept.aside refl refl)
 
 pub returns : goal.returns
-returns g c = passes.follows _ _ _ _ _ _ _ _ _ _ _ _ _ _ _ (passed g c) _ (ap reply.Flag c.exists-found.ensures.found)
+returns g c =
+    let k = c.begin-w.ensures.taken _ _ c.self.invariant in
+    (c.end.ensures.follows (turn_of k c.exists-found.ensures.kept.rest) _ _
+    (keeps_all k c.exists-found.ensures.kept.words c.exists-found.ensures.kept.aside refl refl)
+    (ap reply.Flag c.exists-found.ensures.found)).follows

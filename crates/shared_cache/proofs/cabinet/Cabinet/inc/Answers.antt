@@ -1,65 +1,32 @@
-use Rattle.std.proofs.Common.{◌∙◌, length, subst, w64, to_z, of_z, refl}
+use Rattle.std.proofs.Common.{length, subst, w64, refl}
 use Rattle.std.proofs.lemmas.Int.{to_z-of_z}
 use Rattle.apcu_model.specs.declared.request.Request.TheVariants as request
 use Rattle.counter_entry.specs.Numbers.{reply_of}
 use Rattle.shared_cache.specs.Follows.{Follows}
-use Rattle.shared_cache.proofs.Passes.{Passes}
-use Rattle.shared_cache.proofs.Working.{Took, begun_stands, none_refused}
-use Rattle.shared_cache.proofs.Passes as passes
-use Rattle.shared_cache.proofs.Ends.{room_left}
-use Rattle.shared_cache.proofs.Unnamed.{none_scalar}
+use Rattle.shared_cache.proofs.Turning.{turn_of}
 use Rattle.shared_cache.proofs.cabinet.Cabinet.inc.Goals as goal
-use Rattle.shared_cache.proofs.cabinet.Cabinet.inc.Given as given
 
 pub inc-answer-requires-clause-stand : goal.inc-answer-requires-clause-stand
 inc-answer-requires-clause-stand g c =
-    let took : Took g.N.TableName.table c.self.inside.seat c.args.pass c.writer-w.result = record { table = c.writer-w.result.same_table ∙ (c.writer-w.ensures.table ∙ c.requires.table); desk = c.writer-w.ensures.desk; worker = c.writer-w.ensures.worker } in
-    let st = begun_stands c.lower_laws.ensures _ _ _ _ c.self.inside.core took c.self.invariant.stands in
-    record { stand = st.stand; whole = st.whole }
+    let k = c.begin-w.ensures.taken _ _ c.self.invariant in
+    record { stand = k.stands.stand; whole = k.stands.whole }
 
 pub inc-answer-requires-clause-fresh : goal.inc-answer-requires-clause-fresh
-inc-answer-requires-clause-fresh g c =
-    let took : Took g.N.TableName.table c.self.inside.seat c.args.pass c.writer-w.result = record { table = c.writer-w.result.same_table ∙ (c.writer-w.ensures.table ∙ c.requires.table); desk = c.writer-w.ensures.desk; worker = c.writer-w.ensures.worker } in
-    none_refused _ _ _ _ took
+inc-answer-requires-clause-fresh g c = let k = c.begin-w.ensures.taken _ _ c.self.invariant in k.fresh
 
 pub inc-answer-requires-clause-unnamed : goal.inc-answer-requires-clause-unnamed
-inc-answer-requires-clause-unnamed g c =
-    let took : Took g.N.TableName.table c.self.inside.seat c.args.pass c.writer-w.result = record { table = c.writer-w.result.same_table ∙ (c.writer-w.ensures.table ∙ c.requires.table); desk = c.writer-w.ensures.desk; worker = c.writer-w.ensures.worker } in
-    none_scalar c.lower_laws.ensures _ _ _ _ _ _ c.self.invariant _ _ took
+inc-answer-requires-clause-unnamed g c = let k = c.begin-w.ensures.taken _ _ c.self.invariant in k.unnamed
 
-pub note-requires : goal.note-requires
-note-requires g c = record { room = room_left _ _ _ _ _ _ c.self.invariant c.args.pass.known.left c.requires.left c.writer-w.ensures.room }
-
-passed : (g : given.Over) (c : goal.After-give_pass g) → Passes g.N.TableName.table g.N.TableName.conf g.N.TableName.budgets c.self.inside.seat c.give_pass.new.self.1.0 c.writer-w.result c.inc-answer.new.seg c.self.inside.core c.inc-answer.new.core c.args.pass c.give_pass.result c.args.t (request.Inc c.args.key.now (to_z w64 (of_z w64 c.args.step)) c.args.ttl) c.self.inside.journal c.note.new.journal
-passed g c = record {
-  works = record {
-    laws = c.lower_laws.ensures;
-    settled = c.self.invariant;
-    pass = c.requires.pass;
-    took = record { table = c.writer-w.result.same_table ∙ (c.writer-w.ensures.table ∙ c.requires.table); desk = c.writer-w.ensures.desk; worker = c.writer-w.ensures.worker };
-    rest = c.inc-answer.ensures.rest;
-    order = c.give_pass.ensures.order;
-    small = c.note.ensures.small;
-    seen = c.writer-w.ensures.seen;
-    own = c.writer-w.ensures.own;
-    some_left = c.requires.left;
-  };
-  seat = c.give_pass.ensures.table;
-  desk = c.give_pass.ensures.desk;
-  given = c.give_pass.ensures.pass;
-  known = c.give_pass.ensures.known;
-  keeps = c.inc-answer.ensures.keeps;
-  stands = record { stand = c.inc-answer.ensures.stand.stand; whole = c.inc-answer.ensures.stand.whole };
-  cache = c.inc-answer.ensures.cache;
-  marks = c.note.ensures.marks;
-  room = c.note.ensures.room;
-  flat = refl;
-}
+pub end-requires : goal.end-requires
+end-requires g c = turn_of (c.begin-w.ensures.taken _ _ c.self.invariant) c.inc-answer.ensures.rest
 
 pub invariant_of-self : goal.invariant_of-self
-invariant_of-self g c = passes.settles _ _ _ _ _ _ _ _ _ _ _ _ _ _ _ (passed g c)
+invariant_of-self g c = c.end.ensures.settled (turn_of (c.begin-w.ensures.taken _ _ c.self.invariant) c.inc-answer.ensures.rest) _
+    (record { shallow = refl; cache = c.inc-answer.ensures.cache; keeps = c.inc-answer.ensures.keeps; stands = record { stand = c.inc-answer.ensures.stand.stand; whole = c.inc-answer.ensures.stand.whole } })
 
 pub returns : goal.returns
-returns g c =
-    subst (λ n. Follows g.N.TableName.conf (length g.N.TableName.budgets) c.args.pass c.give_pass.result c.args.t (request.Inc c.args.key.now n c.args.ttl) (reply_of c.inc-answer.result)) (to_z-of_z w64 c.args.step c.ranges.step)
-    (passes.follows _ _ _ _ _ _ _ _ _ _ _ _ _ _ _ (passed g c) _ c.inc-answer.ensures.reply)
+returns g c = 
+    subst (λ n. Follows g.N.TableName.conf (length g.N.TableName.budgets) c.args.pass c.end.result c.args.t (request.Inc c.args.key.now n c.args.ttl) (reply_of c.inc-answer.result)) (to_z-of_z w64 c.args.step c.ranges.step)
+    (c.end.ensures.follows (turn_of (c.begin-w.ensures.taken _ _ c.self.invariant) c.inc-answer.ensures.rest) _ _
+    (record { shallow = refl; cache = c.inc-answer.ensures.cache; keeps = c.inc-answer.ensures.keeps; stands = record { stand = c.inc-answer.ensures.stand.stand; whole = c.inc-answer.ensures.stand.whole } })
+    c.inc-answer.ensures.reply).follows

@@ -1,0 +1,135 @@
+-- How a turn begins and ends.
+use Rattle.std.proofs.Common.{◌≡◌, ℕ, ◌+◌, ◌≤◌, ◌^◌, ◌<◌, true, List, [], ◌∷◌, ◌++◌, length, sum, Some, None, refl, ap, sym, ◌∙◌, subst, arith}
+use Rattle.std.specs.Prelude.{Result, Ok, Err, IfOk, OnOk, OnErr}
+use mathlib.Core.List.{IsPrefix}
+use Rattle.atomic_table.specs.Seated.{TableId}
+use Rattle.seg_words.specs.Windows.{held_by}
+use Rattle.apcu_model.specs.declared.conf.Conf.{Conf}
+use Rattle.apcu_model.specs.declared.event.Event.{Event}
+use Rattle.php_graph.specs.declared.kind.Kind.{Kind}
+use Rattle.apcu_model.specs.declared.request.Request.{Request}
+use Rattle.apcu_model.specs.declared.request.Request.TheVariants as request
+use Rattle.apcu_model.specs.declared.request.Reply.TheVariants as reply
+use Rattle.apcu_model.specs.Levels.{Generator}
+use Rattle.apcu_model.specs.Generators.{Filling, entered}
+use Rattle.apcu_model.specs.Cache.{Cache}
+use Rattle.apcu_model.specs.History.{stage_of, held_places, is_shallow}
+use Rattle.apcu_model.specs.Journal.{Marks}
+use Rattle.apcu_model.specs.Sequential.{cache_after, reply_to}
+use Rattle.entry_slots.specs.Standing.{entries}
+use Rattle.cache_core.specs.declared.cache.Core.{Core}
+use Rattle.cache_core.specs.Caching.{cache_of, CoreStands}
+use Rattle.counter_entry.specs.declared.answer.Fate.{Fate}
+use Rattle.counter_entry.specs.Generating.{fate_of}
+use Rattle.pin_table.specs.declared.views.Known.{Known}
+use Rattle.pin_table.specs.declared.views.Book.{Book}
+use Rattle.pin_table.specs.declared.views.Desk.{Desk}
+use Rattle.pin_table.specs.declared.writer.Beside.{Beside}
+use Rattle.pin_table.specs.declared.writer.Writer.{Writer}
+use Rattle.pin_table.specs.Values.{Writing, Bearer}
+use Rattle.pin_table.specs.Order.{DeskInOrder}
+use Rattle.pin_table.specs.Events.{event, events_of}
+use Rattle.pin_table.specs.Views.{with_hand, with_event, known_after, rested, in_hand, aside_of}
+use Rattle.shared_cache.specs.Laws.{LockLaws}
+use Rattle.shared_cache.specs.Settled.{Settled}
+use Rattle.shared_cache.specs.Follows.{Follows, FollowsEntry}
+use Rattle.shared_cache.specs.Turns.{Taken, Turn, Does, DoesIf, FollowsAt}
+use Rattle.shared_cache.proofs.Working.{Took, begun_stands, none_refused, kept_stands, kept_open}
+use Rattle.shared_cache.proofs.Unnamed.{none_scalar}
+use Rattle.shared_cache.proofs.Ends.{room_left}
+use Rattle.shared_cache.proofs.Shapes.{same_shape}
+use Rattle.shared_cache.proofs.Passes.{Passes}
+use Rattle.shared_cache.proofs.Passes as passes
+
+-- what is known of the writer that took a pass
+pub taken : LockLaws → (t : TableId) (conf : Conf) (budgets : List ℕ) (s : Writing) (c : Core) (j : Marks) (p : Bearer) (w : Writer)
+    → Settled t conf budgets s c j → p.table ≡ t → 1 ≤ p.known.left → Took t s p w → w.left ≡ p.known.left → IsPrefix p.known.seen s.desk.book.history
+    → events_of p.known.worker s.desk.book.history ≡ p.known.own → length s.desk.book.history + p.known.left ≤ sum s.desk.book.budgets
+    → Taken t conf budgets s c j p w
+taken laws t conf budgets s c j p w settled pass left took events_left seen own within = record {
+  laws = laws;
+  settled = settled;
+  pass = pass;
+  left = left;
+  table = took.table;
+  desk = took.desk;
+  worker = took.worker;
+  events_left = events_left;
+  seen = seen;
+  own = own;
+  within = within;
+  stands = begun_stands laws t s p w c took settled.stands;
+  conf = ap (λ (x : Cache). x.conf) settled.cache ∙ same_shape conf s.desk.book.history;
+  fresh = none_refused t s p w took;
+  unnamed = none_scalar laws t conf budgets s c j settled p w took;
+}
+
+module _ (t : TableId) (conf : Conf) (budgets : List ℕ) (j : Marks) (w : Writer) (turn : Turn t conf budgets j w) where
+  book : w.seat.now.desk.book ≡ with_hand turn.seat.desk.book (Some turn.pass.known)
+  book = ap (λ (b : Beside). b.seat.desk.book) turn.rest ∙ ap (λ (x : Desk). x.book) turn.taken.desk
+
+  in_it : in_hand w.seat.now.desk.book.hand ≡ turn.pass.known
+  in_it = ap (λ (b : Book). in_hand b.hand) book
+
+  -- the pass is in the writer's hand
+  pub hand : w.seat.now.desk.book.hand ≡ Some (in_hand w.seat.now.desk.book.hand)
+  hand = ap (λ (b : Book). b.hand) book ∙ ap Some (sym in_it)
+
+  pub worker_is : (in_hand w.seat.now.desk.book.hand).worker ≡ w.worker
+  worker_is = ap (λ (k : Known). k.worker) in_it ∙ sym (ap (λ (b : Beside). b.worker) turn.rest ∙ turn.taken.worker)
+
+  pub left_is : (in_hand w.seat.now.desk.book.hand).left ≡ w.left
+  left_is = ap (λ (k : Known). k.left) in_it ∙ sym (ap (λ (b : Beside). b.left) turn.rest ∙ turn.taken.events_left)
+
+  pub some_left : 1 ≤ w.left
+  some_left = subst (λ n. 1 ≤ n) (sym (ap (λ (b : Beside). b.left) turn.rest ∙ turn.taken.events_left)) turn.taken.left
+
+  -- and the journal has room for the event
+  pub roomy : 0 < j.room
+  roomy = room_left t conf budgets turn.seat turn.core j turn.taken.settled turn.pass.known.left turn.taken.left turn.taken.within
+
+-- a writer of which only words, and what it met, have changed since it took the pass
+pub turn_of : {t : TableId} {conf : Conf} {budgets : List ℕ} {s : Writing} {c : Core} {j : Marks} {p : Bearer} {first w : Writer} → Taken t conf budgets s c j p first
+    → beside w ≡ beside first → Turn t conf budgets j w
+turn_of {s} {c} {p} {first} took rest = record { seat = s; core = c; pass = p; first = first; taken = took; rest = rest }
+
+-- words and windows have not changed, and the request changes nothing
+pub keeps_all : {t : TableId} {conf : Conf} {budgets : List ℕ} {s : Writing} {c : Core} {j : Marks} {p : Bearer} {first w : Writer} {time : ℕ} {r : Request} → Taken t conf budgets s c j p first
+    → w.seat.now.desk.words ≡ first.seat.now.desk.words → aside_of w.seat.now.desk ≡ aside_of first.seat.now.desk
+    → is_shallow r ≡ true → cache_of c ≡ cache_after (held_by w.seat.now.desk.mask w.seat.now.desk.windows) time r (cache_of c) → Does w c c time r
+keeps_all {c} {first} {w} took words aside shallow nothing = record {
+  shallow = shallow;
+  cache = nothing;
+  keeps = kept_open w.seat.now.desk.windows (entries c.slots);
+  stands = kept_stands c first.seat.now.desk.words w.seat.now.desk.words (aside_of first.seat.now.desk) (aside_of w.seat.now.desk) words aside took.stands;
+}
+
+-- so it is of a call that may find no memory
+pub keeps_if : {t : TableId} {conf : Conf} {budgets : List ℕ} {s : Writing} {c d : Core} {j : Marks} {p : Bearer} {first w : Writer} {time : ℕ} {r : Request} {A E : Type 0} {answer : Result A E}
+    → Taken t conf budgets s c j p first → d ≡ c → w.seat.now.desk.words ≡ first.seat.now.desk.words → aside_of w.seat.now.desk ≡ aside_of first.seat.now.desk
+    → is_shallow r ≡ true → cache_of c ≡ cache_after (held_by w.seat.now.desk.mask w.seat.now.desk.windows) time r (cache_of c) → DoesIf first w c d time r answer
+keeps_if {c} {d} {first} {w} {time} {r} {answer} took same words aside shallow nothing = go answer
+  where
+    does : Does w c d time r
+    does = subst (λ (x : Core). Does w c x time r) (sym same) (keeps_all took words aside shallow nothing)
+
+    go : {A E : Type 0} (answer : Result A E) → DoesIf first w c d time r answer
+    go (Ok a) = record { done = does; same = tt; words = tt; aside = tt }
+    go (Err e) = record { done = tt; same = same; words = words; aside = aside }
+
+-- the event of a generator
+pub entry_of : (t : TableId) (conf : Conf) (budgets : List ℕ) (s : Writing) (c : Core) (j : Marks) (p q : Bearer) (first : Writer) → Taken t conf budgets s c j p first
+    → (time : ℕ) (g : Generator) (value : List Kind) (fate : Fate) (mask : ℕ) (windows : List ℕ)
+    → FollowsAt conf (length budgets) p q time (request.Entry g) (reply.Gave value) s.desk.book.history mask windows
+    → fate ≡ fate_of (entered (held_by mask windows) g time (cache_of c)).outermost → FollowsEntry conf (length budgets) p q time g value fate
+entry_of t conf budgets s c j p q first took time g value fate mask windows at is =
+    let m : Cache = (stage_of conf s.desk.book.history).cache in
+    let there : ℕ → List Event → Filling = λ n h. entered (held_places (stage_of conf h) n) g time (stage_of conf h).cache in
+    let entering : entered (held_by mask windows) g time (cache_of c) ≡ there mask s.desk.book.history =
+    ap (entered (held_by mask windows) g time) took.settled.cache ∙ took.laws.entered (held_by mask windows) (held_places (stage_of conf s.desk.book.history) mask) at.held g time m in
+    record {
+      follows = at.follows;
+      fate_is = is ∙ (ap (λ (f : Filling). fate_of f.outermost) entering
+          ∙ (ap (λ n. fate_of (there n s.desk.book.history).outermost) (sym at.mask_is)
+          ∙ ap (λ h. fate_of (there at.follows.mask h).outermost) (sym at.before)));
+    }

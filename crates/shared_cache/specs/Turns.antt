@@ -1,0 +1,85 @@
+-- A worker's turn under the lock, from the moment its pass is taken to the end of its event.
+use Rattle.std.specs.Prelude.{◌≡◌, ℕ, ◌+◌, ◌≤◌, true, false, List, ◌++◌, length, sum}
+use Rattle.std.specs.Prelude.{Result, OnOk, OnErr}
+use mathlib.Core.List.{IsPrefix}
+use Rattle.atomic_table.specs.Seated.{TableId}
+use Rattle.seg_words.specs.Windows.{has, held_by}
+use Rattle.apcu_model.specs.declared.conf.Conf.{Conf}
+use Rattle.apcu_model.specs.declared.event.Event.{Event}
+use Rattle.apcu_model.specs.declared.request.Request.{Request}
+use Rattle.apcu_model.specs.declared.request.Reply.{Reply}
+use Rattle.apcu_model.specs.Change.{AreAlike}
+use Rattle.apcu_model.specs.History.{stage_of, held_places, is_shallow}
+use Rattle.apcu_model.specs.Journal.{Marks}
+use Rattle.apcu_model.specs.Sequential.{cache_after}
+use Rattle.entry_slots.specs.Standing.{entries}
+use Rattle.ttl_expunge.specs.Held.{KeepsOpen}
+use Rattle.cache_core.specs.declared.cache.Core.{Core}
+use Rattle.cache_core.specs.Caching.{cache_of, CoreStands}
+use Rattle.cache_core.specs.Integers.{NameNoScalar}
+use Rattle.pin_table.specs.declared.writer.Writer.{Writer}
+use Rattle.pin_table.specs.Values.{Writing, Bearer}
+use Rattle.pin_table.specs.Events.{events_of}
+use Rattle.pin_table.specs.Views.{taken_in, aside_of}
+use Rattle.pin_table.specs.WriterRest.{beside}
+use Rattle.shared_cache.specs.Laws.{LockLaws}
+use Rattle.shared_cache.specs.Settled.{Settled}
+use Rattle.shared_cache.specs.Follows.{Follows}
+
+-- The writer w has taken the pass p. Before that the seat s, the core c and the journal j agreed;
+-- the words still stand for the cache, and nothing was probed yet.
+pub record Taken (t : TableId) (conf : Conf) (budgets : List ℕ) (s : Writing) (c : Core)
+    (j : Marks) (p : Bearer) (w : Writer) : Type 0 where
+  pub laws : LockLaws
+  pub settled : Settled t conf budgets s c j
+  pub pass : p.table ≡ t
+  pub left : 1 ≤ p.known.left
+  pub table : w.seat.now.table ≡ t
+  pub desk : w.seat.now.desk ≡ taken_in s.desk p.known
+  pub worker : w.worker ≡ p.known.worker
+  pub events_left : w.left ≡ p.known.left
+  pub seen : IsPrefix p.known.seen s.desk.book.history
+  pub own : events_of p.known.worker s.desk.book.history ≡ p.known.own
+  pub within : length s.desk.book.history + p.known.left ≤ sum s.desk.book.budgets
+  pub stands : CoreStands c w.seat.now.desk.words (aside_of w.seat.now.desk)
+  pub conf : (cache_of c).conf ≡ conf
+  pub fresh : (b : ℕ) → has b (aside_of w.seat.now.desk).refused ≡ false
+  pub unnamed : NameNoScalar (aside_of w.seat.now.desk).windows (cache_of c).rows
+
+-- The writer is in a turn: it has taken a pass, and since then only the words, and what the event
+-- met, have changed. The journal does not know of the event yet.
+pub record Turn (t : TableId) (conf : Conf) (budgets : List ℕ) (j : Marks) (w : Writer)
+    : Type 0 where
+  pub seat : Writing
+  pub core : Core
+  pub pass : Bearer
+  pub first : Writer
+  pub taken : Taken t conf budgets seat core j pass first
+  pub rest : beside w ≡ beside first
+
+-- What the request did to the core, which was c and is d: the words stand for what the cache of one
+-- thread then has, and the rows under open windows are still there.
+pub record Does (w : Writer) (c d : Core) (time : ℕ) (r : Request) : Type 0 where
+  pub shallow : is_shallow r ≡ true
+  pub cache : cache_of d
+      ≡ cache_after (held_by w.seat.now.desk.mask w.seat.now.desk.windows) time r (cache_of c)
+  pub keeps : KeepsOpen w.seat.now.desk.windows (entries c.slots) (entries d.slots)
+  pub stands : CoreStands d w.seat.now.desk.words (aside_of w.seat.now.desk)
+
+-- The same of a request for whose answer there may be no memory: then nothing has changed since the
+-- writer was as first.
+pub record DoesIf {A E : Type 0} (first w : Writer) (c d : Core) (time : ℕ) (r : Request)
+    (answer : Result A E) : Type 0 where
+  pub done : OnOk answer (Does w c d time r)
+  pub same : OnErr answer (d ≡ c)
+  pub words : OnErr answer (w.seat.now.desk.words ≡ first.seat.now.desk.words)
+  pub aside : OnErr answer (aside_of w.seat.now.desk ≡ aside_of first.seat.now.desk)
+
+-- The pass q is p after one event more, as `Follows` has it, which stands behind this history and
+-- has met the workers of this mask. What they hold there is what their windows name.
+pub record FollowsAt (conf : Conf) (workers : ℕ) (p q : Bearer) (t : ℕ) (r : Request) (y : Reply)
+    (history : List Event) (mask : ℕ) (windows : List ℕ) : Type 0 where
+  pub follows : Follows conf workers p q t r y
+  pub mask_is : follows.mask ≡ mask
+  pub before : p.known.seen ++ follows.between ≡ history
+  pub held : AreAlike (held_by mask windows) (held_places (stage_of conf history) mask)

@@ -1,0 +1,91 @@
+//! A worker's turn under the lock: how its event begins, and how it ends.
+
+ghost use Rattle.std.specs.Prelude.{◌≡◌, ℕ, ◌≤◌, length, None, IfOk, OnErr};
+ghost use Rattle.seg_words.specs.Windows.{held_by};
+ghost use Rattle.apcu_model.specs.declared.request.Reply.{Reply};
+ghost use Rattle.apcu_model.specs.Asking.{asked};
+ghost use Rattle.apcu_model.specs.Journal.{Marks};
+ghost use Rattle.apcu_model.specs.Sequential.{reply_to};
+ghost use Rattle.cache_core.specs.declared.cache.Core.{Core};
+ghost use Rattle.cache_core.specs.Caching.{cache_of};
+ghost use Rattle.shared_cache.specs.Settled.{Settled};
+ghost use Rattle.shared_cache.specs.Turns.{Taken, Turn, Does, DoesIf, FollowsAt};
+
+use crate::lower::lower_laws;
+use crate::noting::note;
+use apcu_model::{Ask, Journal};
+use pin_table::{Pass, PinTable, TableName, Writer, WriterSeat};
+use std::alloc::AllocError;
+
+// Takes the pass, and its worker's event begins. The cores and journals that agree with the seat
+// are told of as they are now.
+pub(crate) fn begin<'a, N: TableName>(
+    table: &'a PinTable,
+    seat: &'a mut WriterSeat,
+    pass: Pass,
+) -> Writer<'a>
+    requires table { table.now ≡ N.table }
+    requires seat { seat.old.table ≡ N.table }
+    requires hand { seat.old.desk.book.hand ≡ None }
+    requires pass { pass.table ≡ N.table }
+    requires left { 1 ≤ pass.known.left }
+    ensures same_reference { result.seat.ghost_name ≡ seat.entry.ghost_name }
+    ensures taken { (core : Core) (journal : Marks)
+        → Settled N.table N.conf N.budgets seat.old core journal
+        → Taken N.table N.conf N.budgets seat.old core journal pass result }
+{
+    lower_laws();
+    table.writer(seat, pass)
+}
+
+// Notes the event and ends it.
+pub(crate) fn end<N: TableName>(journal: &mut Journal, w: Writer<'_>, ask: Ask<'_>, t: u64) -> Pass
+    requires { Turn N.table N.conf N.budgets journal.old w }
+    ensures settled { (turn : Turn N.table N.conf N.budgets journal.old w.entry) (core : Core)
+        → Does w.entry turn.core core t (asked ask.entry)
+        → Settled N.table N.conf N.budgets w.exit.1.0.now core journal.new }
+    ensures follows { (turn : Turn N.table N.conf N.budgets journal.old w.entry) (core : Core)
+        (y : Reply) → Does w.entry turn.core core t (asked ask.entry)
+        → y ≡ reply_to
+        (held_by w.entry.seat.now.desk.mask w.entry.seat.now.desk.windows) t (asked ask.entry)
+        (cache_of turn.core)
+        → FollowsAt N.conf (length N.budgets) turn.pass result t (asked ask.entry) y
+        turn.seat.desk.book.history w.entry.seat.now.desk.mask
+        w.entry.seat.now.desk.windows }
+{
+    lower_laws();
+    note(journal, &w);
+    w.give_pass(ask, t)
+}
+
+// Ends the turn of a call that takes memory. With its answer the event is noted; without memory for
+// it there was none, and the pass comes back as it was. What each answer is as a reply, the caller
+// says.
+pub(crate) fn told<N: TableName, A>(
+    journal: &mut Journal,
+    w: Writer<'_>,
+    ask: Ask<'_>,
+    t: u64,
+    answer: Result<A, AllocError>,
+) -> (Pass, Result<A, AllocError>)
+    requires { Turn N.table N.conf N.budgets journal.old w }
+    ensures settled { (turn : Turn N.table N.conf N.budgets journal.old w.entry) (core : Core)
+        → DoesIf turn.first w.entry turn.core core t (asked ask.entry) answer
+        → Settled N.table N.conf N.budgets w.exit.1.0.now core journal.new }
+    ensures told { (turn : Turn N.table N.conf N.budgets journal.old w.entry) (core : Core)
+        (reply : _ → Reply)
+        → DoesIf turn.first w.entry turn.core core t (asked ask.entry) answer
+        → IfOk answer (λ a. reply a ≡ reply_to
+        (held_by w.entry.seat.now.desk.mask w.entry.seat.now.desk.windows) t (asked ask.entry)
+        (cache_of turn.core))
+        → IfOk result.1 (λ a. FollowsAt N.conf (length N.budgets) turn.pass result.0 t
+        (asked ask.entry) (reply a) turn.seat.desk.book.history w.entry.seat.now.desk.mask
+        w.entry.seat.now.desk.windows) }
+    ensures same { (turn : Turn N.table N.conf N.budgets journal.old w.entry)
+        → OnErr result.1 (result.0 ≡ turn.pass) }
+{
+    match answer {
+        Ok(answer) => (end::<N>(journal, w, ask, t), Ok(answer)),
+        Err(e) => (w.give_back(), Err(e)),
+    }
+}
