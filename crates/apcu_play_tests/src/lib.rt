@@ -2,11 +2,13 @@
 #![tactic(auto)]
 
 #[cfg(test)]
+mod answers_that_differ;
+#[cfg(test)]
 mod calls;
 #[cfg(test)]
-mod counting;
+mod calls_that_differ;
 #[cfg(test)]
-mod differences;
+mod counting;
 #[cfg(test)]
 mod faults;
 #[cfg(test)]
@@ -15,6 +17,8 @@ mod options;
 mod room;
 #[cfg(test)]
 mod runs;
+#[cfg(test)]
+mod shown;
 #[cfg(test)]
 mod threads;
 #[cfg(test)]
