@@ -12,7 +12,11 @@ mod counting;
 #[cfg(test)]
 mod faults;
 #[cfg(test)]
+mod gates;
+#[cfg(test)]
 mod options;
+#[cfg(test)]
+mod pieces;
 #[cfg(test)]
 mod room;
 #[cfg(test)]
