@@ -2,7 +2,7 @@ use Rattle.std.proofs.Common.{◌≡◌, ℕ, List, sym, slice_index, subst}
 use Rattle.std.specs.List.{All}
 use Rattle.seg_words.specs.declared.extents.Extent.{Extent}
 use Rattle.sma_blocks.specs.Live.{IsLive}
-use Rattle.sma_blocks_tests.proofs.tests.keep_listed.Goals as goal
+use Rattle.sma_blocks_tests.proofs.listed.keep_listed.Goals as goal
 
 pub keep-requires-clause-live : goal.keep-requires-clause-live
 keep-requires-clause-live g c = λ i low.

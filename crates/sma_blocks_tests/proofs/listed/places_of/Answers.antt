@@ -2,8 +2,8 @@ use Rattle.std.proofs.Common.{◌≡◌, ℕ, List, sym, ap, ◌∙◌, subst}
 use Rattle.std.specs.List.{All}
 use Rattle.sma_blocks.specs.Live.{IsLive}
 use Rattle.sma_blocks_tests.proofs.Listing.{live_push}
-use Rattle.sma_blocks_tests.proofs.tests.places_of.Goals.{then-bits-eq1+in_ok-push, else-bits-eq1}
-use Rattle.sma_blocks_tests.proofs.tests.places_of.Goals as goal
+use Rattle.sma_blocks_tests.proofs.listed.places_of.Goals.{then-bits-eq1+in_ok-push, else-bits-eq1}
+use Rattle.sma_blocks_tests.proofs.listed.places_of.Goals as goal
 
 pub loop-i-preserved : goal.loop-i-preserved
 loop-i-preserved c =

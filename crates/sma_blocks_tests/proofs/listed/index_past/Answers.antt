@@ -1,7 +1,7 @@
 use Rattle.std.proofs.Common.{length, arith}
 use Rattle.seg_words.specs.declared.extents.Extent.{Extent}
 use Rattle.sma_blocks_tests.proofs.Listing.{with_block-insert}
-use Rattle.sma_blocks_tests.proofs.tests.index_past.Goals as goal
+use Rattle.sma_blocks_tests.proofs.listed.index_past.Goals as goal
 
 abbrev nothing : Extent
 nothing = record { place = 0; size = 0 }

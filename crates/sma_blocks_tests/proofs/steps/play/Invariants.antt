@@ -1,7 +1,7 @@
 use Rattle.std.proofs.Common.{◌≡◌}
 use Rattle.sma_blocks.specs.Live.{live_blocks}
 use Rattle.sma_blocks.specs.Ready.{IsReady}
-use Rattle.sma_blocks_tests.proofs.tests.play.Given as goal
+use Rattle.sma_blocks_tests.proofs.steps.play.Given as goal
 
 abbrev pub invariant-loop-i : goal.invariant-loop-i
 invariant-loop-i g l = record {
