@@ -8,9 +8,11 @@ ghost use Rattle.entry_slots.specs.Lists.{has_place};
 ghost use Rattle.entry_slots.specs.Entries.{listed};
 ghost use Rattle.entry_slots.specs.Standing.{Stand, entries};
 ghost use Rattle.cache_core.specs.Caching.{CacheStands};
-ghost use Rattle.cache_core_tests.specs.Holding.{IsRowsPlace, HoldsTwo};
+ghost use Rattle.cache_tests.specs.Holding.{IsRowsPlace, HoldsTwo};
 
-use crate::play::{Act, Answer, answer_of, key};
+use crate::calls::{Act, Answer};
+use crate::small::answer_of;
+use crate::values::key;
 use apcu_model::{Conf, Counts};
 use cache_core::Core;
 use entry_slots::{EntrySlots, place_laws, window_laws};
@@ -88,8 +90,8 @@ pub(crate) struct Copies {
 
 impl Copies {
     pub(crate) fn new(alloc: Global) -> Result<Copies, Fail> {
-        let first = key(alloc, 0)?;
-        let second = key(alloc, 0)?;
+        let first = Bytes::of(alloc, &key(0))?;
+        let second = Bytes::of(alloc, &key(0))?;
         Ok(Copies {
             first,
             first_at: 0,
@@ -120,7 +122,7 @@ pub(crate) struct Held {
 impl Model for Held {
     ghost use Rattle.apcu_model.specs.Cache.{Cache};
     ghost use Rattle.cache_core.specs.Caching.{cache_of};
-    ghost use Rattle.cache_core_tests.specs.Holding.{HoldsTwo};
+    ghost use Rattle.cache_tests.specs.Holding.{HoldsTwo};
 
     ghost Value = { Cache };
 

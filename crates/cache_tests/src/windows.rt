@@ -1,8 +1,13 @@
 //! Calls of the cache of which blocks are held, and of the plain cache beside it.
 
+use crate::calls::{Act, Answer, NO, YES};
+use crate::draws::{Draw, Kinds};
 use crate::held::{Copies, Held};
-use crate::play::{Act, Answer, Value, act_of, key, next, plainly, shape};
+use crate::pair::shape;
+use crate::plainly::act_plainly;
+use crate::values::{Value, key};
 use apcu_model::Plain;
+use php_graph::Bytes;
 use std::alloc::Global;
 use std::process::Abort;
 use std::test::Fail;
@@ -18,9 +23,9 @@ fn both_held(
     step: (u64, u8, Act),
 ) -> Result<(), Fail> {
     let (t, name, act) = step;
-    let key = key(alloc, name)?;
+    let key = Bytes::of(alloc, &key(name))?;
     let answer = held.event(rt, alloc, copies, mask, &key, act, t)?;
-    let wanted = plainly(rt, alloc, plain, key, act, t)?;
+    let wanted = act_plainly(rt, alloc, plain, key, act, t)?;
     assert_eq!(rt; answer, wanted);
     assert_eq!(rt; held.counts(), plain.counts());
     Ok(())
@@ -37,7 +42,7 @@ fn take_up(
     if (draw >> 40) % 4 != 0 {
         return Ok(());
     }
-    let key = key(alloc, name)?;
+    let key = Bytes::of(alloc, &key(name))?;
     let at = held.place_of(&key);
     copies.hold((draw >> 42) % 2 == 1, key, at);
     Ok(())
@@ -53,17 +58,15 @@ fn calls_held(
     limit: u32,
     calls: u32,
 ) -> Result<u64, Fail> {
-    let mut draw = u64::from(limit).wrapping_add(11);
-    let mut t = 100u64;
+    let mut draw = Draw::new(u64::from(limit).wrapping_add(11));
     for _call in 0..calls {
-        draw = next(draw);
-        t = t.wrapping_add((draw >> 60) % 2);
-        let name = ((draw >> 33) % 40) as u8;
-        take_up(alloc, held, copies, name, draw)?;
-        let step = (t, name, act_of(draw));
-        both_held(rt, alloc, held, plain, copies, (draw >> 44) % 4, step)?;
+        draw = draw.next();
+        let name = draw.name(Kinds::Core);
+        take_up(alloc, held, copies, name, draw.bits)?;
+        let step = (draw.t, name, draw.act());
+        both_held(rt, alloc, held, plain, copies, (draw.bits >> 44) % 4, step)?;
     }
-    Ok(t)
+    Ok(draw.t)
 }
 
 // So many calls as they come, by both caches, in a segment that is never short of room, so that
@@ -114,12 +117,12 @@ fn one_step(
 ) -> Result<(), Fail> {
     match step {
         Step::Ask(mask, name, act, wanted) => {
-            let key = key(alloc, name)?;
+            let key = Bytes::of(alloc, &key(name))?;
             let answer = held.event(rt, alloc, copies, mask, &key, act, 100)?;
             assert_eq!(rt; answer, wanted);
         }
         Step::Hold(name, place) => {
-            let key = key(alloc, name)?;
+            let key = Bytes::of(alloc, &key(name))?;
             let at = held.place_of(&key);
             assert_eq!(rt; at, place);
             copies.hold(true, key, at);
@@ -136,12 +139,12 @@ pub(crate) fn room_is_held(rt: &impl Abort, alloc: Global) -> Result<(), Fail> {
     let long = Act::Store(Value::Text(2_000), 0, false);
     let longer = Act::Store(Value::Text(3_728), 0, false);
     for step in [
-        Step::Ask(0, 1, long, Answer::Flag(true)),
+        Step::Ask(0, 1, long, YES),
         Step::Hold(1, 32),
-        Step::Ask(2, 1, Act::Delete, Answer::Flag(true)),
+        Step::Ask(2, 1, Act::Delete, YES),
         Step::Removed(32),
-        Step::Ask(2, 2, longer, Answer::Flag(false)),
-        Step::Ask(0, 2, longer, Answer::Flag(true)),
+        Step::Ask(2, 2, longer, NO),
+        Step::Ask(0, 2, longer, YES),
         Step::Removed(0),
     ] {
         one_step(rt, alloc, &mut held, &mut copies, step)?;

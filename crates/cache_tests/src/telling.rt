@@ -1,13 +1,24 @@
-use crate::pair::{Pair, Value};
+//! What is told of a key, of the cache and of its segment.
+
+use crate::calls::{Answer, Call, DELETE, FETCH, NONE, ONE, YES, number, put};
+use crate::draws::{Draw, Kinds};
+use crate::pair::Pair;
+use crate::values::{Value, key};
 use notation::ByteOut;
 use std::process::Abort;
 use std::test::Fail;
 
-const ONE: Value = Value::Int(1);
-
-// The key of this number.
-const fn key(name: u8) -> [u8; 3] {
-    [b'k', b'0' + name / 10 % 10, b'0' + name % 10]
+// The calls in turn at their times, with what both answer.
+fn play(
+    rt: &impl Abort,
+    pair: &mut Pair,
+    rows: &[(u64, &[u8], Call, Answer)],
+) -> Result<(), Fail> {
+    for (t, key, call, wanted) in rows {
+        let answer = pair.ask(rt, key, *call, *t)?;
+        assert_eq!(rt; answer, *wanted);
+    }
+    Ok(())
 }
 
 // The text is these parts, one after the other.
@@ -27,8 +38,11 @@ fn reads(rt: &impl Abort, told: &ByteOut, parts: &[&str]) {
 #[test]
 fn tells_of_a_key(rt: HostRuntime) -> Result<(), Fail> {
     let mut pair = Pair::new(rt.alloc(), 512, 0)?;
-    assert!(rt; pair.store(&rt, b"a", ONE, 10, 100)?);
-    assert!(rt; pair.fetch(&rt, b"a", 105)?);
+    let rows = [
+        (100, b"a".as_slice(), put(ONE, 10), YES),
+        (105, b"a", FETCH, number(1)),
+    ];
+    play(&rt, &mut pair, &rows)?;
     let fresh = pair.key(&rt, b"a", 110)?;
     reads(
         &rt,
@@ -49,9 +63,7 @@ fn tells_of_a_key(rt: HostRuntime) -> Result<(), Fail> {
 #[test]
 fn tells_of_a_cache_after_an_expunge(rt: HostRuntime) -> Result<(), Fail> {
     let mut pair = Pair::new(rt.alloc(), 512, 0)?;
-    for name in 1..32u8 {
-        assert!(rt; pair.store(&rt, &key(name), ONE, 0, 100)?);
-    }
+    pair.each(&rt, (1, 31), (100, put(ONE, 0), YES))?;
     let cache = pair.cache(&rt, true)?;
     reads(
         &rt,
@@ -79,11 +91,9 @@ fn tells_of_a_cache_after_an_expunge(rt: HostRuntime) -> Result<(), Fail> {
 #[test]
 fn tells_of_a_cache_without_an_expunge(rt: HostRuntime) -> Result<(), Fail> {
     let mut pair = Pair::new(rt.alloc(), 512, 10)?;
-    for name in 1..31u8 {
-        let ttl = if name == 1 { 5 } else { 0 };
-        assert!(rt; pair.store(&rt, &key(name), ONE, ttl, 100)?);
-    }
-    assert!(rt; pair.store(&rt, &key(31), ONE, 0, 106)?);
+    pair.each(&rt, (1, 1), (100, put(ONE, 5), YES))?;
+    pair.each(&rt, (2, 30), (100, put(ONE, 0), YES))?;
+    pair.each(&rt, (31, 31), (106, put(ONE, 0), YES))?;
     let cache = pair.cache(&rt, true)?;
     reads(
         &rt,
@@ -110,12 +120,15 @@ fn tells_of_a_cache_without_an_expunge(rt: HostRuntime) -> Result<(), Fail> {
 #[test]
 fn lists_rows_and_gaps(rt: HostRuntime) -> Result<(), Fail> {
     let mut pair = Pair::new(rt.alloc(), 512, 0)?;
-    assert!(rt; pair.store(&rt, b"b", ONE, 0, 100)?);
-    assert!(rt; pair.store(&rt, b"c", ONE, 0, 100)?);
-    assert!(rt; pair.store(&rt, b"a", ONE, 5, 101)?);
-    assert!(rt; pair.store(&rt, b"A", Value::Text(9), 0, 102)?);
-    assert!(rt; pair.delete(&rt, b"c", 103)?);
-    assert!(rt; !pair.fetch(&rt, b"a", 107)?);
+    let rows = [
+        (100, b"b".as_slice(), put(ONE, 0), YES),
+        (100, b"c", put(ONE, 0), YES),
+        (101, b"a", put(ONE, 5), YES),
+        (102, b"A", put(Value::Text(9), 0), YES),
+        (103, b"c", DELETE, YES),
+        (107, b"a", FETCH, NONE),
+    ];
+    play(&rt, &mut pair, &rows)?;
     let cache = pair.cache(&rt, false)?;
     reads(
         &rt,
@@ -155,42 +168,22 @@ fn lists_rows_and_gaps(rt: HostRuntime) -> Result<(), Fail> {
     Ok(())
 }
 
-// Numbers that look like any others.
-fn next(state: u64) -> u64 {
-    state
-        .wrapping_mul(6_364_136_223_846_793_005)
-        .wrapping_add(1_442_695_040_888_963_407)
-}
-
 // The plain cache is the judge of what is told between calls as they come.
 #[test]
 fn tells_as_the_plain_cache(rt: HostRuntime) -> Result<(), Fail> {
     let mut pair = Pair::new(rt.alloc(), 1_024, 3)?;
-    let mut draw = 7u64;
-    let mut t = 100u64;
+    let mut draw = Draw::new(7);
     for _call in 0..1_000 {
-        draw = next(draw);
-        t = t.wrapping_add((draw >> 60) % 2);
-        let name = key(((draw >> 33) % 20) as u8);
-        let ttl = ((draw >> 50) % 6) as u32;
-        match (draw >> 20) % 8 {
-            0 => pair.delete(&rt, &name, t)?,
-            1 | 2 => pair.fetch(&rt, &name, t)?,
-            3 => pair.store(&rt, &name, ONE, ttl, t)?,
-            _ => pair.store(
-                &rt,
-                &name,
-                Value::Text(((draw >> 30) % 900) as usize),
-                ttl,
-                t,
-            )?,
-        };
-        match (draw >> 40) % 8 {
-            0 => pair.key(&rt, &name, t)?,
+        draw = draw.next();
+        let name = draw.name(Kinds::All);
+        let call = draw.call(Kinds::All, name);
+        pair.ask(&rt, &key(name), call, draw.t)?;
+        match (draw.bits >> 40) % 8 {
+            0 => pair.key(&rt, &key(name), draw.t)?,
             1 => pair.cache(&rt, false)?,
             2 => pair.segment(&rt, false)?,
             3 => pair.cache(&rt, true)?,
-            _ => pair.key(&rt, &key(1), t)?,
+            _ => pair.key(&rt, &key(1), draw.t)?,
         };
     }
     Ok(())
