@@ -6,7 +6,7 @@ ghost use Rattle.value_image.specs.Image.{IsImageOf};
 ghost use Rattle.cache_core.specs.Looking.{scalar_of};
 
 use seg_words::WordsIn;
-use value_image::{images_are_runs, runs_stand};
+use value_image::{BOOL, INT, NULL, images_are_runs, runs_stand};
 
 /// A value of one word or two, which is answered at once and never copied outside an event.
 #[derive(Clone, Copy, Debug, PartialEq, Eq)]
@@ -26,13 +26,6 @@ pub enum Look {
     /// The place of a live row's block, where the value is any other.
     Hit(u32),
 }
-
-/// The code of null in a tag word, which holds a code and eight times a number.
-const NULL: u64 = 0;
-/// The code of a truth value.
-const BOOL: u64 = 1;
-/// The code of an integer.
-const INT: u64 = 2;
 
 // The value of which the image stands from place `at` on, if its first place is null, a truth value
 // or an integer.

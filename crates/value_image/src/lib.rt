@@ -12,4 +12,5 @@ mod write_members;
 pub use bytes::{get_bytes, put_bytes};
 pub use laws::{bytes_are_packed, images_are_runs, images_differ, runs_are_written, runs_stand};
 pub use read::unpersist;
-pub use write::persist;
+pub use write::{BOOL, NULL, persist};
+pub use write_members::INT;

@@ -14,10 +14,10 @@ use crate::write_members::{INT, put_members, put_one, put_properties, put_string
 use php_graph::{Bytes, Graph, Kind, Members, Props};
 use seg_words::Segment;
 
-// The tag of null.
-pub(crate) const NULL: u64 = 0;
-// The tag of `false`.
-pub(crate) const BOOL: u64 = 1;
+/// The tag of null. A tag is the first word of what stands at a place.
+pub const NULL: u64 = 0;
+/// The tag of `false`; that of `true` is 8 more.
+pub const BOOL: u64 = 1;
 // The tag of an array without members.
 pub(crate) const ARRAY: u64 = 4;
 // The tag of an object without properties.

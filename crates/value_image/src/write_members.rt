@@ -14,8 +14,8 @@ use crate::bytes::put_bytes;
 use php_graph::{Bytes, Child, Graph, Key, Members, Props};
 use seg_words::{Segment, words_in};
 
-// The tag of an integer.
-pub(crate) const INT: u64 = 2;
+/// The tag of an integer, which stands in the word behind it as its two's complement.
+pub const INT: u64 = 2;
 // The tag of an empty byte string.
 pub(crate) const STR: u64 = 3;
 
