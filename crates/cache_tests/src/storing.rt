@@ -1,7 +1,8 @@
 //! Rows that are stored, found and dropped, and how they make room.
 
-use crate::calls::Call;
-use crate::calls::{CLEAR, DELETE, EXISTS, FETCH, NO, NONE, ONE, YES, add, counts, number, put};
+use crate::calls::{
+    CLEAR, Call, DELETE, EXISTS, FETCH, NO, NONE, ONE, YES, add, counts, number, put,
+};
 use crate::draws::Kinds;
 use crate::pair::{Pair, many, play};
 use crate::values::Value;

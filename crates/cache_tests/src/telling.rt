@@ -9,11 +9,7 @@ use std::process::Abort;
 use std::test::Fail;
 
 // The calls in turn at their times, with what both answer.
-fn play(
-    rt: &impl Abort,
-    pair: &mut Pair,
-    rows: &[(u64, &[u8], Call, Answer)],
-) -> Result<(), Fail> {
+fn play(rt: &impl Abort, pair: &mut Pair, rows: &[(u64, &[u8], Call, Answer)]) -> Result<(), Fail> {
     for (t, key, call, wanted) in rows {
         let answer = pair.ask(rt, key, *call, *t)?;
         assert_eq!(rt; answer, *wanted);
