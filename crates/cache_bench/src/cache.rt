@@ -1,6 +1,6 @@
 //! The cache that is measured, and its calls.
 
-ghost use Rattle.std.specs.Prelude.{◌≤◌, length, IfSome};
+ghost use Rattle.std.specs.Prelude.{◌≡◌, ◌≤◌, length, IfSome};
 ghost use Rattle.apcu_model.specs.Conf.{IsGood};
 ghost use Rattle.apcu_model.specs.Levels.{most_levels};
 
@@ -106,7 +106,9 @@ impl WordCache {
     }
 
     /// How many rows there are.
-    pub fn rows(&self) -> u64 {
+    pub fn rows(&self) -> u64
+        ensures { result ≡ length self.now.rows }
+    {
         self.core.counts().entries
     }
 

@@ -1,4 +1,4 @@
-use Rattle.std.proofs.Common.{◌<◌, length, sym, ap, ◌∙◌, arith}
+use Rattle.std.proofs.Common.{length, sym, ap, ◌∙◌, arith}
 use Rattle.entry_slots.specs.Entries.{chain_of, removed_at}
 use Rattle.entry_slots.specs.Standing.{entries}
 use Rattle.entry_slots_tests.proofs.calls.drop_slot.Goals as goal

@@ -1,4 +1,4 @@
-use Rattle.std.proofs.Common.{◌≡◌, ℕ, List, sym, slice_index, subst}
+use Rattle.std.proofs.Common.{ℕ, List, sym, slice_index, subst}
 use Rattle.std.specs.List.{All}
 use Rattle.seg_words.specs.declared.extents.Extent.{Extent}
 use Rattle.sma_blocks.specs.Live.{IsLive}

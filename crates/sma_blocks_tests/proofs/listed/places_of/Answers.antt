@@ -1,4 +1,4 @@
-use Rattle.std.proofs.Common.{◌≡◌, ℕ, List, sym, ap, ◌∙◌, subst}
+use Rattle.std.proofs.Common.{ℕ, List, sym, subst}
 use Rattle.std.specs.List.{All}
 use Rattle.sma_blocks.specs.Live.{IsLive}
 use Rattle.sma_blocks_tests.proofs.Listing.{live_push}
