@@ -1,0 +1,7 @@
+use walk_laws::{steps_of_walks, walks_give_once};
+
+#[test]
+fn states_its_laws() {
+    walks_give_once();
+    steps_of_walks();
+}
