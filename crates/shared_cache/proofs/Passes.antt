@@ -99,6 +99,7 @@ module _ (t : TableId) (conf : Conf) (budgets : List ℕ) (s0 s1 : Writing) (w0 
   -- at its place in the history
   pub follows_at : (y : Reply) → y ≡ reply_to (held_by w.seat.now.desk.mask w.seat.now.desk.windows) time r (cache_of c0)
       → FollowsAt conf (length budgets) p q time r y s0.desk.book.history w.seat.now.desk.mask w.seat.now.desk.windows
+  unfolding ends
   follows_at y is =
       let f = all_ends.follows_with t conf budgets s0 s1 w.seat.now.desk c0 c1 p q time r j0 j1 ends y (reply_is t conf budgets s0 w0 w c0 p j0 h.works time r y is)
       (λ mask between. (mask ≡ d.mask) × (p.known.seen ++ between ≡ s0.desk.book.history)) (refl, h.works.seen.1) in

@@ -1,5 +1,5 @@
 -- No event changes the shape of a cache.
-use Rattle.std.proofs.Common.{◌≡◌, ℕ, ◌-◌, ◌&&◌, ℤ, Bool, true, false, cond, List, [], ◌∷◌, length, Option, Some, None, refl, ap, ◌∙◌}
+use Rattle.std.proofs.Common.{◌≡◌, ℕ, ◌-◌, ◌&&◌, ℤ, Bool, true, false, cond, List, [], ◌∷◌, length, Option, Some, None, refl, ◌∙◌}
 use Rattle.std.specs.Prelude.{nat_lt, is_some}
 use Rattle.php_graph.specs.declared.kind.Kind.{Kind}
 use Rattle.php_graph.specs.declared.kind.Kind.TheVariants as kinds
@@ -10,8 +10,8 @@ use Rattle.apcu_model.specs.declared.request.Request.{Request}
 use Rattle.apcu_model.specs.declared.request.Request.TheVariants as request
 use Rattle.apcu_model.specs.Cache.{Row, Cache, gap_of, has_key}
 use Rattle.apcu_model.specs.Expiry.{live_row, is_expired}
-use Rattle.apcu_model.specs.Change.{Insertion, dropped, swept, expired_dropped, expunged, deleted, cleared, has_gap, with_room, put_in, inserted}
-use Rattle.apcu_model.specs.Counters.{counted_at, counted_on, swapped, integer_in, integer_set, is_expected}
+use Rattle.apcu_model.specs.Change.{Insertion, dropped, swept, expired_dropped, expunged, has_gap, with_room, put_in, inserted}
+use Rattle.apcu_model.specs.Counters.{counted_at, counted_on, integer_in, integer_set, is_expected}
 use Rattle.apcu_model.specs.Levels.{EntryLevel}
 use Rattle.apcu_model.specs.Generators.{filled, looked_for, given_by, missed_levels}
 use Rattle.apcu_model.specs.Lookups.{looked_up}

@@ -1,5 +1,5 @@
 -- How a turn begins and ends.
-use Rattle.std.proofs.Common.{◌≡◌, ℕ, ◌+◌, ◌≤◌, ◌^◌, ◌<◌, true, List, [], ◌∷◌, ◌++◌, length, sum, Some, None, refl, ap, sym, ◌∙◌, subst, arith}
+use Rattle.std.proofs.Common.{◌≡◌, ℕ, ◌+◌, ◌≤◌, ◌<◌, true, List, length, sum, Some, ap, sym, ◌∙◌, subst}
 use Rattle.std.specs.Prelude.{Result, Ok, Err, IfOk, OnOk, OnErr}
 use mathlib.Core.List.{IsPrefix}
 use Rattle.atomic_table.specs.Seated.{TableId}
@@ -15,8 +15,9 @@ use Rattle.apcu_model.specs.Generators.{Filling, entered}
 use Rattle.apcu_model.specs.Cache.{Cache}
 use Rattle.apcu_model.specs.History.{stage_of, held_places, is_shallow}
 use Rattle.apcu_model.specs.Journal.{Marks}
-use Rattle.apcu_model.specs.Sequential.{cache_after, reply_to}
+use Rattle.apcu_model.specs.Sequential.{cache_after}
 use Rattle.entry_slots.specs.Standing.{entries}
+use Rattle.ttl_expunge.specs.Held.{KeepsOpen}
 use Rattle.cache_core.specs.declared.cache.Core.{Core}
 use Rattle.cache_core.specs.Caching.{cache_of, CoreStands}
 use Rattle.counter_entry.specs.declared.answer.Fate.{Fate}
@@ -24,22 +25,19 @@ use Rattle.counter_entry.specs.Generating.{fate_of}
 use Rattle.pin_table.specs.declared.views.Known.{Known}
 use Rattle.pin_table.specs.declared.views.Book.{Book}
 use Rattle.pin_table.specs.declared.views.Desk.{Desk}
-use Rattle.pin_table.specs.declared.writer.Beside.{Beside}
 use Rattle.pin_table.specs.declared.writer.Writer.{Writer}
 use Rattle.pin_table.specs.Values.{Writing, Bearer}
-use Rattle.pin_table.specs.Order.{DeskInOrder}
-use Rattle.pin_table.specs.Events.{event, events_of}
-use Rattle.pin_table.specs.Views.{with_hand, with_event, known_after, rested, in_hand, aside_of}
+use Rattle.pin_table.specs.Events.{events_of}
+use Rattle.pin_table.specs.Views.{with_hand, in_hand, aside_of}
+use Rattle.pin_table.specs.WriterRest.{beside}
 use Rattle.shared_cache.specs.Laws.{LockLaws}
 use Rattle.shared_cache.specs.Settled.{Settled}
-use Rattle.shared_cache.specs.Follows.{Follows, FollowsEntry}
-use Rattle.shared_cache.specs.Turns.{Taken, Turn, Does, DoesIf, FollowsAt}
-use Rattle.shared_cache.proofs.Working.{Took, begun_stands, none_refused, kept_stands, kept_open}
+use Rattle.shared_cache.specs.Follows.{FollowsEntry}
+use Rattle.shared_cache.specs.Turns.{Taken, GoesOn, Turn, Does, DoesIf, FollowsAt}
+use Rattle.shared_cache.proofs.Working.{Took, begun_stands, none_refused, kept_stands, kept_open, goes_on}
 use Rattle.shared_cache.proofs.Unnamed.{none_scalar}
 use Rattle.shared_cache.proofs.Ends.{room_left}
 use Rattle.shared_cache.proofs.Shapes.{same_shape}
-use Rattle.shared_cache.proofs.Passes.{Passes}
-use Rattle.shared_cache.proofs.Passes as passes
 
 -- what is known of the writer that took a pass
 pub taken : LockLaws → (t : TableId) (conf : Conf) (budgets : List ℕ) (s : Writing) (c : Core) (j : Marks) (p : Bearer) (w : Writer)
@@ -59,14 +57,14 @@ taken laws t conf budgets s c j p w settled pass left took events_left seen own 
   own = own;
   within = within;
   stands = begun_stands laws t s p w c took settled.stands;
-  conf = ap (λ (x : Cache). x.conf) settled.cache ∙ same_shape conf s.desk.book.history;
+  shape = ap (λ (x : Cache). x.conf) settled.cache ∙ same_shape conf s.desk.book.history;
   fresh = none_refused t s p w took;
   unnamed = none_scalar laws t conf budgets s c j settled p w took;
 }
 
 module _ (t : TableId) (conf : Conf) (budgets : List ℕ) (j : Marks) (w : Writer) (turn : Turn t conf budgets j w) where
   book : w.seat.now.desk.book ≡ with_hand turn.seat.desk.book (Some turn.pass.known)
-  book = ap (λ (b : Beside). b.seat.desk.book) turn.rest ∙ ap (λ (x : Desk). x.book) turn.taken.desk
+  book = turn.goes_on.book ∙ ap (λ (x : Desk). x.book) turn.taken.desk
 
   in_it : in_hand w.seat.now.desk.book.hand ≡ turn.pass.known
   in_it = ap (λ (b : Book). in_hand b.hand) book
@@ -76,44 +74,61 @@ module _ (t : TableId) (conf : Conf) (budgets : List ℕ) (j : Marks) (w : Write
   hand = ap (λ (b : Book). b.hand) book ∙ ap Some (sym in_it)
 
   pub worker_is : (in_hand w.seat.now.desk.book.hand).worker ≡ w.worker
-  worker_is = ap (λ (k : Known). k.worker) in_it ∙ sym (ap (λ (b : Beside). b.worker) turn.rest ∙ turn.taken.worker)
+  worker_is = ap (λ (k : Known). k.worker) in_it ∙ sym (turn.goes_on.worker ∙ turn.taken.worker)
 
   pub left_is : (in_hand w.seat.now.desk.book.hand).left ≡ w.left
-  left_is = ap (λ (k : Known). k.left) in_it ∙ sym (ap (λ (b : Beside). b.left) turn.rest ∙ turn.taken.events_left)
+  left_is = ap (λ (k : Known). k.left) in_it ∙ sym (turn.goes_on.left ∙ turn.taken.events_left)
 
   pub some_left : 1 ≤ w.left
-  some_left = subst (λ n. 1 ≤ n) (sym (ap (λ (b : Beside). b.left) turn.rest ∙ turn.taken.events_left)) turn.taken.left
+  some_left = subst (λ n. 1 ≤ n) (sym (turn.goes_on.left ∙ turn.taken.events_left)) turn.taken.left
 
   -- and the journal has room for the event
   pub roomy : 0 < j.room
   roomy = room_left t conf budgets turn.seat turn.core j turn.taken.settled turn.pass.known.left turn.taken.left turn.taken.within
 
 -- a writer of which only words, and what it met, have changed since it took the pass
-pub turn_of : {t : TableId} {conf : Conf} {budgets : List ℕ} {s : Writing} {c : Core} {j : Marks} {p : Bearer} {first w : Writer} → Taken t conf budgets s c j p first
+abbrev pub turn_of : {t : TableId} {conf : Conf} {budgets : List ℕ} {s : Writing} {c : Core} {j : Marks} {p : Bearer} {first w : Writer} → Taken t conf budgets s c j p first
     → beside w ≡ beside first → Turn t conf budgets j w
-turn_of {s} {c} {p} {first} took rest = record { seat = s; core = c; pass = p; first = first; taken = took; rest = rest }
+turn_of {s} {c} {p} {first} took rest = record { seat = s; core = c; pass = p; first = first; taken = took; goes_on = goes_on rest }
+
+-- the turn of a writer that goes on
+abbrev pub later_turn : {t : TableId} {conf : Conf} {budgets : List ℕ} {j : Marks} {w later : Writer} → Turn t conf budgets j w → GoesOn w later → Turn t conf budgets j later
+later_turn turn on = record {
+  seat = turn.seat;
+  core = turn.core;
+  pass = turn.pass;
+  first = turn.first;
+  taken = turn.taken;
+  goes_on = record {
+    worker = on.worker ∙ turn.goes_on.worker;
+    left = on.left ∙ turn.goes_on.left;
+    table = on.table ∙ turn.goes_on.table;
+    book = on.book ∙ turn.goes_on.book;
+    begun = on.begun ∙ turn.goes_on.begun;
+  };
+}
 
 -- words and windows have not changed, and the request changes nothing
-pub keeps_all : {t : TableId} {conf : Conf} {budgets : List ℕ} {s : Writing} {c : Core} {j : Marks} {p : Bearer} {first w : Writer} {time : ℕ} {r : Request} → Taken t conf budgets s c j p first
-    → w.seat.now.desk.words ≡ first.seat.now.desk.words → aside_of w.seat.now.desk ≡ aside_of first.seat.now.desk
-    → is_shallow r ≡ true → cache_of c ≡ cache_after (held_by w.seat.now.desk.mask w.seat.now.desk.windows) time r (cache_of c) → Does w c c time r
-keeps_all {c} {first} {w} took words aside shallow nothing = record {
+pub keeps_all : {t : TableId} {conf : Conf} {budgets : List ℕ} {s : Writing} {c : Core} {j : Marks} {p : Bearer} {first : Writer} {desk : Desk} {time : ℕ} {r : Request} → Taken t conf budgets s c j p first
+    → desk.words ≡ first.seat.now.desk.words → aside_of desk ≡ aside_of first.seat.now.desk
+    → is_shallow r ≡ true → cache_of c ≡ cache_after (held_by desk.mask desk.windows) time r (cache_of c) → Does desk c c time r
+keeps_all {c} {first} {desk} took words aside shallow nothing = record {
   shallow = shallow;
   cache = nothing;
-  keeps = kept_open w.seat.now.desk.windows (entries c.slots);
-  stands = kept_stands c first.seat.now.desk.words w.seat.now.desk.words (aside_of first.seat.now.desk) (aside_of w.seat.now.desk) words aside took.stands;
+  keeps = kept_open desk.windows (entries c.slots);
+  stands = kept_stands c first.seat.now.desk.words desk.words (aside_of first.seat.now.desk) (aside_of desk) words aside took.stands;
 }
 
 -- so it is of a call that may find no memory
-pub keeps_if : {t : TableId} {conf : Conf} {budgets : List ℕ} {s : Writing} {c d : Core} {j : Marks} {p : Bearer} {first w : Writer} {time : ℕ} {r : Request} {A E : Type 0} {answer : Result A E}
-    → Taken t conf budgets s c j p first → d ≡ c → w.seat.now.desk.words ≡ first.seat.now.desk.words → aside_of w.seat.now.desk ≡ aside_of first.seat.now.desk
-    → is_shallow r ≡ true → cache_of c ≡ cache_after (held_by w.seat.now.desk.mask w.seat.now.desk.windows) time r (cache_of c) → DoesIf first w c d time r answer
-keeps_if {c} {d} {first} {w} {time} {r} {answer} took same words aside shallow nothing = go answer
+pub keeps_if : {t : TableId} {conf : Conf} {budgets : List ℕ} {s : Writing} {c d : Core} {j : Marks} {p : Bearer} {first : Writer} {desk : Desk} {time : ℕ} {r : Request} {A E : Type 0} {answer : Result A E}
+    → Taken t conf budgets s c j p first → d ≡ c → desk.words ≡ first.seat.now.desk.words → aside_of desk ≡ aside_of first.seat.now.desk
+    → is_shallow r ≡ true → cache_of c ≡ cache_after (held_by desk.mask desk.windows) time r (cache_of c) → DoesIf first.seat.now.desk desk c d time r answer
+keeps_if {c} {d} {first} {desk} {time} {r} {answer} took same words aside shallow nothing = go answer
   where
-    does : Does w c d time r
-    does = subst (λ (x : Core). Does w c x time r) (sym same) (keeps_all took words aside shallow nothing)
+    does : Does desk c d time r
+    does = subst (λ (x : Core). Does desk c x time r) (sym same) (keeps_all took words aside shallow nothing)
 
-    go : {A E : Type 0} (answer : Result A E) → DoesIf first w c d time r answer
+    go : {A E : Type 0} (answer : Result A E) → DoesIf first.seat.now.desk desk c d time r answer
     go (Ok a) = record { done = does; same = tt; words = tt; aside = tt }
     go (Err e) = record { done = tt; same = same; words = words; aside = aside }
 
@@ -133,3 +148,19 @@ entry_of t conf budgets s c j p q first took time g value fate mask windows at i
           ∙ (ap (λ n. fate_of (there n s.desk.book.history).outermost) (sym at.mask_is)
           ∙ ap (λ h. fate_of (there at.follows.mask h).outermost) (sym at.before)));
     }
+
+-- and so it is of each answer
+pub entries_of : (t : TableId) (conf : Conf) (budgets : List ℕ) (s : Writing) (c : Core) (j : Marks) (p q : Bearer) (first : Writer) → Taken t conf budgets s c j p first
+    → (time : ℕ) (g : Generator) (mask : ℕ) (windows : List ℕ) {E : Type 0} (answer : Result (List Kind × Fate) E)
+    → IfOk answer (λ v. FollowsAt conf (length budgets) p q time (request.Entry g) (reply.Gave v.0) s.desk.book.history mask windows)
+    → IfOk answer (λ v. v.1 ≡ fate_of (entered (held_by mask windows) g time (cache_of c)).outermost) → IfOk answer (λ v. FollowsEntry conf (length budgets) p q time g v.0 v.1)
+entries_of t conf budgets s c j p q first took time g mask windows (Ok v) at is = entry_of t conf budgets s c j p q first took time g v.0 v.1 mask windows at is
+entries_of t conf budgets s c j p q first took time g mask windows (Err e) at is = tt
+
+-- a request that changes something, and for whose answer there may be no memory
+pub changes_if : {before desk : Desk} {c d : Core} {time : ℕ} {r : Request} {A E : Type 0} (answer : Result A E) → is_shallow r ≡ true
+    → OnOk answer (cache_of d ≡ cache_after (held_by desk.mask desk.windows) time r (cache_of c)) → KeepsOpen desk.windows (entries c.slots) (entries d.slots)
+    → CoreStands d desk.words (aside_of desk) → OnErr answer (d ≡ c) → OnErr answer (desk.words ≡ before.words) → OnErr answer (aside_of desk ≡ aside_of before)
+    → DoesIf before desk c d time r answer
+changes_if (Ok a) shallow cache keeps stands same words aside = record { done = record { shallow = shallow; cache = cache; keeps = keeps; stands = stands }; same = tt; words = tt; aside = tt }
+changes_if (Err e) shallow cache keeps stands same words aside = record { done = tt; same = same; words = words; aside = aside }

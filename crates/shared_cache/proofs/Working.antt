@@ -8,9 +8,7 @@ use Rattle.apcu_model.specs.declared.conf.Conf.{Conf}
 use Rattle.apcu_model.specs.declared.request.Request.{Request}
 use Rattle.apcu_model.specs.declared.request.Reply.{Reply}
 use Rattle.apcu_model.specs.Cache.{Row, Cache}
-use Rattle.apcu_model.specs.Levels.{Generator}
 use Rattle.apcu_model.specs.Change.{AreAlike}
-use Rattle.apcu_model.specs.Generators.{entered}
 use Rattle.apcu_model.specs.History.{stage_of, held_places, reply_in, after_event}
 use Rattle.apcu_model.specs.Journal.{Marks}
 use Rattle.apcu_model.specs.Sequential.{cache_after, reply_to}
@@ -30,6 +28,7 @@ use Rattle.pin_table.specs.Views.{with_hand, taken_in, aside_of}
 use Rattle.pin_table.specs.WriterRest.{beside}
 use Rattle.shared_cache.specs.Laws.{LockLaws}
 use Rattle.shared_cache.specs.Settled.{Settled}
+use Rattle.shared_cache.specs.Turns.{GoesOn}
 use Rattle.shared_cache.proofs.Windows.{Running, named_set}
 use Rattle.shared_cache.proofs.Alike.{held_alike}
 use Rattle.shared_cache.proofs.Ends.{short_history}
@@ -65,13 +64,23 @@ kept_stands c old new before after words aside st = subst (λ ws. CoreStands c w
 pub kept_open : (windows : List ℕ) (s : Entries) → KeepsOpen windows s s
 kept_open windows s = record { each = λ row there named. (row, there, refl, refl) }
 
+-- a call of the core leaves what is beside the words
+pub goes_on : {first w : Writer} → beside w ≡ beside first → GoesOn first w
+goes_on rest = record {
+  worker = ap (λ (b : Beside). b.worker) rest;
+  left = ap (λ (b : Beside). b.left) rest;
+  table = ap (λ (b : Beside). b.seat.table) rest;
+  book = ap (λ (b : Beside). b.seat.desk.book) rest;
+  begun = ap (λ (b : Beside). b.seat.desk.begun) rest;
+}
+
 -- An event of the pass p under way, from the seat s0 on: the writer is w0 as it begins and w as it ends.
 pub record Works (t : TableId) (conf : Conf) (budgets : List ℕ) (s0 : Writing) (w0 w : Writer) (c0 : Core) (p : Bearer) (j0 : Marks) : Type 0 where
   pub laws : LockLaws
   pub settled : Settled t conf budgets s0 c0 j0
   pub pass : p.table ≡ t
   pub took : Took t s0 p w0
-  pub rest : beside w ≡ beside w0
+  pub goes_on : GoesOn w0 w
   pub order : (copying : List ℕ) × DeskInOrder w.seat.now.desk copying
   pub small : w.seat.now.desk.mask < 2 ^ 64
   pub seen : IsPrefix p.known.seen s0.desk.book.history
@@ -81,20 +90,20 @@ pub record Works (t : TableId) (conf : Conf) (budgets : List ℕ) (s0 : Writing)
 module _ (t : TableId) (conf : Conf) (budgets : List ℕ) (s0 : Writing) (w0 w : Writer) (c0 : Core) (p : Bearer) (j0 : Marks)
     (h : Works t conf budgets s0 w0 w c0 p j0) where
   pub worker : w.worker ≡ p.known.worker
-  worker = ap (λ (b : Beside). b.worker) h.rest ∙ h.took.worker
+  worker = h.goes_on.worker ∙ h.took.worker
 
   pub table : w.seat.now.table ≡ t
-  table = ap (λ (b : Beside). b.seat.table) h.rest ∙ h.took.table
+  table = h.goes_on.table ∙ h.took.table
 
   pub book : w.seat.now.desk.book ≡ with_hand s0.desk.book (Some p.known)
-  book = ap (λ (b : Beside). b.seat.desk.book) h.rest ∙ ap (λ (x : Desk). x.book) h.took.desk
+  book = h.goes_on.book ∙ ap (λ (x : Desk). x.book) h.took.desk
 
   pub run : Running w.seat.now.desk p.known s0.desk.windows
   run = record {
     copying = h.order.0;
     order = h.order.1;
     hand = ap (λ (b : Book). b.hand) book;
-    begun = ap (λ (b : Beside). b.seat.desk.begun) h.rest ∙ ap (λ (x : Desk). x.begun) h.took.desk;
+    begun = h.goes_on.begun ∙ ap (λ (x : Desk). x.begun) h.took.desk;
   }
 
   pub alike : AreAlike (held_by w.seat.now.desk.mask w.seat.now.desk.windows) (held_places (stage_of conf s0.desk.book.history) w.seat.now.desk.mask)
@@ -114,9 +123,3 @@ module _ (t : TableId) (conf : Conf) (budgets : List ℕ) (s0 : Writing) (w0 w :
   reply_is time r y is = is
       ∙ (ap (reply_to (held_by w.seat.now.desk.mask w.seat.now.desk.windows) time r) h.settled.cache
       ∙ h.laws.reply (held_by w.seat.now.desk.mask w.seat.now.desk.windows) (held_places (stage_of conf s0.desk.book.history) w.seat.now.desk.mask) alike time r (stage_of conf s0.desk.book.history).cache)
-
-  -- and what comes of storing under a generator's keys
-  pub entered_is : (g : Generator) (time : ℕ) → entered (held_by w.seat.now.desk.mask w.seat.now.desk.windows) g time (cache_of c0)
-      ≡ entered (held_places (stage_of conf s0.desk.book.history) w.seat.now.desk.mask) g time (stage_of conf s0.desk.book.history).cache
-  entered_is g time = ap (entered (held_by w.seat.now.desk.mask w.seat.now.desk.windows) g time) h.settled.cache
-      ∙ h.laws.entered (held_by w.seat.now.desk.mask w.seat.now.desk.windows) (held_places (stage_of conf s0.desk.book.history) w.seat.now.desk.mask) alike g time (stage_of conf s0.desk.book.history).cache

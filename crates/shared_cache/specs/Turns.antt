@@ -17,11 +17,11 @@ use Rattle.ttl_expunge.specs.Held.{KeepsOpen}
 use Rattle.cache_core.specs.declared.cache.Core.{Core}
 use Rattle.cache_core.specs.Caching.{cache_of, CoreStands}
 use Rattle.cache_core.specs.Integers.{NameNoScalar}
+use Rattle.pin_table.specs.declared.views.Desk.{Desk}
 use Rattle.pin_table.specs.declared.writer.Writer.{Writer}
 use Rattle.pin_table.specs.Values.{Writing, Bearer}
 use Rattle.pin_table.specs.Events.{events_of}
 use Rattle.pin_table.specs.Views.{taken_in, aside_of}
-use Rattle.pin_table.specs.WriterRest.{beside}
 use Rattle.shared_cache.specs.Laws.{LockLaws}
 use Rattle.shared_cache.specs.Settled.{Settled}
 use Rattle.shared_cache.specs.Follows.{Follows}
@@ -42,12 +42,20 @@ pub record Taken (t : TableId) (conf : Conf) (budgets : List ℕ) (s : Writing) 
   pub own : events_of p.known.worker s.desk.book.history ≡ p.known.own
   pub within : length s.desk.book.history + p.known.left ≤ sum s.desk.book.budgets
   pub stands : CoreStands c w.seat.now.desk.words (aside_of w.seat.now.desk)
-  pub conf : (cache_of c).conf ≡ conf
+  pub shape : (cache_of c).conf ≡ conf
   pub fresh : (b : ℕ) → has b (aside_of w.seat.now.desk).refused ≡ false
   pub unnamed : NameNoScalar (aside_of w.seat.now.desk).windows (cache_of c).rows
 
--- The writer is in a turn: it has taken a pass, and since then only the words, and what the event
--- met, have changed. The journal does not know of the event yet.
+-- Since the writer was as first, only the words, and what the event met, have changed.
+pub record GoesOn (first w : Writer) : Type 0 where
+  pub worker : w.worker ≡ first.worker
+  pub left : w.left ≡ first.left
+  pub table : w.seat.now.table ≡ first.seat.now.table
+  pub book : w.seat.now.desk.book ≡ first.seat.now.desk.book
+  pub begun : w.seat.now.desk.begun ≡ first.seat.now.desk.begun
+
+-- The writer is in a turn: it has taken a pass and goes on. The journal does not know of the event
+-- yet.
 pub record Turn (t : TableId) (conf : Conf) (budgets : List ℕ) (j : Marks) (w : Writer)
     : Type 0 where
   pub seat : Writing
@@ -55,25 +63,25 @@ pub record Turn (t : TableId) (conf : Conf) (budgets : List ℕ) (j : Marks) (w 
   pub pass : Bearer
   pub first : Writer
   pub taken : Taken t conf budgets seat core j pass first
-  pub rest : beside w ≡ beside first
+  pub goes_on : GoesOn first w
 
--- What the request did to the core, which was c and is d: the words stand for what the cache of one
--- thread then has, and the rows under open windows are still there.
-pub record Does (w : Writer) (c d : Core) (time : ℕ) (r : Request) : Type 0 where
+-- What the request did to the core, which was c and is d: the words on the desk stand for what the
+-- cache of one thread then has, and the rows under open windows are still there.
+pub record Does (desk : Desk) (c d : Core) (time : ℕ) (r : Request) : Type 0 where
   pub shallow : is_shallow r ≡ true
   pub cache : cache_of d
-      ≡ cache_after (held_by w.seat.now.desk.mask w.seat.now.desk.windows) time r (cache_of c)
-  pub keeps : KeepsOpen w.seat.now.desk.windows (entries c.slots) (entries d.slots)
-  pub stands : CoreStands d w.seat.now.desk.words (aside_of w.seat.now.desk)
+      ≡ cache_after (held_by desk.mask desk.windows) time r (cache_of c)
+  pub keeps : KeepsOpen desk.windows (entries c.slots) (entries d.slots)
+  pub stands : CoreStands d desk.words (aside_of desk)
 
 -- The same of a request for whose answer there may be no memory: then nothing has changed since the
--- writer was as first.
-pub record DoesIf {A E : Type 0} (first w : Writer) (c d : Core) (time : ℕ) (r : Request)
+-- desk was as before.
+pub record DoesIf {A E : Type 0} (before desk : Desk) (c d : Core) (time : ℕ) (r : Request)
     (answer : Result A E) : Type 0 where
-  pub done : OnOk answer (Does w c d time r)
+  pub done : OnOk answer (Does desk c d time r)
   pub same : OnErr answer (d ≡ c)
-  pub words : OnErr answer (w.seat.now.desk.words ≡ first.seat.now.desk.words)
-  pub aside : OnErr answer (aside_of w.seat.now.desk ≡ aside_of first.seat.now.desk)
+  pub words : OnErr answer (desk.words ≡ before.words)
+  pub aside : OnErr answer (aside_of desk ≡ aside_of before)
 
 -- The pass q is p after one event more, as `Follows` has it, which stands behind this history and
 -- has met the workers of this mask. What they hold there is what their windows name.

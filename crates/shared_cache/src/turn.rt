@@ -8,6 +8,7 @@ ghost use Rattle.apcu_model.specs.Journal.{Marks};
 ghost use Rattle.apcu_model.specs.Sequential.{reply_to};
 ghost use Rattle.cache_core.specs.declared.cache.Core.{Core};
 ghost use Rattle.cache_core.specs.Caching.{cache_of};
+ghost use Rattle.shared_cache.specs.Follows.{Follows};
 ghost use Rattle.shared_cache.specs.Settled.{Settled};
 ghost use Rattle.shared_cache.specs.Turns.{Taken, Turn, Does, DoesIf, FollowsAt};
 
@@ -41,11 +42,13 @@ pub(crate) fn begin<'a, N: TableName>(
 // Notes the event and ends it.
 pub(crate) fn end<N: TableName>(journal: &mut Journal, w: Writer<'_>, ask: Ask<'_>, t: u64) -> Pass
     requires { Turn N.table N.conf N.budgets journal.old w }
+    ensures table { w.exit.1.0.now.table ≡ w.entry.seat.now.table }
+    ensures words { w.exit.1.0.now.desk.words ≡ w.entry.seat.now.desk.words }
     ensures settled { (turn : Turn N.table N.conf N.budgets journal.old w.entry) (core : Core)
-        → Does w.entry turn.core core t (asked ask.entry)
+        → Does w.entry.seat.now.desk turn.core core t (asked ask.entry)
         → Settled N.table N.conf N.budgets w.exit.1.0.now core journal.new }
     ensures follows { (turn : Turn N.table N.conf N.budgets journal.old w.entry) (core : Core)
-        (y : Reply) → Does w.entry turn.core core t (asked ask.entry)
+        (y : Reply) → Does w.entry.seat.now.desk turn.core core t (asked ask.entry)
         → y ≡ reply_to
         (held_by w.entry.seat.now.desk.mask w.entry.seat.now.desk.windows) t (asked ask.entry)
         (cache_of turn.core)
@@ -70,20 +73,44 @@ pub(crate) fn told<N: TableName, A>(
 ) -> (Pass, Result<A, AllocError>)
     requires { Turn N.table N.conf N.budgets journal.old w }
     ensures settled { (turn : Turn N.table N.conf N.budgets journal.old w.entry) (core : Core)
-        → DoesIf turn.first w.entry turn.core core t (asked ask.entry) answer
+        → DoesIf turn.first.seat.now.desk w.entry.seat.now.desk turn.core core t
+        (asked ask.entry) answer
         → Settled N.table N.conf N.budgets w.exit.1.0.now core journal.new }
     ensures told { (turn : Turn N.table N.conf N.budgets journal.old w.entry) (core : Core)
         (reply : _ → Reply)
-        → DoesIf turn.first w.entry turn.core core t (asked ask.entry) answer
+        → DoesIf turn.first.seat.now.desk w.entry.seat.now.desk turn.core core t
+        (asked ask.entry) answer
         → IfOk answer (λ a. reply a ≡ reply_to
         (held_by w.entry.seat.now.desk.mask w.entry.seat.now.desk.windows) t (asked ask.entry)
         (cache_of turn.core))
-        → IfOk result.1 (λ a. FollowsAt N.conf (length N.budgets) turn.pass result.0 t
+        → IfOk result.1 (λ a. Follows N.conf (length N.budgets) turn.pass result.0 t
+        (asked ask.entry) (reply a)) }
+    ensures place { (turn : Turn N.table N.conf N.budgets journal.old w.entry) (core : Core)
+        (reply : _ → Reply)
+        → DoesIf turn.first.seat.now.desk w.entry.seat.now.desk turn.core core t
+        (asked ask.entry) answer
+        → IfOk answer (λ a. reply a ≡ reply_to
+        (held_by w.entry.seat.now.desk.mask w.entry.seat.now.desk.windows) t (asked ask.entry)
+        (cache_of turn.core))
+        → IfOk answer (λ a. FollowsAt N.conf (length N.budgets) turn.pass result.0 t
         (asked ask.entry) (reply a) turn.seat.desk.book.history w.entry.seat.now.desk.mask
         w.entry.seat.now.desk.windows) }
+    ensures answer { result.1 ≡ answer }
     ensures same { (turn : Turn N.table N.conf N.budgets journal.old w.entry)
         → OnErr result.1 (result.0 ≡ turn.pass) }
 {
+    let Writer {
+        table,
+        seat,
+        worker,
+        left,
+    } = w;
+    let w = Writer {
+        table,
+        seat,
+        worker,
+        left,
+    };
     match answer {
         Ok(answer) => (end::<N>(journal, w, ask, t), Ok(answer)),
         Err(e) => (w.give_back(), Err(e)),

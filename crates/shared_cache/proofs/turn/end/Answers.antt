@@ -1,4 +1,3 @@
-use Rattle.std.proofs.Common.{refl}
 use Rattle.apcu_model.specs.Asking.{asked}
 use Rattle.cache_core.specs.declared.cache.Core.{Core}
 use Rattle.shared_cache.specs.Turns.{Turn, Does}
@@ -15,7 +14,7 @@ pub give_pass-requires : goal.give_pass-requires
 give_pass-requires g c = record { hand = hand _ _ _ _ _ c.requires; worker = worker_is _ _ _ _ _ c.requires; left = left_is _ _ _ _ _ c.requires; budget = some_left _ _ _ _ _ c.requires }
 
 passed : (g : given.Over) (c : goal.After-give_pass g) (turn : Turn g.N.TableName.table g.N.TableName.conf g.N.TableName.budgets c.args.journal.now c.args.w) (core : Core)
-    → Does c.args.w turn.core core c.args.t (asked c.args.ask)
+    → Does c.args.w.seat.now.desk turn.core core c.args.t (asked c.args.ask)
     → Passes g.N.TableName.table g.N.TableName.conf g.N.TableName.budgets turn.seat c.give_pass.new.self.1.0 turn.first c.args.w turn.core core turn.pass c.give_pass.result c.args.t (asked c.args.ask) c.args.journal.now c.note.new.journal
 passed g c turn core does = record {
   works = record {
@@ -23,7 +22,7 @@ passed g c turn core does = record {
     settled = turn.taken.settled;
     pass = turn.taken.pass;
     took = record { table = turn.taken.table; desk = turn.taken.desk; worker = turn.taken.worker };
-    rest = turn.rest;
+    goes_on = turn.goes_on;
     order = c.give_pass.ensures.order;
     small = c.note.ensures.small;
     seen = turn.taken.seen;

@@ -1,3 +1,59 @@
-use Rattle.std.proofs.Common.{refl}
+use Rattle.std.proofs.Common.{◌<◌, ◌^◌, length, refl, ap, sym, ◌∙◌, subst}
+use Rattle.std.proofs.lemmas.Result.{IfOk-at_ok, IfErr-at_err}
+use Rattle.pin_table.specs.declared.views.Desk.{Desk}
+use Rattle.shared_cache.proofs.Turning.{later_turn}
+use Rattle.shared_cache.proofs.Undone.{settles, same_pass}
 use Rattle.shared_cache.proofs.turn.told.Goals as goal
-use Rattle.shared_cache.proofs.turn.told.Given as given
+use Rattle.shared_cache.proofs.turn.told.Goals.{in-Ok, in-Err}
+
+pub end-requires : goal.end-requires
+end-requires g c = later_turn c.requires (record { worker = refl; left = refl; table = refl; book = refl; begun = refl })
+
+pub invariant_of-w-2 : goal.invariant_of-w-2
+invariant_of-w-2 g c =
+    elim c.match-answer.branch [
+      | in-Ok w ↦ rw w.seat-is (record {
+        same_table = w.end.ensures.table ∙ c.args.w.same_table;
+        whole = ap length w.end.ensures.words ∙ c.args.w.whole;
+        short = subst (λ l. length l < 2 ^ 32) (sym w.end.ensures.words) c.args.w.short;
+      })
+      | in-Err w ↦
+          let words = ap (λ (x : Desk). x.words) w.give_back.ensures.desk in
+          rw w.seat-is (record {
+            same_table = w.give_back.ensures.table ∙ c.args.w.same_table;
+            whole = ap length words ∙ c.args.w.whole;
+            short = subst (λ l. length l < 2 ^ 32) (sym words) c.args.w.short;
+          })
+    ]
+
+pub returns-clause-settled : goal.returns-clause-settled
+returns-clause-settled g c = λ turn core does.
+    elim c.match-answer.branch [
+      | in-Ok w ↦ rw (w.seat-is, w.journal-is) (w.end.ensures.settled (later_turn turn (record { worker = refl; left = refl; table = refl; book = refl; begun = refl })) core
+          (IfOk-at_ok _ w.in-Ok.is does.done))
+      | in-Err w ↦ rw (w.seat-is, w.journal-is) (settles _ _ _ _ _ turn _ core (IfErr-at_err _ w.in-Err.is does.same) (IfErr-at_err _ w.in-Err.is does.words)
+          (IfErr-at_err _ w.in-Err.is does.aside) w.give_back.ensures.table w.give_back.ensures.desk)
+    ]
+
+pub returns-clause-told : goal.returns-clause-told
+returns-clause-told g c = λ turn core reply does replies.
+    elim c.match-answer.branch [
+      | in-Ok w ↦ rw w.result-is ((w.end.ensures.follows (later_turn turn (record { worker = refl; left = refl; table = refl; book = refl; begun = refl })) core (reply w.in-Ok.answer)
+          (IfOk-at_ok _ w.in-Ok.is does.done) (IfOk-at_ok _ w.in-Ok.is replies)).follows)
+      | in-Err w ↦ rw w.result-is tt
+    ]
+
+pub returns-clause-place : goal.returns-clause-place
+returns-clause-place g c = λ turn core reply does replies.
+    elim c.match-answer.branch [
+      | in-Ok w ↦ rw (w.result-is, w.in-Ok.is) (w.end.ensures.follows (later_turn turn (record { worker = refl; left = refl; table = refl; book = refl; begun = refl })) core (reply w.in-Ok.answer)
+          (IfOk-at_ok _ w.in-Ok.is does.done) (IfOk-at_ok _ w.in-Ok.is replies))
+      | in-Err w ↦ rw w.in-Err.is tt
+    ]
+
+pub returns-clause-same : goal.returns-clause-same
+returns-clause-same g c = λ turn.
+    elim c.match-answer.branch [
+      | in-Ok w ↦ rw w.result-is tt
+      | in-Err w ↦ rw w.result-is (same_pass _ _ _ _ _ turn _ w.give_back.ensures.pass w.give_back.ensures.known)
+    ]

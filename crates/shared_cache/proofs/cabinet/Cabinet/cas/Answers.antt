@@ -22,7 +22,7 @@ invariant_of-self g c = c.end.ensures.settled (turn_of (c.begin-w.ensures.taken 
     (record { shallow = refl; cache = c.cas-found.ensures.cache; keeps = c.cas-found.ensures.keeps; stands = record { stand = c.cas-found.ensures.stand.stand; whole = c.cas-found.ensures.stand.whole } })
 
 pub returns : goal.returns
-returns g c = 
+returns g c =
     subst (λ n. Follows g.N.TableName.conf (length g.N.TableName.budgets) c.args.pass c.end.result c.args.t (request.Cas c.args.key.now n c.args.set) (reply.Flag c.cas-found.result)) (to_z-of_z w64 c.args.expect c.ranges.expect)
     (subst (λ n. Follows g.N.TableName.conf (length g.N.TableName.budgets) c.args.pass c.end.result c.args.t (request.Cas c.args.key.now (to_z w64 (of_z w64 c.args.expect)) n) (reply.Flag c.cas-found.result)) (to_z-of_z w64 c.args.set c.ranges.set)
     (c.end.ensures.follows (turn_of (c.begin-w.ensures.taken _ _ c.self.invariant) c.cas-found.ensures.beside.rest) _ _

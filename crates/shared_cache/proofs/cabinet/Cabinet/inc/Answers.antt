@@ -25,7 +25,7 @@ invariant_of-self g c = c.end.ensures.settled (turn_of (c.begin-w.ensures.taken 
     (record { shallow = refl; cache = c.inc-answer.ensures.cache; keeps = c.inc-answer.ensures.keeps; stands = record { stand = c.inc-answer.ensures.stand.stand; whole = c.inc-answer.ensures.stand.whole } })
 
 pub returns : goal.returns
-returns g c = 
+returns g c =
     subst (λ n. Follows g.N.TableName.conf (length g.N.TableName.budgets) c.args.pass c.end.result c.args.t (request.Inc c.args.key.now n c.args.ttl) (reply_of c.inc-answer.result)) (to_z-of_z w64 c.args.step c.ranges.step)
     (c.end.ensures.follows (turn_of (c.begin-w.ensures.taken _ _ c.self.invariant) c.inc-answer.ensures.rest) _ _
     (record { shallow = refl; cache = c.inc-answer.ensures.cache; keeps = c.inc-answer.ensures.keeps; stands = record { stand = c.inc-answer.ensures.stand.stand; whole = c.inc-answer.ensures.stand.whole } })

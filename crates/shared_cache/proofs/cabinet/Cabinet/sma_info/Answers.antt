@@ -1,5 +1,4 @@
 use Rattle.std.proofs.Common.{refl}
-use Rattle.std.proofs.lemmas.Result.{IfOk-weaker}
 use Rattle.apcu_model.specs.declared.request.Reply.TheVariants as reply
 use Rattle.shared_cache.proofs.Turning.{turn_of, keeps_if}
 use Rattle.shared_cache.proofs.cabinet.Cabinet.sma_info.Goals as goal
@@ -21,8 +20,8 @@ invariant_of-self g c =
 pub returns-clause-told : goal.returns-clause-told
 returns-clause-told g c =
     let k = c.begin-w.ensures.taken _ _ c.self.invariant in
-    IfOk-weaker _ _ _ (λ a at. at.follows) (c.told.ensures.told (turn_of k c.sma_info-answer.ensures.kept.rest) _ reply.Info
-    (keeps_if k c.sma_info-answer.ensures.same c.sma_info-answer.ensures.kept.words c.sma_info-answer.ensures.kept.aside refl refl) c.sma_info-answer.ensures.reply)
+    c.told.ensures.told (turn_of k c.sma_info-answer.ensures.kept.rest) _ reply.Info
+    (keeps_if k c.sma_info-answer.ensures.same c.sma_info-answer.ensures.kept.words c.sma_info-answer.ensures.kept.aside refl refl) (c.sma_info-answer.ensures.reply 0)
 
 pub returns-clause-same : goal.returns-clause-same
 returns-clause-same g c = c.told.ensures.same (turn_of (c.begin-w.ensures.taken _ _ c.self.invariant) c.sma_info-answer.ensures.kept.rest)
