@@ -13,6 +13,7 @@ use Rattle.apcu_model.specs.Expiry.{is_expired, live_row}
 use Rattle.apcu_model.specs.Walk.{is_in_slot, in_slot_order, slot_of}
 use Rattle.apcu_model.specs.Change.{Insertion, AreAlike, is_held, dropped, swept, expired_dropped, expunged, deleted, cleared, has_gap, with_room, with_row, placed, put_in, inserted}
 use Rattle.apcu_model.specs.Counters.{Count, begun, counted_at}
+use Rattle.apcu_model.specs.Chunks.{is_in_chunk}
 use Rattle.apcu_model.specs.Levels.{EntryLevel, Generator}
 use Rattle.apcu_model.specs.Generators.{Filling, filling_of, filled, given_by, missed_levels, looked_for, entered}
 use Rattle.apcu_model.specs.Sequential.{cache_after, reply_to, is_stored, number_reply}
@@ -90,6 +91,9 @@ module _ (held other : List ℕ) (same : AreAlike held other) where
   cache_alike t (request.KeyInfo key) c = refl
   cache_alike t (request.CacheInfo limited) c = refl
   cache_alike t (request.SmaInfo limited) c = refl
+  cache_alike t (request.Chunk wanted from size list fields) c = refl
+  cache_alike t (request.ChunkDelete wanted from size) c = dropped_alike t (is_in_chunk wanted t c from size) c
+  cache_alike t (request.Totals wanted list) c = refl
   cache_alike t request.Retire c = refl
 
   pub reply_alike : (t : ℕ) (r : Request) (c : Cache) → reply_to held t r c ≡ reply_to other t r c
@@ -104,4 +108,7 @@ module _ (held other : List ℕ) (same : AreAlike held other) where
   reply_alike t (request.KeyInfo key) c = refl
   reply_alike t (request.CacheInfo limited) c = refl
   reply_alike t (request.SmaInfo limited) c = refl
+  reply_alike t (request.Chunk wanted from size list fields) c = refl
+  reply_alike t (request.ChunkDelete wanted from size) c = refl
+  reply_alike t (request.Totals wanted list) c = refl
   reply_alike t request.Retire c = refl

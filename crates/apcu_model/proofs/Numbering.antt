@@ -4,7 +4,7 @@ use Rattle.std.proofs.Common.{◌≡◌, ◌≢◌, ℕ, ◌+◌, ◌-◌, ◌*�
 use Rattle.std.specs.Prelude.{ℤ, Contains, nat_lt, is_some}
 use Rattle.std.specs.List.{list_any, range_with_len}
 use Rattle.std.specs.Map.{lookup}
-use Rattle.std.proofs.lemmas.Bool.{and_parts, eq-eqb, eqb-true, ltb-true, ne_eqb, false≢true}
+use Rattle.std.proofs.lemmas.Bool.{and_parts, eq-eqb, eqb-true, leb-true, ne_eqb, false≢true}
 use Rattle.std.proofs.lemmas.Map.Entries.{lookup-filter-keys}
 use Rattle.std.proofs.lemmas.List.Elements.{Contains-append_left, Contains-append_right, Contains-append_cases}
 use Rattle.php_graph.specs.declared.kind.Kind.{Kind}
@@ -21,9 +21,10 @@ use Rattle.apcu_model.specs.Walk.{is_in_slot, in_slot_order, slot_of}
 use Rattle.apcu_model.specs.Change.{is_held, dropped, swept, expired_dropped, expunged, deleted, cleared, has_gap, with_room, with_row, placed, put_in, inserted}
 use Rattle.apcu_model.specs.Counters.{integer_in, with_integer, integer_at, integer_set, sum_of, counted_on, counted_at, is_integer, is_expected, swapped}
 use Rattle.apcu_model.specs.Rows.{are_apart, touched_at}
-use Rattle.apcu_model.specs.Levels.{EntryLevel}
+use Rattle.apcu_model.specs.Levels.{EntryLevel, most_levels}
 use Rattle.apcu_model.specs.Lookups.{looked_up, touched}
 use Rattle.apcu_model.specs.Generators.{filled, given_by, missed_levels, looked_for}
+use Rattle.apcu_model.specs.Chunks.{is_in_chunk, chunk_dropped}
 use Rattle.apcu_model.specs.Sequential.{cache_after}
 use Rattle.apcu_model.specs.History.{Stage, start_of, is_scalar, is_shallow, are_shallow, opened, opened_at, held_places, after_event, after_events, IsNumbered, stage_of}
 use Rattle.apcu_model.proofs.Apart.{are_apart-filter, are_apart-map, are_apart-with_row, touched_key}
@@ -372,11 +373,14 @@ grown_after held t r c num small shallow = go r shallow
     go (request.Delete key) few = same (deleted held key t c) (sub_deleted held key t c)
     go (request.Inc key step ttl) few = one (counted_at held key step ttl t c (live_row key t c)).cache (grown_counted held key step ttl t c num less (live_row key t c) refl)
     go (request.Cas key expect set) few = same (swapped key expect set t c) (sub_swapped key expect set t c num.keys)
-    go (request.Entry g) few = grown_entered held (given_by g t c) t g.levels c num small (omega (arith, ltb-true (length g.levels) 9 few))
+    go (request.Entry g) few = grown_entered held (given_by g t c) t g.levels c num small (omega (arith, leb-true (length g.levels) most_levels few))
     go request.Clear few = same (cleared held t c) (sub_cleared held t c)
     go (request.KeyInfo key) few = same c (sub_refl c)
     go (request.CacheInfo limited) few = same c (sub_refl c)
     go (request.SmaInfo limited) few = same c (sub_refl c)
+    go (request.Chunk wanted from size list fields) few = same c (sub_refl c)
+    go (request.ChunkDelete wanted from size) few = same (chunk_dropped held wanted from size t c) (sub_dropped held t (is_in_chunk wanted t c from size) c)
+    go (request.Totals wanted list) few = same c (sub_refl c)
     go request.Retire few = same c (sub_refl c)
 
 -- one window for each worker
@@ -426,6 +430,9 @@ opened_one worker t request.Clear c = inl refl
 opened_one worker t (request.KeyInfo key) c = inl refl
 opened_one worker t (request.CacheInfo limited) c = inl refl
 opened_one worker t (request.SmaInfo limited) c = inl refl
+opened_one worker t (request.Chunk wanted from size list fields) c = inl refl
+opened_one worker t (request.ChunkDelete wanted from size) c = inl refl
+opened_one worker t (request.Totals wanted list) c = inl refl
 opened_one worker t request.Retire c = inl refl
 
 one_number : (worker : ℕ) (c : Cache) (new : List (ℕ × ℕ)) → OpensOn worker c new → (new ≡ []) ⊎ ((n : ℕ) × (new ≡ (worker, n) ∷ []))

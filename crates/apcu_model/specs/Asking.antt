@@ -1,8 +1,15 @@
 -- What is asked with lent keys and values.
+use Rattle.std.specs.Prelude.{Option, option_map}
+use Rattle.std.specs.Borrow.{Bor}
 use Rattle.apcu_model.specs.declared.ask.Ask.{Ask}
 use Rattle.apcu_model.specs.declared.ask.Ask.TheVariants as ask
+use Rattle.apcu_model.specs.declared.searching.Pattern.{Pattern}
 use Rattle.apcu_model.specs.declared.request.Request.{Request}
 use Rattle.apcu_model.specs.declared.request.Request.TheVariants as request
+
+-- the pattern that is lent, if there is one
+abbrev pub pattern_lent : Option (Bor Pattern) → Option Pattern
+pattern_lent wanted = option_map (λ (p : Bor Pattern). p.now) wanted
 
 -- the request that an ask stands for
 abbrev pub asked : Ask → Request
@@ -17,4 +24,8 @@ asked ask.Clear = request.Clear
 asked (ask.KeyInfo key) = request.KeyInfo key.now
 asked (ask.CacheInfo limited) = request.CacheInfo limited
 asked (ask.SmaInfo limited) = request.SmaInfo limited
+asked (ask.Chunk wanted from size list fields) =
+    request.Chunk (pattern_lent wanted) from size list fields
+asked (ask.ChunkDelete wanted from size) = request.ChunkDelete (pattern_lent wanted) from size
+asked (ask.Totals wanted list) = request.Totals (pattern_lent wanted) list
 asked ask.Retire = request.Retire

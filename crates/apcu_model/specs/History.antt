@@ -1,7 +1,7 @@
 -- Events, and who still copies a value after them.
 use Rattle.std.specs.Prelude.{◌≡◌, ℕ, ◌^◌, ◌==◌, ◌&&◌, ◌||◌, not, nat_lt, if◌then◌else◌, Bool, true}
 use Rattle.std.specs.Prelude.{false, List, [], ◌∷◌, ◌++◌, length, map, filter, Option, Some, None}
-use Rattle.std.specs.Prelude.{is_some}
+use Rattle.std.specs.Prelude.{is_some, nat_le}
 use Rattle.std.specs.Prelude.{Contains}
 use Rattle.std.specs.Int.{bit_at}
 use Rattle.std.specs.List.{list_any, list_all, range_with_len}
@@ -14,8 +14,10 @@ use Rattle.apcu_model.specs.declared.journal.Mark.{Mark}
 use Rattle.apcu_model.specs.declared.request.Request.{Request}
 use Rattle.apcu_model.specs.declared.request.Request.TheVariants.{Store, Fetch, Exists, Delete}
 use Rattle.apcu_model.specs.declared.request.Request.TheVariants.{Inc, Cas, Entry, Clear, KeyInfo}
-use Rattle.apcu_model.specs.declared.request.Request.TheVariants.{CacheInfo, SmaInfo, Retire}
+use Rattle.apcu_model.specs.declared.request.Request.TheVariants.{CacheInfo, SmaInfo, Chunk, ChunkDelete}
+use Rattle.apcu_model.specs.declared.request.Request.TheVariants.{Totals, Retire}
 use Rattle.apcu_model.specs.declared.request.Reply.{Reply}
+use Rattle.apcu_model.specs.Levels.{most_levels}
 use Rattle.apcu_model.specs.Cache.{Row, Cache, empty_cache}
 use Rattle.apcu_model.specs.Expiry.{live_row}
 use Rattle.apcu_model.specs.Sequential.{reply_to, cache_after}
@@ -86,6 +88,9 @@ opened worker t Clear c = []
 opened worker t (KeyInfo key) c = []
 opened worker t (CacheInfo limited) c = []
 opened worker t (SmaInfo limited) c = []
+opened worker t (Chunk wanted from size list fields) c = []
+opened worker t (ChunkDelete wanted from size) c = []
+opened worker t (Totals wanted list) c = []
 opened worker t Retire c = []
 
 abbrev pub reply_in : Stage → Event → Reply
@@ -112,9 +117,9 @@ all_legal workers m [] = true
 all_legal workers m (e ∷ events) =
     is_legal_mask workers e.worker m e.mask && all_legal workers (after_event m e) events
 
--- an entry is at most the eighth from outside: so one event makes at most eight insertions
+-- an entry has no more levels than may be: so one event makes at most eight insertions
 abbrev pub is_shallow : Request → Bool
-is_shallow (Entry g) = nat_lt (length g.levels) 9
+is_shallow (Entry g) = nat_le (length g.levels) most_levels
 is_shallow _ = true
 
 abbrev pub are_shallow : List Event → Bool

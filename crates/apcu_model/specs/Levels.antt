@@ -11,3 +11,7 @@ pub record EntryLevel : Type 0 where
 pub record Generator : Type 0 where
   pub levels : List EntryLevel
   pub literal : List Kind
+
+-- how many entries may lie in one another, the outermost among them
+abbrev pub most_levels : ℕ
+most_levels = 8

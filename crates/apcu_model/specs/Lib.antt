@@ -12,6 +12,8 @@ pub mod Infos
 pub mod Lookups
 pub mod Generators
 pub mod Telling
+pub mod Matching
+pub mod Chunks
 pub mod Sequential
 pub mod History
 pub mod Journal

@@ -7,16 +7,19 @@ use Rattle.apcu_model.specs.declared.request.StoreAnswer.TheVariants as answers
 use Rattle.apcu_model.specs.declared.request.Request.{Request}
 use Rattle.apcu_model.specs.declared.request.Request.TheVariants.{Store, Fetch, Exists, Delete}
 use Rattle.apcu_model.specs.declared.request.Request.TheVariants.{Inc, Cas, Entry, Clear, KeyInfo}
-use Rattle.apcu_model.specs.declared.request.Request.TheVariants.{CacheInfo, SmaInfo, Retire}
+use Rattle.apcu_model.specs.declared.request.Request.TheVariants.{CacheInfo, SmaInfo, Chunk, ChunkDelete}
+use Rattle.apcu_model.specs.declared.request.Request.TheVariants.{Totals, Retire}
 use Rattle.apcu_model.specs.declared.request.Reply.{Reply}
 use Rattle.apcu_model.specs.declared.request.Reply.TheVariants.{Flag, Found, Absent, Number}
 use Rattle.apcu_model.specs.declared.request.Reply.TheVariants.{NoNumber, Gave, Info, Ended}
+use Rattle.apcu_model.specs.declared.request.Reply.TheVariants as replies
 use Rattle.apcu_model.specs.Cache.{Row, Cache}
 use Rattle.apcu_model.specs.Expiry.{live_row}
 use Rattle.apcu_model.specs.Change.{inserted, deleted, cleared}
 use Rattle.apcu_model.specs.Counters.{counted, swapped, is_expected}
 use Rattle.apcu_model.specs.Generators.{given_by, entered}
 use Rattle.apcu_model.specs.Infos.{key_info_of, cache_info_of, sma_info_of}
+use Rattle.apcu_model.specs.Chunks.{chunk_of, chunk_end, chunk_dropped, all_items, totals_of}
 pub use Rattle.apcu_model.specs.Lookups.{touched, looked_up}
 
 abbrev pub is_stored : StoreAnswer → Bool
@@ -40,6 +43,24 @@ abbrev pub info_reply : Option (List Kind) → Reply
 info_reply (Some info) = Info info
 info_reply None = Absent
 
+-- a request of an iterator
+abbrev pub is_iteration : Request → Bool
+is_iteration (Chunk wanted from size list fields) = true
+is_iteration (ChunkDelete wanted from size) = true
+is_iteration (Totals wanted list) = true
+is_iteration (Store key value ttl exclusive) = false
+is_iteration (Fetch key) = false
+is_iteration (Exists key) = false
+is_iteration (Delete key) = false
+is_iteration (Inc key step ttl) = false
+is_iteration (Cas key expect set) = false
+is_iteration (Entry g) = false
+is_iteration Clear = false
+is_iteration (KeyInfo key) = false
+is_iteration (CacheInfo limited) = false
+is_iteration (SmaInfo limited) = false
+is_iteration Retire = false
+
 abbrev pub reply_to : List ℕ → ℕ → Request → Cache → Reply
 reply_to held t (Store key value ttl exclusive) c =
     Flag (is_stored (inserted held key value ttl exclusive t c).answer)
@@ -53,6 +74,10 @@ reply_to held t Clear c = Flag true
 reply_to held t (KeyInfo key) c = info_reply (key_info_of key t c)
 reply_to held t (CacheInfo limited) c = Info (cache_info_of limited c)
 reply_to held t (SmaInfo limited) c = Info (sma_info_of limited c)
+reply_to held t (Chunk wanted from size list fields) c =
+    replies.Chunk (chunk_of wanted from size list fields t c)
+reply_to held t (ChunkDelete wanted from size) c = replies.Next (chunk_end wanted t c from size)
+reply_to held t (Totals wanted list) c = totals_of (all_items wanted list t c)
 reply_to held t Retire c = Ended
 
 abbrev pub cache_after : List ℕ → ℕ → Request → Cache → Cache
@@ -68,4 +93,7 @@ cache_after held t Clear c = cleared held t c
 cache_after held t (KeyInfo key) c = c
 cache_after held t (CacheInfo limited) c = c
 cache_after held t (SmaInfo limited) c = c
+cache_after held t (Chunk wanted from size list fields) c = c
+cache_after held t (ChunkDelete wanted from size) c = chunk_dropped held wanted from size t c
+cache_after held t (Totals wanted list) c = c
 cache_after held t Retire c = c

@@ -1,4 +1,5 @@
 use crate::generator::Gen;
+use crate::searching::{Fields, List, Pattern};
 use php_graph::Graph;
 
 /// What a worker asks, lent: the requests with their keys and values by reference. Contracts see
@@ -31,5 +32,21 @@ pub enum Ask<'a> {
     KeyInfo(&'a [u8]),
     CacheInfo(bool),
     SmaInfo(bool),
+    Chunk {
+        search: Option<&'a Pattern>,
+        from: u32,
+        size: u32,
+        list: List,
+        fields: Fields,
+    },
+    ChunkDelete {
+        search: Option<&'a Pattern>,
+        from: u32,
+        size: u32,
+    },
+    Totals {
+        search: Option<&'a Pattern>,
+        list: List,
+    },
     Retire,
 }

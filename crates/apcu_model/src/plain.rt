@@ -1,7 +1,8 @@
-ghost use Rattle.std.specs.Prelude.{◌≡◌, ℕ, ◌<◌, ◌^◌, [], length, MatchOption, IfOk, OnOk, OnErr};
+ghost use Rattle.std.specs.Prelude.{◌≡◌, ℕ, ◌<◌, ◌^◌, false, [], length, MatchOption};
+ghost use Rattle.std.specs.Prelude.{IfOk, OnOk, OnErr};
 ghost use Rattle.apcu_model.specs.Cache.{counts_of, empty_cache};
 ghost use Rattle.apcu_model.specs.Conf.{IsGood};
-ghost use Rattle.apcu_model.specs.Sequential.{cache_after, reply_to};
+ghost use Rattle.apcu_model.specs.Sequential.{cache_after, is_iteration, reply_to};
 ghost use Rattle.apcu_model.specs.declared.request.Request.TheVariants.{Store, Fetch, Exists};
 ghost use Rattle.apcu_model.specs.declared.request.Request.TheVariants.{Delete, Inc, Cas, Clear};
 ghost use Rattle.apcu_model.specs.declared.request.Reply.TheVariants.{Flag, Found, Absent};
@@ -63,8 +64,9 @@ impl Plain {
     /// Answers a request at the time `t`, in seconds. Where memory is missing, nothing changed.
     ///
     /// It copies the key and the value that it stores, and the value that it answers. The calls
-    /// below copy none.
+    /// below copy none. It compiles no patterns, so a request of an iterator may not be asked.
     pub fn ask(&mut self, request: &Request, t: u64) -> Result<Reply, AllocError>
+        requires plain { is_iteration request.now ≡ false }
         ensures reply { IfOk result (λ r. r ≡ reply_to [] t request.now self.old) }
         ensures after { OnOk result (self.new ≡ cache_after [] t request.now self.old) }
         ensures err { OnErr result (self.new ≡ self.old) }
@@ -97,6 +99,9 @@ impl Plain {
             },
             Request::CacheInfo(limited) => Ok(Reply::Info(self.state.cache_info(*limited)?)),
             Request::SmaInfo(limited) => Ok(Reply::Info(self.state.sma_info(*limited)?)),
+            Request::Chunk { .. } | Request::ChunkDelete { .. } | Request::Totals { .. } => {
+                unreachable!()
+            }
             Request::Retire => Ok(Reply::Ended),
         }
     }

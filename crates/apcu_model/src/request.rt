@@ -1,5 +1,7 @@
 use crate::ask::Ask;
 use crate::generator::Gen;
+use crate::items::Chunk;
+use crate::searching::{Fields, List, Pattern};
 use php_graph::{Bytes, Graph};
 
 /// What a worker asks of the cache. Each request is one event.
@@ -43,6 +45,27 @@ pub enum Request {
     CacheInfo(bool),
     /// `apcu_sma_info`; limited to its numbers, or with the list of gaps.
     SmaInfo(bool),
+    /// One step of an `APCUIterator`: at least `size` items, from the slot `from` on, if there are
+    /// as many, or all removed rows that match.
+    Chunk {
+        /// Which keys match; each one without a pattern.
+        search: Option<Pattern>,
+        from: u32,
+        size: u32,
+        list: List,
+        fields: Fields,
+    },
+    /// One step of `apcu_delete` of an iterator: the rows of a step over the active rows go.
+    ChunkDelete {
+        search: Option<Pattern>,
+        from: u32,
+        size: u32,
+    },
+    /// `APCUIterator`'s totals: of how many rows, fetched how often, and how large.
+    Totals {
+        search: Option<Pattern>,
+        list: List,
+    },
     /// The worker's last event: it asks nothing more.
     Retire,
 }
@@ -85,6 +108,28 @@ impl Request {
             Request::KeyInfo(key) => Ask::KeyInfo(key.as_slice()),
             Request::CacheInfo(limited) => Ask::CacheInfo(*limited),
             Request::SmaInfo(limited) => Ask::SmaInfo(*limited),
+            Request::Chunk {
+                search,
+                from,
+                size,
+                list,
+                fields,
+            } => Ask::Chunk {
+                search: search.as_ref(),
+                from: *from,
+                size: *size,
+                list: *list,
+                fields: *fields,
+            },
+            Request::ChunkDelete { search, from, size } => Ask::ChunkDelete {
+                search: search.as_ref(),
+                from: *from,
+                size: *size,
+            },
+            Request::Totals { search, list } => Ask::Totals {
+                search: search.as_ref(),
+                list: *list,
+            },
             Request::Retire => Ask::Retire,
         }
     }
@@ -107,6 +152,13 @@ pub enum Reply {
     Gave(Graph),
     /// What an information call tells.
     Info(Graph),
+    /// A step of an iterator.
+    Chunk(Chunk),
+    /// The slot from which an iterator's deletion goes on; the number of slots at its end.
+    Next(u32),
+    /// Of how many rows, fetched how often together (2^64 - 1 is that often or oftener), and how
+    /// many bytes their blocks have.
+    Totals { count: u64, hits: u64, size: u64 },
     /// The worker's end.
     Ended,
 }

@@ -10,7 +10,7 @@ ghost use Rattle.apcu_model.specs.declared.request.Reply.TheVariants.{Gave};
 ghost use Rattle.apcu_model.specs.Change.{inserted};
 ghost use Rattle.apcu_model.specs.Generators.{given_by, missed_levels, looked_for, filled};
 ghost use Rattle.apcu_model.specs.Generators.{entered};
-ghost use Rattle.apcu_model.specs.Levels.{EntryLevel};
+ghost use Rattle.apcu_model.specs.Levels.{EntryLevel, most_levels};
 ghost use Rattle.apcu_model.specs.Sequential.{cache_after, reply_to};
 ghost use Rattle.entry_slots.specs.Lists.{has_place};
 ghost use Rattle.entry_slots.specs.Standing.{entries};
@@ -60,7 +60,7 @@ pub fn entry<S: Segment>(
     generator: &Gen,
     t: u64,
 ) -> Result<(Graph, Fate), AllocError>
-    requires levels { length generator.now.levels ≤ 8 }
+    requires levels { length generator.now.levels ≤ most_levels }
     requires stand { CacheStands S.WordsIn core.old seg.old }
     requires fresh { (b : ℕ) → has b (S.aside seg.old).refused ≡ false }
     ensures value { IfOk result (λ r. r.0 ≡ given_by generator.now t (cache_of core.old)) }

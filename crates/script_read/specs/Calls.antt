@@ -1,5 +1,6 @@
 -- How far a call can go.
 use Rattle.std.specs.Prelude.{ℕ, ◌≤◌, ◌<◌, length}
+use Rattle.apcu_model.specs.Levels.{most_levels}
 use Rattle.script_read.specs.declared.call.Call.{Call}
 use Rattle.script_read.specs.declared.call.Call.TheVariants.{StoreOne, StoreMany, FetchOne}
 use Rattle.script_read.specs.declared.call.Call.TheVariants.{FetchMany, ExistsOne, ExistsMany}
@@ -34,10 +35,6 @@ last_moment = 999999999999
 -- the step's moment is one
 abbrev pub IsInTime : Step → Type 0
 IsInTime step = step.t ≤ last_moment
-
--- how many entries may lie in one another, the outermost among them
-abbrev pub most_levels : ℕ
-most_levels = 8
 
 -- A call's generator is an entry, with as many inside as may be. Other calls have none.
 abbrev pub HasLevels : Call → Type 0

@@ -5,8 +5,8 @@ ghost use Rattle.php_graph.specs.declared.kind.Kind.{Kind};
 ghost use Rattle.apcu_model.specs.declared.request.Request.TheVariants as request;
 ghost use Rattle.apcu_model.specs.declared.request.Reply.{Reply};
 ghost use Rattle.apcu_model.specs.declared.request.Reply.TheVariants.{Flag, Found, Gave, Info};
+ghost use Rattle.apcu_model.specs.Levels.{most_levels};
 ghost use Rattle.apcu_model.specs.Sequential.{info_reply, number_reply};
-ghost use Rattle.script_read.specs.Calls.{most_levels};
 ghost use Rattle.reply_text.specs.Replies.{fetched};
 ghost use Rattle.worker_play.specs.Goes.{wish, KnowsOwnEvents, GoesOn};
 

@@ -1,0 +1,5 @@
+mod Counting
+mod Answered
+mod Staying
+mod Steps
+mod Walking
