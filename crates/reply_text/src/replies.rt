@@ -4,6 +4,8 @@ ghost use Rattle.std.specs.Prelude.{◌≡◌, ℕ, ◌+◌, ◌<◌, ◌^◌, �
 ghost use Rattle.std.specs.Prelude.{◌-◌, min, pos, OnOk, Option};
 ghost use Rattle.std.specs.Option.{option_map};
 ghost use Rattle.std.specs.Fmt.{decimal};
+ghost use Rattle.php_graph.specs.Numbers.{int_of_text};
+ghost use Rattle.notation.specs.Keys.{written_key};
 ghost use Rattle.notation.specs.Notation.{array_head, integer_text, string_text};
 ghost use Rattle.apcu_model.specs.declared.request.Reply.TheVariants.{Gave, Totals};
 ghost use Rattle.apcu_model.specs.Sequential.{number_reply, info_reply};
@@ -76,13 +78,19 @@ pub fn write_totals(out: &mut ByteOut, count: u64, hits: u64, size: u64) -> Resu
     ensures { OnOk result (out.new ≡ out.old ++ totals_one (Totals count hits size)) }
 {
     write_head(out, 3)?;
-    write_key(b"count", out)?;
-    write_count(out, count)?;
-    write_key(b"hits", out)?;
-    write_count(out, hits)?;
-    write_key(b"size", out)?;
-    write_count(out, size)?;
+    write_total(out, b"count", count)?;
+    write_total(out, b"hits", hits)?;
+    write_total(out, b"size", size)?;
     out.push(b"}")
+}
+
+// A number under its name.
+fn write_total(out: &mut ByteOut, name: &[u8], n: u64) -> Result<(), AllocError>
+    ensures { OnOk result (out.new ≡ out.old ++ (written_key (int_of_text name.now) name.now
+        ++ integer_text (pos (min n (2 ^ 63 - 1))))) }
+{
+    write_key(name, out)?;
+    write_count(out, n)
 }
 
 // An integer.
