@@ -1,4 +1,4 @@
-use Rattle.std.proofs.Common.{◌≡◌, ℕ, ◌+◌, ◌<◌, ◌≤◌, Bool, true, false, cond, List, length, map, drop, refl, ap, ◌∙◌, arith}
+use Rattle.std.proofs.Common.{◌≡◌, ◌<◌, ◌≤◌, Bool, true, false, cond, List, length, map, refl, ap, ◌∙◌, arith}
 use mir.Val.{bool_byte}
 use Rattle.std.specs.Prelude.{◌==◌}
 use Rattle.std.specs.Int.{bit_at}

@@ -1,9 +1,9 @@
-use Rattle.std.proofs.Common.{◌≡◌, ℕ, ◌-◌, ◌^◌, List, [], ◌++◌, sym, ap, ◌∙◌, append_assoc}
-use Rattle.std.specs.Prelude.{codes, min, pos}
+use Rattle.std.proofs.Common.{◌≡◌, ℕ, List, [], ◌++◌, sym, ap, ◌∙◌, append_assoc}
+use Rattle.std.specs.Prelude.{codes}
 use Rattle.std.proofs.lemmas.List.{append-nil}
 use Rattle.php_graph.specs.Numbers.{int_of_text}
 use Rattle.notation.specs.Keys.{written_key}
-use Rattle.notation.specs.Notation.{array_head, integer_text, text_from}
+use Rattle.notation.specs.Notation.{array_head, text_from}
 use Rattle.apcu_model.specs.Infos.{told_number}
 use Rattle.reply_text.proofs.Printed.{on_ok}
 use Rattle.reply_text.proofs.ItemTexts.{number_place}

@@ -1,4 +1,4 @@
-use Rattle.std.proofs.Common.{◌≡◌, ℕ, ◌+◌, List, ◌++◌, subst}
+use Rattle.std.proofs.Common.{◌≡◌, ◌+◌, List, ◌++◌, subst}
 use Rattle.std.specs.Prelude.{OnOk, IfOk}
 use Rattle.reply_text.specs.Replies.{array_text, value_members}
 use Rattle.reply_text.specs.Items.{NamedValue, numbers_of, chosen_from, told_of}

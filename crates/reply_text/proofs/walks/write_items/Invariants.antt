@@ -1,4 +1,4 @@
-use Rattle.std.proofs.Common.{◌≡◌, ◌+◌, ◌≤◌, ◌++◌, length, drop}
+use Rattle.std.proofs.Common.{◌≡◌, ◌+◌, ◌≤◌, ◌++◌, drop}
 use Rattle.std.specs.List.{sum_by}
 use Rattle.reply_text.specs.Replies.{members_text}
 use Rattle.reply_text.specs.Items.{item_numbers, item_members}
