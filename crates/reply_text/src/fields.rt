@@ -39,7 +39,7 @@ fn is_chosen(fields: Fields, bit: usize) -> bool
     requires { bit < 16 }
     ensures { result ≡ (bit_at fields.0 bit == 1) }
 {
-    fields.0 >> bit & 1 == 1
+    (fields.0 >> bit) & 1 == 1
 }
 
 // How many of these fields are chosen.

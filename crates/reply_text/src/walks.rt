@@ -103,7 +103,8 @@ fn item_count(chunks: &[Chunk]) -> Result<usize, AllocError>
 
 /// The items of an iterator's steps, in order: an array with the keys 0, 1 and so on. An item is an
 /// array of the fields that are chosen, in the order of their bits; a number from 2^63 on is
-/// printed as the last integer of 64 bits.
+/// printed as the last integer of 64 bits. What is inside a value is numbered behind all that
+/// stands before it. Where 2^55 values stand before an item, it fails as without memory.
 pub fn write_walk(out: &mut ByteOut, fields: Fields, chunks: &[Chunk]) -> Result<(), AllocError>
     ensures { OnOk result (out.new ≡ out.old
         ++ walk_text fields (map (λ chunk. replies.Chunk chunk) chunks.now)) }
