@@ -1,5 +1,5 @@
-mod Counting
 mod Answered
+mod Counting
 mod Staying
 mod Steps
 mod Walking

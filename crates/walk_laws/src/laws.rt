@@ -11,9 +11,9 @@ ghost use Rattle.apcu_model.specs.Chunks.{chunk_of};
 ghost use Rattle.apcu_model.specs.History.{stage_of};
 ghost use Rattle.apcu_model.specs.Rows.{are_apart};
 ghost use Rattle.apcu_model.specs.Walk.{slot_of};
-ghost use Rattle.walk_laws.specs.Turns.{IsWalk, answered_chunks, answered_keys, steps_in, turns_of};
+ghost use Rattle.walk_laws.specs.Exchanges.{IsWalk, answered_chunks, answered_keys, steps_in, exchanges_of};
 ghost use Rattle.walk_laws.specs.Walks.{WalkStep, AreSteps, walk_chunks, walk_keys, times_given};
-ghost use Rattle.walk_laws.specs.Walks.{goes_on, is_whole, has_item};
+ghost use Rattle.walk_laws.specs.Walks.{is_under_way, is_whole, has_item};
 
 use apcu_model::rows_stay_apart;
 
@@ -51,7 +51,7 @@ pub fn steps_of_walks()
         (c : Cache) → (chunk_of wanted from size Deleted fields t c).next ≡ c.conf.slots }
     ensures fewer { (wanted : Option Pattern) (size : ℕ) (fields : Fields) (conf : Conf)
         (steps : List WalkStep) → 1 ≤ size → 1 ≤ conf.slots → AreSteps conf steps
-        → IsTrue (goes_on conf.slots (walk_chunks wanted size fields 0 steps))
+        → IsTrue (is_under_way conf.slots (walk_chunks wanted size fields 0 steps))
         → length steps < conf.slots }
     ensures most { (wanted : Option Pattern) (size : ℕ) (fields : Fields) (conf : Conf)
         (steps : List WalkStep) → 1 ≤ size → 1 ≤ conf.slots → AreSteps conf steps
@@ -59,8 +59,8 @@ pub fn steps_of_walks()
         → length steps ≤ conf.slots }
 {}
 
-/// The same of a worker's walk within a history of many workers, whatever the others do between its
-/// steps: of the events that come after those of `before`, the worker's are the walk. In each
+/// The same of a worker's walk in a history of many workers, whatever the others do between its
+/// steps: `events` come after those of `before`, and the worker's among them are the walk. In every
 /// history the cache keeps its shape, and no two of its rows have one key.
 pub fn walks_in_histories()
     ensures shape { (conf : Conf) (history : List Event)
@@ -68,20 +68,20 @@ pub fn walks_in_histories()
     ensures apart { (conf : Conf) (history : List Event)
         → IsTrue (are_apart (stage_of conf history).cache.rows) }
     ensures given { (wanted : Option Pattern) (size : ℕ) (fields : Fields) (conf : Conf)
-        (before events : List Event) (w : ℕ) → let turns = turns_of conf before events w in
-        IsWalk wanted size fields turns
-        → answered_chunks turns ≡ walk_chunks wanted size fields 0 (steps_in turns) }
+        (before events : List Event) (w : ℕ) → let own = exchanges_of conf before events w in
+        IsWalk wanted size fields own
+        → answered_chunks own ≡ walk_chunks wanted size fields 0 (steps_in own) }
     ensures once { (wanted : Option Pattern) (size : ℕ) (fields : Fields) (conf : Conf)
         (before events : List Event) (w : ℕ) (key : List ℕ)
-        → let turns = turns_of conf before events w in IsWalk wanted size fields turns
-        → times_given key (answered_keys turns) ≤ 1 }
+        → let own = exchanges_of conf before events w in IsWalk wanted size fields own
+        → times_given key (answered_keys own) ≤ 1 }
     ensures all { (wanted : Option Pattern) (size : ℕ) (fields : Fields) (conf : Conf)
         (before events : List Event) (w : ℕ) (key : List ℕ)
-        → let turns = turns_of conf before events w in 1 ≤ conf.slots
-        → IsWalk wanted size fields turns
-        → IsTrue (is_whole conf.slots (answered_chunks turns))
-        → IsTrue (list_all (has_item wanted key) (steps_in turns))
-        → times_given key (answered_keys turns) ≡ 1 }
+        → let own = exchanges_of conf before events w in 1 ≤ conf.slots
+        → IsWalk wanted size fields own
+        → IsTrue (is_whole conf.slots (answered_chunks own))
+        → IsTrue (list_all (has_item wanted key) (steps_in own))
+        → times_given key (answered_keys own) ≡ 1 }
 {
     rows_stay_apart();
 }

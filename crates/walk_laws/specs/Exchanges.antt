@@ -17,40 +17,40 @@ use Rattle.walk_laws.specs.Walks.{WalkStep, chunk_keys}
 
 -- An event as its worker sees it: the cache before it and its moment, what was asked, and the reply
 -- of one thread at its place.
-pub record Turn : Type 0 where
+pub record Exchange : Type 0 where
   pub step : WalkStep
   pub request : Request
   pub reply : Reply
 
-abbrev pub turn_at : Stage → Event → Turn
-turn_at m e = record {
+abbrev pub exchange_at : Stage → Event → Exchange
+exchange_at m e = record {
   step = record { cache = m.cache; t = e.t };
   request = e.request;
   reply = reply_in m e;
 }
 
--- the worker's among these events, which come after a stage
-abbrev pub own_turns : ℕ → Stage → List Event → List Turn
-own_turns w m [] = []
-own_turns w m (e ∷ es) =
+-- those that a worker has in the events after a stage
+abbrev pub own_exchanges : ℕ → Stage → List Event → List Exchange
+own_exchanges w m [] = []
+own_exchanges w m (e ∷ es) =
     cond (e.worker == w)
-    (turn_at m e ∷ own_turns w (after_event m e) es)
-    (own_turns w (after_event m e) es)
+    (exchange_at m e ∷ own_exchanges w (after_event m e) es)
+    (own_exchanges w (after_event m e) es)
 
--- those of a worker among events that come after some others in a history
-abbrev pub turns_of : Conf → List Event → List Event → ℕ → List Turn
-turns_of conf before events w = own_turns w (stage_of conf before) events
+-- in the events that a history has after those before them
+abbrev pub exchanges_of : Conf → List Event → List Event → ℕ → List Exchange
+exchanges_of conf before events w = own_exchanges w (stage_of conf before) events
 
-abbrev pub steps_in : List Turn → List WalkStep
-steps_in turns = map {A = Turn} (λ turn. turn.step) turns
+abbrev pub steps_in : List Exchange → List WalkStep
+steps_in exchanges = map {A = Exchange} (λ exchange. exchange.step) exchanges
 
-abbrev pub requests_in : List Turn → List Request
-requests_in turns = map {A = Turn} (λ turn. turn.request) turns
+abbrev pub requests_in : List Exchange → List Request
+requests_in exchanges = map {A = Exchange} (λ exchange. exchange.request) exchanges
 
-abbrev pub answers_in : List Turn → List Reply
-answers_in turns = map {A = Turn} (λ turn. turn.reply) turns
+abbrev pub answers_in : List Exchange → List Reply
+answers_in exchanges = map {A = Exchange} (λ exchange. exchange.reply) exchanges
 
--- what a step is answered, as a list of one; no other reply has it
+-- the chunk that a step was answered, as a list of one; no other reply has one
 abbrev pub chunks_in : Reply → List Chunk
 chunks_in (replies.Chunk chunk) = chunk ∷ []
 chunks_in _ = []
@@ -68,14 +68,14 @@ walk_requests wanted size fields from (reply ∷ answers) =
     requests.Chunk wanted from size Active fields
     ∷ walk_requests wanted size fields (next_in reply) answers
 
--- the turns are those of a walk from the slot 0 on
-abbrev pub IsWalk : Option Pattern → ℕ → Fields → List Turn → Type 0
-IsWalk wanted size fields turns =
-    requests_in turns ≡ walk_requests wanted size fields 0 (answers_in turns)
+-- what the worker asks is a walk from the slot 0 on
+abbrev pub IsWalk : Option Pattern → ℕ → Fields → List Exchange → Type 0
+IsWalk wanted size fields exchanges =
+    requests_in exchanges ≡ walk_requests wanted size fields 0 (answers_in exchanges)
 
 -- what the worker was answered, step by step, and the keys in it
-abbrev pub answered_chunks : List Turn → List Chunk
-answered_chunks turns = flat_map chunks_in (answers_in turns)
+abbrev pub answered_chunks : List Exchange → List Chunk
+answered_chunks exchanges = flat_map chunks_in (answers_in exchanges)
 
-abbrev pub answered_keys : List Turn → List (List ℕ)
-answered_keys turns = flat_map chunk_keys (answered_chunks turns)
+abbrev pub answered_keys : List Exchange → List (List ℕ)
+answered_keys exchanges = flat_map chunk_keys (answered_chunks exchanges)

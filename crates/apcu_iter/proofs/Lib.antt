@@ -1,0 +1,9 @@
+mod Reading
+mod Walking
+mod Keys
+mod Slots
+mod Fewness
+mod Stepping
+mod Gathering
+mod Chunking
+mod Comes

@@ -1,0 +1,18 @@
+use Rattle.std.proofs.Common.{◌≡◌, drop, filter}
+use Rattle.seg_words.specs.Kept.{Kept}
+use Rattle.entry_slots.specs.Lists.{first_place}
+use Rattle.entry_slots.specs.Standing.{entries}
+use Rattle.apcu_iter.specs.Adding.{with_rows, no_sums}
+use Rattle.apcu_iter.specs.Choosing.{is_chosen}
+use Rattle.apcu_iter.proofs.Gathering.{AreSmall}
+use Rattle.apcu_iter.proofs.summing.add_removed.Given as goal
+
+abbrev pub invariant-loop-passed : goal.invariant-loop-passed
+invariant-loop-passed g l = record {
+  at : l.at ≡ first_place (drop l._passed (entries l.slots).removed);
+  sums : with_rows l.sums (filter (is_chosen l.initial.test) (drop l._passed (entries l.slots).removed))
+      ≡ with_rows no_sums (filter (is_chosen l.initial.test) (entries l.slots).removed);
+  small : AreSmall l.sums;
+  test : l.test ≡ l.initial.test;
+  kept : Kept g.S.WordsIn l.fn.seg l.seg;
+}

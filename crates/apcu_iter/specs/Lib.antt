@@ -1,0 +1,5 @@
+pub mod Searching
+pub mod Choosing
+pub mod Laws
+pub mod Reading
+pub mod Adding

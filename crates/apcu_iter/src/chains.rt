@@ -1,0 +1,96 @@
+//! Walks over the rows of a slot, and over the removed rows, for what is given of them.
+
+ghost use Rattle.std.specs.Prelude.{◌≡◌, ◌<◌, ◌^◌, ◌++◌, [], ◌∷◌, true, length, IfOk, OnOk};
+ghost use Rattle.seg_words.specs.Kept.{Kept};
+ghost use Rattle.apcu_model.specs.Cache.{Row};
+ghost use Rattle.entry_slots.specs.Lists.{has_place};
+ghost use Rattle.entry_slots.specs.Entries.{IsListed, chain_of, listed};
+ghost use Rattle.entry_slots.specs.Standing.{Stand, entries};
+ghost use Rattle.apcu_iter.specs.Choosing.{items_of};
+
+use crate::entry::item_at;
+use crate::lower::lower_laws;
+use crate::row_test::RowTest;
+use apcu_model::{Fields, ItemRow};
+use entry_slots::EntrySlots;
+use seg_words::{Segment, WordsIn};
+use std::alloc::{AllocError, Global};
+
+// What is given of the row at a place comes behind the items, if the row is chosen.
+fn add_item<S: Segment>(
+    alloc: Global,
+    slots: &EntrySlots,
+    seg: &mut S,
+    test: &mut RowTest<'_>,
+    at: u32,
+    fields: Fields,
+    items: &mut Vec<ItemRow>,
+) -> Result<(), AllocError>
+    requires stand { Stand S.WordsIn slots.now seg.old }
+    requires there { has_place at (listed (entries slots.now)) ≡ true }
+    ensures items { (row : Row) → IsListed (entries slots.now) at row → OnOk result
+        (items.new.items ≡ items.old.items ++ items_of test.old fields (row ∷ [])) }
+    ensures test { test.new ≡ test.old }
+    ensures kept { Kept S.WordsIn seg.old seg.new }
+{
+    if let Some(item) = item_at(alloc, slots, seg, test, at, fields)? {
+        items.push(item)?;
+    }
+    Ok(())
+}
+
+// So for the rows of a slot, by their place in the chain.
+pub(crate) fn list_slot<S: Segment>(
+    alloc: Global,
+    slots: &EntrySlots,
+    seg: &mut S,
+    test: &mut RowTest<'_>,
+    slot: u32,
+    fields: Fields,
+    items: &mut Vec<ItemRow>,
+) -> Result<(), AllocError>
+    requires stand { Stand S.WordsIn slots.now seg.old }
+    requires slot { slot < (entries slots.now).conf.slots }
+    ensures items { OnOk result (items.new.items
+        ≡ items.old.items ++ items_of test.old fields (chain_of (entries slots.now) slot)) }
+    ensures test { test.new ≡ test.old }
+    ensures kept { Kept S.WordsIn seg.old seg.new }
+{
+    lower_laws();
+    let mut at = slots.first_in(seg, slot);
+    for _passed in 0..slots.rows() {
+        if at == 0 {
+            return Ok(());
+        }
+        add_item(alloc, slots, seg, test, at, fields, items)?;
+        at = slots.after(seg, at);
+    }
+    Ok(())
+}
+
+// What is given of the removed rows, in the order in which they were dropped.
+pub(crate) fn list_removed<S: Segment>(
+    alloc: Global,
+    slots: &EntrySlots,
+    seg: &mut S,
+    test: &mut RowTest<'_>,
+    fields: Fields,
+) -> Result<Vec<ItemRow>, AllocError>
+    requires stand { Stand S.WordsIn slots.now seg.old }
+    ensures items { IfOk result
+        (λ items. items.items ≡ items_of test.old fields (entries slots.now).removed) }
+    ensures test { test.new ≡ test.old }
+    ensures kept { Kept S.WordsIn seg.old seg.new }
+{
+    lower_laws();
+    let mut items = Vec::new(alloc);
+    let mut at = slots.first_removed();
+    for _passed in 0..slots.words() {
+        if at == 0 {
+            return Ok(items);
+        }
+        add_item(alloc, slots, seg, test, at, fields, &mut items)?;
+        at = slots.after(seg, at);
+    }
+    Ok(items)
+}

@@ -1,0 +1,121 @@
+//! Steps of iterators.
+
+ghost use Rattle.std.specs.Prelude.{◌≡◌, ◌≤◌, IfOk};
+ghost use Rattle.seg_words.specs.Kept.{Kept};
+ghost use Rattle.seg_words.specs.Windows.{held_blocks};
+ghost use Rattle.apcu_model.specs.declared.request.Request.TheVariants as requests;
+ghost use Rattle.apcu_model.specs.declared.request.Reply.TheVariants as replies;
+ghost use Rattle.apcu_model.specs.Chunks.{chunk_of};
+ghost use Rattle.apcu_model.specs.Sequential.{reply_to};
+ghost use Rattle.entry_slots.specs.Standing.{Stand, entries};
+ghost use Rattle.cache_core.specs.Caching.{cache_of, CacheStands};
+ghost use Rattle.apcu_iter.specs.Choosing.{uncounted};
+
+use crate::chains::{list_removed, list_slot};
+use crate::row_test::RowTest;
+use crate::search::Search;
+use apcu_model::{Chunk, Fields, Items, List};
+use cache_core::Core;
+use entry_slots::EntrySlots;
+use seg_words::{Segment, WordsIn};
+use std::alloc::{AllocError, Global};
+
+// Goes over the slots from one on until there are so many items, or to the last slot.
+fn active_chunk<S: Segment>(
+    alloc: Global,
+    slots: &EntrySlots,
+    seg: &mut S,
+    test: &mut RowTest<'_>,
+    from: u32,
+    size: u32,
+    fields: Fields,
+) -> Result<Chunk, AllocError>
+    requires stand { Stand S.WordsIn slots.now seg.old }
+    requires list { test.old.list ≡ List.Active }
+    requires from { from ≤ (entries slots.now).conf.slots }
+    requires size { 1 ≤ size }
+    ensures chunk { IfOk result (λ x. x ≡ chunk_of test.old.pattern from size List.Active fields
+        test.old.t (uncounted (entries slots.now))) }
+    ensures test { test.new ≡ test.old }
+    ensures kept { Kept S.WordsIn seg.old seg.new }
+{
+    let end = slots.slots();
+    let mut items = Vec::new(alloc);
+    for slot in from..end {
+        list_slot(alloc, slots, seg, test, slot, fields, &mut items)?;
+        if items.len() >= size as usize {
+            return Ok(Chunk {
+                next: slot + 1,
+                items: Items::from_vec(items),
+            });
+        }
+    }
+    Ok(Chunk {
+        next: end,
+        items: Items::from_vec(items),
+    })
+}
+
+// Goes over all removed rows.
+fn removed_chunk<S: Segment>(
+    alloc: Global,
+    slots: &EntrySlots,
+    seg: &mut S,
+    test: &mut RowTest<'_>,
+    fields: Fields,
+) -> Result<Chunk, AllocError>
+    requires stand { Stand S.WordsIn slots.now seg.old }
+    requires list { test.old.list ≡ List.Deleted }
+    ensures chunk { IfOk result (λ x. x ≡ chunk_of test.old.pattern 0 0 List.Deleted fields
+        0 (uncounted (entries slots.now))) }
+    ensures test { test.new ≡ test.old }
+    ensures kept { Kept S.WordsIn seg.old seg.new }
+{
+    let items = list_removed(alloc, slots, seg, test, fields)?;
+    Ok(Chunk {
+        next: slots.slots(),
+        items: Items::from_vec(items),
+    })
+}
+
+/// One step of an iterator at the moment `t`, in seconds. Nothing changes.
+///
+/// Over the active rows it goes on at the slot `from`, over as few slots as hold `size` items or
+/// more, and to the last slot where they hold fewer. Its items are the rows whose own time is not
+/// over and whose keys match, by slot and place, and `next` is the first slot behind them. Over the
+/// deleted rows all that match are one step, in the order in which they were dropped, and `next`
+/// is the number of slots.
+///
+/// It takes as long as there are slots and rows that it passes, whatever `size` is. The matcher is
+/// made before anything else. A value is copied only where `fields` asks for it. Want of memory is
+/// the only refusal.
+pub fn chunk<S: Segment>(
+    alloc: Global,
+    core: &mut Core,
+    seg: &mut S,
+    search: &mut Search,
+    from: u32,
+    size: u32,
+    list: List,
+    fields: Fields,
+    t: u64,
+) -> Result<Chunk, AllocError>
+    requires stand { CacheStands S.WordsIn core.old seg.old }
+    requires from { from ≤ (cache_of core.old).conf.slots }
+    requires size { 1 ≤ size }
+    ensures chunk { IfOk result
+        (λ x. x ≡ chunk_of search.old from size list fields t (cache_of core.old)) }
+    ensures reply { IfOk result (λ x. replies.Chunk x
+        ≡ reply_to (held_blocks (S.aside seg.new)) t
+        (requests.Chunk search.old from size list fields) (cache_of core.old)) }
+    ensures search { search.new ≡ search.old }
+    ensures same { core.new ≡ core.old }
+    ensures kept { Kept S.WordsIn seg.old seg.new }
+{
+    let mut test = search.test(list, t)?;
+    let slots = core.slots();
+    match list {
+        List::Active => active_chunk(alloc, slots, seg, &mut test, from, size, fields),
+        List::Deleted => removed_chunk(alloc, slots, seg, &mut test, fields),
+    }
+}

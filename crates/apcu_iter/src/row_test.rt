@@ -1,0 +1,82 @@
+//! Tests of rows, by their time and their keys.
+
+ghost use Rattle.std.specs.Prelude.{◌≡◌, IfOk, is_some};
+ghost use Rattle.regex.specs.Bytes.{matcher_pattern};
+ghost use Rattle.apcu_model.specs.Cache.{Row};
+ghost use Rattle.apcu_model.specs.Matching.{FindsAs, key_matches};
+
+use apcu_model::{List, Pattern};
+use entry_slots::Head;
+use regex::bytes::Matcher;
+use std::alloc::Global;
+use std::marker::Model;
+
+// A pattern with its matcher.
+#[derive(Drop)]
+pub(crate) struct Live<'r> {
+    pub(crate) pattern: &'r Pattern,
+    pub(crate) matcher: Matcher<'r>,
+    ghost finds: { FindsAs pattern.now.fold pattern.now.text (matcher_pattern matcher) },
+}
+
+// Tests rows for a search, without a fault. Contracts see which rows are chosen.
+#[derive(Drop)]
+pub(crate) struct RowTest<'r> {
+    pub(crate) live: Option<Live<'r>>,
+    pub(crate) list: List,
+    pub(crate) t: u64,
+    pub(crate) alloc: Global,
+}
+
+impl<'r> Model for RowTest<'r> {
+    ghost use Rattle.std.specs.Prelude.{option_map};
+    ghost use Rattle.apcu_iter.specs.Choosing.{Choice};
+
+    ghost Value = { Choice };
+
+    ghost view = { λ test. record {
+      pattern = option_map (λ l. l.pattern.now) test.live;
+      list = test.list;
+      t = test.t;
+    } };
+}
+
+impl<'r> RowTest<'r> {
+    ghost use Rattle.apcu_iter.specs.Choosing.{is_left_out};
+
+    // Where keys that are only tested are read to.
+    pub(crate) fn alloc(&self) -> Global {
+        self.alloc
+    }
+
+    // Whether some keys do not match.
+    pub(crate) fn is_picky(&self) -> bool
+        ensures { result ≡ is_some self.now.pattern }
+    {
+        self.live.is_some()
+    }
+
+    // Whether a row of which this is noted is left out, since its time is over.
+    pub(crate) fn leaves_out(&self, head: Head) -> bool
+        ensures { (row : Row) → head.ttl ≡ row.ttl → head.ctime ≡ row.ctime
+            → result ≡ is_left_out self.now row }
+    {
+        match self.list {
+            List::Active => {
+                head.ttl > 0 && head.ctime.saturating_add(u64::from(head.ttl)) < self.t
+            }
+            List::Deleted => false,
+        }
+    }
+
+    // Whether the key matches.
+    pub(crate) fn matches(&mut self, key: &[u8]) -> bool
+        ensures matches { result ≡ key_matches self.old.pattern key.now }
+        ensures same { self.new ≡ self.old }
+    {
+        match &mut self.live {
+            Some(live) => live.matcher.is_match(key),
+            None => true,
+        }
+    }
+}

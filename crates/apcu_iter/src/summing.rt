@@ -1,0 +1,215 @@
+//! What all rows come to that an iterator goes over.
+
+ghost use Rattle.std.specs.Prelude.{◌≡◌, ◌<◌, [], ◌∷◌, true, filter, IfOk};
+ghost use Rattle.std.specs.Prelude.{if◌then◌else◌};
+ghost use Rattle.seg_words.specs.Kept.{Kept};
+ghost use Rattle.seg_words.specs.Windows.{held_blocks};
+ghost use Rattle.apcu_model.specs.declared.request.Request.TheVariants as requests;
+ghost use Rattle.apcu_model.specs.declared.request.Reply.TheVariants as replies;
+ghost use Rattle.apcu_model.specs.Cache.{Row};
+ghost use Rattle.apcu_model.specs.Chunks.{all_items, totals_of};
+ghost use Rattle.apcu_model.specs.Sequential.{reply_to};
+ghost use Rattle.entry_slots.specs.Lists.{has_place};
+ghost use Rattle.entry_slots.specs.Entries.{IsListed, chain_of, listed};
+ghost use Rattle.entry_slots.specs.Standing.{Stand, entries};
+ghost use Rattle.cache_core.specs.Caching.{cache_of, CacheStands};
+ghost use Rattle.apcu_iter.specs.Adding.{no_sums, with_rows, sums_of_both};
+ghost use Rattle.apcu_iter.specs.Choosing.{is_chosen, rows_in};
+
+use crate::entry::head_at;
+use crate::lower::lower_laws;
+use crate::row_test::RowTest;
+use crate::search::Search;
+use apcu_model::List;
+use cache_core::Core;
+use entry_slots::{EntrySlots, Head};
+use seg_words::{Segment, WordsIn};
+use std::alloc::AllocError;
+
+/// What rows come to. Each number stays at its last one once there.
+#[derive(Clone, Copy)]
+pub(crate) struct Sums {
+    // how many rows
+    count: u64,
+    // how often they were fetched together
+    hits: u64,
+    // the words of their blocks
+    words: u64,
+}
+
+impl Sums {
+    // Those of no rows.
+    fn new() -> Sums
+        ensures { result ≡ no_sums }
+    {
+        Sums {
+            count: 0,
+            hits: 0,
+            words: 0,
+        }
+    }
+
+    // With one row more, of which this is noted.
+    fn with(self, head: Head) -> Sums
+        ensures { (row : Row) → head.hits ≡ row.hits → head.size ≡ row.size
+            → result ≡ with_rows self (row ∷ []) }
+    {
+        Sums {
+            count: self.count.saturating_add(1),
+            hits: self.hits.saturating_add(head.hits),
+            words: self.words.saturating_add(u64::from(head.size)),
+        }
+    }
+
+    // What both come to.
+    fn plus(self, more: Sums) -> Sums
+        ensures { result ≡ sums_of_both self more }
+    {
+        Sums {
+            count: self.count.saturating_add(more.count),
+            hits: self.hits.saturating_add(more.hits),
+            words: self.words.saturating_add(more.words),
+        }
+    }
+}
+
+// With the row at a place, if it is chosen.
+fn add_row<S: Segment>(
+    slots: &EntrySlots,
+    seg: &mut S,
+    test: &mut RowTest<'_>,
+    at: u32,
+    sums: Sums,
+) -> Result<Sums, AllocError>
+    requires stand { Stand S.WordsIn slots.now seg.old }
+    requires there { has_place at (listed (entries slots.now)) ≡ true }
+    ensures sums { (row : Row) → IsListed (entries slots.now) at row → IfOk result
+        (λ r. r ≡ (if is_chosen test.old row then with_rows sums (row ∷ []) else sums)) }
+    ensures test { test.new ≡ test.old }
+    ensures kept { Kept S.WordsIn seg.old seg.new }
+{
+    match head_at(slots, seg, test, at)? {
+        Some(head) => Ok(sums.with(head)),
+        None => Ok(sums),
+    }
+}
+
+// What the rows of a slot come to.
+fn add_slot<S: Segment>(
+    slots: &EntrySlots,
+    seg: &mut S,
+    test: &mut RowTest<'_>,
+    slot: u32,
+) -> Result<Sums, AllocError>
+    requires stand { Stand S.WordsIn slots.now seg.old }
+    requires slot { slot < (entries slots.now).conf.slots }
+    ensures sums { IfOk result (λ r. r
+        ≡ with_rows no_sums (filter (is_chosen test.old) (chain_of (entries slots.now) slot))) }
+    ensures test { test.new ≡ test.old }
+    ensures kept { Kept S.WordsIn seg.old seg.new }
+{
+    lower_laws();
+    let mut sums = Sums::new();
+    let mut at = slots.first_in(seg, slot);
+    for _passed in 0..slots.rows() {
+        if at == 0 {
+            return Ok(sums);
+        }
+        sums = add_row(slots, seg, test, at, sums)?;
+        at = slots.after(seg, at);
+    }
+    Ok(sums)
+}
+
+// What the rows of all slots come to.
+fn add_active<S: Segment>(
+    slots: &EntrySlots,
+    seg: &mut S,
+    test: &mut RowTest<'_>,
+) -> Result<Sums, AllocError>
+    requires stand { Stand S.WordsIn slots.now seg.old }
+    ensures sums { IfOk result (λ r. r
+        ≡ with_rows no_sums (filter (is_chosen test.old) (entries slots.now).rows)) }
+    ensures test { test.new ≡ test.old }
+    ensures kept { Kept S.WordsIn seg.old seg.new }
+{
+    let mut sums = Sums::new();
+    for slot in 0..slots.slots() {
+        let more = add_slot(slots, seg, test, slot)?;
+        sums = sums.plus(more);
+    }
+    Ok(sums)
+}
+
+// What the removed rows come to.
+fn add_removed<S: Segment>(
+    slots: &EntrySlots,
+    seg: &mut S,
+    test: &mut RowTest<'_>,
+) -> Result<Sums, AllocError>
+    requires stand { Stand S.WordsIn slots.now seg.old }
+    ensures sums { IfOk result (λ r. r
+        ≡ with_rows no_sums (filter (is_chosen test.old) (entries slots.now).removed)) }
+    ensures test { test.new ≡ test.old }
+    ensures kept { Kept S.WordsIn seg.old seg.new }
+{
+    lower_laws();
+    let mut sums = Sums::new();
+    let mut at = slots.first_removed();
+    for _passed in 0..slots.words() {
+        if at == 0 {
+            return Ok(sums);
+        }
+        sums = add_row(slots, seg, test, at, sums)?;
+        at = slots.after(seg, at);
+    }
+    Ok(sums)
+}
+
+// What the rows of a list come to.
+fn add_all<S: Segment>(
+    slots: &EntrySlots,
+    seg: &mut S,
+    test: &mut RowTest<'_>,
+    list: List,
+) -> Result<Sums, AllocError>
+    requires stand { Stand S.WordsIn slots.now seg.old }
+    ensures sums { IfOk result (λ r. r
+        ≡ with_rows no_sums (filter (is_chosen test.old) (rows_in list (entries slots.now)))) }
+    ensures test { test.new ≡ test.old }
+    ensures kept { Kept S.WordsIn seg.old seg.new }
+{
+    match list {
+        List::Active => add_active(slots, seg, test),
+        List::Deleted => add_removed(slots, seg, test),
+    }
+}
+
+/// What all rows come to that an iterator over the list goes over at the moment `t`, in seconds:
+/// how many they are, how often they were fetched together, where 2^64 - 1 is that often or
+/// oftener, and the bytes of their blocks. Nothing changes.
+///
+/// It takes as long as there are slots and rows. Matching takes memory from the search's allocator,
+/// and its want is the only refusal.
+pub fn totals<S: Segment>(
+    core: &mut Core,
+    seg: &mut S,
+    search: &mut Search,
+    list: List,
+    t: u64,
+) -> Result<(u64, u64, u64), AllocError>
+    requires stand { CacheStands S.WordsIn core.old seg.old }
+    ensures totals { IfOk result (λ r. replies.Totals r.0 r.1 r.2
+        ≡ totals_of (all_items search.old list t (cache_of core.old))) }
+    ensures reply { IfOk result (λ r. replies.Totals r.0 r.1 r.2
+        ≡ reply_to (held_blocks (S.aside seg.new)) t (requests.Totals search.old list)
+        (cache_of core.old)) }
+    ensures search { search.new ≡ search.old }
+    ensures same { core.new ≡ core.old }
+    ensures kept { Kept S.WordsIn seg.old seg.new }
+{
+    let mut test = search.test(list, t)?;
+    let slots = core.slots();
+    let sums = add_all(slots, seg, &mut test, list)?;
+    Ok((sums.count, sums.hits, 8 * sums.words))
+}
