@@ -158,11 +158,7 @@ pub enum Reply {
     Next(u32),
     /// Of how many rows, fetched how often together (2^64 - 1 is that often or oftener), and how
     /// many bytes their blocks have.
-    Totals {
-        count: u64,
-        hits: u64,
-        size: u64,
-    },
+    Totals { count: u64, hits: u64, size: u64 },
     /// The worker's end.
     Ended,
 }

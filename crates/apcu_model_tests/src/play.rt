@@ -1,4 +1,6 @@
+ghost use Rattle.std.specs.Prelude.{◌≡◌, false, IfOk};
 ghost use Rattle.apcu_model.specs.Conf.{IsGood};
+ghost use Rattle.apcu_model.specs.Sequential.{is_iteration};
 
 use apcu_model::*;
 use php_graph::{Builder, Bytes, Graph, Item, Kind, Wants};
@@ -63,7 +65,9 @@ fn asked(
     value: &Graph,
     ttl: u32,
     exclusive: bool,
-) -> Result<Request, Fail> {
+) -> Result<Request, Fail>
+    ensures plain { IfOk result (λ request. is_iteration request ≡ false) }
+{
     Ok(Request::Store {
         key: Bytes::of(alloc, key.as_slice())?,
         value: value.try_copy(alloc)?,

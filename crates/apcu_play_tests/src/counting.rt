@@ -1,51 +1,14 @@
 //! Many workers on one counter.
 
+use crate::gates::{Hold, Holding};
 use apcu_play::{Status, run};
-use io_edges::{Gate, MemSink, MemSource, Point};
+use io_edges::{MemSink, MemSource, Point};
 use notation::ByteOut;
 use std::alloc::Global;
 use std::process::Abort;
-use std::sync::{Mutex, Wait};
+use std::sync::Wait;
 use std::test::Fail;
 use std::thread::Threads;
-
-// How often a worker looks for the others before it gives up.
-const TURNS: u32 = 100_000_000;
-
-// A gate at which so many workers wait for one another before their call of this number. One that
-// waits for too long goes on, and that is noted.
-#[derive(Drop)]
-struct Meeting<'a, R: Wait> {
-    rt: &'a R,
-    workers: u32,
-    call: u32,
-    come: Mutex<u32>,
-    given_up: Mutex<bool>,
-}
-
-fn add_one(count: &mut u32) {
-    *count = count.saturating_add(1);
-}
-
-impl<R: Wait> Meeting<'_, R> {
-    fn wait(&self) {
-        add_one(&mut self.come.lock(self.rt));
-        for _turn in 0..TURNS {
-            if *self.come.lock(self.rt) >= self.workers {
-                return;
-            }
-        }
-        *self.given_up.lock(self.rt) = true;
-    }
-}
-
-impl<R: Wait> Gate for Meeting<'_, R> {
-    fn reached(&self, _worker: u32, point: Point) {
-        if point == Point::Before(self.call) {
-            self.wait();
-        }
-    }
-}
 
 // Whether each number from 1 to this one is printed once.
 fn each_once(alloc: Global, printed: &[u8], last: usize) -> Result<bool, Fail> {
@@ -98,19 +61,14 @@ fn expect_counted<R: Threads + Wait + Sync + Abort>(
             scripts.push(b"apcu_inc s:1:\"n\";\n")?;
         }
     }
-    let gate = Meeting {
-        rt,
-        workers,
-        call: meet,
-        come: Mutex::new(0),
-        given_up: Mutex::new(false),
-    };
+    let meeting = [Hold::Meet(workers, Point::Before(meet))];
+    let gate = Holding::new(rt, alloc, &meeting)?;
     let mut input = MemSource::new(scripts.as_slice(), 65536, &[]);
     let mut out = MemSink::new(alloc, 2_097_152, 65536, &[])?;
     let mut err = MemSink::new(alloc, 64, 64, &[])?;
     let status = run(rt, alloc, &words, &mut input, &mut out, &mut err, &gate);
     assert_eq!(rt; status, Status::Done);
-    assert!(rt; !*gate.given_up.lock(rt));
+    assert!(rt; !gate.has_given_up());
     let last = (workers as usize).saturating_mul(calls as usize);
     assert!(rt; last < 1_000_000);
     assert!(rt; each_once(alloc, out.as_slice(), last)?);

@@ -2,19 +2,27 @@
 #![tactic(auto)]
 
 #[cfg(test)]
+mod answers_that_differ;
+#[cfg(test)]
 mod calls;
+#[cfg(test)]
+mod calls_that_differ;
 #[cfg(test)]
 mod counting;
 #[cfg(test)]
-mod differences;
-#[cfg(test)]
 mod faults;
 #[cfg(test)]
+mod gates;
+#[cfg(test)]
 mod options;
+#[cfg(test)]
+mod pieces;
 #[cfg(test)]
 mod room;
 #[cfg(test)]
 mod runs;
+#[cfg(test)]
+mod shown;
 #[cfg(test)]
 mod threads;
 #[cfg(test)]

@@ -1,44 +1,21 @@
 //! What a small segment holds, and how it makes room.
 
+use crate::pieces::Piece::{Text, Zs};
+use crate::pieces::spelled;
 use crate::runs::expect_lines;
 use notation::ByteOut;
 use std::alloc::Global;
 use std::test::Fail;
 
-// A script as pieces of text, and of so many bytes `z`.
-#[derive(Clone, Copy)]
-enum Piece {
-    Text(&'static [u8]),
-    Zs(usize),
-}
-
-fn script_of(alloc: Global, pieces: &[Piece]) -> Result<ByteOut, Fail> {
-    let mut script = ByteOut::new(alloc);
-    script.push(b"worker\n")?;
-    for piece in pieces {
-        match *piece {
-            Piece::Text(text) => script.push(text)?,
-            Piece::Zs(len) => push_zs(&mut script, len)?,
-        }
-    }
-    Ok(script)
-}
-
-fn push_zs(script: &mut ByteOut, len: usize) -> Result<(), Fail> {
-    for _ in 0..len {
-        script.push(b"z")?;
-    }
-    Ok(())
-}
-
 #[test]
 fn what_a_small_segment_holds(rt: HostRuntime) -> Result<(), Fail> {
-    use Piece::{Text, Zs};
     for (pieces, printed, events) in [
         // 482 words are too many, 480 are all.
         (
             [
-                Text(b"apcu_store s:1:\"k\"; i:1;\napcu_store s:1:\"a\"; s:3729:\"".as_slice()),
+                Text(b"worker\napcu_store s:1:\"k\"; i:1;\n\
+                    apcu_store s:1:\"a\"; s:3729:\""
+                    .as_slice()),
                 Zs(3729),
                 Text(b"\";\napcu_exists s:1:\"k\";\n"),
             ]
@@ -48,7 +25,7 @@ fn what_a_small_segment_holds(rt: HostRuntime) -> Result<(), Fail> {
         ),
         (
             &[
-                Text(b"apcu_store s:1:\"a\"; s:3728:\""),
+                Text(b"worker\napcu_store s:1:\"a\"; s:3728:\""),
                 Zs(3728),
                 Text(b"\";\n"),
             ],
@@ -58,7 +35,7 @@ fn what_a_small_segment_holds(rt: HostRuntime) -> Result<(), Fail> {
         // One value of two that is too large.
         (
             &[
-                Text(b"apcu_store a:2:{s:1:\"a\";i:1;s:1:\"b\";s:3729:\""),
+                Text(b"worker\napcu_store a:2:{s:1:\"a\";i:1;s:1:\"b\";s:3729:\""),
                 Zs(3729),
                 Text(b"\";}\n"),
             ],
@@ -68,7 +45,8 @@ fn what_a_small_segment_holds(rt: HostRuntime) -> Result<(), Fail> {
         // Values of two keys are numbered one behind the other.
         (
             &[Text(
-                b"apcu_store s:1:\"a\"; a:1:{i:0;R:1;}\n\
+                b"worker\n\
+                apcu_store s:1:\"a\"; a:1:{i:0;R:1;}\n\
                 apcu_store s:1:\"5\"; O:1:\"A\":1:{s:1:\"x\";r:1;}\n\
                 apcu_fetch a:2:{i:0;s:1:\"a\";i:1;s:1:\"5\";}\n",
             )],
@@ -76,7 +54,7 @@ fn what_a_small_segment_holds(rt: HostRuntime) -> Result<(), Fail> {
             5,
         ),
     ] {
-        let script = script_of(rt.alloc(), pieces)?;
+        let script = spelled(rt.alloc(), pieces)?;
         expect_lines(&rt, rt.alloc(), "0", script.as_slice(), printed, events)?;
     }
     Ok(())
@@ -85,19 +63,18 @@ fn what_a_small_segment_holds(rt: HostRuntime) -> Result<(), Fail> {
 // A value that is too large to be stored is given all the same.
 #[test]
 fn an_entry_that_does_not_fit(rt: HostRuntime) -> Result<(), Fail> {
-    use Piece::{Text, Zs};
-    let script = script_of(
+    let script = spelled(
         rt.alloc(),
         &[
-            Text(b"apcu_entry s:1:\"k\"; (s:3729:\""),
+            Text(b"worker\napcu_entry s:1:\"k\"; (s:3729:\""),
             Zs(3729),
             Text(b"\";)\napcu_exists s:1:\"k\";\n"),
         ],
     )?;
-    let mut wanted = ByteOut::new(rt.alloc());
-    wanted.push(b"s:3729:\"")?;
-    push_zs(&mut wanted, 3729)?;
-    wanted.push(b"\";\nb:0;\n")?;
+    let wanted = spelled(
+        rt.alloc(),
+        &[Text(b"s:3729:\""), Zs(3729), Text(b"\";\nb:0;\n")],
+    )?;
     expect_lines(
         &rt,
         rt.alloc(),
@@ -108,13 +85,13 @@ fn an_entry_that_does_not_fit(rt: HostRuntime) -> Result<(), Fail> {
     )
 }
 
-// Three large rows; these lines, which delete the first two; and a row that takes both their places.
+// Three large rows; these lines, which delete the first two; and a row that takes both their
+// places.
 fn in_the_place_of_two(alloc: Global, deletions: &'static [u8]) -> Result<ByteOut, Fail> {
-    use Piece::{Text, Zs};
-    script_of(
+    spelled(
         alloc,
         &[
-            Text(b"apcu_store s:1:\"a\"; s:1168:\""),
+            Text(b"worker\napcu_store s:1:\"a\"; s:1168:\""),
             Zs(1168),
             Text(b"\";\napcu_store s:1:\"b\"; s:1168:\""),
             Zs(1168),

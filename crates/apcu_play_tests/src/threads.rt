@@ -1,108 +1,19 @@
 //! Workers on threads of their own, held at points of their scripts.
 
+use crate::gates::Hold::{self, Until};
+use crate::gates::Holding;
+use crate::pieces::Piece::{self, Text, Zs};
+use crate::pieces::spelled;
 use crate::runs::{LARGER, SMALL, words_of};
 use apcu_play::{Status, run};
-use io_edges::{Gate, MemSink, MemSource, NoGate, Point};
+use io_edges::Point::{After, Before, Pinned};
+use io_edges::{MemSink, MemSource, NoGate};
 use notation::ByteOut;
-use std::alloc::{AllocError, Global};
+use std::alloc::Global;
 use std::process::Abort;
-use std::sync::{Mutex, Wait};
+use std::sync::Wait;
 use std::test::Fail;
 use std::thread::Threads;
-
-// How often a worker looks for another one before it gives up.
-const TURNS: u32 = 100_000_000;
-
-// A worker waits at a point until another one has come to a point of its own.
-#[derive(Clone, Copy)]
-struct Hold {
-    worker: u32,
-    at: Point,
-    other: u32,
-    until: Point,
-}
-
-// A gate that holds workers, and notes whose points were reached. One that waits for too long goes
-// on, and that is noted too.
-#[derive(Drop)]
-struct Holding<'a, R: Wait> {
-    rt: &'a R,
-    holds: &'static [Hold],
-    points: Mutex<Vec<(u32, Point)>>,
-    given_up: Mutex<bool>,
-}
-
-impl<'a, R: Wait> Holding<'a, R> {
-    fn new(rt: &'a R, alloc: Global, holds: &'static [Hold]) -> Result<Holding<'a, R>, AllocError> {
-        Ok(Holding {
-            rt,
-            holds,
-            points: Mutex::new(Vec::with_capacity(alloc, 64)?),
-            given_up: Mutex::new(false),
-        })
-    }
-
-    // Whether the point was reached.
-    fn is_reached(&self, worker: u32, point: Point) -> bool {
-        let points = self.points.lock(self.rt);
-        for noted in points.as_slice() {
-            if *noted == (worker, point) {
-                return true;
-            }
-        }
-        false
-    }
-
-    fn wait(&self, hold: &Hold) {
-        for _turn in 0..TURNS {
-            if self.is_reached(hold.other, hold.until) {
-                return;
-            }
-        }
-        *self.given_up.lock(self.rt) = true;
-    }
-}
-
-fn note(points: &mut Vec<(u32, Point)>, worker: u32, point: Point) {
-    if points.len() < points.capacity() {
-        points.push_reserved((worker, point));
-    }
-}
-
-impl<R: Wait> Gate for Holding<'_, R> {
-    fn reached(&self, worker: u32, point: Point) {
-        note(&mut self.points.lock(self.rt), worker, point);
-        for hold in self.holds {
-            if hold.worker == worker && hold.at == point {
-                self.wait(hold);
-            }
-        }
-    }
-}
-
-// A piece of a text: these bytes, or so many times the letter z.
-#[derive(Clone, Copy)]
-enum Piece {
-    Text(&'static [u8]),
-    Zs(u32),
-}
-
-use Piece::{Text, Zs};
-
-fn spelled(alloc: Global, pieces: &[Piece]) -> Result<ByteOut, Fail> {
-    let mut text = ByteOut::new(alloc);
-    for piece in pieces {
-        match piece {
-            Text(bytes) => text.push(bytes)?,
-            Zs(count) => {
-                for _letter in 0..*count {
-                    text.push(b"z")?;
-                }
-            }
-        }
-    }
-    Ok(text)
-}
 
 // Two scripts, the points at which their workers wait, and what they print. The last two events are
 // their ends, in either order.
@@ -126,7 +37,7 @@ fn expect_held<R: Threads + Wait + Sync + Abort>(
     let mut err = MemSink::new(alloc, 64, 64, &[])?;
     let status = run(rt, alloc, &words, &mut input, &mut out, &mut err, &gate);
     assert_eq!(rt; status, Status::Done);
-    assert!(rt; !*gate.given_up.lock(rt));
+    assert!(rt; !gate.has_given_up());
     let mut first = spelled(alloc, case.printed)?;
     first.push(b"0\n1\n")?;
     let mut other = spelled(alloc, case.printed)?;
@@ -137,46 +48,16 @@ fn expect_held<R: Threads + Wait + Sync + Abort>(
 
 // Worker 0 has a block pinned until worker 1 has made its second call.
 const WHILE_PINNED: &[Hold] = &[
-    Hold {
-        worker: 1,
-        at: Point::Before(0),
-        other: 0,
-        until: Point::Pinned(1),
-    },
-    Hold {
-        worker: 0,
-        at: Point::Pinned(1),
-        other: 1,
-        until: Point::After(1),
-    },
+    Until((1, Before(0)), (0, Pinned(1))),
+    Until((0, Pinned(1)), (1, After(1))),
 ];
 
 // The same, and then worker 1 goes on once worker 0 has its reply.
 const PINNED_AND_AFTER: &[Hold] = &[
-    Hold {
-        worker: 1,
-        at: Point::Before(0),
-        other: 0,
-        until: Point::Pinned(1),
-    },
-    Hold {
-        worker: 0,
-        at: Point::Pinned(1),
-        other: 1,
-        until: Point::After(1),
-    },
-    Hold {
-        worker: 1,
-        at: Point::Before(2),
-        other: 0,
-        until: Point::After(1),
-    },
-    Hold {
-        worker: 0,
-        at: Point::After(1),
-        other: 1,
-        until: Point::After(2),
-    },
+    Until((1, Before(0)), (0, Pinned(1))),
+    Until((0, Pinned(1)), (1, After(1))),
+    Until((1, Before(2)), (0, After(1))),
+    Until((0, After(1)), (1, After(2))),
 ];
 
 // A pinned block is given out again only after its copy.
@@ -268,18 +149,8 @@ const EXPUNGED: Held = Held {
 
 // The row is copied until three calls of worker 1 were made.
 const PINNED_FOR_THREE: &[Hold] = &[
-    Hold {
-        worker: 1,
-        at: Point::Before(0),
-        other: 0,
-        until: Point::Pinned(1),
-    },
-    Hold {
-        worker: 0,
-        at: Point::Pinned(1),
-        other: 1,
-        until: Point::After(2),
-    },
+    Until((1, Before(0)), (0, Pinned(1))),
+    Until((0, Pinned(1)), (1, After(2))),
 ];
 
 // The row's time is over, and a store in its slot drops it: it is listed as deleted.
@@ -327,30 +198,10 @@ fn a_copy_is_left_alone(rt: HostRuntime) -> Result<(), Fail> {
 
 // The workers make their calls in turn, worker 0 first. Played on one thread it is given up.
 const IN_TURN: &[Hold] = &[
-    Hold {
-        worker: 1,
-        at: Point::Before(0),
-        other: 0,
-        until: Point::After(0),
-    },
-    Hold {
-        worker: 0,
-        at: Point::Before(1),
-        other: 1,
-        until: Point::After(0),
-    },
-    Hold {
-        worker: 1,
-        at: Point::Before(1),
-        other: 0,
-        until: Point::After(1),
-    },
-    Hold {
-        worker: 0,
-        at: Point::After(1),
-        other: 1,
-        until: Point::After(1),
-    },
+    Until((1, Before(0)), (0, After(0))),
+    Until((0, Before(1)), (1, After(0))),
+    Until((1, Before(1)), (0, After(1))),
+    Until((0, After(1)), (1, After(1))),
 ];
 
 const ASKED_IN_TURN: Held = Held {

@@ -100,6 +100,7 @@ fn values_with_a_fault(rt: HostRuntime) -> Result<(), Fail> {
             b"i:05;".as_slice(),
             b"apcu_run: script: byte 29: number\n".as_slice(),
         ),
+        (b"i:+5;", b"apcu_run: script: byte 29: number\n"),
         (b"s:3:\"ab\";", b"apcu_run: script: byte 29: length\n"),
         (b"d:1.5;", b"apcu_run: script: byte 27: tag\n"),
         (b"a:1:{i:0;r:1;}", b"apcu_run: script: byte 38: target\n"),

@@ -1,7 +1,8 @@
 //! The cache that is measured, and its calls.
 
-ghost use Rattle.std.specs.Prelude.{◌≤◌, length, IfSome};
+ghost use Rattle.std.specs.Prelude.{◌≡◌, ◌≤◌, length, IfSome};
 ghost use Rattle.apcu_model.specs.Conf.{IsGood};
+ghost use Rattle.apcu_model.specs.Levels.{most_levels};
 
 use crate::clock::since;
 use crate::keys::{FIRST, key_of};
@@ -75,7 +76,7 @@ pub struct WordCache {
 
 // The entry of a key that gives this value; `None` where memory is missing.
 fn generator(alloc: Global, key: &[u8; 8], value: &Graph) -> Option<Gen>
-    ensures { IfSome result (λ generator. length generator.levels ≤ 8) }
+    ensures { IfSome result (λ generator. length generator.levels ≤ most_levels) }
 {
     let inner = Gen::value(value.try_copy(alloc).ok()?);
     let key = Bytes::of(alloc, key).ok()?;
@@ -105,7 +106,9 @@ impl WordCache {
     }
 
     /// How many rows there are.
-    pub fn rows(&self) -> u64 {
+    pub fn rows(&self) -> u64
+        ensures { result ≡ length self.now.rows }
+    {
         self.core.counts().entries
     }
 

@@ -20,6 +20,9 @@ is_fetch request.Clear = false
 is_fetch (request.KeyInfo key) = false
 is_fetch (request.CacheInfo limited) = false
 is_fetch (request.SmaInfo limited) = false
+is_fetch (request.Chunk search from size list fields) = false
+is_fetch (request.ChunkDelete search from size) = false
+is_fetch (request.Totals search list) = false
 is_fetch request.Retire = false
 
 -- the events of the worker w, in order

@@ -1,3 +1,5 @@
 pub mod Replies
 pub mod Notes
+pub mod Items
+pub mod Fields
 pub mod Lines

@@ -1,14 +1,17 @@
 //! What a call prints for its own replies, in serialize notation.
 
 ghost use Rattle.std.specs.Prelude.{◌≡◌, ℕ, ◌+◌, ◌<◌, ◌^◌, ◌++◌, List, [], length, map, codes};
-ghost use Rattle.std.specs.Prelude.{OnOk, Option};
+ghost use Rattle.std.specs.Prelude.{◌-◌, min, pos, OnOk, Option};
 ghost use Rattle.std.specs.Option.{option_map};
 ghost use Rattle.std.specs.Fmt.{decimal};
+ghost use Rattle.php_graph.specs.Numbers.{int_of_text};
+ghost use Rattle.notation.specs.Keys.{written_key};
 ghost use Rattle.notation.specs.Notation.{array_head, integer_text, string_text};
-ghost use Rattle.apcu_model.specs.declared.request.Reply.TheVariants.{Gave};
+ghost use Rattle.apcu_model.specs.declared.request.Reply.TheVariants.{Gave, Totals};
 ghost use Rattle.apcu_model.specs.Sequential.{number_reply, info_reply};
 ghost use Rattle.reply_text.specs.Replies.{flag_text, fetched, fetched_one, number_one, array_text};
 ghost use Rattle.reply_text.specs.Replies.{all_with, numbered, value_members, gave_one, info_one};
+ghost use Rattle.reply_text.specs.Items.{totals_one};
 
 use itoa::Buffer;
 use notation::{ByteOut, write_key, write_value};
@@ -69,6 +72,27 @@ pub fn write_info(out: &mut ByteOut, info: Option<Graph>) -> Result<(), AllocErr
     }
 }
 
+/// The totals of an iterator: of how many rows, fetched how often, and how many bytes their blocks
+/// have. A number from 2^63 on is printed as the last integer of 64 bits.
+pub fn write_totals(out: &mut ByteOut, count: u64, hits: u64, size: u64) -> Result<(), AllocError>
+    ensures { OnOk result (out.new ≡ out.old ++ totals_one (Totals count hits size)) }
+{
+    write_head(out, 3)?;
+    write_total(out, b"count", count)?;
+    write_total(out, b"hits", hits)?;
+    write_total(out, b"size", size)?;
+    out.push(b"}")
+}
+
+// A number under its name.
+fn write_total(out: &mut ByteOut, name: &[u8], n: u64) -> Result<(), AllocError>
+    ensures { OnOk result (out.new ≡ out.old ++ (written_key (int_of_text name.now) name.now
+        ++ integer_text (pos (min n (2 ^ 63 - 1))))) }
+{
+    write_key(name, out)?;
+    write_count(out, n)
+}
+
 // An integer.
 fn write_integer(out: &mut ByteOut, n: i64) -> Result<(), AllocError>
     ensures { OnOk result (out.new ≡ out.old ++ integer_text n) }
@@ -79,8 +103,16 @@ fn write_integer(out: &mut ByteOut, n: i64) -> Result<(), AllocError>
     out.push(b";")
 }
 
+// A number; from 2^63 on it is the last integer of 64 bits.
+pub(crate) fn write_count(out: &mut ByteOut, n: u64) -> Result<(), AllocError>
+    ensures { OnOk result (out.new ≡ out.old ++ integer_text (pos (min n (2 ^ 63 - 1)))) }
+{
+    let most = i64::MAX.cast_unsigned();
+    write_integer(out, n.min(most).cast_signed())
+}
+
 // How an array of so many members begins.
-fn write_head(out: &mut ByteOut, count: usize) -> Result<(), AllocError>
+pub(crate) fn write_head(out: &mut ByteOut, count: usize) -> Result<(), AllocError>
     ensures { OnOk result (out.new ≡ out.old ++ array_head count) }
 {
     let mut digits = Buffer::new();
@@ -150,7 +182,7 @@ pub fn write_values(out: &mut ByteOut, values: &[(&Bytes, Graph)]) -> Result<(),
 }
 
 // A string.
-fn write_string(out: &mut ByteOut, bytes: &[u8]) -> Result<(), AllocError>
+pub(crate) fn write_string(out: &mut ByteOut, bytes: &[u8]) -> Result<(), AllocError>
     ensures { OnOk result (out.new ≡ out.old ++ string_text bytes.now) }
 {
     let mut digits = Buffer::new();

@@ -2,4 +2,8 @@
 #![tactic(auto)]
 
 #[cfg(test)]
-mod tests;
+mod asked;
+#[cfg(test)]
+mod faults;
+#[cfg(test)]
+mod reading;

@@ -98,6 +98,9 @@ opens_own w v ne t request.Clear c l = refl
 opens_own w v ne t (request.KeyInfo key) c l = refl
 opens_own w v ne t (request.CacheInfo limited) c l = refl
 opens_own w v ne t (request.SmaInfo limited) c l = refl
+opens_own w v ne t (request.Chunk search from size list fields) c l = refl
+opens_own w v ne t (request.ChunkDelete search from size) c l = refl
+opens_own w v ne t (request.Totals search list) c l = refl
 opens_own w v ne t request.Retire c l = refl
 
 -- the windows of others stay as they were

@@ -2,4 +2,8 @@
 #![tactic(auto)]
 
 #[cfg(test)]
+mod listed;
+#[cfg(test)]
+mod steps;
+#[cfg(test)]
 mod tests;

@@ -11,3 +11,4 @@ pub mod Numbered
 pub mod Walk
 pub mod OneGraph
 pub mod Counts
+pub mod Alone

@@ -1,7 +1,7 @@
 -- What is read of an image before its places have numbers: where a graph has a place's number,
 -- there is an offset.
 use Rattle.std.specs.Prelude.{◌≡◌, ℕ, ◌<◌, ◌≤◌, ◌^◌, List, ◌++◌, length, map, slice_index}
-use Rattle.std.specs.Prelude.{slice_get, Some, FitsSigned}
+use Rattle.std.specs.Prelude.{◌+◌, Option, Some, None, slice_get, FitsSigned}
 use Rattle.std.specs.List.{flat_map, AllByRecursion}
 use Rattle.std.specs.Int.{w64}
 use Rattle.php_graph.specs.declared.key.Key.{Key}
@@ -107,6 +107,13 @@ pub record IsObjectAt (row windows : List ℕ) (at count : ℕ) (class : List �
   pub fits_class : AreBytes class
   pub fits : AllByRecursion FitsProperty ps
   pub count_is : count ≡ length ps
+
+-- null, a truth value or an integer that stands at a place, and the place behind it
+abbrev pub scalar_at : ℕ → Kind → Option (Kind × ℕ)
+scalar_at at kinds.Null = Some (kinds.Null, at + 1)
+scalar_at at (kinds.Bool b) = Some (kinds.Bool b, at + 1)
+scalar_at at (kinds.Int n) = Some (kinds.Int n, at + 2)
+scalar_at at _ = None
 
 -- ---- whole images
 

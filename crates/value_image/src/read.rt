@@ -1,6 +1,7 @@
 //! The graph of an image.
 
 ghost use Rattle.std.specs.Prelude.{◌≡◌, ◌+◌, ℕ, ◌≤◌, ◌<◌, ◌∷◌, List, IfOk, length, sum_by};
+ghost use Rattle.std.specs.Prelude.{slice_index};
 ghost use Rattle.seg_words.specs.Kept.{Kept};
 ghost use Rattle.php_graph.specs.declared.child.Child.{Child};
 ghost use Rattle.php_graph.specs.declared.kind.Kind.{Kind};
@@ -9,7 +10,7 @@ ghost use Rattle.seg_words.specs.Layout.{words_in};
 ghost use Rattle.php_graph.specs.Size.{cells_of};
 ghost use Rattle.seg_words.specs.Blocks.{IsTold};
 ghost use Rattle.value_image.specs.Image.{IsImageOf};
-ghost use Rattle.value_image.specs.Reading.{IsKindAt, IsObjectAt, IsReadOf};
+ghost use Rattle.value_image.specs.Reading.{IsKindAt, IsObjectAt, IsReadOf, scalar_at};
 
 use crate::numbers::number;
 use crate::read_members::{read_members, read_properties, read_string, read_text};
@@ -40,6 +41,26 @@ fn read_object<W: WordsIn>(
     Ok((class, props, next))
 }
 
+// Null, a truth value or an integer at place `at`, whose tag was read, and the place behind it.
+#[inline(always)]
+fn read_scalar<W: WordsIn>(from: &mut W, at: u32, tag: u64) -> Option<(Kind, u32)>
+    requires { (kind : Kind) × IsKindAt (W.words from.old) (W.aside from.old).windows at kind
+        × (tag ≡ slice_index (W.words from.old) at) }
+    ensures scalar { (kind : Kind) → IsKindAt (W.words from.old) (W.aside from.old).windows at kind
+        → result ≡ scalar_at at kind }
+    ensures kept { Kept W.WordsIn from.old from.new }
+{
+    match tag % 8 {
+        NULL => Some((Kind::Null, at + 1)),
+        BOOL => Some((Kind::Bool(tag != BOOL), at + 1)),
+        INT => {
+            let number = from.load(at + 1);
+            Some((Kind::Int(number.cast_signed()), at + 2))
+        }
+        _ => None,
+    }
+}
+
 // What stands at place `at`, with offsets in place of numbers, and the place behind it.
 fn read_place<W: WordsIn>(alloc: Global, from: &mut W, at: u32) -> Result<(Kind, u32), AllocError>
     requires { (kind : Kind) × IsKindAt (W.words from.old) (W.aside from.old).windows at kind }
@@ -48,13 +69,10 @@ fn read_place<W: WordsIn>(alloc: Global, from: &mut W, at: u32) -> Result<(Kind,
     ensures kept { Kept W.WordsIn from.old from.new }
 {
     let tag = from.load(at);
+    if let Some(scalar) = read_scalar(from, at, tag) {
+        return Ok(scalar);
+    }
     match tag % 8 {
-        NULL => Ok((Kind::Null, at + 1)),
-        BOOL => Ok((Kind::Bool(tag != BOOL), at + 1)),
-        INT => {
-            let number = from.load(at + 1);
-            Ok((Kind::Int(number.cast_signed()), at + 2))
-        }
         STR => {
             let (bytes, next) = read_text(alloc, from, at, tag)?;
             Ok((Kind::Str(bytes), next))
@@ -116,6 +134,11 @@ pub fn unpersist<W: WordsIn>(
         → IfOk result (λ answer. answer ≡ g) }
     ensures kept { Kept W.WordsIn from.old from.new }
 {
+    let tag = from.load(at);
+    if let Some((scalar, _)) = read_scalar(from, at, tag) {
+        let none = Vec::new(alloc);
+        return Ok(Graph::from_places(scalar, none, u64::from(len)));
+    }
     let (mut first, mut others) = read_places(alloc, from, at, len)?;
     number(alloc, &mut first, &mut others, len)?;
     Ok(Graph::from_places(first, others, u64::from(len)))

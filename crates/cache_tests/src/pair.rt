@@ -1,0 +1,172 @@
+//! The cache over words and the plain one, which are asked the same.
+
+ghost use Rattle.std.specs.Prelude.{◌≡◌, ◌%◌, ◌≤◌, false};
+ghost use Rattle.apcu_model.specs.Conf.{IsGood};
+ghost use Rattle.apcu_model.specs.Sequential.{is_iteration};
+
+use crate::calls::{Answer, Call};
+use crate::draws::{Draw, Kinds};
+use crate::plainly::{call_plainly, told_plainly};
+use crate::small::Small;
+use crate::values::key;
+use apcu_model::{Conf, Plain, Request};
+use notation::{ByteOut, write_value};
+use php_graph::{Bytes, Graph};
+use std::alloc::Global;
+use std::process::Abort;
+use std::test::Fail;
+
+pub(crate) fn shape(words: u32, ttl: u32) -> Conf
+    requires even { (words % 2 ≡ 0) × (512 ≤ words) × (words ≤ 65536) }
+    ensures good { IsGood result }
+    ensures words { result.words ≡ words }
+{
+    Conf {
+        words,
+        slots: 32,
+        ttl,
+    }
+}
+
+// What the text of an answer is.
+fn text_of(alloc: Global, answer: Option<&Graph>) -> Result<ByteOut, Fail> {
+    let mut out = ByteOut::new(alloc);
+    match answer {
+        Some(g) => write_value(g, 0, &mut out)?,
+        None => out.push(b"N;")?,
+    }
+    Ok(out)
+}
+
+#[derive(Drop)]
+pub(crate) struct Pair {
+    alloc: Global,
+    small: Small,
+    plain: Plain,
+}
+
+impl Pair {
+    // Caches of so many words with this limit.
+    pub(crate) fn new(alloc: Global, words: u32, ttl: u32) -> Result<Pair, Fail>
+        requires even { (words % 2 ≡ 0) × (512 ≤ words) × (words ≤ 65536) }
+    {
+        let conf = shape(words, ttl);
+        Ok(Pair {
+            alloc,
+            small: Small::new(alloc, &conf)?,
+            plain: Plain::new(alloc, &conf),
+        })
+    }
+
+    // Both do it. They answer the same, and count the same.
+    pub(crate) fn ask(
+        &mut self,
+        rt: &impl Abort,
+        key: &[u8],
+        call: Call,
+        t: u64,
+    ) -> Result<Answer, Fail> {
+        assert!(rt; key.len() < 1 << 20);
+        let key = Bytes::of(self.alloc, key)?;
+        let answer = self.small.answer(rt, self.alloc, &key, call, t)?;
+        let wanted = call_plainly(rt, self.alloc, &mut self.plain, key, call, t)?;
+        assert_eq!(rt; answer, wanted);
+        assert_eq!(rt; self.small.counts(), self.plain.counts());
+        Ok(answer)
+    }
+
+    // The calls in turn at their times, under the keys of these numbers, with what both answer.
+    pub(crate) fn play(
+        &mut self,
+        rt: &impl Abort,
+        rows: &[(u64, u8, Call, Answer)],
+    ) -> Result<(), Fail> {
+        for (t, name, call, wanted) in rows {
+            let answer = self.ask(rt, &key(*name), *call, *t)?;
+            assert_eq!(rt; answer, *wanted);
+        }
+        Ok(())
+    }
+
+    // A call under each key from the one number to the other, with what both answer each time.
+    pub(crate) fn each(
+        &mut self,
+        rt: &impl Abort,
+        names: (u8, u8),
+        row: (u64, Call, Answer),
+    ) -> Result<(), Fail> {
+        let (t, call, wanted) = row;
+        for name in names.0..=names.1 {
+            let answer = self.ask(rt, &key(name), call, t)?;
+            assert_eq!(rt; answer, wanted);
+        }
+        Ok(())
+    }
+
+    // The two answers to a request are one. Its text.
+    fn told(
+        &mut self,
+        rt: &impl Abort,
+        request: &Request,
+        answer: Option<Graph>,
+        t: u64,
+    ) -> Result<ByteOut, Fail>
+        requires plain { is_iteration request.now ≡ false }
+    {
+        let wanted = told_plainly(&mut self.plain, request, t)?;
+        match (&answer, &wanted) {
+            (Some(a), Some(b)) => assert!(rt; a.same(b)),
+            (None, None) => {}
+            _ => assert!(rt; false),
+        }
+        text_of(self.alloc, answer.as_ref())
+    }
+
+    pub(crate) fn key(&mut self, rt: &impl Abort, key: &[u8], t: u64) -> Result<ByteOut, Fail> {
+        assert!(rt; key.len() < 1 << 20);
+        let key = Bytes::of(self.alloc, key)?;
+        let answer = self.small.key(self.alloc, &key, t)?;
+        self.told(rt, &Request::KeyInfo(key), answer, t)
+    }
+
+    pub(crate) fn cache(&mut self, rt: &impl Abort, limited: bool) -> Result<ByteOut, Fail> {
+        let answer = self.small.cache(self.alloc, limited)?;
+        self.told(rt, &Request::CacheInfo(limited), Some(answer), 0)
+    }
+
+    pub(crate) fn segment(&mut self, rt: &impl Abort, limited: bool) -> Result<ByteOut, Fail> {
+        let answer = self.small.segment(self.alloc, limited)?;
+        self.told(rt, &Request::SmaInfo(limited), Some(answer), 0)
+    }
+}
+
+// The calls in turn, in new caches of 512 words with this limit.
+pub(crate) fn play(
+    rt: &impl Abort,
+    alloc: Global,
+    limit: u32,
+    rows: &[(u64, u8, Call, Answer)],
+) -> Result<(), Fail> {
+    Pair::new(alloc, 512, limit)?.play(rt, rows)
+}
+
+// Thousands of calls as they come, in new caches of this shape.
+pub(crate) fn many(
+    rt: &impl Abort,
+    alloc: Global,
+    words: u32,
+    limit: u32,
+    kinds: Kinds,
+) -> Result<(), Fail>
+    requires even { (words % 2 ≡ 0) × (512 ≤ words) × (words ≤ 65536) }
+{
+    let mut pair = Pair::new(alloc, words, limit)?;
+    let mut draw = Draw::new(u64::from(limit).wrapping_add(7));
+    for _call in 0..2_000 {
+        draw = draw.next();
+        let name = draw.name(kinds);
+        let call = draw.call(kinds, name);
+        pair.ask(rt, &key(name), call, draw.t)?;
+    }
+    Ok(())
+}

@@ -1,0 +1,95 @@
+-- What an iterator prints: the items of all its steps, or its totals.
+use Rattle.std.specs.Prelude.{ℕ, ◌+◌, ◌==◌, if◌then◌else◌, List, [], ◌∷◌, ◌++◌, length, codes}
+use Rattle.std.specs.Prelude.{unwrap_or}
+use Rattle.std.specs.Fmt.{decimal}
+use Rattle.std.specs.Int.{bit_at}
+use Rattle.std.specs.List.{flat_map, sum_by}
+use Rattle.php_graph.specs.declared.kind.Kind.{Kind}
+use Rattle.php_graph.specs.declared.kind.Kind.TheVariants.{Null}
+use Rattle.apcu_model.specs.declared.searching.Fields.{Fields}
+use Rattle.apcu_model.specs.declared.items.ItemRow.{ItemRow}
+use Rattle.apcu_model.specs.declared.request.Reply.{Reply}
+use Rattle.apcu_model.specs.declared.request.Reply.TheVariants.{Chunk, Totals}
+use Rattle.apcu_model.specs.Infos.{told_number, told_string}
+use Rattle.reply_text.specs.Replies.{Member, array_text, value_members}
+
+-- ---- an item
+
+-- a value under its name
+abbrev pub NamedValue : Type 0
+NamedValue = List ℕ × List Kind
+
+-- how many values that take a number stand in these
+abbrev pub numbers_of : List NamedValue → ℕ
+numbers_of values = sum_by (λ (v : NamedValue). length v.1) values
+
+-- what an item can tell, in the order of the bits from 0 on; a value that was not asked for is null
+abbrev pub item_values : ItemRow → List NamedValue
+item_values row =
+    (codes "key", told_string row.key 1)
+    ∷ (codes "value", unwrap_or row.value (Null ∷ []))
+    ∷ (codes "num_hits", told_number row.hits 1)
+    ∷ (codes "mtime", told_number row.mtime 1)
+    ∷ (codes "creation_time", told_number row.ctime 1)
+    ∷ (codes "deletion_time", told_number row.dtime 1)
+    ∷ (codes "access_time", told_number row.atime 1)
+    ∷ (codes "mem_size", told_number row.size 1)
+    ∷ (codes "ttl", told_number row.ttl 1)
+    ∷ []
+
+-- the value, if the bit is set
+abbrev pub if_chosen : Fields → ℕ → NamedValue → List NamedValue
+if_chosen fields bit v = if bit_at fields.0 bit == 1 then v ∷ [] else []
+
+-- those that are chosen, where the first one has this bit, and each other one the next
+abbrev pub chosen_from : ℕ → Fields → List NamedValue → List NamedValue
+chosen_from bit fields [] = []
+chosen_from bit fields (v ∷ vs) = if_chosen fields bit v ++ chosen_from (bit + 1) fields vs
+
+-- what is told of a row
+unfoldable pub told_of : Fields → ItemRow → List NamedValue
+told_of fields row = chosen_from 0 fields (item_values row)
+
+-- the item's text, where this many values of the reply stand before it
+abbrev pub item_text : Fields → ℕ → ItemRow → List ℕ
+item_text fields base row = array_text (value_members (base + 1) (told_of fields row))
+
+-- its values that take a number, itself the first
+abbrev pub item_numbers : Fields → ItemRow → ℕ
+item_numbers fields row = 1 + numbers_of (told_of fields row)
+
+-- ---- all items
+
+-- items under the keys from n on, where this many values of the reply stand before them
+abbrev pub item_members : Fields → ℕ → ℕ → List ItemRow → List Member
+item_members fields n base [] = []
+item_members fields n base (row ∷ rows) =
+    (decimal n, item_text fields base row)
+    ∷ item_members fields (n + 1) (base + item_numbers fields row) rows
+
+-- the items of one step
+abbrev pub items_in : Reply → List ItemRow
+items_in (Chunk chunk) = chunk.items
+items_in _ = []
+
+-- what a walk prints: an array of the items of its steps, with the keys 0, 1 and so on
+abbrev pub walk_text : Fields → List Reply → List ℕ
+walk_text fields replies = array_text (item_members fields 0 1 (flat_map items_in replies))
+
+-- ---- totals
+
+abbrev pub total_values : ℕ → ℕ → ℕ → List NamedValue
+total_values count hits size =
+    (codes "count", told_number count 1)
+    ∷ (codes "hits", told_number hits 1)
+    ∷ (codes "size", told_number size 1)
+    ∷ []
+
+abbrev pub totals_one : Reply → List ℕ
+totals_one (Totals count hits size) = array_text (value_members 1 (total_values count hits size))
+totals_one _ = []
+
+-- what the totals of an iterator print
+abbrev pub totals_text : List Reply → List ℕ
+totals_text [] = []
+totals_text (reply ∷ replies) = totals_one reply

@@ -1,0 +1,130 @@
+//! Fields of an iterator's items: those that are chosen, as an array.
+
+ghost use Rattle.std.specs.Prelude.{◌≡◌, ◌+◌, ◌*◌, ◌^◌, ◌<◌, ◌≤◌, ◌==◌, ◌++◌, [], ◌∷◌, length, map};
+ghost use Rattle.std.specs.Prelude.{IfOk, OnOk, unwrap_or};
+ghost use Rattle.std.specs.Int.{bit_at};
+ghost use Rattle.php_graph.specs.declared.kind.Kind.TheVariants as kinds;
+ghost use Rattle.notation.specs.Notation.{text_from};
+ghost use Rattle.reply_text.specs.Replies.{members_text, value_members, array_text};
+ghost use Rattle.reply_text.specs.Items.{numbers_of, if_chosen, chosen_from};
+ghost use Rattle.reply_text.specs.Fields.{held_value, field_value};
+
+use crate::replies::{write_count, write_head, write_string};
+use apcu_model::Fields;
+use notation::{ByteOut, write_key, write_value};
+use php_graph::Graph;
+use std::alloc::AllocError;
+
+// What a field holds.
+#[derive(Clone, Copy, Debug)]
+pub(crate) enum Held<'a> {
+    Text(&'a [u8]),
+    Number(u64),
+    Value(&'a Graph),
+    Null,
+}
+
+// The value, or null where there is none.
+pub(crate) fn value_or_null(value: &Option<Graph>) -> Held<'_>
+    ensures { held_value result ≡ unwrap_or value.now (kinds.Null ∷ []) }
+{
+    match value {
+        Some(value) => Held::Value(value),
+        None => Held::Null,
+    }
+}
+
+// Whether the field with this bit is chosen.
+fn is_chosen(fields: Fields, bit: usize) -> bool
+    requires { bit < 16 }
+    ensures { result ≡ (bit_at fields.0 bit == 1) }
+{
+    (fields.0 >> bit) & 1 == 1
+}
+
+// How many of these fields are chosen.
+fn chosen_count(fields: Fields, all: &[(&[u8], Held)]) -> usize
+    requires { length all.now ≤ 16 }
+    ensures { result ≡ length (chosen_from 0 fields (map field_value all.now)) }
+{
+    let mut count = 0;
+    for bit in 0..all.len() {
+        count += usize::from(is_chosen(fields, bit));
+    }
+    count
+}
+
+// The value that a field holds, behind so many values of the reply. Answers how many values that
+// take a number it has.
+fn write_held(out: &mut ByteOut, held: Held, base: u64) -> Result<u32, AllocError>
+    requires { base < 2 ^ 56 }
+    ensures text { OnOk result (out.new ≡ out.old ++ text_from base (held_value held.entry)) }
+    ensures count { IfOk result (λ count. count ≡ length (held_value held.entry)) }
+    ensures few { IfOk result (λ count. count ≤ 2 ^ 24) }
+{
+    match held {
+        Held::Text(bytes) => {
+            write_string(out, bytes)?;
+            Ok(1)
+        }
+        Held::Number(n) => {
+            write_count(out, n)?;
+            Ok(1)
+        }
+        Held::Value(value) => {
+            write_value(value, base, out)?;
+            Ok(value.places())
+        }
+        Held::Null => {
+            out.push(b"N;")?;
+            Ok(1)
+        }
+    }
+}
+
+// The field, if it is chosen. Answers how many values of the reply stand before what follows.
+fn write_field(
+    out: &mut ByteOut,
+    fields: Fields,
+    bit: usize,
+    field: (&[u8], Held),
+    base: u64,
+) -> Result<u64, AllocError>
+    requires bit { bit < 16 }
+    requires base { base < 2 ^ 56 }
+    ensures text { OnOk result (out.new ≡ out.old
+        ++ members_text (value_members base (if_chosen fields bit (field_value field.entry)))) }
+    ensures next { IfOk result (λ next. next
+        ≡ base + numbers_of (if_chosen fields bit (field_value field.entry))) }
+    ensures few { IfOk result (λ next. next ≤ base + 2 ^ 24) }
+{
+    if !is_chosen(fields, bit) {
+        return Ok(base);
+    }
+    write_key(field.0, out)?;
+    Ok(base + u64::from(write_held(out, field.1, base)?))
+}
+
+// An array of those of these fields that are chosen, behind so many values of the reply; the first
+// field has the bit 0. Answers how many values stand before what follows.
+pub(crate) fn write_chosen(
+    out: &mut ByteOut,
+    fields: Fields,
+    all: &[(&[u8], Held)],
+    base: u64,
+) -> Result<u64, AllocError>
+    requires few { length all.now ≤ 16 }
+    requires base { base < 2 ^ 55 }
+    ensures text { OnOk result (out.new ≡ out.old ++ array_text
+        (value_members (base + 1) (chosen_from 0 fields (map field_value all.now)))) }
+    ensures next { IfOk result (λ next. next
+        ≡ base + (1 + numbers_of (chosen_from 0 fields (map field_value all.now)))) }
+{
+    write_head(out, chosen_count(fields, all))?;
+    let mut next = base + 1;
+    for (bit, field) in all.iter().enumerate() {
+        next = write_field(out, fields, bit, *field, next)?;
+    }
+    out.push(b"}")?;
+    Ok(next)
+}

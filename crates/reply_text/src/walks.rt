@@ -1,0 +1,118 @@
+//! What an iterator prints: the items of all its steps.
+
+ghost use Rattle.std.specs.Prelude.{◌≡◌, ◌+◌, ◌≤◌, ◌++◌, length, map, IfOk, OnOk};
+ghost use Rattle.std.specs.List.{flat_map, sum_by};
+ghost use Rattle.apcu_model.specs.declared.request.Reply.TheVariants as replies;
+ghost use Rattle.reply_text.specs.Replies.{members_text};
+ghost use Rattle.reply_text.specs.Items.{item_text, item_numbers, item_members, items_in};
+ghost use Rattle.reply_text.specs.Items.{item_values, walk_text};
+ghost use Rattle.reply_text.specs.Fields.{field_value};
+
+use crate::fields::{Held, value_or_null, write_chosen};
+use crate::replies::write_head;
+use apcu_model::{Chunk, Fields, ItemRow};
+use itoa::Buffer;
+use notation::{ByteOut, write_key};
+use std::alloc::AllocError;
+
+// No memory holds so many values.
+const MOST_NUMBERS: u64 = 1 << 55;
+
+// How far a walk's text has come.
+#[derive(Clone, Copy, Debug)]
+struct Reached {
+    // The key of the next item.
+    key: u64,
+    // How many values that take a number stand before it.
+    base: u64,
+}
+
+// What an item can tell, by the bits from 0 on.
+fn fields_of(row: &ItemRow) -> [(&[u8], Held<'_>); 9]
+    ensures { map field_value result ≡ item_values row.now }
+{
+    [
+        (b"key", Held::Text(row.key.as_slice())),
+        (b"value", value_or_null(&row.value)),
+        (b"num_hits", Held::Number(row.hits)),
+        (b"mtime", Held::Number(row.mtime)),
+        (b"creation_time", Held::Number(row.ctime)),
+        (b"deletion_time", Held::Number(row.dtime)),
+        (b"access_time", Held::Number(row.atime)),
+        (b"mem_size", Held::Number(row.size)),
+        (b"ttl", Held::Number(u64::from(row.ttl))),
+    ]
+}
+
+// An item behind so many values of the reply. Answers how many values stand before what follows.
+fn write_item(
+    out: &mut ByteOut,
+    fields: Fields,
+    row: &ItemRow,
+    base: u64,
+) -> Result<u64, AllocError>
+    ensures text { OnOk result (out.new ≡ out.old ++ item_text fields base row.now) }
+    ensures next { IfOk result (λ next. next ≡ base + item_numbers fields row.now) }
+{
+    if base >= MOST_NUMBERS {
+        return Err(AllocError);
+    }
+    write_chosen(out, fields, &fields_of(row), base)
+}
+
+// The items of one step.
+fn write_items(
+    out: &mut ByteOut,
+    fields: Fields,
+    rows: &[ItemRow],
+    from: Reached,
+) -> Result<Reached, AllocError>
+    requires { from.key ≤ from.base }
+    ensures text { OnOk result (out.new ≡ out.old
+        ++ members_text (item_members fields from.key from.base rows.now)) }
+    ensures key { IfOk result (λ to. to.key ≡ from.key + length rows.now) }
+    ensures base { IfOk result (λ to. to.base
+        ≡ from.base + sum_by (item_numbers fields) rows.now) }
+    ensures fits { IfOk result (λ to. to.key ≤ to.base) }
+{
+    let mut reached = from;
+    for row in rows {
+        let mut digits = Buffer::new();
+        write_key(digits.format(reached.key).as_bytes(), out)?;
+        let base = write_item(out, fields, row, reached.base)?;
+        reached = Reached {
+            key: reached.key + 1,
+            base,
+        };
+    }
+    Ok(reached)
+}
+
+// How many items these steps have.
+fn item_count(chunks: &[Chunk]) -> Result<usize, AllocError>
+    ensures { IfOk result (λ count. count
+        ≡ length (flat_map items_in (map (λ chunk. replies.Chunk chunk) chunks.now))) }
+{
+    let mut count: usize = 0;
+    for chunk in chunks {
+        let more = chunk.items.len() as usize;
+        count = count.checked_add(more).ok_or(AllocError)?;
+    }
+    Ok(count)
+}
+
+/// The items of an iterator's steps, in order: an array with the keys 0, 1 and so on. An item is an
+/// array of the fields that are chosen, in the order of their bits; a number from 2^63 on is
+/// printed as the last integer of 64 bits. What is inside a value is numbered behind all that
+/// stands before it. Where 2^55 values stand before an item, it fails as without memory.
+pub fn write_walk(out: &mut ByteOut, fields: Fields, chunks: &[Chunk]) -> Result<(), AllocError>
+    ensures { OnOk result (out.new ≡ out.old
+        ++ walk_text fields (map (λ chunk. replies.Chunk chunk) chunks.now)) }
+{
+    write_head(out, item_count(chunks)?)?;
+    let mut reached = Reached { key: 0, base: 1 };
+    for chunk in chunks {
+        reached = write_items(out, fields, chunk.items.as_slice(), reached)?;
+    }
+    out.push(b"}")
+}

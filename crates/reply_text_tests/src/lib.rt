@@ -1,0 +1,5 @@
+//! Tests of `reply_text`: what iterators print.
+#![tactic(auto)]
+
+#[cfg(test)]
+mod tests;

@@ -1,0 +1,156 @@
+//! What a script is expected to ask, call by call.
+
+use apcu_model::{Gen, GenKind, Keys, Pairs};
+use notation::{Cursor, read_value};
+use php_graph::Graph;
+use script_read::{Call, read_scripts};
+use std::alloc::Global;
+use std::process::Abort;
+use std::test::Fail;
+
+// A call as a table has it: values and pairs by their texts.
+#[derive(Clone, Copy)]
+pub(crate) enum Asked {
+    Store(&'static [u8], &'static [u8], u32, bool),
+    StoreMany(&'static [(&'static [u8], &'static [u8])], u32, bool),
+    Fetch(&'static [u8]),
+    FetchMany(&'static [&'static [u8]]),
+    Exists(&'static [u8]),
+    ExistsMany(&'static [&'static [u8]]),
+    Delete(&'static [u8]),
+    DeleteMany(&'static [&'static [u8]]),
+    Inc(&'static [u8], i64, u32),
+    Cas(&'static [u8], i64, i64),
+    Entry(&'static [(&'static [u8], u32)], &'static [u8]),
+    Clear,
+    Enabled,
+    KeyInfo(&'static [u8]),
+    CacheInfo(bool),
+    SmaInfo(bool),
+}
+
+fn is_value(alloc: Global, text: &[u8], value: &Graph) -> Result<bool, Fail> {
+    let mut from = Cursor::new(text);
+    let expected = read_value(alloc, &mut from)?;
+    Ok(expected.same(value))
+}
+
+fn are_keys(expected: &[&[u8]], keys: &Keys) -> bool {
+    if keys.len() as usize != expected.len() {
+        return false;
+    }
+    for (i, key) in keys.as_slice().iter().enumerate() {
+        if i >= expected.len() || key.as_slice() != expected[i] {
+            return false;
+        }
+    }
+    true
+}
+
+fn are_pairs(alloc: Global, expected: &[(&[u8], &[u8])], pairs: &Pairs) -> Result<bool, Fail> {
+    if pairs.len() as usize != expected.len() {
+        return Ok(false);
+    }
+    for (i, pair) in pairs.as_slice().iter().enumerate() {
+        if i >= expected.len() || pair.0.as_slice() != expected[i].0 {
+            return Ok(false);
+        }
+        if !is_value(alloc, expected[i].1, &pair.1)? {
+            return Ok(false);
+        }
+    }
+    Ok(true)
+}
+
+// The keys and limits of time from outside in, and the value inside.
+fn is_generator(
+    alloc: Global,
+    levels: &[(&[u8], u32)],
+    literal: &[u8],
+    generator: &Gen,
+) -> Result<bool, Fail> {
+    let mut inside = generator;
+    for level in levels {
+        match inside.kind() {
+            GenKind::Entry(key, ttl, inner) => {
+                if key.as_slice() != level.0 || *ttl != level.1 {
+                    return Ok(false);
+                }
+                inside = inner;
+            }
+            GenKind::Value(_) => return Ok(false),
+        }
+    }
+    match inside.kind() {
+        GenKind::Value(value) => is_value(alloc, literal, value),
+        GenKind::Entry(..) => Ok(false),
+    }
+}
+
+fn is_call(alloc: Global, expected: Asked, call: &Call) -> Result<bool, Fail> {
+    match (expected, call) {
+        (
+            Asked::Store(k, v, t, x),
+            Call::StoreOne {
+                key,
+                value,
+                ttl,
+                exclusive,
+            },
+        ) => Ok(key.as_slice() == k && *ttl == t && *exclusive == x && is_value(alloc, v, value)?),
+        (
+            Asked::StoreMany(ps, t, x),
+            Call::StoreMany {
+                pairs,
+                ttl,
+                exclusive,
+            },
+        ) => Ok(*ttl == t && *exclusive == x && are_pairs(alloc, ps, pairs)?),
+        (Asked::Fetch(k), Call::FetchOne(key))
+        | (Asked::Exists(k), Call::ExistsOne(key))
+        | (Asked::Delete(k), Call::DeleteOne(key)) => Ok(key.as_slice() == k),
+        (Asked::FetchMany(ks), Call::FetchMany(keys))
+        | (Asked::ExistsMany(ks), Call::ExistsMany(keys))
+        | (Asked::DeleteMany(ks), Call::DeleteMany(keys)) => Ok(are_keys(ks, keys)),
+        (Asked::Inc(k, n, t), Call::Inc { key, step, ttl }) => {
+            Ok(key.as_slice() == k && *step == n && *ttl == t)
+        }
+        (Asked::Cas(k, e, s), Call::Cas { key, expect, set }) => {
+            Ok(key.as_slice() == k && *expect == e && *set == s)
+        }
+        (Asked::Entry(levels, literal), Call::Entry(generator)) => {
+            is_generator(alloc, levels, literal, generator)
+        }
+        (Asked::Clear, Call::Clear) | (Asked::Enabled, Call::Enabled) => Ok(true),
+        (Asked::KeyInfo(k), Call::KeyInfo(key)) => Ok(key.as_slice() == k),
+        (Asked::CacheInfo(l), Call::CacheInfo(limited))
+        | (Asked::SmaInfo(l), Call::SmaInfo(limited)) => Ok(*limited == l),
+        _ => Ok(false),
+    }
+}
+
+// A line of the table: the moment, the call, and its events.
+pub(crate) type Row = (u64, Asked, u64);
+
+pub(crate) fn expect_steps(
+    rt: &impl Abort,
+    alloc: Global,
+    text: &[u8],
+    rows: &[Row],
+) -> Result<(), Fail> {
+    assert!(rt; text.len() < 1000);
+    let scripts = read_scripts(alloc, text)?;
+    assert_eq!(rt; scripts.len(), 1);
+    assert!(rt; !scripts.is_empty());
+    let script = scripts.at(0);
+    assert_eq!(rt; script.len() as usize, rows.len());
+    for i in 0..script.len() {
+        let step = script.at(i);
+        assert!(rt; (i as usize) < rows.len());
+        let row = rows[i as usize];
+        assert_eq!(rt; step.t, row.0);
+        assert!(rt; is_call(alloc, row.1, &step.call)?);
+        assert_eq!(rt; step.call.events(32), row.2);
+    }
+    Ok(())
+}

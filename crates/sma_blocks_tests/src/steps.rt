@@ -1,0 +1,109 @@
+//! Steps over words, and how many go as they say.
+
+ghost use Rattle.std.specs.Prelude.{◌≡◌, ℕ, ◌%◌, ◌≤◌, false, [], OnOk};
+ghost use Rattle.seg_words.specs.Windows.{is_named};
+ghost use Rattle.sma_blocks.specs.Live.{live_blocks};
+ghost use Rattle.sma_blocks.specs.Ready.{IsReady};
+
+use crate::listed::{give_listed, keep_listed, take_listed};
+use max_tree::MaxRow;
+use seg_words::{Extent, Segment, VecWords, first_fit};
+use sma_blocks::Sma;
+use std::alloc::{AllocError, Global};
+
+// A call and what it must answer, or a word and what it must be.
+#[derive(Clone, Copy)]
+pub(crate) enum Step {
+    // So many words taken, and where.
+    Take(u32, Option<u32>),
+    // The block of this index given.
+    Give(u32),
+    // The blocks kept whose index, modulo 64, is a bit of the number.
+    Keep(u64),
+    // So many words taken, wherever the plain list has the least place.
+    TakeLeast(u32),
+    Free(u32),
+    Largest(u32),
+    GapFrom(u32, Option<(u32, u32)>),
+    FirstGap(u32),
+    Word(u32, u64),
+}
+
+// Plays a step; whether it went as the step says.
+fn play_one<S: Segment>(
+    alloc: Global,
+    sma: &mut Sma,
+    seg: &mut S,
+    blocks: &mut Vec<Extent>,
+    step: Step,
+) -> Result<bool, AllocError>
+    requires ready { IsReady sma.old (S.words seg.old) (S.aside seg.old) }
+    requires closed { (at : ℕ) → is_named (S.aside seg.old).windows at ≡ false }
+    requires listed { blocks.old.items ≡ live_blocks (S.words seg.old) sma.old.from }
+    ensures ready { IsReady sma.new (S.words seg.new) (S.aside seg.new) }
+    ensures listed { OnOk result (blocks.new.items ≡ live_blocks (S.words seg.new) sma.new.from) }
+    ensures aside { S.aside seg.new ≡ S.aside seg.old }
+{
+    match step {
+        Step::Take(n, want) => {
+            if n % 2 == 0 && n > 1 {
+                return Ok(take_listed(sma, seg, blocks, n)? == want);
+            }
+            Ok(false)
+        },
+        Step::TakeLeast(n) => {
+            if n % 2 == 0 && n > 1 {
+                let least = first_fit(sma.from, sma.to, n, blocks);
+                return Ok(take_listed(sma, seg, blocks, n)? == least);
+            }
+            Ok(false)
+        },
+        Step::Give(index) => {
+            if (index as usize) < blocks.len() {
+                let kept = give_listed(alloc, sma, seg, blocks, index as usize)?;
+                *blocks = kept;
+            }
+            Ok(true)
+        },
+        Step::Keep(which) => {
+            let kept = keep_listed(alloc, sma, seg, blocks, which)?;
+            *blocks = kept;
+            Ok(true)
+        },
+        Step::Free(words) => Ok(sma.free_words(seg) == words),
+        Step::Largest(words) => Ok(sma.largest(seg) == words),
+        Step::GapFrom(at, want) => Ok(sma.gap_from(seg, at) == want),
+        Step::FirstGap(place) => Ok(sma.first_gap() == place),
+        Step::Word(i, want) => Ok(i < seg.len() && seg.load(i) == want),
+    }
+}
+
+// Plays steps one after the other; how many went as they say before one that did not.
+fn play<S: Segment>(
+    alloc: Global,
+    sma: &mut Sma,
+    seg: &mut S,
+    steps: &[Step],
+) -> Result<usize, AllocError>
+    requires ready { IsReady sma.old (S.words seg.old) (S.aside seg.old) }
+    requires closed { (at : ℕ) → is_named (S.aside seg.old).windows at ≡ false }
+    requires empty { live_blocks (S.words seg.old) sma.old.from ≡ [] }
+{
+    let mut blocks = Vec::new(alloc);
+    for (i, step) in steps.iter().enumerate() {
+        if !play_one(alloc, sma, seg, &mut blocks, *step)? {
+            return Ok(i);
+        }
+    }
+    Ok(steps.len())
+}
+
+// Plays steps over so many freshly formatted words, from the word 32 on.
+pub(crate) fn play_fresh(alloc: Global, len: u32, steps: &[Step]) -> Result<usize, AllocError>
+    requires { (34 ≤ len) × (len % 2 ≡ 0) }
+{
+    let gaps = MaxRow::new(alloc, len as usize / 4 + 1)?;
+    let mut words = VecWords::new(alloc, len)?;
+    let mut sma = Sma::format(&mut words, 32, gaps);
+    play(alloc, &mut sma, &mut words, steps)
+}

@@ -1,0 +1,6 @@
+//! Laws of walks: what an iterator gives step by step, whatever is done to the cache between.
+#![tactic(auto)]
+
+mod laws;
+
+pub use laws::{steps_of_walks, walks_give_once, walks_in_histories};

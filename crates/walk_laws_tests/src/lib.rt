@@ -1,0 +1,5 @@
+//! Calls the laws of walks.
+#![tactic(auto)]
+
+#[cfg(test)]
+mod tests;
