@@ -33,8 +33,8 @@ use Rattle.pin_table.specs.WriterRest.{beside}
 use Rattle.shared_cache.specs.Laws.{LockLaws}
 use Rattle.shared_cache.specs.Settled.{Settled}
 use Rattle.shared_cache.specs.Follows.{FollowsEntry}
-use Rattle.shared_cache.specs.Turns.{Taken, GoesOn, Turn, Does, DoesIf, FollowsAt}
-use Rattle.shared_cache.proofs.Working.{Took, begun_stands, none_refused, kept_stands, kept_open, goes_on}
+use Rattle.shared_cache.specs.Turns.{Taken, WritesOn, Turn, Does, DoesIf, FollowsAt}
+use Rattle.shared_cache.proofs.Working.{Took, begun_stands, none_refused, kept_stands, kept_open, writes_on}
 use Rattle.shared_cache.proofs.Unnamed.{none_scalar}
 use Rattle.shared_cache.proofs.Ends.{room_left}
 use Rattle.shared_cache.proofs.Shapes.{same_shape}
@@ -64,7 +64,7 @@ taken laws t conf budgets s c j p w settled pass left took events_left seen own 
 
 module _ (t : TableId) (conf : Conf) (budgets : List ℕ) (j : Marks) (w : Writer) (turn : Turn t conf budgets j w) where
   book : w.seat.now.desk.book ≡ with_hand turn.seat.desk.book (Some turn.pass.known)
-  book = turn.goes_on.book ∙ ap (λ (x : Desk). x.book) turn.taken.desk
+  book = turn.writes_on.book ∙ ap (λ (x : Desk). x.book) turn.taken.desk
 
   in_it : in_hand w.seat.now.desk.book.hand ≡ turn.pass.known
   in_it = ap (λ (b : Book). in_hand b.hand) book
@@ -74,13 +74,13 @@ module _ (t : TableId) (conf : Conf) (budgets : List ℕ) (j : Marks) (w : Write
   hand = ap (λ (b : Book). b.hand) book ∙ ap Some (sym in_it)
 
   pub worker_is : (in_hand w.seat.now.desk.book.hand).worker ≡ w.worker
-  worker_is = ap (λ (k : Known). k.worker) in_it ∙ sym (turn.goes_on.worker ∙ turn.taken.worker)
+  worker_is = ap (λ (k : Known). k.worker) in_it ∙ sym (turn.writes_on.worker ∙ turn.taken.worker)
 
   pub left_is : (in_hand w.seat.now.desk.book.hand).left ≡ w.left
-  left_is = ap (λ (k : Known). k.left) in_it ∙ sym (turn.goes_on.left ∙ turn.taken.events_left)
+  left_is = ap (λ (k : Known). k.left) in_it ∙ sym (turn.writes_on.left ∙ turn.taken.events_left)
 
   pub some_left : 1 ≤ w.left
-  some_left = subst (λ n. 1 ≤ n) (sym (turn.goes_on.left ∙ turn.taken.events_left)) turn.taken.left
+  some_left = subst (λ n. 1 ≤ n) (sym (turn.writes_on.left ∙ turn.taken.events_left)) turn.taken.left
 
   -- and the journal has room for the event
   pub roomy : 0 < j.room
@@ -89,22 +89,22 @@ module _ (t : TableId) (conf : Conf) (budgets : List ℕ) (j : Marks) (w : Write
 -- a writer of which only words, and what it met, have changed since it took the pass
 abbrev pub turn_of : {t : TableId} {conf : Conf} {budgets : List ℕ} {s : Writing} {c : Core} {j : Marks} {p : Bearer} {first w : Writer} → Taken t conf budgets s c j p first
     → beside w ≡ beside first → Turn t conf budgets j w
-turn_of {s} {c} {p} {first} took rest = record { seat = s; core = c; pass = p; first = first; taken = took; goes_on = goes_on rest }
+turn_of {s} {c} {p} {first} took rest = record { seat = s; core = c; pass = p; first = first; taken = took; writes_on = writes_on rest }
 
 -- the turn of a writer that goes on
-abbrev pub later_turn : {t : TableId} {conf : Conf} {budgets : List ℕ} {j : Marks} {w later : Writer} → Turn t conf budgets j w → GoesOn w later → Turn t conf budgets j later
+abbrev pub later_turn : {t : TableId} {conf : Conf} {budgets : List ℕ} {j : Marks} {w later : Writer} → Turn t conf budgets j w → WritesOn w later → Turn t conf budgets j later
 later_turn turn on = record {
   seat = turn.seat;
   core = turn.core;
   pass = turn.pass;
   first = turn.first;
   taken = turn.taken;
-  goes_on = record {
-    worker = on.worker ∙ turn.goes_on.worker;
-    left = on.left ∙ turn.goes_on.left;
-    table = on.table ∙ turn.goes_on.table;
-    book = on.book ∙ turn.goes_on.book;
-    begun = on.begun ∙ turn.goes_on.begun;
+  writes_on = record {
+    worker = on.worker ∙ turn.writes_on.worker;
+    left = on.left ∙ turn.writes_on.left;
+    table = on.table ∙ turn.writes_on.table;
+    book = on.book ∙ turn.writes_on.book;
+    begun = on.begun ∙ turn.writes_on.begun;
   };
 }
 

@@ -17,10 +17,10 @@ use Rattle.shared_cache.proofs.Copies.{unchanged}
 
 module _ (t : TableId) (conf : Conf) (budgets : List ℕ) (j : Marks) (w : Writer) (turn : Turn t conf budgets j w) where
   table : w.seat.now.table ≡ t
-  table = turn.goes_on.table ∙ turn.taken.table
+  table = turn.writes_on.table ∙ turn.taken.table
 
   book : w.seat.now.desk.book ≡ with_hand turn.seat.desk.book (Some turn.pass.known)
-  book = turn.goes_on.book ∙ ap (λ (x : Desk). x.book) turn.taken.desk
+  book = turn.writes_on.book ∙ ap (λ (x : Desk). x.book) turn.taken.desk
 
   -- Neither words nor windows have changed, and the seat is given back as s1.
   pub settles : (s1 : Writing) (core : Core) → core ≡ turn.core → w.seat.now.desk.words ≡ turn.first.seat.now.desk.words

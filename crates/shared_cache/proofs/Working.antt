@@ -28,7 +28,7 @@ use Rattle.pin_table.specs.Views.{with_hand, taken_in, aside_of}
 use Rattle.pin_table.specs.WriterRest.{beside}
 use Rattle.shared_cache.specs.Laws.{LockLaws}
 use Rattle.shared_cache.specs.Settled.{Settled}
-use Rattle.shared_cache.specs.Turns.{GoesOn}
+use Rattle.shared_cache.specs.Turns.{WritesOn}
 use Rattle.shared_cache.proofs.Windows.{Running, named_set}
 use Rattle.shared_cache.proofs.Alike.{held_alike}
 use Rattle.shared_cache.proofs.Ends.{short_history}
@@ -65,8 +65,8 @@ pub kept_open : (windows : List ℕ) (s : Entries) → KeepsOpen windows s s
 kept_open windows s = record { each = λ row there named. (row, there, refl, refl) }
 
 -- a call of the core leaves what is beside the words
-pub goes_on : {first w : Writer} → beside w ≡ beside first → GoesOn first w
-goes_on rest = record {
+pub writes_on : {first w : Writer} → beside w ≡ beside first → WritesOn first w
+writes_on rest = record {
   worker = ap (λ (b : Beside). b.worker) rest;
   left = ap (λ (b : Beside). b.left) rest;
   table = ap (λ (b : Beside). b.seat.table) rest;
@@ -80,7 +80,7 @@ pub record Works (t : TableId) (conf : Conf) (budgets : List ℕ) (s0 : Writing)
   pub settled : Settled t conf budgets s0 c0 j0
   pub pass : p.table ≡ t
   pub took : Took t s0 p w0
-  pub goes_on : GoesOn w0 w
+  pub writes_on : WritesOn w0 w
   pub order : (copying : List ℕ) × DeskInOrder w.seat.now.desk copying
   pub small : w.seat.now.desk.mask < 2 ^ 64
   pub seen : IsPrefix p.known.seen s0.desk.book.history
@@ -90,20 +90,20 @@ pub record Works (t : TableId) (conf : Conf) (budgets : List ℕ) (s0 : Writing)
 module _ (t : TableId) (conf : Conf) (budgets : List ℕ) (s0 : Writing) (w0 w : Writer) (c0 : Core) (p : Bearer) (j0 : Marks)
     (h : Works t conf budgets s0 w0 w c0 p j0) where
   pub worker : w.worker ≡ p.known.worker
-  worker = h.goes_on.worker ∙ h.took.worker
+  worker = h.writes_on.worker ∙ h.took.worker
 
   pub table : w.seat.now.table ≡ t
-  table = h.goes_on.table ∙ h.took.table
+  table = h.writes_on.table ∙ h.took.table
 
   pub book : w.seat.now.desk.book ≡ with_hand s0.desk.book (Some p.known)
-  book = h.goes_on.book ∙ ap (λ (x : Desk). x.book) h.took.desk
+  book = h.writes_on.book ∙ ap (λ (x : Desk). x.book) h.took.desk
 
   pub run : Running w.seat.now.desk p.known s0.desk.windows
   run = record {
     copying = h.order.0;
     order = h.order.1;
     hand = ap (λ (b : Book). b.hand) book;
-    begun = h.goes_on.begun ∙ ap (λ (x : Desk). x.begun) h.took.desk;
+    begun = h.writes_on.begun ∙ ap (λ (x : Desk). x.begun) h.took.desk;
   }
 
   pub alike : AreAlike (held_by w.seat.now.desk.mask w.seat.now.desk.windows) (held_places (stage_of conf s0.desk.book.history) w.seat.now.desk.mask)

@@ -47,7 +47,7 @@ pub record Taken (t : TableId) (conf : Conf) (budgets : List ℕ) (s : Writing) 
   pub unnamed : NameNoScalar (aside_of w.seat.now.desk).windows (cache_of c).rows
 
 -- Since the writer was as first, only the words, and what the event met, have changed.
-pub record GoesOn (first w : Writer) : Type 0 where
+pub record WritesOn (first w : Writer) : Type 0 where
   pub worker : w.worker ≡ first.worker
   pub left : w.left ≡ first.left
   pub table : w.seat.now.table ≡ first.seat.now.table
@@ -63,7 +63,7 @@ pub record Turn (t : TableId) (conf : Conf) (budgets : List ℕ) (j : Marks) (w 
   pub pass : Bearer
   pub first : Writer
   pub taken : Taken t conf budgets seat core j pass first
-  pub goes_on : GoesOn first w
+  pub writes_on : WritesOn first w
 
 -- What the request did to the core, which was c and is d: the words on the desk stand for what the
 -- cache of one thread then has, and the rows under open windows are still there.

@@ -10,7 +10,8 @@ ghost use Rattle.shared_cache.specs.Follows.{Follows, FollowsEntry};
 
 use crate::cabinet::Cabinet;
 use crate::turn::{begin, told};
-use apcu_model::{Ask, Gen};
+use apcu_iter::{Search, chunk, totals};
+use apcu_model::{Ask, Chunk, Fields, Gen, List};
 use cache_info::{cache_info, key_info, sma_info};
 use counter_entry::{Fate, entry};
 use php_graph::Graph;
@@ -101,5 +102,70 @@ impl<N: TableName> Cabinet<N> {
         let mut w = begin::<N>(table, &mut self.seat, pass);
         let answer = sma_info(alloc, &mut self.core, &mut w, limited);
         told::<N, _>(&mut self.journal, w, Ask::SmaInfo(limited), 0, answer)
+    }
+
+    // One step of an iterator over a list.
+    pub(crate) fn chunk(
+        &mut self,
+        table: &PinTable,
+        alloc: Global,
+        pass: Pass,
+        search: &mut Search,
+        from: u32,
+        size: u32,
+        list: List,
+        fields: Fields,
+        t: u64,
+    ) -> (Pass, Result<Chunk, AllocError>)
+        requires table { table.now ≡ N.table }
+        requires pass { pass.table ≡ N.table }
+        requires left { 1 ≤ pass.known.left }
+        requires from { from ≤ N.conf.slots }
+        requires size { 1 ≤ size }
+        ensures told { IfOk result.1 (λ chunk. Follows N.conf (length N.budgets) pass result.0 t
+            (request.Chunk search.old from size list fields) (reply.Chunk chunk)) }
+        ensures same { OnErr result.1 (result.0 ≡ pass) }
+        ensures search { search.new ≡ search.old }
+    {
+        let mut w = begin::<N>(table, &mut self.seat, pass);
+        let core = &mut self.core;
+        let answer = chunk(alloc, core, &mut w, search, from, size, list, fields, t);
+        let ask = Ask::Chunk {
+            search: search.pattern(),
+            from,
+            size,
+            list,
+            fields,
+        };
+        told::<N, _>(&mut self.journal, w, ask, t, answer)
+    }
+
+    // Of how many rows an iterator goes over, how often they were fetched, and their bytes.
+    pub(crate) fn totals(
+        &mut self,
+        table: &PinTable,
+        pass: Pass,
+        search: &mut Search,
+        list: List,
+        t: u64,
+    ) -> (Pass, Result<(u64, u64, u64), AllocError>)
+        requires table { table.now ≡ N.table }
+        requires pass { pass.table ≡ N.table }
+        requires left { 1 ≤ pass.known.left }
+        ensures told { IfOk result.1 (λ r. Follows N.conf (length N.budgets) pass result.0 t
+            (request.Totals search.old list) (reply.Totals r.0 r.1 r.2)) }
+        ensures same { OnErr result.1 (result.0 ≡ pass) }
+        ensures search { search.new ≡ search.old }
+    {
+        let mut w = begin::<N>(table, &mut self.seat, pass);
+        let answer = totals(&mut self.core, &mut w, search, list, t);
+        let search = search.pattern();
+        told::<N, _>(
+            &mut self.journal,
+            w,
+            Ask::Totals { search, list },
+            t,
+            answer,
+        )
     }
 }

@@ -8,7 +8,8 @@ ghost use Rattle.apcu_model.specs.Sequential.{info_reply};
 ghost use Rattle.shared_cache.specs.Follows.{Follows, FollowsEntry};
 
 use crate::shared::Shared;
-use apcu_model::Gen;
+use apcu_iter::Search;
+use apcu_model::{Chunk, Fields, Gen, List};
 use counter_entry::Fate;
 use php_graph::Graph;
 use pin_table::{Pass, TableName};
@@ -115,5 +116,74 @@ impl<N: TableName> Shared<N> {
         self.lock
             .lock(rt)
             .sma_info(&self.table, alloc, pass, limited)
+    }
+
+    /// One step of an iterator at the moment `t`, in seconds: the rows of a list whose keys the
+    /// search finds, as far as `fields` asks for them. Over the active rows it takes the fewest
+    /// slots, from the slot `from` on, that give at least `size` items, or all that are left; the
+    /// chunk tells the first slot behind them. All deleted rows are one step. Nothing is counted.
+    ///
+    /// Without memory for the answer there was no event, and the pass comes back as it was. See
+    /// `APCUIterator` in the PHP manual.
+    pub fn chunk<R: Wait>(
+        &self,
+        rt: &R,
+        alloc: Global,
+        pass: Pass,
+        search: &mut Search,
+        from: u32,
+        size: u32,
+        list: List,
+        fields: Fields,
+        t: u64,
+    ) -> (Pass, Result<Chunk, AllocError>)
+        requires table { pass.table ≡ N.table }
+        requires left { 2 ≤ pass.known.left }
+        requires from { from ≤ N.conf.slots }
+        requires size { 1 ≤ size }
+        ensures told { IfOk result.1 (λ chunk. Follows N.conf (length N.budgets) pass result.0 t
+            (request.Chunk search.old from size list fields) (reply.Chunk chunk)) }
+        ensures same { OnErr result.1 (result.0 ≡ pass) }
+        ensures search { search.new ≡ search.old }
+    {
+        self.lock.lock(rt).chunk(
+            &self.table,
+            alloc,
+            pass,
+            search,
+            from,
+            size,
+            list,
+            fields,
+            t,
+        )
+    }
+
+    /// Of how many rows of a list the search finds the keys at the moment `t`, in seconds, how often
+    /// they were fetched together (2^64 - 1 is that often or oftener), and how many bytes their
+    /// blocks have.
+    ///
+    /// Without memory for the search there was no event, and the pass comes back as it was. See
+    /// `APCUIterator::getTotalCount` and its relatives in the PHP manual.
+    pub fn totals<R: Wait>(
+        &self,
+        rt: &R,
+        alloc: Global,
+        pass: Pass,
+        search: &mut Search,
+        list: List,
+        t: u64,
+    ) -> (Pass, Result<(u64, u64, u64), AllocError>)
+        requires table { pass.table ≡ N.table }
+        requires left { 2 ≤ pass.known.left }
+        ensures told { IfOk result.1 (λ r. Follows N.conf (length N.budgets) pass result.0 t
+            (request.Totals search.old list) (reply.Totals r.0 r.1 r.2)) }
+        ensures same { OnErr result.1 (result.0 ≡ pass) }
+        ensures search { search.new ≡ search.old }
+    {
+        let _ = alloc;
+        self.lock
+            .lock(rt)
+            .totals(&self.table, pass, search, list, t)
     }
 }

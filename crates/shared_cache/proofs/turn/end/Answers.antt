@@ -22,7 +22,7 @@ passed g c turn core does = record {
     settled = turn.taken.settled;
     pass = turn.taken.pass;
     took = record { table = turn.taken.table; desk = turn.taken.desk; worker = turn.taken.worker };
-    goes_on = turn.goes_on;
+    writes_on = turn.writes_on;
     order = c.give_pass.ensures.order;
     small = c.note.ensures.small;
     seen = turn.taken.seen;

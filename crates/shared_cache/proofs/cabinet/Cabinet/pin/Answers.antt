@@ -6,7 +6,7 @@ use Rattle.pin_table.specs.Views.{aside_of}
 use Rattle.shared_cache.specs.Pinned.{graph_of}
 use Rattle.shared_cache.proofs.Passes.{Passes}
 use Rattle.shared_cache.proofs.Passes as passes
-use Rattle.shared_cache.proofs.Working.{Took, begun_stands, goes_on}
+use Rattle.shared_cache.proofs.Working.{Took, begun_stands, writes_on}
 use Rattle.shared_cache.proofs.Fetches.{look_keeps, miss_of, scalar_found, hit_of, used_in, may_pin}
 use Rattle.shared_cache.proofs.Copies.{Copies}
 use Rattle.shared_cache.proofs.Copies as copies
@@ -37,7 +37,7 @@ invariant_of-self g c =
               settled = c.self.invariant;
               pass = c.requires.pass;
               took = took;
-              goes_on = goes_on c.look-look.ensures.beside.rest;
+              writes_on = writes_on c.look-look.ensures.beside.rest;
               order = w.give_pass.ensures.order;
               small = c.note.ensures.small;
               seen = c.writer-w.ensures.seen;
@@ -63,7 +63,7 @@ invariant_of-self g c =
               settled = c.self.invariant;
               pass = c.requires.pass;
               took = took;
-              goes_on = goes_on c.look-look.ensures.beside.rest;
+              writes_on = writes_on c.look-look.ensures.beside.rest;
               order = w.give_pass-in-Scalar.ensures.order;
               small = c.note.ensures.small;
               seen = c.writer-w.ensures.seen;
@@ -89,7 +89,7 @@ invariant_of-self g c =
               settled = c.self.invariant;
               pass = c.requires.pass;
               took = took;
-              goes_on = goes_on c.look-look.ensures.beside.rest;
+              writes_on = writes_on c.look-look.ensures.beside.rest;
               order = w.give_copying.ensures.order;
               small = c.note.ensures.small;
               seen = c.writer-w.ensures.seen;
@@ -120,7 +120,7 @@ returns g c =
               settled = c.self.invariant;
               pass = c.requires.pass;
               took = took;
-              goes_on = goes_on c.look-look.ensures.beside.rest;
+              writes_on = writes_on c.look-look.ensures.beside.rest;
               order = w.give_pass.ensures.order;
               small = c.note.ensures.small;
               seen = c.writer-w.ensures.seen;
@@ -146,7 +146,7 @@ returns g c =
               settled = c.self.invariant;
               pass = c.requires.pass;
               took = took;
-              goes_on = goes_on c.look-look.ensures.beside.rest;
+              writes_on = writes_on c.look-look.ensures.beside.rest;
               order = w.give_pass-in-Scalar.ensures.order;
               small = c.note.ensures.small;
               seen = c.writer-w.ensures.seen;
@@ -173,7 +173,7 @@ returns g c =
               settled = c.self.invariant;
               pass = c.requires.pass;
               took = took;
-              goes_on = goes_on c.look-look.ensures.beside.rest;
+              writes_on = writes_on c.look-look.ensures.beside.rest;
               order = w.give_copying.ensures.order;
               small = c.note.ensures.small;
               seen = c.writer-w.ensures.seen;

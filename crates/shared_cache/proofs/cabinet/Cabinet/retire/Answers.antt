@@ -1,7 +1,7 @@
 use Rattle.std.proofs.Common.{◌∙◌, refl}
 use Rattle.apcu_model.specs.declared.request.Request.TheVariants as request
 use Rattle.shared_cache.proofs.Passes.{Passes}
-use Rattle.shared_cache.proofs.Working.{Took, begun_stands, goes_on}
+use Rattle.shared_cache.proofs.Working.{Took, begun_stands, writes_on}
 use Rattle.shared_cache.proofs.Passes as passes
 use Rattle.shared_cache.proofs.Ends.{room_left}
 use Rattle.shared_cache.proofs.cabinet.Cabinet.retire.Goals as goal
@@ -23,7 +23,7 @@ passed g c =
         settled = c.self.invariant;
         pass = c.requires.pass;
         took = took;
-        goes_on = goes_on refl;
+        writes_on = writes_on refl;
         order = c.give_ended.ensures.order;
         small = c.note.ensures.small;
         seen = c.writer-last.ensures.seen;
