@@ -33,7 +33,7 @@ use Rattle.pin_table.specs.WriterRest.{beside}
 use Rattle.shared_cache.specs.Laws.{LockLaws}
 use Rattle.shared_cache.specs.Settled.{Settled}
 use Rattle.shared_cache.specs.Follows.{FollowsEntry}
-use Rattle.shared_cache.specs.Turns.{Taken, WritesOn, Turn, Does, DoesIf, FollowsAt}
+use Rattle.shared_cache.specs.Turns.{Taken, WritesOn, AtWork, Does, DoesIf, FollowsAt}
 use Rattle.shared_cache.proofs.Working.{Took, begun_stands, none_refused, kept_stands, kept_open, writes_on}
 use Rattle.shared_cache.proofs.Unnamed.{none_scalar}
 use Rattle.shared_cache.proofs.Ends.{room_left}
@@ -62,7 +62,7 @@ taken laws t conf budgets s c j p w settled pass left took events_left seen own 
   unnamed = none_scalar laws t conf budgets s c j settled p w took;
 }
 
-module _ (t : TableId) (conf : Conf) (budgets : List ℕ) (j : Marks) (w : Writer) (turn : Turn t conf budgets j w) where
+module _ (t : TableId) (conf : Conf) (budgets : List ℕ) (j : Marks) (w : Writer) (turn : AtWork t conf budgets j w) where
   book : w.seat.now.desk.book ≡ with_hand turn.seat.desk.book (Some turn.pass.known)
   book = turn.writes_on.book ∙ ap (λ (x : Desk). x.book) turn.taken.desk
 
@@ -88,11 +88,11 @@ module _ (t : TableId) (conf : Conf) (budgets : List ℕ) (j : Marks) (w : Write
 
 -- a writer of which only words, and what it met, have changed since it took the pass
 abbrev pub turn_of : {t : TableId} {conf : Conf} {budgets : List ℕ} {s : Writing} {c : Core} {j : Marks} {p : Bearer} {first w : Writer} → Taken t conf budgets s c j p first
-    → beside w ≡ beside first → Turn t conf budgets j w
+    → beside w ≡ beside first → AtWork t conf budgets j w
 turn_of {s} {c} {p} {first} took rest = record { seat = s; core = c; pass = p; first = first; taken = took; writes_on = writes_on rest }
 
 -- the turn of a writer that goes on
-abbrev pub later_turn : {t : TableId} {conf : Conf} {budgets : List ℕ} {j : Marks} {w later : Writer} → Turn t conf budgets j w → WritesOn w later → Turn t conf budgets j later
+abbrev pub later_turn : {t : TableId} {conf : Conf} {budgets : List ℕ} {j : Marks} {w later : Writer} → AtWork t conf budgets j w → WritesOn w later → AtWork t conf budgets j later
 later_turn turn on = record {
   seat = turn.seat;
   core = turn.core;

@@ -12,10 +12,10 @@ use Rattle.pin_table.specs.declared.writer.Writer.{Writer}
 use Rattle.pin_table.specs.Values.{Writing, Bearer}
 use Rattle.pin_table.specs.Views.{with_hand, rested, in_hand, aside_of}
 use Rattle.shared_cache.specs.Settled.{Settled}
-use Rattle.shared_cache.specs.Turns.{Turn}
+use Rattle.shared_cache.specs.Turns.{AtWork}
 use Rattle.shared_cache.proofs.Copies.{unchanged}
 
-module _ (t : TableId) (conf : Conf) (budgets : List ℕ) (j : Marks) (w : Writer) (turn : Turn t conf budgets j w) where
+module _ (t : TableId) (conf : Conf) (budgets : List ℕ) (j : Marks) (w : Writer) (turn : AtWork t conf budgets j w) where
   table : w.seat.now.table ≡ t
   table = turn.writes_on.table ∙ turn.taken.table
 

@@ -56,7 +56,7 @@ pub record WritesOn (first w : Writer) : Type 0 where
 
 -- The writer is in a turn: it has taken a pass and goes on. The journal does not know of the event
 -- yet.
-pub record Turn (t : TableId) (conf : Conf) (budgets : List ℕ) (j : Marks) (w : Writer)
+pub record AtWork (t : TableId) (conf : Conf) (budgets : List ℕ) (j : Marks) (w : Writer)
     : Type 0 where
   pub seat : Writing
   pub core : Core

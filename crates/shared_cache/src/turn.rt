@@ -10,7 +10,7 @@ ghost use Rattle.cache_core.specs.declared.cache.Core.{Core};
 ghost use Rattle.cache_core.specs.Caching.{cache_of};
 ghost use Rattle.shared_cache.specs.Follows.{Follows};
 ghost use Rattle.shared_cache.specs.Settled.{Settled};
-ghost use Rattle.shared_cache.specs.Turns.{Taken, Turn, Does, DoesIf, FollowsAt};
+ghost use Rattle.shared_cache.specs.Turns.{Taken, AtWork, Does, DoesIf, FollowsAt};
 
 use crate::lower::lower_laws;
 use crate::noting::note;
@@ -41,13 +41,13 @@ pub(crate) fn begin<'a, N: TableName>(
 
 // Notes the event and ends it.
 pub(crate) fn end<N: TableName>(journal: &mut Journal, w: Writer<'_>, ask: Ask<'_>, t: u64) -> Pass
-    requires { Turn N.table N.conf N.budgets journal.old w }
+    requires { AtWork N.table N.conf N.budgets journal.old w }
     ensures table { w.exit.1.0.now.table ≡ w.entry.seat.now.table }
     ensures words { w.exit.1.0.now.desk.words ≡ w.entry.seat.now.desk.words }
-    ensures settled { (turn : Turn N.table N.conf N.budgets journal.old w.entry) (core : Core)
+    ensures settled { (turn : AtWork N.table N.conf N.budgets journal.old w.entry) (core : Core)
         → Does w.entry.seat.now.desk turn.core core t (asked ask.entry)
         → Settled N.table N.conf N.budgets w.exit.1.0.now core journal.new }
-    ensures follows { (turn : Turn N.table N.conf N.budgets journal.old w.entry) (core : Core)
+    ensures follows { (turn : AtWork N.table N.conf N.budgets journal.old w.entry) (core : Core)
         (y : Reply) → Does w.entry.seat.now.desk turn.core core t (asked ask.entry)
         → y ≡ reply_to
         (held_by w.entry.seat.now.desk.mask w.entry.seat.now.desk.windows) t (asked ask.entry)
@@ -71,12 +71,12 @@ pub(crate) fn told<N: TableName, A>(
     t: u64,
     answer: Result<A, AllocError>,
 ) -> (Pass, Result<A, AllocError>)
-    requires { Turn N.table N.conf N.budgets journal.old w }
-    ensures settled { (turn : Turn N.table N.conf N.budgets journal.old w.entry) (core : Core)
+    requires { AtWork N.table N.conf N.budgets journal.old w }
+    ensures settled { (turn : AtWork N.table N.conf N.budgets journal.old w.entry) (core : Core)
         → DoesIf turn.first.seat.now.desk w.entry.seat.now.desk turn.core core t
         (asked ask.entry) answer
         → Settled N.table N.conf N.budgets w.exit.1.0.now core journal.new }
-    ensures told { (turn : Turn N.table N.conf N.budgets journal.old w.entry) (core : Core)
+    ensures told { (turn : AtWork N.table N.conf N.budgets journal.old w.entry) (core : Core)
         (reply : _ → Reply)
         → DoesIf turn.first.seat.now.desk w.entry.seat.now.desk turn.core core t
         (asked ask.entry) answer
@@ -85,7 +85,7 @@ pub(crate) fn told<N: TableName, A>(
         (cache_of turn.core))
         → IfOk result.1 (λ a. Follows N.conf (length N.budgets) turn.pass result.0 t
         (asked ask.entry) (reply a)) }
-    ensures place { (turn : Turn N.table N.conf N.budgets journal.old w.entry) (core : Core)
+    ensures place { (turn : AtWork N.table N.conf N.budgets journal.old w.entry) (core : Core)
         (reply : _ → Reply)
         → DoesIf turn.first.seat.now.desk w.entry.seat.now.desk turn.core core t
         (asked ask.entry) answer
@@ -96,7 +96,7 @@ pub(crate) fn told<N: TableName, A>(
         (asked ask.entry) (reply a) turn.seat.desk.book.history w.entry.seat.now.desk.mask
         w.entry.seat.now.desk.windows) }
     ensures answer { result.1 ≡ answer }
-    ensures same { (turn : Turn N.table N.conf N.budgets journal.old w.entry)
+    ensures same { (turn : AtWork N.table N.conf N.budgets journal.old w.entry)
         → OnErr result.1 (result.0 ≡ turn.pass) }
 {
     let Writer {

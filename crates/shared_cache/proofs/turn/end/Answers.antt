@@ -1,6 +1,6 @@
 use Rattle.apcu_model.specs.Asking.{asked}
 use Rattle.cache_core.specs.declared.cache.Core.{Core}
-use Rattle.shared_cache.specs.Turns.{Turn, Does}
+use Rattle.shared_cache.specs.Turns.{AtWork, Does}
 use Rattle.shared_cache.proofs.Turning.{hand, worker_is, left_is, some_left, roomy}
 use Rattle.shared_cache.proofs.Passes.{Passes}
 use Rattle.shared_cache.proofs.Passes as passes
@@ -13,7 +13,7 @@ note-requires g c = record { room = roomy _ _ _ _ _ c.requires }
 pub give_pass-requires : goal.give_pass-requires
 give_pass-requires g c = record { hand = hand _ _ _ _ _ c.requires; worker = worker_is _ _ _ _ _ c.requires; left = left_is _ _ _ _ _ c.requires; budget = some_left _ _ _ _ _ c.requires }
 
-passed : (g : given.Over) (c : goal.After-give_pass g) (turn : Turn g.N.TableName.table g.N.TableName.conf g.N.TableName.budgets c.args.journal.now c.args.w) (core : Core)
+passed : (g : given.Over) (c : goal.After-give_pass g) (turn : AtWork g.N.TableName.table g.N.TableName.conf g.N.TableName.budgets c.args.journal.now c.args.w) (core : Core)
     → Does c.args.w.seat.now.desk turn.core core c.args.t (asked c.args.ask)
     → Passes g.N.TableName.table g.N.TableName.conf g.N.TableName.budgets turn.seat c.give_pass.new.self.1.0 turn.first c.args.w turn.core core turn.pass c.give_pass.result c.args.t (asked c.args.ask) c.args.journal.now c.note.new.journal
 passed g c turn core does = record {
