@@ -22,7 +22,7 @@ pub(crate) const CONF: Conf = Conf {
 };
 
 // A string of this many bytes `z`.
-fn letters(rt: &impl Abort, alloc: Global, count: usize) -> Result<Graph, Fail> {
+pub(crate) fn letters(rt: &impl Abort, alloc: Global, count: usize) -> Result<Graph, Fail> {
     assert!(rt; count < 1 << 20);
     let bytes = vec![in alloc; b'z'; count]?;
     let mut builder = Builder::new(alloc);

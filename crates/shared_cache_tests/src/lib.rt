@@ -10,6 +10,8 @@ mod generators;
 #[cfg(test)]
 mod infos;
 #[cfg(test)]
+mod iterators;
+#[cfg(test)]
 mod steps;
 #[cfg(test)]
 mod tests;

@@ -1,0 +1,235 @@
+//! Iterators of two workers, and copies that wait meanwhile.
+
+ghost use Rattle.std.specs.Prelude.{◌≡◌, ◌+◌, ◌≤◌, [], ◌∷◌};
+
+use crate::dropped_copy::{CONF, letters};
+use crate::steps::put;
+use crate::tests::two_passes;
+use apcu_iter::{RefuseAll, Search};
+use apcu_model::{Chunk, Fields, List, integer};
+use php_graph::{Graph, Kind};
+use pin_table::{Pass, TableName};
+use shared_cache::{Fresh, Pinned, Shared, open_cache};
+use std::alloc::Global;
+use std::marker::Brand;
+use std::sync::Wait;
+use std::test::Fail;
+
+// All of an item, and its key and its deletion moment alone.
+const ALL: Fields = Fields(511);
+
+const KEY_AND_DELETION: Fields = Fields(33);
+
+// What a step gave, and of its first item whether its key is `a`, whether it has its value, when it
+// was dropped, and its bytes.
+#[derive(Clone, Copy, Debug, PartialEq, Eq)]
+struct Step {
+    next: u32,
+    items: u32,
+    is_a: bool,
+    has_value: bool,
+    dtime: u64,
+    size: u64,
+}
+
+fn step_of(chunk: &Chunk) -> Option<Step> {
+    let first = chunk.items.as_slice().first()?;
+    Some(Step {
+        next: chunk.next,
+        items: chunk.items.len(),
+        is_a: first.key.as_slice() == b"a".as_slice(),
+        has_value: first.value.is_some(),
+        dtime: first.dtime,
+        size: first.size,
+    })
+}
+
+// One step over a list, from the first slot on; the pass has at most one event less.
+fn step<N: TableName, R: Wait>(
+    rt: &R,
+    alloc: Global,
+    shared: &Shared<N>,
+    pass: Pass,
+    search: &mut Search,
+    list: List,
+    fields: Fields,
+) -> (Pass, Option<Step>)
+    requires table { pass.table ≡ N.table }
+    requires left { 2 ≤ pass.known.left }
+    ensures table { result.0.table ≡ N.table }
+    ensures left { pass.known.left ≤ result.0.known.left + 1 }
+{
+    let (pass, chunk) = shared.chunk(rt, alloc, pass, search, 0, 100, list, fields, 0);
+    match chunk {
+        Ok(chunk) => (pass, step_of(&chunk)),
+        Err(_) => (pass, None),
+    }
+}
+
+// How many rows there are, how often they were fetched, and their bytes.
+fn sums<N: TableName, R: Wait>(
+    rt: &R,
+    alloc: Global,
+    shared: &Shared<N>,
+    pass: Pass,
+    search: &mut Search,
+) -> (Pass, Option<(u64, u64, u64)>)
+    requires table { pass.table ≡ N.table }
+    requires left { 2 ≤ pass.known.left }
+    ensures table { result.0.table ≡ N.table }
+    ensures left { pass.known.left ≤ result.0.known.left + 1 }
+{
+    let (pass, totals) = shared.totals(rt, alloc, pass, search, List::Active, 0);
+    (pass, totals.ok())
+}
+
+// What a step and a sum gave.
+#[derive(Clone, Copy, Debug, PartialEq, Eq)]
+struct Told {
+    step: Option<Step>,
+    sum: Option<(u64, u64, u64)>,
+}
+
+// The first worker stores an integer. The second one iterates, and the first one sums up.
+fn iterate<N: TableName, R: Wait>(
+    rt: &R,
+    alloc: Global,
+    fresh: Fresh,
+    value: &Graph,
+    search: &mut Search,
+) -> Option<Told>
+    requires table { N.table ≡ fresh.table }
+    requires conf { N.conf ≡ fresh.conf }
+    requires budgets { N.budgets ≡ fresh.budgets }
+    requires two { fresh.budgets ≡ 3 ∷ 2 ∷ [] }
+{
+    let (shared, mut passes, _) = fresh.name::<N>();
+    let (first, second) = two_passes::<N>(&mut passes)?;
+    let (first, _) = put(rt, &shared, first, b"a", value, false);
+    let (_, step) = step(rt, alloc, &shared, second, search, List::Active, ALL);
+    let (_, sum) = sums(rt, alloc, &shared, first, search);
+    Some(Told { step, sum })
+}
+
+#[test]
+fn two_workers_iterate(rt: HostRuntime) -> Result<(), Fail> {
+    let value = integer(rt.alloc(), 1);
+    let mut search = Search::new(rt.alloc(), &RefuseAll, None)?;
+    let Ok(fresh) = open_cache(&rt, rt.alloc(), &CONF, &[3, 2]) else {
+        return Err(Fail::new("open_cache"));
+    };
+    let Some(told) = iterate::<Brand, _>(&rt, rt.alloc(), fresh, &value, &mut search) else {
+        return Err(Fail::new("two passes"));
+    };
+    let step = Step {
+        next: 32,
+        items: 1,
+        is_a: true,
+        has_value: true,
+        dtime: 0,
+        size: 128,
+    };
+    let all = Told {
+        step: Some(step),
+        sum: Some((1, 0, 128)),
+    };
+    assert_eq!(rt; told, all);
+    Ok(())
+}
+
+// Whether a value is a string of so many bytes `z`.
+fn is_letters(value: &Graph, count: usize) -> bool {
+    if value.places() == 0 {
+        return false;
+    }
+    match value.kind(1) {
+        Kind::Str(text) => {
+            let bytes = text.as_slice();
+            bytes.len() == count && bytes.iter().all(|byte| *byte == b'z')
+        }
+        _ => false,
+    }
+}
+
+// What was met while a copy waited: what was told of the deleted row, whether a value found room
+// before and after the copy, and whether the copy was whole.
+#[derive(Clone, Copy, Debug, PartialEq, Eq)]
+struct Waited {
+    deleted: Option<Step>,
+    stored: bool,
+    whole: bool,
+    again: bool,
+}
+
+// The first worker stores a value and begins to copy it. The second one deletes its row, asks for
+// the deleted rows, and stores a value that fills all blocks. The first one ends its copy.
+fn wait<N: TableName, R: Wait>(
+    rt: &R,
+    alloc: Global,
+    fresh: Fresh,
+    value: &Graph,
+    larger: &Graph,
+    search: &mut Search,
+) -> Option<Waited>
+    requires table { N.table ≡ fresh.table }
+    requires conf { N.conf ≡ fresh.conf }
+    requires budgets { N.budgets ≡ fresh.budgets }
+    requires two { fresh.budgets ≡ 3 ∷ 5 ∷ [] }
+{
+    let (shared, mut passes, _) = fresh.name::<N>();
+    let (first, second) = two_passes::<N>(&mut passes)?;
+    let (first, _) = shared.store(rt, first, b"a", value, 0, false, 0);
+    let Pinned::Hit(copying) = shared.pin(rt, first, b"a", 0) else {
+        return None;
+    };
+    let (second, _) = shared.delete(rt, second, b"a", 0);
+    let (second, deleted) = step(
+        rt,
+        alloc,
+        &shared,
+        second,
+        search,
+        List::Deleted,
+        KEY_AND_DELETION,
+    );
+    let (second, stored) = put(rt, &shared, second, b"b", larger, false);
+    let (_, copied) = shared.copy_out(alloc, copying);
+    let whole = match copied {
+        Ok(copied) => is_letters(&copied, 2_000),
+        Err(_) => false,
+    };
+    let (_, again) = put(rt, &shared, second, b"b", larger, false);
+    Some(Waited {
+        deleted,
+        stored,
+        whole,
+        again,
+    })
+}
+
+#[test]
+fn a_copy_waits_while_its_row_is_deleted(rt: HostRuntime) -> Result<(), Fail> {
+    let value = letters(&rt, rt.alloc(), 2_000)?;
+    let larger = letters(&rt, rt.alloc(), 3_728)?;
+    let mut search = Search::new(rt.alloc(), &RefuseAll, None)?;
+    let Ok(fresh) = open_cache(&rt, rt.alloc(), &CONF, &[3, 5]) else {
+        return Err(Fail::new("open_cache"));
+    };
+    let waited = wait::<Brand, _>(&rt, rt.alloc(), fresh, &value, &larger, &mut search);
+    let deleted = Step {
+        next: 32,
+        items: 1,
+        is_a: true,
+        has_value: false,
+        dtime: 0,
+        size: 2_112,
+    };
+    let all = Waited {
+        deleted: Some(deleted),
+        stored: false,
+        whole: true,
+        again: true,
+    };
+    assert_eq!(rt; waited, Some(all));
+    Ok(())
+}
