@@ -13,9 +13,9 @@ fn what_a_small_segment_holds(rt: HostRuntime) -> Result<(), Fail> {
         // 482 words are too many, 480 are all.
         (
             [
-                Text(
-                    b"worker\napcu_store s:1:\"k\"; i:1;\napcu_store s:1:\"a\"; s:3729:\"".as_slice(),
-                ),
+                Text(b"worker\napcu_store s:1:\"k\"; i:1;\n\
+                    apcu_store s:1:\"a\"; s:3729:\""
+                    .as_slice()),
                 Zs(3729),
                 Text(b"\";\napcu_exists s:1:\"k\";\n"),
             ]
@@ -85,7 +85,8 @@ fn an_entry_that_does_not_fit(rt: HostRuntime) -> Result<(), Fail> {
     )
 }
 
-// Three large rows; these lines, which delete the first two; and a row that takes both their places.
+// Three large rows; these lines, which delete the first two; and a row that takes both their
+// places.
 fn in_the_place_of_two(alloc: Global, deletions: &'static [u8]) -> Result<ByteOut, Fail> {
     spelled(
         alloc,

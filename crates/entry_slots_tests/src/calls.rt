@@ -1,6 +1,7 @@
 //! Calls on a row that stands, on a slot and on all rows.
 
-ghost use Rattle.std.specs.Prelude.{◌≡◌, ℕ, ◌*◌, ◌<◌, ◌≤◌, ◌^◌, true, false, [], length, slice_index};
+ghost use Rattle.std.specs.Prelude.{◌≡◌, ℕ, ◌*◌, ◌<◌, ◌≤◌, ◌^◌, true, false, [], length};
+ghost use Rattle.std.specs.Prelude.{slice_index};
 ghost use Rattle.seg_words.specs.Kept.{Kept, KeptBeside};
 ghost use Rattle.seg_words.specs.Windows.{is_named};
 ghost use Rattle.php_graph.specs.Size.{block_size};
@@ -48,8 +49,8 @@ struct Read {
     next: u32,
 }
 
-// In a cache made anew: stores a number under a key, sets it to n at the moment t, and uses it; what is read
-// of it then.
+// In a cache made anew: stores a number under a key, sets it to n at the moment t, and uses it;
+// what is read of it then.
 fn set_and_use<S: Segment>(
     seg: &mut S,
     conf: &Conf,
@@ -159,8 +160,8 @@ fn drops_a_slot(rt: HostRuntime) -> Result<(), Fail> {
     Ok(())
 }
 
-// In a cache made anew: puts a row, and frees all rows at once; where the row was put, how many were left, and
-// where the next one is put.
+// In a cache made anew: puts a row, and frees all rows at once; where the row was put, how many
+// were left, and where the next one is put.
 fn clear<S: Segment>(
     seg: &mut S,
     conf: &Conf,

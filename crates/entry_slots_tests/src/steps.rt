@@ -138,7 +138,8 @@ fn take_step<S: Segment>(slots: &mut EntrySlots, seg: &mut S, step: Step, g: &Gr
     }
 }
 
-// Takes the steps, each at the moment of its number, until one does not answer as is said; its number.
+// Takes the steps, each at the moment of its number, until one does not answer as is said; its
+// number.
 pub(crate) fn play<S: Segment>(
     slots: &mut EntrySlots,
     seg: &mut S,
@@ -159,8 +160,8 @@ pub(crate) fn play<S: Segment>(
     steps.len()
 }
 
-// In a cache of 512 words and 32 slots: steps with what they answer, the rows that are left, the first removed
-// one, and words.
+// In a cache of 512 words and 32 slots: steps with what they answer, the rows that are left, the
+// first removed one, and words.
 pub(crate) fn plays(
     rt: &impl Abort,
     alloc: Global,

@@ -73,7 +73,8 @@ fn entries_and_information(rt: HostRuntime) -> Result<(), Fail> {
         apcu_entry s:1:\"k\"; (i:7;)\n\
         apcu_entry s:2:\"k1\"; (apcu_entry s:2:\"k2\"; (i:7;)) i:4294967295;\n\
         apcu_entry s:0:\"\"; (apcu_entry s:1:\"b\"; (a:1:{i:0;R:1;}) i:60;)\n\
-        apcu_entry s:1:\"k\"; (apcu_entry s:1:\"k\"; (apcu_entry s:1:\"k\"; (s:1:\")\";) i:0;) i:1;) i:2;\n\
+        apcu_entry s:1:\"k\"; (apcu_entry s:1:\"k\"; (apcu_entry s:1:\"k\"; \
+        (s:1:\")\";) i:0;) i:1;) i:2;\n\
         apcu_key_info s:1:\"x\";\n\
         apcu_cache_info\n\
         apcu_cache_info b:0;\n\

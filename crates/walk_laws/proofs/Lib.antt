@@ -1,3 +1,5 @@
+mod Answered
 mod Counting
+mod Staying
 mod Steps
 mod Walking

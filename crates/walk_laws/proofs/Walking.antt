@@ -1,21 +1,19 @@
 -- Walks: how often they give a key, and how many steps they have.
-use Rattle.std.proofs.Common.{◌≡◌, ◌⊎◌, inl, inr, ℕ, zero, suc, ◌+◌, ◌<◌, ◌≤◌, ◌==◌, ◌&&◌, Bool, true, false, not, cond, if◌then◌else◌, List, [], ◌∷◌, ◌++◌, length, Option, refl, sym, ap, ◌∙◌, subst, arith}
-use Rattle.std.specs.Prelude.{count_by}
+use Rattle.std.proofs.Common.{◌≡◌, ◌⊎◌, inl, inr, ℕ, suc, ◌+◌, ◌<◌, ◌≤◌, ◌==◌, Bool, true, false, not, if◌then◌else◌, List, [], ◌∷◌, length, Option, refl, ap, arith}
 use Rattle.std.specs.List.{flat_map, list_all}
 use Rattle.std.specs.Str.{bytes_eq}
-use Rattle.std.proofs.lemmas.Bool.{and_parts, cases_lt, eq-eqb, eqb-true, eqb-false, not-true}
+use Rattle.std.proofs.lemmas.Bool.{and_parts, cases_lt, eqb-true, eqb-false, not-true}
 use Rattle.seg_words.specs.Members.{count-append}
 use Rattle.apcu_model.specs.declared.conf.Conf.{Conf}
 use Rattle.apcu_model.specs.declared.searching.Pattern.{Pattern}
 use Rattle.apcu_model.specs.declared.searching.Fields.{Fields}
 use Rattle.apcu_model.specs.declared.searching.List.TheVariants.{Active}
 use Rattle.apcu_model.specs.declared.items.Chunk.{Chunk}
-use Rattle.apcu_model.specs.Cache.{Row, Cache, has_key}
 use Rattle.apcu_model.specs.Chunks.{is_item, chunk_end, chunk_of}
 use Rattle.apcu_model.specs.Walk.{slot_of}
-use Rattle.walk_laws.specs.Walks.{WalkStep, AreSteps, walk_chunks, chunk_keys, walk_keys, times_given, goes_on, is_whole, has_item}
+use Rattle.walk_laws.specs.Walks.{WalkStep, AreSteps, walk_chunks, chunk_keys, walk_keys, times_given, is_under_way, is_whole, has_item}
 use Rattle.walk_laws.proofs.Counting.{is_of, one_of_key, some_of_key}
-use Rattle.walk_laws.proofs.Steps.{Ends, ends, not_reached, reached}
+use Rattle.walk_laws.proofs.Steps.{ends, not_reached, reached}
 
 -- the keys that a walk gives from a slot on
 abbrev keys_from : Option Pattern → ℕ → Fields → ℕ → List WalkStep → List (List ℕ)
@@ -130,18 +128,18 @@ all wanted size fields conf steps key some are whole there =
 -- ---- how many steps
 
 fewer_from : (wanted : Option Pattern) (size : ℕ) (fields : Fields) (conf : Conf) (from : ℕ) (steps : List WalkStep) → 1 ≤ size → from < conf.slots → AreSteps conf steps
-    → goes_on conf.slots (walk_chunks wanted size fields from steps) ≡ true → from + length steps < conf.slots
+    → is_under_way conf.slots (walk_chunks wanted size fields from steps) ≡ true → from + length steps < conf.slots
 fewer_from wanted size fields conf from [] some inside are on = omega arith
 fewer_from wanted size fields conf from (step ∷ steps) some inside are on =
     let next = next_of wanted size from step in
     let e = ends_in wanted size from conf step are.0 in
-    let parts = and_parts (not (next == conf.slots)) (goes_on conf.slots (walk_chunks wanted size fields next steps)) on in
+    let parts = and_parts (not (next == conf.slots)) (is_under_way conf.slots (walk_chunks wanted size fields next steps)) on in
     let other = eqb-false next conf.slots (not-true (next == conf.slots) parts.0) in
     let later = fewer_from wanted size fields conf next steps some (omega (arith, e.within, other)) are.2 parts.1 in
     omega (arith, e.further some inside, later)
 
 pub fewer : (wanted : Option Pattern) (size : ℕ) (fields : Fields) (conf : Conf) (steps : List WalkStep) → 1 ≤ size → 1 ≤ conf.slots → AreSteps conf steps
-    → goes_on conf.slots (walk_chunks wanted size fields 0 steps) ≡ true → length steps < conf.slots
+    → is_under_way conf.slots (walk_chunks wanted size fields 0 steps) ≡ true → length steps < conf.slots
 fewer wanted size fields conf steps some slots are on = omega (arith, fewer_from wanted size fields conf 0 steps some (omega (arith, slots)) are on)
 
 length-chunks : (wanted : Option Pattern) (size : ℕ) (fields : Fields) (from : ℕ) (steps : List WalkStep) → length (walk_chunks wanted size fields from steps) ≡ length steps

@@ -46,8 +46,8 @@ abbrev pub times_given : List ℕ → List (List ℕ) → ℕ
 times_given key keys = count_by (λ k. bytes_eq k key) keys
 
 -- no step has reached the end, so the walk goes on
-abbrev pub goes_on : ℕ → List Chunk → Bool
-goes_on slots chunks = list_all (λ (chunk : Chunk). not (chunk.next == slots)) chunks
+abbrev pub is_under_way : ℕ → List Chunk → Bool
+is_under_way slots chunks = list_all (λ (chunk : Chunk). not (chunk.next == slots)) chunks
 
 -- the last step has reached the end, and none before it
 abbrev pub is_whole : ℕ → List Chunk → Bool

@@ -2,14 +2,20 @@ ghost use Rattle.std.specs.Prelude.{◌≡◌, ℕ, ◌<◌, ◌≤◌, List, le
 ghost use Rattle.std.specs.List.{list_all};
 ghost use Rattle.apcu_model.specs.declared.conf.Conf.{Conf};
 ghost use Rattle.apcu_model.specs.declared.searching.Pattern.{Pattern};
-ghost use Rattle.apcu_model.specs.declared.searching.List.TheVariants.{Active};
+ghost use Rattle.apcu_model.specs.declared.searching.List.TheVariants.{Active, Deleted};
 ghost use Rattle.apcu_model.specs.declared.searching.Fields.{Fields};
 ghost use Rattle.apcu_model.specs.declared.items.ItemRow.{ItemRow};
+ghost use Rattle.apcu_model.specs.declared.event.Event.{Event};
 ghost use Rattle.apcu_model.specs.Cache.{Cache};
 ghost use Rattle.apcu_model.specs.Chunks.{chunk_of};
+ghost use Rattle.apcu_model.specs.History.{stage_of};
+ghost use Rattle.apcu_model.specs.Rows.{are_apart};
 ghost use Rattle.apcu_model.specs.Walk.{slot_of};
+ghost use Rattle.walk_laws.specs.Exchanges.{IsWalk, answered_chunks, answered_keys, steps_in, exchanges_of};
 ghost use Rattle.walk_laws.specs.Walks.{WalkStep, AreSteps, walk_chunks, walk_keys, times_given};
-ghost use Rattle.walk_laws.specs.Walks.{goes_on, is_whole, has_item};
+ghost use Rattle.walk_laws.specs.Walks.{is_under_way, is_whole, has_item};
+
+use apcu_model::rows_stay_apart;
 
 /// What the steps of an iterator over the active rows give together, whatever is done to the cache
 /// between them: no key twice, however far the walk has come; and once it has come to the end,
@@ -26,8 +32,10 @@ pub fn walks_give_once()
         → times_given key (walk_keys wanted size fields steps) ≡ 1 }
 {}
 
-/// Where the steps of a walk go. Each one of at least one item gets further, as long as slots are
-/// left, so a walk has at most as many steps as there are slots.
+/// Where the steps of a walk go. Each of them, if it is to give at least one item, gets further as
+/// long as slots are left, so a walk has at most as many steps as there are slots: fewer where it
+/// goes on. What a step gives is of the slots that it passes. Over the removed rows a walk is one
+/// step.
 pub fn steps_of_walks()
     ensures further { (wanted : Option Pattern) (from size : ℕ) (fields : Fields) (t : ℕ)
         (c : Cache) → 1 ≤ size → from < c.conf.slots
@@ -39,12 +47,41 @@ pub fn steps_of_walks()
         → Contains (chunk_of wanted from size Active fields t c).items item
         → (from ≤ slot_of c.conf item.key)
         × (slot_of c.conf item.key < (chunk_of wanted from size Active fields t c).next) }
+    ensures removed { (wanted : Option Pattern) (from size : ℕ) (fields : Fields) (t : ℕ)
+        (c : Cache) → (chunk_of wanted from size Deleted fields t c).next ≡ c.conf.slots }
     ensures fewer { (wanted : Option Pattern) (size : ℕ) (fields : Fields) (conf : Conf)
         (steps : List WalkStep) → 1 ≤ size → 1 ≤ conf.slots → AreSteps conf steps
-        → IsTrue (goes_on conf.slots (walk_chunks wanted size fields 0 steps))
+        → IsTrue (is_under_way conf.slots (walk_chunks wanted size fields 0 steps))
         → length steps < conf.slots }
     ensures most { (wanted : Option Pattern) (size : ℕ) (fields : Fields) (conf : Conf)
         (steps : List WalkStep) → 1 ≤ size → 1 ≤ conf.slots → AreSteps conf steps
         → IsTrue (is_whole conf.slots (walk_chunks wanted size fields 0 steps))
         → length steps ≤ conf.slots }
 {}
+
+/// The same of a worker's walk in a history of many workers, whatever the others do between its
+/// steps: `events` come after those of `before`, and the worker's among them are the walk. In every
+/// history the cache keeps its shape, and no two of its rows have one key.
+pub fn walks_in_histories()
+    ensures shape { (conf : Conf) (history : List Event)
+        → (stage_of conf history).cache.conf ≡ conf }
+    ensures apart { (conf : Conf) (history : List Event)
+        → IsTrue (are_apart (stage_of conf history).cache.rows) }
+    ensures given { (wanted : Option Pattern) (size : ℕ) (fields : Fields) (conf : Conf)
+        (before events : List Event) (w : ℕ) → let own = exchanges_of conf before events w in
+        IsWalk wanted size fields own
+        → answered_chunks own ≡ walk_chunks wanted size fields 0 (steps_in own) }
+    ensures once { (wanted : Option Pattern) (size : ℕ) (fields : Fields) (conf : Conf)
+        (before events : List Event) (w : ℕ) (key : List ℕ)
+        → let own = exchanges_of conf before events w in IsWalk wanted size fields own
+        → times_given key (answered_keys own) ≤ 1 }
+    ensures all { (wanted : Option Pattern) (size : ℕ) (fields : Fields) (conf : Conf)
+        (before events : List Event) (w : ℕ) (key : List ℕ)
+        → let own = exchanges_of conf before events w in 1 ≤ conf.slots
+        → IsWalk wanted size fields own
+        → IsTrue (is_whole conf.slots (answered_chunks own))
+        → IsTrue (list_all (has_item wanted key) (steps_in own))
+        → times_given key (answered_keys own) ≡ 1 }
+{
+    rows_stay_apart();
+}
