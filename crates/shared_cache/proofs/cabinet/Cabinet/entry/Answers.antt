@@ -1,5 +1,6 @@
-use Rattle.std.proofs.Common.{◌∙◌, length, arith}
-use Rattle.std.proofs.lemmas.Bool.{lt-ltb}
+use Rattle.std.proofs.Common.{◌∙◌, length}
+use Rattle.std.proofs.lemmas.Bool.{le-leb}
+use Rattle.apcu_model.specs.Levels.{most_levels}
 use Rattle.apcu_model.specs.declared.request.Request.TheVariants as request
 use Rattle.shared_cache.proofs.Passes.{Passes}
 use Rattle.shared_cache.proofs.Working.{Took, begun_stands, none_refused}
@@ -47,7 +48,7 @@ passed g c = record {
   cache = c.in-Ok.ensures.cache;
   marks = c.note.ensures.marks;
   room = c.note.ensures.room;
-  flat = let few = c.requires.levels in lt-ltb (length c.args.generator.now.levels) 9 (omega (arith, few));
+  flat = le-leb (length c.args.generator.now.levels) most_levels c.requires.levels;
 }
 
 pub invariant_of-self : goal.invariant_of-self
