@@ -1,5 +1,5 @@
 -- Wishes in turn, and the turns of calls and scripts.
-use Rattle.std.proofs.Common.{◌≡◌, ℕ, zero, suc, ◌+◌, ◌-◌, ◌<◌, ◌≤◌, ◌⊎◌, inl, inr, List, [], ◌∷◌, ◌++◌, length, map, take, drop, slice_get, Option, Some, refl, sym, ap, ◌∙◌, append_assoc, length-append, take-append-drop, length-take-le, arith}
+use Rattle.std.proofs.Common.{◌≡◌, ℕ, zero, suc, ◌+◌, ◌-◌, ◌<◌, ◌≤◌, ◌⊎◌, inl, inr, List, [], ◌∷◌, ◌++◌, length, map, take, drop, slice_get, Option, Some, refl, sym, ap, ◌∙◌, length-append, take-append-drop, length-take-le, arith}
 use Rattle.std.specs.Prelude.{sum}
 use Rattle.std.proofs.lemmas.Bool.{cases_lt}
 use Rattle.std.proofs.lemmas.List.{length-drop, take-append-le}
@@ -17,7 +17,7 @@ use Rattle.script_read.proofs.Asking.{asks_few}
 use Rattle.play_laws.specs.Own.{AreInTurn}
 use Rattle.play_laws.specs.Parts.{get_joined, take_joined, sum_step}
 use Rattle.reply_text.specs.Lines.{call_text, before, lines_from, script_lines}
-use Rattle.worker_play.specs.Turns.{Turn, Asking, Over, turn_at, turns_at, then_turns, turns_of, wish_of_turn, wanted_in}
+use Rattle.worker_play.specs.Turns.{Turn, Takes, Over, turn_at, turns_at, then_turns, turns_of, wish_of_turn, wanted_in}
 
 -- ---- wishes in turn
 
@@ -46,15 +46,15 @@ in_turn_more wants rest ws vs rs ss a b goes = record {
 
 -- where as much is wanted
 pub in_turn_as : (wants more : List Reply → Option Wish) (ws : List Wish) (rs : List Reply) → ((replies : List Reply) (w : Wish) → wants replies ≡ Some w → more replies ≡ Some w) → AreInTurn wants ws rs → AreInTurn more ws rs
-in_turn_as wants more ws rs as a = record { count = a.count; each = λ k w at. as (take k rs) w (a.each k w at) }
+in_turn_as wants more ws rs same a = record { count = a.count; each = λ k w at. same (take k rs) w (a.each k w at) }
 
 -- ---- one call
 
-wish_asked : (turn : Turn) (w : Wish) → wish_of_turn turn ≡ Some w → turn ≡ Asking w
-wish_asked (Asking v) w e = let same : v ≡ w = cc (e) in ap Asking same
+wish_asked : (turn : Turn) (w : Wish) → wish_of_turn turn ≡ Some w → turn ≡ Takes w
+wish_asked (Takes v) w e = let same : v ≡ w = cc (e) in ap Takes same
 wish_asked (Over others) w e = absurd (cc (e))
 
-next_asks : (t : ℕ) (next : Next) (w : Wish) → turn_at t next ≡ Asking w → (request : Request) × (next ≡ Asks request)
+next_asks : (t : ℕ) (next : Next) (w : Wish) → turn_at t next ≡ Takes w → (request : Request) × (next ≡ Asks request)
 next_asks t (Asks request) w e = (request, refl)
 next_asks t (Leaves others) w e = absurd (cc (e))
 
@@ -91,7 +91,7 @@ takes_few conf call replies others done = elim (cases_lt (event_bound conf.slots
 ]
 
 -- who asks after a few replies alone asks not much more often
-asked_few : (turns : List Reply → Turn) (ws : List Wish) (rs : List Reply) (n : ℕ) → AreInTurn (wanted_in turns) ws rs → ((replies : List Reply) (w : Wish) → turns replies ≡ Asking w → length replies < n) → length ws ≤ n
+asked_few : (turns : List Reply → Turn) (ws : List Wish) (rs : List Reply) (n : ℕ) → AreInTurn (wanted_in turns) ws rs → ((replies : List Reply) (w : Wish) → turns replies ≡ Takes w → length replies < n) → length ws ≤ n
 asked_few turns ws rs n a few = elim (slice_get_cases ws (length ws - 1)).1 [
   | inl there ↦
       let count : length (take (length ws - 1) rs) ≡ length ws - 1 = length-take-le (length ws - 1) rs (omega (arith, a.count)) in
@@ -107,12 +107,12 @@ call_few conf t call ws rs a =
 
 -- ---- the calls of a script
 
-steps_few : (conf : Conf) (script : List Step) (replies : List Reply) (w : Wish) → turns_of conf script replies ≡ Asking w → length replies < sum (map (λ (s : Step). event_bound conf.slots s.call) script)
+steps_few : (conf : Conf) (script : List Step) (replies : List Reply) (w : Wish) → turns_of conf script replies ≡ Takes w → length replies < sum (map (λ (s : Step). event_bound conf.slots s.call) script)
 steps_few conf [] replies w e = absurd (cc (e))
 steps_few conf (step ∷ steps) replies w e = elim (asks_or_leaves (next_of conf step.call replies)) [
   | inl (request, asks) ↦ omega (arith, asks_few conf step.call replies request asks, sum_step (λ (s : Step). event_bound conf.slots s.call) step steps)
   | inr (others, leaves) ↦
-      let later : turns_of conf steps others ≡ Asking w = sym (ap (λ (n : Next). then_turns (turns_of conf steps) (turn_at step.t n)) leaves) ∙ e in
+      let later : turns_of conf steps others ≡ Takes w = sym (ap (λ (n : Next). then_turns (turns_of conf steps) (turn_at step.t n)) leaves) ∙ e in
       omega (arith, takes_few conf step.call replies others leaves, steps_few conf steps others w later, sum_step (λ (s : Step). event_bound conf.slots s.call) step steps)
 ]
 
@@ -121,7 +121,7 @@ script_few conf script ws rs a = asked_few (turns_of conf script) ws rs (sum (ma
 
 -- what the first call wants its script wants
 first_wants : (later : List Reply → Turn) (turn : Turn) (w : Wish) → wish_of_turn turn ≡ Some w → wish_of_turn (then_turns later turn) ≡ Some w
-first_wants later (Asking v) w e = e
+first_wants later (Takes v) w e = e
 first_wants later (Over others) w e = absurd (cc (e))
 
 pub in_turn_first : (conf : Conf) (step : Step) (steps : List Step) (ws : List Wish) (rs : List Reply) → AreInTurn (wanted_in (turns_at step.t (next_of conf step.call))) ws rs → AreInTurn (wanted_in (turns_of conf (step ∷ steps))) ws rs
@@ -157,7 +157,7 @@ record FirstOver (conf : Conf) (step : Step) (steps : List Step) (replies others
 first_over : (conf : Conf) (step : Step) (steps : List Step) (replies others : List Reply) → turns_of conf (step ∷ steps) replies ≡ Over others → FirstOver conf step steps replies others
 first_over conf step steps replies others over = elim (asks_or_leaves (next_of conf step.call replies)) [
   | inl (request, asks) ↦
-      let clash : Asking (wish_at step.t request) ≡ Over others = sym (ap (λ (n : Next). then_turns (turns_of conf steps) (turn_at step.t n)) asks) ∙ over in
+      let clash : Takes (wish_at step.t request) ≡ Over others = sym (ap (λ (n : Next). then_turns (turns_of conf steps) (turn_at step.t n)) asks) ∙ over in
       absurd (cc (clash))
   | inr (own, leaves) ↦ record { own = own; leaves = leaves; rest = sym (ap (λ (n : Next). then_turns (turns_of conf steps) (turn_at step.t n)) leaves) ∙ over }
 ]

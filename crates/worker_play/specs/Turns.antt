@@ -8,12 +8,12 @@ use Rattle.script_read.specs.Play.{Wish, wish_at, Next, Asks, Leaves, asks_each,
 
 -- Something is wanted; or the turn is over, and these replies belong to others.
 pub data Turn : Type 0 where
-  Asking : Wish → Turn
+  Takes : Wish → Turn
   Over : List Reply → Turn
 
 -- a call's turn at this moment
 abbrev pub turn_at : ℕ → Next → Turn
-turn_at t (Asks request) = Asking (wish_at t request)
+turn_at t (Asks request) = Takes (wish_at t request)
 turn_at t (Leaves others) = Over others
 
 -- its turns, after whatever replies
@@ -26,7 +26,7 @@ asks_at t requests = turns_at t (asks_each requests)
 
 -- the turn of some calls, and once it is over that of the calls after them
 abbrev pub then_turns : (List Reply → Turn) → Turn → Turn
-then_turns later (Asking wish) = Asking wish
+then_turns later (Takes wish) = Takes wish
 then_turns later (Over others) = later others
 
 -- the turns of all calls of a script, one after the other
@@ -37,7 +37,7 @@ turns_of conf (step ∷ steps) replies =
 
 -- what is wanted
 abbrev pub wish_of_turn : Turn → Option Wish
-wish_of_turn (Asking wish) = Some wish
+wish_of_turn (Takes wish) = Some wish
 wish_of_turn (Over others) = None
 
 -- what is wanted in these turns
