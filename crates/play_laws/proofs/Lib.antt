@@ -1,3 +1,2 @@
 mod OwnLemmas
-mod Wanted
 mod WholeLemmas

@@ -1,6 +1,7 @@
 -- One worker's own replies.
 use Rattle.std.proofs.Common.{◌≡◌, ℕ, suc, Bool, true, false, cond, List, [], ◌∷◌, ◌++◌, length, refl, ap, ◌∙◌}
 use Rattle.std.specs.Prelude.{◌==◌}
+use Rattle.std.proofs.lemmas.List.{append-nil}
 use Rattle.apcu_model.specs.declared.conf.Conf.{Conf}
 use Rattle.apcu_model.specs.declared.event.Event.{Event}
 use Rattle.apcu_model.specs.declared.request.Reply.{Reply}
@@ -9,7 +10,7 @@ use Rattle.pin_table.specs.Events.{events_of}
 use Rattle.play_laws.specs.Own.{own_replies_from, own_replies}
 
 -- a choice between a list with one more in front and without it, joined to another
-pub cond_joined : {A : Type 0} (b : Bool) (x : A) (xs ys : List A) → cond b (x ∷ (xs ++ ys)) (xs ++ ys) ≡ cond b (x ∷ xs) xs ++ ys
+cond_joined : {A : Type 0} (b : Bool) (x : A) (xs ys : List A) → cond b (x ∷ (xs ++ ys)) (xs ++ ys) ≡ cond b (x ∷ xs) xs ++ ys
 cond_joined true x xs ys = refl
 cond_joined false x xs ys = refl
 
@@ -37,16 +38,12 @@ none_of_others w m (e ∷ es) none = go (e.worker == w) none (none_of_others w (
     go true nothing later = absurd cc
     go false nothing later = later nothing
 
-append_none : {A : Type 0} (xs : List A) → xs ++ [] ≡ xs
-append_none [] = refl
-append_none (x ∷ xs) = ap (λ l. x ∷ l) (append_none xs)
-
 pub others-add-none : (conf : Conf) (w : ℕ) (history between : List Event) → events_of w between ≡ []
     → own_replies conf w (history ++ between) ≡ own_replies conf w history
 others-add-none conf w history between none =
     replies-joined w (start_of conf) history between
     ∙ (ap (λ (r : List Reply). own_replies conf w history ++ r) (none_of_others w (stage_of conf history) between none)
-    ∙ append_none (own_replies conf w history))
+    ∙ append-nil (own_replies conf w history))
 
 -- a reply for each event
 replies_count : (w : ℕ) (m : Stage) (es : List Event) → length (own_replies_from w m es) ≡ length (events_of w es)

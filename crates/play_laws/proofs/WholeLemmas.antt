@@ -1,10 +1,10 @@
 -- A history in which workers play their scripts is the play that it tells.
-use Rattle.std.proofs.Common.{◌≡◌, ◌≢◌, ℕ, zero, suc, ◌+◌, ◌<◌, ◌≤◌, Bool, true, false, cond, List, [], ◌∷◌, ◌++◌, length, map, Option, Some, None, inl, inr, refl, sym, ap, subst, ◌∙◌, append_assoc, arith}
+use Rattle.std.proofs.Common.{◌≡◌, ◌≢◌, ℕ, zero, suc, ◌+◌, ◌<◌, ◌≤◌, Bool, true, false, cond, List, [], ◌∷◌, ◌++◌, length, map, take, Option, Some, None, inl, inr, refl, sym, ap, subst, ◌∙◌, append_assoc, arith}
 use Rattle.std.specs.Prelude.{◌==◌, ◌&&◌, if◌then◌else◌, slice_get, slice_set, unwrap_or, is_none, IsTrue, IsSome}
 use Rattle.std.specs.Option.{option_and_then}
 use Rattle.std.proofs.lemmas.Bool.Decides.{eqb_tells}
-use Rattle.std.proofs.lemmas.List.{append-nil, map-append, length-append, length-map}
-use Rattle.std.proofs.lemmas.Option.{slice_get_cases, slice_get_past}
+use Rattle.std.proofs.lemmas.List.{append-nil, map-append, length-append, length-map, take_at}
+use Rattle.std.proofs.lemmas.Option.{slice_get_cases}
 use Rattle.apcu_model.specs.declared.conf.Conf.{Conf}
 use Rattle.apcu_model.specs.declared.event.Event.{Event}
 use Rattle.apcu_model.specs.declared.request.Reply.{Reply}
@@ -12,10 +12,10 @@ use Rattle.apcu_model.specs.History.{Stage, start_of, stage_of, reply_in, after_
 use Rattle.pin_table.specs.Events.{events_of}
 use Rattle.script_read.specs.declared.script.Step.{Step}
 use Rattle.script_read.specs.Play.{Wish, Play, wanted, replies_of, wish_of, after_wish, marked, played_from, played, IsLegal, IsCompletePlay, are_done, is_complete_play}
-use Rattle.play_laws.specs.Own.{own_replies, wish_in, all_asked}
+use Rattle.play_laws.specs.Own.{own_replies, own_replies_from, wish_in, HasPlayed}
+use Rattle.play_laws.specs.Parts.{events-append, get_behind}
 use Rattle.play_laws.specs.Whole.{IsPlayedOut, replies_from, told_by}
-use Rattle.play_laws.proofs.OwnLemmas.{cond_joined, one-more, length-own_replies}
-use Rattle.play_laws.proofs.Wanted.{wanted_in_turn}
+use Rattle.play_laws.proofs.OwnLemmas.{replies-joined, one-more, length-own_replies}
 
 -- ---- numbers, tests and lists
 
@@ -38,26 +38,16 @@ both_true false b e = absurd cc
 true_both : (a b : Bool) → a ≡ true → b ≡ true → (a && b) ≡ true
 true_both a b p q = rw p q
 
--- the element at a seam
-at_seam : {A : Type 0} (xs : List A) (y : A) (ys : List A) → slice_get (xs ++ y ∷ ys) (length xs) ≡ Some y
-at_seam [] y ys = refl
-at_seam (x ∷ xs) y ys = at_seam xs y ys
-
 -- ---- one worker's events and replies
 
 after-joined : (m : Stage) (es more : List Event) → after_events m (es ++ more) ≡ after_events (after_events m es) more
 after-joined m [] more = refl
 after-joined m (e ∷ es) more = after-joined (after_event m e) es more
 
-events-joined : (w : ℕ) (es more : List Event) → events_of w (es ++ more) ≡ events_of w es ++ events_of w more
-events-joined w [] more = refl
-events-joined w (e ∷ es) more =
-    ap (λ (l : List Event). cond (e.worker == w) (e ∷ l) l) (events-joined w es more) ∙ cond_joined (e.worker == w) e (events_of w es) (events_of w more)
-
 -- those of the event's own worker
 own_events : (w : ℕ) (done : List Event) (e : Event) (rest : List Event) → e.worker ≡ w → events_of w (done ++ e ∷ rest) ≡ events_of w done ++ e ∷ events_of w rest
 own_events w done e rest own =
-    events-joined w done (e ∷ rest) ∙ ap (λ (b : Bool). events_of w done ++ cond b (e ∷ events_of w rest) (events_of w rest)) (same_true e.worker w own)
+    events-append w done (e ∷ rest) ∙ ap (λ (b : Bool). events_of w done ++ cond b (e ∷ events_of w rest) (events_of w rest)) (same_true e.worker w own)
 
 -- the event of a worker is answered among its own replies
 own_grows : (conf : Conf) (w : ℕ) (done : List Event) (e : Event) → e.worker ≡ w → own_replies conf w (done ++ e ∷ []) ≡ own_replies conf w done ++ reply_in (stage_of conf done) e ∷ []
@@ -108,23 +98,29 @@ replies_grow conf w (s ∷ scripts) done e (suc k) script at is =
 abbrev play : Stage → List (List Reply) → Play
 play m r = record { stage = m; replies = r }
 
+-- the worker has asked in this history what its script wants, to the end
+abbrev Played : Conf → List Step → ℕ → List Event → Type 0
+Played conf script w history = HasPlayed conf script (map wish_in (events_of w history)) (own_replies conf w history)
+
 -- what the event asks is what its worker wants
 wants_it : (conf : Conf) (scripts : List (List Step)) (done : List Event) (e : Event) (rest : List Event) (script : List Step) → slice_get scripts e.worker ≡ Some script
-    → map wish_in (events_of e.worker (done ++ e ∷ rest)) ≡ all_asked script → wish_of conf scripts (told_by conf scripts done) e.worker ≡ Some (wish_in e)
+    → Played conf script e.worker (done ++ e ∷ rest) → wish_of conf scripts (told_by conf scripts done) e.worker ≡ Some (wish_in e)
 wants_it conf scripts done e rest script at asked =
     let w = e.worker in
+    let own = own_replies conf w done in
     let before = map wish_in (events_of w done) in
-    let found : replies_of (told_by conf scripts done) w ≡ own_replies conf w done =
+    let found : replies_of (told_by conf scripts done) w ≡ own =
     ap (λ (o : Option (List Reply)). unwrap_or o []) (replies_at conf 0 scripts done w w script at (omega arith)) in
-    let split : all_asked script ≡ before ++ wish_in e ∷ map wish_in (events_of w rest) =
-    sym asked ∙ (ap (map wish_in) (own_events w done e rest refl) ∙ map-append wish_in (events_of w done) (e ∷ events_of w rest)) in
-    let many : length (own_replies conf w done) ≡ length before = length-own_replies conf w done ∙ sym (length-map (events_of w done) wish_in) in
+    let split : map wish_in (events_of w (done ++ e ∷ rest)) ≡ before ++ wish_in e ∷ map wish_in (events_of w rest) =
+    ap (map wish_in) (own_events w done e rest refl) ∙ map-append wish_in (events_of w done) (e ∷ events_of w rest) in
+    let many : length own ≡ length before = length-own_replies conf w done ∙ sym (length-map (events_of w done) wish_in) in
+    let here : slice_get (map wish_in (events_of w (done ++ e ∷ rest))) (length own) ≡ Some (wish_in e) =
+    ap (λ (l : List Wish). slice_get l (length own)) split
+    ∙ (ap (slice_get (before ++ wish_in e ∷ map wish_in (events_of w rest))) many ∙ get_behind before (wish_in e) (map wish_in (events_of w rest))) in
+    let first : take (length own) (own_replies conf w (done ++ e ∷ rest)) ≡ own =
+    ap (take (length own)) (replies-joined w (start_of conf) done (e ∷ rest)) ∙ take_at own (own_replies_from w (stage_of conf done) (e ∷ rest)) (length own) refl in
     ap (option_and_then (λ (s : List Step). wanted conf s (replies_of (told_by conf scripts done) w))) at
-    ∙ (ap (wanted conf script) found
-    ∙ (wanted_in_turn conf script (own_replies conf w done)
-    ∙ (ap (slice_get (all_asked script)) many
-    ∙ (ap (λ (l : List Wish). slice_get l (length before)) split
-    ∙ at_seam before (wish_in e) (map wish_in (events_of w rest))))))
+    ∙ (ap (wanted conf script) (found ∙ sym first) ∙ asked.in_turn.each (length own) (wish_in e) here)
 
 after_it : (conf : Conf) (scripts : List (List Step)) (done : List Event) (e : Event) (script : List Step) → slice_get scripts e.worker ≡ Some script
     → after_wish (told_by conf scripts done) (mark_of e) (wish_in e) ≡ told_by conf scripts (done ++ e ∷ [])
@@ -140,7 +136,7 @@ after_it conf scripts done e script at =
     ∙ ap (λ (r : List (List Reply)). play (stage_of conf (done ++ e ∷ [])) r) replies
 
 marked_by : (conf : Conf) (scripts : List (List Step)) (done : List Event) (e : Event) (rest : List Event) (script : List Step) → slice_get scripts e.worker ≡ Some script
-    → map wish_in (events_of e.worker (done ++ e ∷ rest)) ≡ all_asked script → is_legal_mask (length scripts) e.worker (stage_of conf done) e.mask ≡ true
+    → Played conf script e.worker (done ++ e ∷ rest) → is_legal_mask (length scripts) e.worker (stage_of conf done) e.mask ≡ true
     → marked conf scripts (told_by conf scripts done) (mark_of e) ≡ Some (told_by conf scripts (done ++ e ∷ []))
 marked_by conf scripts done e rest script at asked legal =
     let p = told_by conf scripts done in
@@ -164,7 +160,7 @@ script_of_event scripts done e rest others = elim (slice_get_cases scripts e.wor
 -- ---- all events
 
 goes_on : (conf : Conf) (scripts : List (List Step)) (done rest : List Event) → all_legal (length scripts) (stage_of conf done) rest ≡ true
-    → ((w : ℕ) (script : List Step) → slice_get scripts w ≡ Some script → map wish_in (events_of w (done ++ rest)) ≡ all_asked script)
+    → ((w : ℕ) (script : List Step) → slice_get scripts w ≡ Some script → Played conf script w (done ++ rest))
     → ((w : ℕ) → length scripts ≤ w → events_of w (done ++ rest) ≡ [])
     → played_from conf scripts (told_by conf scripts done) (marks_of rest) ≡ Some (told_by conf scripts (done ++ rest))
 goes_on conf scripts done [] legal asked others = ap (λ (h : List Event). Some (told_by conf scripts h)) (sym (append-nil done))
@@ -176,7 +172,7 @@ goes_on conf scripts done (e ∷ rest) legal asked others =
     let legal_on : all_legal (length scripts) (stage_of conf (done ++ e ∷ [])) rest ≡ true =
     ap (λ (m : Stage). all_legal (length scripts) m rest) (after-joined (start_of conf) done (e ∷ [])) ∙ parts.1 in
     let later = goes_on conf scripts (done ++ e ∷ []) rest legal_on
-    (λ w script at. ap (λ (h : List Event). map wish_in (events_of w h)) joined ∙ asked w script at)
+    (λ w script at. subst (Played conf script w) (sym joined) (asked w script at))
     (λ w past. ap (events_of w) joined ∙ others w past) in
     ap (option_and_then (λ (q : Play). played_from conf scripts q (marks_of rest))) one ∙ (later ∙ ap (λ (h : List Event). Some (told_by conf scripts h)) joined)
 
@@ -195,21 +191,17 @@ is_legal conf scripts history out = subst (λ (o : Option Play). IsSome o) (sym 
 -- ---- nothing more is wanted
 
 done_from : (conf : Conf) (w : ℕ) (scripts : List (List Step)) (history : List Event)
-    → ((k v : ℕ) (script : List Step) → slice_get scripts k ≡ Some script → v ≡ w + k → map wish_in (events_of v history) ≡ all_asked script)
+    → ((k v : ℕ) (script : List Step) → slice_get scripts k ≡ Some script → v ≡ w + k → wanted conf script (own_replies conf v history) ≡ None)
     → are_done conf scripts (replies_from conf w scripts history) ≡ true
-done_from conf w [] history asked = refl
-done_from conf w (s ∷ scripts) history asked =
-    let own = own_replies conf w history in
-    let many : length own ≡ length (all_asked s) =
-    length-own_replies conf w history ∙ (sym (length-map (events_of w history) wish_in) ∙ ap length (asked 0 w s refl (omega arith))) in
-    let none : wanted conf s own ≡ None = wanted_in_turn conf s own ∙ slice_get_past (all_asked s) (length own) (omega (arith, many)) in
-    true_both (is_none (wanted conf s own)) (are_done conf scripts (replies_from conf (w + 1) scripts history)) (ap (λ (o : Option Wish). is_none o) none)
-    (done_from conf (w + 1) scripts history (λ k v script at is. asked (suc k) v script at (omega arith)))
+done_from conf w [] history done = refl
+done_from conf w (s ∷ scripts) history done =
+    true_both (is_none (wanted conf s (own_replies conf w history))) (are_done conf scripts (replies_from conf (w + 1) scripts history)) (ap (λ (o : Option Wish). is_none o) (done 0 w s refl (omega arith)))
+    (done_from conf (w + 1) scripts history (λ k v script at is. done (suc k) v script at (omega arith)))
 
 pub is_complete : (conf : Conf) (scripts : List (List Step)) (history : List Event) → IsPlayedOut conf scripts history → IsCompletePlay conf scripts (marks_of history)
 is_complete conf scripts history out =
     subst (λ (o : Option Play). IsTrue (is_complete_play conf scripts o)) (sym (played_is_told conf scripts history out))
-    (done_from conf 0 scripts history (λ k v script at is. out.asked v script (ap (slice_get scripts) (is ∙ omega arith) ∙ at)))
+    (done_from conf 0 scripts history (λ k v script at is. (out.asked v script (ap (slice_get scripts) (is ∙ omega arith) ∙ at)).done))
 
 -- ---- a worker's replies in the play
 

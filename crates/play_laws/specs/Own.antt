@@ -1,12 +1,12 @@
 -- What one worker of many asks and is answered.
-use Rattle.std.specs.Prelude.{ℕ, ◌==◌, cond, List, [], ◌∷◌, ◌++◌, map}
+use Rattle.std.specs.Prelude.{◌≡◌, ℕ, ◌==◌, cond, List, [], ◌∷◌, length, take, slice_get}
+use Rattle.std.specs.Prelude.{Option, Some, None}
 use Rattle.apcu_model.specs.declared.conf.Conf.{Conf}
 use Rattle.apcu_model.specs.declared.event.Event.{Event}
-use Rattle.apcu_model.specs.declared.request.Request.TheVariants as requests
 use Rattle.apcu_model.specs.declared.request.Reply.{Reply}
 use Rattle.apcu_model.specs.History.{Stage, start_of, reply_in, after_event}
 use Rattle.script_read.specs.declared.script.Step.{Step}
-use Rattle.script_read.specs.Play.{Wish, wish_at, requests_of}
+use Rattle.script_read.specs.Play.{Wish, wanted}
 
 -- the replies of a worker's events, each that of one thread at its place
 abbrev pub own_replies_from : ℕ → Stage → List Event → List Reply
@@ -24,12 +24,16 @@ own_replies conf w history = own_replies_from w (start_of conf) history
 abbrev pub wish_in : Event → Wish
 wish_in e = record { request = e.request; t = e.t }
 
--- all that the calls of a script ask, one after the other
-abbrev pub asked_by : List Step → List Wish
-asked_by [] = []
-asked_by (step ∷ steps) =
-    map (wish_at step.t) (requests_of step.call) ++ asked_by steps
+-- Wishes and replies in turn: each wish is what is wanted after the replies before it, and each has
+-- its reply.
+pub record AreInTurn (wants : List Reply → Option Wish) (wishes : List Wish)
+    (replies : List Reply) : Type 0 where
+  pub count : length replies ≡ length wishes
+  pub each : (k : ℕ) (wish : Wish) → slice_get wishes k ≡ Some wish
+      → wants (take k replies) ≡ Some wish
 
--- and its worker's end
-abbrev pub all_asked : List Step → List Wish
-all_asked steps = asked_by steps ++ record { request = requests.Retire; t = 0 } ∷ []
+-- A worker that got these replies has asked all that its script wants, its end included.
+pub record HasPlayed (conf : Conf) (script : List Step) (wishes : List Wish)
+    (replies : List Reply) : Type 0 where
+  pub in_turn : AreInTurn (wanted conf script) wishes replies
+  pub done : wanted conf script replies ≡ None

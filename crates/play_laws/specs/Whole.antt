@@ -7,15 +7,15 @@ use Rattle.apcu_model.specs.History.{start_of, stage_of, all_legal}
 use Rattle.pin_table.specs.Events.{events_of}
 use Rattle.script_read.specs.declared.script.Step.{Step}
 use Rattle.script_read.specs.Play.{Play}
-use Rattle.play_laws.specs.Own.{own_replies, wish_in, all_asked}
+use Rattle.play_laws.specs.Own.{own_replies, wish_in, HasPlayed}
 
--- Each mask is legal, each worker asks all that its script asks, in order, and then its end, and
--- nobody else asks.
+-- Each mask is legal, each worker asks in turn what its script wants after the worker's own replies,
+-- until nothing more is wanted, and nobody else asks.
 pub record IsPlayedOut (conf : Conf) (scripts : List (List Step)) (history : List Event)
     : Type 0 where
   pub legal : all_legal (length scripts) (start_of conf) history ≡ true
   pub asked : (w : ℕ) (script : List Step) → slice_get scripts w ≡ Some script
-      → map wish_in (events_of w history) ≡ all_asked script
+      → HasPlayed conf script (map wish_in (events_of w history)) (own_replies conf w history)
   pub others : (w : ℕ) → length scripts ≤ w → events_of w history ≡ []
 
 -- the own replies of each of these scripts' workers, the first of which is the worker w

@@ -1,13 +1,11 @@
 ghost use Rattle.std.specs.Prelude.{◌≡◌, ℕ, ◌<◌, ◌==◌, cond, List, [], ◌∷◌, ◌++◌, length, Some};
-ghost use Rattle.std.specs.Prelude.{slice_get};
 ghost use Rattle.apcu_model.specs.declared.conf.Conf.{Conf};
 ghost use Rattle.apcu_model.specs.declared.event.Event.{Event};
-ghost use Rattle.apcu_model.specs.declared.request.Reply.{Reply};
 ghost use Rattle.apcu_model.specs.History.{stage_of, reply_in, marks_of};
 ghost use Rattle.pin_table.specs.Events.{events_of};
 ghost use Rattle.script_read.specs.declared.script.Step.{Step};
-ghost use Rattle.script_read.specs.Play.{IsLegal, IsCompletePlay, played, replies_of, wanted};
-ghost use Rattle.play_laws.specs.Own.{own_replies, all_asked};
+ghost use Rattle.script_read.specs.Play.{IsLegal, IsCompletePlay, played, replies_of};
+ghost use Rattle.play_laws.specs.Own.{own_replies};
 ghost use Rattle.play_laws.specs.Whole.{IsPlayedOut, told_by};
 
 /// What comes of one event more, and of more events of others: a worker's own replies grow by the
@@ -25,16 +23,10 @@ pub fn one_event_own()
         → length (own_replies conf w history) ≡ length (events_of w history) }
 {}
 
-/// After some replies a script wants the next of all that it asks, whatever the replies are.
-pub fn scripts_ask_in_turn()
-    ensures { (conf : Conf) (script : List Step) (replies : List Reply)
-        → wanted conf script replies ≡ slice_get (all_asked script) (length replies) }
-{}
-
-/// A history of events in which each mask is legal, each worker asks all that its script asks, in
-/// order, and its end, and nobody else asks, is a play: that of the journal of its marks. The play
-/// ends in the cache that one thread would have after these events, and each worker was answered
-/// its own replies. No worker wants anything after it.
+/// A history of events in which each mask is legal, each worker asks in turn what its script wants
+/// after its own replies, until nothing more is wanted, and nobody else asks, is a play: that of the
+/// journal of its marks. The play ends in the cache that one thread would have after these events,
+/// and each worker was answered its own replies. No worker wants anything after it.
 pub fn histories_are_plays()
     ensures play { (conf : Conf) (scripts : List (List Step)) (history : List Event)
         → IsPlayedOut conf scripts history

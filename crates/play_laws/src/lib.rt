@@ -4,4 +4,4 @@
 
 mod laws;
 
-pub use laws::{histories_are_plays, one_event_own, scripts_ask_in_turn};
+pub use laws::{histories_are_plays, one_event_own};

@@ -1,8 +1,7 @@
-use play_laws::{histories_are_plays, one_event_own, scripts_ask_in_turn};
+use play_laws::{histories_are_plays, one_event_own};
 
 #[test]
 fn states_its_laws() {
     one_event_own();
-    scripts_ask_in_turn();
     histories_are_plays();
 }

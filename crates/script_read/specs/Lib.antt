@@ -1,4 +1,5 @@
 pub mod Calls
+pub mod Leaving
 pub mod Arguments
 pub mod GenParts
 pub mod Table

@@ -1,11 +1,14 @@
 //! Laws of scripts.
 
 ghost use Rattle.std.specs.Prelude.{◌≡◌, ◌<◌, List, length};
+ghost use Rattle.std.specs.Thread.{IsSync};
 ghost use Rattle.apcu_model.specs.declared.conf.Conf.{Conf};
 ghost use Rattle.apcu_model.specs.declared.request.Request.{Request};
 ghost use Rattle.apcu_model.specs.declared.request.Reply.{Reply};
 ghost use Rattle.script_read.specs.declared.call.Call.{Call};
 ghost use Rattle.script_read.specs.Calls.{event_bound};
+ghost use Rattle.script_read.specs.contracts.script.Script as script_type;
+ghost use Rattle.script_read.specs.contracts.script.Scripts as scripts_type;
 ghost use Rattle.script_read.specs.Ties.{ScriptsTake, ScriptsAgain, ScriptsAreOne};
 ghost use Rattle.script_read.specs.Play.{next_of, Asks};
 
@@ -25,4 +28,10 @@ pub fn readings_are_scripts()
 pub fn calls_ask_few()
     ensures { (conf : Conf) (call : Call) (replies : List Reply) (request : Request)
         → next_of conf call replies ≡ Asks request → length replies < event_bound conf.slots call }
+{}
+
+/// A script, and all scripts together, may be read on any thread.
+pub fn scripts_cross()
+    ensures script { IsSync script_type.the_row }
+    ensures scripts { IsSync scripts_type.the_row }
 {}

@@ -16,6 +16,6 @@ mod script;
 
 pub use call::Call;
 pub use fault::ScriptFault;
-pub use laws::{calls_ask_few, readings_are_scripts};
+pub use laws::{calls_ask_few, readings_are_scripts, scripts_cross};
 pub use reading::read_scripts;
 pub use script::{Script, Scripts, Step};

@@ -1,9 +1,9 @@
 -- Passes after some events.
-use Rattle.std.proofs.Common.{◌≡◌, ℕ, Bool, true, false, cond, List, [], ◌∷◌, ◌++◌, length, map, refl, sym, ap, ap₂, subst, ◌∙◌, append_assoc, length-append, arith}
+use Rattle.std.proofs.Common.{◌≡◌, ℕ, Bool, true, cond, List, [], ◌∷◌, ◌++◌, length, map, refl, sym, ap, ap₂, subst, ◌∙◌, append_assoc, length-append, arith}
 use Rattle.std.specs.Prelude.{◌==◌, Result, Ok, Err, IfOk, OnOk, OnErr}
 use mathlib.Core.List.{IsPrefix}
 use Rattle.std.proofs.lemmas.Bool.{eq-eqb}
-use Rattle.std.proofs.lemmas.List.{append-nil, map-append}
+use Rattle.std.proofs.lemmas.List.{append-nil, map-append, nil_from_length}
 use Rattle.apcu_model.specs.declared.conf.Conf.{Conf}
 use Rattle.apcu_model.specs.declared.event.Event.{Event}
 use Rattle.apcu_model.specs.declared.request.Request.{Request}
@@ -14,7 +14,10 @@ use Rattle.pin_table.specs.Events.{event, events_of}
 use Rattle.script_read.specs.Play.{Wish}
 use Rattle.shared_cache.specs.Follows.{Follows}
 use Rattle.play_laws.specs.Own.{own_replies, wish_in}
+use Rattle.play_laws.specs.Parts.{events-append}
 use Rattle.worker_play.specs.Goes.{wish, KnowsOwnEvents, GoesOn, Reaches, Tells}
+use Rattle.worker_play.specs.Turns.{Turn, Takes, Over, wish_of_turn, wanted_in}
+use Rattle.worker_play.proofs.Turns.{in_turn_none, in_turn_one, in_turn_more}
 
 -- what a worker's replies are in longer histories
 pub record OwnLaws : Type 0 where
@@ -52,26 +55,13 @@ more conf workers p o q ws vs rs ss a b = record {
   legal = λ h. b.legal (a.legal h);
 }
 
-events-append : (w : ℕ) (xs ys : List Event) → events_of w (xs ++ ys) ≡ events_of w xs ++ events_of w ys
-events-append w [] ys = refl
-events-append w (x ∷ xs) ys = go (x.worker == w) (events-append w xs ys)
-  where
-    go : (b : Bool) → events_of w (xs ++ ys) ≡ events_of w xs ++ events_of w ys
-        → cond b (x ∷ events_of w (xs ++ ys)) (events_of w (xs ++ ys)) ≡ cond b (x ∷ events_of w xs) (events_of w xs) ++ events_of w ys
-    go true h = ap (λ (l : List Event). x ∷ l) h
-    go false h = h
-
-nothing_left : {A : Type 0} (xs : List A) → length xs ≡ 0 → xs ≡ []
-nothing_left [] h = refl
-nothing_left (x ∷ xs) h = absurd (omega (arith, h))
-
 -- others alone made events between a whole pass and the next event of its worker
 none_between : (w : ℕ) (seen between : List Event) (own : List Event) (e : Event) → e.worker == w ≡ true → events_of w seen ≡ own → events_of w ((seen ++ between) ++ e ∷ []) ≡ own ++ e ∷ [] → events_of w between ≡ []
 none_between w seen between own e mine whole all =
     let parts = events-append w (seen ++ between) (e ∷ []) ∙ ap (λ (l : List Event). l ++ events_of w (e ∷ [])) (events-append w seen between) in
     let last : events_of w (e ∷ []) ≡ e ∷ [] = ap (λ (b : Bool). cond b (e ∷ []) []) mine in
     let counted = ap length (sym all ∙ parts) in
-    nothing_left (events_of w between)
+    nil_from_length (events_of w between)
     (omega (arith, counted, ap length last, ap length whole, length-append own (e ∷ []), length-append (events_of w seen ++ events_of w between) (events_of w (e ∷ [])), length-append (events_of w seen) (events_of w between)))
 
 -- one event of a pass
@@ -99,18 +89,31 @@ one laws conf workers p q t r s y f whole same =
       legal = λ h. f.legal;
     }
 
--- ---- what is told
+-- ---- what is asked in turn
 
-pub tells_reach : (conf : Conf) (workers : ℕ) (p q : Bearer) (ws : List Wish) (rs : List Reply) → GoesOn conf workers p q ws rs → Reaches conf workers p q ws
-tells_reach conf workers p q ws rs g = record { made = ws; later = []; parts = append-nil ws; replies = rs; goes = g }
+abbrev pub nothing_asked : (conf : Conf) (workers : ℕ) (p : Bearer) (turns : List Reply → Turn) → KnowsOwnEvents p → Reaches conf workers p p turns
+nothing_asked conf workers p turns whole = record { made = []; replies = []; in_turn = in_turn_none (wanted_in turns); goes = none conf workers p whole }
 
--- where memory is missing, nothing was made
-pub nothing_made : {X E : Type 0} (conf : Conf) (workers : ℕ) (p q : Bearer) (ws : List Wish) (r : Result X E) (e : E) → r ≡ Err e → OnErr r (q ≡ p) → KnowsOwnEvents p
-    → Reaches conf workers p q ws
-nothing_made {X} {E} conf workers p q ws r e is same whole =
+-- where memory is missing, nothing was asked
+pub nothing_made : {X E : Type 0} (conf : Conf) (workers : ℕ) (p q : Bearer) (turns : List Reply → Turn) (r : Result X E) (e : E) → r ≡ Err e → OnErr r (q ≡ p) → KnowsOwnEvents p
+    → Reaches conf workers p q turns
+nothing_made {X} {E} conf workers p q turns r e is same whole =
     let back : q ≡ p = subst (λ (r : Result X E). OnErr r (q ≡ p)) is same in
-    let nothing : Reaches conf workers p p ws = record { made = []; later = ws; parts = refl; replies = []; goes = none conf workers p whole } in
-    subst (λ (o : Bearer). Reaches conf workers p o ws) (sym back) nothing
+    subst (λ (o : Bearer). Reaches conf workers p o turns) (sym back) (nothing_asked conf workers p turns whole)
+
+-- the first wish was asked
+abbrev pub one_asked : (conf : Conf) (workers : ℕ) (p q : Bearer) (turns : List Reply → Turn) (w : Wish) (y : Reply) → GoesOn conf workers p q (w ∷ []) (y ∷ []) → turns [] ≡ Takes w → Reaches conf workers p q turns
+one_asked conf workers p q turns w y g first = record { made = w ∷ []; replies = y ∷ []; in_turn = in_turn_one (wanted_in turns) w y (ap wish_of_turn first); goes = g }
+
+-- some first wishes, and then others
+abbrev pub more_asked : (conf : Conf) (workers : ℕ) (p o q : Bearer) (turns rest : List Reply → Turn) (r : Reaches conf workers p o turns) → ((later : List Reply) → turns (r.replies ++ later) ≡ rest later)
+    → Reaches conf workers o q rest → Reaches conf workers p q turns
+more_asked conf workers p o q turns rest r goes s = record {
+  made = r.made ++ s.made;
+  replies = r.replies ++ s.replies;
+  in_turn = in_turn_more (wanted_in turns) (wanted_in rest) r.made s.made r.replies s.replies r.in_turn s.in_turn (λ later. ap wish_of_turn (goes later));
+  goes = more conf workers p o q r.made s.made r.replies s.replies r.goes s.goes;
+}
 
 pub on_ok : {X E P Q : Type 0} (r : Result X E) → (P → Q) → OnOk r P → OnOk r Q
 on_ok (Ok x) f p = f p
@@ -126,36 +129,31 @@ of_if_ok {X} {E} P r x is p = subst (λ (r : Result X E). IfOk r P) is p
 pub of_ok : {X E P : Type 0} (r : Result X E) (x : X) → r ≡ Ok x → OnOk r P → P
 of_ok {X} {E} {P} r x is p = subst (λ (r : Result X E). OnOk r P) is p
 
--- ---- on the way through some wishes
+-- ---- on the way through some turns
 
--- Of all wishes these rest. What is told of all replies is what is still to be told, after those so
--- far.
-abbrev pub Midway : {A : Type 0} → Conf → ℕ → Bearer → Bearer → List Wish → List Wish → (List Reply → A) → (List Reply → A) → Type 0
-Midway conf workers p q all rest told to_tell =
-    (made : List Wish) × (replies : List Reply) × GoesOn conf workers p q made replies × (made ++ rest ≡ all)
-    × ((later : List Reply) → told (replies ++ later) ≡ to_tell later)
+-- After the wishes so far the turns go on as these. What is told of all replies is what is still to
+-- be told, after those so far.
+abbrev pub Midway : {A : Type 0} → Conf → ℕ → Bearer → Bearer → (List Reply → Turn) → (List Reply → Turn) → (List Reply → A) → (List Reply → A) → Type 0
+Midway conf workers p q turns rest told to_tell =
+    (r : Reaches conf workers p q turns) × ((later : List Reply) → turns (r.replies ++ later) ≡ rest later)
+    × ((later : List Reply) → told (r.replies ++ later) ≡ to_tell later)
 
-pub begins : {A : Type 0} (conf : Conf) (workers : ℕ) (p : Bearer) (all : List Wish) (told : List Reply → A) → KnowsOwnEvents p → Midway conf workers p p all all told told
-begins conf workers p all told whole = ([], [], none conf workers p whole, refl, λ later. refl)
+pub begins : {A : Type 0} (conf : Conf) (workers : ℕ) (p : Bearer) (turns : List Reply → Turn) (told : List Reply → A) → KnowsOwnEvents p → Midway conf workers p p turns turns told told
+begins conf workers p turns told whole = (nothing_asked conf workers p turns whole, λ later. refl, λ later. refl)
 
-pub goes_on : {A : Type 0} (conf : Conf) (workers : ℕ) (p o q : Bearer) (all ws rest : List Wish) (rs : List Reply) (told to_tell after : List Reply → A) → Midway conf workers p o all (ws ++ rest) told to_tell
-    → GoesOn conf workers o q ws rs → ((later : List Reply) → to_tell (rs ++ later) ≡ after later) → Midway conf workers p q all rest told after
-goes_on conf workers p o q all ws rest rs told to_tell after m g next = (
-  m.0 ++ ws,
-  m.1 ++ rs,
-  more conf workers p o q m.0 ws m.1 rs m.2 g,
-  append_assoc m.0 ws rest ∙ m.3,
-  λ later. ap told (append_assoc m.1 rs later) ∙ (m.4 (rs ++ later) ∙ next later),
+pub goes_on : {A : Type 0} (conf : Conf) (workers : ℕ) (p o q : Bearer) (turns rest after : List Reply → Turn) (told to_tell still : List Reply → A) → Midway conf workers p o turns rest told to_tell
+    → (s : Reaches conf workers o q rest) → ((later : List Reply) → rest (s.replies ++ later) ≡ after later) → ((later : List Reply) → to_tell (s.replies ++ later) ≡ still later)
+    → Midway conf workers p q turns after told still
+goes_on conf workers p o q turns rest after told to_tell still m s goes next = (
+  more_asked conf workers p o q turns rest m.0 m.1 s,
+  λ later. ap turns (append_assoc m.0.replies s.replies later) ∙ (m.1 (s.replies ++ later) ∙ goes later),
+  λ later. ap told (append_assoc m.0.replies s.replies later) ∙ (m.2 (s.replies ++ later) ∙ next later),
 )
 
--- what was made, where the rest is left
-pub reached : {A : Type 0} (conf : Conf) (workers : ℕ) (p q : Bearer) (all rest : List Wish) (told to_tell : List Reply → A) → Midway conf workers p q all rest told to_tell → Reaches conf workers p q all
-reached conf workers p q all rest told to_tell m = record { made = m.0; later = rest; parts = m.3; replies = m.1; goes = m.2 }
-
--- all was made
-pub ends : {A : Type 0} (conf : Conf) (workers : ℕ) (p q : Bearer) (all rest : List Wish) (told to_tell : List Reply → A) → Midway conf workers p q all rest told to_tell → rest ≡ [] → Tells conf workers p q all told (to_tell [])
-ends conf workers p q all rest told to_tell m none = (
-  m.1,
-  subst (λ (ws : List Wish). GoesOn conf workers p q ws m.1) (sym (append-nil m.0) ∙ (ap (λ (l : List Wish). m.0 ++ l) (sym none) ∙ m.3)) m.2,
-  sym (m.4 []) ∙ ap told (append-nil m.1),
-)
+-- all was asked
+pub ends : {A : Type 0} (conf : Conf) (workers : ℕ) (p q : Bearer) (turns rest : List Reply → Turn) (told to_tell : List Reply → A) → Midway conf workers p q turns rest told to_tell → rest [] ≡ Over [] → Tells conf workers p q turns told (to_tell [])
+ends conf workers p q turns rest told to_tell m over = record {
+  asked = m.0;
+  over = ap turns (sym (append-nil m.0.replies)) ∙ (m.1 [] ∙ over);
+  is = sym (m.2 []) ∙ ap told (append-nil m.0.replies);
+}

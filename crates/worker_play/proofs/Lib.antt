@@ -1,4 +1,6 @@
+pub mod Turns
 pub mod Going
+pub mod Forms
 pub mod Keys
 pub mod Retiring
 pub mod Steps

@@ -3,25 +3,30 @@ use Rattle.std.specs.Prelude.{◌≡◌, ℕ, List, [], ◌∷◌, ◌++◌, map
 use Rattle.atomic_table.specs.Seated.{TableId}
 use Rattle.apcu_model.specs.declared.conf.Conf.{Conf}
 use Rattle.apcu_model.specs.declared.request.Request.TheVariants as requests
+use Rattle.apcu_model.specs.declared.request.Reply.{Reply}
+use Rattle.apcu_model.specs.declared.request.Reply.TheVariants.{Ended}
 use Rattle.pin_table.specs.Values.{Bearer}
 use Rattle.script_read.specs.declared.script.Step.{Step}
 use Rattle.script_read.specs.Play.{Wish}
-use Rattle.play_laws.specs.Own.{own_replies, wish_in, asked_by, all_asked}
+use Rattle.play_laws.specs.Own.{own_replies, wish_in, AreInTurn, HasPlayed}
 use Rattle.reply_text.specs.Lines.{script_lines}
 use Rattle.worker_play.specs.Goes.{wish, KnowsOwnEvents}
+use Rattle.worker_play.specs.Turns.{turns_of, wanted_in}
 
--- The worker asked all that its script asks, in order, and then its end. The text has a line for
--- each call, made of the worker's own replies in what it has seen.
+-- The worker asked all that its script wants, its end included. The text has a line for each call,
+-- made of the worker's own replies in what it has seen.
 pub record PlaysOut (conf : Conf) (script : List Step) (b : Bearer) (text : List ℕ) : Type 0 where
-  pub asked : map wish_in b.known.own ≡ all_asked script
+  pub played : HasPlayed conf script (map wish_in b.known.own)
+      (own_replies conf b.known.worker b.known.seen)
   pub lines : text ≡ script_lines conf script (own_replies conf b.known.worker b.known.seen)
 
--- It asked some first of what its script asks, in order, and then its end.
-pub record Asked (script : List Step) (b : Bearer) : Type 0 where
+-- It asked some first of what the calls of its script want, in turn, and then its end.
+pub record Asked (conf : Conf) (script : List Step) (b : Bearer) : Type 0 where
   pub made : List Wish
-  pub later : List Wish
-  pub parts : made ++ later ≡ asked_by script
+  pub replies : List Reply
+  pub in_turn : AreInTurn (wanted_in (turns_of conf script)) made replies
   pub asked : map wish_in b.known.own ≡ made ++ wish 0 requests.Retire ∷ []
+  pub answered : own_replies conf b.known.worker b.known.seen ≡ replies ++ Ended ∷ []
 
 -- The worker w of the table has ended. Without a text there was no memory for all of its script.
 pub record Ends (t : TableId) (conf : Conf) (w : ℕ) (script : List Step) (b : Bearer)
@@ -29,5 +34,5 @@ pub record Ends (t : TableId) (conf : Conf) (w : ℕ) (script : List Step) (b : 
   pub table : b.table ≡ t
   pub worker : b.known.worker ≡ w
   pub all_own : KnowsOwnEvents b
-  pub begun : Asked script b
+  pub begun : Asked conf script b
   pub plays : IfSome text (λ lines. PlaysOut conf script b lines)

@@ -1,5 +1,5 @@
 -- A pass after some events of its worker, and what is told of their replies.
-use Rattle.std.specs.Prelude.{◌≡◌, ℕ, ◌+◌, true, List, ◌++◌, length, map}
+use Rattle.std.specs.Prelude.{◌≡◌, ℕ, ◌+◌, true, List, [], ◌++◌, length, map}
 use mathlib.Core.List.{IsPrefix}
 use Rattle.apcu_model.specs.declared.conf.Conf.{Conf}
 use Rattle.apcu_model.specs.declared.request.Request.{Request}
@@ -7,16 +7,13 @@ use Rattle.apcu_model.specs.declared.request.Reply.{Reply}
 use Rattle.apcu_model.specs.History.{start_of, all_legal}
 use Rattle.pin_table.specs.Values.{Bearer}
 use Rattle.pin_table.specs.Events.{events_of}
-use Rattle.script_read.specs.Play.{Wish, wish_at}
-use Rattle.play_laws.specs.Own.{own_replies, wish_in}
+use Rattle.script_read.specs.Play.{Wish}
+use Rattle.play_laws.specs.Own.{own_replies, wish_in, AreInTurn}
+use Rattle.worker_play.specs.Turns.{Turn, Over, wanted_in}
 
 -- a request at a moment
 abbrev pub wish : ℕ → Request → Wish
 wish t r = record { request = r; t = t }
-
--- what a call at this moment asks
-abbrev pub wishes_at : ℕ → List Request → List Wish
-wishes_at t requests = map (wish_at t) requests
 
 -- in what the pass has seen its worker's events are its own, all of them
 abbrev pub KnowsOwnEvents : Bearer → Type 0
@@ -39,16 +36,17 @@ pub record GoesOn (conf : Conf) (workers : ℕ) (p q : Bearer) (wishes : List Wi
   pub legal : all_legal workers (start_of conf) p.known.seen ≡ true
       → all_legal workers (start_of conf) q.known.seen ≡ true
 
--- Some first of these wishes were made.
-pub record Reaches (conf : Conf) (workers : ℕ) (p q : Bearer) (wishes : List Wish) : Type 0 where
+-- Some first of what is wanted in these turns was asked.
+pub record Reaches (conf : Conf) (workers : ℕ) (p q : Bearer) (turns : List Reply → Turn)
+    : Type 0 where
   pub made : List Wish
-  pub later : List Wish
-  pub parts : made ++ later ≡ wishes
   pub replies : List Reply
+  pub in_turn : AreInTurn (wanted_in turns) made replies
   pub goes : GoesOn conf workers p q made replies
 
--- All of these wishes were made, and what is told of their replies is this.
-abbrev pub Tells : {A : Type 0} → Conf → ℕ → Bearer → Bearer → List Wish → (List Reply → A) → A
-    → Type 0
-Tells conf workers p q wishes told a =
-    (replies : List Reply) × GoesOn conf workers p q wishes replies × (a ≡ told replies)
+-- All that is wanted in these turns was asked, and what is told of the replies is this.
+pub record Tells {A : Type 0} (conf : Conf) (workers : ℕ) (p q : Bearer)
+    (turns : List Reply → Turn) (told : List Reply → A) (a : A) : Type 0 where
+  pub asked : Reaches conf workers p q turns
+  pub over : turns asked.replies ≡ Over []
+  pub is : a ≡ told asked.replies

@@ -4,11 +4,12 @@
 ghost use Rattle.std.specs.Prelude.{◌≡◌, ◌<◌, ◌^◌, ◌++◌, [], length, map, codes, OnOk};
 ghost use Rattle.apcu_model.specs.declared.request.Request.TheVariants.{Store, Fetch, Exists};
 ghost use Rattle.apcu_model.specs.declared.request.Request.TheVariants.{Delete};
-ghost use Rattle.script_read.specs.Calls.{HasLevels};
-ghost use Rattle.script_read.specs.Play.{requests_of};
+ghost use Rattle.script_read.specs.Calls.{HasLevels, event_bound};
+ghost use Rattle.script_read.specs.Play.{next_of};
 ghost use Rattle.reply_text.specs.Replies.{unstored_text, found_text, there_text, undeleted_text};
 ghost use Rattle.reply_text.specs.Lines.{call_text};
-ghost use Rattle.worker_play.specs.Goes.{wishes_at, KnowsOwnEvents, Reaches, Tells};
+ghost use Rattle.worker_play.specs.Goes.{KnowsOwnEvents, Reaches, Tells};
+ghost use Rattle.worker_play.specs.Turns.{turns_at, asks_at};
 
 use crate::events::{
     cache_info, cas, clear, delete, entry, exists, fetch, inc, key_info, sma_info, store,
@@ -41,12 +42,12 @@ pub(crate) fn play_call<N: TableName, G: Gate, R: Wait>(
 ) -> (Pass, Result<(), AllocError>)
     requires table { pass.table ≡ N.table }
     requires whole { KnowsOwnEvents pass }
-    requires left { length (requests_of call.now) < pass.known.left }
+    requires left { event_bound N.conf.slots call.now < pass.known.left }
     requires levels { HasLevels call.now }
     ensures reaches { Reaches N.conf (length N.budgets) pass result.0
-        (wishes_at t (requests_of call.now)) }
+        (turns_at t (next_of N.conf call.now)) }
     ensures line { OnOk result.1 (Tells N.conf (length N.budgets) pass result.0
-        (wishes_at t (requests_of call.now))
+        (turns_at t (next_of N.conf call.now))
         (λ replies. out.old ++ call_text call.now replies) out.new) }
 {
     match call {
@@ -166,9 +167,9 @@ fn store_all<N: TableName, R: Wait>(
     requires whole { KnowsOwnEvents pass }
     requires left { length pairs.now < pass.known.left }
     ensures reaches { Reaches N.conf (length N.budgets) pass result.0
-        (wishes_at t (map (λ pair. Store pair.0 pair.1 ttl exclusive) pairs.now)) }
+        (asks_at t (map (λ pair. Store pair.0 pair.1 ttl exclusive) pairs.now)) }
     ensures line { OnOk result.1 (Tells N.conf (length N.budgets) pass result.0
-        (wishes_at t (map (λ pair. Store pair.0 pair.1 ttl exclusive) pairs.now))
+        (asks_at t (map (λ pair. Store pair.0 pair.1 ttl exclusive) pairs.now))
         (λ replies. out.old ++ unstored_text (map (λ pair. pair.0) pairs.now) replies) out.new) }
 {
     let mut held = pass;
@@ -201,9 +202,9 @@ fn fetch_all<N: TableName, G: Gate, R: Wait>(
     requires left { length keys.now < pass.known.left }
     requires few { length keys.now < 2 ^ 32 }
     ensures reaches { Reaches N.conf (length N.budgets) pass result.0
-        (wishes_at t (map Fetch keys.now)) }
+        (asks_at t (map Fetch keys.now)) }
     ensures line { OnOk result.1 (Tells N.conf (length N.budgets) pass result.0
-        (wishes_at t (map Fetch keys.now))
+        (asks_at t (map Fetch keys.now))
         (λ replies. out.old ++ found_text keys.now replies) out.new) }
 {
     let mut held = pass;
@@ -232,9 +233,9 @@ fn look_for_all<N: TableName, R: Wait>(
     requires whole { KnowsOwnEvents pass }
     requires left { length keys.now < pass.known.left }
     ensures reaches { Reaches N.conf (length N.budgets) pass result.0
-        (wishes_at t (map Exists keys.now)) }
+        (asks_at t (map Exists keys.now)) }
     ensures line { OnOk result.1 (Tells N.conf (length N.budgets) pass result.0
-        (wishes_at t (map Exists keys.now))
+        (asks_at t (map Exists keys.now))
         (λ replies. out.old ++ there_text keys.now replies) out.new) }
 {
     let mut held = pass;
@@ -263,9 +264,9 @@ fn delete_all<N: TableName, R: Wait>(
     requires whole { KnowsOwnEvents pass }
     requires left { length keys.now < pass.known.left }
     ensures reaches { Reaches N.conf (length N.budgets) pass result.0
-        (wishes_at t (map Delete keys.now)) }
+        (asks_at t (map Delete keys.now)) }
     ensures line { OnOk result.1 (Tells N.conf (length N.budgets) pass result.0
-        (wishes_at t (map Delete keys.now))
+        (asks_at t (map Delete keys.now))
         (λ replies. out.old ++ undeleted_text keys.now replies) out.new) }
 {
     let mut held = pass;

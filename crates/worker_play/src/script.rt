@@ -3,10 +3,10 @@
 ghost use Rattle.std.specs.Prelude.{◌≡◌, ℕ, ◌<◌, ◌++◌, List, [], length, map, sum, IfOk, OnOk};
 ghost use Rattle.script_read.specs.Calls.{HasLevels, event_bound};
 ghost use Rattle.script_read.specs.Grammar.{ends_line};
-ghost use Rattle.script_read.specs.Play.{requests_of};
-ghost use Rattle.play_laws.specs.Own.{asked_by};
+ghost use Rattle.script_read.specs.Play.{next_of};
 ghost use Rattle.reply_text.specs.Lines.{call_text, script_lines};
-ghost use Rattle.worker_play.specs.Goes.{wishes_at, KnowsOwnEvents, Reaches, Tells};
+ghost use Rattle.worker_play.specs.Goes.{KnowsOwnEvents, Reaches, Tells};
+ghost use Rattle.worker_play.specs.Turns.{turns_at, turns_of};
 ghost use Rattle.worker_play.specs.declared.script.PlayFault.TheVariants.{Memory};
 
 use crate::calls::play_call;
@@ -47,12 +47,12 @@ fn play_step<N: TableName, G: Gate, R: Wait>(
 ) -> (Pass, Result<(), AllocError>)
     requires table { pass.table ≡ N.table }
     requires whole { KnowsOwnEvents pass }
-    requires left { length (requests_of step.now.call) < pass.known.left }
+    requires left { event_bound N.conf.slots step.now.call < pass.known.left }
     requires levels { HasLevels step.now.call }
     ensures reaches { Reaches N.conf (length N.budgets) pass result.0
-        (wishes_at step.now.t (requests_of step.now.call)) }
+        (turns_at step.now.t (next_of N.conf step.now.call)) }
     ensures line { OnOk result.1 (Tells N.conf (length N.budgets) pass result.0
-        (wishes_at step.now.t (requests_of step.now.call))
+        (turns_at step.now.t (next_of N.conf step.now.call))
         (λ replies. out.old ++ (call_text step.now.call replies ++ ends_line)) out.new) }
 {
     gate.reached(pass.worker(), Point::Before(number));
@@ -83,9 +83,10 @@ fn play_steps<N: TableName, G: Gate, R: Wait>(
     requires whole { KnowsOwnEvents pass }
     requires left { sum (map (λ step. event_bound N.conf.slots step.call) script.now)
         < pass.known.left }
-    ensures reaches { Reaches N.conf (length N.budgets) pass result.0 (asked_by script.now) }
+    ensures reaches { Reaches N.conf (length N.budgets) pass result.0
+        (turns_of N.conf script.now) }
     ensures lines { OnOk result.1 (Tells N.conf (length N.budgets) pass result.0
-        (asked_by script.now)
+        (turns_of N.conf script.now)
         (λ replies. out.old ++ script_lines N.conf script.now replies) out.new) }
 {
     let mut held = pass;
@@ -113,8 +114,8 @@ fn play_steps<N: TableName, G: Gate, R: Wait>(
 /// value that is copied, between its fetch and its copy.
 ///
 /// The pass has made no event, and may make one more than all calls of the script may. It comes
-/// back with the events that are left. Its worker's events are then what the calls asked, in their
-/// order, and its replies are those of one thread at the events' places in what the pass has seen.
+/// back with the events that are left. Its worker has asked in turn what the calls want after its
+/// replies, and those are the ones of one thread at the events' places in what the pass has seen.
 ///
 /// Without memory the worker stops: some first of the events were made, and they stand.
 pub fn play_script<N: TableName, G: Gate, R: Wait>(
@@ -132,9 +133,10 @@ pub fn play_script<N: TableName, G: Gate, R: Wait>(
     requires none_seen { KnowsOwnEvents pass }
     requires left { sum (map (λ step. event_bound conf.now.slots step.call) script.now)
         < pass.known.left }
-    ensures reaches { Reaches N.conf (length N.budgets) pass result.0 (asked_by script.now) }
+    ensures reaches { Reaches N.conf (length N.budgets) pass result.0
+        (turns_of N.conf script.now) }
     ensures lines { IfOk result.1 (λ out. Tells N.conf (length N.budgets) pass result.0
-        (asked_by script.now) (script_lines conf.now script.now) out) }
+        (turns_of N.conf script.now) (script_lines conf.now script.now) out) }
 {
     let _ = conf;
     let mut out = ByteOut::new(alloc);

@@ -1,7 +1,8 @@
 use Rattle.std.proofs.Common.{◌≡◌, ◌<◌, [], length, map, drop}
 use Rattle.apcu_model.specs.declared.request.Request.TheVariants.{Exists}
 use Rattle.reply_text.specs.Replies.{all_noted, there_in}
-use Rattle.worker_play.specs.Goes.{wishes_at, KnowsOwnEvents}
+use Rattle.worker_play.specs.Goes.{KnowsOwnEvents}
+use Rattle.worker_play.specs.Turns.{asks_at}
 use Rattle.worker_play.proofs.Going.{Midway}
 use Rattle.worker_play.proofs.calls.look_for_all.Given as goal
 
@@ -12,5 +13,5 @@ invariant-loop-key g l =
       table : l.held.table ≡ g.N.TableName.table;
       whole : KnowsOwnEvents l.held;
       left : length rest < l.held.known.left;
-      midway : Midway g.N.TableName.conf (length g.N.TableName.budgets) l.fn.pass l.held (wishes_at l.t (map Exists l.keys)) (wishes_at l.t (map Exists rest)) (all_noted there_in [] l.keys) (all_noted there_in l.there rest);
+      midway : Midway g.N.TableName.conf (length g.N.TableName.budgets) l.fn.pass l.held (asks_at l.t (map Exists l.keys)) (asks_at l.t (map Exists rest)) (all_noted there_in [] l.keys) (all_noted there_in l.there rest);
     }

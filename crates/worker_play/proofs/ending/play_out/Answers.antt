@@ -1,6 +1,6 @@
 use Rattle.std.proofs.Common.{◌<◌, length, map, subst, ◌∙◌}
 use Rattle.std.specs.Prelude.{sum, IfOk}
-use Rattle.play_laws.specs.Own.{asked_by}
+use Rattle.worker_play.specs.Turns.{turns_of}
 use Rattle.reply_text.specs.Lines.{script_lines}
 use Rattle.worker_play.specs.Goes.{Tells}
 use Rattle.apcu_model.specs.declared.conf.Conf.{Conf}
@@ -19,26 +19,27 @@ pub returns-in-Ok : goal.returns-in-Ok
 returns-in-Ok g c =
     let r = c.play_script-pass.ensures.reaches.goes in
     let f = c.retire-ended.ensures in
-    let laws : OwnLaws = record { more = c.one_event_own.ensures.more; others = c.one_event_own.ensures.others } in
     let none = unanswered g.N.TableName.conf c.args.pass c.requires.none_seen in
+    let laws : OwnLaws = record { more = c.one_event_own.ensures.more; others = c.one_event_own.ensures.others } in
     record {
       table = f.table ∙ (r.table ∙ c.requires.table);
       worker = f.worker ∙ r.worker;
       all_own = f.all_own;
-      begun = has_asked laws g.N.TableName.conf (length g.N.TableName.budgets) c.args.pass c.play_script-pass.result.0 c.retire-ended.result c.args.script.now c.requires.no_event r.all_own c.play_script-pass.ensures.reaches f;
+      begun = has_asked laws g.N.TableName.conf (length g.N.TableName.budgets) c.args.pass c.play_script-pass.result.0 c.retire-ended.result c.args.script.now c.requires.no_event none c.play_script-pass.ensures.reaches f;
       plays = plays_out_of laws g.N.TableName.conf (length g.N.TableName.budgets) c.args.pass c.play_script-pass.result.0 c.retire-ended.result c.args.script.now c.play_script-pass.result.1 c.in-Ok.out
-          c.in-Ok.is c.requires.no_event none (subst (λ (f : Conf). IfOk c.play_script-pass.result.1 (λ out. Tells g.N.TableName.conf (length g.N.TableName.budgets) c.args.pass c.play_script-pass.result.0 (asked_by c.args.script.now) (script_lines f c.args.script.now) out)) c.requires.conf c.play_script-pass.ensures.lines) f;
+          c.in-Ok.is c.requires.no_event none (subst (λ (f : Conf). IfOk c.play_script-pass.result.1 (λ out. Tells g.N.TableName.conf (length g.N.TableName.budgets) c.args.pass c.play_script-pass.result.0 (turns_of g.N.TableName.conf c.args.script.now) (script_lines f c.args.script.now) out)) c.requires.conf c.play_script-pass.ensures.lines) f;
     }
 
 pub returns-in-Err : goal.returns-in-Err
 returns-in-Err g c =
     let r = c.play_script-pass.ensures.reaches.goes in
     let f = c.retire-ended.ensures in
+    let none = unanswered g.N.TableName.conf c.args.pass c.requires.none_seen in
     let laws : OwnLaws = record { more = c.one_event_own.ensures.more; others = c.one_event_own.ensures.others } in
     record {
       table = f.table ∙ (r.table ∙ c.requires.table);
       worker = f.worker ∙ r.worker;
       all_own = f.all_own;
-      begun = has_asked laws g.N.TableName.conf (length g.N.TableName.budgets) c.args.pass c.play_script-pass.result.0 c.retire-ended.result c.args.script.now c.requires.no_event r.all_own c.play_script-pass.ensures.reaches f;
+      begun = has_asked laws g.N.TableName.conf (length g.N.TableName.budgets) c.args.pass c.play_script-pass.result.0 c.retire-ended.result c.args.script.now c.requires.no_event none c.play_script-pass.ensures.reaches f;
       plays = tt;
     }

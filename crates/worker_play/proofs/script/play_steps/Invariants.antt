@@ -1,9 +1,9 @@
 use Rattle.std.proofs.Common.{◌≡◌, ◌<◌, ◌++◌, length, map, drop}
 use Rattle.std.specs.Prelude.{sum}
 use Rattle.script_read.specs.Calls.{event_bound}
-use Rattle.play_laws.specs.Own.{asked_by}
 use Rattle.reply_text.specs.Lines.{script_lines}
 use Rattle.worker_play.specs.Goes.{KnowsOwnEvents}
+use Rattle.worker_play.specs.Turns.{turns_of}
 use Rattle.worker_play.proofs.Going.{Midway}
 use Rattle.worker_play.proofs.script.play_steps.Given as goal
 
@@ -15,5 +15,5 @@ invariant-loop-number g l =
       table : l.held.table ≡ g.N.TableName.table;
       whole : KnowsOwnEvents l.held;
       left : sum (map (λ step. event_bound conf.slots step.call) rest) < l.held.known.left;
-      midway : Midway conf (length g.N.TableName.budgets) l.fn.pass l.held (asked_by l.script) (asked_by rest) (λ replies. l.fn.out ++ script_lines conf l.script replies) (λ later. l.out ++ script_lines conf rest later);
+      midway : Midway conf (length g.N.TableName.budgets) l.fn.pass l.held (turns_of conf l.script) (turns_of conf rest) (λ replies. l.fn.out ++ script_lines conf l.script replies) (λ later. l.out ++ script_lines conf rest later);
     }
