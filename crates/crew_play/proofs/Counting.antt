@@ -1,24 +1,18 @@
 -- Events counted step by step and worker by worker.
 use Rattle.std.proofs.Common.{◌≡◌, ℕ, ◌+◌, List, [], ◌∷◌, ◌++◌, map, drop, slice_get, Some, refl, sym, ap, ◌∙◌, append_assoc}
 use Rattle.std.specs.Prelude.{sum}
-use Rattle.std.proofs.lemmas.List.{drop_more}
-use Rattle.std.proofs.lemmas.List.Sums.{sum-map, sum_by-cons}
-use Rattle.std.proofs.lemmas.Option.{slice_get_within, get_or_from_slice_get}
 use Rattle.script_read.specs.declared.script.Step.{Step}
 use Rattle.script_read.specs.Calls.{event_bound}
+use Rattle.play_laws.specs.Parts.{drop_item, sum_step}
 use Rattle.crew_play.specs.Budgets.{events_in, budgets_of, all_events}
-
--- what a list has from a place on
-item : {A : Type 0} (xs : List A) (i : ℕ) (x : A) → slice_get xs i ≡ Some x → drop i xs ≡ x ∷ drop (i + 1) xs
-item xs i x is = drop_more xs i x (slice_get_within xs i x is) ∙ ap (λ y. y ∷ drop (i + 1) xs) (get_or_from_slice_get xs i x x is)
 
 pub step_counted : (slots : ℕ) (script : List Step) (i : ℕ) (step : Step) → slice_get script i ≡ Some step
     → events_in slots (drop i script) ≡ event_bound slots step.call + events_in slots (drop (i + 1) script)
-step_counted slots script i step is = ap (events_in slots) (item script i step is)
+step_counted slots script i step is = ap (events_in slots) (drop_item script i step is)
 
 pub worker_counted : (slots : ℕ) (scripts : List (List Step)) (w : ℕ) (script : List Step) → slice_get scripts w ≡ Some script
     → all_events slots (drop w scripts) ≡ (events_in slots script + 1) + all_events slots (drop (w + 1) scripts)
-worker_counted slots scripts w script is = ap (all_events slots) (item scripts w script is)
+worker_counted slots scripts w script is = ap (all_events slots) (drop_item scripts w script is)
 
 -- one budget more
 pub budgets_go_on : (slots : ℕ) (scripts : List (List Step)) (w : ℕ) (script : List Step) (all more : List ℕ) (budget : ℕ) → slice_get scripts w ≡ Some script → budget ≡ events_in slots script + 1
@@ -26,10 +20,7 @@ pub budgets_go_on : (slots : ℕ) (scripts : List (List Step)) (w : ℕ) (script
 budgets_go_on slots scripts w script all more budget is its so_far pushed =
     let rest = budgets_of slots (drop (w + 1) scripts) in
     ap (λ (l : List ℕ). l ++ rest) pushed ∙ (append_assoc all (budget ∷ []) rest
-    ∙ (ap (λ n. all ++ n ∷ rest) its ∙ (ap (λ (l : List (List Step)). all ++ budgets_of slots l) (sym (item scripts w script is)) ∙ so_far)))
-
-sum_step : (f : Step → ℕ) (step : Step) (steps : List Step) → sum (map f (step ∷ steps)) ≡ f step + sum (map f steps)
-sum_step f step steps = sum-map f (step ∷ steps) ∙ (sum_by-cons f step steps ∙ ap (λ (n : ℕ). f step + n) (sym (sum-map f steps)))
+    ∙ (ap (λ n. all ++ n ∷ rest) its ∙ (ap (λ (l : List (List Step)). all ++ budgets_of slots l) (sym (drop_item scripts w script is)) ∙ so_far)))
 
 -- the same sum in one word of std
 pub events_sum : (slots : ℕ) (script : List Step) → sum (map (λ (step : Step). event_bound slots step.call) script) ≡ events_in slots script

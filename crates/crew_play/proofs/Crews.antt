@@ -1,6 +1,7 @@
 -- The last of several workers.
 use Rattle.std.proofs.Common.{◌≡◌, ℕ, zero, suc, ◌+◌, ◌-◌, ◌<◌, ◌⊎◌, inl, inr, List, [], ◌∷◌, ◌++◌, length, map, slice_get, slice_index, Option, Some, refl, sym, ap, ◌∙◌, subst, arith, length-append}
 use Rattle.std.specs.Prelude.{sum}
+use Rattle.std.proofs.lemmas.List.{same_from_push}
 use Rattle.std.proofs.lemmas.Option.{slice_get_within}
 use Rattle.atomic_table.specs.Seated.{TableId}
 use Rattle.apcu_model.specs.declared.conf.Conf.{Conf}
@@ -15,20 +16,12 @@ use Rattle.crew_play.proofs.Counting.{events_sum}
 
 -- ---- passes
 
-last_apart : {A : Type 0} (xs ys : List A) (x y : A) → xs ++ x ∷ [] ≡ ys ++ y ∷ [] → (xs ≡ ys) × (x ≡ y)
-last_apart [] [] x y h = (refl, cc (h))
-last_apart [] (b ∷ []) x y h = absurd (cc (h))
-last_apart [] (b ∷ c ∷ ys) x y h = absurd (cc (h))
-last_apart (a ∷ []) [] x y h = absurd (cc (h))
-last_apart (a ∷ c ∷ xs) [] x y h = absurd (cc (h))
-last_apart (a ∷ xs) (b ∷ ys) x y h = let rest = last_apart xs ys x y (cc (h)) in (cc (h, rest.0), rest.1)
-
 pub fresh_last : (t : TableId) (bs : List ℕ) (n : ℕ) (ps : List Bearer) (p : Bearer) → 0 < n → fresh t bs n ≡ ps ++ p ∷ []
     → (ps ≡ fresh t bs (n - 1)) × (p ≡ fresh_pass t bs (n - 1))
 fresh_last t bs zero ps p some h = absurd (omega arith)
 fresh_last t bs (suc n) ps p some h =
     let e : suc n - 1 ≡ n = omega arith in
-    let s = last_apart ps (fresh t bs n) p (fresh_pass t bs n) (sym h) in
+    let s = same_from_push ps (fresh t bs n) p (fresh_pass t bs n) (sym h) in
     rw e (s.0, s.1)
 
 pub fresh_some : (t : TableId) (bs : List ℕ) (n : ℕ) → 0 < n → fresh t bs n ≡ [] → ⊥

@@ -1,13 +1,14 @@
 -- All workers have ended: their history is a play.
-use Rattle.std.proofs.Common.{◌≡◌, ℕ, zero, suc, ◌+◌, ◌<◌, ◌≤◌, inl, inr, Bool, true, false, cond, List, [], ◌∷◌, ◌++◌, length, map, slice_get, Option, Some, refl, sym, ap, ap₂, ◌∙◌, subst, arith, length-append}
+use Rattle.std.proofs.Common.{◌≡◌, ℕ, zero, suc, ◌+◌, ◌<◌, ◌≤◌, inl, inr, true, false, List, [], ◌∷◌, ◌++◌, length, map, slice_get, Option, Some, refl, sym, ap, ap₂, ◌∙◌, subst, arith, length-append}
 use Rattle.std.specs.Prelude.{◌==◌}
 use Rattle.std.proofs.lemmas.Option.{slice_get_within}
-use Rattle.std.proofs.lemmas.List.{length-map}
+use Rattle.std.proofs.lemmas.List.{length-map, nil_from_length}
 use Rattle.std.proofs.lemmas.Bool.{or_left, or_right, or_cases, eqb-true, eq-eqb, false≢true, cases_Bool}
 use mathlib.Core.List.{IsPrefix}
 use Rattle.atomic_table.specs.Seated.{TableId}
 use Rattle.apcu_model.specs.declared.conf.Conf.{Conf}
 use Rattle.apcu_model.specs.declared.event.Event.{Event}
+use Rattle.apcu_model.specs.declared.request.Reply.{Reply}
 use Rattle.apcu_model.specs.History.{start_of, all_legal, marks_of}
 use Rattle.pin_table.specs.Values.{Bearer}
 use Rattle.pin_table.specs.Events.{events_of}
@@ -16,7 +17,8 @@ use Rattle.pin_table.specs.Views.{is_among}
 use Rattle.script_read.specs.declared.script.Step.{Step}
 use Rattle.script_read.specs.Play.{played, IsCompletePlay}
 use Rattle.reply_text.specs.Lines.{script_lines}
-use Rattle.play_laws.specs.Own.{own_replies, wish_in, all_asked}
+use Rattle.play_laws.specs.Own.{own_replies, wish_in, HasPlayed}
+use Rattle.play_laws.specs.Parts.{events-append}
 use Rattle.play_laws.specs.Whole.{IsPlayedOut, replies_from, told_by}
 use Rattle.shared_cache.specs.declared.closed.Closed.{Closed}
 use Rattle.shared_cache.specs.Closing.{IsClosed}
@@ -76,19 +78,6 @@ none_else t conf scripts ended texts all w past = elim (cases_Bool (is_among w (
 
 -- ---- what each was answered
 
-events-append : (w : ℕ) (xs ys : List Event) → events_of w (xs ++ ys) ≡ events_of w xs ++ events_of w ys
-events-append w [] ys = refl
-events-append w (x ∷ xs) ys = go (x.worker == w) (events-append w xs ys)
-  where
-    go : (b : Bool) → events_of w (xs ++ ys) ≡ events_of w xs ++ events_of w ys
-        → cond b (x ∷ events_of w (xs ++ ys)) (events_of w (xs ++ ys)) ≡ cond b (x ∷ events_of w xs) (events_of w xs) ++ events_of w ys
-    go true h = ap (λ (l : List Event). x ∷ l) h
-    go false h = h
-
-nothing : {A : Type 0} (xs : List A) → length xs ≡ 0 → xs ≡ []
-nothing [] h = refl
-nothing (x ∷ xs) h = absurd (omega (arith, h))
-
 -- events of others change nothing of a worker's replies
 pub record OthersLaw : Type 0 where
   pub others : (conf : Conf) (w : ℕ) (history between : List Event) → events_of w between ≡ []
@@ -101,7 +90,7 @@ replies_whole law conf w seen history own prefix mine all =
     let rest = prefix.0 in
     let parts : events_of w history ≡ events_of w seen ++ events_of w rest = ap (events_of w) (sym prefix.1) ∙ events-append w seen rest in
     let none : events_of w rest ≡ [] =
-    nothing (events_of w rest) (omega (arith, ap length parts, length-append (events_of w seen) (events_of w rest), ap length mine, ap length all)) in
+    nil_from_length (events_of w rest) (omega (arith, ap length parts, length-append (events_of w seen) (events_of w rest), ap length mine, ap length all)) in
     sym (law.others conf w seen rest none) ∙ ap (own_replies conf w) prefix.1
 
 -- the lines of each worker, from the worker w on
@@ -129,7 +118,7 @@ get-map_some (y ∷ ys) (suc k) x h = get-map_some ys k x h
 
 -- a worker that ended after all of its script
 record IsOut (conf : Conf) (script : List Step) (w : ℕ) (history : List Event) (text : List ℕ) : Type 0 where
-  asked : map wish_in (events_of w history) ≡ all_asked script
+  played : HasPlayed conf script (map wish_in (events_of w history)) (own_replies conf w history)
   lines : text ≡ script_lines conf script (own_replies conf w history)
 
 out : OthersLaw → (t : TableId) (conf : Conf) (workers : ℕ) (scripts : List (List Step)) (ended : List Bearer) (texts : List (List ℕ)) (closed : Closed) → AllEnd t conf scripts (length scripts) ended (map Some texts) → (c : IsClosed conf workers ended closed)
@@ -138,11 +127,12 @@ out law t conf workers scripts ended texts closed all c k script text hs ht =
     let b = get_some ended k (omega (arith, slice_get_within scripts k script hs, all.have_ended)) in
     let e = all.each k script b.0 (Some text) hs b.1 (get-map_some texts k text ht) in
     let whole : events_of k c.history ≡ b.0.known.own = ap (λ v. events_of v c.history) (sym e.worker) ∙ c.own k b.0 b.1 in
-    let replies : own_replies conf b.0.known.worker b.0.known.seen ≡ own_replies conf b.0.known.worker c.history =
-    replies_whole law conf b.0.known.worker b.0.known.seen c.history b.0.known.own (c.seen k b.0 b.1) e.all_own (c.own k b.0 b.1) in
+    let had : own_replies conf b.0.known.worker b.0.known.seen ≡ own_replies conf k c.history =
+    replies_whole law conf b.0.known.worker b.0.known.seen c.history b.0.known.own (c.seen k b.0 b.1) e.all_own (c.own k b.0 b.1) ∙ ap (λ v. own_replies conf v c.history) e.worker in
     record {
-      asked = ap (map wish_in) whole ∙ e.plays.asked;
-      lines = e.plays.lines ∙ (ap (script_lines conf script) replies ∙ ap (λ v. script_lines conf script (own_replies conf v c.history)) e.worker);
+      played = subst (λ (rs : List Reply). HasPlayed conf script (map wish_in (events_of k c.history)) rs) had
+          (subst (λ (own : List Event). HasPlayed conf script (map wish_in own) (own_replies conf b.0.known.worker b.0.known.seen)) (sym whole) e.plays.played);
+      lines = e.plays.lines ∙ ap (script_lines conf script) had;
     }
 
 pub record PlayLaws : Type 0 where
@@ -160,7 +150,7 @@ is_played law laws t conf workers scripts ended texts closed count all c =
       legal = subst (λ n. all_legal n (start_of conf) c.history ≡ true) count c.legal;
       asked = λ w script hs.
           let x = get_some texts w (omega (arith, slice_get_within scripts w script hs, has)) in
-          (o w script x.0 hs x.1).asked;
+          (o w script x.0 hs x.1).played;
       others = λ w past. c.others w (none_else t conf scripts ended (map Some texts) all w past);
     } in
     record {

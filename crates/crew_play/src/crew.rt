@@ -5,7 +5,6 @@ ghost use Rattle.std.specs.Prelude.{vec_capacity, Some};
 ghost use Rattle.std.specs.Thread.{IsSync};
 ghost use Rattle.script_read.specs.Calls.{event_bound};
 ghost use Rattle.pin_table.specs.Lists.{fresh};
-ghost use Rattle.script_read.specs.contracts.script.Scripts as kept_scripts;
 ghost use Rattle.crew_play.specs.Budgets.{budgets_of};
 ghost use Rattle.crew_play.specs.Crew.{AllEnd};
 ghost use Rattle.worker_play.specs.Ends.{Ends};
@@ -14,7 +13,7 @@ use apcu_model::Conf;
 use io_edges::Gate;
 use notation::ByteOut;
 use pin_table::{Ended, EndedList, Pass, Passes, TableName};
-use script_read::{Script, Scripts};
+use script_read::{Script, Scripts, scripts_cross};
 use shared_cache::Shared;
 use std::alloc::Global;
 use std::sync::Wait;
@@ -111,9 +110,3 @@ pub(crate) fn play_crew<N: TableName + Send + Sync, G: Gate + Sync, R: Threads +
     texts.push_reserved(text);
     (ended, texts)
 }
-
-// Scripts may be read on any thread. The proof that a crew is played on threads of its own cites
-// it.
-fn scripts_cross()
-    ensures { IsSync kept_scripts.the_row }
-{}

@@ -4,7 +4,6 @@ ghost use Rattle.std.specs.Prelude.{◌≡◌, ◌≤◌, [], ◌∷◌, length,
 ghost use Rattle.std.specs.Thread.{IsSync};
 ghost use Rattle.pin_table.specs.Lists.{fresh, fresh_pass, known_list};
 ghost use Rattle.pin_table.specs.Views.{is_among};
-ghost use Rattle.script_read.specs.contracts.script.Script as kept_script;
 ghost use Rattle.worker_play.specs.Goes.{KnowsOwnEvents};
 
 use crate::gates::Noting;
@@ -13,7 +12,7 @@ use apcu_model::Journal;
 use io_edges::{Gate, Point};
 use notation::ByteOut;
 use pin_table::{Pass, Passes, TableName};
-use script_read::Script;
+use script_read::{Script, scripts_cross};
 use shared_cache::{Closed, Fresh, open_cache};
 use std::alloc::Global;
 use std::marker::Brand;
@@ -33,11 +32,6 @@ fn two_passes<N: TableName>(passes: &mut Passes) -> Option<(Pass, Pass)>
     let first = passes.pop()?;
     Some((first, second))
 }
-
-// A script may be read on any thread.
-fn script_crosses()
-    ensures { IsSync kept_script.the_row }
-{}
 
 // Both play their scripts, then the first one ends, and the second one.
 fn plays_both<N: TableName + Send + Sync, G: Gate + Sync, R: Threads + Wait + Sync>(
@@ -60,7 +54,7 @@ fn plays_both<N: TableName + Send + Sync, G: Gate + Sync, R: Threads + Wait + Sy
     requires budgets { N.budgets ≡ fresh.budgets }
     requires two { length fresh.budgets ≡ 2 }
 {
-    script_crosses();
+    scripts_cross();
     let (shared, mut passes, mut ended) = fresh.name::<N>();
     let (first, second) = two_passes::<N>(&mut passes)?;
     let (a, b) = join(
