@@ -45,7 +45,7 @@ fn step_of(chunk: &Chunk) -> Option<Step> {
 }
 
 // One step over a list, from the first slot on; the pass has at most one event less.
-fn step<N: TableName, R: Wait>(
+fn one_step<N: TableName, R: Wait>(
     rt: &R,
     alloc: Global,
     shared: &Shared<N>,
@@ -106,7 +106,7 @@ fn iterate<N: TableName, R: Wait>(
     let (shared, mut passes, _) = fresh.name::<N>();
     let (first, second) = two_passes::<N>(&mut passes)?;
     let (first, _) = put(rt, &shared, first, b"a", value, false);
-    let (_, step) = step(rt, alloc, &shared, second, search, List::Active, ALL);
+    let (_, step) = one_step(rt, alloc, &shared, second, search, List::Active, ALL);
     let (_, sum) = sums(rt, alloc, &shared, first, search);
     Some(Told { step, sum })
 }
@@ -183,7 +183,7 @@ fn wait<N: TableName, R: Wait>(
         return None;
     };
     let (second, _) = shared.delete(rt, second, b"a", 0);
-    let (second, deleted) = step(
+    let (second, deleted) = one_step(
         rt,
         alloc,
         &shared,
