@@ -17,13 +17,13 @@ use Rattle.apcu_model.specs.Walk.{slot_of, is_in_slot, in_slot_order}
 use Rattle.ttl_expunge.specs.Lists.{row_places}
 use Rattle.apcu_iter.specs.declared.summing.Sums.{Sums}
 use Rattle.apcu_iter.specs.Adding.{within, with_rows, no_sums, sums_of_both}
-use Rattle.apcu_iter.specs.Choosing.{Choice, is_chosen, items_of}
+use Rattle.apcu_iter.specs.Choosing.{Choice, is_chosen, chosen_items}
 use Rattle.apcu_iter.proofs.Slots.{flat_last, is_between, between_is, all_slots, length_ordered}
 
 -- ---- lists
 
 pub items_joined : (choice : Choice) (fields : Fields) (xs ys : List Row)
-    → items_of choice fields (xs ++ ys) ≡ items_of choice fields xs ++ items_of choice fields ys
+    → chosen_items choice fields (xs ++ ys) ≡ chosen_items choice fields xs ++ chosen_items choice fields ys
 items_joined choice fields xs ys =
     ap (map (item_of fields)) (filter-append (is_chosen choice) xs ys)
     ∙ map-append (item_of fields) (filter (is_chosen choice) xs) (filter (is_chosen choice) ys)

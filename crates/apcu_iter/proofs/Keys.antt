@@ -28,7 +28,7 @@ use Rattle.apcu_model.specs.declared.searching.Pattern.{Pattern}
 use Rattle.apcu_model.specs.Matching.{key_matches}
 use Rattle.apcu_iter.specs.Choosing.{Choice, is_left_out, is_chosen}
 use Rattle.apcu_iter.specs.Laws.{IterLaws}
-use Rattle.apcu_iter.specs.Reading.{IsKeyAt}
+use Rattle.apcu_iter.specs.Reading.{HasKeyAt}
 
 pub key_back : ((bytes rest : List ℕ) → AreBytes bytes
     → take (length bytes) (bytes_of (words_of bytes ++ rest)) ≡ bytes)
@@ -57,7 +57,7 @@ words_few e words aside s stand =
 pub key_here : IterLaws → (e : EntrySlots) (words : List ℕ) (aside : Aside) (s : Entries) (at : ℕ)
     (head : Head) (row : Row) → Stands e words aside s → IsListed s at row
     → IsHeadOf words aside.windows head row
-    → IsKeyAt words aside.windows (at + HEAD_WORDS) head.key_len row.key
+    → HasKeyAt words aside.windows (at + HEAD_WORDS) head.key_len row.key
 key_here laws e words aside s at head row stand is said =
     let entry = entry_is e words aside s stand row is.there in
     let there : has_place at (listed s) ≡ true =
@@ -77,7 +77,7 @@ pub record IsRowHere (s : Entries) (words windows : List ℕ) (at : ℕ) (head :
   pub row : Row
   pub is : IsListed s at row
   pub said : IsHeadOf words windows head row
-  pub key : IsKeyAt words windows (at + HEAD_WORDS) head.key_len row.key
+  pub key : HasKeyAt words windows (at + HEAD_WORDS) head.key_len row.key
   pub room : at + HEAD_WORDS ≤ 16777216
   pub short : length row.key < 2 ^ 32
 

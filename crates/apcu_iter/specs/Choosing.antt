@@ -30,8 +30,8 @@ abbrev pub is_chosen : Choice → Row → Bool
 is_chosen choice row = not (is_left_out choice row) && key_matches choice.pattern row.key
 
 -- what it gives of rows
-abbrev pub items_of : Choice → Fields → List Row → List ItemRow
-items_of choice fields rows = map (item_of fields) (filter (is_chosen choice) rows)
+abbrev pub chosen_items : Choice → Fields → List Row → List ItemRow
+chosen_items choice fields rows = map (item_of fields) (filter (is_chosen choice) rows)
 
 -- a cache with these entries, in which nothing was counted
 abbrev pub uncounted : Entries → Cache

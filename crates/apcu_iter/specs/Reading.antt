@@ -6,7 +6,7 @@ use Rattle.value_image.specs.Packed.{words_of}
 use Rattle.value_image.specs.Rows.{IsToldAt}
 
 -- the key of so many bytes stands there, and can be read
-pub record IsKeyAt (words windows : List ℕ) (at len : ℕ) (key : List ℕ) : Type 0 where
+pub record HasKeyAt (words windows : List ℕ) (at len : ℕ) (key : List ℕ) : Type 0 where
   pub stands : IsToldAt words windows at (words_of key)
   pub bytes : AreBytes key
   pub count : length key ≡ len

@@ -6,7 +6,7 @@ ghost use Rattle.apcu_model.specs.Cache.{Row};
 ghost use Rattle.entry_slots.specs.Lists.{has_place};
 ghost use Rattle.entry_slots.specs.Entries.{IsListed, chain_of, listed};
 ghost use Rattle.entry_slots.specs.Standing.{Stand, entries};
-ghost use Rattle.apcu_iter.specs.Choosing.{items_of};
+ghost use Rattle.apcu_iter.specs.Choosing.{chosen_items};
 
 use crate::entry::item_at;
 use crate::lower::lower_laws;
@@ -29,7 +29,7 @@ fn add_item<S: Segment>(
     requires stand { Stand S.WordsIn slots.now seg.old }
     requires there { has_place at (listed (entries slots.now)) ≡ true }
     ensures items { (row : Row) → IsListed (entries slots.now) at row → OnOk result
-        (items.new.items ≡ items.old.items ++ items_of test.old fields (row ∷ [])) }
+        (items.new.items ≡ items.old.items ++ chosen_items test.old fields (row ∷ [])) }
     ensures test { test.new ≡ test.old }
     ensures kept { Kept S.WordsIn seg.old seg.new }
 {
@@ -52,7 +52,7 @@ pub(crate) fn list_slot<S: Segment>(
     requires stand { Stand S.WordsIn slots.now seg.old }
     requires slot { slot < (entries slots.now).conf.slots }
     ensures items { OnOk result (items.new.items
-        ≡ items.old.items ++ items_of test.old fields (chain_of (entries slots.now) slot)) }
+        ≡ items.old.items ++ chosen_items test.old fields (chain_of (entries slots.now) slot)) }
     ensures test { test.new ≡ test.old }
     ensures kept { Kept S.WordsIn seg.old seg.new }
 {
@@ -78,7 +78,7 @@ pub(crate) fn list_removed<S: Segment>(
 ) -> Result<Vec<ItemRow>, AllocError>
     requires stand { Stand S.WordsIn slots.now seg.old }
     ensures items { IfOk result
-        (λ items. items.items ≡ items_of test.old fields (entries slots.now).removed) }
+        (λ items. items.items ≡ chosen_items test.old fields (entries slots.now).removed) }
     ensures test { test.new ≡ test.old }
     ensures kept { Kept S.WordsIn seg.old seg.new }
 {

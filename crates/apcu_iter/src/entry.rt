@@ -14,7 +14,7 @@ ghost use Rattle.entry_slots.specs.Entries.{IsListed, listed};
 ghost use Rattle.entry_slots.specs.Reading.{HeadIn};
 ghost use Rattle.entry_slots.specs.Standing.{Stand, entries};
 ghost use Rattle.apcu_iter.specs.Choosing.{is_chosen};
-ghost use Rattle.apcu_iter.specs.Reading.{IsKeyAt};
+ghost use Rattle.apcu_iter.specs.Reading.{HasKeyAt};
 
 use crate::lower::lower_laws;
 use crate::row_test::RowTest;
@@ -36,9 +36,9 @@ fn read_key<W: WordsIn>(
     len: u32,
 ) -> Result<Vec<u8>, AllocError>
     requires key { (key : List ℕ)
-        × IsKeyAt (W.words from.old) (W.aside from.old).windows at len key }
+        × HasKeyAt (W.words from.old) (W.aside from.old).windows at len key }
     ensures bytes { (key : List ℕ)
-        → IsKeyAt (W.words from.old) (W.aside from.old).windows at len key
+        → HasKeyAt (W.words from.old) (W.aside from.old).windows at len key
         → IfOk result (λ bytes. bytes.items ≡ key) }
     ensures kept { Kept W.WordsIn from.old from.new }
 {

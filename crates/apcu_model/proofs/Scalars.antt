@@ -7,7 +7,7 @@ use Rattle.php_graph.specs.declared.places.Place.{Place}
 use Rattle.php_graph.specs.Graph.{IsGraph, kind_at, end_of, child_end}
 use Rattle.php_graph.specs.Kept.{IsKept, kinds_at, offsets_at}
 use Rattle.apcu_model.specs.Cache.{Row, has_key}
-use Rattle.apcu_model.specs.Counters.{with_integer, integer_at}
+use Rattle.apcu_model.specs.Counters.{with_integer, with_integer_at}
 
 no_target : (n : ℤ) (p x : ℕ) → kind_at (kinds.Int n ∷ []) p ≡ Some (kinds.Same x) → ⊥
 no_target n zero x k = cc
@@ -33,5 +33,5 @@ int_alone n m fits is others none =
     subst (λ (l : List Place). IsKept (kinds.Int m ∷ kinds_at l) (0 ∷ offsets_at l) 2) (sym none)
     (subst (λ z. IsKept (kinds.Int z ∷ []) (0 ∷ []) 2) (sym is) (int_kept n fits))
 
-pub set_key : (key : List ℕ) (n : ℤ) (t : ℕ) (row : Row) → (integer_at key n t row).key ≡ row.key
+pub set_key : (key : List ℕ) (n : ℤ) (t : ℕ) (row : Row) → (with_integer_at key n t row).key ≡ row.key
 set_key key n t row = elim (has_key key row) as (λ v. (cond v (with_integer n t row) row).key ≡ row.key) [ true ↦ refl | false ↦ refl ]

@@ -30,11 +30,11 @@ abbrev pub with_integer : ℤ → ℕ → Row → Row
 with_integer n t row = record row { graph = kinds.Int n ∷ []; mtime = t }
 
 -- the row of the key holds it, and each other stays
-abbrev pub integer_at : List ℕ → ℤ → ℕ → Row → Row
-integer_at key n t row = if has_key key row then with_integer n t row else row
+abbrev pub with_integer_at : List ℕ → ℤ → ℕ → Row → Row
+with_integer_at key n t row = if has_key key row then with_integer n t row else row
 
 abbrev pub integer_set : List ℕ → ℤ → ℕ → Cache → Cache
-integer_set key n t c = record c { rows = map {A = Row} {B = Row} (integer_at key n t) c.rows }
+integer_set key n t c = record c { rows = map {A = Row} {B = Row} (with_integer_at key n t) c.rows }
 
 -- what comes of counting: the number that it gives, if any, and the cache after it
 pub record Count : Type 0 where

@@ -14,7 +14,8 @@ use Rattle.apcu_model.specs.declared.journal.Mark.{Mark}
 use Rattle.apcu_model.specs.declared.request.Request.{Request}
 use Rattle.apcu_model.specs.declared.request.Request.TheVariants.{Store, Fetch, Exists, Delete}
 use Rattle.apcu_model.specs.declared.request.Request.TheVariants.{Inc, Cas, Entry, Clear, KeyInfo}
-use Rattle.apcu_model.specs.declared.request.Request.TheVariants.{CacheInfo, SmaInfo, Chunk, ChunkDelete}
+use Rattle.apcu_model.specs.declared.request.Request.TheVariants.{CacheInfo, SmaInfo}
+use Rattle.apcu_model.specs.declared.request.Request.TheVariants.{Chunk, ChunkDelete}
 use Rattle.apcu_model.specs.declared.request.Request.TheVariants.{Totals, Retire}
 use Rattle.apcu_model.specs.declared.request.Reply.{Reply}
 use Rattle.apcu_model.specs.Levels.{most_levels}

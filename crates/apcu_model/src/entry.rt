@@ -1,6 +1,6 @@
 ghost use Rattle.std.specs.Prelude.{◌≡◌, ◌+◌, ◌<◌, nat_lt};
 ghost use Rattle.apcu_model.specs.Cache.{extent_of, has_key};
-ghost use Rattle.apcu_model.specs.Counters.{integer_at};
+ghost use Rattle.apcu_model.specs.Counters.{with_integer_at};
 ghost use Rattle.apcu_model.specs.Expiry.{is_expired, is_hard_expired};
 ghost use Rattle.apcu_model.specs.Rows.{touched_at};
 ghost use Rattle.apcu_model.specs.Walk.{is_in_slot};
@@ -102,7 +102,7 @@ impl Entry {
 impl Entry {
     // The row of the key holds this integer, set at the moment t. It takes no memory.
     pub(crate) fn set_integer(&mut self, alloc: Global, key: &[u8], n: i64, t: u64)
-        ensures { self.new ≡ integer_at key.now n t self.old }
+        ensures { self.new ≡ with_integer_at key.now n t self.old }
     {
         if self.has_key(key) {
             self.graph = integer(alloc, n);

@@ -63,8 +63,8 @@ pub fn held_alike()
         → (g : Generator) (t : ℕ) (c : Cache) → entered held g t c ≡ entered other g t c }
 {}
 
-/// After at most 2^22 events, each of at most eight insertions, rows and removed rows of one number have one place, and each worker
-/// has one window.
+/// After at most 2^22 events, each of at most eight insertions, rows and removed rows of one number
+/// have one place, and each worker has one window.
 pub fn numbered()
     ensures { (conf : Conf) (history : List Event) → length history ≤ 4194304
         → are_shallow history ≡ true → IsNumbered (stage_of conf history) }

@@ -5,7 +5,7 @@ ghost use Rattle.std.specs.Prelude.{MatchOption, slice_index_or};
 ghost use Rattle.std.specs.List.{list_any};
 ghost use Rattle.apcu_model.specs.Cache.{Row, extent_of, has_key};
 ghost use Rattle.apcu_model.specs.Change.{with_row};
-ghost use Rattle.apcu_model.specs.Counters.{integer_at};
+ghost use Rattle.apcu_model.specs.Counters.{with_integer_at};
 ghost use Rattle.apcu_model.specs.Expiry.{is_expired, is_hard_expired};
 ghost use Rattle.apcu_model.specs.Rows.{are_apart, touched_at};
 ghost use Rattle.apcu_model.specs.Walk.{is_in_slot};
@@ -55,7 +55,7 @@ pub(crate) fn touch_in(rows: &mut [Entry], key: &[u8], t: u64)
 
 // The key's row holds this integer, set at the moment t.
 pub(crate) fn set_in(rows: &mut [Entry], alloc: Global, key: &[u8], n: i64, t: u64)
-    ensures { rows.new ≡ map (integer_at key.now n t) rows.old }
+    ensures { rows.new ≡ map (with_integer_at key.now n t) rows.old }
 {
     for row in rows.iter_mut() {
         row.set_integer(alloc, key, n, t);

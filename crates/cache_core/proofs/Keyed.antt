@@ -6,7 +6,7 @@ use Rattle.std.proofs.lemmas.Bool.{cases_Bool, eq-eqb, false≢true, false_from_
 use Rattle.seg_words.specs.Windows.{Aside, held_blocks}
 use Rattle.seg_words.specs.Probing.{Goes}
 use Rattle.apcu_model.specs.Cache.{Row, Cache, has_key, risen}
-use Rattle.apcu_model.specs.Counters.{with_integer, integer_at, integer_set}
+use Rattle.apcu_model.specs.Counters.{with_integer, with_integer_at, integer_set}
 use Rattle.apcu_model.specs.Change.{dropped, deleted, cleared}
 use Rattle.apcu_model.specs.Expiry.{live_row}
 use Rattle.apcu_model.specs.Sequential.{touched, looked_up}
@@ -73,9 +73,9 @@ touched_keyed {s} key at t o sound =
 
 -- it holds an integer that was set
 pub set_keyed : {s : Entries} {words windows : List ℕ} (key : List ℕ) (at : ℕ) (n : ℤ) (t : ℕ) → IsOld s key at → IsSound s words windows
-    → map {A = Row} {B = Row} (number_row at n t) s.rows ≡ map {A = Row} {B = Row} (integer_at key n t) s.rows
+    → map {A = Row} {B = Row} (number_row at n t) s.rows ≡ map {A = Row} {B = Row} (with_integer_at key n t) s.rows
 set_keyed {s} key at n t o sound =
-    map_alike (number_row at n t) (integer_at key n t) s.rows (λ row c. ap (λ (b : Bool). if b then with_integer n t row else row) (at_key key at o sound row c))
+    map_alike (number_row at n t) (with_integer_at key n t) s.rows (λ row c. ap (λ (b : Bool). if b then with_integer n t row else row) (at_key key at o sound row c))
 
 -- a core's cache once the row of a key was dropped
 pub core_deleted : (laws : CacheLaws) (old new : Core) {before after : Aside} {words windows : List ℕ} (key : List ℕ) (t at : ℕ) → entries old.slots ≡ entries_of (cache_of old) → IsOld (entries old.slots) key at

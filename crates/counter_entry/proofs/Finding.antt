@@ -14,7 +14,7 @@ use Rattle.apcu_model.specs.declared.request.StoreAnswer.TheVariants as answers
 use Rattle.apcu_model.specs.Cache.{Row, Cache, has_key}
 use Rattle.apcu_model.specs.Expiry.{is_hard_expired, live_row}
 use Rattle.apcu_model.specs.History.{is_scalar}
-use Rattle.apcu_model.specs.Counters.{integer_in, with_integer, integer_at, integer_set, number_if}
+use Rattle.apcu_model.specs.Counters.{integer_in, with_integer, with_integer_at, integer_set, number_if}
 use Rattle.entry_slots.specs.Entries.{HoldsInt}
 use Rattle.entry_slots.specs.Standing.{Stands, entries}
 use Rattle.ttl_expunge.specs.Held.{KeepsOpen}
@@ -148,7 +148,7 @@ set_keeps windows key n t old new is = record {
     c = cache_of old
 
     f : Row → Row
-    f = integer_at key n t
+    f = with_integer_at key n t
 
     place : (row : Row) (b : Bool) → (if b then with_integer n t row else row).place ≡ row.place
     place row true = refl

@@ -4,8 +4,8 @@ ghost use Rattle.max_tree.specs.Marks.{IsMarked};
 
 use crate::row::PAGE;
 
-// The numbers of a whole page as bits: those of the first `count` that are not 0. The highest bit is
-// the last one. No number is skipped, so that the processor need not guess where the last one
+// The numbers of a whole page as bits: those of the first `count` that are not 0. The highest bit
+// is the last one. No number is skipped, so that the processor need not guess where the last one
 // stands.
 pub fn marks_before(numbers: &[u32], start: usize, count: u32) -> u32
     requires { start + PAGE ≤ length numbers.now }

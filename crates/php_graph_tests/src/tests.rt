@@ -391,7 +391,8 @@ fn tables(rt: HostRuntime) -> Result<(), Fail> {
     Ok(())
 }
 
-// A value of an array takes its place with its offset, and its member. A graph holds its first place.
+// A value of an array takes its place with its offset, and its member. A graph holds its first
+// place.
 #[test]
 fn small(rt: HostRuntime) {
     assert!(rt; size_of::<Place>() + size_of::<(Key, Child)>() <= 88);

@@ -67,7 +67,8 @@ fn pins(table: &PinTable, seat: &mut WriterSeat, pass: Pass) -> Copying
     requires pass { pass.table ≡ table.now }
     requires hand { seat.old.desk.book.hand ≡ None }
     requires left { 1 ≤ pass.known.left }
-    requires block { MayPin seat.old.desk.words (slice_set seat.old.desk.windows pass.known.worker 0) 2 }
+    requires block { MayPin seat.old.desk.words
+        (slice_set seat.old.desk.windows pass.known.worker 0) 2 }
     ensures table { seat.new.table ≡ seat.old.table }
     ensures hand { seat.new.desk.book.hand ≡ None }
     ensures made { seat.new.desk.book.made ≡ seat.old.desk.book.made }

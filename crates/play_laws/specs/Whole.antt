@@ -9,8 +9,8 @@ use Rattle.script_read.specs.declared.script.Step.{Step}
 use Rattle.script_read.specs.Play.{Play}
 use Rattle.play_laws.specs.Own.{own_replies, wish_in, HasPlayed}
 
--- Each mask is legal, each worker asks in turn what its script wants after the worker's own replies,
--- until nothing more is wanted, and nobody else asks.
+-- Each mask is legal, each worker asks in turn what its script wants after its own replies, until
+-- nothing more is wanted, and nobody else asks.
 pub record IsPlayedOut (conf : Conf) (scripts : List (List Step)) (history : List Event)
     : Type 0 where
   pub legal : all_legal (length scripts) (start_of conf) history ≡ true

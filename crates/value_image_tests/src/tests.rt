@@ -134,7 +134,8 @@ fn writes_worked_images(rt: HostRuntime) -> Result<(), Fail> {
     Ok(())
 }
 
-// How many places and words the graph has that comes back from its image, if the two images are the same.
+// How many places and words the graph has that comes back from its image, if the two images are
+// the same.
 fn back_from(alloc: Global, g: &Graph) -> Result<Option<(u32, u64)>, AllocError> {
     let words = g.words();
     if words > 1000 {

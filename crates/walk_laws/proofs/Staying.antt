@@ -12,7 +12,7 @@ use Rattle.apcu_model.specs.declared.request.StoreAnswer.TheVariants as answers
 use Rattle.apcu_model.specs.Cache.{Row, Cache, has_key, gap_of}
 use Rattle.apcu_model.specs.Change.{dropped, swept, expired_dropped, expunged, cleared, has_gap, with_room, with_row, put_in, inserted}
 use Rattle.apcu_model.specs.Chunks.{is_in_chunk}
-use Rattle.apcu_model.specs.Counters.{integer_in, integer_at, integer_set, with_integer, sum_of, counted_on, counted_at, is_expected}
+use Rattle.apcu_model.specs.Counters.{integer_in, with_integer_at, integer_set, with_integer, sum_of, counted_on, counted_at, is_expected}
 use Rattle.apcu_model.specs.Expiry.{is_expired, live_row}
 use Rattle.apcu_model.specs.Generators.{filled, given_by, missed_levels, looked_for}
 use Rattle.apcu_model.specs.History.{Stage, start_of, stage_of, held_places, after_event, after_events}
@@ -100,7 +100,7 @@ kept_filled law held value t (level ∷ levels) c =
 touched_key : (key : List ℕ) (t : ℕ) (row : Row) → (touched_at key t row).key ≡ row.key
 touched_key key t row = elim (has_key key row) as (λ v. (cond v (touched t row) row).key ≡ row.key) [ true ↦ refl | false ↦ refl ]
 
-set_key : (key : List ℕ) (n : ℤ) (t : ℕ) (row : Row) → (integer_at key n t row).key ≡ row.key
+set_key : (key : List ℕ) (n : ℤ) (t : ℕ) (row : Row) → (with_integer_at key n t row).key ≡ row.key
 set_key key n t row = elim (has_key key row) as (λ v. (cond v (with_integer n t row) row).key ≡ row.key) [ true ↦ refl | false ↦ refl ]
 
 kept_looked : StaysApart → (key : List ℕ) (t : ℕ) (o : Option Row) (c : Cache) → Kept c (looked_up key t o c)
@@ -116,7 +116,7 @@ kept_looked_for law (level ∷ levels) t c =
     (onward c missed (looked_for levels t missed) (kept_looked law level.key t None c) (kept_looked_for law levels t missed))
 
 kept_set : StaysApart → (key : List ℕ) (n : ℤ) (t : ℕ) (c : Cache) → Kept c (integer_set key n t c)
-kept_set law key n t c = record { shape = refl; apart = λ a. law.changed (integer_at key n t) c.rows (set_key key n t) ∙ a }
+kept_set law key n t c = record { shape = refl; apart = λ a. law.changed (with_integer_at key n t) c.rows (set_key key n t) ∙ a }
 
 kept_counted_on : StaysApart → (key : List ℕ) (step : ℤ) (t : ℕ) (c : Cache) (o : Option ℤ) → Kept c (counted_on key step t c o).cache
 kept_counted_on law key step t c None = same c

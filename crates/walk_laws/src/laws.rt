@@ -11,7 +11,8 @@ ghost use Rattle.apcu_model.specs.Chunks.{chunk_of};
 ghost use Rattle.apcu_model.specs.History.{stage_of};
 ghost use Rattle.apcu_model.specs.Rows.{are_apart};
 ghost use Rattle.apcu_model.specs.Walk.{slot_of};
-ghost use Rattle.walk_laws.specs.Exchanges.{IsWalk, answered_chunks, answered_keys, steps_in, exchanges_of};
+ghost use Rattle.walk_laws.specs.Exchanges.{IsWalk, answered_chunks, answered_keys, exchanges_of};
+ghost use Rattle.walk_laws.specs.Exchanges.{steps_in};
 ghost use Rattle.walk_laws.specs.Walks.{WalkStep, AreSteps, walk_chunks, walk_keys, times_given};
 ghost use Rattle.walk_laws.specs.Walks.{is_under_way, is_whole, has_item};
 

@@ -2,7 +2,7 @@ use Rattle.std.proofs.Common.{◌∙◌, ◌++◌, ◌∷◌, [], List, drop, ap
 use Rattle.apcu_model.specs.declared.items.ItemRow.{ItemRow}
 use Rattle.apcu_model.specs.Cache.{Row}
 use Rattle.entry_slots.specs.Standing.{entries}
-use Rattle.apcu_iter.specs.Choosing.{Choice, items_of}
+use Rattle.apcu_iter.specs.Choosing.{Choice, chosen_items}
 use Rattle.apcu_iter.proofs.Fewness.{are_few, removed_over}
 use Rattle.apcu_iter.proofs.Gathering.{goes_on, goes_out, items_joined}
 use Rattle.apcu_iter.proofs.Walking.{removed_here, removed_end}
@@ -23,8 +23,8 @@ loop-passed-preserved g c =
     let here = removed_here c.lower_laws.ensures c.args.slots.now (g.S.WordsIn.words c.args.seg.now) (g.S.WordsIn.aside c.args.seg.now) s c.loop-passed._passed c.loop-passed.at c.requires.stand i.at c.if-at-eq0.false in
     let row = c.in_ok-add_item.ensures in
     let next = c.after-at.ensures in
-    let f : List Row → List ItemRow = items_of c.args.test.now c.args.fields in
-    let added = row.items here.left.row here.member ∙ ap (λ (choice : Choice). c.loop-passed.items.items ++ items_of choice c.args.fields (here.left.row ∷ [])) i.test in
+    let f : List Row → List ItemRow = chosen_items c.args.test.now c.args.fields in
+    let added = row.items here.left.row here.member ∙ ap (λ (choice : Choice). c.loop-passed.items.items ++ chosen_items choice c.args.fields (here.left.row ∷ [])) i.test in
     record {
       at = next.removed here.in_rows ∙ here.next;
       items = goes_on f (items_joined c.args.test.now c.args.fields) s.removed c.loop-passed._passed here.left.row c.loop-passed.items.items c.add_item.new.items.items here.left.left added ∙ i.items;
@@ -37,7 +37,7 @@ returns-then-at-eq0-clause-items g c =
     let s = entries c.args.slots.now in
     let i = c.loop-passed.invariant in
     let none = removed_end c.lower_laws.ensures c.args.slots.now (g.S.WordsIn.words c.args.seg.now) (g.S.WordsIn.aside c.args.seg.now) s c.loop-passed._passed c.requires.stand (sym c.if-at-eq0.true ∙ i.at) in
-    goes_out (items_of c.args.test.now c.args.fields) refl (drop c.loop-passed._passed s.removed) c.loop-passed.items.items _ none i.items
+    goes_out (chosen_items c.args.test.now c.args.fields) refl (drop c.loop-passed._passed s.removed) c.loop-passed.items.items _ none i.items
 
 pub returns-clause-items : goal.returns-clause-items
 returns-clause-items g c =
@@ -45,4 +45,4 @@ returns-clause-items g c =
     let i = c.loop-passed.invariant in
     let few = are_few c.args.slots.now (g.S.WordsIn.words c.args.seg.now) (g.S.WordsIn.aside c.args.seg.now) s c.requires.stand in
     let none = removed_over s c.words-passed-end.result c.loop-passed._passed few c.words-passed-end.ensures.words c.loop-passed-test.false in
-    goes_out (items_of c.args.test.now c.args.fields) refl (drop c.loop-passed._passed s.removed) c.loop-passed.items.items _ none i.items
+    goes_out (chosen_items c.args.test.now c.args.fields) refl (drop c.loop-passed._passed s.removed) c.loop-passed.items.items _ none i.items

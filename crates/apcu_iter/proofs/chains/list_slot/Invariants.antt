@@ -3,14 +3,14 @@ use Rattle.seg_words.specs.Kept.{Kept}
 use Rattle.entry_slots.specs.Lists.{first_place}
 use Rattle.entry_slots.specs.Entries.{chain_of}
 use Rattle.entry_slots.specs.Standing.{entries}
-use Rattle.apcu_iter.specs.Choosing.{items_of}
+use Rattle.apcu_iter.specs.Choosing.{chosen_items}
 use Rattle.apcu_iter.proofs.chains.list_slot.Given as goal
 
 abbrev pub invariant-loop-passed : goal.invariant-loop-passed
 invariant-loop-passed g l = record {
   at : l.at ≡ first_place (drop l._passed (chain_of (entries l.slots) l.slot));
-  items : l.items.items ++ items_of l.initial.test l.fields (drop l._passed (chain_of (entries l.slots) l.slot))
-      ≡ l.initial.items.items ++ items_of l.initial.test l.fields (chain_of (entries l.slots) l.slot);
+  items : l.items.items ++ chosen_items l.initial.test l.fields (drop l._passed (chain_of (entries l.slots) l.slot))
+      ≡ l.initial.items.items ++ chosen_items l.initial.test l.fields (chain_of (entries l.slots) l.slot);
   test : l.test ≡ l.initial.test;
   kept : Kept g.S.WordsIn l.fn.seg l.seg;
 }

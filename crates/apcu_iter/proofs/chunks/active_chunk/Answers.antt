@@ -4,7 +4,7 @@ use Rattle.apcu_model.specs.Chunks.{item_of, items_between}
 use Rattle.apcu_model.specs.declared.items.ItemRow.{ItemRow}
 use Rattle.entry_slots.specs.Entries.{chain_of}
 use Rattle.entry_slots.specs.Standing.{entries}
-use Rattle.apcu_iter.specs.Choosing.{Choice, items_of, uncounted}
+use Rattle.apcu_iter.specs.Choosing.{Choice, chosen_items, uncounted}
 use Rattle.apcu_iter.proofs.Chunking.{slot_more, between_few, chunk_made}
 use Rattle.apcu_iter.proofs.Fewness.{are_few}
 use Rattle.apcu_iter.proofs.Stepping.{step_starts, step_on, step_ends, none_between}
@@ -28,7 +28,7 @@ loop-slot-preserved g c =
     let i = c.loop-slot.invariant in
     let row = c.in_ok-list_slot.ensures in
     let at = c.loop-slot.slot in
-    let added = row.items ∙ ap (λ (choice : Choice). c.loop-slot.items.items ++ items_of choice c.args.fields (chain_of s at)) i.test in
+    let added = row.items ∙ ap (λ (choice : Choice). c.loop-slot.items.items ++ chosen_items choice c.args.fields (chain_of s at)) i.test in
     let all = slot_more (item_of c.args.fields) test s c.args.from at c.loop-slot.items.items c.list_slot.new.items.items c.requires.list i.step.low i.items added in
     let items = items_between test.pattern test.t (uncounted s) c.args.from (at + 1) in
     let few : length items < c.args.size =
@@ -47,7 +47,7 @@ from_vec-requires g c =
     let i = c.loop-slot.invariant in
     let row = c.in_ok-list_slot.ensures in
     let at = c.loop-slot.slot in
-    let added = row.items ∙ ap (λ (choice : Choice). c.loop-slot.items.items ++ items_of choice c.args.fields (chain_of s at)) i.test in
+    let added = row.items ∙ ap (λ (choice : Choice). c.loop-slot.items.items ++ chosen_items choice c.args.fields (chain_of s at)) i.test in
     let all = slot_more (item_of c.args.fields) test s c.args.from at c.loop-slot.items.items c.list_slot.new.items.items c.requires.list i.step.low i.items added in
     let few = are_few c.args.slots.now (g.S.WordsIn.words c.args.seg.now) (g.S.WordsIn.aside c.args.seg.now) s c.requires.stand in
     let items = items_between test.pattern test.t (uncounted s) c.args.from (at + 1) in
@@ -61,7 +61,7 @@ returns-then-len-size-clause-chunk g c =
     let i = c.loop-slot.invariant in
     let row = c.in_ok-list_slot.ensures in
     let at = c.loop-slot.slot in
-    let added = row.items ∙ ap (λ (choice : Choice). c.loop-slot.items.items ++ items_of choice c.args.fields (chain_of s at)) i.test in
+    let added = row.items ∙ ap (λ (choice : Choice). c.loop-slot.items.items ++ chosen_items choice c.args.fields (chain_of s at)) i.test in
     let all = slot_more (item_of c.args.fields) test s c.args.from at c.loop-slot.items.items c.list_slot.new.items.items c.requires.list i.step.low i.items added in
     let items = items_between test.pattern test.t (uncounted s) c.args.from (at + 1) in
     let many : c.args.size ≤ length items =

@@ -6,7 +6,7 @@ use Rattle.value_image.specs.Image.{IsImageOf}
 use Rattle.apcu_model.specs.Chunks.{item_of}
 use Rattle.apcu_model.specs.Infos.{word_bytes}
 use Rattle.entry_slots.specs.Standing.{entries}
-use Rattle.apcu_iter.specs.Reading.{IsKeyAt}
+use Rattle.apcu_iter.specs.Reading.{HasKeyAt}
 use Rattle.apcu_iter.proofs.Keys.{row_here, key_here, after, left_out, by_key}
 use Rattle.apcu_iter.proofs.entry.item_at.Goals as goal
 
@@ -29,7 +29,7 @@ read_key-requires g c =
     let aside = g.S.WordsIn.aside c.args.seg.now in
     let here = row_here c.lower_laws.ensures c.args.slots.now words aside (entries c.args.slots.now) c.args.at c.head-head.result c.requires.stand c.requires.there c.head-head.ensures.head in
     record {
-      key = (here.row.key, after (λ (w : List ℕ) (a : Aside). IsKeyAt w a.windows (c.args.at + 12) c.head-head.result.key_len here.row.key) c.head-head.ensures.kept here.key);
+      key = (here.row.key, after (λ (w : List ℕ) (a : Aside). HasKeyAt w a.windows (c.args.at + 12) c.head-head.result.key_len here.row.key) c.head-head.ensures.kept here.key);
     }
 
 pub returns-then-not-matches-clause-item : goal.returns-then-not-matches-clause-item
@@ -38,7 +38,7 @@ returns-then-not-matches-clause-item g c = λ row is.
     let aside = g.S.WordsIn.aside c.args.seg.now in
     let said = c.head-head.ensures.head row is in
     let key = key_here c.lower_laws.ensures c.args.slots.now words aside (entries c.args.slots.now) c.args.at c.head-head.result row c.requires.stand is said in
-    let read = c.in_ok-key.ensures.bytes row.key (after (λ (w : List ℕ) (a : Aside). IsKeyAt w a.windows (c.args.at + 12) c.head-head.result.key_len row.key) c.head-head.ensures.kept key) in
+    let read = c.in_ok-key.ensures.bytes row.key (after (λ (w : List ℕ) (a : Aside). HasKeyAt w a.windows (c.args.at + 12) c.head-head.result.key_len row.key) c.head-head.ensures.kept key) in
     let stays = sym (c.leaves_out.ensures row said.ttl said.ctime) ∙ c.if-leaves_out.false in
     let chosen = by_key c.args.test.now row c.deref.result.now c.matches.result stays (c.deref.ensures.value ∙ read) c.matches.ensures.matches ∙ c.if-not-matches.true in
     sym (ap (λ (b : Bool). if b then Some (item_of c.args.fields row) else None) chosen)
@@ -64,7 +64,7 @@ item-requires g c =
     let words = g.S.WordsIn.words c.args.seg.now in
     let aside = g.S.WordsIn.aside c.args.seg.now in
     let here = row_here c.lower_laws.ensures c.args.slots.now words aside (entries c.args.slots.now) c.args.at c.head-head.result c.requires.stand c.requires.there c.head-head.ensures.head in
-    let read = c.in_ok-key.ensures.bytes here.row.key (after (λ (w : List ℕ) (a : Aside). IsKeyAt w a.windows (c.args.at + 12) c.head-head.result.key_len here.row.key) c.head-head.ensures.kept here.key) in
+    let read = c.in_ok-key.ensures.bytes here.row.key (after (λ (w : List ℕ) (a : Aside). HasKeyAt w a.windows (c.args.at + 12) c.head-head.result.key_len here.row.key) c.head-head.ensures.kept here.key) in
     record { short = omega (arith, here.short, ap length read) }
 
 pub returns-clause-item : goal.returns-clause-item
@@ -73,7 +73,7 @@ returns-clause-item g c = λ row is.
     let aside = g.S.WordsIn.aside c.args.seg.now in
     let said = c.head-head.ensures.head row is in
     let key = key_here c.lower_laws.ensures c.args.slots.now words aside (entries c.args.slots.now) c.args.at c.head-head.result row c.requires.stand is said in
-    let read = c.in_ok-key.ensures.bytes row.key (after (λ (w : List ℕ) (a : Aside). IsKeyAt w a.windows (c.args.at + 12) c.head-head.result.key_len row.key) c.head-head.ensures.kept key) in
+    let read = c.in_ok-key.ensures.bytes row.key (after (λ (w : List ℕ) (a : Aside). HasKeyAt w a.windows (c.args.at + 12) c.head-head.result.key_len row.key) c.head-head.ensures.kept key) in
     let stays = sym (c.leaves_out.ensures row said.ttl said.ctime) ∙ c.if-leaves_out.false in
     let chosen = by_key c.args.test.now row c.deref.result.now c.matches.result stays (c.deref.ensures.value ∙ read) c.matches.ensures.matches ∙ c.if-not-matches.false in
     let image = subst (λ (w : List ℕ). IsImageOf w c.head-head.result.image c.head-head.result.image_len row.graph) (sym (c.in_ok-key.ensures.kept.words ∙ c.head-head.ensures.kept.words)) said.image_stands in
