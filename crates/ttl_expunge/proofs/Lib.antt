@@ -10,3 +10,4 @@ pub mod Making
 pub mod Moving
 mod Spotting
 mod Listing
+mod Placing

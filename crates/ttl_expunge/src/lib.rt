@@ -6,6 +6,7 @@ mod at_once;
 mod chains;
 mod expunge;
 mod laws;
+mod places;
 mod room;
 mod spots;
 
@@ -13,5 +14,6 @@ pub use at_once::expunge_at_once;
 pub use chains::{expunge_all, expunge_expired, sweep_chain};
 pub use expunge::{drop_row, is_let_go, sweep_removed};
 pub use laws::drop_laws;
+pub use places::drop_rows;
 pub use room::{make_room, make_room_next};
 pub use spots::{drop_row_at, seek_swept};

@@ -1,0 +1,42 @@
+use Rattle.std.proofs.Common.{◌∙◌, refl, arith}
+use Rattle.std.specs.Prelude.{slice_index}
+use Rattle.entry_slots.specs.Standing.{entries}
+use Rattle.ttl_expunge.proofs.Dropping.{drops_none}
+use Rattle.ttl_expunge.proofs.Placing.{left_at, dropped_next, dropped_all}
+use Rattle.ttl_expunge.proofs.places.drop_rows.Goals as goal
+
+pub loop-at-init : goal.loop-at-init
+loop-at-init g c =
+    let s = entries c.args.slots.now in
+    let aside = g.S.WordsIn.aside c.args.seg.now in
+    record {
+      drops = λ gone are. drops_none s aside aside c.args.t refl c.requires.refused;
+      stand = c.requires.stand;
+      rest = refl;
+    }
+
+pub drop_row-requires-clause-there : goal.drop_row-requires-clause-there
+drop_row-requires-clause-there g c =
+    let i = c.loop-at.invariant in
+    let r = c.requires.rows in
+    let sound = c.standing_laws.ensures.sound c.loop-at.slots (g.S.WordsIn.words c.loop-at.seg) (g.S.WordsIn.aside c.loop-at.seg) (entries c.loop-at.slots) i.stand in
+    (left_at r.0 c.loop-at.at-index (slice_index c.args.places.now c.loop-at.at-index) r.1 sound (i.drops r.0 r.1) c.loop-at-test.true refl).there
+
+pub drop_row-requires-clause-refused : goal.drop_row-requires-clause-refused
+drop_row-requires-clause-refused g c = (c.loop-at.invariant.drops c.requires.rows.0 c.requires.rows.1).refused
+
+pub loop-at-preserved : goal.loop-at-preserved
+loop-at-preserved g c =
+    let i = c.loop-at.invariant in
+    let sound = c.standing_laws.ensures.sound c.loop-at.slots (g.S.WordsIn.words c.loop-at.seg) (g.S.WordsIn.aside c.loop-at.seg) (entries c.loop-at.slots) i.stand in
+    record {
+      drops = λ gone are.
+          let left = left_at gone c.loop-at.at-index (slice_index c.args.places.now c.loop-at.at-index) are sound (i.drops gone are) c.loop-at-test.true refl in
+          dropped_next gone c.loop-at.at-index (slice_index c.args.places.now c.loop-at.at-index) left (i.drops gone are) c.drop_row.ensures.drops;
+      stand = c.drop_row.ensures.stand;
+      rest = c.drop_row.ensures.rest ∙ i.rest;
+    }
+
+pub returns-clause-drops : goal.returns-clause-drops
+returns-clause-drops g c = λ gone are.
+    dropped_all gone c.loop-at.at-index are (omega (arith, c.loop-at-test.false)) (c.loop-at.invariant.drops gone are)
