@@ -17,7 +17,7 @@ use Rattle.apcu_model.specs.Walk.{slot_of, is_in_slot, in_slot_order}
 use Rattle.ttl_expunge.specs.Lists.{row_places}
 use Rattle.apcu_iter.specs.declared.summing.Sums.{Sums}
 use Rattle.apcu_iter.specs.Adding.{within, with_rows, no_sums, sums_of_both}
-use Rattle.apcu_iter.specs.Choosing.{Choice, is_chosen, chosen_items}
+use Rattle.apcu_iter.specs.Choosing.{Choice, is_chosen, chosen_items, chosen_places}
 use Rattle.apcu_iter.proofs.Slots.{flat_last, is_between, between_is, all_slots, length_ordered}
 
 -- ---- lists
@@ -28,12 +28,9 @@ items_joined choice fields xs ys =
     ap (map (item_of fields)) (filter-append (is_chosen choice) xs ys)
     ∙ map-append (item_of fields) (filter (is_chosen choice) xs) (filter (is_chosen choice) ys)
 
--- the places of the rows that are chosen
-abbrev pub places_of : Choice → List Row → List ℕ
-places_of choice rows = row_places (filter (is_chosen choice) rows)
-
+-- their places
 pub places_joined : (choice : Choice) (xs ys : List Row)
-    → places_of choice (xs ++ ys) ≡ places_of choice xs ++ places_of choice ys
+    → chosen_places choice (xs ++ ys) ≡ chosen_places choice xs ++ chosen_places choice ys
 places_joined choice xs ys =
     ap row_places (filter-append (is_chosen choice) xs ys)
     ∙ map-append (λ (row : Row). row.place) (filter (is_chosen choice) xs) (filter (is_chosen choice) ys)

@@ -7,3 +7,4 @@ mod Stepping
 mod Gathering
 mod Chunking
 mod Comes
+mod Gone

@@ -10,6 +10,7 @@ use Rattle.apcu_model.specs.Chunks.{item_of}
 use Rattle.apcu_model.specs.Expiry.{is_hard_expired}
 use Rattle.apcu_model.specs.Matching.{key_matches}
 use Rattle.entry_slots.specs.Entries.{Entries}
+use Rattle.ttl_expunge.specs.Lists.{row_places}
 
 -- those of a list at the moment t whose keys match
 pub record Choice : Type 0 where
@@ -32,6 +33,10 @@ is_chosen choice row = not (is_left_out choice row) && key_matches choice.patter
 -- what it gives of rows
 abbrev pub chosen_items : Choice → Fields → List Row → List ItemRow
 chosen_items choice fields rows = map (item_of fields) (filter (is_chosen choice) rows)
+
+-- the places of the rows that it gives
+abbrev pub chosen_places : Choice → List Row → List ℕ
+chosen_places choice rows = row_places (filter (is_chosen choice) rows)
 
 -- a cache with these entries, in which nothing was counted
 abbrev pub uncounted : Entries → Cache

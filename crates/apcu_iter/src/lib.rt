@@ -3,6 +3,7 @@
 
 mod chains;
 mod chunks;
+mod deleting;
 mod entry;
 mod lower;
 mod maker;
@@ -11,6 +12,7 @@ mod search;
 mod summing;
 
 pub use chunks::chunk;
+pub use deleting::chunk_delete;
 pub use maker::{Maker, RefuseAll, RegexMaker, SearchFault};
 pub use search::Search;
 pub use summing::totals;

@@ -1,0 +1,159 @@
+//! Deleting what an iterator goes over.
+
+ghost use Rattle.std.specs.Prelude.{◌≡◌, ◌<◌, ◌≤◌, ◌++◌, [], ◌∷◌, true, IfOk, OnOk, OnErr};
+ghost use Rattle.seg_words.specs.Kept.{Kept};
+ghost use Rattle.seg_words.specs.Probing.{Goes};
+ghost use Rattle.seg_words.specs.Windows.{Aside, held_blocks};
+ghost use Rattle.apcu_model.specs.declared.request.Request.TheVariants as requests;
+ghost use Rattle.apcu_model.specs.declared.request.Reply.TheVariants as replies;
+ghost use Rattle.apcu_model.specs.Cache.{Row};
+ghost use Rattle.apcu_model.specs.Chunks.{chunk_end, chunk_rows};
+ghost use Rattle.apcu_model.specs.Sequential.{cache_after, reply_to};
+ghost use Rattle.entry_slots.specs.Lists.{has_place};
+ghost use Rattle.entry_slots.specs.Entries.{IsListed, chain_of, listed};
+ghost use Rattle.entry_slots.specs.Standing.{Stand, entries};
+ghost use Rattle.ttl_expunge.specs.Held.{AreRemoved, KeepsOpen};
+ghost use Rattle.ttl_expunge.specs.Lists.{row_places};
+ghost use Rattle.cache_core.specs.Caching.{cache_of, CacheStands};
+ghost use Rattle.apcu_iter.specs.Choosing.{chosen_places, uncounted};
+
+use crate::entry::head_at;
+use crate::lower::{dropping_laws, lower_laws};
+use crate::row_test::RowTest;
+use crate::search::Search;
+use apcu_model::List;
+use cache_core::Core;
+use entry_slots::EntrySlots;
+use seg_words::{Segment, WordsIn};
+use std::alloc::{AllocError, Global};
+use ttl_expunge::drop_rows;
+
+// The place of the row at a place comes behind the places, if the row is chosen.
+fn note_row<S: Segment>(
+    slots: &EntrySlots,
+    seg: &mut S,
+    test: &mut RowTest<'_>,
+    at: u32,
+    places: &mut Vec<u32>,
+) -> Result<(), AllocError>
+    requires stand { Stand S.WordsIn slots.now seg.old }
+    requires there { has_place at (listed (entries slots.now)) ≡ true }
+    ensures places { (row : Row) → IsListed (entries slots.now) at row → OnOk result
+        (places.new.items ≡ places.old.items ++ chosen_places test.old (row ∷ [])) }
+    ensures test { test.new ≡ test.old }
+    ensures kept { Kept S.WordsIn seg.old seg.new }
+{
+    if let Some(_head) = head_at(slots, seg, test, at)? {
+        places.push(at)?;
+    }
+    Ok(())
+}
+
+// So for the rows of a slot, by their place in the chain.
+fn note_slot<S: Segment>(
+    slots: &EntrySlots,
+    seg: &mut S,
+    test: &mut RowTest<'_>,
+    slot: u32,
+    places: &mut Vec<u32>,
+) -> Result<(), AllocError>
+    requires stand { Stand S.WordsIn slots.now seg.old }
+    requires slot { slot < (entries slots.now).conf.slots }
+    ensures places { OnOk result (places.new.items
+        ≡ places.old.items ++ chosen_places test.old (chain_of (entries slots.now) slot)) }
+    ensures test { test.new ≡ test.old }
+    ensures kept { Kept S.WordsIn seg.old seg.new }
+{
+    lower_laws();
+    let mut at = slots.first_in(seg, slot);
+    for _passed in 0..slots.rows() {
+        if at == 0 {
+            return Ok(());
+        }
+        note_row(slots, seg, test, at, places)?;
+        at = slots.after(seg, at);
+    }
+    Ok(())
+}
+
+// Where a step over the active rows ends, and the places of its rows.
+fn note_chunk<S: Segment>(
+    alloc: Global,
+    slots: &EntrySlots,
+    seg: &mut S,
+    test: &mut RowTest<'_>,
+    from: u32,
+    size: u32,
+) -> Result<(u32, Vec<u32>), AllocError>
+    requires stand { Stand S.WordsIn slots.now seg.old }
+    requires list { test.old.list ≡ List.Active }
+    requires from { from ≤ (entries slots.now).conf.slots }
+    requires size { 1 ≤ size }
+    ensures next { IfOk result (λ r. r.0
+        ≡ chunk_end test.old.pattern test.old.t (uncounted (entries slots.now)) from size) }
+    ensures places { IfOk result (λ r. r.1.items ≡ row_places
+        (chunk_rows test.old.pattern test.old.t (uncounted (entries slots.now)) from size)) }
+    ensures test { test.new ≡ test.old }
+    ensures kept { Kept S.WordsIn seg.old seg.new }
+{
+    let end = slots.slots();
+    let mut places = Vec::new(alloc);
+    for slot in from..end {
+        note_slot(slots, seg, test, slot, &mut places)?;
+        if places.len() >= size as usize {
+            return Ok((slot + 1, places));
+        }
+    }
+    Ok((end, places))
+}
+
+/// Deletes the rows of one step of an iterator over the active rows at the moment `t`, in seconds.
+/// It goes on at the slot `from`, over as few slots as hold `size` rows or more whose own time is
+/// not over and whose keys match, and to the last slot where they hold fewer. Those rows go, by
+/// slot and place: one that somebody still copies is the last of the removed rows then. It answers
+/// the first slot behind them.
+///
+/// The rows are found before the first one goes, and only that takes memory: without it nothing
+/// changed. Want of memory is the only refusal.
+pub fn chunk_delete<S: Segment>(
+    alloc: Global,
+    core: &mut Core,
+    seg: &mut S,
+    search: &mut Search,
+    from: u32,
+    size: u32,
+    t: u64,
+) -> Result<u32, AllocError>
+    requires stand { CacheStands S.WordsIn core.old seg.old }
+    requires refused { AreRemoved (S.aside seg.old) (cache_of core.old).removed }
+    requires from { from ≤ (cache_of core.old).conf.slots }
+    requires size { 1 ≤ size }
+    ensures next { IfOk result
+        (λ next. next ≡ chunk_end search.old t (cache_of core.old) from size) }
+    ensures reply { IfOk result (λ next. replies.Next next
+        ≡ reply_to (held_blocks (S.aside seg.new)) t
+        (requests.ChunkDelete search.old from size) (cache_of core.old)) }
+    ensures cache { OnOk result (cache_of core.new
+        ≡ cache_after (held_blocks (S.aside seg.new)) t
+        (requests.ChunkDelete search.old from size) (cache_of core.old)) }
+    ensures later { OnOk result ((later : Aside) → Goes (S.aside seg.new) later
+        → cache_of core.new ≡ cache_after (held_blocks later) t
+        (requests.ChunkDelete search.old from size) (cache_of core.old)) }
+    ensures same { OnErr result (core.new ≡ core.old) }
+    ensures kept { OnErr result (Kept S.WordsIn seg.old seg.new) }
+    ensures goes { Goes (S.aside seg.old) (S.aside seg.new) }
+    ensures keeps { KeepsOpen (S.aside seg.new).windows
+        (entries core.old.slots) (entries core.new.slots) }
+    ensures refused { AreRemoved (S.aside seg.new) (cache_of core.new).removed }
+    ensures stand { CacheStands S.WordsIn core.new seg.new }
+    ensures search { search.new ≡ search.old }
+    ensures rest { S.rest seg.new ≡ S.rest seg.old }
+{
+    lower_laws();
+    dropping_laws();
+    let mut test = search.test(List::Active, t)?;
+    let slots = core.slots();
+    let (next, places) = note_chunk(alloc, slots, seg, &mut test, from, size)?;
+    drop_rows(slots, seg, &places, t);
+    Ok(next)
+}
