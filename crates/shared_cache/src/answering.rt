@@ -10,7 +10,7 @@ ghost use Rattle.shared_cache.specs.Follows.{Follows, FollowsEntry};
 
 use crate::cabinet::Cabinet;
 use crate::turn::{begin, told};
-use apcu_iter::{Search, chunk, totals};
+use apcu_iter::{Search, chunk, chunk_delete, totals};
 use apcu_model::{Ask, Chunk, Fields, Gen, List};
 use cache_info::{cache_info, key_info, sma_info};
 use counter_entry::{Fate, entry};
@@ -138,6 +138,34 @@ impl<N: TableName> Cabinet<N> {
             fields,
         };
         told::<N, _>(&mut self.journal, w, ask, t, answer)
+    }
+
+    // The rows of one step of an iterator over the active rows are deleted.
+    pub(crate) fn chunk_delete(
+        &mut self,
+        table: &PinTable,
+        alloc: Global,
+        pass: Pass,
+        search: &mut Search,
+        from: u32,
+        size: u32,
+        t: u64,
+    ) -> (Pass, Result<u32, AllocError>)
+        requires table { table.now ≡ N.table }
+        requires pass { pass.table ≡ N.table }
+        requires left { 1 ≤ pass.known.left }
+        requires from { from ≤ N.conf.slots }
+        requires size { 1 ≤ size }
+        ensures deleted { IfOk result.1 (λ next. Follows N.conf (length N.budgets) pass result.0 t
+            (request.ChunkDelete search.old from size) (reply.Next next)) }
+        ensures same { OnErr result.1 (result.0 ≡ pass) }
+        ensures search { search.new ≡ search.old }
+    {
+        let mut w = begin::<N>(table, &mut self.seat, pass);
+        let answer = chunk_delete(alloc, &mut self.core, &mut w, search, from, size, t);
+        let search = search.pattern();
+        let delete = Ask::ChunkDelete { search, from, size };
+        told::<N, _>(&mut self.journal, w, delete, t, answer)
     }
 
     // Of how many rows an iterator goes over, how often they were fetched, and their bytes.

@@ -159,6 +159,37 @@ impl<N: TableName> Shared<N> {
         )
     }
 
+    /// Deletes the rows of one step of an iterator over the active rows at the moment `t`, in
+    /// seconds, as one event: those whose keys the search finds in the fewest slots, from the slot
+    /// `from` on, that hold at least `size` of them, or in all that are left. A row that somebody
+    /// still copies is among the removed rows from then on. It answers the first slot behind them.
+    ///
+    /// Without memory for the search there was no event, and the pass comes back as it was. See
+    /// `apcu_delete` of an iterator in the PHP manual.
+    pub fn chunk_delete<R: Wait>(
+        &self,
+        rt: &R,
+        alloc: Global,
+        pass: Pass,
+        search: &mut Search,
+        from: u32,
+        size: u32,
+        t: u64,
+    ) -> (Pass, Result<u32, AllocError>)
+        requires table { pass.table ≡ N.table }
+        requires left { 2 ≤ pass.known.left }
+        requires from { from ≤ N.conf.slots }
+        requires size { 1 ≤ size }
+        ensures deleted { IfOk result.1 (λ next. Follows N.conf (length N.budgets) pass result.0 t
+            (request.ChunkDelete search.old from size) (reply.Next next)) }
+        ensures same { OnErr result.1 (result.0 ≡ pass) }
+        ensures search { search.new ≡ search.old }
+    {
+        self.lock
+            .lock(rt)
+            .chunk_delete(&self.table, alloc, pass, search, from, size, t)
+    }
+
     /// Of how many rows of a list the search finds the keys at the moment `t`, in seconds, how often
     /// they were fetched together (2^64 - 1 is that often or oftener), and how many bytes their
     /// blocks have.
