@@ -47,7 +47,6 @@ reason_text reasons.Separator = codes ": separator\n"
 reason_text reasons.Argument = codes ": argument\n"
 reason_text reasons.Workers = codes ": workers\n"
 reason_text reasons.Generator = codes ": generator\n"
-reason_text reasons.Unbuilt = codes ": unbuilt\n"
 
 -- what is told of the first fault of a script: its byte, from 0, and the reason
 unfoldable pub script_message : ℕ → Reason → List ℕ

@@ -63,6 +63,5 @@ fn ending_of(reason: Reason) -> &'static [u8]
         Reason::Argument => b": argument\n",
         Reason::Workers => b": workers\n",
         Reason::Generator => b": generator\n",
-        Reason::Unbuilt => b": unbuilt\n",
     }
 }

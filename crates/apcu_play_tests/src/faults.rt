@@ -29,8 +29,8 @@ fn lines_with_a_fault(rt: HostRuntime) -> Result<(), Fail> {
             b"apcu_run: script: byte 18: argument\n",
         ),
         (
-            b"worker\nworker\nAPCUIterator_totals N;\n",
-            b"apcu_run: script: byte 14: unbuilt\n",
+            b"worker\nworker\nAPCUIterator s:2:\"/(\";\n",
+            b"apcu_run: script: byte 27: argument\n",
         ),
         (b"worker", b"apcu_run: script: byte 6: end\n"),
         (b"worker 1\n", b"apcu_run: script: byte 7: argument\n"),

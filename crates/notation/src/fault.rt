@@ -55,9 +55,6 @@ pub enum Reason {
     /// Generators that lie too deep.
     #[error("generator")]
     Generator,
-    /// What is not built yet.
-    #[error("unbuilt")]
-    Unbuilt,
 }
 
 /// Why no value was read.
