@@ -10,4 +10,6 @@ pub mod Asking
 pub mod Inside
 pub mod Walking
 pub mod Members
+pub mod Slashes
+pub mod Bits
 pub mod Answered

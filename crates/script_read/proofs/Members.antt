@@ -21,7 +21,7 @@ use Rattle.script_read.proofs.Binding.{some_is, then_some}
 abbrev pub with_front : {B : Type 0} → List B → Option (List B) → Option (List B)
 with_front front found = option_map (λ more. front ++ more) found
 
-drop_get : {A : Type 0} (xs : List A) (i : ℕ) (x : A) → slice_get xs i ≡ Some x → drop i xs ≡ x ∷ drop (i + 1) xs
+pub drop_get : {A : Type 0} (xs : List A) (i : ℕ) (x : A) → slice_get xs i ≡ Some x → drop i xs ≡ x ∷ drop (i + 1) xs
 drop_get [] i x e = absurd cc
 drop_get (y ∷ xs) zero x e = ap (λ (z : _). z ∷ xs) (some_is y x e)
 drop_get (y ∷ xs) (suc i) x e = let n : suc (i + 1) ≡ suc i + 1 = omega arith in drop_get xs i x e ∙ ap (λ (k : ℕ). x ∷ drop k (y ∷ xs)) n
@@ -30,7 +30,7 @@ regroup : {B : Type 0} (front : List B) (y : B) (found : Option (List B)) → wi
 regroup {B = B} front y (Some ys) = ap (λ (l : List B). Some l) (sym (append_assoc front (y ∷ []) ys))
 regroup {B = B} front y None = refl
 
-abbrev step : {A B : Type 0} → (A → Option B) → List A → Option B → Option (List B)
+abbrev pub step : {A B : Type 0} → (A → Option B) → List A → Option B → Option (List B)
 step f xs o = option_and_then (λ y. option_map (λ ys. y ∷ ys) (each f xs)) o
 
 pub one_more : {A B : Type 0} (f : A → Option B) (xs : List A) (i : ℕ) (x : A) (y : B) (front : List B) (whole : Option (List B)) → slice_get xs i ≡ Some x → f x ≡ Some y
@@ -47,7 +47,7 @@ no_more {A = A} {B = B} f xs i x front whole at is so_far =
     ∙ (ap (λ (l : List A). with_front front (each f l)) (drop_get xs i x at)
     ∙ ap (λ (o : Option B). with_front front (step f (drop (i + 1) xs) o)) is)
 
-drop_all : {A : Type 0} (xs : List A) (i : ℕ) → length xs ≤ i → drop i xs ≡ []
+pub drop_all : {A : Type 0} (xs : List A) (i : ℕ) → length xs ≤ i → drop i xs ≡ []
 drop_all [] zero few = refl
 drop_all [] (suc i) few = refl
 drop_all (x ∷ xs) zero few = absurd (omega (arith, few))

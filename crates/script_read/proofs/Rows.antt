@@ -7,21 +7,22 @@ use Rattle.notation.specs.declared.fault.Fault.{Fault}
 use Rattle.notation.specs.Marks.{◌>>=◌, fail}
 use Rattle.notation.specs.Reading.{reading_of}
 use Rattle.apcu_model.specs.Levels.{Generator}
-use Rattle.script_read.specs.declared.call.Call.TheVariants.{StoreOne, StoreMany, Inc, Cas, Entry, KeyInfo, CacheInfo, SmaInfo}
+use Rattle.apcu_model.specs.declared.searching.List.TheVariants.{Active}
+use Rattle.script_read.specs.declared.call.Call.TheVariants.{StoreOne, StoreMany, Inc, Cas, Entry, KeyInfo, CacheInfo, SmaInfo, Walk, WalkDelete, Totals}
 use Rattle.script_read.specs.declared.effect.Effect.{Effect}
 use Rattle.script_read.specs.declared.effect.Effect.TheVariants.{Sets, Calls}
 use Rattle.script_read.specs.declared.given.Stored.{Stored}
 use Rattle.script_read.specs.declared.given.Stored.TheVariants as stores
-use Rattle.script_read.specs.Arguments.{any_value, key, integer, truth, null, ttl, moment, asked_of, stored}
-use Rattle.script_read.specs.Table.{Form, Done, Need, May, Make, Refuse, or_refuse, taken, needs, may, calls, store_one, store_many, store_by, fetch_of, exists_of, delete_of, step_by, count_form, cas_form, entry_form, key_info_form, info_form, form_in, form_of}
+use Rattle.script_read.specs.Arguments.{any_value, key, integer, truth, null, ttl, moment, asked_of, stored, search_for, fields, all_fields, chunk_size, which_list}
+use Rattle.script_read.specs.Table.{Form, Done, Need, May, Make, Refuse, or_refuse, taken, needs, may, calls, store_one, store_many, store_by, fetch_of, exists_of, delete_of, step_by, count_form, cas_form, entry_form, key_info_form, info_form, usual_size, walk_form, walk_delete_form, totals_form, form_in, form_of}
 use Rattle.script_read.specs.GenParts.{entry_round}
 use Rattle.script_read.specs.Grammar.{inner_levels}
-use Rattle.script_read.specs.Reading.{space_at, ends_here, end_at, chosen, choice_at, argument_at, optional_at, last_argument_at, generator_at, gen_argument_at, rest_at, line_word, behind_word, before_worker, form_after, line_at}
-use Rattle.script_read.specs.declared.keyword.Keyword.{Keyword}
+use Rattle.script_read.specs.Reading.{space_at, ends_here, end_at, chosen, choice_at, argument_at, optional_at, last_argument_at, generator_at, gen_argument_at, rest_at, line_word, behind_word, form_after, line_at}
 use Rattle.script_read.specs.declared.fault.Stop.{Stop}
 use Rattle.script_read.specs.declared.fault.Stop.TheVariants as stops
-use Rattle.script_read.specs.Gives.{Stops, GivesItem, form_named}
+use Rattle.script_read.specs.Gives.{Stops, GivesItem}
 use Rattle.notation.specs.declared.fault.Reason.{Reason}
+use Rattle.notation.specs.declared.fault.Reason.TheVariants as reasons
 
 -- a form that refuses nothing by itself
 abbrev pub Goes : Form → Type 0
@@ -195,6 +196,31 @@ pub sma_info_is : (last bytes : List ℕ) → rest_at (info_form SmaInfo) last b
 unfolding rest_at
 sma_info_is last bytes = may_is false truth (λ limited. calls (SmaInfo limited)) last bytes (λ limited. tt)
 
+-- ---- iterators
+
+pub walk_is : (last bytes : List ℕ) → rest_at walk_form last bytes
+    ≡ (argument_at search_for bytes >>= λ s. optional_at all_fields fields s.1 >>= λ f. optional_at usual_size chunk_size f.1 >>= λ n. optional_at Active which_list n.1 >>= ended (λ l. Calls (Walk s.0 f.0 n.0 l)))
+unfolding rest_at
+walk_is last bytes =
+    needs_is search_for (λ s. may all_fields fields (λ f. may usual_size chunk_size (λ n. may Active which_list (λ l. calls (Walk s f n l))))) last bytes (λ s. tt)
+    ∙ then_is (argument_at search_for bytes) _ _ (λ s. may_is all_fields fields (λ f. may usual_size chunk_size (λ n. may Active which_list (λ l. calls (Walk s.0 f n l)))) [] s.1 (λ f. tt)
+    ∙ then_is (optional_at all_fields fields s.1) _ _ (λ f. may_is usual_size chunk_size (λ n. may Active which_list (λ l. calls (Walk s.0 f.0 n l))) [] f.1 (λ n. tt)
+    ∙ then_is (optional_at usual_size chunk_size f.1) _ _ (λ n. may_is Active which_list (λ l. calls (Walk s.0 f.0 n.0 l)) [] n.1 (λ l. tt))))
+
+pub walk_delete_is : (last bytes : List ℕ) → rest_at walk_delete_form last bytes
+    ≡ (argument_at search_for bytes >>= λ s. optional_at usual_size chunk_size s.1 >>= ended (λ n. Calls (WalkDelete s.0 n)))
+unfolding rest_at
+walk_delete_is last bytes =
+    needs_is search_for (λ s. may usual_size chunk_size (λ n. calls (WalkDelete s n))) last bytes (λ s. tt)
+    ∙ then_is (argument_at search_for bytes) _ _ (λ s. may_is usual_size chunk_size (λ n. calls (WalkDelete s.0 n)) [] s.1 (λ n. tt))
+
+pub totals_is : (last bytes : List ℕ) → rest_at totals_form last bytes
+    ≡ (argument_at search_for bytes >>= λ s. optional_at Active which_list s.1 >>= ended (λ l. Calls (Totals s.0 l)))
+unfolding rest_at
+totals_is last bytes =
+    needs_is search_for (λ s. may Active which_list (λ l. calls (Totals s l))) last bytes (λ s. tt)
+    ∙ then_is (argument_at search_for bytes) _ _ (λ s. may_is Active which_list (λ l. calls (Totals s.0 l)) [] s.1 (λ l. tt))
+
 -- ---- stores
 
 pub stored_at : (exclusive : Bool) (last bytes : List ℕ) (s : Stored) (rest : List ℕ) → argument_at stored bytes ≡ Ok (s, rest) → rest_at (needs stored (store_by exclusive)) last bytes ≡ rest_at (store_by exclusive s) [] rest
@@ -210,19 +236,15 @@ moved view r a b e h = subst (λ c. GivesItem view r c) (sym e) h
 
 -- ---- the first line
 
-first_reads : (begun : ℕ) (line word : List ℕ) (keyword : Keyword) (reason : Reason) → begun ≡ 0 → word ≡ line_word line → form_of word ≡ form_named keyword → before_worker (form_named keyword) ≡ Refuse reason → line_at begun line ≡ fail reason line
+first_reads : (begun : ℕ) (line : List ℕ) → begun ≡ 0 → line_at begun line ≡ fail reasons.Line line
 unfolding rest_at
-first_reads begun line word keyword reason none is named refused =
-    ap (λ (n : ℕ). rest_at (form_after n (line_word line)) line (behind_word line)) none
-    ∙ (ap (λ (w : List ℕ). rest_at (before_worker (form_of w)) line (behind_word line)) (sym is)
-    ∙ (ap (λ (f : Form). rest_at (before_worker f) line (behind_word line)) named
-    ∙ ap (λ (f : Form). rest_at f line (behind_word line)) refused))
+first_reads begun line none = ap (λ (n : ℕ). rest_at (form_after n (line_word line)) line (behind_word line)) none
 
 -- the fault that begins with these bytes, whatever is to be read
 pub fault_is : (A B : Type 0) (e : Stop) (reason : Reason) (bytes : List ℕ) → Stops {Y = A} e (fail reason bytes) → Stops {Y = B} e (fail reason bytes)
 fault_is A B stops.Memory reason bytes stop = tt
 fault_is A B (stops.Fault f) reason bytes stop = cc
 
-pub first_refused : (e : Stop) (begun : ℕ) (line word : List ℕ) (keyword : Keyword) (reason : Reason) → begun ≡ 0 → word ≡ line_word line → form_of word ≡ form_named keyword → before_worker (form_named keyword) ≡ Refuse reason → Stops {Y = ℕ} e (fail reason line) → Stops e (line_at begun line)
-first_refused e begun line word keyword reason none is named refused stop =
-    subst (λ (r : Result (Effect × List ℕ) Fault). Stops e r) (sym (first_reads begun line word keyword reason none is named refused)) (fault_is ℕ (Effect × List ℕ) e reason line stop)
+pub first_refused : (e : Stop) (begun : ℕ) (line : List ℕ) → begun ≡ 0 → Stops {Y = ℕ} e (fail reasons.Line line) → Stops e (line_at begun line)
+first_refused e begun line none stop =
+    subst (λ (r : Result (Effect × List ℕ) Fault). Stops e r) (sym (first_reads begun line none)) (fault_is ℕ (Effect × List ℕ) e reasons.Line line stop)

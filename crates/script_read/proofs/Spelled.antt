@@ -13,9 +13,9 @@ use Rattle.notation.specs.Marks.{◌>>=◌, fail}
 use Rattle.script_read.specs.declared.effect.Effect.{Effect}
 use Rattle.script_read.specs.declared.effect.Effect.TheVariants.{Sets, Calls}
 use Rattle.script_read.specs.declared.script.Step.{Step}
-use Rattle.script_read.specs.Table.{Form, Done, Need, May, Make, Refuse, table, form_in, form_of}
+use Rattle.script_read.specs.Table.{Form, Refuse, table, form_in, form_of}
 use Rattle.script_read.specs.Grammar.{Argument, Line, argument_text, arguments_text, AreArguments, ends_line, line_text, script_text, effect_by, effect_of, steps_after, steps_of, Mean, most_workers, AreScripts}
-use Rattle.script_read.specs.Reading.{ends_word, word_len, line_word, behind_word, end_at, rest_at, worker_at, before_worker, line_at, is_worker, Rest, with_effect, lines_at, scripts_at}
+use Rattle.script_read.specs.Reading.{ends_word, word_len, line_word, behind_word, end_at, rest_at, worker_at, line_at, is_worker, Rest, with_effect, lines_at, scripts_at}
 use Rattle.script_read.specs.Ties.{AreSomeBytes}
 use Rattle.script_read.proofs.Binding.{ValuesTake, ValuesAgain, bind_ok, ok_is, some_is, then_some, map_some, chosen, bytes_after}
 use Rattle.script_read.proofs.GenSpelled.{gens_again, gens_take}
@@ -211,13 +211,9 @@ pub record IsRest (begun t : ℕ) (bytes : List ℕ) (steps : List Step) (script
   -- before the first script there is no line
   pub first : begun ≡ 0 → body ≡ []
 
-no_worker_first : FormsTake → (form : Form) (last bytes : List ℕ) (e : Effect) (rest : List ℕ) → rest_at (before_worker form) last bytes ≡ Ok (e, rest) → ⊥
+no_worker_first : (last bytes : List ℕ) (e : Effect) (rest : List ℕ) → rest_at (Refuse reasons.Line) last bytes ≡ Ok (e, rest) → ⊥
 unfolding rest_at
-no_worker_first forms (Done x) last bytes e rest read = cc
-no_worker_first forms (Need next) last bytes e rest read = cc
-no_worker_first forms (May short next) last bytes e rest read = cc
-no_worker_first forms (Make next) last bytes e rest read = cc
-no_worker_first forms (Refuse reason) last bytes e rest read = cc
+no_worker_first last bytes e rest read = cc
 
 -- a line was read
 pub record IsLineTaken (begun : ℕ) (bytes : List ℕ) (e : Effect) (rest : List ℕ) : Type 0 where
@@ -228,7 +224,7 @@ pub record IsLineTaken (begun : ℕ) (bytes : List ℕ) (e : Effect) (rest : Lis
   pub some : 1 ≤ begun
 
 line_takes : FormsTake → (begun : ℕ) (bytes : List ℕ) (e : Effect) (rest : List ℕ) → AreSomeBytes bytes → line_at begun bytes ≡ Ok (e, rest) → IsLineTaken begun bytes e rest
-line_takes forms zero bytes e rest fits read = absurd (no_worker_first forms (form_of (line_word bytes)) bytes (behind_word bytes) e rest read)
+line_takes forms zero bytes e rest fits read = absurd (no_worker_first bytes (behind_word bytes) e rest read)
 line_takes forms (suc begun) bytes e rest fits read =
     let parts = sym (take-append-drop (word_len bytes) bytes) in
     let said = forms (form_of (line_word bytes)) bytes (behind_word bytes) e rest (bytes_after bytes (line_word bytes) (behind_word bytes) parts fits) read in

@@ -1,9 +1,11 @@
 -- What a value is as an argument: nothing where it is of the wrong kind or range.
-use Rattle.std.specs.Prelude.{ℕ, Bool, nat_le, if◌then◌else◌, List, [], ◌∷◌, Option, Some, None}
-use Rattle.std.specs.Prelude.{IsSome}
+use Rattle.std.specs.Prelude.{ℕ, ◌==◌, nat_le, bit_or, Bool, true, false, ◌&&◌}
+use Rattle.std.specs.Prelude.{if◌then◌else◌, List, [], ◌∷◌, codes, Option, Some, None, IsSome}
 use Rattle.std.specs.Prelude.{ℤ, pos, negsuc}
 use Rattle.std.specs.Fmt.{signed_decimal}
+use Rattle.std.specs.List.{fold}
 use Rattle.std.specs.Option.{option_and_then, option_map}
+use Rattle.std.specs.Str.{bytes_eq, is_utf8}
 use Rattle.php_graph.specs.declared.key.Key.{Key}
 use Rattle.php_graph.specs.declared.key.Key.TheVariants as key_kinds
 use Rattle.php_graph.specs.declared.child.Child.{Child}
@@ -15,7 +17,11 @@ use Rattle.script_read.specs.declared.given.Asked.{Asked}
 use Rattle.script_read.specs.declared.given.Asked.TheVariants as asks
 use Rattle.script_read.specs.declared.given.Stored.{Stored}
 use Rattle.script_read.specs.declared.given.Stored.TheVariants as stores
-use Rattle.script_read.specs.Calls.{last_moment}
+use Rattle.apcu_model.specs.declared.searching.Pattern.{Pattern}
+use Rattle.apcu_model.specs.declared.searching.Fields.{Fields}
+use Rattle.apcu_model.specs.declared.searching.List.{List as Which}
+use Rattle.apcu_model.specs.declared.searching.List.TheVariants.{Active, Deleted}
+use Rattle.script_read.specs.Calls.{last_moment, most_items}
 
 -- the function's answers for all of them, where it has one for each
 abbrev pub each : {A B : Type 0} → (A → Option B) → List A → Option (List B)
@@ -49,16 +55,20 @@ null _ = None
 
 -- ---- numbers
 
-abbrev pub at_most : ℕ → ℤ → Option ℕ
-at_most high (pos n) = if nat_le n high then Some n else None
-at_most high (negsuc n) = None
+abbrev pub from_to : ℕ → ℕ → ℤ → Option ℕ
+from_to low high (pos n) = if nat_le low n && nat_le n high then Some n else None
+from_to low high (negsuc n) = None
 
 -- a limit of time, in seconds
 abbrev pub ttl : List Kind → Option ℕ
-ttl g = option_and_then (at_most 4294967295) (integer g)
+ttl g = option_and_then (from_to 0 4294967295) (integer g)
 
 abbrev pub moment : List Kind → Option ℕ
-moment g = option_and_then (at_most last_moment) (integer g)
+moment g = option_and_then (from_to 0 last_moment) (integer g)
+
+-- how many items a step of a walk has at least
+abbrev pub chunk_size : List Kind → Option ℕ
+chunk_size g = option_and_then (from_to 1 most_items) (integer g)
 
 -- ---- arrays
 
@@ -77,13 +87,13 @@ string_of (kinds.Str bytes) = Some bytes
 string_of _ = None
 
 -- the string that is written there
-abbrev pub string_at : List Kind → Child → Option (List ℕ)
-string_at g (Own x) = option_and_then string_of (kind_at g x)
-string_at g (Back x) = None
+abbrev pub member_string : List Kind → Child → Option (List ℕ)
+member_string g (Own x) = option_and_then string_of (kind_at g x)
+member_string g (Back x) = None
 
 -- strings, all written there; their own keys are not looked at
 abbrev pub keys : List Kind → Option (List (List ℕ))
-keys g = option_and_then (each (λ m. string_at g m.1)) (members g)
+keys g = option_and_then (each (λ m. member_string g m.1)) (members g)
 
 abbrev pub key_bytes : Key → List ℕ
 key_bytes (key_kinds.Int n) = signed_decimal n
@@ -95,13 +105,13 @@ own_part g x None = None
 own_part g x (Some (kinds.Same y)) = None
 own_part g x (Some kind) = part_of g x
 
-abbrev pub value_at : List Kind → Child → Option (List Kind)
-value_at g (Own x) = own_part g x (kind_at g x)
-value_at g (Back x) = None
+abbrev pub member_value : List Kind → Child → Option (List Kind)
+member_value g (Own x) = own_part g x (kind_at g x)
+member_value g (Back x) = None
 
 -- a member's key with its value
 abbrev pub pair_at : List Kind → Key × Child → Option (List ℕ × List Kind)
-pair_at g m = option_map (λ v. (key_bytes m.0, v)) (value_at g m.1)
+pair_at g m = option_map (λ v. (key_bytes m.0, v)) (member_value g m.1)
 
 -- keys with values that share no place with others; an integer key is its decimal
 abbrev pub pairs : List Kind → Option (List (List ℕ × List Kind))
@@ -116,3 +126,82 @@ asked_of g = or_else (option_map asks.One (key g)) (option_map asks.Many (keys g
 -- one key, or an array of keys with their values
 abbrev pub stored : List Kind → Option Stored
 stored g = or_else (option_map stores.One (key g)) (option_map stores.Many (pairs g))
+
+-- ---- searches
+
+-- what stands before the last `/`, and behind it
+abbrev pub by_last_slash : List ℕ → Option (List ℕ × List ℕ)
+by_last_slash [] = None
+by_last_slash (b ∷ bytes) =
+    or_else (option_map (λ cut. (b ∷ cut.0, cut.1)) (by_last_slash bytes))
+    (if b == 47 then Some ([], bytes) else None)
+
+-- behind a pattern's last `/` stands nothing, or an `i`: then letters match in either case
+abbrev pub pattern_ended : List ℕ × List ℕ → Option Pattern
+pattern_ended cut =
+    if bytes_eq cut.1 [] then Some (record { text = cut.0; fold = false })
+    else if bytes_eq cut.1 (codes "i") then Some (record { text = cut.0; fold = true })
+    else None
+
+-- they begin with a `/`, and their last `/` is another one
+abbrev pub slashed : List ℕ → Option Pattern
+slashed [] = None
+slashed (b ∷ bytes) =
+    if b == 47 then option_and_then pattern_ended (by_last_slash bytes) else None
+
+-- `/text/` or `/text/i`, in UTF-8; the text may have slashes too
+abbrev pub pattern : List ℕ → Option Pattern
+pattern bytes = if is_utf8 bytes then slashed bytes else None
+
+-- all keys, or those that a pattern matches
+abbrev pub search_for : List Kind → Option (Option Pattern)
+search_for (kinds.Null ∷ []) = Some None
+search_for (kinds.Str bytes ∷ []) = option_map Some (pattern bytes)
+search_for _ = None
+
+-- ---- what an iterator tells
+
+-- the fields of an item by their names, each with its bit
+abbrev pub field_bits : List (List ℕ × ℕ)
+field_bits =
+    (codes "key", 1)
+    ∷ (codes "value", 2)
+    ∷ (codes "num_hits", 4)
+    ∷ (codes "mtime", 8)
+    ∷ (codes "creation_time", 16)
+    ∷ (codes "deletion_time", 32)
+    ∷ (codes "access_time", 64)
+    ∷ (codes "mem_size", 128)
+    ∷ (codes "ttl", 256)
+    ∷ []
+
+abbrev pub all_fields : Fields
+all_fields = record { 0 = 511 }
+
+-- the bit by the first row with the name
+abbrev pub bit_in : List (List ℕ × ℕ) → List ℕ → Option ℕ
+bit_in [] name = None
+bit_in (row ∷ rows) name = if bytes_eq name row.0 then Some row.1 else bit_in rows name
+
+abbrev pub field_bit : List ℕ → Option ℕ
+field_bit name = bit_in field_bits name
+
+-- the bit of the field that is written there
+abbrev pub bit_named : List Kind → Child → Option ℕ
+bit_named g child = option_and_then field_bit (member_string g child)
+
+-- an array of fields, all written there; one may stand twice
+abbrev pub fields : List Kind → Option Fields
+fields g =
+    option_map (λ bits. record { 0 = fold bit_or 0 bits })
+    (option_and_then (each (λ m. bit_named g m.1)) (members g))
+
+abbrev pub list_named : List ℕ → Option Which
+list_named name =
+    if bytes_eq name (codes "active") then Some Active
+    else if bytes_eq name (codes "deleted") then Some Deleted
+    else None
+
+-- the active rows, or those that were removed
+abbrev pub which_list : List Kind → Option Which
+which_list g = option_and_then list_named (key g)

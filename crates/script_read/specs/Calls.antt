@@ -1,15 +1,17 @@
--- How far a call can go.
+-- How far a call can go, and what its arguments may be.
 use Rattle.std.specs.Prelude.{ℕ, ◌≤◌, ◌<◌, length}
 use Rattle.apcu_model.specs.Levels.{most_levels}
+use Rattle.apcu_model.specs.declared.searching.List.TheVariants.{Active, Deleted}
 use Rattle.script_read.specs.declared.call.Call.{Call}
 use Rattle.script_read.specs.declared.call.Call.TheVariants.{StoreOne, StoreMany, FetchOne}
 use Rattle.script_read.specs.declared.call.Call.TheVariants.{FetchMany, ExistsOne, ExistsMany}
 use Rattle.script_read.specs.declared.call.Call.TheVariants.{DeleteOne, DeleteMany, Inc, Cas, Clear}
 use Rattle.script_read.specs.declared.call.Call.TheVariants.{Enabled, Entry, KeyInfo, CacheInfo}
-use Rattle.script_read.specs.declared.call.Call.TheVariants.{SmaInfo}
+use Rattle.script_read.specs.declared.call.Call.TheVariants.{SmaInfo, Walk, WalkDelete, Totals}
 use Rattle.script_read.specs.declared.script.Step.{Step}
 
--- How many events a call makes at most, in a cache of so many slots.
+-- How many events a call makes at most, in a cache of so many slots: a walk over the active rows
+-- takes a slot at least in each step, and all removed rows are one step.
 abbrev pub event_bound : ℕ → Call → ℕ
 event_bound slots (StoreOne key value ttl exclusive) = 1
 event_bound slots (StoreMany pairs ttl exclusive) = length pairs
@@ -27,6 +29,10 @@ event_bound slots Enabled = 0
 event_bound slots (KeyInfo key) = 1
 event_bound slots (CacheInfo limited) = 1
 event_bound slots (SmaInfo limited) = 1
+event_bound slots (Walk wanted fields size Active) = slots
+event_bound slots (Walk wanted fields size Deleted) = 1
+event_bound slots (WalkDelete wanted size) = slots
+event_bound slots (Totals wanted list) = 1
 
 -- the last moment, in seconds
 abbrev pub last_moment : ℕ
@@ -36,11 +42,18 @@ last_moment = 999999999999
 abbrev pub IsInTime : Step → Type 0
 IsInTime step = step.t ≤ last_moment
 
--- A call's generator is an entry, with as many inside as may be. Other calls have none.
-abbrev pub HasLevels : Call → Type 0
-HasLevels (Entry gen) = (0 < length gen.levels) × (length gen.levels ≤ most_levels)
-HasLevels _ = Unit {0}
+-- the most items that may be asked for in a step of a walk
+abbrev pub most_items : ℕ
+most_items = 65536
+
+-- A call's arguments are in their ranges, where their types do not say it: its generator is an
+-- entry, with as many inside as may be, and each step of a walk asks for an item at least.
+abbrev pub HasRanges : Call → Type 0
+HasRanges (Entry gen) = (0 < length gen.levels) × (length gen.levels ≤ most_levels)
+HasRanges (Walk wanted fields size list) = (0 < size) × (size ≤ most_items)
+HasRanges (WalkDelete wanted size) = (0 < size) × (size ≤ most_items)
+HasRanges _ = Unit {0}
 
 -- the step's call is such a one
-abbrev pub IsLevelled : Step → Type 0
-IsLevelled step = HasLevels step.call
+abbrev pub IsRanged : Step → Type 0
+IsRanged step = HasRanges step.call

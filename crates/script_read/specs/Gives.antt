@@ -12,8 +12,8 @@ use Rattle.script_read.specs.declared.keyword.Keyword.{Keyword}
 use Rattle.script_read.specs.declared.keyword.Keyword.TheVariants as keywords
 use Rattle.script_read.specs.declared.script.Step.{Step}
 use Rattle.notation.specs.declared.fault.Reason.TheVariants as reasons
-use Rattle.script_read.specs.Calls.{last_moment, HasLevels}
-use Rattle.script_read.specs.Table.{Form, Refuse, later, form_of}
+use Rattle.script_read.specs.Calls.{last_moment, HasRanges}
+use Rattle.script_read.specs.Table.{Form, Refuse, form_of}
 use Rattle.script_read.specs.Reading.{scripts_at}
 
 abbrev pub Stops : {Y : Type 0} → Stop → Result Y Fault → Type 0
@@ -55,10 +55,12 @@ form_named keywords.Enabled = form_of (codes "apcu_enabled")
 form_named keywords.KeyInfo = form_of (codes "apcu_key_info")
 form_named keywords.CacheInfo = form_of (codes "apcu_cache_info")
 form_named keywords.SmaInfo = form_of (codes "apcu_sma_info")
-form_named keywords.Later = later
+form_named keywords.Iterate = form_of (codes "APCUIterator")
+form_named keywords.IterateDelete = form_of (codes "APCUIterator_delete")
+form_named keywords.IterateTotals = form_of (codes "APCUIterator_totals")
 form_named keywords.Unknown = Refuse reasons.Line
 
--- what a line does is in range: the moment that it sets, or the levels of its call
+-- what a line does is in range: the moment that it sets, or its call's arguments
 abbrev pub IsInRange : Effect → Type 0
 IsInRange (Sets t) = t ≤ last_moment
-IsInRange (Calls call) = HasLevels call
+IsInRange (Calls call) = HasRanges call

@@ -1,7 +1,7 @@
 -- What workers ask of the cache, and what comes of a journal.
-use Rattle.std.specs.Prelude.{ℕ, ◌&&◌, Bool, true, false, if◌then◌else◌, List, [], ◌∷◌, ◌++◌}
-use Rattle.std.specs.Prelude.{length, map, Option, Some, None, slice_get, slice_set, unwrap_or}
-use Rattle.std.specs.Prelude.{is_none, IsTrue, IsSome}
+use Rattle.std.specs.Prelude.{ℕ, nat_lt, ◌&&◌, Bool, true, false, if◌then◌else◌, List, [], ◌∷◌}
+use Rattle.std.specs.Prelude.{◌++◌, length, map, Option, Some, None, slice_get, slice_set}
+use Rattle.std.specs.Prelude.{unwrap_or, is_none, IsTrue, IsSome}
 use Rattle.std.specs.Option.{option_and_then}
 use Rattle.apcu_model.specs.declared.conf.Conf.{Conf}
 use Rattle.apcu_model.specs.declared.event.Event.{Event}
@@ -9,34 +9,48 @@ use Rattle.apcu_model.specs.declared.journal.Mark.{Mark}
 use Rattle.apcu_model.specs.declared.request.Request.{Request}
 use Rattle.apcu_model.specs.declared.request.Request.TheVariants as requests
 use Rattle.apcu_model.specs.declared.request.Reply.{Reply}
+use Rattle.apcu_model.specs.declared.request.Reply.TheVariants as answers
+use Rattle.apcu_model.specs.declared.searching.List.TheVariants.{Active, Deleted}
 use Rattle.apcu_model.specs.History.{Stage, start_of, is_legal_mask, reply_in, after_event}
 use Rattle.script_read.specs.declared.call.Call.{Call}
 use Rattle.script_read.specs.declared.call.Call.TheVariants.{StoreOne, StoreMany, FetchOne}
 use Rattle.script_read.specs.declared.call.Call.TheVariants.{FetchMany, ExistsOne, ExistsMany}
 use Rattle.script_read.specs.declared.call.Call.TheVariants.{DeleteOne, DeleteMany, Inc, Cas, Clear}
 use Rattle.script_read.specs.declared.call.Call.TheVariants.{Enabled, Entry, KeyInfo, CacheInfo}
-use Rattle.script_read.specs.declared.call.Call.TheVariants.{SmaInfo}
+use Rattle.script_read.specs.declared.call.Call.TheVariants.{SmaInfo, Walk, WalkDelete, Totals}
 use Rattle.script_read.specs.declared.script.Step.{Step}
 
--- what a call asks, one request after the other; whether the cache is enabled asks nothing
-abbrev pub requests_of : Call → List Request
-requests_of (StoreOne key value ttl exclusive) = requests.Store key value ttl exclusive ∷ []
-requests_of (StoreMany pairs ttl exclusive) =
-    map (λ pair. requests.Store pair.0 pair.1 ttl exclusive) pairs
-requests_of (FetchOne key) = requests.Fetch key ∷ []
-requests_of (FetchMany keys) = map requests.Fetch keys
-requests_of (ExistsOne key) = requests.Exists key ∷ []
-requests_of (ExistsMany keys) = map requests.Exists keys
-requests_of (DeleteOne key) = requests.Delete key ∷ []
-requests_of (DeleteMany keys) = map requests.Delete keys
-requests_of (Inc key step ttl) = requests.Inc key step ttl ∷ []
-requests_of (Cas key expect set) = requests.Cas key expect set ∷ []
-requests_of (Entry gen) = requests.Entry gen ∷ []
-requests_of Clear = requests.Clear ∷ []
-requests_of Enabled = []
-requests_of (KeyInfo key) = requests.KeyInfo key ∷ []
-requests_of (CacheInfo limited) = requests.CacheInfo limited ∷ []
-requests_of (SmaInfo limited) = requests.SmaInfo limited ∷ []
+-- How a call asks: these requests, one after the other; or step by step, each by the slot from
+-- which it goes on.
+pub data Asking : Type 0 where
+  Each : List Request → Asking
+  Steps : (ℕ → Request) → Asking
+
+-- Whether the cache is enabled asks nothing. The removed rows are walked over in one step.
+abbrev pub asking_of : Call → Asking
+asking_of (StoreOne key value ttl exclusive) = Each (requests.Store key value ttl exclusive ∷ [])
+asking_of (StoreMany pairs ttl exclusive) =
+    Each (map (λ pair. requests.Store pair.0 pair.1 ttl exclusive) pairs)
+asking_of (FetchOne key) = Each (requests.Fetch key ∷ [])
+asking_of (FetchMany keys) = Each (map requests.Fetch keys)
+asking_of (ExistsOne key) = Each (requests.Exists key ∷ [])
+asking_of (ExistsMany keys) = Each (map requests.Exists keys)
+asking_of (DeleteOne key) = Each (requests.Delete key ∷ [])
+asking_of (DeleteMany keys) = Each (map requests.Delete keys)
+asking_of (Inc key step ttl) = Each (requests.Inc key step ttl ∷ [])
+asking_of (Cas key expect set) = Each (requests.Cas key expect set ∷ [])
+asking_of (Entry gen) = Each (requests.Entry gen ∷ [])
+asking_of Clear = Each (requests.Clear ∷ [])
+asking_of Enabled = Each []
+asking_of (KeyInfo key) = Each (requests.KeyInfo key ∷ [])
+asking_of (CacheInfo limited) = Each (requests.CacheInfo limited ∷ [])
+asking_of (SmaInfo limited) = Each (requests.SmaInfo limited ∷ [])
+asking_of (Walk wanted fields size Active) =
+    Steps (λ from. requests.Chunk wanted from size Active fields)
+asking_of (Walk wanted fields size Deleted) =
+    Each (requests.Chunk wanted 0 size Deleted fields ∷ [])
+asking_of (WalkDelete wanted size) = Steps (λ from. requests.ChunkDelete wanted from size)
+asking_of (Totals wanted list) = Each (requests.Totals wanted list ∷ [])
 
 -- What a call does next, after it got some replies: it asks once more, or it is done and leaves the
 -- replies that belong to the calls after it.
@@ -50,8 +64,32 @@ asks_each [] replies = Leaves replies
 asks_each (request ∷ more) [] = Asks request
 asks_each (request ∷ more) (reply ∷ replies) = asks_each more replies
 
+-- the slot up to which a step went, where the reply is a step's
+abbrev pub step_end : ℕ → Reply → ℕ
+step_end slots (answers.Chunk chunk) = chunk.next
+step_end slots (answers.Next next) = next
+step_end slots _ = slots
+
+-- The slot from which a walk goes on after a step from this one; the number of slots is its end.
+-- The steps of a cache go up. A reply that does not, which no cache gives, ends the walk.
+abbrev pub slot_after : ℕ → ℕ → Reply → ℕ
+slot_after slots from reply =
+    if nat_lt from (step_end slots reply) then step_end slots reply else slots
+
+-- step by step, as long as slots are left
+abbrev pub asks_steps : ℕ → (ℕ → Request) → ℕ → List Reply → Next
+asks_steps slots ask from [] = if nat_lt from slots then Asks (ask from) else Leaves []
+asks_steps slots ask from (reply ∷ replies) =
+    if nat_lt from slots then asks_steps slots ask (slot_after slots from reply) replies
+    else Leaves (reply ∷ replies)
+
+-- a walk goes from the first slot on
+abbrev pub asks_so : ℕ → Asking → List Reply → Next
+asks_so slots (Each asked) replies = asks_each asked replies
+asks_so slots (Steps ask) replies = asks_steps slots ask 0 replies
+
 abbrev pub next_of : Conf → Call → List Reply → Next
-next_of conf call replies = asks_each (requests_of call) replies
+next_of conf call replies = asks_so conf.slots (asking_of call) replies
 
 -- a request and its moment
 pub record Wish : Type 0 where

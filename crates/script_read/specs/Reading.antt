@@ -164,14 +164,9 @@ abbrev pub worker_at : ℕ → List ℕ → Result (List ℕ) Fault
 worker_at begun line =
     if nat_lt begun most_workers then end_at (behind_word line) else fail reasons.Workers line
 
--- before the first `worker`: what is refused anyway stays so
-abbrev pub before_worker : Form → Form
-before_worker (Refuse reason) = Refuse reason
-before_worker _ = Refuse reasons.Line
-
--- what may follow a word, where so many scripts have begun
+-- what may follow a word, where so many scripts have begun: nothing before the first `worker`
 abbrev pub form_after : ℕ → List ℕ → Form
-form_after zero word = before_worker (form_of word)
+form_after zero word = Refuse reasons.Line
 form_after (suc begun) word = form_of word
 
 abbrev pub line_at : ℕ → List ℕ → Result (Effect × List ℕ) Fault

@@ -1,19 +1,20 @@
 -- The words of lines, and the arguments that each takes.
-use Rattle.std.specs.Prelude.{ℕ, Bool, true, false, List, [], ◌∷◌, ◌++◌, map, codes, Option, Some}
-use Rattle.std.specs.Prelude.{None, if◌then◌else◌, ℤ, pos}
+use Rattle.std.specs.Prelude.{ℕ, Bool, true, false, List, [], ◌∷◌, codes, Option, Some, None}
+use Rattle.std.specs.Prelude.{if◌then◌else◌, ℤ, pos}
 use Rattle.std.specs.Int.{w64, int_wrapping_neg}
 use Rattle.std.specs.Option.{option_map}
 use Rattle.std.specs.Str.{bytes_eq}
 use Rattle.php_graph.specs.declared.kind.Kind.{Kind}
 use Rattle.apcu_model.specs.Levels.{Generator}
+use Rattle.apcu_model.specs.declared.searching.List.TheVariants.{Active}
 use Rattle.notation.specs.declared.fault.Reason.{Reason}
-use Rattle.notation.specs.declared.fault.Reason.TheVariants.{Argument, Line, Unbuilt}
+use Rattle.notation.specs.declared.fault.Reason.TheVariants.{Argument, Line}
 use Rattle.script_read.specs.declared.call.Call.{Call}
 use Rattle.script_read.specs.declared.call.Call.TheVariants.{StoreOne, StoreMany, FetchOne}
 use Rattle.script_read.specs.declared.call.Call.TheVariants.{FetchMany, ExistsOne, ExistsMany}
 use Rattle.script_read.specs.declared.call.Call.TheVariants.{DeleteOne, DeleteMany, Inc, Cas, Clear}
 use Rattle.script_read.specs.declared.call.Call.TheVariants.{Enabled, Entry, KeyInfo, CacheInfo}
-use Rattle.script_read.specs.declared.call.Call.TheVariants.{SmaInfo}
+use Rattle.script_read.specs.declared.call.Call.TheVariants.{SmaInfo, Walk, WalkDelete, Totals}
 use Rattle.script_read.specs.declared.effect.Effect.{Effect}
 use Rattle.script_read.specs.declared.effect.Effect.TheVariants.{Sets, Calls}
 use Rattle.script_read.specs.declared.given.Asked.{Asked}
@@ -21,7 +22,8 @@ use Rattle.script_read.specs.declared.given.Asked.TheVariants as asks
 use Rattle.script_read.specs.declared.given.Stored.{Stored}
 use Rattle.script_read.specs.declared.given.Stored.TheVariants as stores
 use Rattle.script_read.specs.Arguments.{any_value, key, integer, truth, null, ttl, moment}
-use Rattle.script_read.specs.Arguments.{asked_of, stored}
+use Rattle.script_read.specs.Arguments.{asked_of, stored, search_for, fields, all_fields}
+use Rattle.script_read.specs.Arguments.{chunk_size, which_list}
 use Rattle.script_read.specs.GenParts.{entry_round}
 
 -- ---- forms
@@ -112,9 +114,27 @@ key_info_form = needs key (λ k. calls (KeyInfo k))
 abbrev pub info_form : (Bool → Call) → Form
 info_form info = may false truth (λ limited. calls (info limited))
 
+-- how many items a step of a walk has at least, where it is left out
+abbrev pub usual_size : ℕ
+usual_size = 100
+
+-- Which keys, what is told of their rows, how many items a step has at least, and which rows: all
+-- fields, the usual size and the active rows where they are left out.
+abbrev pub walk_form : Form
+walk_form =
+    needs search_for (λ s. may all_fields fields (λ f.
+    may usual_size chunk_size (λ n. may Active which_list (λ l. calls (Walk s f n l)))))
+
+abbrev pub walk_delete_form : Form
+walk_delete_form =
+    needs search_for (λ s. may usual_size chunk_size (λ n. calls (WalkDelete s n)))
+
+abbrev pub totals_form : Form
+totals_form = needs search_for (λ s. may Active which_list (λ l. calls (Totals s l)))
+
 -- the words, `worker` apart
-abbrev pub built : List (List ℕ × Form)
-built =
+abbrev pub table : List (List ℕ × Form)
+table =
     (codes "time", needs moment (λ t. Done (Sets t)))
     ∷ (codes "apcu_store", needs stored (store_by false))
     ∷ (codes "apcu_add", needs stored (store_by true))
@@ -130,21 +150,10 @@ built =
     ∷ (codes "apcu_key_info", key_info_form)
     ∷ (codes "apcu_cache_info", info_form CacheInfo)
     ∷ (codes "apcu_sma_info", info_form SmaInfo)
+    ∷ (codes "APCUIterator", walk_form)
+    ∷ (codes "APCUIterator_delete", walk_delete_form)
+    ∷ (codes "APCUIterator_totals", totals_form)
     ∷ []
-
--- words that are not built yet
-abbrev pub later_words : List (List ℕ)
-later_words =
-    codes "APCUIterator"
-    ∷ codes "APCUIterator_delete"
-    ∷ codes "APCUIterator_totals"
-    ∷ []
-
-abbrev pub later : Form
-later = Refuse Unbuilt
-
-abbrev pub table : List (List ℕ × Form)
-table = built ++ map (λ word. (word, later)) later_words
 
 -- what follows a word, by the first row that has it; no other word may begin a line
 unfoldable pub form_in : List (List ℕ × Form) → List ℕ → Form

@@ -3,9 +3,12 @@
 ghost use Rattle.std.specs.Prelude.{◌≡◌, ℕ, ◌≤◌, ◌<◌, false, List, length, pos, Err, IfOk};
 ghost use Rattle.notation.specs.Marks.{fail};
 ghost use Rattle.notation.specs.Reading.{reading_of};
-ghost use Rattle.script_read.specs.Calls.{last_moment};
+ghost use Rattle.apcu_model.specs.declared.searching.List.TheVariants.{Active};
+ghost use Rattle.script_read.specs.Calls.{last_moment, most_items};
 ghost use Rattle.script_read.specs.Arguments.{any_value, key, integer, truth, null, ttl, moment};
-ghost use Rattle.script_read.specs.Arguments.{asked_of, stored};
+ghost use Rattle.script_read.specs.Arguments.{asked_of, stored, search_for, fields, all_fields};
+ghost use Rattle.script_read.specs.Arguments.{chunk_size, which_list};
+ghost use Rattle.script_read.specs.Table.{usual_size};
 ghost use Rattle.script_read.specs.Reading.{space_at, end_at, one_more_at, ends_here, choice_at};
 ghost use Rattle.script_read.specs.Reading.{argument_at, optional_at};
 ghost use Rattle.script_read.specs.Gives.{GivesItem};
@@ -13,6 +16,8 @@ ghost use Rattle.script_read.specs.Gives.{GivesItem};
 use crate::choices::{asked_of, integer_of, is_null, moment_of, stored_of, truth_of, ttl_of};
 use crate::fault::Stop;
 use crate::given::{Asked, Stored};
+use crate::searches::{chunk_size_of, fields_of, list_of, search_of};
+use apcu_model::{Fields, List as Which, Pattern};
 use notation::{Cursor, Fault, ReadFault, Reason, read_value};
 use php_graph::{Bytes, Graph};
 use std::alloc::Global;
@@ -238,5 +243,71 @@ pub(crate) fn null_argument(alloc: Global, bytes: &[u8]) -> Result<&[u8], Stop>
         Ok(rest)
     } else {
         Err(fault(Reason::Argument, argument))
+    }
+}
+
+// The keys that are searched for.
+pub(crate) fn search_argument(alloc: Global, bytes: &[u8]) -> Result<(Option<Pattern>, &[u8]), Stop>
+    ensures read { GivesItem (λ x. (x.0, x.1.now)) result (argument_at search_for bytes.now) }
+    ensures fewer { IfOk result (λ x. length x.1.now < length bytes.now) }
+{
+    let argument = space(bytes)?;
+    let (graph, rest) = value(alloc, argument)?;
+    match search_of(alloc, &graph)? {
+        Some(search) => Ok((search, rest)),
+        None => Err(fault(Reason::Argument, argument)),
+    }
+}
+
+// Fields, or all of them where the line ends.
+pub(crate) fn fields_argument(alloc: Global, bytes: &[u8]) -> Result<(Fields, &[u8]), Stop>
+    ensures read { GivesItem (λ x. (x.0, x.1.now)) result
+        (optional_at all_fields fields bytes.now) }
+    ensures no_more { IfOk result (λ x. length x.1.now ≤ length bytes.now) }
+{
+    if ends_here(bytes) {
+        return Ok((Fields(511), bytes));
+    }
+    let argument = space(bytes)?;
+    let (graph, rest) = value(alloc, argument)?;
+    match fields_of(&graph) {
+        Some(fields) => Ok((fields, rest)),
+        None => Err(fault(Reason::Argument, argument)),
+    }
+}
+
+// How many items a step has at least; 100 where the line ends.
+pub(crate) fn size_argument(alloc: Global, bytes: &[u8]) -> Result<(u32, &[u8]), Stop>
+    ensures read { GivesItem (λ x. (x.0, x.1.now)) result
+        (optional_at usual_size chunk_size bytes.now) }
+    ensures no_more { IfOk result (λ x. length x.1.now ≤ length bytes.now) }
+    ensures some { IfOk result (λ x. 0 < x.0) }
+    ensures few { IfOk result (λ x. x.0 ≤ most_items) }
+{
+    if ends_here(bytes) {
+        return Ok((100, bytes));
+    }
+    let argument = space(bytes)?;
+    let (graph, rest) = value(alloc, argument)?;
+    match chunk_size_of(&graph) {
+        Some(size) => Ok((size, rest)),
+        None => Err(fault(Reason::Argument, argument)),
+    }
+}
+
+// A list, or the active rows where the line ends.
+pub(crate) fn list_argument(alloc: Global, bytes: &[u8]) -> Result<(Which, &[u8]), Stop>
+    ensures read { GivesItem (λ x. (x.0, x.1.now)) result
+        (optional_at Active which_list bytes.now) }
+    ensures no_more { IfOk result (λ x. length x.1.now ≤ length bytes.now) }
+{
+    if ends_here(bytes) {
+        return Ok((Which::Active, bytes));
+    }
+    let argument = space(bytes)?;
+    let (graph, rest) = value(alloc, argument)?;
+    match list_of(&graph) {
+        Some(list) => Ok((list, rest)),
+        None => Err(fault(Reason::Argument, argument)),
     }
 }

@@ -1,7 +1,7 @@
 ghost use Rattle.std.specs.Prelude.{◌≡◌};
 ghost use Rattle.script_read.specs.Calls.{event_bound};
 
-use apcu_model::{Gen, Keys, Pairs};
+use apcu_model::{Fields, Gen, Keys, List, Pairs, Pattern};
 use php_graph::{Bytes, Graph};
 
 /// A call of a script, as PHP's manual has the functions of APCu.
@@ -59,6 +59,29 @@ pub enum Call {
     CacheInfo(bool),
     /// `apcu_sma_info`; where it is true, without the list of gaps.
     SmaInfo(bool),
+    /// `APCUIterator`, gone over from its first row to its last one.
+    Walk {
+        /// Which keys match; each one without a pattern.
+        search: Option<Pattern>,
+        fields: Fields,
+        /// How many items a step has at least, as long as there are as many: the constructor's
+        /// `chunk_size`, from 1 to 65,536.
+        size: u32,
+        list: List,
+    },
+    /// `apcu_delete` of an `APCUIterator` over the active rows.
+    WalkDelete {
+        /// Which keys match; each one without a pattern.
+        search: Option<Pattern>,
+        /// As of `Walk`.
+        size: u32,
+    },
+    /// `APCUIterator`'s totals.
+    Totals {
+        /// Which keys match; each one without a pattern.
+        search: Option<Pattern>,
+        list: List,
+    },
 }
 
 impl Call {
@@ -77,7 +100,17 @@ impl Call {
             | Call::Clear
             | Call::KeyInfo(_)
             | Call::CacheInfo(_)
-            | Call::SmaInfo(_) => 1,
+            | Call::SmaInfo(_)
+            | Call::Walk {
+                list: List::Deleted,
+                ..
+            }
+            | Call::Totals { .. } => 1,
+            Call::Walk {
+                list: List::Active,
+                ..
+            }
+            | Call::WalkDelete { .. } => u64::from(slots),
             Call::StoreMany { pairs, .. } => u64::from(pairs.len()),
             Call::FetchMany(keys) | Call::ExistsMany(keys) | Call::DeleteMany(keys) => {
                 u64::from(keys.len())

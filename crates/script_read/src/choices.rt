@@ -6,7 +6,7 @@ ghost use Rattle.std.specs.Option.{is_some, option_map};
 ghost use Rattle.php_graph.specs.Graph.{IsGraph, kind_at};
 ghost use Rattle.script_read.specs.Calls.{last_moment};
 ghost use Rattle.script_read.specs.Arguments.{key, integer, truth, null, ttl, moment, keys, pairs};
-ghost use Rattle.script_read.specs.Arguments.{string_at, value_at, key_bytes, asked_of, stored};
+ghost use Rattle.script_read.specs.Arguments.{member_string, member_value, key_bytes, asked_of, stored};
 ghost use Rattle.script_read.specs.Arguments.{IsThere};
 
 use crate::given::{Asked, Stored};
@@ -114,7 +114,7 @@ fn keys_of(alloc: Global, graph: &Graph) -> Result<Option<Keys>, AllocError>
     let mut keys = Keys::new(alloc);
     for i in 0..members.len() {
         let (_, child) = members.at(i);
-        match string_at(graph, child) {
+        match member_string(graph, child) {
             Some(text) => keys.push(Bytes::of(alloc, text.as_slice())?)?,
             None => return Ok(None),
         }
@@ -123,9 +123,9 @@ fn keys_of(alloc: Global, graph: &Graph) -> Result<Option<Keys>, AllocError>
 }
 
 // The string that is written there.
-fn string_at(graph: &Graph, child: Child) -> Option<&Bytes>
+pub(crate) fn member_string(graph: &Graph, child: Child) -> Option<&Bytes>
     requires { IsThere graph.now child }
-    ensures { option_map (λ text. text.now) result ≡ string_at graph.now child }
+    ensures { option_map (λ text. text.now) result ≡ member_string graph.now child }
 {
     match child {
         Child::Back(_) => None,
@@ -147,7 +147,7 @@ fn pairs_of(alloc: Global, graph: &Graph) -> Result<Option<Pairs>, AllocError>
     let mut pairs = Pairs::new(alloc);
     for i in 0..members.len() {
         let (key, child) = members.at(i);
-        match value_at(alloc, graph, child)? {
+        match member_value(alloc, graph, child)? {
             Some(value) => pairs.push(bytes_of(alloc, key)?, value)?,
             None => return Ok(None),
         }
@@ -156,9 +156,9 @@ fn pairs_of(alloc: Global, graph: &Graph) -> Result<Option<Pairs>, AllocError>
 }
 
 // The value that is written there, and shares no place with others.
-fn value_at(alloc: Global, graph: &Graph, child: Child) -> Result<Option<Graph>, AllocError>
+fn member_value(alloc: Global, graph: &Graph, child: Child) -> Result<Option<Graph>, AllocError>
     requires { IsThere graph.now child }
-    ensures { IfOk result (λ value. value ≡ value_at graph.now child) }
+    ensures { IfOk result (λ value. value ≡ member_value graph.now child) }
 {
     match child {
         Child::Back(_) => Ok(None),

@@ -1,7 +1,6 @@
 ghost use Rattle.std.specs.Prelude.{◌≡◌};
-ghost use Rattle.std.specs.List.{list_any};
 ghost use Rattle.std.specs.Str.{bytes_eq};
-ghost use Rattle.script_read.specs.Table.{later_words, form_of};
+ghost use Rattle.script_read.specs.Table.{form_of};
 ghost use Rattle.script_read.specs.Gives.{form_named};
 
 /// What a line begins with.
@@ -22,8 +21,9 @@ pub(crate) enum Keyword {
     KeyInfo,
     CacheInfo,
     SmaInfo,
-    /// A call that is not built yet.
-    Later,
+    Iterate,
+    IterateDelete,
+    IterateTotals,
     /// No word of the language.
     Unknown,
 }
@@ -63,21 +63,16 @@ impl Keyword {
             Keyword::CacheInfo
         } else if is_word(text, b"apcu_sma_info") {
             Keyword::SmaInfo
-        } else if is_later(text) {
-            Keyword::Later
+        } else if is_word(text, b"APCUIterator") {
+            Keyword::Iterate
+        } else if is_word(text, b"APCUIterator_delete") {
+            Keyword::IterateDelete
+        } else if is_word(text, b"APCUIterator_totals") {
+            Keyword::IterateTotals
         } else {
             Keyword::Unknown
         }
     }
-}
-
-// A call that is not built yet.
-fn is_later(text: &[u8]) -> bool
-    ensures { result ≡ list_any (bytes_eq text.now) later_words }
-{
-    is_word(text, b"APCUIterator")
-        || is_word(text, b"APCUIterator_delete")
-        || is_word(text, b"APCUIterator_totals")
 }
 
 pub(crate) fn is_word(text: &[u8], word: &[u8]) -> bool

@@ -4,15 +4,21 @@
 mod arguments;
 mod call;
 mod choices;
+mod counters;
 mod effect;
 mod fault;
 mod generators;
 mod given;
+mod information;
+mod iterators;
 mod keyword;
 mod laws;
 mod lines;
+mod lookups;
 mod reading;
 mod script;
+mod searches;
+mod stores;
 
 pub use call::Call;
 pub use fault::ScriptFault;

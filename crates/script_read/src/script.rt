@@ -1,7 +1,7 @@
 ghost use Rattle.std.specs.Prelude.{◌≡◌, ℕ, ◌<◌, ◌==◌, ◌++◌, List, [], ◌∷◌, length, is_ok};
 ghost use Rattle.std.specs.Prelude.{if◌then◌else◌, slice_get, Some, IfNone};
 ghost use Rattle.script_read.specs.declared.script.Step.{Step};
-ghost use Rattle.script_read.specs.Calls.{IsInTime, IsLevelled};
+ghost use Rattle.script_read.specs.Calls.{IsInTime, IsRanged};
 ghost use Rattle.script_read.specs.Growing.{grown, last_len};
 ghost use Rattle.std.specs.List.{AllByRecursion};
 ghost use Rattle.std.specs.Option.{option_to_list};
@@ -27,7 +27,7 @@ impl Model for Script {
     ghost use Rattle.std.specs.Prelude.{List, length, ◌<◌, ◌^◌};
     ghost use Rattle.std.specs.List.{AllByRecursion};
     ghost use Rattle.script_read.specs.declared.script.Step.{Step};
-    ghost use Rattle.script_read.specs.Calls.{IsInTime, IsLevelled};
+    ghost use Rattle.script_read.specs.Calls.{IsInTime, IsRanged};
 
     ghost Value = { List Step };
 
@@ -35,7 +35,7 @@ impl Model for Script {
 
     ghost invariant = { λ s.
         (length s.steps.items < 2 ^ 32) × AllByRecursion IsInTime s.steps.items
-        × AllByRecursion IsLevelled s.steps.items };
+        × AllByRecursion IsRanged s.steps.items };
 }
 
 impl Script {
@@ -51,7 +51,7 @@ impl Script {
     /// Adds a step at the end; without memory the script stays as it was.
     pub fn push(&mut self, step: Step) -> Result<(), AllocError>
         requires moment { IsInTime step }
-        requires levels { IsLevelled step }
+        requires ranges { IsRanged step }
         requires few { length self.old < 4294967295 }
         ensures { self.new ≡ (if is_ok result then self.old ++ step ∷ [] else self.old) }
     {
@@ -78,7 +78,7 @@ impl Script {
         requires { i < length self.now }
         ensures step { slice_get self.now i ≡ Some result.now }
         ensures moment { IsInTime result.now }
-        ensures levels { IsLevelled result.now }
+        ensures ranges { IsRanged result.now }
     {
         &self.steps[i as usize]
     }
@@ -87,7 +87,7 @@ impl Script {
     pub fn into_steps(self) -> Vec<Step>
         ensures steps { result.items ≡ self }
         ensures moments { AllByRecursion IsInTime result.items }
-        ensures levels { AllByRecursion IsLevelled result.items }
+        ensures ranges { AllByRecursion IsRanged result.items }
     {
         self.steps
     }
@@ -163,7 +163,7 @@ impl Scripts {
     // The last script has one step more; without memory it stays as it was.
     pub(crate) fn add(&mut self, step: Step) -> Result<(), AllocError>
         requires moment { IsInTime step }
-        requires levels { IsLevelled step }
+        requires ranges { IsRanged step }
         requires some { 0 < length self.old }
         requires few { last_len self.old < 4294967295 }
         ensures { self.new ≡ (if is_ok result then grown self.old step else self.old) }

@@ -1,12 +1,15 @@
 //! What a script is expected to ask, call by call.
 
-use apcu_model::{Gen, GenKind, Keys, Pairs};
+use apcu_model::{Gen, GenKind, Keys, List, Pairs, Pattern};
 use notation::{Cursor, read_value};
 use php_graph::Graph;
 use script_read::{Call, read_scripts};
 use std::alloc::Global;
 use std::process::Abort;
 use std::test::Fail;
+
+// A pattern's text, and whether letters match in either case.
+pub(crate) type Search = Option<(&'static [u8], bool)>;
 
 // A call as a table has it: values and pairs by their texts.
 #[derive(Clone, Copy)]
@@ -27,6 +30,9 @@ pub(crate) enum Asked {
     KeyInfo(&'static [u8]),
     CacheInfo(bool),
     SmaInfo(bool),
+    Walk(Search, u16, u32, List),
+    WalkDelete(Search, u32),
+    Totals(Search, List),
 }
 
 fn is_value(alloc: Global, text: &[u8], value: &Graph) -> Result<bool, Fail> {
@@ -87,6 +93,16 @@ fn is_generator(
     }
 }
 
+fn is_search(expected: Search, search: &Option<Pattern>) -> bool {
+    match (expected, search) {
+        (None, None) => true,
+        (Some((text, fold)), Some(pattern)) => {
+            pattern.text.as_slice() == text && pattern.fold == fold
+        }
+        _ => false,
+    }
+}
+
 fn is_call(alloc: Global, expected: Asked, call: &Call) -> Result<bool, Fail> {
     match (expected, call) {
         (
@@ -125,6 +141,21 @@ fn is_call(alloc: Global, expected: Asked, call: &Call) -> Result<bool, Fail> {
         (Asked::KeyInfo(k), Call::KeyInfo(key)) => Ok(key.as_slice() == k),
         (Asked::CacheInfo(l), Call::CacheInfo(limited))
         | (Asked::SmaInfo(l), Call::SmaInfo(limited)) => Ok(*limited == l),
+        (
+            Asked::Walk(s, f, n, l),
+            Call::Walk {
+                search,
+                fields,
+                size,
+                list,
+            },
+        ) => Ok(is_search(s, search) && fields.0 == f && *size == n && *list == l),
+        (Asked::WalkDelete(s, n), Call::WalkDelete { search, size }) => {
+            Ok(is_search(s, search) && *size == n)
+        }
+        (Asked::Totals(s, l), Call::Totals { search, list }) => {
+            Ok(is_search(s, search) && *list == l)
+        }
         _ => Ok(false),
     }
 }

@@ -22,9 +22,9 @@ pub(crate) fn refused(rt: &impl Abort, alloc: Global, text: &[u8], place: u64, r
 }
 
 // A text, the place of its first fault, and the reason.
-type Fault = (&'static [u8], u64, Reason);
+pub(crate) type Fault = (&'static [u8], u64, Reason);
 
-fn all_refused(rt: &impl Abort, alloc: Global, faults: &[Fault]) {
+pub(crate) fn all_refused(rt: &impl Abort, alloc: Global, faults: &[Fault]) {
     for fault in faults {
         refused(rt, alloc, fault.0, fault.1, fault.2);
     }
@@ -61,13 +61,12 @@ fn lines_at_fault(rt: HostRuntime) {
         (b"apcu_fetch s:1:\"a\";\n", 0, Reason::Line),
         (b"time i:1;\n", 0, Reason::Line),
         (b"apcu_entry s:1:\"a\";\n", 0, Reason::Line),
-        (b"APCUIterator N;\n", 0, Reason::Unbuilt),
+        (b"APCUIterator N;\n", 0, Reason::Line),
         (b"worker\nworker N;\n", 14, Reason::Argument),
         (b"worker\nworker\ntime N;\n", 19, Reason::Argument),
         (b"worker\n\n", 7, Reason::Line),
         (b"worker\napcu_foo\n", 7, Reason::Line),
-        (b"worker\nAPCUIterator x", 7, Reason::Unbuilt),
-        (b"worker\nAPCUIterator_totals\n", 7, Reason::Unbuilt),
+        (b"worker\nAPCUIterator_\n", 7, Reason::Line),
         (b"worker\ntime", 11, Reason::End),
         (b"worker\ntime ", 12, Reason::End),
         (b"worker\ntime i:1;", 16, Reason::End),

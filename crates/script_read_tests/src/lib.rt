@@ -6,4 +6,6 @@ mod asked;
 #[cfg(test)]
 mod faults;
 #[cfg(test)]
+mod iterators;
+#[cfg(test)]
 mod reading;

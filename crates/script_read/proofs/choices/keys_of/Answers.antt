@@ -4,7 +4,7 @@ use Rattle.php_graph.specs.declared.key.Key.{Key}
 use Rattle.php_graph.specs.declared.child.Child.{Child}
 use Rattle.php_graph.specs.declared.kind.Kind.{Kind}
 use Rattle.std.specs.Option.{option_and_then}
-use Rattle.script_read.specs.Arguments.{each, string_at}
+use Rattle.script_read.specs.Arguments.{each, member_string}
 use Rattle.script_read.proofs.Members.{with_front, one_more, no_more, some_places, members_of, member_there}
 use Rattle.script_read.proofs.choices.keys_of.Goals as goal
 
@@ -14,8 +14,8 @@ found kind = Some kind
 pub kind-requires-clause-there : goal.kind-requires-clause-there
 kind-requires-clause-there c = some_places c.args.graph.now c.places-places.ensures.graph
 
-pub string_at-requires : goal.string_at-requires
-string_at-requires c =
+pub member_string-requires : goal.member_string-requires
+member_string-requires c =
     member_there c.args.graph.now c.in-Array.members c.loop-i.i (c.at-child.result.0.now, c.at-child.result.1) c.places-places.ensures.graph (c.kind.ensures ∙ ap found c.in-Array.is) c.at-child.ensures
 
 pub returns-in-None : goal.returns-in-None
@@ -23,8 +23,8 @@ returns-in-None c =
     let g = c.args.graph.now in
     let ms = c.in-Array.members in
     let at = members_of g ms (c.kind.ensures ∙ ap found c.in-Array.is) in
-    let none = no_more (λ (m : Key × Child). string_at g m.1) ms c.loop-i.i (c.at-child.result.0.now, c.at-child.result.1) c.loop-i.keys (each (λ (m : Key × Child). string_at g m.1) ms) c.at-child.ensures (sym c.in-None.ensures) c.loop-i.invariant.found in
-    sym (ap (λ (o : Option (List (Key × Child))). option_and_then (each (λ (m : Key × Child). string_at g m.1)) o) at ∙ none)
+    let none = no_more (λ (m : Key × Child). member_string g m.1) ms c.loop-i.i (c.at-child.result.0.now, c.at-child.result.1) c.loop-i.keys (each (λ (m : Key × Child). member_string g m.1) ms) c.at-child.ensures (sym c.in-None.ensures) c.loop-i.invariant.found in
+    sym (ap (λ (o : Option (List (Key × Child))). option_and_then (each (λ (m : Key × Child). member_string g m.1)) o) at ∙ none)
 
 pub loop-i-preserved : goal.loop-i-preserved
 loop-i-preserved c =
@@ -32,7 +32,7 @@ loop-i-preserved c =
     let ms = c.in-Array.members in
     let i = c.loop-i.i in
     let front = c.loop-i.keys in
-    let f : Key × Child → Option (List ℕ) = λ m. string_at g m.1 in
+    let f : Key × Child → Option (List ℕ) = λ m. member_string g m.1 in
     let key : List ℕ = c.in_ok-of-in-Some.field-0 in
     let is : f (c.at-child.result.0.now, c.at-child.result.1) ≡ Some key = sym c.in-Some.ensures ∙ ap (λ (k : List ℕ). Some k) (sym (c.in_ok-of-in-Some.ensures ∙ c.as_slice.ensures.bytes)) in
     record {

@@ -20,8 +20,8 @@ paired value key = Some (key, value)
 pub kind-requires-clause-there : goal.kind-requires-clause-there
 kind-requires-clause-there c = some_places c.args.graph.now c.places-places.ensures.graph
 
-pub value_at-requires : goal.value_at-requires
-value_at-requires c =
+pub member_value-requires : goal.member_value-requires
+member_value-requires c =
     member_there c.args.graph.now c.in-Array.members c.loop-i.i (c.at-child.result.0.now, c.at-child.result.1) c.places-places.ensures.graph (c.kind.ensures ∙ ap found c.in-Array.is) c.at-child.ensures
 
 pub returns-in-None : goal.returns-in-None

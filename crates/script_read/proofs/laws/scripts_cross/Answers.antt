@@ -1,5 +1,5 @@
 -- Nothing that a script holds keeps it on its thread.
-use denote.Param.Send.{sendable}
+use denote.Param.Send.{IsSync, sendable}
 use Rattle.apcu_model.proofs.generator.Gen.TheLaws.TheKnot
 use Rattle.apcu_model.proofs.keys.Keys.TheSendSync as keys
 use Rattle.apcu_model.proofs.pairs.Pairs.TheSendSync as pairs
@@ -7,12 +7,16 @@ use Rattle.php_graph.proofs.bytes.Bytes.TheSendSync as bytes
 use Rattle.php_graph.proofs.graph.Graph.TheSendSync as graph
 use Rattle.std.proofs.Crossing
 use Rattle.std.proofs.vec.Vec.TheSendSync as vec
+use Rattle.script_read.specs.contracts.script.Script as script_type
 use Rattle.script_read.proofs.laws.scripts_cross.Goals as goal
 
 ruleset held = (keys.the_sync, pairs.the_sync, bytes.the_sync, graph.the_sync, vec.the_sync, Crossing.crosses, TheKnot.crosses, sendable)
 
+script_crosses : IsSync script_type.the_row
+script_crosses = search held depth 60 fits 20000
+
 pub returns-clause-script : goal.returns-clause-script
-returns-clause-script c = search held depth 60 fits 20000
+returns-clause-script c = script_crosses
 
 pub returns-clause-scripts : goal.returns-clause-scripts
-returns-clause-scripts c = search held depth 60 fits 20000
+returns-clause-scripts c = search (script_crosses, vec.the_sync, Crossing.crosses, sendable) depth 30 fits 20000

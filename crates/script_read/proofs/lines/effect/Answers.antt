@@ -110,3 +110,24 @@ returns-in-SmaInfo-clause-read c =
     let line = c.args.line.now in
     let rest = c.args.rest.now in
     moved _ c.sma_info.result _ _ (ap (λ (w : Keyword). rest_at (form_named w) line rest) c.in-SmaInfo.is) (c.sma_info.ensures.read line)
+
+pub returns-in-Iterate-clause-read : goal.returns-in-Iterate-clause-read
+unfolding form_in
+returns-in-Iterate-clause-read c =
+    let line = c.args.line.now in
+    let rest = c.args.rest.now in
+    moved _ c.walk.result _ _ (ap (λ (w : Keyword). rest_at (form_named w) line rest) c.in-Iterate.is) (c.walk.ensures.read line)
+
+pub returns-in-IterateDelete-clause-read : goal.returns-in-IterateDelete-clause-read
+unfolding form_in
+returns-in-IterateDelete-clause-read c =
+    let line = c.args.line.now in
+    let rest = c.args.rest.now in
+    moved _ c.walk_delete.result _ _ (ap (λ (w : Keyword). rest_at (form_named w) line rest) c.in-IterateDelete.is) (c.walk_delete.ensures.read line)
+
+pub returns-in-IterateTotals-clause-read : goal.returns-in-IterateTotals-clause-read
+unfolding form_in
+returns-in-IterateTotals-clause-read c =
+    let line = c.args.line.now in
+    let rest = c.args.rest.now in
+    moved _ c.totals.result _ _ (ap (λ (w : Keyword). rest_at (form_named w) line rest) c.in-IterateTotals.is) (c.totals.ensures.read line)

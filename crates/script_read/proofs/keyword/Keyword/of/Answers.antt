@@ -1,5 +1,5 @@
 use Rattle.std.proofs.Common.{sym, ◌∙◌}
-use Rattle.script_read.proofs.Keywords.{same_form, later_form, no_form}
+use Rattle.script_read.proofs.Keywords.{same_form, no_form}
 use Rattle.script_read.proofs.keyword.Keyword.of.Goals as goal
 
 pub returns-then-is_word : goal.returns-then-is_word
@@ -47,8 +47,14 @@ returns-then-is_word-14 c = same_form c.args.text.now _ (sym c.is_word-else-is_w
 pub returns-then-is_word-15 : goal.returns-then-is_word-15
 returns-then-is_word-15 c = same_form c.args.text.now _ (sym c.is_word-else-is_word-14.ensures ∙ c.if-is_word-15.true)
 
-pub returns-then-is_later : goal.returns-then-is_later
-returns-then-is_later c = later_form c.args.text.now (sym c.is_later.ensures ∙ c.if-is_later.true)
+pub returns-then-is_word-16 : goal.returns-then-is_word-16
+returns-then-is_word-16 c = same_form c.args.text.now _ (sym c.is_word-else-is_word-15.ensures ∙ c.if-is_word-16.true)
 
-pub returns-else-is_later : goal.returns-else-is_later
-returns-else-is_later c = no_form c.args.text.now (sym c.is_word.ensures ∙ c.if-is_word.false) (sym c.is_word-else-is_word.ensures ∙ c.if-is_word-2.false) (sym c.is_word-else-is_word-2.ensures ∙ c.if-is_word-3.false) (sym c.is_word-else-is_word-3.ensures ∙ c.if-is_word-4.false) (sym c.is_word-else-is_word-4.ensures ∙ c.if-is_word-5.false) (sym c.is_word-else-is_word-5.ensures ∙ c.if-is_word-6.false) (sym c.is_word-else-is_word-6.ensures ∙ c.if-is_word-7.false) (sym c.is_word-else-is_word-7.ensures ∙ c.if-is_word-8.false) (sym c.is_word-else-is_word-8.ensures ∙ c.if-is_word-9.false) (sym c.is_word-else-is_word-9.ensures ∙ c.if-is_word-10.false) (sym c.is_word-else-is_word-10.ensures ∙ c.if-is_word-11.false) (sym c.is_word-else-is_word-11.ensures ∙ c.if-is_word-12.false) (sym c.is_word-else-is_word-12.ensures ∙ c.if-is_word-13.false) (sym c.is_word-else-is_word-13.ensures ∙ c.if-is_word-14.false) (sym c.is_word-else-is_word-14.ensures ∙ c.if-is_word-15.false) (sym c.is_later.ensures ∙ c.if-is_later.false)
+pub returns-then-is_word-17 : goal.returns-then-is_word-17
+returns-then-is_word-17 c = same_form c.args.text.now _ (sym c.is_word-else-is_word-16.ensures ∙ c.if-is_word-17.true)
+
+pub returns-then-is_word-18 : goal.returns-then-is_word-18
+returns-then-is_word-18 c = same_form c.args.text.now _ (sym c.is_word-else-is_word-17.ensures ∙ c.if-is_word-18.true)
+
+pub returns-else-is_word-18 : goal.returns-else-is_word-18
+returns-else-is_word-18 c = no_form c.args.text.now (sym c.is_word.ensures ∙ c.if-is_word.false) (sym c.is_word-else-is_word.ensures ∙ c.if-is_word-2.false) (sym c.is_word-else-is_word-2.ensures ∙ c.if-is_word-3.false) (sym c.is_word-else-is_word-3.ensures ∙ c.if-is_word-4.false) (sym c.is_word-else-is_word-4.ensures ∙ c.if-is_word-5.false) (sym c.is_word-else-is_word-5.ensures ∙ c.if-is_word-6.false) (sym c.is_word-else-is_word-6.ensures ∙ c.if-is_word-7.false) (sym c.is_word-else-is_word-7.ensures ∙ c.if-is_word-8.false) (sym c.is_word-else-is_word-8.ensures ∙ c.if-is_word-9.false) (sym c.is_word-else-is_word-9.ensures ∙ c.if-is_word-10.false) (sym c.is_word-else-is_word-10.ensures ∙ c.if-is_word-11.false) (sym c.is_word-else-is_word-11.ensures ∙ c.if-is_word-12.false) (sym c.is_word-else-is_word-12.ensures ∙ c.if-is_word-13.false) (sym c.is_word-else-is_word-13.ensures ∙ c.if-is_word-14.false) (sym c.is_word-else-is_word-14.ensures ∙ c.if-is_word-15.false) (sym c.is_word-else-is_word-15.ensures ∙ c.if-is_word-16.false) (sym c.is_word-else-is_word-16.ensures ∙ c.if-is_word-17.false) (sym c.is_word-else-is_word-17.ensures ∙ c.if-is_word-18.false)

@@ -2,7 +2,7 @@ use Rattle.std.proofs.Common.{arith}
 use Rattle.std.proofs.lemmas.Grind.{common_steps}
 use Rattle.std.proofs.lemmas.Int.{ints}
 use Rattle.script_read.proofs.Rows.{count_at}
-use Rattle.script_read.proofs.lines.count.Goals as goal
+use Rattle.script_read.proofs.counters.count.Goals as goal
 
 pub returns-clause-read : goal.returns-clause-read
 returns-clause-read c = λ last.

@@ -5,7 +5,7 @@ use Rattle.notation.specs.declared.fault.Fault.{Fault}
 use Rattle.script_read.specs.declared.given.Stored.{Stored}
 use Rattle.script_read.specs.declared.given.Stored.TheVariants as stores
 use Rattle.script_read.proofs.Rows.{stored_at, stored_fails, moved}
-use Rattle.script_read.proofs.lines.store.Goals as goal
+use Rattle.script_read.proofs.stores.store.Goals as goal
 
 abbrev was_read : List ℕ → Stored → Result (Stored × List ℕ) Fault
 was_read rest s = Ok (s, rest)

@@ -1,0 +1,52 @@
+//! Lines that ask what the cache knows of itself.
+
+ghost use Rattle.std.specs.Prelude.{ℕ, ◌<◌, List, length, IfOk};
+ghost use Rattle.script_read.specs.declared.call.Call.TheVariants.{CacheInfo, SmaInfo};
+ghost use Rattle.script_read.specs.Table.{key_info_form, info_form};
+ghost use Rattle.script_read.specs.Reading.{rest_at};
+ghost use Rattle.script_read.specs.Gives.{GivesItem, IsInRange};
+
+use crate::arguments::{end, key_argument, truth_argument};
+use crate::call::Call;
+use crate::effect::Effect;
+use crate::fault::Stop;
+use std::alloc::Global;
+
+// The argument of `apcu_key_info`.
+#[tactic(auto, using(crate::proofs::Rows::key_info_is))]
+pub(crate) fn key_info(alloc: Global, bytes: &[u8]) -> Result<(Effect, &[u8]), Stop>
+    ensures read { (last : List ℕ) → GivesItem (λ x. (x.0, x.1.now)) result
+        (rest_at key_info_form last bytes.now) }
+    ensures fewer { IfOk result (λ x. length x.1.now < length bytes.now) }
+    ensures range { IfOk result (λ x. IsInRange x.0) }
+{
+    let (key, rest) = key_argument(alloc, bytes)?;
+    let rest = end(rest)?;
+    Ok((Effect::Calls(Call::KeyInfo(key)), rest))
+}
+
+// The argument of `apcu_cache_info`.
+#[tactic(auto, using(crate::proofs::Rows::cache_info_is))]
+pub(crate) fn cache_info(alloc: Global, bytes: &[u8]) -> Result<(Effect, &[u8]), Stop>
+    ensures read { (last : List ℕ) → GivesItem (λ x. (x.0, x.1.now)) result
+        (rest_at (info_form CacheInfo) last bytes.now) }
+    ensures fewer { IfOk result (λ x. length x.1.now < length bytes.now) }
+    ensures range { IfOk result (λ x. IsInRange x.0) }
+{
+    let (limited, rest) = truth_argument(alloc, bytes)?;
+    let rest = end(rest)?;
+    Ok((Effect::Calls(Call::CacheInfo(limited)), rest))
+}
+
+// The argument of `apcu_sma_info`.
+#[tactic(auto, using(crate::proofs::Rows::sma_info_is))]
+pub(crate) fn sma_info(alloc: Global, bytes: &[u8]) -> Result<(Effect, &[u8]), Stop>
+    ensures read { (last : List ℕ) → GivesItem (λ x. (x.0, x.1.now)) result
+        (rest_at (info_form SmaInfo) last bytes.now) }
+    ensures fewer { IfOk result (λ x. length x.1.now < length bytes.now) }
+    ensures range { IfOk result (λ x. IsInRange x.0) }
+{
+    let (limited, rest) = truth_argument(alloc, bytes)?;
+    let rest = end(rest)?;
+    Ok((Effect::Calls(Call::SmaInfo(limited)), rest))
+}
