@@ -14,7 +14,7 @@ use Rattle.sma_blocks.specs.Ready.{IsReady}
 use Rattle.sma_blocks.specs.Walk.{link_before}
 use Rattle.sma_blocks.proofs.Spans.{span_of, filled_of}
 use Rattle.sma_blocks.proofs.Filling.{Fill-le}
-use Rattle.sma_blocks.proofs.Lives.{extent_of}
+use Rattle.sma_blocks.proofs.Lives.{piece_extent}
 use Rattle.sma_blocks.proofs.Telling.{free_runs_of}
 use Rattle.sma_blocks.proofs.Finding.{here_other, here_live, here_gap, size_outside, size_odd}
 use Rattle.sma_blocks.proofs.Before.{size_within}
@@ -37,10 +37,10 @@ first_behind p ps at v same none h = elim h [
 ]
 
 past_live : (at : ℕ) (p : Piece) (ps : List Piece) → p.live ≡ true → past at (p ∷ ps) ≡ past at ps
-past_live at p ps live = ap (λ (k : Bool). find (λ (run : Extent). nat_le at run.place) (cond k (gaps ps) (extent_of p ∷ gaps ps))) live
+past_live at p ps live = ap (λ (k : Bool). find (λ (run : Extent). nat_le at run.place) (cond k (gaps ps) (piece_extent p ∷ gaps ps))) live
 
-past_gap : (at : ℕ) (p : Piece) (ps : List Piece) → p.live ≡ false → past at (p ∷ ps) ≡ cond (leb at p.place) (Some (extent_of p)) (past at ps)
-past_gap at p ps gap = ap (λ (k : Bool). find (λ (run : Extent). nat_le at run.place) (cond k (gaps ps) (extent_of p ∷ gaps ps))) gap
+past_gap : (at : ℕ) (p : Piece) (ps : List Piece) → p.live ≡ false → past at (p ∷ ps) ≡ cond (leb at p.place) (Some (piece_extent p)) (past at ps)
+past_gap at p ps gap = ap (λ (k : Bool). find (λ (run : Extent). nat_le at run.place) (cond k (gaps ps) (piece_extent p ∷ gaps ps))) gap
 
 first_here : (ws : List ℕ) (a : ℕ) (ps : List Piece) (b f at : ℕ) → Fill ws a ps b → AreLinked ws f ps 0 → ((q : ℕ) → q < at → size_at ps q ≡ 0) → IsFirst ps at f
 first_here ws a [] b f at h k none = inl (refl, k)
@@ -59,7 +59,7 @@ first_here ws a (p ∷ ps) b f at h k none =
             | inr high ↦ high
             | inl under ↦ absurd (omega (arith, none p.place under, here_gap p p.place refl gap))
           ] in
-          let found : past at (p ∷ ps) ≡ Some (extent_of p) = past_gap at p ps gap ∙ ap (λ (t : Bool). cond t (Some (extent_of p)) (past at ps)) (le-leb at p.place low) in
+          let found : past at (p ∷ ps) ≡ Some (piece_extent p) = past_gap at p ps gap ∙ ap (λ (t : Bool). cond t (Some (piece_extent p)) (past at ps)) (le-leb at p.place low) in
           inr (found ∙ ap₂ (λ (x n : ℕ). Some (record { place = x; size = n })) (sym place) (sym size), omega arith, omega arith)
     ]
 
@@ -82,10 +82,10 @@ first_after ws a (p ∷ ps) b f at g h k some before none =
             | inr other ↦
                 let s : size_at ps g ≢ 0 = λ e. some (omega (arith, here_other p g other)) in
                 let far : a + p.size ≤ g = inner s in
-                let skip : past at (p ∷ ps) ≡ past at ps = past_gap at p ps gap ∙ ap (λ (t : Bool). cond t (Some (extent_of p)) (past at ps)) (lt-leb at p.place (omega (arith, h.0.place))) in
+                let skip : past at (p ∷ ps) ≡ past at ps = past_gap at p ps gap ∙ ap (λ (t : Bool). cond t (Some (piece_extent p)) (past at ps)) (lt-leb at p.place (omega (arith, h.0.place))) in
                 first_behind p ps at v skip (λ big. here_other p v (λ e. omega (arith, h.0.place, size_outside ws (a + p.size) ps b v h.1 (inl (omega (arith, h.0.place)))))) (first_after ws (a + p.size) ps b (slice_index ws (p.place + 1)) at g h.1 j.1 s before (λ q low high. omega (arith, here_other p q (λ e. omega (arith, h.0.place)), none q low high)))
             | inl same ↦
-                let skip : past at (p ∷ ps) ≡ past at ps = past_gap at p ps gap ∙ ap (λ (t : Bool). cond t (Some (extent_of p)) (past at ps)) (lt-leb at p.place (omega arith)) in
+                let skip : past at (p ∷ ps) ≡ past at ps = past_gap at p ps gap ∙ ap (λ (t : Bool). cond t (Some (piece_extent p)) (past at ps)) (lt-leb at p.place (omega arith)) in
                 let link : AreLinked ws v ps 0 = subst (λ (x : ℕ). AreLinked ws (slice_index ws (x + 1)) ps 0) same j.1 in
                 let zeros : (q : ℕ) → q < at → size_at ps q ≡ 0 = λ q low. elim (cases_lt g q) [
                   | inl over ↦ omega (arith, here_other p q (λ e. omega arith), none q over low)
@@ -102,10 +102,10 @@ past_some (p ∷ ps) at v some low e = elim (cases_Bool p.live) [
   | inl live ↦ past_some ps at v (λ z. some (omega (arith, here_live p v live))) low (sym (past_live at p ps live) ∙ e)
   | inr gap ↦ elim (cases_lt p.place at) [
     | inl under ↦
-        let skip : past at (p ∷ ps) ≡ past at ps = past_gap at p ps gap ∙ ap (λ (t : Bool). cond t (Some (extent_of p)) (past at ps)) (lt-leb at p.place under) in
+        let skip : past at (p ∷ ps) ≡ past at ps = past_gap at p ps gap ∙ ap (λ (t : Bool). cond t (Some (piece_extent p)) (past at ps)) (lt-leb at p.place under) in
         past_some ps at v (λ z. some (omega (arith, here_other p v (λ q. omega arith)))) low (sym skip ∙ e)
     | inr high ↦
-        let found : past at (p ∷ ps) ≡ Some (extent_of p) = past_gap at p ps gap ∙ ap (λ (t : Bool). cond t (Some (extent_of p)) (past at ps)) (le-leb at p.place high) in cc
+        let found : past at (p ∷ ps) ≡ Some (piece_extent p) = past_gap at p ps gap ∙ ap (λ (t : Bool). cond t (Some (piece_extent p)) (past at ps)) (le-leb at p.place high) in cc
   ]
 ]
 
@@ -197,7 +197,7 @@ past_end ws a (p ∷ ps) b at h near =
     elim (cases_Bool p.live) [
       | inl live ↦ past_live at p ps live ∙ rest
       | inr gap ↦
-          past_gap at p ps gap ∙ ap (λ (t : Bool). cond t (Some (extent_of p)) (past at ps)) (lt-leb at p.place (omega (arith, h.0.place))) ∙ rest
+          past_gap at p ps gap ∙ ap (λ (t : Bool). cond t (Some (piece_extent p)) (past at ps)) (lt-leb at p.place (omega (arith, h.0.place))) ∙ rest
     ]
 
 pub ask_end : {sma : Sma} {ws : List ℕ} {aside : Aside} (ready : IsReady sma ws aside) (at : ℕ) → length ws ≤ at + 1 → None ≡ option_map pair_of (find (λ (run : Extent). nat_le at run.place) (free_runs sma.from sma.to (live_blocks ws sma.from)))

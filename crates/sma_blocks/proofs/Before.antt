@@ -7,7 +7,7 @@ use Rattle.sma_blocks.specs.Pieces.{Piece, pieces, IsPieceAt, Fill, gaps_touch, 
 use Rattle.sma_blocks.specs.Live.{lives}
 use Rattle.sma_blocks.specs.Walk.{IsEdge, ends_in_gap, IsFreeBefore}
 use Rattle.sma_blocks.proofs.Filling.{Fill-le, pieces-filled, edge_whole}
-use Rattle.sma_blocks.proofs.Lives.{extent_of}
+use Rattle.sma_blocks.proofs.Lives.{piece_extent}
 use Rattle.seg_words.specs.Members.{Contains-cases}
 use Rattle.sma_blocks.proofs.Merging.{merged_front, merged_back, merged_gap}
 use Rattle.sma_blocks.proofs.Places.{Fill-even}
@@ -23,8 +23,8 @@ edge_of_live ws from at size (p ∷ ps) a h is live =
     let behind : pieces ws (a + p.size) ≡ ps = pieces-filled ws (a + p.size) ps filled.1 in
     go p.live live filled (λ later. edge_of_live ws from at size ps (a + p.size) (edge_behind ws from a p ps h filled) behind later)
   where
-    go : (kind : Bool) → Contains (cond kind (extent_of p ∷ lives ps) (lives ps)) (record { place = at; size = size }) → Fill ws a (p ∷ ps) (length ws) → (Contains (lives ps) (record { place = at; size = size }) → IsEdge ws from at) → IsEdge ws from at
-    go true c f on = elim (Contains-cases (extent_of p) (lives ps) (record { place = at; size = size }) c) [
+    go : (kind : Bool) → Contains (cond kind (piece_extent p ∷ lives ps) (lives ps)) (record { place = at; size = size }) → Fill ws a (p ∷ ps) (length ws) → (Contains (lives ps) (record { place = at; size = size }) → IsEdge ws from at) → IsEdge ws from at
+    go true c f on = elim (Contains-cases (piece_extent p) (lives ps) (record { place = at; size = size }) c) [
       | inl same ↦
           let place : at ≡ a = sym (ap (λ (x : Extent). x.place) same) ∙ f.0.place in subst (λ (x : ℕ). IsEdge ws from x) (sym place) h
       | inr later ↦ on later
@@ -124,7 +124,7 @@ before_ends ws from at h formatted e =
     let whole : gaps_touch false (h.passed ++ pieces ws at) ≡ false = sym (ap (gaps_touch false) (edge_whole ws from at h)) ∙ formatted.merged in
     let passed : gaps_touch false (e.front ++ e.gap ∷ []) ≡ false = sym (ap (gaps_touch false) e.split) ∙ merged_front h.passed (pieces ws at) whole in
     let apart = merged_gap (ends_in_gap false e.front) e.gap [] e.free (merged_back e.front (e.gap ∷ []) passed) in
-    let none : lives (e.gap ∷ []) ≡ [] = ap (λ (k : Bool). cond k (extent_of e.gap ∷ []) []) e.free in
+    let none : lives (e.gap ∷ []) ≡ [] = ap (λ (k : Bool). cond k (piece_extent e.gap ∷ []) []) e.free in
     record {
       front = e.front;
       tail = e.gap ∷ [];

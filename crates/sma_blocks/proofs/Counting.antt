@@ -8,7 +8,7 @@ use Rattle.seg_words.specs.declared.extents.Extent.{Extent}
 use Rattle.sma_blocks.specs.Pieces.{Piece, pieces, Fill, gaps_touch}
 use Rattle.sma_blocks.specs.Live.{lives, gaps, gap_words, largest_of}
 use Rattle.sma_blocks.specs.Index.{size_at, IsIndexed}
-use Rattle.sma_blocks.proofs.Lives.{extent_of}
+use Rattle.sma_blocks.proofs.Lives.{piece_extent}
 use Rattle.max_tree.specs.Halves.{other_half}
 use Rattle.sma_blocks.proofs.FreeRuns.{gaps_touch-after}
 use Rattle.sma_blocks.proofs.Merging.{merged_live, merged_gap, live_after_gap}
@@ -19,9 +19,9 @@ pub gap_words-sum : (ps : List Piece) → gap_words ps ≡ sum_by (λ (run : Ext
 gap_words-sum [] = refl
 gap_words-sum (p ∷ ps) = go p.live (gap_words-sum ps)
   where
-    go : (kind : Bool) → gap_words ps ≡ sum_by (λ (run : Extent). run.size) (gaps ps) → cond kind (gap_words ps) (p.size + gap_words ps) ≡ sum_by (λ (run : Extent). run.size) (cond kind (gaps ps) (extent_of p ∷ gaps ps))
+    go : (kind : Bool) → gap_words ps ≡ sum_by (λ (run : Extent). run.size) (gaps ps) → cond kind (gap_words ps) (p.size + gap_words ps) ≡ sum_by (λ (run : Extent). run.size) (cond kind (gaps ps) (piece_extent p ∷ gaps ps))
     go true e = e
-    go false e = ap (λ (x : ℕ). p.size + x) e ∙ sym (sum_by-cons (λ (run : Extent). run.size) (extent_of p) (gaps ps))
+    go false e = ap (λ (x : ℕ). p.size + x) e ∙ sym (sum_by-cons (λ (run : Extent). run.size) (piece_extent p) (gaps ps))
 
 add_more : (a b c d : ℕ) → b ≡ c + d → a + b ≡ (a + c) + d
 add_more a b c d e = omega arith
@@ -48,7 +48,7 @@ pub gap_words-free : (ws : List ℕ) (a : ℕ) (ps : List Piece) (b : ℕ) → F
 gap_words-free ws a [] b h free = omega (arith, h)
 gap_words-free ws a (p ∷ ps) b h free = go p.live free (λ e. gap_words-free ws (a + p.size) ps b h.1 e)
   where
-    go : (kind : Bool) → cond kind (extent_of p ∷ lives ps) (lives ps) ≡ [] → (lives ps ≡ [] → (a + p.size) + gap_words ps ≡ b) → a + cond kind (gap_words ps) (p.size + gap_words ps) ≡ b
+    go : (kind : Bool) → cond kind (piece_extent p ∷ lives ps) (lives ps) ≡ [] → (lives ps ≡ [] → (a + p.size) + gap_words ps ≡ b) → a + cond kind (gap_words ps) (p.size + gap_words ps) ≡ b
     go true e rest = cc
     go false e rest = let r = rest e in shift a p.size (gap_words ps) b r
 
@@ -66,10 +66,10 @@ pub size_le : (ws : List ℕ) (a : ℕ) (ps : List Piece) (b q : ℕ) → Fill w
 size_le ws a [] b q h = omega arith
 size_le ws a (p ∷ ps) b q h = elim (cases_Bool p.live) [
   | inl live ↦
-      let same : largest_of (gaps (p ∷ ps)) ≡ largest_of (gaps ps) = ap (λ (k : Bool). largest_of (cond k (gaps ps) (extent_of p ∷ gaps ps))) live in
+      let same : largest_of (gaps (p ∷ ps)) ≡ largest_of (gaps ps) = ap (λ (k : Bool). largest_of (cond k (gaps ps) (piece_extent p ∷ gaps ps))) live in
       omega (arith, here_live p q live, size_le ws (a + p.size) ps b q h.1)
   | inr gap ↦
-      let same : largest_of (gaps (p ∷ ps)) ≡ max p.size (largest_of (gaps ps)) = ap (λ (k : Bool). largest_of (cond k (gaps ps) (extent_of p ∷ gaps ps))) gap in
+      let same : largest_of (gaps (p ∷ ps)) ≡ max p.size (largest_of (gaps ps)) = ap (λ (k : Bool). largest_of (cond k (gaps ps) (piece_extent p ∷ gaps ps))) gap in
       elim (cases_eq p.place q) [
         | inr other ↦ omega (arith, here_other p q other, size_le ws (a + p.size) ps b q h.1)
         | inl here_is ↦
@@ -84,9 +84,9 @@ largest_le ws a (p ∷ ps) b m h even each =
     let rest : largest_of (gaps ps) ≤ m = largest_le ws (a + p.size) ps b m h.1 (omega (arith, h.0.even)) (λ q e. omega (arith, each q e)) in
     elim (cases_Bool p.live) [
       | inl live ↦
-          let same : largest_of (gaps (p ∷ ps)) ≡ largest_of (gaps ps) = ap (λ (k : Bool). largest_of (cond k (gaps ps) (extent_of p ∷ gaps ps))) live in omega arith
+          let same : largest_of (gaps (p ∷ ps)) ≡ largest_of (gaps ps) = ap (λ (k : Bool). largest_of (cond k (gaps ps) (piece_extent p ∷ gaps ps))) live in omega arith
       | inr gap ↦
-          let same : largest_of (gaps (p ∷ ps)) ≡ max p.size (largest_of (gaps ps)) = ap (λ (k : Bool). largest_of (cond k (gaps ps) (extent_of p ∷ gaps ps))) gap in
+          let same : largest_of (gaps (p ∷ ps)) ≡ max p.size (largest_of (gaps ps)) = ap (λ (k : Bool). largest_of (cond k (gaps ps) (piece_extent p ∷ gaps ps))) gap in
           omega (arith, here_gap p p.place refl gap, each p.place (omega (arith, h.0.place)))
     ]
 

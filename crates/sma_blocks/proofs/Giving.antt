@@ -13,7 +13,7 @@ use Rattle.sma_blocks.specs.Ready.{NameLive}
 use Rattle.sma_blocks.specs.Walk.{IsEdge, ends_in_gap, IsFreeBefore, IsFreeAfter, merged_words}
 use Rattle.sma_blocks.proofs.Storing.{merged_count, merged_first, merged_other}
 use Rattle.sma_blocks.proofs.Filling.{Fill-le, Fill-append, pieces-filled, edge_whole}
-use Rattle.sma_blocks.proofs.Lives.{extent_of, lives-append, lives_between, without_block_between}
+use Rattle.sma_blocks.proofs.Lives.{piece_extent, lives-append, lives_between, without_block_between}
 use Rattle.seg_words.specs.Members.{Contains-cases}
 use Rattle.sma_blocks.proofs.Naming.{between, may_store, names_less, ready_from}
 use Rattle.sma_blocks.proofs.Merging.{merged_front, merged_back, merged_after, merged_join, merged_gap, merged_live}
@@ -31,8 +31,8 @@ live_ahead ws from place at p rest h is live ahead =
       | inr here ↦ go p.live filled here
     ]
   where
-    go : (kind : Bool) → Fill ws place (p ∷ rest) (length ws) → Contains (cond kind (extent_of p ∷ lives rest) (lives rest)) (record { place = at; size = live.0 }) → ((at ≡ place) × (kind ≡ true)) ⊎ (place + p.size ≤ at)
-    go true f c = elim (Contains-cases (extent_of p) (lives rest) (record { place = at; size = live.0 }) c) [
+    go : (kind : Bool) → Fill ws place (p ∷ rest) (length ws) → Contains (cond kind (piece_extent p ∷ lives rest) (lives rest)) (record { place = at; size = live.0 }) → ((at ≡ place) × (kind ≡ true)) ⊎ (place + p.size ≤ at)
+    go true f c = elim (Contains-cases (piece_extent p) (lives rest) (record { place = at; size = live.0 }) c) [
       | inl same ↦ inl (sym (ap (λ (x : Extent). x.place) same) ∙ f.0.place, refl)
       | inr later ↦ inr (lives_between ws (place + p.size) rest (length ws) (record { place = at; size = live.0 }) f.1 later).0
     ]

@@ -11,7 +11,7 @@ use Rattle.sma_blocks.specs.Walk.{ends_in_gap, merged_words, link_before, relink
 use Rattle.sma_blocks.proofs.Spans.{Span}
 use Rattle.sma_blocks.proofs.Filling.{Fill-le, Fill-same, Fill-append, pieces-filled}
 use Rattle.sma_blocks.proofs.Places.{Fill-even}
-use Rattle.sma_blocks.proofs.Lives.{extent_of}
+use Rattle.sma_blocks.proofs.Lives.{piece_extent}
 use Rattle.sma_blocks.proofs.Storing.{merged_count, merged_link, merged_other}
 use Rattle.sma_blocks.proofs.Changes.{change_pieces, change_full}
 use Rattle.sma_blocks.proofs.Merging.{merged_front, merged_back, merged_after, merged_gap, merged_live, live_after_gap}
@@ -25,7 +25,7 @@ use Rattle.sma_blocks.proofs.Cutting.{size_at-three}
 pub free_head : (p : Piece) (ps : List Piece) → lives (p ∷ ps) ≡ [] → (p.live ≡ false) × (lives ps ≡ [])
 free_head p ps h = go p.live h
   where
-    go : (kind : Bool) → cond kind (extent_of p ∷ lives ps) (lives ps) ≡ [] → (kind ≡ false) × (lives ps ≡ [])
+    go : (kind : Bool) → cond kind (piece_extent p ∷ lives ps) (lives ps) ≡ [] → (kind ≡ false) × (lives ps ≡ [])
     go true e = cc
     go false e = (refl, e)
 

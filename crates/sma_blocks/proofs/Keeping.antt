@@ -17,7 +17,7 @@ use Rattle.sma_blocks.specs.Order.{lives_stand, ready_blocks}
 use Rattle.sma_blocks.specs.Walk.{merged_words}
 use Rattle.sma_blocks.proofs.Spans.{IsFilled, span_of}
 use Rattle.sma_blocks.proofs.Filling.{Fill-le, pieces-end, pieces-filled, edge_start}
-use Rattle.sma_blocks.proofs.Lives.{extent_of, lives_between, meets_apart}
+use Rattle.sma_blocks.proofs.Lives.{piece_extent, lives_between, meets_apart}
 use Rattle.seg_words.specs.Members.{Contains-cases, Contains-first, Contains-later, Contains-filter, Contains-kept, filter_alike, filter_none}
 use Rattle.sma_blocks.proofs.Merging.{merged_after, live_after_gap}
 use Rattle.sma_blocks.proofs.Naming.{Between, names_same, may_store, told_at_edge, ready_from}
@@ -70,8 +70,8 @@ lives_even : (ws : List ℕ) (a : ℕ) (ps : List Piece) (b : ℕ) (e : Extent) 
 lives_even ws a [] b e h even c = absurd (omega (arith, c.1))
 lives_even ws a (p ∷ ps) b e h even c = go p.live c (λ d. lives_even ws (a + p.size) ps b e h.1 (omega (arith, h.0.even)) d)
   where
-    go : (kind : Bool) → Contains (cond kind (extent_of p ∷ lives ps) (lives ps)) e → (Contains (lives ps) e → (e.place % 2 ≡ 0) × (e.size % 2 ≡ 0)) → (e.place % 2 ≡ 0) × (e.size % 2 ≡ 0)
-    go true d rest = elim (Contains-cases (extent_of p) (lives ps) e d) [
+    go : (kind : Bool) → Contains (cond kind (piece_extent p ∷ lives ps) (lives ps)) e → (Contains (lives ps) e → (e.place % 2 ≡ 0) × (e.size % 2 ≡ 0)) → (e.place % 2 ≡ 0) × (e.size % 2 ≡ 0)
+    go true d rest = elim (Contains-cases (piece_extent p) (lives ps) e d) [
       | inl same ↦
           let place : p.place ≡ e.place = ap (λ (x : Extent). x.place) same in
           let size : p.size ≡ e.size = ap (λ (x : Extent). x.size) same in

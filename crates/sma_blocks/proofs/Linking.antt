@@ -8,7 +8,7 @@ use Rattle.sma_blocks.specs.Live.{lives, gaps}
 use Rattle.sma_blocks.specs.Index.{here, size_at}
 use Rattle.sma_blocks.specs.Chain.{IsChain, AreLinked}
 use Rattle.sma_blocks.proofs.Filling.{Fill-le}
-use Rattle.sma_blocks.proofs.Lives.{extent_of, lives_between}
+use Rattle.sma_blocks.proofs.Lives.{piece_extent, lives_between}
 use Rattle.seg_words.specs.Members.{Contains-cases}
 use Rattle.sma_blocks.proofs.Finding.{here_other, here_live, here_gap, size_outside}
 
@@ -59,10 +59,10 @@ pub gap_word_free : (ws : List ℕ) (a : ℕ) (ps : List Piece) (b i : ℕ) (e :
 gap_word_free ws a [] b i e h g c = absurd g
 gap_word_free ws a (p ∷ ps) b i e h g c = go p.live refl g c (λ w d. gap_word_free ws (a + p.size) ps b i e h.1 w d)
   where
-    go : (kind : Bool) → p.live ≡ kind → ((p.live ≡ false) × (p.place ≤ i) × (i < p.place + p.size)) ⊎ IsGapWord ps i → Contains (cond kind (extent_of p ∷ lives ps) (lives ps)) e → (IsGapWord ps i → Contains (lives ps) e → (i < e.place) ⊎ (e.place + e.size ≤ i)) → (i < e.place) ⊎ (e.place + e.size ≤ i)
+    go : (kind : Bool) → p.live ≡ kind → ((p.live ≡ false) × (p.place ≤ i) × (i < p.place + p.size)) ⊎ IsGapWord ps i → Contains (cond kind (piece_extent p ∷ lives ps) (lives ps)) e → (IsGapWord ps i → Contains (lives ps) e → (i < e.place) ⊎ (e.place + e.size ≤ i)) → (i < e.place) ⊎ (e.place + e.size ≤ i)
     go true is w d rest = elim w [
       | inl here ↦ absurd (false≢true (sym here.0 ∙ is))
-      | inr later ↦ elim (Contains-cases (extent_of p) (lives ps) e d) [
+      | inr later ↦ elim (Contains-cases (piece_extent p) (lives ps) e d) [
         | inl same ↦
             let place : p.place ≡ e.place = ap (λ (x : Extent). x.place) same in
             let size : p.size ≡ e.size = ap (λ (x : Extent). x.size) same in
@@ -182,7 +182,7 @@ pub chain_of : (ws : List ℕ) (a : ℕ) (ps : List Piece) (b f : ℕ) → Fill 
 chain_of ws a [] b f h k = k
 chain_of ws a (p ∷ ps) b f h k = go p.live refl k (λ x j. chain_of ws (a + p.size) ps b x h.1 j)
   where
-    go : (kind : Bool) → p.live ≡ kind → MatchBool kind (AreLinked ws f ps 0) ((f ≡ p.place) × AreLinked ws (slice_index ws (p.place + 1)) ps 0) → ((x : ℕ) → AreLinked ws x ps 0 → IsChain ws x (gaps ps)) → IsChain ws f (cond kind (gaps ps) (extent_of p ∷ gaps ps))
+    go : (kind : Bool) → p.live ≡ kind → MatchBool kind (AreLinked ws f ps 0) ((f ≡ p.place) × AreLinked ws (slice_index ws (p.place + 1)) ps 0) → ((x : ℕ) → AreLinked ws x ps 0 → IsChain ws x (gaps ps)) → IsChain ws f (cond kind (gaps ps) (piece_extent p ∷ gaps ps))
     go true is j rest = rest f j
     go false is j rest =
         let one : cond {A = ℕ} p.live 0 1 ≡ 1 = ap (λ (v : Bool). cond {A = ℕ} v 0 1) is in

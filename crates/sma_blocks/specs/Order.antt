@@ -9,8 +9,8 @@ use Rattle.sma_blocks.specs.Pieces.{Piece, pieces, Fill}
 use Rattle.sma_blocks.specs.Live.{lives, live_blocks}
 use Rattle.sma_blocks.specs.Ready.{NameLive, AreBlocks, IsReady}
 
-abbrev extent_of : Piece → Extent
-extent_of p = record { place = p.place; size = p.size }
+abbrev piece_extent : Piece → Extent
+piece_extent p = record { place = p.place; size = p.size }
 
 -- the live blocks stand one behind the other
 blocks_from : (ws : List ℕ) (low from : ℕ) (es : List Extent) (high : ℕ) → low ≤ from
@@ -24,7 +24,7 @@ lives_stand ws a [] b h = omega (arith, h)
 lives_stand ws a (p ∷ ps) b h = go p.live refl (lives_stand ws (a + p.size) ps b h.1)
   where
     go : (live : Bool) → p.live ≡ live → AreBlocks ws (a + p.size) (lives ps) b
-        → AreBlocks ws a (cond live (extent_of p ∷ lives ps) (lives ps)) b
+        → AreBlocks ws a (cond live (piece_extent p ∷ lives ps) (lives ps)) b
     go true is rest =
         let none : cond {A = ℕ} p.live 0 1 ≡ 0 = ap (λ (v : Bool). cond {A = ℕ} v 0 1) is in
         let there = ap (slice_index ws) h.0.place in
