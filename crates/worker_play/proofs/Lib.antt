@@ -4,3 +4,5 @@ pub mod Forms
 pub mod Keys
 pub mod Retiring
 pub mod Steps
+pub mod Iterators
+pub mod Refusing

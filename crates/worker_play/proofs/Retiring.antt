@@ -1,6 +1,7 @@
 -- Workers that end.
 use Rattle.std.proofs.Common.{◌≡◌, ℕ, ◌<◌, ◌≤◌, List, [], ◌∷◌, ◌++◌, map, Some, refl, sym, ap, subst, ◌∙◌, arith}
-use Rattle.std.specs.Prelude.{sum, Result, Ok, IfOk}
+use Rattle.std.specs.Prelude.{sum, Result, Ok, Err, IfOk, IfSome}
+use Rattle.std.specs.Result.{result_ok}
 use Rattle.apcu_model.specs.declared.conf.Conf.{Conf}
 use Rattle.apcu_model.specs.declared.request.Request.TheVariants as requests
 use Rattle.apcu_model.specs.declared.request.Reply.{Reply}
@@ -56,12 +57,11 @@ plays_out conf workers p o q script text t e =
       lines = t.is ∙ (sym (lines_more conf script t.asked.replies [] (replies.Ended ∷ []) t.over) ∙ ap (script_lines conf script) (sym e.answered));
     }
 
--- where the play had memory
-pub plays_out_of : {E : Type 0} → OwnLaws → (conf : Conf) (workers : ℕ) (p o q : Bearer) (script : List Step) (r : Result (List ℕ) E) (text : List ℕ) → r ≡ Ok text → p.known.own ≡ [] → own_replies conf p.known.worker p.known.seen ≡ []
-    → IfOk r (λ out. Tells conf workers p o (turns_of conf script) (script_lines conf script) out) → Follows conf workers o q 0 requests.Retire replies.Ended → PlaysOut conf script q text
-plays_out_of {E} laws conf workers p o q script r text is none unanswered told f =
-    let t = subst (λ (x : Result (List ℕ) E). IfOk x (λ out. Tells conf workers p o (turns_of conf script) (script_lines conf script) out)) is told in
-    plays_out conf workers p o q script text t (ends_after laws conf workers p o q t.asked.made t.asked.replies none unanswered t.asked.goes f)
+-- where the play came to its end
+pub plays_out_if : {E : Type 0} → OwnLaws → (conf : Conf) (workers : ℕ) (p o q : Bearer) (script : List Step) (r : Result (List ℕ) E) → p.known.own ≡ [] → own_replies conf p.known.worker p.known.seen ≡ []
+    → IfOk r (λ out. Tells conf workers p o (turns_of conf script) (script_lines conf script) out) → Follows conf workers o q 0 requests.Retire replies.Ended → IfSome (result_ok r) (λ lines. PlaysOut conf script q lines)
+plays_out_if laws conf workers p o q script (Ok text) none unanswered t f = plays_out conf workers p o q script text t (ends_after laws conf workers p o q t.asked.made t.asked.replies none unanswered t.asked.goes f)
+plays_out_if laws conf workers p o q script (Err e) none unanswered t f = tt
 
 -- a worker that ends wherever it was
 pub has_asked : OwnLaws → (conf : Conf) (workers : ℕ) (p o q : Bearer) (script : List Step) → p.known.own ≡ [] → own_replies conf p.known.worker p.known.seen ≡ []

@@ -28,7 +28,7 @@ pub record Asked (conf : Conf) (script : List Step) (b : Bearer) : Type 0 where
   pub asked : map wish_in b.known.own ≡ made ++ wish 0 requests.Retire ∷ []
   pub answered : own_replies conf b.known.worker b.known.seen ≡ replies ++ Ended ∷ []
 
--- The worker w of the table has ended. Without a text there was no memory for all of its script.
+-- The worker w of the table has ended. Where there is a text, it has played all of its script.
 pub record Ends (t : TableId) (conf : Conf) (w : ℕ) (script : List Step) (b : Bearer)
     (text : Option (List ℕ)) : Type 0 where
   pub table : b.table ≡ t

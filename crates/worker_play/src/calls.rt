@@ -4,46 +4,56 @@
 ghost use Rattle.std.specs.Prelude.{◌≡◌, ◌<◌, ◌^◌, ◌++◌, [], length, map, codes, OnOk};
 ghost use Rattle.apcu_model.specs.declared.request.Request.TheVariants.{Store, Fetch, Exists};
 ghost use Rattle.apcu_model.specs.declared.request.Request.TheVariants.{Delete};
-ghost use Rattle.script_read.specs.Calls.{HasLevels, event_bound};
+ghost use Rattle.script_read.specs.Calls.{HasRanges, event_bound};
 ghost use Rattle.script_read.specs.Play.{next_of};
 ghost use Rattle.reply_text.specs.Replies.{unstored_text, found_text, there_text, undeleted_text};
 ghost use Rattle.reply_text.specs.Lines.{call_text};
 ghost use Rattle.worker_play.specs.Goes.{KnowsOwnEvents, Reaches, Tells};
+ghost use Rattle.worker_play.specs.Patterns.{call_pattern};
 ghost use Rattle.worker_play.specs.Turns.{turns_at, asks_at};
 
+use crate::chunks::totals;
 use crate::events::{
     cache_info, cas, clear, delete, entry, exists, fetch, inc, key_info, sma_info, store,
 };
 use crate::noting::{note_there, note_undone, note_value, write_found};
+use crate::walks::{delete_found, walk_active, walk_deleted};
+use apcu_iter::Search;
+use apcu_model::List;
 use io_edges::Gate;
 use notation::ByteOut;
 use php_graph::{Bytes, Graph};
 use pin_table::{Pass, TableName};
 use reply_text::{
     Notes, write_each, write_fetched, write_flag, write_flags, write_gave, write_info,
-    write_number, write_numbered,
+    write_number, write_numbered, write_totals,
 };
 use script_read::Call;
 use shared_cache::Shared;
 use std::alloc::{AllocError, Global};
 use std::sync::Wait;
 
-// Plays a call, and prints what it answers. `number` is that of the call in its script.
+// Plays a call, and prints what it answers. `number` is that of the call in its script, and
+// `search` is one for its pattern.
 pub(crate) fn play_call<N: TableName, G: Gate, R: Wait>(
     rt: &R,
     alloc: Global,
     shared: &Shared<N>,
     gate: &G,
     number: u32,
+    slots: u32,
     pass: Pass,
     call: &Call,
+    search: &mut Search,
     t: u64,
     out: &mut ByteOut,
 ) -> (Pass, Result<(), AllocError>)
     requires table { pass.table ≡ N.table }
     requires whole { KnowsOwnEvents pass }
+    requires slots { slots ≡ N.conf.slots }
     requires left { event_bound N.conf.slots call.now < pass.known.left }
-    requires levels { HasLevels call.now }
+    requires ranges { HasRanges call.now }
+    requires search { search.old ≡ call_pattern call.now }
     ensures reaches { Reaches N.conf (length N.budgets) pass result.0
         (turns_at t (next_of N.conf call.now)) }
     ensures line { OnOk result.1 (Tells N.conf (length N.budgets) pass result.0
@@ -145,6 +155,29 @@ pub(crate) fn play_call<N: TableName, G: Gate, R: Wait>(
             let (pass, info) = sma_info(rt, alloc, shared, pass, *limited);
             match info {
                 Ok(info) => (pass, write_info(out, Some(info))),
+                Err(e) => (pass, Err(e)),
+            }
+        }
+        Call::Walk {
+            fields,
+            size,
+            list,
+            ..
+        } => match list {
+            List::Active => walk_active(
+                rt, alloc, shared, gate, number, slots, pass, search, *size, *fields, t, out,
+            ),
+            List::Deleted => walk_deleted(
+                rt, alloc, shared, gate, number, pass, search, *size, *fields, t, out,
+            ),
+        },
+        Call::WalkDelete { size, .. } => delete_found(
+            rt, alloc, shared, gate, number, slots, pass, search, *size, t, out,
+        ),
+        Call::Totals { list, .. } => {
+            let (pass, sums) = totals(rt, alloc, shared, pass, search, *list, t);
+            match sums {
+                Ok((count, hits, size)) => (pass, write_totals(out, count, hits, size)),
                 Err(e) => (pass, Err(e)),
             }
         }

@@ -1,10 +1,14 @@
 //! A worker's script and its end.
 
-ghost use Rattle.std.specs.Prelude.{◌≡◌, ◌<◌, [], map, sum};
+ghost use Rattle.std.specs.Prelude.{◌≡◌, ◌<◌, [], map, sum, IfErr};
+ghost use Rattle.std.specs.Result.{result_ok};
 ghost use Rattle.script_read.specs.Calls.{event_bound};
 ghost use Rattle.worker_play.specs.Ends.{Ends};
+ghost use Rattle.worker_play.specs.Patterns.{HasRefusable};
+ghost use Rattle.worker_play.specs.declared.script.PlayFault.TheVariants.{Pattern};
 
-use crate::script::play_script;
+use crate::script::{PlayFault, play_script};
+use apcu_iter::Maker;
 use apcu_model::Conf;
 use io_edges::Gate;
 use notation::ByteOut;
@@ -15,32 +19,33 @@ use shared_cache::Shared;
 use std::alloc::Global;
 use std::sync::Wait;
 
-/// Plays a worker's script as `play_script` does, and ends the worker, whether or not there was
-/// memory for all of it. What its calls print is handed out where there was.
+/// Plays a worker's script as `play_script` does, and ends the worker, whether or not it came to
+/// the script's end. What its calls print is handed out where it did.
 ///
 /// The pass has made and seen no event, and may make one more than all calls of the script may.
-pub fn play_out<N: TableName, G: Gate, R: Wait>(
+pub fn play_out<N: TableName, M: Maker + Sync, G: Gate, R: Wait>(
     rt: &R,
     alloc: Global,
     conf: &Conf,
     shared: &Shared<N>,
     pass: Pass,
     script: &Script,
+    maker: &M,
     gate: &G,
-) -> (Ended, Option<ByteOut>)
+) -> (Ended, Result<ByteOut, PlayFault>)
     requires conf { conf.now ≡ N.conf }
     requires table { pass.table ≡ N.table }
     requires no_event { pass.known.own ≡ [] }
     requires none_seen { pass.known.seen ≡ [] }
     requires left { sum (map (λ step. event_bound conf.now.slots step.call) script.now)
         < pass.known.left }
-    ensures { Ends N.table N.conf pass.known.worker script.now result.0 result.1 }
+    ensures ends { Ends N.table N.conf pass.known.worker script.now result.0
+        (result_ok result.1) }
+    ensures pattern { IfErr result.1 (λ fault. fault ≡ Pattern
+        → HasRefusable (M.may_refuse maker.now) script.now) }
 {
     one_event_own();
-    let (pass, played) = play_script(rt, alloc, conf, shared, pass, script, gate);
+    let (pass, played) = play_script(rt, alloc, conf, shared, pass, script, maker, gate);
     let ended = shared.retire(rt, pass);
-    match played {
-        Ok(out) => (ended, Some(out)),
-        Err(_) => (ended, None),
-    }
+    (ended, played)
 }

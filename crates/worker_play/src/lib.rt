@@ -3,11 +3,15 @@
 #![tactic(auto)]
 
 mod calls;
+mod chunks;
 mod ending;
 mod events;
 mod noting;
+mod patterns;
 mod scalar;
 mod script;
+mod walks;
 
 pub use ending::play_out;
+pub use patterns::pattern_of;
 pub use script::{PlayFault, play_script};

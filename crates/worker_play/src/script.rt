@@ -1,15 +1,18 @@
 //! A worker's script.
 
-ghost use Rattle.std.specs.Prelude.{◌≡◌, ℕ, ◌<◌, ◌++◌, List, [], length, map, sum, IfOk, OnOk};
-ghost use Rattle.script_read.specs.Calls.{HasLevels, event_bound};
+ghost use Rattle.std.specs.Prelude.{◌≡◌, ℕ, ◌<◌, ◌++◌, List, [], length, map, sum, IfOk, IfErr, OnOk};
+ghost use Rattle.script_read.specs.Calls.{HasRanges, event_bound};
 ghost use Rattle.script_read.specs.Grammar.{ends_line};
 ghost use Rattle.script_read.specs.Play.{next_of};
 ghost use Rattle.reply_text.specs.Lines.{call_text, script_lines};
 ghost use Rattle.worker_play.specs.Goes.{KnowsOwnEvents, Reaches, Tells};
 ghost use Rattle.worker_play.specs.Turns.{turns_at, turns_of};
-ghost use Rattle.worker_play.specs.declared.script.PlayFault.TheVariants.{Memory};
+ghost use Rattle.worker_play.specs.Patterns.{call_pattern, MayBeRefused, HasRefusable};
+ghost use Rattle.worker_play.specs.declared.script.PlayFault.TheVariants.{Memory, Pattern};
 
 use crate::calls::play_call;
+use crate::patterns::search_of;
+use apcu_iter::Maker;
 use apcu_model::Conf;
 use io_edges::{Gate, Point};
 use notation::ByteOut;
@@ -24,6 +27,8 @@ use std::sync::Wait;
 pub enum PlayFault {
     /// There was not enough memory.
     Memory,
+    /// A search is for what is no pattern, or its maker refused it.
+    Pattern,
 }
 
 impl From<AllocError> for PlayFault {
@@ -34,53 +39,85 @@ impl From<AllocError> for PlayFault {
     }
 }
 
-// A step and its line. The gate is reached before the call, and after it where it was played.
-fn play_step<N: TableName, G: Gate, R: Wait>(
+// A step and its line. The gate is reached before the call, and after it where it was played. The
+// search for its pattern is made once, and kept for all that the call asks.
+fn play_step<N: TableName, M: Maker, G: Gate, R: Wait>(
     rt: &R,
     alloc: Global,
     shared: &Shared<N>,
+    maker: &M,
     gate: &G,
     number: u32,
+    slots: u32,
     pass: Pass,
     step: &Step,
     out: &mut ByteOut,
-) -> (Pass, Result<(), AllocError>)
+) -> (Pass, Result<(), PlayFault>)
     requires table { pass.table ≡ N.table }
     requires whole { KnowsOwnEvents pass }
+    requires slots { slots ≡ N.conf.slots }
     requires left { event_bound N.conf.slots step.now.call < pass.known.left }
-    requires levels { HasLevels step.now.call }
+    requires ranges { HasRanges step.now.call }
     ensures reaches { Reaches N.conf (length N.budgets) pass result.0
         (turns_at step.now.t (next_of N.conf step.now.call)) }
     ensures line { OnOk result.1 (Tells N.conf (length N.budgets) pass result.0
         (turns_at step.now.t (next_of N.conf step.now.call))
         (λ replies. out.old ++ (call_text step.now.call replies ++ ends_line)) out.new) }
+    ensures pattern { IfErr result.1 (λ fault. fault ≡ Pattern
+        → MayBeRefused (M.may_refuse maker.now) (call_pattern step.now.call)) }
 {
     gate.reached(pass.worker(), Point::Before(number));
+    let mut search = match search_of(alloc, maker, &step.call) {
+        Ok(search) => search,
+        Err(fault) => return (pass, Err(fault)),
+    };
     let (pass, played) = play_call(
-        rt, alloc, shared, gate, number, pass, &step.call, step.t, out,
+        rt,
+        alloc,
+        shared,
+        gate,
+        number,
+        slots,
+        pass,
+        &step.call,
+        &mut search,
+        step.t,
+        out,
     );
     match played {
         Ok(()) => {
-            let ended = out.push(b"\n");
+            let ended = end_line(out);
             gate.reached(pass.worker(), Point::After(number));
             (pass, ended)
         }
-        Err(e) => (pass, Err(e)),
+        Err(_) => (pass, Err(PlayFault::Memory)),
     }
 }
 
+// The end of a line.
+fn end_line(out: &mut ByteOut) -> Result<(), PlayFault>
+    ensures ok { OnOk result (out.new ≡ out.old ++ ends_line) }
+    ensures err { IfErr result (λ fault. fault ≡ Memory) }
+{
+    out.push(b"\n")?;
+    Ok(())
+}
+
 // All steps of a script, with their lines.
-fn play_steps<N: TableName, G: Gate, R: Wait>(
+fn play_steps<N: TableName, M: Maker, G: Gate, R: Wait>(
     rt: &R,
     alloc: Global,
     shared: &Shared<N>,
+    maker: &M,
     gate: &G,
+    slots: u32,
     pass: Pass,
     script: &Script,
     out: &mut ByteOut,
-) -> (Pass, Result<(), AllocError>)
+) -> (Pass, Result<(), PlayFault>)
     requires table { pass.table ≡ N.table }
     requires whole { KnowsOwnEvents pass }
+    requires slots { slots ≡ N.conf.slots }
     requires left { sum (map (λ step. event_bound N.conf.slots step.call) script.now)
         < pass.known.left }
     ensures reaches { Reaches N.conf (length N.budgets) pass result.0
@@ -88,6 +125,8 @@ fn play_steps<N: TableName, G: Gate, R: Wait>(
     ensures lines { OnOk result.1 (Tells N.conf (length N.budgets) pass result.0
         (turns_of N.conf script.now)
         (λ replies. out.old ++ script_lines N.conf script.now replies) out.new) }
+    ensures pattern { IfErr result.1 (λ fault. fault ≡ Pattern
+        → HasRefusable (M.may_refuse maker.now) script.now) }
 {
     let mut held = pass;
     for number in 0..script.len() {
@@ -95,36 +134,42 @@ fn play_steps<N: TableName, G: Gate, R: Wait>(
             rt,
             alloc,
             shared,
+            maker,
             gate,
             number,
+            slots,
             held,
             script.at(number),
             out,
         );
         held = next;
-        if let Err(e) = played {
-            return (held, Err(e));
+        if let Err(fault) = played {
+            return (held, Err(fault));
         }
     }
     (held, Ok(()))
 }
 
 /// Plays a worker's script on the shared cache, and gives what its calls print: a line for each,
-/// for the worker's own replies. The gate is told of each call before and after it, and of each
-/// value that is copied, between its fetch and its copy.
+/// for the worker's own replies. The gate is told of each call before and after it, of each value
+/// that is copied, between its fetch and its copy, and of each step of an iterator, after it.
+///
+/// A search for a call's pattern is made by `maker`, once, before the call asks anything.
 ///
 /// The pass has made no event, and may make one more than all calls of the script may. It comes
 /// back with the events that are left. Its worker has asked in turn what the calls want after its
 /// replies, and those are the ones of one thread at the events' places in what the pass has seen.
 ///
-/// Without memory the worker stops: some first of the events were made, and they stand.
-pub fn play_script<N: TableName, G: Gate, R: Wait>(
+/// Without memory the worker stops, and also where a pattern of its script is none or is refused:
+/// some first of the events were made, and they stand.
+pub fn play_script<N: TableName, M: Maker + Sync, G: Gate, R: Wait>(
     rt: &R,
     alloc: Global,
     conf: &Conf,
     shared: &Shared<N>,
     pass: Pass,
     script: &Script,
+    maker: &M,
     gate: &G,
 ) -> (Pass, Result<ByteOut, PlayFault>)
     requires conf { conf.now ≡ N.conf }
@@ -137,12 +182,15 @@ pub fn play_script<N: TableName, G: Gate, R: Wait>(
         (turns_of N.conf script.now) }
     ensures lines { IfOk result.1 (λ out. Tells N.conf (length N.budgets) pass result.0
         (turns_of N.conf script.now) (script_lines conf.now script.now) out) }
+    ensures pattern { IfErr result.1 (λ fault. fault ≡ Pattern
+        → HasRefusable (M.may_refuse maker.now) script.now) }
 {
-    let _ = conf;
     let mut out = ByteOut::new(alloc);
-    let (pass, played) = play_steps(rt, alloc, shared, gate, pass, script, &mut out);
+    let (pass, played) = play_steps(
+        rt, alloc, shared, maker, gate, conf.slots, pass, script, &mut out,
+    );
     match played {
         Ok(()) => (pass, Ok(out)),
-        Err(_) => (pass, Err(PlayFault::Memory)),
+        Err(fault) => (pass, Err(fault)),
     }
 }

@@ -4,6 +4,7 @@ ghost use Rattle.std.specs.Prelude.{◌≡◌, ◌∷◌, [], IfSome};
 ghost use Rattle.pin_table.specs.Lists.{fresh, fresh_pass};
 
 use crate::playing::{CONF, plays, script_of};
+use apcu_iter::{Maker, RefuseAll, RegexMaker};
 use io_edges::NoGate;
 use notation::ByteOut;
 use pin_table::{Pass, Passes, TableName};
@@ -24,12 +25,13 @@ fn one_pass<N: TableName>(passes: &mut Passes) -> Option<Pass>
 }
 
 // The only worker plays its script and ends.
-fn plays_alone<N: TableName, R: Wait>(
+fn plays_alone<N: TableName, M: Maker + Sync, R: Wait>(
     rt: &R,
     alloc: Global,
     fresh: Fresh,
     budget: u32,
     script: &Script,
+    maker: &M,
 ) -> Option<(Closed, Result<ByteOut, PlayFault>)>
     requires table { N.table ≡ fresh.table }
     requires conf { N.conf ≡ fresh.conf }
@@ -39,38 +41,46 @@ fn plays_alone<N: TableName, R: Wait>(
 {
     let (shared, mut passes, mut ended) = fresh.name::<N>();
     let pass = one_pass::<N>(&mut passes)?;
-    let (pass, printed) = plays(rt, alloc, &CONF, &shared, pass, script, &NoGate)?;
+    let (pass, printed) = plays(rt, alloc, &CONF, &shared, pass, script, maker, &NoGate)?;
     ended.push(shared.retire(rt, pass));
     Some((shared.close(rt, ended), printed))
 }
 
-// A script alone: what it prints, and how many events it makes, its end included.
+// A script alone: what it prints, if none of its patterns is refused; how many events it may make
+// at most, and how many it makes, its end included in both.
 #[derive(Clone, Copy)]
 struct Alone {
     script: &'static [u8],
-    printed: &'static [u8],
+    printed: Option<&'static [u8]>,
+    budget: u32,
     events: u32,
 }
 
 // Where memory is missing the play ends with the fault, and only some first of the events were
 // made.
-fn expect<R: Wait + Abort>(rt: &R, alloc: Global, case: Alone) -> Result<(), Fail> {
+fn expect<M: Maker + Sync, R: Wait + Abort>(
+    rt: &R,
+    alloc: Global,
+    case: Alone,
+    maker: &M,
+) -> Result<(), Fail> {
     let script = script_of(alloc, case.script)?;
-    let Ok(fresh) = open_cache(rt, alloc, &CONF, &[case.events]) else {
+    let Ok(fresh) = open_cache(rt, alloc, &CONF, &[case.budget]) else {
         return Err(Fail::new("open_cache"));
     };
-    let played = plays_alone::<Brand, _>(rt, alloc, fresh, case.events, &script);
+    let played = plays_alone::<Brand, _, _>(rt, alloc, fresh, case.budget, &script, maker);
     let Some((closed, printed)) = played else {
         return Err(Fail::new("too few events"));
     };
-    match printed {
-        Ok(printed) => {
-            assert_eq!(rt; printed.as_slice(), case.printed);
-            assert_eq!(rt; closed.journal.len(), case.events);
+    let events = closed.journal.len();
+    match (printed, case.printed) {
+        (Ok(printed), Some(wanted)) => {
+            assert_eq!(rt; printed.as_slice(), wanted);
+            assert_eq!(rt; events, case.events);
         }
-        Err(PlayFault::Memory) => {
-            assert!(rt; 1 <= closed.journal.len() && closed.journal.len() <= case.events);
-        }
+        (Err(PlayFault::Pattern), None) => assert_eq!(rt; events, case.events),
+        (Err(PlayFault::Memory), _) => assert!(rt; 1 <= events && events <= case.events),
+        _ => return Err(Fail::new("a pattern is refused, or none")),
     }
     Ok(())
 }
@@ -99,7 +109,8 @@ const EVERY_CALL: Alone = Alone {
         apcu_delete a:2:{i:0;s:1:\"b\";i:1;s:1:\"7\";}\n\
         apcu_clear_cache\n\
         apcu_exists s:1:\"7\";\n",
-    printed: b"b:1;\n\
+    printed: Some(
+        b"b:1;\n\
         b:1;\n\
         b:0;\n\
         a:0:{}\n\
@@ -119,26 +130,68 @@ const EVERY_CALL: Alone = Alone {
         a:1:{i:0;s:1:\"b\";}\n\
         b:1;\n\
         b:0;\n",
+    ),
+    budget: 25,
     events: 25,
 };
 
-// A script without calls, and one whose only call makes no event.
+// Three rows in the slots 6, 6 and 7 of 32, walked over one by one, that is in three steps; then
+// those whose keys the pattern finds go.
+const ITERATORS: Alone = Alone {
+    script: b"worker\n\
+        apcu_store a:3:{s:1:\"a\";i:1;s:1:\"A\";i:1;s:1:\"b\";i:1;}\n\
+        APCUIterator N; a:1:{i:0;s:3:\"key\";} i:1;\n\
+        APCUIterator_totals N;\n\
+        APCUIterator_delete s:6:\"/^a$/i\";\n\
+        apcu_exists a:3:{i:0;s:1:\"a\";i:1;s:1:\"A\";i:2;s:1:\"b\";}\n\
+        apcu_delete a:2:{i:0;s:1:\"a\";i:1;s:1:\"b\";}\n\
+        APCUIterator N; a:1:{i:0;s:3:\"key\";} i:1; s:7:\"deleted\";\n",
+    printed: Some(
+        b"a:0:{}\n\
+        a:3:{i:0;a:1:{s:3:\"key\";s:1:\"a\";}i:1;a:1:{s:3:\"key\";s:1:\"A\";}\
+        i:2;a:1:{s:3:\"key\";s:1:\"b\";}}\n\
+        a:3:{s:5:\"count\";i:3;s:4:\"hits\";i:0;s:4:\"size\";i:384;}\n\
+        b:1;\n\
+        a:1:{s:1:\"b\";b:1;}\n\
+        a:1:{i:0;s:1:\"a\";}\n\
+        a:0:{}\n",
+    ),
+    budget: 75,
+    events: 15,
+};
+
+// A script without calls, and one whose only call makes no event, beside those with all calls.
 #[test]
 fn plays_alone_with_every_call(rt: HostRuntime) -> Result<(), Fail> {
     for case in [
         EVERY_CALL,
+        ITERATORS,
         Alone {
             script: b"worker\n",
-            printed: b"",
+            printed: Some(b""),
+            budget: 1,
             events: 1,
         },
         Alone {
             script: b"worker\napcu_enabled\n",
-            printed: b"b:1;\n",
+            printed: Some(b"b:1;\n"),
+            budget: 1,
             events: 1,
         },
     ] {
-        expect(&rt, rt.alloc(), case)?;
+        expect(&rt, rt.alloc(), case, &RegexMaker)?;
     }
     Ok(())
+}
+
+// Where each pattern is refused, the worker stops at the first one, after the store, the walk and
+// the totals.
+#[test]
+fn stops_at_a_refused_pattern(rt: HostRuntime) -> Result<(), Fail> {
+    let refused = Alone {
+        printed: None,
+        events: 8,
+        ..ITERATORS
+    };
+    expect(&rt, rt.alloc(), refused, &RefuseAll)
 }

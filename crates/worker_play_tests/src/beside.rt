@@ -8,6 +8,7 @@ ghost use Rattle.worker_play.specs.Goes.{KnowsOwnEvents};
 
 use crate::gates::Noting;
 use crate::playing::{CONF, plays, script_of};
+use apcu_iter::RegexMaker;
 use apcu_model::Journal;
 use io_edges::{Gate, Point};
 use notation::ByteOut;
@@ -64,13 +65,35 @@ fn plays_both<N: TableName + Send + Sync, G: Gate + Sync, R: Threads + Wait + Sy
                 × KnowsOwnEvents first }
             ensures { IfSome result (λ r. (r.0.table ≡ N.table)
                 × (r.0.known.worker ≡ first.known.worker) × (1 ≤ r.0.known.left)) }
-        { plays(rt, alloc, &CONF, &shared, first, &scripts.0, gate) },
+        {
+            plays(
+                rt,
+                alloc,
+                &CONF,
+                &shared,
+                first,
+                &scripts.0,
+                &RegexMaker,
+                gate,
+            )
+        },
         || -> Option<(Pass, Result<ByteOut, PlayFault>)>
             requires { (CONF ≡ N.conf) × (second.table ≡ N.table) × (second.known.own ≡ [])
                 × KnowsOwnEvents second }
             ensures { IfSome result (λ r. (r.0.table ≡ N.table)
                 × (r.0.known.worker ≡ second.known.worker) × (1 ≤ r.0.known.left)) }
-        { plays(rt, alloc, &CONF, &shared, second, &scripts.1, gate) },
+        {
+            plays(
+                rt,
+                alloc,
+                &CONF,
+                &shared,
+                second,
+                &scripts.1,
+                &RegexMaker,
+                gate,
+            )
+        },
     );
     let (first, printed) = a?;
     let (second, other) = b?;

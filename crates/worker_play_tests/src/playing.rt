@@ -4,6 +4,7 @@ ghost use Rattle.std.specs.Prelude.{◌≡◌, ◌<◌, ◌≤◌, IsTrue, [], l
 ghost use Rattle.script_read.specs.Calls.{event_bound};
 ghost use Rattle.worker_play.specs.Goes.{KnowsOwnEvents};
 
+use apcu_iter::Maker;
 use apcu_model::Conf;
 use io_edges::Gate;
 use notation::ByteOut;
@@ -18,7 +19,7 @@ use worker_play::{PlayFault, play_script};
 // A shape of 512 words.
 pub(crate) const CONF: Conf = Conf {
     words: 512,
-    slots: 8,
+    slots: 32,
     ttl: 0,
 };
 
@@ -55,13 +56,14 @@ fn may_play(script: &Script, slots: u32, left: u32) -> bool
 }
 
 // Plays a script, where enough events are left for it and for the worker's end.
-pub(crate) fn plays<N: TableName, G: Gate, R: Wait>(
+pub(crate) fn plays<N: TableName, M: Maker + Sync, G: Gate, R: Wait>(
     rt: &R,
     alloc: Global,
     conf: &Conf,
     shared: &Shared<N>,
     pass: Pass,
     script: &Script,
+    maker: &M,
     gate: &G,
 ) -> Option<(Pass, Result<ByteOut, PlayFault>)>
     requires conf { conf.now ≡ N.conf }
@@ -75,7 +77,7 @@ pub(crate) fn plays<N: TableName, G: Gate, R: Wait>(
     if !may_play(script, conf.slots, pass.left()) {
         return None;
     }
-    let (pass, printed) = play_script(rt, alloc, conf, shared, pass, script, gate);
+    let (pass, printed) = play_script(rt, alloc, conf, shared, pass, script, maker, gate);
     if pass.left() == 0 {
         return None;
     }

@@ -1,9 +1,13 @@
-use Rattle.std.proofs.Common.{◌++◌, refl, sym, ap, ◌∙◌, rules}
+use Rattle.std.proofs.Common.{◌≡◌, ◌++◌, refl, sym, ap, ◌∙◌, rules}
+use Rattle.apcu_model.specs.declared.request.Request.TheVariants as request
 use Rattle.apcu_model.specs.declared.request.Reply.{Reply}
-use Rattle.script_read.specs.declared.call.Call.TheVariants.{StoreMany, FetchMany, ExistsMany, DeleteMany, Enabled}
+use Rattle.apcu_model.specs.declared.request.Reply.TheVariants as reply
+use Rattle.apcu_model.specs.declared.searching.List.TheVariants.{Active, Deleted}
+use Rattle.script_read.specs.declared.call.Call.TheVariants.{StoreMany, FetchMany, ExistsMany, DeleteMany, Enabled, Walk, WalkDelete, Totals}
 use Rattle.reply_text.specs.Replies.{fetched_one}
 use Rattle.worker_play.proofs.Going.{nothing_asked, nothing_made, on_ok, of_if_ok}
 use Rattle.worker_play.proofs.Forms.{call_asks, call_tells, told_once}
+use Rattle.worker_play.proofs.Iterators.{by_search, steps_told}
 use Rattle.worker_play.proofs.calls.play_call.Goals as goal
 
 -- ---- one event
@@ -93,3 +97,38 @@ returns-in-Err-info-2-clause-reaches g c =
 pub returns-in-Err-info-3-clause-reaches : goal.returns-in-Err-info-3-clause-reaches
 returns-in-Err-info-3-clause-reaches g c =
     nothing_made _ _ _ _ _ c.sma_info-pass.result.1 c.in-Err-info-3.e c.in-Err-info-3.is c.sma_info-pass.ensures.same c.requires.whole
+
+-- ---- iterators
+
+pub returns-in-Active-clause-line : goal.returns-in-Active-clause-line
+returns-in-Active-clause-line g c =
+    let arm = c.in-Walk in
+    let is : c.args.call.now ≡ Walk arm.search arm.fields arm.size Active = arm.is ∙ ap (λ l. Walk arm.search arm.fields arm.size l) c.in-Active.is in
+    let form : c.args.call.now ≡ Walk c.args.search.now arm.fields arm.size Active = by_search c.args.call.now arm.search c.args.search.now (λ w. Walk w arm.fields arm.size Active) is refl c.requires.search in
+    on_ok c.walk_active.result.1
+    (λ told. steps_told _ _ _ _ _ c.args.slots _ (Walk c.args.search.now arm.fields arm.size Active) (λ from. request.Chunk c.args.search.now from arm.size Active arm.fields) _ _ form c.requires.slots refl told) c.walk_active.ensures.line
+
+pub returns-in-Deleted-clause-line : goal.returns-in-Deleted-clause-line
+returns-in-Deleted-clause-line g c =
+    let arm = c.in-Walk in
+    let is : c.args.call.now ≡ Walk arm.search arm.fields arm.size Deleted = arm.is ∙ ap (λ l. Walk arm.search arm.fields arm.size l) c.in-Deleted.is in
+    let form : c.args.call.now ≡ Walk c.args.search.now arm.fields arm.size Deleted = by_search c.args.call.now arm.search c.args.search.now (λ w. Walk w arm.fields arm.size Deleted) is refl c.requires.search in
+    on_ok c.walk_deleted.result.1 (λ told. call_tells _ _ _ _ _ _ (Walk c.args.search.now arm.fields arm.size Deleted) _ _ form told) c.walk_deleted.ensures.line
+
+pub returns-in-WalkDelete-clause-line : goal.returns-in-WalkDelete-clause-line
+returns-in-WalkDelete-clause-line g c =
+    let arm = c.in-WalkDelete in
+    let form : c.args.call.now ≡ WalkDelete c.args.search.now arm.size = by_search c.args.call.now arm.search c.args.search.now (λ w. WalkDelete w arm.size) arm.is refl c.requires.search in
+    on_ok c.delete_found.result.1
+    (λ told. steps_told _ _ _ _ _ c.args.slots _ (WalkDelete c.args.search.now arm.size) (λ from. request.ChunkDelete c.args.search.now from arm.size) _ _ form c.requires.slots refl told) c.delete_found.ensures.line
+
+pub returns-in-Ok-sums-clause-line : goal.returns-in-Ok-sums-clause-line
+returns-in-Ok-sums-clause-line g c =
+    let arm = c.in-Totals in
+    let form : c.args.call.now ≡ Totals c.args.search.now arm.list = by_search c.args.call.now arm.search c.args.search.now (λ w. Totals w arm.list) arm.is refl c.requires.search in
+    let asked = of_if_ok _ c.totals-pass.result.1 (c.in-Ok-sums.count, c.in-Ok-sums.hits, c.in-Ok-sums.size) c.in-Ok-sums.is c.totals-pass.ensures.told in
+    on_ok c.write_totals.result (λ e. told_once _ _ _ _ _ _ (Totals c.args.search.now arm.list) _ (reply.Totals c.in-Ok-sums.count c.in-Ok-sums.hits c.in-Ok-sums.size) _ _ form asked refl refl e) c.write_totals.ensures
+
+pub returns-in-Err-sums-clause-reaches : goal.returns-in-Err-sums-clause-reaches
+returns-in-Err-sums-clause-reaches g c =
+    nothing_made _ _ _ _ _ c.totals-pass.result.1 c.in-Err-sums.e c.in-Err-sums.is c.totals-pass.ensures.same c.requires.whole

@@ -7,7 +7,7 @@ use Rattle.apcu_model.specs.declared.conf.Conf.{Conf}
 use Rattle.script_read.specs.declared.script.Step.{Step}
 use Rattle.script_read.specs.Calls.{event_bound}
 use Rattle.worker_play.proofs.Going.{OwnLaws}
-use Rattle.worker_play.proofs.Retiring.{one_left, unanswered, plays_out_of, has_asked}
+use Rattle.worker_play.proofs.Retiring.{one_left, unanswered, plays_out_if, has_asked}
 use Rattle.worker_play.proofs.ending.play_out.Goals as goal
 
 pub retire-ended-requires-clause-left : goal.retire-ended-requires-clause-left
@@ -15,8 +15,8 @@ retire-ended-requires-clause-left g c =
     let enough = subst (λ (f : Conf). sum (map (λ (s : Step). event_bound f.slots s.call) c.args.script.now) < c.args.pass.known.left) c.requires.conf c.requires.left in
     one_left g.N.TableName.conf (length g.N.TableName.budgets) c.args.pass c.play_script-pass.result.0 c.args.script.now c.play_script-pass.ensures.reaches enough
 
-pub returns-in-Ok : goal.returns-in-Ok
-returns-in-Ok g c =
+pub returns-clause-ends : goal.returns-clause-ends
+returns-clause-ends g c =
     let r = c.play_script-pass.ensures.reaches.goes in
     let f = c.retire-ended.ensures in
     let none = unanswered g.N.TableName.conf c.args.pass c.requires.none_seen in
@@ -26,20 +26,6 @@ returns-in-Ok g c =
       worker = f.worker ∙ r.worker;
       all_own = f.all_own;
       begun = has_asked laws g.N.TableName.conf (length g.N.TableName.budgets) c.args.pass c.play_script-pass.result.0 c.retire-ended.result c.args.script.now c.requires.no_event none c.play_script-pass.ensures.reaches f;
-      plays = plays_out_of laws g.N.TableName.conf (length g.N.TableName.budgets) c.args.pass c.play_script-pass.result.0 c.retire-ended.result c.args.script.now c.play_script-pass.result.1 c.in-Ok.out
-          c.in-Ok.is c.requires.no_event none (subst (λ (f : Conf). IfOk c.play_script-pass.result.1 (λ out. Tells g.N.TableName.conf (length g.N.TableName.budgets) c.args.pass c.play_script-pass.result.0 (turns_of g.N.TableName.conf c.args.script.now) (script_lines f c.args.script.now) out)) c.requires.conf c.play_script-pass.ensures.lines) f;
-    }
-
-pub returns-in-Err : goal.returns-in-Err
-returns-in-Err g c =
-    let r = c.play_script-pass.ensures.reaches.goes in
-    let f = c.retire-ended.ensures in
-    let none = unanswered g.N.TableName.conf c.args.pass c.requires.none_seen in
-    let laws : OwnLaws = record { more = c.one_event_own.ensures.more; others = c.one_event_own.ensures.others } in
-    record {
-      table = f.table ∙ (r.table ∙ c.requires.table);
-      worker = f.worker ∙ r.worker;
-      all_own = f.all_own;
-      begun = has_asked laws g.N.TableName.conf (length g.N.TableName.budgets) c.args.pass c.play_script-pass.result.0 c.retire-ended.result c.args.script.now c.requires.no_event none c.play_script-pass.ensures.reaches f;
-      plays = tt;
+      plays = plays_out_if laws g.N.TableName.conf (length g.N.TableName.budgets) c.args.pass c.play_script-pass.result.0 c.retire-ended.result c.args.script.now c.play_script-pass.result.1 c.requires.no_event none
+          (subst (λ (f : Conf). IfOk c.play_script-pass.result.1 (λ out. Tells g.N.TableName.conf (length g.N.TableName.budgets) c.args.pass c.play_script-pass.result.0 (turns_of g.N.TableName.conf c.args.script.now) (script_lines f c.args.script.now) out)) c.requires.conf c.play_script-pass.ensures.lines) f;
     }

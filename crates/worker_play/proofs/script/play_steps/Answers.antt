@@ -8,6 +8,7 @@ use Rattle.play_laws.specs.Parts.{drop_item}
 use Rattle.worker_play.specs.Turns.{turns_of}
 use Rattle.worker_play.proofs.Going.{Midway, begins, of_ok}
 use Rattle.worker_play.proofs.Steps.{left_now, left_after, step_goes_on, step_breaks, steps_end}
+use Rattle.worker_play.proofs.Refusing.{of_if_err, step_refusable}
 use Rattle.worker_play.proofs.script.play_steps.Goals as goal
 
 pub loop-number-init : goal.loop-number-init
@@ -34,6 +35,10 @@ returns-in-Err-clause-reaches g c =
     let split = drop_item script c.loop-number.number c.at.result.now c.at.ensures.step in
     let m = subst (λ (l : List Step). Midway g.N.TableName.conf (length g.N.TableName.budgets) c.args.pass c.loop-number.held (turns_of g.N.TableName.conf c.args.script.now) (turns_of g.N.TableName.conf l) (λ replies. c.args.out.now ++ script_lines g.N.TableName.conf c.args.script.now replies) (λ later. c.loop-number.out ++ script_lines g.N.TableName.conf l later)) split c.loop-number.invariant.midway in
     step_breaks _ _ _ _ _ _ c.at.result.now rest (λ replies. c.args.out.now ++ script_lines g.N.TableName.conf c.args.script.now replies) (λ later. c.loop-number.out ++ script_lines g.N.TableName.conf (c.at.result.now ∷ rest) later) m c.play_step-next.ensures.reaches
+
+pub returns-in-Err-clause-pattern : goal.returns-in-Err-clause-pattern
+returns-in-Err-clause-pattern g c = λ is.
+    step_refusable _ c.args.script.now c.loop-number.number c.at.result.now c.at.ensures.step (of_if_err _ c.play_step-next.result.1 c.in-Err.fault c.in-Err.is c.play_step-next.ensures.pattern is)
 
 pub loop-number-preserved : goal.loop-number-preserved
 loop-number-preserved g c =

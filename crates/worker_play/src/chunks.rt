@@ -1,0 +1,105 @@
+//! The events of iterators: each goes over some of the rows, those that a search finds.
+
+ghost use Rattle.std.specs.Prelude.{◌≡◌, ◌≤◌, ◌<◌, [], ◌∷◌, length, IfOk, OnErr};
+ghost use Rattle.apcu_model.specs.declared.request.Request.TheVariants as request;
+ghost use Rattle.apcu_model.specs.declared.request.Reply.TheVariants as reply;
+ghost use Rattle.worker_play.specs.Goes.{wish, KnowsOwnEvents, GoesOn};
+
+use apcu_iter::Search;
+use apcu_model::{Chunk, Fields, List};
+use io_edges::{Gate, Point};
+use pin_table::{Pass, TableName};
+use play_laws::one_event_own;
+use shared_cache::Shared;
+use std::alloc::{AllocError, Global};
+use std::sync::Wait;
+
+// One step of an iterator over a list of rows, and then the gate. There was no event where memory
+// is missing. `number` is that of the call in its script.
+pub(crate) fn chunk<N: TableName, G: Gate, R: Wait>(
+    rt: &R,
+    alloc: Global,
+    shared: &Shared<N>,
+    gate: &G,
+    number: u32,
+    pass: Pass,
+    search: &mut Search,
+    from: u32,
+    size: u32,
+    list: List,
+    fields: Fields,
+    t: u64,
+) -> (Pass, Result<Chunk, AllocError>)
+    requires table { pass.table ≡ N.table }
+    requires whole { KnowsOwnEvents pass }
+    requires left { 2 ≤ pass.known.left }
+    requires from { from ≤ N.conf.slots }
+    requires size { 0 < size }
+    ensures told { IfOk result.1 (λ chunk. GoesOn N.conf (length N.budgets) pass result.0
+        (wish t (request.Chunk search.old from size list fields) ∷ [])
+        (reply.Chunk chunk ∷ [])) }
+    ensures same { OnErr result.1 (result.0 ≡ pass) }
+    ensures search { search.new ≡ search.old }
+{
+    one_event_own();
+    let (pass, made) = shared.chunk(rt, alloc, pass, search, from, size, list, fields, t);
+    if made.is_ok() {
+        gate.reached(pass.worker(), Point::Chunk(number));
+    }
+    (pass, made)
+}
+
+// One step of an iterator's deletion, and then the gate. Answers the slot up to which it went.
+// There was no event where memory is missing.
+pub(crate) fn chunk_delete<N: TableName, G: Gate, R: Wait>(
+    rt: &R,
+    alloc: Global,
+    shared: &Shared<N>,
+    gate: &G,
+    number: u32,
+    pass: Pass,
+    search: &mut Search,
+    from: u32,
+    size: u32,
+    t: u64,
+) -> (Pass, Result<u32, AllocError>)
+    requires table { pass.table ≡ N.table }
+    requires whole { KnowsOwnEvents pass }
+    requires left { 2 ≤ pass.known.left }
+    requires from { from ≤ N.conf.slots }
+    requires size { 0 < size }
+    ensures deleted { IfOk result.1 (λ next. GoesOn N.conf (length N.budgets) pass result.0
+        (wish t (request.ChunkDelete search.old from size) ∷ []) (reply.Next next ∷ [])) }
+    ensures same { OnErr result.1 (result.0 ≡ pass) }
+    ensures search { search.new ≡ search.old }
+{
+    one_event_own();
+    let (pass, deleted) = shared.chunk_delete(rt, alloc, pass, search, from, size, t);
+    if deleted.is_ok() {
+        gate.reached(pass.worker(), Point::Chunk(number));
+    }
+    (pass, deleted)
+}
+
+// Of how many rows of a list the search finds the keys, how often they were fetched, and how many
+// bytes they have. There was no event where memory is missing.
+pub(crate) fn totals<N: TableName, R: Wait>(
+    rt: &R,
+    alloc: Global,
+    shared: &Shared<N>,
+    pass: Pass,
+    search: &mut Search,
+    list: List,
+    t: u64,
+) -> (Pass, Result<(u64, u64, u64), AllocError>)
+    requires table { pass.table ≡ N.table }
+    requires whole { KnowsOwnEvents pass }
+    requires left { 2 ≤ pass.known.left }
+    ensures told { IfOk result.1 (λ r. GoesOn N.conf (length N.budgets) pass result.0
+        (wish t (request.Totals search.old list) ∷ []) (reply.Totals r.0 r.1 r.2 ∷ [])) }
+    ensures same { OnErr result.1 (result.0 ≡ pass) }
+    ensures search { search.new ≡ search.old }
+{
+    one_event_own();
+    shared.totals(rt, alloc, pass, search, list, t)
+}

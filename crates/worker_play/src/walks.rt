@@ -1,0 +1,181 @@
+//! Iterators, step by step until no slot is left.
+
+ghost use Rattle.std.specs.Prelude.{◌≡◌, ◌≤◌, ◌<◌, ◌++◌, true, [], ◌∷◌, length, Ok, IfOk};
+ghost use Rattle.std.specs.Prelude.{OnOk};
+ghost use Rattle.apcu_model.specs.declared.items.Chunk.{Chunk};
+ghost use Rattle.apcu_model.specs.declared.request.Request.TheVariants as request;
+ghost use Rattle.apcu_model.specs.declared.request.Reply.TheVariants as reply;
+ghost use Rattle.apcu_model.specs.declared.searching.List.TheVariants.{Active, Deleted};
+ghost use Rattle.script_read.specs.Play.{slot_after};
+ghost use Rattle.reply_text.specs.Replies.{flag_text};
+ghost use Rattle.reply_text.specs.Items.{walk_text};
+ghost use Rattle.worker_play.specs.Goes.{KnowsOwnEvents, Reaches, Tells};
+ghost use Rattle.worker_play.specs.Turns.{asks_at, steps_at};
+
+use crate::chunks::{chunk, chunk_delete};
+use apcu_iter::Search;
+use apcu_model::{Chunk, Fields, List};
+use io_edges::Gate;
+use notation::ByteOut;
+use pin_table::{Pass, TableName};
+use reply_text::{write_flag, write_walk};
+use shared_cache::Shared;
+use std::alloc::{AllocError, Global};
+use std::sync::Wait;
+
+// The slot from which an iterator goes on after a step that went up to `end`.
+fn next_slot(slots: u32, from: u32, end: u32) -> u32
+    requires { from < slots }
+    ensures is { result ≡ slot_after slots from (reply.Next end) }
+    ensures up { from < result }
+{
+    if from < end { end } else { slots }
+}
+
+// Keeps a step's items, and answers the slot up to which it went.
+fn keep(chunks: &mut Vec<Chunk>, made: Result<Chunk, AllocError>) -> Result<u32, AllocError>
+    ensures { IfOk result (λ end. (chunk : Chunk) × (made ≡ Ok chunk) × (end ≡ chunk.next)
+        × (chunks.new.items ≡ chunks.old.items ++ chunk ∷ [])) }
+{
+    let chunk = made?;
+    let end = chunk.next;
+    chunks.push(chunk)?;
+    Ok(end)
+}
+
+// Goes over the active rows that the search finds, and prints the items of all steps.
+pub(crate) fn walk_active<N: TableName, G: Gate, R: Wait>(
+    rt: &R,
+    alloc: Global,
+    shared: &Shared<N>,
+    gate: &G,
+    number: u32,
+    slots: u32,
+    pass: Pass,
+    search: &mut Search,
+    size: u32,
+    fields: Fields,
+    t: u64,
+    out: &mut ByteOut,
+) -> (Pass, Result<(), AllocError>)
+    requires table { pass.table ≡ N.table }
+    requires whole { KnowsOwnEvents pass }
+    requires slots { slots ≡ N.conf.slots }
+    requires left { slots < pass.known.left }
+    requires size { 0 < size }
+    ensures reaches { Reaches N.conf (length N.budgets) pass result.0
+        (steps_at t slots (λ from. request.Chunk search.old from size Active fields) 0) }
+    ensures line { OnOk result.1 (Tells N.conf (length N.budgets) pass result.0
+        (steps_at t slots (λ from. request.Chunk search.old from size Active fields) 0)
+        (λ replies. out.old ++ walk_text fields replies) out.new) }
+{
+    let mut held = pass;
+    let mut chunks = Vec::new(alloc);
+    let mut from = 0;
+    'walking: while from < slots {
+        let (next, made) = chunk(
+            rt,
+            alloc,
+            shared,
+            gate,
+            number,
+            held,
+            search,
+            from,
+            size,
+            List::Active,
+            fields,
+            t,
+        );
+        held = next;
+        match keep(&mut chunks, made) {
+            Ok(end) => from = next_slot(slots, from, end),
+            Err(e) => return (held, Err(e)),
+        }
+    }
+    (held, write_walk(out, fields, &chunks))
+}
+
+// Goes over the removed rows that the search finds, all in one step, and prints their items.
+pub(crate) fn walk_deleted<N: TableName, G: Gate, R: Wait>(
+    rt: &R,
+    alloc: Global,
+    shared: &Shared<N>,
+    gate: &G,
+    number: u32,
+    pass: Pass,
+    search: &mut Search,
+    size: u32,
+    fields: Fields,
+    t: u64,
+    out: &mut ByteOut,
+) -> (Pass, Result<(), AllocError>)
+    requires table { pass.table ≡ N.table }
+    requires whole { KnowsOwnEvents pass }
+    requires left { 2 ≤ pass.known.left }
+    requires size { 0 < size }
+    ensures reaches { Reaches N.conf (length N.budgets) pass result.0
+        (asks_at t (request.Chunk search.old 0 size Deleted fields ∷ [])) }
+    ensures line { OnOk result.1 (Tells N.conf (length N.budgets) pass result.0
+        (asks_at t (request.Chunk search.old 0 size Deleted fields ∷ []))
+        (λ replies. out.old ++ walk_text fields replies) out.new) }
+{
+    let (pass, made) = chunk(
+        rt,
+        alloc,
+        shared,
+        gate,
+        number,
+        pass,
+        search,
+        0,
+        size,
+        List::Deleted,
+        fields,
+        t,
+    );
+    match made {
+        Ok(chunk) => (pass, write_walk(out, fields, &[chunk])),
+        Err(e) => (pass, Err(e)),
+    }
+}
+
+// Deletes the active rows that the search finds, and prints that it was done.
+pub(crate) fn delete_found<N: TableName, G: Gate, R: Wait>(
+    rt: &R,
+    alloc: Global,
+    shared: &Shared<N>,
+    gate: &G,
+    number: u32,
+    slots: u32,
+    pass: Pass,
+    search: &mut Search,
+    size: u32,
+    t: u64,
+    out: &mut ByteOut,
+) -> (Pass, Result<(), AllocError>)
+    requires table { pass.table ≡ N.table }
+    requires whole { KnowsOwnEvents pass }
+    requires slots { slots ≡ N.conf.slots }
+    requires left { slots < pass.known.left }
+    requires size { 0 < size }
+    ensures reaches { Reaches N.conf (length N.budgets) pass result.0
+        (steps_at t slots (λ from. request.ChunkDelete search.old from size) 0) }
+    ensures line { OnOk result.1 (Tells N.conf (length N.budgets) pass result.0
+        (steps_at t slots (λ from. request.ChunkDelete search.old from size) 0)
+        (λ replies. out.old ++ flag_text true) out.new) }
+{
+    let mut held = pass;
+    let mut from = 0;
+    'deleting: while from < slots {
+        let (next, deleted) = chunk_delete(
+            rt, alloc, shared, gate, number, held, search, from, size, t,
+        );
+        held = next;
+        match deleted {
+            Ok(end) => from = next_slot(slots, from, end),
+            Err(e) => return (held, Err(e)),
+        }
+    }
+    (held, write_flag(out, true))
+}
