@@ -1,8 +1,10 @@
 -- The last of several workers.
-use Rattle.std.proofs.Common.{◌≡◌, ℕ, zero, suc, ◌+◌, ◌-◌, ◌<◌, ◌⊎◌, inl, inr, List, [], ◌∷◌, ◌++◌, length, map, slice_get, slice_index, Option, Some, refl, sym, ap, ◌∙◌, subst, arith, length-append}
-use Rattle.std.specs.Prelude.{sum}
+use Rattle.std.proofs.Common.{◌≡◌, ℕ, zero, suc, ◌+◌, ◌-◌, ◌<◌, ◌⊎◌, inl, inr, List, [], ◌∷◌, ◌++◌, length, map, slice_get, slice_index, Some, refl, sym, ap, ◌∙◌, subst, arith, length-append}
+use Rattle.std.specs.Prelude.{sum, Result, Ok, Err, IfErr, Contains}
+use Rattle.std.specs.Result.{result_ok}
 use Rattle.std.proofs.lemmas.List.{same_from_push}
-use Rattle.std.proofs.lemmas.Option.{slice_get_within}
+use Rattle.std.proofs.lemmas.List.Elements.{Contains-append_cases}
+use Rattle.std.proofs.lemmas.Option.{slice_get_within, get_or_from_slice_get}
 use Rattle.atomic_table.specs.Seated.{TableId}
 use Rattle.apcu_model.specs.declared.conf.Conf.{Conf}
 use Rattle.pin_table.specs.Values.{Bearer}
@@ -10,6 +12,8 @@ use Rattle.pin_table.specs.Lists.{fresh, fresh_pass}
 use Rattle.script_read.specs.declared.script.Step.{Step}
 use Rattle.script_read.specs.Calls.{event_bound}
 use Rattle.worker_play.specs.Ends.{Ends}
+use Rattle.worker_play.specs.declared.script.PlayFault.{PlayFault}
+use Rattle.worker_play.specs.declared.script.PlayFault.TheVariants.{Pattern}
 use Rattle.crew_play.specs.Budgets.{events_in, budgets_of}
 use Rattle.crew_play.specs.Crew.{AllEnd}
 use Rattle.crew_play.proofs.Counting.{events_sum}
@@ -70,8 +74,8 @@ all_none t conf scripts = record {
 }
 
 -- one worker more has ended
-pub all_more : (t : TableId) (conf : Conf) (scripts : List (List Step)) (n : ℕ) (ended : List Bearer) (texts : List (Option (List ℕ))) (script : List Step) (b : Bearer) (text : Option (List ℕ))
-    → slice_get scripts n ≡ Some script → AllEnd t conf scripts n ended texts → Ends t conf n script b text → AllEnd t conf scripts (suc n) (ended ++ b ∷ []) (texts ++ text ∷ [])
+pub all_more : (t : TableId) (conf : Conf) (scripts : List (List Step)) (n : ℕ) (ended : List Bearer) (texts : List (Result (List ℕ) PlayFault)) (script : List Step) (b : Bearer) (text : Result (List ℕ) PlayFault)
+    → slice_get scripts n ≡ Some script → AllEnd t conf scripts n ended texts → Ends t conf n script b (result_ok text) → AllEnd t conf scripts (suc n) (ended ++ b ∷ []) (texts ++ text ∷ [])
 all_more t conf scripts n ended texts script b text is all one = record {
   have_ended = omega (arith, length-append ended (b ∷ []), all.have_ended);
   have_texts = omega (arith, length-append texts (text ∷ []), all.have_texts);
@@ -86,8 +90,29 @@ all_more t conf scripts n ended texts script b text is all one = record {
           let here : w ≡ n = at ∙ all.have_ended in
           let its : Some script ≡ Some s = sym is ∙ (ap (slice_get scripts) (sym here) ∙ hs) in
           let whose : script ≡ s = cc (its) in
-          subst (λ v. Ends t conf v s c x) (sym here)
-          (subst (λ v. Ends t conf n v c x) whose (subst (λ v. Ends t conf n script v x) e (subst (λ v. Ends t conf n script b v) same one)))
+          subst (λ v. Ends t conf v s c (result_ok x)) (sym here)
+          (subst (λ v. Ends t conf n v c (result_ok x)) whose (subst (λ v. Ends t conf n script v (result_ok x)) e (subst (λ (v : Result (List ℕ) PlayFault). Ends t conf n script b (result_ok v)) same one)))
     ]
   ];
 }
+
+-- ---- faults
+
+-- what stands at a place is in the list
+pub contains_at : {A : Type 0} (xs : List A) (k : ℕ) (x : A) → slice_get xs k ≡ Some x → Contains xs x
+contains_at xs k x h = (k, slice_get_within xs k x h, get_or_from_slice_get xs k x x h)
+
+contains_one : {A : Type 0} (x y : A) → Contains (x ∷ []) y → x ≡ y
+contains_one x y (zero, lt, e) = e
+contains_one x y (suc k, lt, e) = absurd (omega (arith, lt))
+
+-- what a list with one more has is in the list or is that one
+pub by_more : {A : Type 0} {P : Type 0} (xs : List A) (x y : A) → (Contains xs y → P) → (x ≡ y → P) → Contains (xs ++ x ∷ []) y → P
+by_more xs x y front last there = elim (Contains-append_cases xs (x ∷ []) y there) [
+  | inl l ↦ front l
+  | inr r ↦ last (contains_one x y r)
+]
+
+-- why a worker ended for a pattern
+pub cause_of : {P : Type 0} (text : Result (List ℕ) PlayFault) → IfErr text (λ e. e ≡ Pattern → P) → text ≡ Err Pattern → P
+cause_of {P} text cause is = subst (λ (r : Result (List ℕ) PlayFault). IfErr r (λ e. e ≡ Pattern → P)) is cause refl

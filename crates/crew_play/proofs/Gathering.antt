@@ -1,6 +1,6 @@
 -- All workers have ended: their history is a play.
-use Rattle.std.proofs.Common.{◌≡◌, ℕ, zero, suc, ◌+◌, ◌<◌, ◌≤◌, inl, inr, true, false, List, [], ◌∷◌, ◌++◌, length, map, slice_get, Option, Some, refl, sym, ap, ap₂, ◌∙◌, subst, arith, length-append}
-use Rattle.std.specs.Prelude.{◌==◌}
+use Rattle.std.proofs.Common.{◌≡◌, ℕ, zero, suc, ◌+◌, ◌<◌, ◌≤◌, inl, inr, true, false, List, [], ◌∷◌, ◌++◌, length, map, slice_get, Some, refl, sym, ap, ap₂, ◌∙◌, subst, arith, length-append}
+use Rattle.std.specs.Prelude.{◌==◌, Result, Ok}
 use Rattle.std.proofs.lemmas.Option.{slice_get_within}
 use Rattle.std.proofs.lemmas.List.{length-map, nil_from_length}
 use Rattle.std.proofs.lemmas.Bool.{or_left, or_right, or_cases, eqb-true, eq-eqb, false≢true, cases_Bool}
@@ -22,6 +22,7 @@ use Rattle.play_laws.specs.Parts.{events-append}
 use Rattle.play_laws.specs.Whole.{IsPlayedOut, replies_from, told_by}
 use Rattle.shared_cache.specs.declared.closed.Closed.{Closed}
 use Rattle.shared_cache.specs.Closing.{IsClosed}
+use Rattle.worker_play.specs.declared.script.PlayFault.{PlayFault}
 use Rattle.crew_play.specs.Crew.{AllEnd}
 use Rattle.crew_play.specs.Played.{texts_of, IsPlayed}
 
@@ -48,7 +49,7 @@ among_there (c ∷ bs) w h = elim (or_cases (c.known.worker == w) (is_among w (k
 ]
 
 -- each of the ended ones is the worker of its place
-its_place : (t : TableId) (conf : Conf) (scripts : List (List Step)) (ended : List Bearer) (texts : List (Option (List ℕ))) → AllEnd t conf scripts (length scripts) ended texts
+its_place : (t : TableId) (conf : Conf) (scripts : List (List Step)) (ended : List Bearer) (texts : List (Result (List ℕ) PlayFault)) → AllEnd t conf scripts (length scripts) ended texts
     → (k : ℕ) (b : Bearer) → slice_get ended k ≡ Some b → (b.table ≡ t) × (b.known.worker ≡ k) × (k < length scripts)
 its_place t conf scripts ended texts all k b h =
     let few : k < length scripts = omega (arith, slice_get_within ended k b h, all.have_ended) in
@@ -57,16 +58,16 @@ its_place t conf scripts ended texts all k b h =
     let e = all.each k s.0 b x.0 s.1 h x.1 in
     (e.table, e.worker, few)
 
-pub all_of : (t : TableId) (conf : Conf) (scripts : List (List Step)) (ended : List Bearer) (texts : List (Option (List ℕ))) → AllEnd t conf scripts (length scripts) ended texts → AllOf t ended
+pub all_of : (t : TableId) (conf : Conf) (scripts : List (List Step)) (ended : List Bearer) (texts : List (Result (List ℕ) PlayFault)) → AllEnd t conf scripts (length scripts) ended texts → AllOf t ended
 all_of t conf scripts ended texts all k b h = (its_place t conf scripts ended texts all k b h).0
 
-pub every : (t : TableId) (conf : Conf) (scripts : List (List Step)) (ended : List Bearer) (texts : List (Option (List ℕ))) → AllEnd t conf scripts (length scripts) ended texts
+pub every : (t : TableId) (conf : Conf) (scripts : List (List Step)) (ended : List Bearer) (texts : List (Result (List ℕ) PlayFault)) → AllEnd t conf scripts (length scripts) ended texts
     → (w : ℕ) → w < length scripts → is_among w (known_list ended) ≡ true
 every t conf scripts ended texts all w few =
     let b = get_some ended w (omega (arith, few, all.have_ended)) in
     among_at ended w w b.0 b.1 (its_place t conf scripts ended texts all w b.0 b.1).1
 
-none_else : (t : TableId) (conf : Conf) (scripts : List (List Step)) (ended : List Bearer) (texts : List (Option (List ℕ))) → AllEnd t conf scripts (length scripts) ended texts
+none_else : (t : TableId) (conf : Conf) (scripts : List (List Step)) (ended : List Bearer) (texts : List (Result (List ℕ) PlayFault)) → AllEnd t conf scripts (length scripts) ended texts
     → (w : ℕ) → length scripts ≤ w → is_among w (known_list ended) ≡ false
 none_else t conf scripts ended texts all w past = elim (cases_Bool (is_among w (known_list ended))) [
   | inl h ↦
@@ -109,10 +110,12 @@ texts_match conf w (s ∷ ss) (x ∷ xs) history same each =
     each (suc k) script text hs ht ∙ ap (λ v. script_lines conf script (own_replies conf v history)) next) in
     ap₂ (λ (a : List ℕ) (b : List (List ℕ)). a ∷ b) first rest
 
-get-map_some : {A : Type 0} (xs : List A) (k : ℕ) (x : A) → slice_get xs k ≡ Some x → slice_get (map Some xs) k ≡ Some (Some x)
-get-map_some [] k x h = absurd (cc (h))
-get-map_some (y ∷ ys) zero x h = ap Some (cc (h))
-get-map_some (y ∷ ys) (suc k) x h = get-map_some ys k x h
+get-map : {A B : Type 0} (f : A → B) (xs : List A) (k : ℕ) (x : A) → slice_get xs k ≡ Some x → slice_get (map f xs) k ≡ Some (f x)
+get-map f [] k x h = absurd (cc (h))
+get-map f (y ∷ ys) zero x h =
+    let same : y ≡ x = cc (h) in
+    ap (λ (v : A). Some (f v)) same
+get-map f (y ∷ ys) (suc k) x h = get-map f ys k x h
 
 -- ---- the whole
 
@@ -121,11 +124,11 @@ record IsOut (conf : Conf) (script : List Step) (w : ℕ) (history : List Event)
   played : HasPlayed conf script (map wish_in (events_of w history)) (own_replies conf w history)
   lines : text ≡ script_lines conf script (own_replies conf w history)
 
-out : OthersLaw → (t : TableId) (conf : Conf) (workers : ℕ) (scripts : List (List Step)) (ended : List Bearer) (texts : List (List ℕ)) (closed : Closed) → AllEnd t conf scripts (length scripts) ended (map Some texts) → (c : IsClosed conf workers ended closed)
+out : OthersLaw → (t : TableId) (conf : Conf) (workers : ℕ) (scripts : List (List Step)) (ended : List Bearer) (texts : List (List ℕ)) (closed : Closed) → AllEnd t conf scripts (length scripts) ended (map Ok texts) → (c : IsClosed conf workers ended closed)
     → (k : ℕ) (script : List Step) (text : List ℕ) → slice_get scripts k ≡ Some script → slice_get texts k ≡ Some text → IsOut conf script k c.history text
 out law t conf workers scripts ended texts closed all c k script text hs ht =
     let b = get_some ended k (omega (arith, slice_get_within scripts k script hs, all.have_ended)) in
-    let e = all.each k script b.0 (Some text) hs b.1 (get-map_some texts k text ht) in
+    let e = all.each k script b.0 (Ok text) hs b.1 (get-map Ok texts k text ht) in
     let whole : events_of k c.history ≡ b.0.known.own = ap (λ v. events_of v c.history) (sym e.worker) ∙ c.own k b.0 b.1 in
     let had : own_replies conf b.0.known.worker b.0.known.seen ≡ own_replies conf k c.history =
     replies_whole law conf b.0.known.worker b.0.known.seen c.history b.0.known.own (c.seen k b.0 b.1) e.all_own (c.own k b.0 b.1) ∙ ap (λ v. own_replies conf v c.history) e.worker in
@@ -142,16 +145,16 @@ pub record PlayLaws : Type 0 where
       → IsCompletePlay conf scripts (marks_of history)
 
 pub is_played : OthersLaw → PlayLaws → (t : TableId) (conf : Conf) (workers : ℕ) (scripts : List (List Step)) (ended : List Bearer) (texts : List (List ℕ)) (closed : Closed) → workers ≡ length scripts
-    → AllEnd t conf scripts (length scripts) ended (map Some texts) → IsClosed conf workers ended closed → IsPlayed conf scripts closed.journal.marks texts
+    → AllEnd t conf scripts (length scripts) ended (map Ok texts) → IsClosed conf workers ended closed → IsPlayed conf scripts closed.journal.marks texts
 is_played law laws t conf workers scripts ended texts closed count all c =
     let o = out law t conf workers scripts ended texts closed all c in
-    let has : length texts ≡ length scripts = sym (length-map texts Some) ∙ all.have_texts in
+    let has : length texts ≡ length scripts = sym (length-map texts Ok) ∙ all.have_texts in
     let whole : IsPlayedOut conf scripts c.history = record {
       legal = subst (λ n. all_legal n (start_of conf) c.history ≡ true) count c.legal;
       asked = λ w script hs.
           let x = get_some texts w (omega (arith, slice_get_within scripts w script hs, has)) in
           (o w script x.0 hs x.1).played;
-      others = λ w past. c.others w (none_else t conf scripts ended (map Some texts) all w past);
+      others = λ w past. c.others w (none_else t conf scripts ended (map Ok texts) all w past);
     } in
     record {
       play = told_by conf scripts c.history;

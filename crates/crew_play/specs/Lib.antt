@@ -1,3 +1,4 @@
 pub mod Budgets
 pub mod Crew
 pub mod Played
+pub mod Searching

@@ -1,14 +1,19 @@
 //! Workers on threads of their own.
 
 ghost use Rattle.std.specs.Prelude.{◌≡◌, ◌+◌, ◌-◌, ◌<◌, ◌≤◌, [], length, map, slice_get, sum};
-ghost use Rattle.std.specs.Prelude.{vec_capacity, Some};
+ghost use Rattle.std.specs.Prelude.{vec_capacity, Some, Err, Contains, IfErr};
 ghost use Rattle.std.specs.Thread.{IsSync};
+ghost use Rattle.std.specs.Result.{result_ok};
 ghost use Rattle.script_read.specs.Calls.{event_bound};
 ghost use Rattle.pin_table.specs.Lists.{fresh};
 ghost use Rattle.crew_play.specs.Budgets.{budgets_of};
 ghost use Rattle.crew_play.specs.Crew.{AllEnd};
+ghost use Rattle.crew_play.specs.Searching.{SomeRefusable};
 ghost use Rattle.worker_play.specs.Ends.{Ends};
+ghost use Rattle.worker_play.specs.Patterns.{HasRefusable};
+ghost use Rattle.worker_play.specs.declared.script.PlayFault.TheVariants as faults;
 
+use apcu_iter::Maker;
 use apcu_model::Conf;
 use io_edges::Gate;
 use notation::ByteOut;
@@ -18,7 +23,7 @@ use shared_cache::Shared;
 use std::alloc::Global;
 use std::sync::Wait;
 use std::thread::{Threads, join};
-use worker_play::play_out;
+use worker_play::{PlayFault, play_out};
 
 // The last of the first `count` workers: its pass and its script.
 fn last_worker<'a, N: TableName>(
@@ -46,19 +51,25 @@ fn last_worker<'a, N: TableName>(
 }
 
 // Plays the scripts of the first `count` workers, each on a thread of its own. They end in their
-// order, and one that finds no memory holds nobody up.
-pub(crate) fn play_crew<N: TableName + Send + Sync, G: Gate + Sync, R: Threads + Wait + Sync>(
+// order, and one that finds no memory, or whose pattern is refused, holds nobody up.
+pub(crate) fn play_crew<
+    N: TableName + Send + Sync,
+    M: Maker + Sync,
+    G: Gate + Sync,
+    R: Threads + Wait + Sync,
+>(
     rt: &R,
     alloc: Global,
     conf: &Conf,
     shared: &Shared<N>,
     mut passes: Passes,
     mut ended: EndedList,
-    mut texts: Vec<Option<ByteOut>>,
+    mut texts: Vec<Result<ByteOut, PlayFault>>,
     scripts: &Scripts,
     count: u32,
+    maker: &M,
     gate: &G,
-) -> (EndedList, Vec<Option<ByteOut>>)
+) -> (EndedList, Vec<Result<ByteOut, PlayFault>>)
     requires conf { conf.now ≡ N.conf }
     requires budgets { N.budgets ≡ budgets_of N.conf.slots scripts.now }
     requires some { count ≤ length scripts.now }
@@ -68,6 +79,8 @@ pub(crate) fn play_crew<N: TableName + Send + Sync, G: Gate + Sync, R: Threads +
     requires no_text { texts.items ≡ [] }
     requires places { count ≤ vec_capacity texts }
     ensures all { AllEnd N.table N.conf scripts.now count result.0.ended result.1.items }
+    ensures pattern { Contains result.1.items (Err faults.Pattern)
+        → SomeRefusable (M.may_refuse maker.now) scripts.now }
     ensures seats { result.0.room + count ≡ ended.room }
     ensures places { vec_capacity result.1 ≡ vec_capacity texts }
 {
@@ -79,8 +92,8 @@ pub(crate) fn play_crew<N: TableName + Send + Sync, G: Gate + Sync, R: Threads +
     let (pass, script) = last_worker::<N>(&mut passes, scripts, count);
     let (front, last) = join(
         rt,
-        || -> (EndedList, Vec<Option<ByteOut>>)
-            requires { IsSync R.row × IsSync G.row
+        || -> (EndedList, Vec<Result<ByteOut, PlayFault>>)
+            requires { IsSync R.row × IsSync M.row × IsSync G.row
                 × (conf.now ≡ N.conf)
                 × (N.budgets ≡ budgets_of N.conf.slots scripts.now)
                 × (before ≤ length scripts.now)
@@ -89,20 +102,25 @@ pub(crate) fn play_crew<N: TableName + Send + Sync, G: Gate + Sync, R: Threads +
                 × (texts.items ≡ []) × (before ≤ vec_capacity texts) }
             ensures { AllEnd N.table N.conf scripts.entry.now before
                 result.0.ended result.1.items
+                × (Contains result.1.items (Err faults.Pattern)
+                → SomeRefusable (M.may_refuse maker.entry.now) scripts.entry.now)
                 × (result.0.room + before ≡ ended.room)
                 × (vec_capacity result.1 ≡ vec_capacity texts) }
         {
             play_crew(
-                rt, alloc, conf, shared, passes, ended, texts, scripts, before, gate,
+                rt, alloc, conf, shared, passes, ended, texts, scripts, before, maker, gate,
             )
         },
-        || -> (Ended, Option<ByteOut>)
+        || -> (Ended, Result<ByteOut, PlayFault>)
             requires { (conf.now ≡ N.conf) × (pass.table ≡ N.table)
                 × (pass.known.own ≡ []) × (pass.known.seen ≡ [])
                 × (sum (map (λ step. event_bound N.conf.slots step.call) script.now)
                 < pass.known.left) }
-            ensures { Ends N.table N.conf pass.known.worker script.entry.now result.0 result.1 }
-        { play_out(rt, alloc, conf, shared, pass, script, gate) },
+            ensures { Ends N.table N.conf pass.known.worker script.entry.now result.0
+                (result_ok result.1)
+                × IfErr result.1 (λ e. e ≡ faults.Pattern
+                → HasRefusable (M.may_refuse maker.entry.now) script.entry.now) }
+        { play_out(rt, alloc, conf, shared, pass, script, maker, gate) },
     );
     let (mut ended, mut texts) = front;
     let (end, text) = last;

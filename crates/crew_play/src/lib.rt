@@ -6,6 +6,7 @@
 
 mod budgets;
 mod crew;
+mod patterns;
 mod play;
 
 pub use play::{CrewFault, Played, play_scripts};

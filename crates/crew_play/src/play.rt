@@ -1,13 +1,18 @@
 //! All scripts on one cache.
 
-ghost use Rattle.std.specs.Prelude.{◌≡◌, ◌<◌, ◌≤◌, [], length, map, vec_capacity, IfOk, IfErr};
+ghost use Rattle.std.specs.Prelude.{◌≡◌, ◌≢◌, ◌<◌, ◌≤◌, [], length, map, vec_capacity};
+ghost use Rattle.std.specs.Prelude.{Contains, Ok, Err, IfOk, IfErr};
 ghost use Rattle.apcu_model.specs.Conf.{IsGood};
 ghost use Rattle.crew_play.specs.Budgets.{budgets_of, all_events, most_events};
 ghost use Rattle.crew_play.specs.Played.{IsPlayed};
-ghost use Rattle.crew_play.specs.declared.play.CrewFault.TheVariants.{Memory, TooMany};
+ghost use Rattle.crew_play.specs.Searching.{SomeRefusable};
+ghost use Rattle.crew_play.specs.declared.play.CrewFault.TheVariants.{Memory, TooMany, Pattern};
+ghost use Rattle.worker_play.specs.declared.script.PlayFault.TheVariants as faults;
 
 use crate::budgets::budgets;
 use crate::crew::play_crew;
+use crate::patterns::try_patterns;
+use apcu_iter::Maker;
 use apcu_model::{Conf, Journal};
 use io_edges::Gate;
 use notation::ByteOut;
@@ -19,6 +24,7 @@ use std::alloc::{AllocError, Global};
 use std::marker::Brand;
 use std::sync::Wait;
 use std::thread::Threads;
+use worker_play::PlayFault;
 
 /// Why the scripts were not all played to their ends.
 #[derive(Clone, Copy, Debug, PartialEq, Eq)]
@@ -27,6 +33,8 @@ pub enum CrewFault {
     Memory,
     /// The calls may make more than 4,194,304 events, each worker's end included.
     TooMany,
+    /// An iterator's pattern is none, or its regex is refused.
+    Pattern,
 }
 
 impl From<AllocError> for CrewFault {
@@ -46,30 +54,44 @@ pub struct Played {
     pub texts: Vec<ByteOut>,
 }
 
-// The texts, where all workers have one.
-fn whole(alloc: Global, texts: Vec<Option<ByteOut>>) -> Result<Vec<ByteOut>, AllocError>
-    ensures { IfOk result (λ all. map Some all.items ≡ texts.items) }
+// The texts, where all workers have one. Want of memory is told before a pattern, whoever had it.
+fn whole(alloc: Global, texts: Vec<Result<ByteOut, PlayFault>>) -> Result<Vec<ByteOut>, CrewFault>
+    ensures all { IfOk result (λ all. map Ok all.items ≡ texts.items) }
+    ensures pattern { IfErr result (λ e. e ≡ Pattern
+        → Contains texts.items (Err faults.Pattern)) }
+    ensures few { IfErr result (λ e. e ≢ TooMany) }
 {
     let mut all = Vec::with_capacity(alloc, texts.len())?;
+    let mut refused = false;
     for text in texts {
         match text {
-            Some(text) => all.push_reserved(text),
-            None => return Err(AllocError),
+            Ok(text) => all.push_reserved(text),
+            Err(PlayFault::Pattern) => refused = true,
+            Err(PlayFault::Memory) => return Err(CrewFault::Memory),
         }
+    }
+    if refused {
+        return Err(CrewFault::Pattern);
     }
     Ok(all)
 }
 
 // Plays the scripts on a cache under a name of its table.
-fn play_named<N: TableName + Send + Sync, G: Gate + Sync, R: Threads + Wait + Sync>(
+fn play_named<
+    N: TableName + Send + Sync,
+    M: Maker + Sync,
+    G: Gate + Sync,
+    R: Threads + Wait + Sync,
+>(
     rt: &R,
     alloc: Global,
     conf: &Conf,
     fresh: Fresh,
-    texts: Vec<Option<ByteOut>>,
+    texts: Vec<Result<ByteOut, PlayFault>>,
     scripts: &Scripts,
+    maker: &M,
     gate: &G,
-) -> Result<Played, AllocError>
+) -> Result<Played, CrewFault>
     requires table { N.table ≡ fresh.table }
     requires conf { N.conf ≡ fresh.conf }
     requires budgets { N.budgets ≡ fresh.budgets }
@@ -77,15 +99,18 @@ fn play_named<N: TableName + Send + Sync, G: Gate + Sync, R: Threads + Wait + Sy
     requires events { fresh.budgets ≡ budgets_of conf.now.slots scripts.now }
     requires no_text { texts.items ≡ [] }
     requires places { length scripts.now ≤ vec_capacity texts }
-    ensures { IfOk result (λ p. IsPlayed conf.now scripts.now p.journal.marks
+    ensures played { IfOk result (λ p. IsPlayed conf.now scripts.now p.journal.marks
         p.texts.items) }
+    ensures pattern { IfErr result (λ e. e ≡ Pattern
+        → SomeRefusable (M.may_refuse maker.now) scripts.now) }
+    ensures few { IfErr result (λ e. e ≢ TooMany) }
 {
     one_event_own();
     histories_are_plays();
     let count = scripts.len();
     let (shared, passes, ended) = fresh.name::<N>();
     let (ended, texts) = play_crew(
-        rt, alloc, conf, &shared, passes, ended, texts, scripts, count, gate,
+        rt, alloc, conf, &shared, passes, ended, texts, scripts, count, maker, gate,
     );
     let Closed { journal, counts: _ } = shared.close(rt, ended);
     let texts = whole(alloc, texts)?;
@@ -93,20 +118,24 @@ fn play_named<N: TableName + Send + Sync, G: Gate + Sync, R: Threads + Wait + Sy
 }
 
 /// Plays the scripts on a cache of this shape, each worker on a thread of its own, and gives the
-/// journal and the lines of each worker's calls. The gate is told of each call of each worker, and
-/// of each value that is copied, between its fetch and its copy.
+/// journal and the lines of each worker's calls. `maker` makes the regexes of patterns. The gate is
+/// told of each call of each worker, of each value that is copied, between its fetch and its copy,
+/// and of each step of an iterator.
 ///
 /// The journal is a play of the scripts: each call stands in it once, in its worker's order, and
 /// each reply is the one that a cache of one thread gives at that place.
 ///
 /// Nothing is played where the calls may make more than 4,194,304 events, each worker's end
-/// included. A worker that finds no memory for a value or a line ends at once, the others play on,
-/// and the answer is `Memory`.
-pub fn play_scripts<G: Gate + Sync, R: Threads + Wait + Sync>(
+/// included. Nor is it where the regex of a pattern can't be made: each is made once before the
+/// cache is opened. A worker that finds no memory for a value, a regex or a line ends at once, the
+/// others play on, and the answer is `Memory`; so it is with `Pattern` where the maker refuses a
+/// pattern only then.
+pub fn play_scripts<M: Maker + Sync, G: Gate + Sync, R: Threads + Wait + Sync>(
     rt: &R,
     alloc: Global,
     conf: &Conf,
     scripts: &Scripts,
+    maker: &M,
     gate: &G,
 ) -> Result<Played, CrewFault>
     requires good { IsGood conf.now }
@@ -115,11 +144,18 @@ pub fn play_scripts<G: Gate + Sync, R: Threads + Wait + Sync>(
     ensures few { IfOk result (λ _. all_events conf.now.slots scripts.now ≤ most_events) }
     ensures many { IfErr result (λ e. e ≡ TooMany
         → most_events < all_events conf.now.slots scripts.now) }
+    // A pattern of the scripts may be refused, and they are not too many.
+    ensures pattern { IfErr result (λ e. e ≡ Pattern
+        → (all_events conf.now.slots scripts.now ≤ most_events)
+        × SomeRefusable (M.may_refuse maker.now) scripts.now) }
 {
     let budgets = budgets(alloc, conf.slots, scripts)?;
+    try_patterns(alloc, maker, scripts)?;
     let texts = Vec::with_capacity(alloc, scripts.len() as usize)?;
     match open_cache(rt, alloc, conf, &budgets) {
-        Ok(fresh) => Ok(play_named::<Brand, G, R>(rt, alloc, conf, fresh, texts, scripts, gate)?),
+        Ok(fresh) => play_named::<Brand, M, G, R>(
+            rt, alloc, conf, fresh, texts, scripts, maker, gate,
+        ),
         Err(_) => Err(CrewFault::Memory),
     }
 }

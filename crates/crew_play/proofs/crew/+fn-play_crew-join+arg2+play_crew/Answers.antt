@@ -1,19 +1,36 @@
 use Rattle.std.proofs.Common.{◌≡◌, ◌-◌, subst, arith, suc, ℕ, ◌∷◌, [], ◌++◌}
+use Rattle.std.specs.Prelude.{List, Result, Err, Contains}
+use Rattle.std.specs.Result.{result_ok}
 use Rattle.worker_play.specs.Ends.{Ends}
+use Rattle.worker_play.specs.declared.script.PlayFault.{PlayFault}
+use Rattle.worker_play.specs.declared.script.PlayFault.TheVariants.{Pattern}
 use Rattle.crew_play.specs.Crew.{AllEnd}
-use Rattle.crew_play.proofs.Crews.{all_more}
+use Rattle.crew_play.proofs.Crews.{all_more, by_more, cause_of, contains_at}
 use Rattle.crew_play.proofs.crew.+fn-play_crew-join+arg2+play_crew.Goals as goal
 
 pub returns-clause-all : goal.returns-clause-all
 returns-clause-all g t c =
     let table = g.N.TableName.table in
     let conf = g.N.TableName.conf in
-    let first = c.join-front.ensures.first.0 in
+    let front = c.join-front.result.0 in
+    let last = c.join-front.result.1 in
     let n : ℕ = c.args.count - 1 in
     let count : suc n ≡ c.args.count = omega (arith, c.if-count-eq0.false) in
     let its : c.last_worker-pass.result.0.known.worker ≡ n = c.last_worker-pass.ensures.worker in
-    let last : Ends table conf n c.last_worker-pass.result.1.now c.join-front.result.1.0 c.join-front.result.1.1 =
-    subst (λ v. Ends table conf v c.last_worker-pass.result.1.now c.join-front.result.1.0 c.join-front.result.1.1) its c.join-front.ensures.second in
-    let all : AllEnd table conf c.args.scripts.now (suc n) (c.join-front.result.0.0.ended ++ c.join-front.result.1.0 ∷ []) (c.join-front.result.0.1.items ++ c.join-front.result.1.1 ∷ []) =
-    all_more table conf c.args.scripts.now n c.join-front.result.0.0.ended c.join-front.result.0.1.items c.last_worker-pass.result.1.now c.join-front.result.1.0 c.join-front.result.1.1 c.last_worker-pass.ensures.script first last in
-    rw (c.push.ensures.ended, c.push_reserved.ensures.items) (subst (λ v. AllEnd table conf c.args.scripts.now v (c.join-front.result.0.0.ended ++ c.join-front.result.1.0 ∷ []) (c.join-front.result.0.1.items ++ c.join-front.result.1.1 ∷ [])) count all)
+    let one : Ends table conf n c.last_worker-pass.result.1.now last.0 (result_ok last.1) =
+    subst (λ v. Ends table conf v c.last_worker-pass.result.1.now last.0 (result_ok last.1)) its c.join-front.ensures.second.0 in
+    let all : AllEnd table conf c.args.scripts.now (suc n) (front.0.ended ++ last.0 ∷ []) (front.1.items ++ last.1 ∷ []) =
+    all_more table conf c.args.scripts.now n front.0.ended front.1.items c.last_worker-pass.result.1.now last.0 last.1 c.last_worker-pass.ensures.script c.join-front.ensures.first.0 one in
+    rw (c.push.ensures.ended, c.push_reserved.ensures.items) (subst (λ v. AllEnd table conf c.args.scripts.now v (front.0.ended ++ last.0 ∷ []) (front.1.items ++ last.1 ∷ [])) count all)
+
+pub returns-clause-pattern : goal.returns-clause-pattern
+returns-clause-pattern g t c = λ there.
+    let front = c.join-front.result.0 in
+    let last = c.join-front.result.1 in
+    by_more front.1.items last.1 (Err Pattern) c.join-front.ensures.first.1.0
+    (λ is. record {
+      script = c.last_worker-pass.result.1.now;
+      among = contains_at c.args.scripts.now (c.args.count - 1) c.last_worker-pass.result.1.now c.last_worker-pass.ensures.script;
+      has = cause_of last.1 c.join-front.ensures.second.1 is;
+    })
+    (subst (λ (l : List (Result (List ℕ) PlayFault)). Contains l (Err Pattern)) c.push_reserved.ensures.items there)

@@ -1,5 +1,7 @@
-use Rattle.std.proofs.Common.{◌≡◌, ℕ, ◌+◌, List, length, map, sym, ap, subst, ◌∙◌, Some, Option}
+use Rattle.std.proofs.Common.{◌≡◌, ℕ, ◌+◌, List, length, map, sym, ap, subst, ◌∙◌}
 use Rattle.std.proofs.lemmas.List.{length-map}
+use Rattle.std.specs.Prelude.{Result, Ok}
+use Rattle.worker_play.specs.declared.script.PlayFault.{PlayFault}
 use Rattle.apcu_model.specs.declared.conf.Conf.{Conf}
 use Rattle.crew_play.specs.Crew.{AllEnd}
 use Rattle.crew_play.specs.Played.{IsPlayed}
@@ -26,14 +28,14 @@ close-journal-requires-clause-every g c =
     ap length (c.requires.budgets ∙ c.requires.events) ∙ length-map c.args.scripts.now (λ (script : List Step). events_in c.args.conf.now.slots script + 1) in
     rw workers (every table conf c.args.scripts.now c.play_crew-ended.result.0.ended c.play_crew-ended.result.1.items all)
 
-pub returns : goal.returns
-returns g c =
+pub returns-clause-played : goal.returns-clause-played
+returns-clause-played g c =
     let table = g.N.TableName.table in
     let conf = g.N.TableName.conf in
     let all : AllEnd table conf c.args.scripts.now (length c.args.scripts.now) c.play_crew-ended.result.0.ended c.play_crew-ended.result.1.items =
     subst (λ n. AllEnd table conf c.args.scripts.now n c.play_crew-ended.result.0.ended c.play_crew-ended.result.1.items) c.len-count.ensures c.play_crew-ended.ensures.all in
-    let whole : AllEnd table conf c.args.scripts.now (length c.args.scripts.now) c.play_crew-ended.result.0.ended (map Some c.in_ok-texts.texts.items) =
-    subst (λ (l : List (Option (List ℕ))). AllEnd table conf c.args.scripts.now (length c.args.scripts.now) c.play_crew-ended.result.0.ended l) (sym c.in_ok-texts.ensures) all in
+    let whole : AllEnd table conf c.args.scripts.now (length c.args.scripts.now) c.play_crew-ended.result.0.ended (map Ok c.in_ok-texts.texts.items) =
+    subst (λ (l : List (Result (List ℕ) PlayFault)). AllEnd table conf c.args.scripts.now (length c.args.scripts.now) c.play_crew-ended.result.0.ended l) (sym c.in_ok-texts.ensures.all) all in
     let workers : length g.N.TableName.budgets ≡ length c.args.scripts.now =
     ap length (c.requires.budgets ∙ c.requires.events) ∙ length-map c.args.scripts.now (λ (script : List Step). events_in c.args.conf.now.slots script + 1) in
     let others : OthersLaw = record { others = c.one_event_own.ensures.others } in
