@@ -1,17 +1,18 @@
 -- What was read of a source that tells.
 use Rattle.std.proofs.Common.{◌≡◌, ◌≢◌, ◌<◌, ◌≤◌, ℕ, List, ◌++◌, length, Option, Some, None, inl, inr, refl, sym, ap, subst, arith, ◌∙◌}
-use Rattle.std.specs.Prelude.{IfSome}
+use Rattle.std.specs.Prelude.{Bool, IfSome}
 use Rattle.io_edges.specs.Faults.{Rose}
 use Rattle.apcu_model.specs.declared.conf.Conf.{Conf}
 use Rattle.script_read.specs.declared.script.Step.{Step}
 use Rattle.apcu_play.specs.declared.status.Status.{Status}
-use Rattle.apcu_play.specs.declared.status.Status.TheVariants.{Done, Usage, Script, ReadFault, WriteFault, NoMemory, TooLong, TooMany}
+use Rattle.apcu_play.specs.declared.status.Status.TheVariants.{Done, Usage, Script, ReadFault, WriteFault, NoMemory, TooLong, TooMany, Pattern}
 use Rattle.script_read.specs.Grammar.{AreScripts}
 use Rattle.std.proofs.lemmas.List.{append-nil}
 use Rattle.std.specs.Io.KnownBytes.{prepend_known, IsAtEnd}
 use Rattle.script_read.specs.Ties.{ScriptsAreOne}
 use Rattle.crew_play.specs.Budgets.{all_events, most_events}
-use Rattle.apcu_play.specs.Run.{longest_input, WasRead, AnswersInput, Replays, ReplaysPart, IsRefused, IsCrowded, IsUnlessMemory, Completes}
+use Rattle.crew_play.specs.Searching.{SomeRefusable}
+use Rattle.apcu_play.specs.Run.{longest_input, WasRead, AnswersInput, Replays, ReplaysPart, IsRefused, IsCrowded, IsUnsearchable, IsUnlessMemory, Completes}
 
 all_read : (left input : List ℕ) (after : Option (List ℕ)) → Some left ≡ prepend_known input after → IsAtEnd after → left ≡ input
 all_read left input None taken end = absurd cc
@@ -26,13 +27,14 @@ was_read left input before after told read = all_read left input after (sym told
 longer_is : (left : List ℕ) (before : Option (List ℕ)) → before ≡ Some left → IfSome before (λ l. longest_input < length l) → longest_input < length left
 longer_is left before told longer = subst (λ (o : Option (List ℕ)). IfSome o (λ l. longest_input < length l)) told longer
 
-module _ (one : ScriptsAreOne) (conf : Conf) (before after held_before held_after : Option (List ℕ)) (reads_before reads_after writes_before writes_after : ℕ) where
+module _ (one : ScriptsAreOne) (may_refuse : Bool → List ℕ → Type 0) (conf : Conf) (before after held_before held_after : Option (List ℕ)) (reads_before reads_after writes_before writes_after : ℕ) where
   -- what is known of how a run ended
   pub record Ended (status : Status) : Type 0 where
     pub replayed : status ≡ Done → Replays conf before after held_before held_after
     pub usage : status ≢ Usage
     pub script : status ≡ Script → IsRefused before after
     pub too_many : status ≡ TooMany → IsCrowded conf before after
+    pub pattern : status ≡ Pattern → IsUnsearchable may_refuse conf before after
     pub longer : status ≡ TooLong → IfSome before (λ left. longest_input < length left)
     pub read_fault : status ≡ ReadFault → Rose reads_before reads_after
     pub write_fault : status ≡ WriteFault → Rose writes_before writes_after
@@ -66,16 +68,29 @@ module _ (one : ScriptsAreOne) (conf : Conf) (before after held_before held_afte
       let same = was_read input crowded.input before after told crowded.read in
       (subst (λ (i : List ℕ). length i ≤ longest_input) (sym same) crowded.read.short, (crowded.scripts, subst (λ (i : List ℕ). AreScripts i crowded.scripts) (sym same) crowded.spelled))
 
+  -- and of a pattern that may be refused
+  searched_is : (input : List ℕ) (scripts : List (List Step)) → before ≡ Some input → AreScripts input scripts → IsUnsearchable may_refuse conf before after → (all_events conf.slots scripts ≤ most_events) × SomeRefusable may_refuse scripts
+  searched_is input scripts told are u =
+      let same = was_read input u.input before after told u.read in
+      let other = one input u.scripts scripts (subst (λ (i : List ℕ). AreScripts i u.scripts) (sym same) u.spelled) are in
+      subst (λ (s : List (List Step)). (all_events conf.slots s ≤ most_events) × SomeRefusable may_refuse s) other (u.few, u.refusable)
+
+  unsearchable_is : (input : List ℕ) → before ≡ Some input → IsUnsearchable may_refuse conf before after → (length input ≤ longest_input) × ((scripts : List (List Step)) × AreScripts input scripts)
+  unsearchable_is input told u =
+      let same = was_read input u.input before after told u.read in
+      (subst (λ (i : List ℕ). length i ≤ longest_input) (sym same) u.read.short, (u.scripts, subst (λ (i : List ℕ). AreScripts i u.scripts) (sym same) u.spelled))
+
   done_by : (status : Status) → Ended status → (input : List ℕ) (scripts : List (List Step)) → before ≡ Some input → length input ≤ longest_input → AreScripts input scripts
-      → all_events conf.slots scripts ≤ most_events → ¬ Rose reads_before reads_after → ¬ Rose writes_before writes_after → IsUnlessMemory Done status
-  done_by Done e input scripts told short are few no_read no_write = inl refl
-  done_by Usage e input scripts told short are few no_read no_write = absurd (e.usage refl)
-  done_by Script e input scripts told short are few no_read no_write = absurd ((refused_is input told (e.script refl)).1 scripts are)
-  done_by ReadFault e input scripts told short are few no_read no_write = absurd (no_read (e.read_fault refl))
-  done_by WriteFault e input scripts told short are few no_read no_write = absurd (no_write (e.write_fault refl))
-  done_by NoMemory e input scripts told short are few no_read no_write = inr refl
-  done_by TooLong e input scripts told short are few no_read no_write = let more = longer_is input before told (e.longer refl) in absurd (omega arith)
-  done_by TooMany e input scripts told short are few no_read no_write = let many = many_is input scripts told are (e.too_many refl) in absurd (omega arith)
+      → all_events conf.slots scripts ≤ most_events → ¬ SomeRefusable may_refuse scripts → ¬ Rose reads_before reads_after → ¬ Rose writes_before writes_after → IsUnlessMemory Done status
+  done_by Done e input scripts told short are few plain no_read no_write = inl refl
+  done_by Usage e input scripts told short are few plain no_read no_write = absurd (e.usage refl)
+  done_by Script e input scripts told short are few plain no_read no_write = absurd ((refused_is input told (e.script refl)).1 scripts are)
+  done_by ReadFault e input scripts told short are few plain no_read no_write = absurd (no_read (e.read_fault refl))
+  done_by WriteFault e input scripts told short are few plain no_read no_write = absurd (no_write (e.write_fault refl))
+  done_by NoMemory e input scripts told short are few plain no_read no_write = inr refl
+  done_by TooLong e input scripts told short are few plain no_read no_write = let more = longer_is input before told (e.longer refl) in absurd (omega arith)
+  done_by TooMany e input scripts told short are few plain no_read no_write = let many = many_is input scripts told are (e.too_many refl) in absurd (omega arith)
+  done_by Pattern e input scripts told short are few plain no_read no_write = absurd (plain (searched_is input scripts told are (e.pattern refl)).1)
 
   too_many_by : (status : Status) → Ended status → (input : List ℕ) (scripts : List (List Step)) → before ≡ Some input → length input ≤ longest_input → AreScripts input scripts
       → most_events < all_events conf.slots scripts → ¬ Rose reads_before reads_after → IsUnlessMemory TooMany status
@@ -87,6 +102,7 @@ module _ (one : ScriptsAreOne) (conf : Conf) (before after held_before held_afte
   too_many_by NoMemory e input scripts told short are many no_read = inr refl
   too_many_by TooLong e input scripts told short are many no_read = let more = longer_is input before told (e.longer refl) in absurd (omega arith)
   too_many_by TooMany e input scripts told short are many no_read = inl refl
+  too_many_by Pattern e input scripts told short are many no_read = let few = (searched_is input scripts told are (e.pattern refl)).0 in absurd (omega arith)
 
   refused_by : (status : Status) → Ended status → (input : List ℕ) → before ≡ Some input → length input ≤ longest_input → ((scripts : List (List Step)) → ¬ AreScripts input scripts)
       → ¬ Rose reads_before reads_after → IsUnlessMemory Script status
@@ -98,6 +114,7 @@ module _ (one : ScriptsAreOne) (conf : Conf) (before after held_before held_afte
   refused_by NoMemory e input told short none no_read = inr refl
   refused_by TooLong e input told short none no_read = let more = longer_is input before told (e.longer refl) in absurd (omega arith)
   refused_by TooMany e input told short none no_read = let s = crowded_is input told (e.too_many refl) in absurd (none s.1.0 s.1.1)
+  refused_by Pattern e input told short none no_read = let s = unsearchable_is input told (e.pattern refl) in absurd (none s.1.0 s.1.1)
 
   too_long_by : (status : Status) → Ended status → (input : List ℕ) → before ≡ Some input → longest_input < length input → ¬ Rose reads_before reads_after → IsUnlessMemory TooLong status
   too_long_by Done e input told long no_read = let s = (spelled_is input (e.replayed refl).printed told (e.replayed refl).answer).0 in absurd (omega arith)
@@ -108,30 +125,33 @@ module _ (one : ScriptsAreOne) (conf : Conf) (before after held_before held_afte
   too_long_by NoMemory e input told long no_read = inr refl
   too_long_by TooLong e input told long no_read = inl refl
   too_long_by TooMany e input told long no_read = let s = (crowded_is input told (e.too_many refl)).0 in absurd (omega arith)
+  too_long_by Pattern e input told long no_read = let s = (unsearchable_is input told (e.pattern refl)).0 in absurd (omega arith)
 
   -- and so what it must come to
-  pub completes : (status : Status) → Ended status → Completes conf status before reads_before reads_after writes_before writes_after
+  pub completes : (status : Status) → Ended status → Completes may_refuse conf status before reads_before reads_after writes_before writes_after
   completes status e = record { done = done_by status e; too_many = too_many_by status e; refused = refused_by status e; too_long = too_long_by status e }
 
 -- the same of the cache that the words tell, if they tell one
-pub completes_if : (one : ScriptsAreOne) (told : Option Conf) (before after held_before held_after : Option (List ℕ)) (reads_before reads_after writes_before writes_after : ℕ) (status : Status)
+pub completes_if : (one : ScriptsAreOne) (may_refuse : Bool → List ℕ → Type 0) (told : Option Conf) (before after held_before held_after : Option (List ℕ)) (reads_before reads_after writes_before writes_after : ℕ) (status : Status)
     → IfSome told (λ conf. status ≡ Done → Replays conf before after held_before held_after)
     → (status ≡ Usage → told ≡ None)
     → (status ≡ Script → IsRefused before after)
     → IfSome told (λ conf. status ≡ TooMany → IsCrowded conf before after)
+    → IfSome told (λ conf. status ≡ Pattern → IsUnsearchable may_refuse conf before after)
     → (status ≡ TooLong → IfSome before (λ left. longest_input < length left))
     → (status ≡ ReadFault → Rose reads_before reads_after)
     → (status ≡ WriteFault → Rose writes_before writes_after)
     → IfSome told (λ conf. status ≡ WriteFault → ReplaysPart conf before after held_before held_after)
-    → IfSome told (λ conf. Completes conf status before reads_before reads_after writes_before writes_after)
-completes_if one None before after held_before held_after reads_before reads_after writes_before writes_after status replayed usage script too_many longer read_fault write_fault cut = tt
-completes_if one (Some conf) before after held_before held_after reads_before reads_after writes_before writes_after status replayed usage script too_many longer read_fault write_fault cut =
-    completes one conf before after held_before held_after reads_before reads_after writes_before writes_after status
+    → IfSome told (λ conf. Completes may_refuse conf status before reads_before reads_after writes_before writes_after)
+completes_if one may_refuse None before after held_before held_after reads_before reads_after writes_before writes_after status replayed usage script too_many pattern longer read_fault write_fault cut = tt
+completes_if one may_refuse (Some conf) before after held_before held_after reads_before reads_after writes_before writes_after status replayed usage script too_many pattern longer read_fault write_fault cut =
+    completes one may_refuse conf before after held_before held_after reads_before reads_after writes_before writes_after status
     (record {
       replayed = replayed;
       usage = λ is. absurd (some_is_not_none (usage is));
       script = script;
       too_many = too_many;
+      pattern = pattern;
       longer = longer;
       read_fault = read_fault;
       write_fault = write_fault;

@@ -6,7 +6,7 @@ use Rattle.notation.specs.declared.fault.Reason.TheVariants as reasons
 use Rattle.apcu_play.specs.declared.status.Status.{Status}
 use Rattle.apcu_play.specs.declared.status.Status.TheVariants.{Done, Usage, Script, ReadFault}
 use Rattle.apcu_play.specs.declared.status.Status.TheVariants.{WriteFault, NoMemory, TooLong}
-use Rattle.apcu_play.specs.declared.status.Status.TheVariants.{TooMany}
+use Rattle.apcu_play.specs.declared.status.Status.TheVariants.{TooMany, Pattern}
 
 abbrev pub code_of : Status → ℕ
 code_of Done = 0
@@ -17,6 +17,7 @@ code_of WriteFault = 4
 code_of NoMemory = 5
 code_of TooLong = 6
 code_of TooMany = 7
+code_of Pattern = 8
 
 -- what is told of each status but that of a script with a fault
 abbrev pub message_of : Status → List ℕ
@@ -28,6 +29,7 @@ message_of WriteFault = codes "apcu_run: write fault\n"
 message_of NoMemory = codes "apcu_run: out of memory\n"
 message_of TooLong = codes "apcu_run: input too long\n"
 message_of TooMany = codes "apcu_run: too many events\n"
+message_of Pattern = codes "apcu_run: pattern\n"
 
 -- how a message ends that tells a reason
 abbrev pub reason_text : Reason → List ℕ

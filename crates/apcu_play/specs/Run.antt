@@ -16,6 +16,7 @@ use Rattle.apcu_play.specs.Message.{script_message}
 use Rattle.script_read.specs.Play.{IsLegal, IsCompletePlay}
 use Rattle.script_read.specs.Grammar.{AreScripts}
 use Rattle.crew_play.specs.Budgets.{all_events, most_events}
+use Rattle.crew_play.specs.Searching.{SomeRefusable}
 use Rattle.apcu_play.specs.Output.{output_of}
 
 -- the most bytes of input
@@ -81,6 +82,17 @@ pub record IsCrowded (conf : Conf) (left_before left_after : Option (List ℕ)) 
   pub spelled : AreScripts input scripts
   pub many : most_events < all_events conf.slots scripts
 
+-- The whole input spells scripts of few enough events, and the regex of a pattern in them may be
+-- refused: the grammar reads none there, or the maker may refuse it.
+pub record IsUnsearchable (may_refuse : Bool → List ℕ → Type 0) (conf : Conf)
+    (left_before left_after : Option (List ℕ)) : Type 0 where
+  pub input : List ℕ
+  pub scripts : List (List Step)
+  pub read : WasRead left_before left_after input
+  pub spelled : AreScripts input scripts
+  pub few : all_events conf.slots scripts ≤ most_events
+  pub refusable : SomeRefusable may_refuse scripts
+
 -- whether all of a text was told: it stands behind what was held, or only the first of it and a
 -- write failed
 abbrev pub WasTold : Bool → List ℕ → Option (List ℕ) → Option (List ℕ) → ℕ → ℕ → Type 0
@@ -114,14 +126,15 @@ pub record TellsRefusal
 abbrev pub IsUnlessMemory : Status → Status → Type 0
 IsUnlessMemory expected status = (status ≡ expected) ⊎ (status ≡ NoMemory)
 
--- What a run on this cache must come to where its source tells and no fault was counted.
+-- What a run on this cache must come to where its source tells and no fault was counted. It is done
+-- only where no pattern of the scripts may be refused.
 pub record Completes
-    (conf : Conf) (status : Status) (left_before : Option (List ℕ))
-    (reads_before reads_after writes_before writes_after : ℕ)
+    (may_refuse : Bool → List ℕ → Type 0) (conf : Conf) (status : Status)
+    (left_before : Option (List ℕ)) (reads_before reads_after writes_before writes_after : ℕ)
     : Type 0 where
   pub done : (input : List ℕ) (scripts : List (List Step))
       → left_before ≡ Some input → length input ≤ longest_input → AreScripts input scripts
-      → all_events conf.slots scripts ≤ most_events
+      → all_events conf.slots scripts ≤ most_events → ¬ SomeRefusable may_refuse scripts
       → ¬ Rose reads_before reads_after → ¬ Rose writes_before writes_after
       → IsUnlessMemory Done status
   pub too_many : (input : List ℕ) (scripts : List (List Step))

@@ -8,12 +8,14 @@ ghost use Rattle.script_read.specs.Gives.{IsFirstScriptFault, ReadsScripts};
 ghost use Rattle.apcu_play.specs.Message.{message_of, script_message};
 ghost use Rattle.conf_read.specs.Options.{conf_of};
 ghost use Rattle.apcu_play.specs.Run.{longest_input, WasRead, AnswersInput, Replays, ReplaysPart};
-ghost use Rattle.apcu_play.specs.Run.{IsRefusedAt, IsRefused, IsCrowded, TellsMessage};
+ghost use Rattle.apcu_play.specs.Run.{IsRefusedAt, IsRefused, IsCrowded, IsUnsearchable};
+ghost use Rattle.apcu_play.specs.Run.{TellsMessage};
 ghost use Rattle.apcu_play.specs.Run.{TellsRefusal, IsUnlessMemory, Completes};
 
 use crate::messages::{tell, tell_fault};
 use crate::play::play;
 use crate::status::Status;
+use apcu_iter::Maker;
 use apcu_model::Conf;
 use conf_read::{ConfFault, read_conf};
 use crew_play::CrewFault;
@@ -87,11 +89,12 @@ fn ending_of(fault: &ScriptFault) -> Ending
 }
 
 // What the input asks for, as it is to be printed.
-fn answer<R: Threads + Wait + Sync, S: Source, G: Gate + Sync>(
+fn answer<R: Threads + Wait + Sync, S: Source, M: Maker + Sync, G: Gate + Sync>(
     rt: &R,
     alloc: Global,
     conf: &Conf,
     input: &mut S,
+    maker: &M,
     gate: &G,
 ) -> Result<ByteOut, Ending>
     requires good { IsGood conf.now }
@@ -101,6 +104,9 @@ fn answer<R: Threads + Wait + Sync, S: Source, G: Gate + Sync>(
         → IsRefusedAt (S.left input.old) (S.left input.new) e.place e.reason) }
     ensures too_many { IfErr result (λ e. e.status ≡ Status.TooMany
         → IsCrowded conf.now (S.left input.old) (S.left input.new)) }
+    ensures pattern { IfErr result (λ e. e.status ≡ Status.Pattern
+        → IsUnsearchable (M.may_refuse maker.now) conf.now
+        (S.left input.old) (S.left input.new)) }
     ensures too_long { IfErr result (λ e. e.status ≡ Status.TooLong
         → HasTaken (S.left input.old) (S.left input.new) (longest_input + 1)) }
     ensures longer { IfErr result (λ e. e.status ≡ Status.TooLong
@@ -115,9 +121,10 @@ fn answer<R: Threads + Wait + Sync, S: Source, G: Gate + Sync>(
         Err(status) => return Err(Ending::of(status)),
     };
     match read_scripts(alloc, &bytes) {
-        Ok(scripts) => match play(rt, alloc, conf, &scripts, gate) {
+        Ok(scripts) => match play(rt, alloc, conf, &scripts, maker, gate) {
             Ok(out) => Ok(out),
             Err(CrewFault::TooMany) => Err(Ending::of(Status::TooMany)),
+            Err(CrewFault::Pattern) => Err(Ending::of(Status::Pattern)),
             Err(CrewFault::Memory) => Err(Ending::of(Status::NoMemory)),
         },
         Err(fault) => Err(ending_of(&fault)),
@@ -125,12 +132,13 @@ fn answer<R: Threads + Wait + Sync, S: Source, G: Gate + Sync>(
 }
 
 // Answers the input on `out` by a cache of this shape, or tells why not.
-fn outcome_on<R: Threads + Wait + Sync, S: Source, K: Sink, G: Gate + Sync>(
+fn outcome_on<R: Threads + Wait + Sync, S: Source, K: Sink, M: Maker + Sync, G: Gate + Sync>(
     rt: &R,
     alloc: Global,
     conf: &Conf,
     input: &mut S,
     out: &mut K,
+    maker: &M,
     gate: &G,
 ) -> Ending
     requires good { IsGood conf.now }
@@ -141,6 +149,9 @@ fn outcome_on<R: Threads + Wait + Sync, S: Source, K: Sink, G: Gate + Sync>(
         → IsRefusedAt (S.left input.old) (S.left input.new) result.place result.reason }
     ensures too_many { result.status ≡ Status.TooMany
         → IsCrowded conf.now (S.left input.old) (S.left input.new) }
+    ensures pattern { result.status ≡ Status.Pattern
+        → IsUnsearchable (M.may_refuse maker.now) conf.now
+        (S.left input.old) (S.left input.new) }
     ensures too_long { result.status ≡ Status.TooLong
         → HasTaken (S.left input.old) (S.left input.new) (longest_input + 1) }
     ensures longer { result.status ≡ Status.TooLong
@@ -154,7 +165,7 @@ fn outcome_on<R: Threads + Wait + Sync, S: Source, K: Sink, G: Gate + Sync>(
     ensures unchanged { result.status ≢ Status.Done → result.status ≢ Status.WriteFault
         → (K.held out.new ≡ K.held out.old) × (K.faults out.new ≡ K.faults out.old) }
 {
-    match answer(rt, alloc, conf, input, gate) {
+    match answer(rt, alloc, conf, input, maker, gate) {
         Ok(text) => match write_all(out, text.as_slice()) {
             Ok(()) => Ending::of(Status::Done),
             Err(_) => Ending::of(Status::WriteFault),
@@ -164,12 +175,13 @@ fn outcome_on<R: Threads + Wait + Sync, S: Source, K: Sink, G: Gate + Sync>(
 }
 
 // Answers the input on `out` by the cache that the words tell, or tells why not.
-fn outcome<R: Threads + Wait + Sync, S: Source, K: Sink, G: Gate + Sync>(
+fn outcome<R: Threads + Wait + Sync, S: Source, K: Sink, M: Maker + Sync, G: Gate + Sync>(
     rt: &R,
     alloc: Global,
     words: &[String],
     input: &mut S,
     out: &mut K,
+    maker: &M,
     gate: &G,
 ) -> Ending
     ensures replayed { IfSome (conf_of words.now) (λ conf. result.status ≡ Status.Done
@@ -180,6 +192,8 @@ fn outcome<R: Threads + Wait + Sync, S: Source, K: Sink, G: Gate + Sync>(
         → IsRefusedAt (S.left input.old) (S.left input.new) result.place result.reason }
     ensures too_many { IfSome (conf_of words.now) (λ conf. result.status ≡ Status.TooMany
         → IsCrowded conf (S.left input.old) (S.left input.new)) }
+    ensures pattern { IfSome (conf_of words.now) (λ conf. result.status ≡ Status.Pattern
+        → IsUnsearchable (M.may_refuse maker.now) conf (S.left input.old) (S.left input.new)) }
     ensures too_long { result.status ≡ Status.TooLong
         → HasTaken (S.left input.old) (S.left input.new) (longest_input + 1) }
     ensures longer { result.status ≡ Status.TooLong
@@ -195,7 +209,7 @@ fn outcome<R: Threads + Wait + Sync, S: Source, K: Sink, G: Gate + Sync>(
         → (K.held out.new ≡ K.held out.old) × (K.faults out.new ≡ K.faults out.old) }
 {
     match read_conf(alloc, words) {
-        Ok(conf) => outcome_on(rt, alloc, &conf, input, out, gate),
+        Ok(conf) => outcome_on(rt, alloc, &conf, input, out, maker, gate),
         Err(ConfFault::Usage) => Ending::of(Status::Usage),
         Err(ConfFault::Memory) => Ending::of(Status::NoMemory),
     }
@@ -227,19 +241,21 @@ fn tell_ending<E: Sink>(err: &mut E, ending: Ending)
 /// `conf_read::read_conf` reads them: `--shm-size` (PHP's `apc.shm_size`, 32M where it is left
 /// out), `--slots` (4096) and `--ttl` (the seconds of PHP's `apc.ttl`, 0), in any order, each at
 /// most once. A script's calls are those of PHP's APCu functions, one on a line, with their
-/// arguments in PHP's serialize notation.
+/// arguments in PHP's serialize notation. `maker` makes the regexes of their patterns; `gate` is
+/// told of each call, of each value that is copied and of each step of an iterator.
 ///
 /// Whatever the scripts and however the workers meet, each reply printed is the one that a cache of
 /// one thread gives at that call's place in the printed journal (`replayed`). Every other status
 /// has its cause in a clause of its own, and leaves `out` as it was, but for `WriteFault`, which
 /// leaves the first of what was to be printed.
-pub fn run<R: Threads + Wait + Sync, S: Source, K: Sink, E: Sink, G: Gate + Sync>(
+pub fn run<R: Threads + Wait + Sync, S: Source, K: Sink, E: Sink, M: Maker + Sync, G: Gate + Sync>(
     rt: &R,
     alloc: Global,
     words: &[String],
     input: &mut S,
     out: &mut K,
     err: &mut E,
+    maker: &M,
     gate: &G,
 ) -> Status
     // What is printed is the output of a journal that is legal and complete for the scripts of the
@@ -253,6 +269,8 @@ pub fn run<R: Threads + Wait + Sync, S: Source, K: Sink, E: Sink, G: Gate + Sync
     ensures script { result ≡ Status.Script → IsRefused (S.left input.old) (S.left input.new) }
     ensures too_many { IfSome (conf_of words.now) (λ conf. result ≡ Status.TooMany
         → IsCrowded conf (S.left input.old) (S.left input.new)) }
+    ensures pattern { IfSome (conf_of words.now) (λ conf. result ≡ Status.Pattern
+        → IsUnsearchable (M.may_refuse maker.now) conf (S.left input.old) (S.left input.new)) }
     ensures too_long { result ≡ Status.TooLong
         → HasTaken (S.left input.old) (S.left input.new) (longest_input + 1) }
     ensures longer { result ≡ Status.TooLong
@@ -260,7 +278,8 @@ pub fn run<R: Threads + Wait + Sync, S: Source, K: Sink, E: Sink, G: Gate + Sync
     ensures read_fault { result ≡ Status.ReadFault
         → Rose (S.faults input.old) (S.faults input.new) }
     ensures write_fault { result ≡ Status.WriteFault → Rose (K.faults out.old) (K.faults out.new) }
-    ensures complete { IfSome (conf_of words.now) (λ conf. Completes conf result (S.left input.old)
+    ensures complete { IfSome (conf_of words.now) (λ conf.
+        Completes (M.may_refuse maker.now) conf result (S.left input.old)
         (S.faults input.old) (S.faults input.new) (K.faults out.old) (K.faults out.new)) }
 
     // What is left on the sinks.
@@ -278,7 +297,7 @@ pub fn run<R: Threads + Wait + Sync, S: Source, K: Sink, E: Sink, G: Gate + Sync
         (E.held err.old) (E.held err.new) (E.faults err.old) (E.faults err.new) }
 {
     readings_are_scripts();
-    let ending = outcome(rt, alloc, words, input, out, gate);
+    let ending = outcome(rt, alloc, words, input, out, maker, gate);
     tell_ending(err, ending);
     ending.status
 }

@@ -20,10 +20,12 @@ pub enum Status {
     TooLong,
     /// The calls may make more than 4,194,304 events, each worker's end included.
     TooMany,
+    /// An iterator's pattern is none, or its regex is refused.
+    Pattern,
 }
 
 impl Status {
-    /// The exit status, from 0 to 7.
+    /// The exit status, from 0 to 8.
     pub fn code(self) -> u8
         ensures { result ≡ code_of self }
     {
@@ -36,6 +38,7 @@ impl Status {
             Status::NoMemory => 5,
             Status::TooLong => 6,
             Status::TooMany => 7,
+            Status::Pattern => 8,
         }
     }
 
@@ -52,6 +55,7 @@ impl Status {
             Status::NoMemory => b"apcu_run: out of memory\n",
             Status::TooLong => b"apcu_run: input too long\n",
             Status::TooMany => b"apcu_run: too many events\n",
+            Status::Pattern => b"apcu_run: pattern\n",
         }
     }
 }

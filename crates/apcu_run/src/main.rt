@@ -1,6 +1,7 @@
 //! Plays scripts of apcu calls.
 #![tactic(auto)]
 
+use apcu_iter::RegexMaker;
 use apcu_play::{Status, run, tell};
 use io_edges::{NoGate, StdSink, StdSource};
 use std::alloc::AllocError;
@@ -32,6 +33,7 @@ fn main(rt: HostRuntime) -> ExitCode {
                 &mut input,
                 &mut out,
                 &mut err,
+                &RegexMaker,
                 &NoGate,
             )
         }

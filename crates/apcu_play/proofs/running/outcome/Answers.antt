@@ -12,3 +12,6 @@ returns-in-Err-Memory-clause-too_many g c = unmet _ (conf_of c.args.words.now) (
 
 pub returns-in-Err-Memory-clause-cut : goal.returns-in-Err-Memory-clause-cut
 returns-in-Err-Memory-clause-cut g c = unmet _ (conf_of c.args.words.now) (λ is. cc)
+
+pub returns-in-Err-Memory-clause-pattern : goal.returns-in-Err-Memory-clause-pattern
+returns-in-Err-Memory-clause-pattern g c = unmet _ (conf_of c.args.words.now) (λ is. cc)
