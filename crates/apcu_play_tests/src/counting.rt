@@ -1,6 +1,7 @@
 //! Many workers on one counter.
 
 use crate::gates::{Hold, Holding};
+use apcu_iter::RegexMaker;
 use apcu_play::{Status, run};
 use io_edges::{MemSink, MemSource, Point};
 use notation::ByteOut;
@@ -66,7 +67,16 @@ fn expect_counted<R: Threads + Wait + Sync + Abort>(
     let mut input = MemSource::new(scripts.as_slice(), 65536, &[]);
     let mut out = MemSink::new(alloc, 2_097_152, 65536, &[])?;
     let mut err = MemSink::new(alloc, 64, 64, &[])?;
-    let status = run(rt, alloc, &words, &mut input, &mut out, &mut err, &gate);
+    let status = run(
+        rt,
+        alloc,
+        &words,
+        &mut input,
+        &mut out,
+        &mut err,
+        &RegexMaker,
+        &gate,
+    );
     assert_eq!(rt; status, Status::Done);
     assert!(rt; !gate.has_given_up());
     let last = (workers as usize).saturating_mul(calls as usize);

@@ -14,6 +14,10 @@ mod faults;
 #[cfg(test)]
 mod gates;
 #[cfg(test)]
+mod iterators;
+#[cfg(test)]
+mod iterators_that_differ;
+#[cfg(test)]
 mod options;
 #[cfg(test)]
 mod pieces;

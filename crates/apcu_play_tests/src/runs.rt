@@ -1,5 +1,6 @@
 //! A run of the program, and what comes of it.
 
+use apcu_iter::{Maker, RegexMaker};
 use apcu_play::{Status, run};
 use io_edges::{MemSink, MemSource, NoGate};
 use notation::ByteOut;
@@ -78,11 +79,24 @@ pub(crate) fn expect_of<R: Threads + Wait + Sync + Abort>(
     words: &[String],
     case: Run<'_>,
 ) -> Result<(), Fail> {
+    expect_by(rt, alloc, words, &RegexMaker, case)
+}
+
+// The same where the regexes of patterns come from this maker.
+pub(crate) fn expect_by<R: Threads + Wait + Sync + Abort, M: Maker + Sync>(
+    rt: &R,
+    alloc: Global,
+    words: &[String],
+    maker: &M,
+    case: Run<'_>,
+) -> Result<(), Fail> {
     assert!(rt; case.piece > 0);
     let mut input = MemSource::new(case.input, case.piece, case.fails[0]);
     let mut out = MemSink::new(alloc, 16384, case.piece, case.fails[1])?;
     let mut err = MemSink::new(alloc, 64, 64, &[])?;
-    let status = run(rt, alloc, words, &mut input, &mut out, &mut err, &NoGate);
+    let status = run(
+        rt, alloc, words, &mut input, &mut out, &mut err, maker, &NoGate,
+    );
     assert_eq!(rt; status, case.status);
     assert_eq!(rt; out.as_slice(), case.printed);
     assert_eq!(rt; err.as_slice(), case.told);

@@ -1,6 +1,7 @@
 //! A script of this cache in `docs/DIFFERENCES.md`, and what it prints there.
 
 use crate::runs::words_of;
+use apcu_iter::RegexMaker;
 use apcu_play::run;
 use io_edges::{MemSink, MemSource, NoGate};
 use std::alloc::Global;
@@ -44,7 +45,16 @@ fn expect_one<R: Threads + Wait + Sync + Abort>(
     let mut input = MemSource::new(case.script, 64, &[]);
     let mut out = MemSink::new(alloc, 4096, 64, &[])?;
     let mut err = MemSink::new(alloc, 64, 64, &[])?;
-    let _status = run(rt, alloc, &words, &mut input, &mut out, &mut err, &NoGate);
+    let _status = run(
+        rt,
+        alloc,
+        &words,
+        &mut input,
+        &mut out,
+        &mut err,
+        &RegexMaker,
+        &NoGate,
+    );
     if err.as_slice().is_empty() {
         let rest = out.as_slice().strip_prefix(case.shown).unwrap_or(&[]);
         assert!(rt; rest.starts_with(b"journal\n"));

@@ -5,8 +5,9 @@ use crate::gates::Holding;
 use crate::pieces::Piece::{self, Text, Zs};
 use crate::pieces::spelled;
 use crate::runs::{LARGER, SMALL, words_of};
+use apcu_iter::RegexMaker;
 use apcu_play::{Status, run};
-use io_edges::Point::{After, Before, Pinned};
+use io_edges::Point::{After, Before, Chunk, Pinned};
 use io_edges::{MemSink, MemSource, NoGate};
 use notation::ByteOut;
 use std::alloc::Global;
@@ -35,7 +36,16 @@ fn expect_held<R: Threads + Wait + Sync + Abort>(
     let mut input = MemSource::new(scripts.as_slice(), 4096, &[]);
     let mut out = MemSink::new(alloc, 16384, 4096, &[])?;
     let mut err = MemSink::new(alloc, 64, 64, &[])?;
-    let status = run(rt, alloc, &words, &mut input, &mut out, &mut err, &gate);
+    let status = run(
+        rt,
+        alloc,
+        &words,
+        &mut input,
+        &mut out,
+        &mut err,
+        &RegexMaker,
+        &gate,
+    );
     assert_eq!(rt; status, Status::Done);
     assert!(rt; !gate.has_given_up());
     let mut first = spelled(alloc, case.printed)?;
@@ -93,6 +103,41 @@ const DELETED: Held = Held {
         Text(b"worker 0\nb:1;\ns:2000:\""),
         Zs(2000),
         Text(b"\";b:1;\nworker 1\nb:1;\nb:0;\njournal\n0\n0\n1 0\n1\n"),
+    ],
+};
+
+// An iterator deletes it, in one step over all slots.
+const DELETED_BY_AN_ITERATOR: Held = Held {
+    scripts: &[
+        Text(b"worker\napcu_store s:1:\"a\"; s:2000:\""),
+        Zs(2000),
+        Text(b"\";\napcu_fetch s:1:\"a\";\nworker\nAPCUIterator_delete N;\n"),
+        Text(b"apcu_exists s:1:\"a\";\n"),
+    ],
+    holds: WHILE_PINNED,
+    printed: &[
+        Text(b"worker 0\nb:1;\ns:2000:\""),
+        Zs(2000),
+        Text(b"\";b:1;\nworker 1\nb:1;\nb:0;\njournal\n0\n0\n1 0\n1\n"),
+    ],
+};
+
+// It is deleted, and an iterator finds it among the removed rows.
+const LISTED_AS_DELETED: Held = Held {
+    scripts: &[
+        Text(b"worker\napcu_store s:1:\"a\"; s:2000:\""),
+        Zs(2000),
+        Text(b"\";\napcu_fetch s:1:\"a\";\nworker\napcu_delete s:1:\"a\";\n"),
+        Text(b"APCUIterator N; a:2:{i:0;s:3:\"key\";i:1;s:13:\"deletion_time\";}"),
+        Text(b" i:100; s:7:\"deleted\";\n"),
+    ],
+    holds: WHILE_PINNED,
+    printed: &[
+        Text(b"worker 0\nb:1;\ns:2000:\""),
+        Zs(2000),
+        Text(b"\";b:1;\nworker 1\nb:1;\n"),
+        Text(b"a:1:{i:0;a:2:{s:3:\"key\";s:1:\"a\";s:13:\"deletion_time\";i:0;}}\n"),
+        Text(b"journal\n0\n0\n1 0\n1\n"),
     ],
 };
 
@@ -186,6 +231,8 @@ fn a_copy_is_left_alone(rt: HostRuntime) -> Result<(), Fail> {
     for case in [
         GIVEN_OUT_AFTER,
         DELETED,
+        DELETED_BY_AN_ITERATOR,
+        LISTED_AS_DELETED,
         REPLACED,
         CLEARED,
         EXPUNGED,
@@ -225,10 +272,34 @@ const COUNTED_IN_TURN: Held = Held {
     ],
 };
 
+// Worker 1 has its one call between the first two steps of worker 0's walk.
+const BETWEEN_STEPS: &[Hold] = &[
+    Until((1, Before(0)), (0, Chunk(3))),
+    Until((0, Chunk(3)), (1, After(0))),
+    Until((1, After(0)), (0, After(3))),
+];
+
+// A row that the walk has given is replaced.
+const REPLACED_BEHIND_A_WALK: Held = Held {
+    scripts: &[
+        Text(b"worker\napcu_store s:1:\"a\"; i:1;\napcu_store s:1:\"A\"; i:1;\n"),
+        Text(b"apcu_store s:1:\"b\"; i:1;\nAPCUIterator N; a:1:{i:0;s:3:\"key\";} i:1;\n"),
+        Text(b"worker\napcu_store s:1:\"A\"; i:2;\n"),
+    ],
+    holds: BETWEEN_STEPS,
+    printed: &[
+        Text(b"worker 0\nb:1;\nb:1;\nb:1;\na:3:{i:0;a:1:{s:3:\"key\";s:1:\"a\";}"),
+        Text(b"i:1;a:1:{s:3:\"key\";s:1:\"A\";}i:2;a:1:{s:3:\"key\";s:1:\"b\";}}\n"),
+        Text(b"worker 1\nb:1;\njournal\n0\n0\n0\n0\n1\n0\n0\n"),
+    ],
+};
+
 #[test]
 fn workers_meet(rt: HostRuntime) -> Result<(), Fail> {
-    expect_held(&rt, rt.alloc(), ASKED_IN_TURN)?;
-    expect_held(&rt, rt.alloc(), COUNTED_IN_TURN)
+    for case in [ASKED_IN_TURN, COUNTED_IN_TURN, REPLACED_BEHIND_A_WALK] {
+        expect_held(&rt, rt.alloc(), case)?;
+    }
+    Ok(())
 }
 
 // As many workers as may be, each of which stores what it fetches then.
@@ -243,7 +314,16 @@ fn as_many_workers_as_may_be(rt: HostRuntime) -> Result<(), Fail> {
     let mut input = MemSource::new(scripts.as_slice(), 4096, &[]);
     let mut out = MemSink::new(alloc, 16384, 4096, &[])?;
     let mut err = MemSink::new(alloc, 64, 64, &[])?;
-    let status = run(&rt, alloc, &words, &mut input, &mut out, &mut err, &NoGate);
+    let status = run(
+        &rt,
+        alloc,
+        &words,
+        &mut input,
+        &mut out,
+        &mut err,
+        &RegexMaker,
+        &NoGate,
+    );
     assert_eq!(rt; status, Status::Done);
     let first = b"worker 0\nb:1;\ns:3:\"abc\";b:1;\nworker 1\nb:1;\ns:3:\"abc\";b:1;\n".as_slice();
     assert!(rt; out.as_slice().len() > first.len());
