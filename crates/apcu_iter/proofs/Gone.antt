@@ -8,7 +8,6 @@ use Rattle.seg_words.specs.Probing.{Goes}
 use Rattle.seg_words.specs.Windows.{Aside, held_blocks}
 use Rattle.apcu_model.specs.declared.searching.Pattern.{Pattern}
 use Rattle.apcu_model.specs.Cache.{Row, Cache}
-use Rattle.apcu_model.specs.Change.{dropped}
 use Rattle.apcu_model.specs.Chunks.{chunk_dropped, chunk_end, chunk_rows, is_in_chunk, is_item}
 use Rattle.apcu_model.specs.Facts.{order_from}
 use Rattle.apcu_model.specs.Walk.{in_slot_order}
