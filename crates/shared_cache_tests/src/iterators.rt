@@ -2,14 +2,15 @@
 
 ghost use Rattle.std.specs.Prelude.{◌≡◌, ◌+◌, ◌≤◌, [], ◌∷◌};
 
+use crate::copies::{begin_copy, end_copy};
 use crate::dropped_copy::{CONF, letters};
 use crate::steps::put;
 use crate::tests::two_passes;
 use apcu_iter::{RefuseAll, Search};
 use apcu_model::{Chunk, Fields, List, integer};
-use php_graph::{Graph, Kind};
+use php_graph::Graph;
 use pin_table::{Pass, TableName};
-use shared_cache::{Fresh, Pinned, Shared, open_cache};
+use shared_cache::{Fresh, Shared, open_cache};
 use std::alloc::Global;
 use std::marker::Brand;
 use std::sync::Wait;
@@ -137,32 +138,68 @@ fn two_workers_iterate(rt: HostRuntime) -> Result<(), Fail> {
     Ok(())
 }
 
-// Whether a value is a string of so many bytes `z`.
-fn is_letters(value: &Graph, count: usize) -> bool {
-    if value.places() == 0 {
-        return false;
-    }
-    match value.kind(1) {
-        Kind::Str(text) => {
-            let bytes = text.as_slice();
-            bytes.len() == count && bytes.iter().all(|byte| *byte == b'z')
-        }
-        _ => false,
-    }
-}
-
-// What was met while a copy waited: what was told of the deleted row, whether a value found room
-// before and after the copy, and whether the copy was whole.
+// What was met while a copy waited: where the step ended that deleted its row, what was told of the
+// deleted row, and whether a value found room.
 #[derive(Clone, Copy, Debug, PartialEq, Eq)]
-struct Waited {
+struct Meanwhile {
+    next: Option<u32>,
     deleted: Option<Step>,
     stored: bool,
+}
+
+// And whether the copy was whole, and a value found room behind it.
+#[derive(Clone, Copy, Debug, PartialEq, Eq)]
+struct Waited {
+    meanwhile: Meanwhile,
     whole: bool,
     again: bool,
 }
 
-// The first worker stores a value and begins to copy it. The second one deletes its row, asks for
-// the deleted rows, and stores a value that fills all blocks. The first one ends its copy.
+// Deletes the rows of one step, from the first slot on; the pass has at most one event less.
+fn delete_step<N: TableName, R: Wait>(
+    rt: &R,
+    alloc: Global,
+    shared: &Shared<N>,
+    pass: Pass,
+    search: &mut Search,
+) -> (Pass, Option<u32>)
+    requires table { pass.table ≡ N.table }
+    requires left { 2 ≤ pass.known.left }
+    ensures table { result.0.table ≡ N.table }
+    ensures left { pass.known.left ≤ result.0.known.left + 1 }
+{
+    let (pass, next) = shared.chunk_delete(rt, alloc, pass, search, 0, 1, 0);
+    (pass, next.ok())
+}
+
+// The second worker deletes the row, asks for the deleted rows, and stores a value that fills all
+// blocks.
+fn act_meanwhile<N: TableName, R: Wait>(
+    rt: &R,
+    alloc: Global,
+    shared: &Shared<N>,
+    pass: Pass,
+    search: &mut Search,
+    larger: &Graph,
+) -> (Pass, Meanwhile)
+    requires table { pass.table ≡ N.table }
+    requires left { 4 ≤ pass.known.left }
+    ensures table { result.0.table ≡ N.table }
+    ensures left { pass.known.left ≤ result.0.known.left + 3 }
+{
+    let (pass, next) = delete_step(rt, alloc, shared, pass, search);
+    let list = List::Deleted;
+    let (pass, deleted) = one_step(rt, alloc, shared, pass, search, list, KEY_AND_DELETION);
+    let (pass, stored) = put(rt, shared, pass, b"b", larger, false);
+    let met = Meanwhile {
+        next,
+        deleted,
+        stored,
+    };
+    (pass, met)
+}
+
+// The first worker begins a copy, and ends it once the second one did all that.
 fn wait<N: TableName, R: Wait>(
     rt: &R,
     alloc: Global,
@@ -178,30 +215,12 @@ fn wait<N: TableName, R: Wait>(
 {
     let (shared, mut passes, _) = fresh.name::<N>();
     let (first, second) = two_passes::<N>(&mut passes)?;
-    let (first, _) = shared.store(rt, first, b"a", value, 0, false, 0);
-    let Pinned::Hit(copying) = shared.pin(rt, first, b"a", 0) else {
-        return None;
-    };
-    let (second, _) = shared.delete(rt, second, b"a", 0);
-    let (second, deleted) = one_step(
-        rt,
-        alloc,
-        &shared,
-        second,
-        search,
-        List::Deleted,
-        KEY_AND_DELETION,
-    );
-    let (second, stored) = put(rt, &shared, second, b"b", larger, false);
-    let (_, copied) = shared.copy_out(alloc, copying);
-    let whole = match copied {
-        Ok(copied) => is_letters(&copied, 2_000),
-        Err(_) => false,
-    };
+    let copying = begin_copy(rt, &shared, first, value)?;
+    let (second, met) = act_meanwhile(rt, alloc, &shared, second, search, larger);
+    let whole = end_copy(alloc, &shared, copying);
     let (_, again) = put(rt, &shared, second, b"b", larger, false);
     Some(Waited {
-        deleted,
-        stored,
+        meanwhile: met,
         whole,
         again,
     })
@@ -225,8 +244,11 @@ fn a_copy_waits_while_its_row_is_deleted(rt: HostRuntime) -> Result<(), Fail> {
         size: 2_112,
     };
     let all = Waited {
-        deleted: Some(deleted),
-        stored: false,
+        meanwhile: Meanwhile {
+            next: Some(7),
+            deleted: Some(deleted),
+            stored: false,
+        },
         whole: true,
         again: true,
     };
