@@ -190,9 +190,9 @@ impl<N: TableName> Shared<N> {
             .chunk_delete(&self.table, alloc, pass, search, from, size, t)
     }
 
-    /// Of how many rows of a list the search finds the keys at the moment `t`, in seconds, how often
-    /// they were fetched together (2^64 - 1 is that often or oftener), and how many bytes their
-    /// blocks have.
+    /// Of how many rows of a list the search finds the keys at the moment `t`, in seconds, how
+    /// often they were fetched together (2^64 - 1 is that often or oftener), and how many bytes
+    /// their blocks have.
     ///
     /// Without memory for the search there was no event, and the pass comes back as it was. See
     /// `APCUIterator::getTotalCount` and its relatives in the PHP manual.
