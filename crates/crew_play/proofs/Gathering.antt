@@ -112,7 +112,7 @@ texts_match conf w (s ∷ ss) (x ∷ xs) history same each =
 
 get-map : {A B : Type 0} (f : A → B) (xs : List A) (k : ℕ) (x : A) → slice_get xs k ≡ Some x → slice_get (map f xs) k ≡ Some (f x)
 get-map f [] k x h = absurd (cc (h))
-get-map f (y ∷ ys) zero x h =
+get-map {A = A} f (y ∷ ys) zero x h =
     let same : y ≡ x = cc (h) in
     ap (λ (v : A). Some (f v)) same
 get-map f (y ∷ ys) (suc k) x h = get-map f ys k x h

@@ -1,8 +1,9 @@
 //! How many events each worker may make.
 
-ghost use Rattle.std.specs.Prelude.{◌≡◌, ◌+◌, ◌<◌, ◌≤◌, length, IfOk, IfErr, IfSome, IfNone};
+ghost use Rattle.std.specs.Prelude.{◌≡◌, ◌≢◌, ◌+◌, ◌<◌, ◌≤◌, length};
+ghost use Rattle.std.specs.Prelude.{IfOk, IfErr, IfSome, IfNone};
 ghost use Rattle.crew_play.specs.Budgets.{events_in, budgets_of, all_events, most_events};
-ghost use Rattle.crew_play.specs.declared.play.CrewFault.TheVariants.{Memory, TooMany};
+ghost use Rattle.crew_play.specs.declared.play.CrewFault.TheVariants.{Memory, TooMany, Pattern};
 
 use crate::play::CrewFault;
 use script_read::{Script, Scripts};
@@ -32,6 +33,7 @@ pub(crate) fn budgets(alloc: Global, slots: u32, scripts: &Scripts) -> Result<Ve
     ensures budgets { IfOk result (λ all. all.items ≡ budgets_of slots scripts.now) }
     ensures few { IfOk result (λ _. all_events slots scripts.now ≤ most_events) }
     ensures many { IfErr result (λ e. e ≡ TooMany → most_events < all_events slots scripts.now) }
+    ensures others { IfErr result (λ e. e ≢ Pattern) }
 {
     let mut all = Vec::with_capacity(alloc, scripts.len() as usize)?;
     let mut events = 0u64;

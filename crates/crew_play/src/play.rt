@@ -66,8 +66,10 @@ fn whole(alloc: Global, texts: Vec<Result<ByteOut, PlayFault>>) -> Result<Vec<By
     for text in texts {
         match text {
             Ok(text) => all.push_reserved(text),
-            Err(PlayFault::Pattern) => refused = true,
-            Err(PlayFault::Memory) => return Err(CrewFault::Memory),
+            Err(fault) => match fault {
+                PlayFault::Memory => return Err(CrewFault::Memory),
+                PlayFault::Pattern => refused = true,
+            },
         }
     }
     if refused {

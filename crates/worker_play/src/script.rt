@@ -1,6 +1,7 @@
 //! A worker's script.
 
-ghost use Rattle.std.specs.Prelude.{◌≡◌, ℕ, ◌<◌, ◌++◌, List, [], length, map, sum, IfOk, IfErr, OnOk};
+ghost use Rattle.std.specs.Prelude.{◌≡◌, ℕ, ◌<◌, ◌++◌, List, [], length, map, sum};
+ghost use Rattle.std.specs.Prelude.{IfOk, IfErr, OnOk};
 ghost use Rattle.script_read.specs.Calls.{HasRanges, event_bound};
 ghost use Rattle.script_read.specs.Grammar.{ends_line};
 ghost use Rattle.script_read.specs.Play.{next_of};

@@ -1,4 +1,3 @@
-use Rattle.std.proofs.Common.{◌≡◌}
 use Rattle.conf_read.specs.Options.{conf_of}
 use Rattle.apcu_play.proofs.Unmet.{unmet}
 use Rattle.apcu_play.proofs.running.outcome.Goals as goal

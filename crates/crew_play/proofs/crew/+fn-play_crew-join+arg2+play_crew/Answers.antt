@@ -27,10 +27,10 @@ pub returns-clause-pattern : goal.returns-clause-pattern
 returns-clause-pattern g t c = λ there.
     let front = c.join-front.result.0 in
     let last = c.join-front.result.1 in
-    by_more front.1.items last.1 (Err Pattern) c.join-front.ensures.first.1.0
+    by_more front.1.items last.1 (Err Pattern) c.join-front.ensures.first.1
     (λ is. record {
       script = c.last_worker-pass.result.1.now;
       among = contains_at c.args.scripts.now (c.args.count - 1) c.last_worker-pass.result.1.now c.last_worker-pass.ensures.script;
       has = cause_of last.1 c.join-front.ensures.second.1 is;
     })
-    (subst (λ (l : List (Result (List ℕ) PlayFault)). Contains l (Err Pattern)) c.push_reserved.ensures.items there)
+    (subst (λ (l : List (Result (List ℕ) PlayFault)). Contains l (Err Pattern)) {x = c.push_reserved.new.self.items} c.push_reserved.ensures.items there)

@@ -1,0 +1,22 @@
+-- Texts and faults that are gone through one by one.
+use Rattle.std.proofs.Common.{◌≡◌, ℕ, List, [], ◌∷◌, ◌++◌, map, refl, sym, ap, subst, ◌∙◌, arith, append_assoc}
+use Rattle.std.specs.Prelude.{Result, Ok, Contains}
+use Rattle.std.proofs.lemmas.List.{map-append}
+use Rattle.std.proofs.lemmas.List.Elements.{Contains-append_right}
+use Rattle.worker_play.specs.declared.script.PlayFault.{PlayFault}
+
+-- one text more is taken
+pub items_taken : (texts next rest : List (Result (List ℕ) PlayFault)) (text : List ℕ) (all more : List (List ℕ)) → map Ok all ++ next ≡ texts → next ≡ Ok text ∷ rest → more ≡ all ++ text ∷ []
+    → map Ok more ++ rest ≡ texts
+items_taken texts next rest text all more is step pushed =
+    ap (λ (l : List (List ℕ)). map Ok l ++ rest) pushed
+    ∙ (ap (λ (l : List (Result (List ℕ) PlayFault)). l ++ rest) (map-append Ok all (text ∷ []))
+    ∙ (append_assoc (map Ok all) (Ok text ∷ []) rest ∙ (ap (λ (l : List (Result (List ℕ) PlayFault)). map Ok all ++ l) (sym step) ∙ is)))
+
+-- what stands behind the first one stands there
+pub behind_first : {A : Type 0} (texts next rest : List A) (y : A) → ((x : A) → Contains next x → Contains texts x) → next ≡ y ∷ rest → (x : A) → Contains rest x → Contains texts x
+behind_first {A = A} texts next rest y behind step x there = behind x (subst (λ (l : List A). Contains l x) (sym step) (Contains-append_right (y ∷ []) rest x there))
+
+-- and so does the first one
+pub first_there : {A : Type 0} (texts next rest : List A) (y : A) → ((x : A) → Contains next x → Contains texts x) → next ≡ y ∷ rest → Contains texts y
+first_there {A = A} texts next rest y behind step = behind y (subst (λ (l : List A). Contains l y) (sym step) (0, omega arith, refl))
