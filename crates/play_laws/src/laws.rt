@@ -24,9 +24,9 @@ pub fn one_event_own()
 {}
 
 /// A history of events in which each mask is legal, each worker asks in turn what its script wants
-/// after its own replies, until nothing more is wanted, and nobody else asks, is a play: that of the
-/// journal of its marks. The play ends in the cache that one thread would have after these events,
-/// and each worker was answered its own replies. No worker wants anything after it.
+/// after its own replies, until nothing more is wanted, and nobody else asks, is a play: that of
+/// the journal of its marks. The play ends in the cache that one thread would have after these
+/// events, and each worker was answered its own replies. No worker wants anything after it.
 pub fn histories_are_plays()
     ensures play { (conf : Conf) (scripts : List (List Step)) (history : List Event)
         → IsPlayedOut conf scripts history

@@ -6,8 +6,8 @@ ghost use Rattle.std.specs.Option.{is_some, option_map};
 ghost use Rattle.php_graph.specs.Graph.{IsGraph, kind_at};
 ghost use Rattle.script_read.specs.Calls.{last_moment};
 ghost use Rattle.script_read.specs.Arguments.{key, integer, truth, null, ttl, moment, keys, pairs};
-ghost use Rattle.script_read.specs.Arguments.{member_string, member_value, key_bytes, asked_of, stored};
-ghost use Rattle.script_read.specs.Arguments.{IsThere};
+ghost use Rattle.script_read.specs.Arguments.{member_string, member_value, key_bytes, asked_of};
+ghost use Rattle.script_read.specs.Arguments.{stored, IsThere};
 
 use crate::given::{Asked, Stored};
 use apcu_model::{Keys, Pairs};
