@@ -204,25 +204,15 @@ const EXPIRED: Held = Held {
         Text(b"worker\napcu_store s:1:\"a\"; s:2000:\""),
         Zs(2000),
         Text(b"\"; i:10;\napcu_fetch s:1:\"a\";\nworker\ntime i:11;\n"),
-        Text(b"apcu_store s:1:\"A\"; i:1;\napcu_exists s:1:\"a\";\napcu_cache_info b:0;\n"),
+        Text(b"apcu_store s:1:\"A\"; i:1;\napcu_exists s:1:\"a\";\n"),
+        Text(b"APCUIterator N; a:1:{i:0;s:3:\"key\";} i:100; s:7:\"deleted\";\n"),
     ],
     holds: PINNED_FOR_THREE,
     printed: &[
         Text(b"worker 0\nb:1;\ns:2000:\""),
         Zs(2000),
-        Text(
-            b"\";b:1;\nworker 1\nb:1;\nb:0;\n\
-            a:10:{s:9:\"num_slots\";i:32;s:3:\"ttl\";i:0;s:8:\"num_hits\";i:1;\
-            s:10:\"num_misses\";i:0;s:11:\"num_inserts\";i:2;s:11:\"num_entries\";i:1;\
-            s:8:\"expunges\";i:0;s:8:\"mem_size\";i:128;\
-            s:10:\"cache_list\";a:1:{i:0;a:8:{s:4:\"info\";s:1:\"A\";s:3:\"ttl\";i:0;\
-            s:8:\"num_hits\";i:0;s:5:\"mtime\";i:11;s:13:\"creation_time\";i:11;\
-            s:13:\"deletion_time\";i:0;s:11:\"access_time\";i:11;s:8:\"mem_size\";i:128;}}\
-            s:12:\"deleted_list\";a:1:{i:0;a:8:{s:4:\"info\";s:1:\"a\";s:3:\"ttl\";i:10;\
-            s:8:\"num_hits\";i:1;s:5:\"mtime\";i:0;s:13:\"creation_time\";i:0;\
-            s:13:\"deletion_time\";i:11;s:11:\"access_time\";i:0;s:8:\"mem_size\";i:2112;}}}\n\
-            journal\n0\n0\n1 0\n1\n1\n",
-        ),
+        Text(b"\";b:1;\nworker 1\nb:1;\nb:0;\na:1:{i:0;a:1:{s:3:\"key\";s:1:\"a\";}}\n"),
+        Text(b"journal\n0\n0\n1 0\n1\n1\n"),
     ],
 };
 
