@@ -1,0 +1,2 @@
+pub mod ByteStrings
+pub mod Kept

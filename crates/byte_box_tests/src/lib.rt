@@ -1,0 +1,5 @@
+//! Tests of byte strings of sixteen bytes.
+#![tactic(auto)]
+
+#[cfg(test)]
+mod tests;
