@@ -2,6 +2,8 @@
 #![tactic(auto)]
 
 mod block;
+mod laws;
 mod string;
 
+pub use laws::strings_cross;
 pub use string::ByteBox;

@@ -1,17 +1,12 @@
-use byte_box::ByteBox;
+use byte_box::{ByteBox, strings_cross};
 use std::cmp::Ordering;
-use std::marker::{Send, Sync};
 use std::mem::size_of;
 use std::process::Abort;
 use std::test::Fail;
 
-// What is handed to another thread, or shown to it, has these two.
-fn may_cross<T: Send + Sync>(value: &T) -> &T {
-    value
-}
-
 #[test]
 fn small(rt: HostRuntime) {
+    strings_cross();
     assert_eq!(rt; size_of::<ByteBox>(), 16);
 }
 
@@ -24,31 +19,27 @@ fn copies(rt: HostRuntime) -> Result<(), Fail> {
         b"a text of some thirty bytes, and one",
     ] {
         let copy = ByteBox::of(rt.alloc(), text)?;
-        assert_eq!(rt; may_cross(&copy).as_slice(), text);
+        assert_eq!(rt; copy.as_slice(), text);
         assert_eq!(rt; copy.len(), text.len());
         assert_eq!(rt; copy.is_empty(), text.is_empty());
     }
     Ok(())
 }
 
-// A block that fits, one with room to spare, room alone, and none.
+// A block that fits, one with room to spare, room alone, none, and one that grew.
 #[test]
 fn takes_blocks(rt: HostRuntime) -> Result<(), Fail> {
-    for (room, n) in [(8, 8), (64, 3), (5, 0), (0, 0), (3, 40)] {
+    let rows = [
+        (3, &b"abc"[..]),
+        (64, b"abc"),
+        (5, b""),
+        (0, b""),
+        (2, b"some bytes"),
+    ];
+    for (room, text) in rows {
         let mut bytes = Vec::with_capacity(rt.alloc(), room)?;
-        for b in 0..n {
-            bytes.push(b)?;
-        }
-        let at = bytes.as_ptr();
-        let kept = ByteBox::from_vec(bytes);
-        assert_eq!(rt; kept.len(), n as usize);
-        assert!(rt;
-            kept.as_slice()
-                .iter()
-                .enumerate()
-                .all(|(i, b)| i == usize::from(*b))
-        );
-        assert!(rt; kept.as_slice().as_ptr() == at || n == 0);
+        bytes.extend_from_slice(text)?;
+        assert_eq!(rt; ByteBox::from_vec(bytes).as_slice(), text);
     }
     Ok(())
 }

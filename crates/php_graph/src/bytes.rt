@@ -8,6 +8,7 @@ ghost use Rattle.std.specs.Cmp.{partial_order_from_own_ties};
 ghost use Rattle.std.proofs.Common.{rules};
 ghost use Rattle.php_graph.specs.ByteStrings.{AreBytes};
 
+use byte_box::ByteBox;
 use seg_words::words_in;
 use std::alloc::{AllocError, Global};
 use std::cmp::Ordering;
@@ -16,7 +17,7 @@ use std::marker::Model;
 /// A byte string of fewer than 2^32 bytes, as keys, names, classes and string values are.
 #[derive(Debug, Drop)]
 pub struct Bytes {
-    pub(crate) items: Vec<u8>,
+    items: ByteBox,
 }
 
 impl Model for Bytes {
@@ -25,9 +26,9 @@ impl Model for Bytes {
 
     ghost Value = { List ℕ };
 
-    ghost view = { λ a. a.items.items };
+    ghost view = { λ a. a.items };
 
-    ghost invariant = { λ a. AreBytes a.items.items };
+    ghost invariant = { λ a. AreBytes a.items };
 }
 
 impl Bytes {
@@ -36,7 +37,9 @@ impl Bytes {
         requires { length items.items < 2 ^ 32 }
         ensures { result ≡ items.items }
     {
-        Bytes { items }
+        Bytes {
+            items: ByteBox::from_vec(items),
+        }
     }
 
     /// A copy of these bytes.
@@ -44,7 +47,7 @@ impl Bytes {
         requires { length from.now < 2 ^ 32 }
         ensures { IfOk result (λ bytes. bytes ≡ from.now) }
     {
-        let items = Vec::from_slice(alloc, from)?;
+        let items = ByteBox::of(alloc, from)?;
         Ok(Bytes { items })
     }
 
@@ -60,7 +63,7 @@ impl Bytes {
     pub(crate) fn try_copy(&self, alloc: Global) -> Result<Bytes, AllocError>
         ensures { IfOk result (λ copy. copy ≡ self.now) }
     {
-        let items = Vec::from_slice(alloc, &self.items)?;
+        let items = ByteBox::of(alloc, self.items.as_slice())?;
         Ok(Bytes { items })
     }
 }

@@ -395,6 +395,6 @@ fn tables(rt: HostRuntime) -> Result<(), Fail> {
 // place.
 #[test]
 fn small(rt: HostRuntime) {
-    assert!(rt; size_of::<Place>() + size_of::<(Key, Child)>() <= 88);
-    assert!(rt; size_of::<Graph>() <= 72);
+    assert!(rt; size_of::<Place>() + size_of::<(Key, Child)>() <= 72);
+    assert!(rt; size_of::<Graph>() <= 64);
 }
