@@ -1,5 +1,5 @@
 -- A deed may cross threads as its items and its allocator may.
-use Rattle.std.proofs.Common.{Bool, true, false, ℕ, ◌-◌, ◌*◌, List, [], ◌∷◌, length}
+use Rattle.std.proofs.Common.{Bool, true, false, ◌-◌, ◌*◌, length}
 use mir.Syntax.{Ty, ty_array}
 use mir.Raw.{raw}
 use base.Fraction.{full_share}

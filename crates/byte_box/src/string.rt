@@ -27,13 +27,13 @@ pub struct ByteBox {
 
 impl Model for ByteBox {
     ghost use Rattle.std.specs.Prelude.{List, ℕ};
-    ghost use Rattle.byte_box.specs.Kept.{IsKept};
+    ghost use Rattle.byte_box.specs.Blocks.{IsInBlock};
 
     ghost Value = { List ℕ };
 
     ghost view = { λ a. a.deed.items };
 
-    ghost invariant = { IsKept };
+    ghost invariant = { IsInBlock };
 }
 
 impl ByteBox {
