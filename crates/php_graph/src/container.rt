@@ -21,7 +21,6 @@ use std::collections::BTreeSet;
 const FEW_KEYS: u32 = 8;
 
 // What is kept of a container's keys, to tell those that are new.
-#[derive(Drop)]
 pub(crate) enum Seen {
     // Nothing: there are few keys, or each one's mark was above those before it.
     Nothing,
@@ -29,6 +28,18 @@ pub(crate) enum Seen {
     Marks(BTreeSet<u64>),
     // Each key, from where one came whose mark was there.
     Keys(BTreeSet<Key>),
+}
+
+// Written out, so that the walk through a set's nodes is proved here alone and not in each crate
+// that lets a builder go.
+impl Drop for Seen {
+    fn drop(self) {
+        match self {
+            Seen::Nothing => {}
+            Seen::Marks(_marks) => {}
+            Seen::Keys(_keys) => {}
+        }
+    }
 }
 
 // An open container, and what is known of its keys.

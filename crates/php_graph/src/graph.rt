@@ -21,7 +21,7 @@ use std::marker::Model;
 /// A value as PHP's serialize notation numbers it: a list of places from 1, in the order in which
 /// they are written. Order, sharing and cycles are the numbers in its members. It is whole and well
 /// formed always.
-#[derive(Debug, Drop)]
+#[derive(Debug)]
 pub struct Graph {
     // What stands at each place, and where the image has it.
     places: Places,
@@ -39,6 +39,15 @@ impl Model for Graph {
     ghost view = { λ a. kinds_of a.places };
 
     ghost invariant = { λ a. IsKept (kinds_of a.places) (offsets_of a.places) a.words };
+}
+
+impl Drop for Graph {
+    fn drop(self) {
+        let Graph {
+            places: _places,
+            words: _,
+        } = self;
+    }
 }
 
 impl Graph {
