@@ -23,10 +23,18 @@ pub(crate) struct Needle {
 }
 
 /// A search for the keys that a pattern matches, or for every key. Contracts see the pattern.
-#[derive(Drop)]
 pub struct Search {
     needle: Option<Needle>,
     alloc: Global,
+}
+
+impl Drop for Search {
+    fn drop(self) {
+        let Search {
+            needle: _,
+            alloc: _,
+        } = self;
+    }
 }
 
 impl Model for Search {

@@ -18,9 +18,14 @@ use std::marker::Model;
 
 /// A cache of one thread that keeps its rows in a list and looks at each of them: it shows what
 /// the cache in the shared segment has to do. Contracts see its rows and counts.
-#[derive(Drop)]
 pub struct Plain {
     state: State,
+}
+
+impl Drop for Plain {
+    fn drop(self) {
+        let Plain { state: _ } = self;
+    }
 }
 
 impl Model for Plain {

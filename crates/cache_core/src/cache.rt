@@ -17,11 +17,20 @@ use seg_words::{Segment, WordsIn};
 ///
 /// Contracts see it as the cache of one thread (`cache_of`), by the blocks that are held as the
 /// call leaves the segment's windows and mask.
-#[derive(Drop)]
 pub struct Core {
     pub(crate) slots: EntrySlots,
     pub(crate) conf: Conf,
     pub(crate) tally: Tally,
+}
+
+impl Drop for Core {
+    fn drop(self) {
+        let Core {
+            slots: _,
+            conf: _,
+            tally: _,
+        } = self;
+    }
 }
 
 impl Core {

@@ -31,7 +31,6 @@ use sma_blocks::Sma;
 /// and its value.
 ///
 /// It keeps what stands beside the words of a segment. No call takes memory.
-#[derive(Drop)]
 pub struct EntrySlots {
     pub(crate) sma: Sma,
     // The place of the first removed entry, or 0.
@@ -41,6 +40,18 @@ pub struct EntrySlots {
     // The number of rows.
     pub(crate) count: u32,
     pub(crate) standing: Standing,
+}
+
+impl Drop for EntrySlots {
+    fn drop(self) {
+        let EntrySlots {
+            sma: _,
+            removed: _,
+            next_number: _,
+            count: _,
+            standing: _,
+        } = self;
+    }
 }
 
 impl EntrySlots {

@@ -13,7 +13,6 @@ use std::marker::Model;
 ///
 /// Contracts see the table and what the worker knows: what a pass knows, the block, and the words
 /// of the value's image as they were at the pin.
-#[derive(Drop)]
 pub struct Copying {
     pub(crate) seat: Seat<u64, View>,
     pub(crate) worker: u32,
@@ -21,6 +20,19 @@ pub struct Copying {
     pub(crate) block: u32,
     pub(crate) first: u32,
     pub(crate) len: u32,
+}
+
+impl Drop for Copying {
+    fn drop(self) {
+        let Copying {
+            seat: _,
+            worker: _,
+            left: _,
+            block: _,
+            first: _,
+            len: _,
+        } = self;
+    }
 }
 
 impl Model for Copying {

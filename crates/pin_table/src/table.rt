@@ -29,11 +29,16 @@ use std::marker::Model;
 /// A row of words that all workers share.
 ///
 /// Contracts see the table's name, which its seat and its passes carry as well.
-#[derive(Drop)]
 pub struct PinTable {
     pub(crate) table: Table<u64, View, Start, SharedWords, Global>,
     // The memory in which the words are handed back at the end.
     row: Vec<u64>,
+}
+
+impl Drop for PinTable {
+    fn drop(self) {
+        let PinTable { table: _, row: _ } = self;
+    }
 }
 
 impl Model for PinTable {
@@ -57,11 +62,20 @@ impl Model for PinTable {
 ///
 /// Contracts see the table and the desk: the words as the writer knows them, the history of events,
 /// the windows, and what the event under way has met.
-#[derive(Drop)]
 pub struct WriterSeat {
     seat: Seat<u64, View>,
     windows: Vec<u32>,
     pub(crate) mask: u64,
+}
+
+impl Drop for WriterSeat {
+    fn drop(self) {
+        let WriterSeat {
+            seat: _,
+            windows: _,
+            mask: _,
+        } = self;
+    }
 }
 
 impl Model for WriterSeat {

@@ -10,11 +10,20 @@ use std::collections::BTreeMap;
 use std::marker::Model;
 
 // Keys with their answers, in the order in which the keys first had one. Contracts see the list.
-#[derive(Drop)]
 pub struct Notes<'a, A> {
     notes: Vec<(&'a Bytes, A)>,
     places: BTreeMap<Bytes, usize>,
     alloc: Global,
+}
+
+impl<'a, A: Drop> Drop for Notes<'a, A> {
+    fn drop(self) {
+        let Notes {
+            notes: _,
+            places: _,
+            alloc: _,
+        } = self;
+    }
 }
 
 impl<'a, A> Model for Notes<'a, A> {

@@ -95,9 +95,15 @@ impl Script {
 
 /// The scripts of all workers, that of worker 0 first. Contracts see the list of their lists of
 /// steps.
-#[derive(Debug, Drop)]
+#[derive(Debug)]
 pub struct Scripts {
     scripts: Vec<Script>,
+}
+
+impl Drop for Scripts {
+    fn drop(self) {
+        let Scripts { scripts: _ } = self;
+    }
 }
 
 impl Model for Scripts {

@@ -29,12 +29,22 @@ use value_image::images_are_runs;
 
 // The right to write, the journal, and what the cache keeps beside the words. Contracts see the
 // history.
-#[derive(Drop)]
 pub(crate) struct Cabinet<N: TableName> {
     pub(crate) seat: WriterSeat,
     pub(crate) journal: Journal,
     pub(crate) core: Core,
     of: PhantomData<N>,
+}
+
+impl<N: TableName> Drop for Cabinet<N> {
+    fn drop(self) {
+        let Cabinet {
+            seat: _,
+            journal: _,
+            core: _,
+            of: _,
+        } = self;
+    }
 }
 
 impl<N: TableName> Model for Cabinet<N> {

@@ -62,7 +62,6 @@ fn total(budgets: &[u32]) -> Option<u32>
 
 /// A cache before it is shared. Contracts see its table, its shape, and how many events each worker
 /// may make.
-#[derive(Drop)]
 pub struct Fresh {
     alloc: Global,
     table: PinTable,
@@ -71,6 +70,20 @@ pub struct Fresh {
     ended: EndedList,
     journal: Journal,
     core: Core,
+}
+
+impl Drop for Fresh {
+    fn drop(self) {
+        let Fresh {
+            alloc: _,
+            table: _,
+            seat: _,
+            passes: _,
+            ended: _,
+            journal: _,
+            core: _,
+        } = self;
+    }
 }
 
 impl Model for Fresh {

@@ -31,12 +31,21 @@ use value_image::unpersist;
 /// pass back with one event less left. What it answers is what the cache of one thread answers at
 /// the end of the history that the pass has then seen. But for `retire` each leaves the worker at
 /// least one event for its end.
-#[derive(Drop)]
 pub struct Shared<N: TableName> {
     // for the empty list of further places that a new counter's value has
     pub(crate) alloc: Global,
     pub(crate) table: PinTable,
     pub(crate) lock: Mutex<Cabinet<N>>,
+}
+
+impl<N: TableName> Drop for Shared<N> {
+    fn drop(self) {
+        let Shared {
+            alloc: _,
+            table: _,
+            lock: _,
+        } = self;
+    }
 }
 
 impl<N: TableName> Model for Shared<N> {

@@ -31,7 +31,6 @@ struct Part {
 /// All places and sizes are even numbers of words. The second word of a gap is the place of the
 /// next one, or 0. An index in plain memory finds the gap that a call needs, so that no call walks;
 /// it is made from the row that `format` is handed, and no call takes memory.
-#[derive(Drop)]
 pub struct Sma {
     /// The place of the first block or gap.
     pub from: u32,
@@ -43,6 +42,18 @@ pub struct Sma {
     free: u32,
     // The size of the gap that begins at each even place, or 0.
     sizes: PairRow,
+}
+
+impl Drop for Sma {
+    fn drop(self) {
+        let Sma {
+            from: _,
+            to: _,
+            head: _,
+            free: _,
+            sizes: _,
+        } = self;
+    }
 }
 
 impl Sma {
