@@ -62,20 +62,11 @@ impl Model for PinTable {
 ///
 /// Contracts see the table and the desk: the words as the writer knows them, the history of events,
 /// the windows, and what the event under way has met.
+#[derive(Drop)]
 pub struct WriterSeat {
     seat: Seat<u64, View>,
     windows: Vec<u32>,
     pub(crate) mask: u64,
-}
-
-impl Drop for WriterSeat {
-    fn drop(self) {
-        let WriterSeat {
-            seat: _,
-            windows: _,
-            mask: _,
-        } = self;
-    }
 }
 
 impl Model for WriterSeat {
