@@ -1,7 +1,7 @@
 use crate::request::Request;
 
 /// A worker's request at a time. The order of events is that in which they took effect.
-#[derive(Debug, Drop)]
+#[derive(Drop)]
 pub struct Event {
     /// The worker's number, from 0.
     pub worker: u32,

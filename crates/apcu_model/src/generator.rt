@@ -11,14 +11,14 @@ use std::marker::Model;
 /// it where no live row has the key. Contracts see the keys and times to live from outside in, and
 /// the value inside the innermost.
 #[cycle(generator)]
-#[derive(Debug, Drop)]
+#[derive(Drop)]
 pub struct Gen {
     kind: GenKind,
 }
 
 /// What a generator is outermost.
 #[cycle(generator)]
-#[derive(Debug, Drop)]
+#[derive(Drop)]
 pub enum GenKind {
     /// This value.
     Value(Graph),

@@ -6,7 +6,7 @@ use std::alloc::{AllocError, Global};
 use std::marker::Model;
 
 /// What an iterator gives of a row.
-#[derive(Debug, Drop)]
+#[derive(Drop)]
 pub struct ItemRow {
     pub key: Bytes,
     /// The value, where it is asked for.
@@ -28,7 +28,7 @@ pub struct ItemRow {
 }
 
 /// What an iterator gives in one step, in order. Contracts see the list.
-#[derive(Debug, Drop)]
+#[derive(Drop)]
 pub struct Items {
     rows: Vec<ItemRow>,
 }
@@ -103,7 +103,7 @@ impl Items {
 }
 
 /// One step of an iterator over the active rows, or all removed rows.
-#[derive(Debug, Drop)]
+#[derive(Drop)]
 pub struct Chunk {
     /// The first slot that the step did not reach; the number of slots at the end.
     pub next: u32,

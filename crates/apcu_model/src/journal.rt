@@ -14,7 +14,7 @@ pub struct Mark {
 }
 
 /// The order in which events took effect. Contracts see its marks and the room that is left.
-#[derive(Debug, Drop)]
+#[derive(Drop)]
 pub struct Journal {
     marks: Vec<Mark>,
     room: u32,

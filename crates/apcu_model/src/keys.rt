@@ -6,7 +6,7 @@ use std::alloc::{AllocError, Global};
 use std::marker::Model;
 
 /// Keys in their order, as a call on several keys has them. Contracts see the list.
-#[derive(Debug, Drop)]
+#[derive(Drop)]
 pub struct Keys {
     keys: Vec<Bytes>,
 }

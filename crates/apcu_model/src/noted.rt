@@ -20,7 +20,7 @@ pub struct Noted {
 }
 
 /// A row as `apcu_cache_info` lists it.
-#[derive(Debug, Drop)]
+#[derive(Drop)]
 pub struct ListedRow {
     pub key: Bytes,
     pub noted: Noted,

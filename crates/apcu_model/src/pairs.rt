@@ -6,7 +6,7 @@ use std::alloc::{AllocError, Global};
 use std::marker::Model;
 
 /// Keys with their values in their order, as a store of several has them. Contracts see the list.
-#[derive(Debug, Drop)]
+#[derive(Drop)]
 pub struct Pairs {
     pairs: Vec<(Bytes, Graph)>,
 }

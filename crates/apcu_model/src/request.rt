@@ -5,7 +5,7 @@ use crate::searching::{Fields, List, Pattern};
 use php_graph::{Bytes, Graph};
 
 /// What a worker asks of the cache. Each request is one event.
-#[derive(Debug, Drop)]
+#[derive(Drop)]
 pub enum Request {
     /// `apcu_store` of one key, or with `exclusive` `apcu_add`, which leaves a live row as it is.
     Store {
@@ -136,7 +136,7 @@ impl Request {
 }
 
 /// What the cache answers to a request.
-#[derive(Debug, Drop)]
+#[derive(Drop)]
 pub enum Reply {
     /// Whether it was done.
     Flag(bool),

@@ -2,7 +2,7 @@ use php_graph::Bytes;
 
 /// A pattern that keys are searched by, without the two `/` round it: the text is in the syntax of
 /// the crate `regex`, and matches anywhere in a key's bytes.
-#[derive(Debug, Drop)]
+#[derive(Drop)]
 pub struct Pattern {
     pub text: Bytes,
     /// Whether letters match in either case, as `/text/i` has it.

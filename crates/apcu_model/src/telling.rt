@@ -17,12 +17,21 @@ use std::alloc::{AllocError, Global};
 use std::marker::Model;
 
 // Places so far. The first stands apart, as a graph keeps it. Contracts see what stands at them.
-#[derive(Drop)]
 pub(crate) struct Telling {
     first: Kind,
     others: Vec<Place>,
     // The length of their image.
     words: u64,
+}
+
+impl Drop for Telling {
+    fn drop(self) {
+        let Telling {
+            first: _,
+            others: _,
+            words: _,
+        } = self;
+    }
 }
 
 impl Model for Telling {

@@ -46,7 +46,7 @@ impl From<AllocError> for CrewFault {
 }
 
 /// What is left when all workers have ended.
-#[derive(Debug, Drop)]
+#[derive(Drop)]
 pub struct Played {
     /// The marks of all events, in the order in which they took effect.
     pub journal: Journal,

@@ -5,7 +5,7 @@ use apcu_model::{Fields, Gen, Keys, List, Pairs, Pattern};
 use php_graph::{Bytes, Graph};
 
 /// A call of a script, as PHP's manual has the functions of APCu.
-#[derive(Debug, Drop)]
+#[derive(Drop)]
 pub enum Call {
     /// `apcu_store` of one key, or `apcu_add` where it is exclusive.
     StoreOne {

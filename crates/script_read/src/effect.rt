@@ -1,7 +1,7 @@
 use crate::call::Call;
 
 /// What a line of a script does: it sets the moment of the lines after it, or it is a call.
-#[derive(Debug, Drop)]
+#[derive(Drop)]
 pub(crate) enum Effect {
     Sets(u64),
     Calls(Call),

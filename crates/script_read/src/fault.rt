@@ -18,7 +18,7 @@ pub enum ScriptFault {
 }
 
 // Why reading stopped.
-#[derive(Debug, Drop)]
+#[derive(Drop)]
 pub(crate) enum Stop {
     Memory,
     Fault(Fault),

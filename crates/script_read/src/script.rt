@@ -11,14 +11,14 @@ use std::alloc::{AllocError, Global};
 use std::marker::Model;
 
 /// A call and the moment, in seconds, at which it is made.
-#[derive(Debug, Drop)]
+#[derive(Drop)]
 pub struct Step {
     pub t: u64,
     pub call: Call,
 }
 
 /// What one worker does, in order. Contracts see the list of its steps.
-#[derive(Debug, Drop)]
+#[derive(Drop)]
 pub struct Script {
     steps: Vec<Step>,
 }
@@ -95,7 +95,6 @@ impl Script {
 
 /// The scripts of all workers, that of worker 0 first. Contracts see the list of their lists of
 /// steps.
-#[derive(Debug)]
 pub struct Scripts {
     scripts: Vec<Script>,
 }

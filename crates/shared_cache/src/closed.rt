@@ -3,7 +3,7 @@
 use apcu_model::{Counts, Journal};
 
 /// What is left of a cache once all its workers have ended.
-#[derive(Debug, Drop)]
+#[derive(Drop)]
 pub struct Closed {
     /// The marks of all events, in the order in which they took effect.
     pub journal: Journal,
