@@ -16,6 +16,9 @@ use value_image::{images_are_runs, persist, runs_are_written};
 /// How many words an image has at most.
 const MOST_WORDS: u64 = 1 << 20;
 
+/// How many words stand behind the block at most.
+const MOST_SPARE: u32 = 1 << 20;
+
 /// Where the block stands.
 const BLOCK: u32 = 2;
 
@@ -34,8 +37,9 @@ pub fn text(alloc: Global, len: u32) -> Option<Graph> {
     }
 }
 
-// Words with one block, whose key is empty and whose value is this graph.
-fn block_of(alloc: Global, g: &Graph) -> Option<VecWords>
+// Words with one block, whose key is empty and whose value is this graph, and so many words behind
+// it.
+fn block_of(alloc: Global, g: &Graph, spare: u32) -> Option<VecWords>
     ensures block { IfSome result (λ w. MayPin (⟦<VecWords as WordsIn>⟧.words w) (0 ∷ []) 2) }
     ensures some { IfSome result (λ w. 0 < length (⟦<VecWords as WordsIn>⟧.words w)) }
     ensures image { IfSome result (λ w. IsImageOf
@@ -44,12 +48,12 @@ fn block_of(alloc: Global, g: &Graph) -> Option<VecWords>
         length (content_of (⟦<VecWords as WordsIn>⟧.words w) 2) ≡ image_length g.now) }
 {
     let len = g.words();
-    if len > MOST_WORDS {
+    if len > MOST_WORDS || spare > MOST_SPARE {
         return None;
     }
     images_are_runs();
     runs_are_written();
-    let mut words = VecWords::new(alloc, BLOCK + HEAD_WORDS + len as u32).ok()?;
+    let mut words = VecWords::new(alloc, BLOCK + HEAD_WORDS + len as u32 + spare).ok()?;
     words.store(BLOCK + IMAGE_LENGTH, len);
     persist(&mut words, BLOCK + HEAD_WORDS, g);
     Some(words)
@@ -63,14 +67,15 @@ fn only_pass(table: &PinTable, budgets: &[u32], passes: &mut Passes) -> Option<P
     passes.pop()
 }
 
-/// A table with a block of this value, and what its worker has that copies from it.
-pub fn pinned(alloc: Global, g: &Graph) -> Option<(PinTable, Copying)>
+/// A table with a block of this value and so many words behind it, and what its worker has that
+/// copies from the block.
+pub fn pinned(alloc: Global, g: &Graph, spare: u32) -> Option<(PinTable, Copying)>
     ensures table { IfSome result (λ r. r.1.table ≡ r.0) }
     ensures image { IfSome result (λ r.
         IsImageOf r.1.copy.content 0 (image_length g.now) g.now) }
     ensures whole { IfSome result (λ r. length r.1.copy.content ≡ image_length g.now) }
 {
-    let words = block_of(alloc, g)?;
+    let words = block_of(alloc, g, spare)?;
     let budgets = [2u32];
     let (table, mut seat, mut passes, _ended) = PinTable::new(alloc, words, &budgets).ok()?;
     let pass = only_pass(&table, &budgets, &mut passes)?;
