@@ -1,7 +1,7 @@
 //! What calls are asked with and gathered in: pairs, keys, items, requests and journals.
 
 use crate::play::{Value, generator, key, small, value_of};
-use apcu_model::{Ask, GenKind, ItemRow, Items, Journal, Keys, Mark, Pairs, Plain, Request};
+use apcu_model::{Ask, Gen, GenKind, ItemRow, Items, Journal, Keys, Mark, Pairs, Plain, Request};
 use php_graph::Bytes;
 use std::alloc::Global;
 use std::process::Abort;
@@ -18,17 +18,17 @@ fn two_pairs(rt: &impl Abort, alloc: Global) -> Result<Pairs, Fail> {
     Ok(pairs)
 }
 
-// Of two pairs the second is too large: a store of both tells its key alone.
-#[test]
-fn stores_pairs(rt: HostRuntime) -> Result<(), Fail> {
-    let alloc = rt.alloc();
-    let pairs = two_pairs(&rt, alloc)?;
+fn expect_two(rt: &impl Abort, pairs: &Pairs) {
     assert_eq!(rt; pairs.len(), 2);
     assert_eq!(rt; pairs.at(1).1.places(), 1);
+    assert_eq!(rt; pairs.as_slice().len(), 2);
+}
+
+// The keys of the pairs that are not stored.
+fn failed_of(rt: &impl Abort, alloc: Global, pairs: Pairs) -> Result<Keys, Fail> {
     let mut plain = Plain::new(alloc, &small(0));
     let mut failed = Keys::new(alloc);
     assert!(rt; failed.is_empty());
-    assert_eq!(rt; pairs.as_slice().len(), 2);
     for (key, value) in pairs.into_vec() {
         let name = Bytes::of(alloc, key.as_slice())?;
         if !plain.store(key, value, 0, false, 100)? {
@@ -36,22 +36,38 @@ fn stores_pairs(rt: HostRuntime) -> Result<(), Fail> {
             failed.push(name)?;
         }
     }
-    let failed = Keys::from_vec(failed.into_vec());
-    assert_eq!(rt; failed.as_slice().len(), 1);
-    assert_eq!(rt; failed.len(), 1);
-    assert_eq!(rt; failed.at(0).as_slice(), b"k02".as_slice());
+    Ok(failed)
+}
+
+fn expect_key(rt: &impl Abort, keys: &Keys, text: &[u8]) {
+    assert_eq!(rt; keys.as_slice().len(), 1);
+    assert_eq!(rt; keys.len(), 1);
+    assert_eq!(rt; keys.at(0).as_slice(), text);
+}
+
+// Of two pairs the second is too large: a store of both tells its key alone.
+#[test]
+fn stores_pairs(rt: HostRuntime) -> Result<(), Fail> {
+    let pairs = two_pairs(&rt, rt.alloc())?;
+    expect_two(&rt, &pairs);
+    let failed = failed_of(&rt, rt.alloc(), pairs)?;
+    expect_key(&rt, &Keys::from_vec(failed.into_vec()), b"k02");
     Ok(())
+}
+
+fn misses_of(alloc: Global, keys: Keys) -> u64 {
+    let mut plain = Plain::new(alloc, &small(0));
+    for key in keys.into_vec() {
+        plain.note_fetch(key.as_slice(), 100);
+    }
+    plain.counts().misses
 }
 
 // A fetch of no keys is no event.
 #[test]
 fn fetches_no_keys(rt: HostRuntime) -> Result<(), Fail> {
     let alloc = rt.alloc();
-    let mut plain = Plain::new(alloc, &small(0));
-    for key in Keys::new(alloc).into_vec() {
-        plain.note_fetch(key.as_slice(), 100);
-    }
-    assert_eq!(rt; plain.counts().misses, 0);
+    assert_eq!(rt; misses_of(alloc, Keys::new(alloc)), 0);
     let none = Pairs::from_vec(Pairs::new(alloc).into_vec());
     assert!(rt; none.is_empty());
     Ok(())
@@ -71,19 +87,28 @@ fn item(alloc: Global, name: u8) -> Result<ItemRow, Fail> {
     })
 }
 
-// Items stand in the order in which they came.
-#[test]
-fn gathers_items(rt: HostRuntime) -> Result<(), Fail> {
-    let mut items = Items::new(rt.alloc());
+fn two_items(rt: &impl Abort, alloc: Global) -> Result<Items, Fail> {
+    let mut items = Items::new(alloc);
     assert!(rt; items.is_empty());
     for name in [1, 2] {
-        let row = item(rt.alloc(), name)?;
+        let row = item(alloc, name)?;
         assert!(rt; items.len() < 2);
         items.push(row)?;
     }
+    Ok(items)
+}
+
+fn expect_items(rt: &impl Abort, items: &Items) {
     assert!(rt; items.len() == 2);
     assert_eq!(rt; items.at(0).key.as_slice(), b"k01".as_slice());
     assert_eq!(rt; items.at(1).key.as_slice(), b"k02".as_slice());
+}
+
+// Items stand in the order in which they came.
+#[test]
+fn gathers_items(rt: HostRuntime) -> Result<(), Fail> {
+    let items = two_items(&rt, rt.alloc())?;
+    expect_items(&rt, &items);
     Ok(())
 }
 
@@ -96,37 +121,45 @@ fn takes_over_items(rt: HostRuntime) -> Result<(), Fail> {
     Ok(())
 }
 
+fn expect_outer(rt: &impl Abort, generator: &Gen) {
+    assert_eq!(rt; generator.entries(), 2);
+    match generator.kind() {
+        GenKind::Entry(key, ttl, inner) => {
+            assert_eq!(rt; key.as_slice(), b"k01".as_slice());
+            assert_eq!(rt; *ttl, 0);
+            assert_eq!(rt; inner.entries(), 1);
+        }
+        GenKind::Value(_) => panic!(rt; "it has two entries"),
+    }
+}
+
+fn expect_lent(rt: &impl Abort, lent: Ask) {
+    match lent {
+        Ask::Entry(generator) => expect_outer(rt, generator),
+        Ask::Delete(key) => assert_eq!(rt; key, b"k07".as_slice()),
+        _ => panic!(rt; "it is lent as it is asked"),
+    }
+}
+
 // A generator tells how many entries it has, and a request lends it.
 #[test]
 fn tells_its_entries(rt: HostRuntime) -> Result<(), Fail> {
-    let alloc = rt.alloc();
-    let value = value_of(&rt, alloc, Value::Int(7))?;
-    let request = Request::Entry(generator(alloc, &[(1, 0), (2, 5)], value)?);
-    match request.lent() {
-        Ask::Entry(generator) => {
-            assert_eq!(rt; generator.entries(), 2);
-            match generator.kind() {
-                GenKind::Entry(key, ttl, inner) => {
-                    assert_eq!(rt; key.as_slice(), b"k01".as_slice());
-                    assert_eq!(rt; *ttl, 0);
-                    assert_eq!(rt; inner.entries(), 1);
-                }
-                GenKind::Value(_) => panic!(rt; "it has two entries"),
-            }
-        }
-        _ => panic!(rt; "an entry is lent as an entry"),
-    }
+    let value = value_of(&rt, rt.alloc(), Value::Int(7))?;
+    let request = Request::Entry(generator(rt.alloc(), &[(1, 0), (2, 5)], value)?);
+    expect_lent(&rt, request.lent());
     Ok(())
 }
 
 #[test]
 fn lends_a_request(rt: HostRuntime) -> Result<(), Fail> {
     let request = Request::Delete(key(rt.alloc(), 7)?);
-    match request.lent() {
-        Ask::Delete(key) => assert_eq!(rt; key, b"k07".as_slice()),
-        _ => panic!(rt; "a delete is lent as a delete"),
-    }
+    expect_lent(&rt, request.lent());
     Ok(())
+}
+
+fn expect_mark(rt: &impl Abort, journal: &Journal, mark: Mark) {
+    assert_eq!(rt; journal.len(), 1);
+    assert_eq!(rt; journal.at(0), mark);
 }
 
 #[test]
@@ -135,8 +168,7 @@ fn keeps_a_journal(rt: HostRuntime) -> Result<(), Fail> {
     assert!(rt; journal.is_empty());
     let mark = Mark { worker: 3, mask: 5 };
     journal.push(mark);
-    assert_eq!(rt; journal.len(), 1);
-    assert_eq!(rt; journal.at(0), mark);
+    expect_mark(&rt, &journal, mark);
     assert!(rt; small(0).good());
     Ok(())
 }

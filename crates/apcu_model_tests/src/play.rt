@@ -83,6 +83,13 @@ fn flag(rt: &impl Abort, reply: Reply) -> bool {
     }
 }
 
+// What is answered; the request goes.
+fn ask(plain: &mut Plain, request: Request, t: u64) -> Result<Reply, Fail>
+    requires { is_iteration request ≡ false }
+{
+    Ok(plain.ask(&request, t)?)
+}
+
 fn store(
     rt: &impl Abort,
     pair: &mut Pair,
@@ -92,8 +99,8 @@ fn store(
 ) -> Result<bool, Fail> {
     let (ttl, exclusive, t) = how;
     let request = asked(pair.alloc, &key, &value, ttl, exclusive)?;
+    let told = ask(&mut pair.asked, request, t)?;
     let stored = pair.lending.store(key, value, ttl, exclusive, t)?;
-    let told = pair.asked.ask(&request, t)?;
     assert_eq!(rt; flag(rt, told), stored);
     Ok(stored)
 }
@@ -126,25 +133,43 @@ fn number_in(rt: &impl Abort, reply: Reply) -> Option<i64> {
 }
 
 // The number under the key; `None` where it is absent, and -1 for another value.
-fn found(rt: &impl Abort, pair: &mut Pair, key: Bytes, t: u64) -> Result<Option<i64>, Fail> {
-    let lent = lent(&mut pair.lending, &key, t);
-    let told = pair.asked.ask(&Request::Fetch(key), t)?;
-    assert_eq!(rt; number_in(rt, told), lent);
-    Ok(lent)
+fn found(
+    rt: &impl Abort,
+    pair: &mut Pair,
+    key: Bytes,
+    t: u64,
+    expected: Option<i64>,
+) -> Result<(), Fail> {
+    assert_eq!(rt; lent(&mut pair.lending, &key, t), expected);
+    let told = ask(&mut pair.asked, Request::Fetch(key), t)?;
+    assert_eq!(rt; number_in(rt, told), expected);
+    Ok(())
 }
 
-fn exists(rt: &impl Abort, pair: &mut Pair, key: Bytes, t: u64) -> Result<bool, Fail> {
-    let there = pair.lending.exists(key.as_slice(), t);
-    let told = pair.asked.ask(&Request::Exists(key), t)?;
-    assert_eq!(rt; flag(rt, told), there);
-    Ok(there)
+fn exists(
+    rt: &impl Abort,
+    pair: &mut Pair,
+    key: Bytes,
+    t: u64,
+    expected: bool,
+) -> Result<(), Fail> {
+    assert_eq!(rt; pair.lending.exists(key.as_slice(), t), expected);
+    let told = ask(&mut pair.asked, Request::Exists(key), t)?;
+    assert_eq!(rt; flag(rt, told), expected);
+    Ok(())
 }
 
-fn delete(rt: &impl Abort, pair: &mut Pair, key: Bytes, t: u64) -> Result<bool, Fail> {
-    let done = pair.lending.delete(key.as_slice(), t);
-    let told = pair.asked.ask(&Request::Delete(key), t)?;
-    assert_eq!(rt; flag(rt, told), done);
-    Ok(done)
+fn delete(
+    rt: &impl Abort,
+    pair: &mut Pair,
+    key: Bytes,
+    t: u64,
+    expected: bool,
+) -> Result<(), Fail> {
+    assert_eq!(rt; pair.lending.delete(key.as_slice(), t), expected);
+    let told = ask(&mut pair.asked, Request::Delete(key), t)?;
+    assert_eq!(rt; flag(rt, told), expected);
+    Ok(())
 }
 
 fn counted(rt: &impl Abort, reply: Reply) -> Option<i64> {
@@ -159,33 +184,34 @@ fn inc(
     rt: &impl Abort,
     pair: &mut Pair,
     key: Bytes,
-    step: i64,
-    ttl: u32,
-    t: u64,
-) -> Result<Option<i64>, Fail> {
+    how: (i64, u32, u64),
+    expected: Option<i64>,
+) -> Result<(), Fail> {
+    let (step, ttl, t) = how;
     let number = pair.lending.inc(key.as_slice(), step, ttl, t)?;
-    let told = pair.asked.ask(&Request::Inc { key, step, ttl }, t)?;
-    assert_eq!(rt; counted(rt, told), number);
-    Ok(number)
+    assert_eq!(rt; number, expected);
+    let told = ask(&mut pair.asked, Request::Inc { key, step, ttl }, t)?;
+    assert_eq!(rt; counted(rt, told), expected);
+    Ok(())
 }
 
 fn cas(
     rt: &impl Abort,
     pair: &mut Pair,
     key: Bytes,
-    expect: i64,
-    set: i64,
-    t: u64,
-) -> Result<bool, Fail> {
-    let done = pair.lending.cas(key.as_slice(), expect, set, t);
-    let told = pair.asked.ask(&Request::Cas { key, expect, set }, t)?;
-    assert_eq!(rt; flag(rt, told), done);
-    Ok(done)
+    how: (i64, i64, u64),
+    expected: bool,
+) -> Result<(), Fail> {
+    let (expect, set, t) = how;
+    assert_eq!(rt; pair.lending.cas(key.as_slice(), expect, set, t), expected);
+    let told = ask(&mut pair.asked, Request::Cas { key, expect, set }, t)?;
+    assert_eq!(rt; flag(rt, told), expected);
+    Ok(())
 }
 
 fn clear(rt: &impl Abort, pair: &mut Pair, t: u64) -> Result<(), Fail> {
     pair.lending.clear();
-    let told = pair.asked.ask(&Request::Clear, t)?;
+    let told = ask(&mut pair.asked, Request::Clear, t)?;
     assert!(rt; flag(rt, told));
     Ok(())
 }
@@ -218,10 +244,12 @@ fn put(
     name: u8,
     value: Value,
     how: (u32, bool, u64),
-) -> Result<bool, Fail> {
+    expected: bool,
+) -> Result<(), Fail> {
     let value = value_of(rt, pair.alloc, value)?;
     let key = key(pair.alloc, name)?;
-    store(rt, pair, key, value, how)
+    assert_eq!(rt; store(rt, pair, key, value, how)?, expected);
+    Ok(())
 }
 
 // No key: fewer than three are asked for.
@@ -246,27 +274,35 @@ fn given(rt: &impl Abort, reply: Reply) -> i64 {
     }
 }
 
+// What both answer.
+fn ask_both(pair: &mut Pair, request: Request, t: u64) -> Result<(Reply, Reply), Fail>
+    requires { is_iteration request ≡ false }
+{
+    let told = pair.asked.ask(&request, t)?;
+    let again = pair.lending.ask(&request, t)?;
+    Ok((told, again))
+}
+
 fn enter(
     rt: &impl Abort,
     pair: &mut Pair,
     keys: &[(u8, u32)],
     value: Value,
     t: u64,
-) -> Result<i64, Fail> {
+    expected: i64,
+) -> Result<(), Fail> {
     let value = value_of(rt, pair.alloc, value)?;
     let request = Request::Entry(generator(pair.alloc, keys, value)?);
-    let told = pair.asked.ask(&request, t)?;
-    let again = pair.lending.ask(&request, t)?;
-    let number = given(rt, told);
-    assert_eq!(rt; given(rt, again), number);
-    Ok(number)
+    let (told, again) = ask_both(pair, request, t)?;
+    assert_eq!(rt; given(rt, told), expected);
+    assert_eq!(rt; given(rt, again), expected);
+    Ok(())
 }
 
 fn fill(rt: &impl Abort, pair: &mut Pair, first: u32, t: u64) -> Result<(), Fail> {
     for name in 1..31u8 {
         let ttl = if name == 1 { first } else { 0 };
-        let stored = put(rt, pair, name, Value::Int(1), (ttl, false, t))?;
-        assert!(rt; stored);
+        put(rt, pair, name, Value::Int(1), (ttl, false, t), true)?;
     }
     Ok(())
 }
@@ -274,29 +310,13 @@ fn fill(rt: &impl Abort, pair: &mut Pair, first: u32, t: u64) -> Result<(), Fail
 fn answer(rt: &impl Abort, pair: &mut Pair, name: u8, call: Call, t: u64) -> Result<(), Fail> {
     let key = key(pair.alloc, name)?;
     match call {
-        Call::Fetch(_, expected) => {
-            let number = found(rt, pair, key, t)?;
-            assert_eq!(rt; number, expected);
-        }
-        Call::Exists(_, expected) => {
-            let there = exists(rt, pair, key, t)?;
-            assert_eq!(rt; there, expected);
-        }
-        Call::Delete(_, expected) => {
-            let done = delete(rt, pair, key, t)?;
-            assert_eq!(rt; done, expected);
-        }
-        Call::Inc(_, step, ttl, expected) => {
-            let number = inc(rt, pair, key, step, ttl, t)?;
-            assert_eq!(rt; number, expected);
-        }
-        Call::Cas(_, expect, set, expected) => {
-            let done = cas(rt, pair, key, expect, set, t)?;
-            assert_eq!(rt; done, expected);
-        }
-        _ => {}
+        Call::Fetch(_, expected) => found(rt, pair, key, t, expected),
+        Call::Exists(_, expected) => exists(rt, pair, key, t, expected),
+        Call::Delete(_, expected) => delete(rt, pair, key, t, expected),
+        Call::Inc(_, step, ttl, expected) => inc(rt, pair, key, (step, ttl, t), expected),
+        Call::Cas(_, expect, set, expected) => cas(rt, pair, key, (expect, set, t), expected),
+        _ => Ok(()),
     }
-    Ok(())
 }
 
 fn count(rt: &impl Abort, pair: &Pair, counts: Counts) {
@@ -306,40 +326,31 @@ fn count(rt: &impl Abort, pair: &Pair, counts: Counts) {
 
 fn do_call(rt: &impl Abort, pair: &mut Pair, call: Call, t: u64) -> Result<(), Fail> {
     match call {
-        Call::Store(name, v, ttl, expected) => {
-            let done = put(rt, pair, name, v, (ttl, false, t))?;
-            assert_eq!(rt; done, expected);
-        }
-        Call::Add(name, v, expected) => {
-            let done = put(rt, pair, name, v, (0, true, t))?;
-            assert_eq!(rt; done, expected);
-        }
+        Call::Store(name, v, ttl, expected) => put(rt, pair, name, v, (ttl, false, t), expected),
+        Call::Add(name, v, expected) => put(rt, pair, name, v, (0, true, t), expected),
         Call::Fetch(name, _)
         | Call::Exists(name, _)
         | Call::Delete(name, _)
         | Call::Inc(name, _, _, _)
-        | Call::Cas(name, _, _, _) => {
-            answer(rt, pair, name, call, t)?;
+        | Call::Cas(name, _, _, _) => answer(rt, pair, name, call, t),
+        Call::Entry(keys, value, expected) => enter(rt, pair, &keys, value, t, expected),
+        Call::Clear => clear(rt, pair, t),
+        Call::Fill(ttl) => fill(rt, pair, ttl, t),
+        Call::Counts(hits, misses, inserts, expunges, entries) => {
+            count(
+                rt,
+                pair,
+                Counts {
+                    hits,
+                    misses,
+                    inserts,
+                    expunges,
+                    entries,
+                },
+            );
+            Ok(())
         }
-        Call::Entry(keys, value, expected) => {
-            let number = enter(rt, pair, &keys, value, t)?;
-            assert_eq!(rt; number, expected);
-        }
-        Call::Clear => clear(rt, pair, t)?,
-        Call::Fill(ttl) => fill(rt, pair, ttl, t)?,
-        Call::Counts(hits, misses, inserts, expunges, entries) => count(
-            rt,
-            pair,
-            Counts {
-                hits,
-                misses,
-                inserts,
-                expunges,
-                entries,
-            },
-        ),
     }
-    Ok(())
 }
 
 pub(crate) fn small(ttl: u32) -> Conf
