@@ -4,15 +4,15 @@
 #   stores  the same loads, each stored into memory that is there
 #   memory  memory for the text, taken and let go, with nothing written
 #   fetch   a fetch that copies it through the block's image into a graph of its own, memory included
-#   copy    the fetch without what its memory takes: fetch less memory
 #   read    the same fetch from words in memory that nobody shares
-# Loads and stores are in functions of their own, which have the table behind a reference, as a worker has it. Each
-# figure is the least of fifteen runs; the works take turns, so that a slow minute meets all of them. Then the copy as
-# a multiple of the stores and of the loads.
+# Loads and stores are in functions of their own, which have the table behind a reference, as a worker has it. The
+# works take turns, 31 times: each figure is the median. What the copy costs, the fetch less the memory, is divided by
+# the loads and by the stores of the same turn, since the processor's speed changes from turn to turn; of these the
+# median too.
 #
-# A line for each distance from the block to the memory that is handed out, which is so many words longer as stand
-# behind the block: where it is a multiple of 4 KB and a few words more, a load waits for a store before it that the
-# processor takes for one to the same word.
+# A line for each distance from the block to the memory that is handed out: it is longer by so many spare words behind
+# the block. Where it is a multiple of 4 KB and a few words more, as with none, a load waits for stores before it that
+# the processor takes for ones to the same word.
 # Usage: bench/pins.sh PROGRAM, where PROGRAM is the built pin_bench.
 set -eu
 program=$1
@@ -25,18 +25,32 @@ spent() {
         | awk '{ printf "%.0f\n", ($1 + $2) * 1e9 }'
 }
 
-echo "spare   loads   stores   memory   fetch   copy    read    copy/stores   copy/loads"
-for spare in 0 64 128 192 256 320 384 448; do
-    for _ in 1 2 3 4 5 6 7 8 9 10 11 12 13 14 15; do
+echo "spare   loads   stores   memory   fetch   read    copy/stores   copy/loads"
+for spare in 0 128 256 384; do
+    start=$(spent fetch 0 "$spare")
+    for turn in $(seq 31); do
         for work in loads stores memory fetch read; do
-            echo "$work $(spent "$work" "$rounds" "$spare") $(spent "$work" 0 "$spare")"
+            echo "$turn $work $(($(spent "$work" "$rounds" "$spare") - start))"
         done
     done | awk -v n="$rounds" -v w="$words" -v spare="$spare" '
-        { t = ($2 - $3) / n / w; if (!($1 in least) || t < least[$1]) least[$1] = t }
+        function median(of,    row, i, j, kept, many) {
+            many = 0
+            for (i in of) {
+                kept = of[i]
+                for (j = many++; j > 0 && row[j] > kept; j--) row[j + 1] = row[j]
+                row[j + 1] = kept
+            }
+            return row[int((many + 1) / 2)]
+        }
+        { t[$2, $1] = $3 / n / w; turns[$1] }
         END {
-            copy = least["fetch"] - least["memory"]
-            printf "%5d   %5.3f   %6.3f   %6.3f   %5.3f   %5.3f   %5.3f   %11.2f   %10.2f\n", spare, least["loads"],
-                least["stores"], least["memory"], least["fetch"], copy, least["read"], copy / least["stores"],
-                copy / least["loads"]
+            for (k in turns) {
+                loads[k] = t["loads", k]; stores[k] = t["stores", k]; memory[k] = t["memory", k]
+                fetch[k] = t["fetch", k]; read[k] = t["read", k]
+                copy = fetch[k] - memory[k]
+                to_loads[k] = copy / loads[k]; to_stores[k] = copy / stores[k]
+            }
+            printf "%5d   %5.3f   %6.3f   %6.3f   %5.3f   %5.3f   %11.2f   %10.2f\n", spare, median(loads),
+                median(stores), median(memory), median(fetch), median(read), median(to_stores), median(to_loads)
         }'
 done
