@@ -1,4 +1,4 @@
-ghost use Rattle.std.specs.Prelude.{◌≡◌, false, IfOk};
+ghost use Rattle.std.specs.Prelude.{◌≡◌, false};
 ghost use Rattle.apcu_model.specs.Conf.{IsGood};
 ghost use Rattle.apcu_model.specs.Sequential.{is_iteration};
 
@@ -59,23 +59,6 @@ pub(crate) fn key(alloc: Global, name: u8) -> Result<Bytes, Fail> {
     Ok(Bytes::of(alloc, &[b'k', b'0' + name / 10, b'0' + name % 10])?)
 }
 
-fn asked(
-    alloc: Global,
-    key: &Bytes,
-    value: &Graph,
-    ttl: u32,
-    exclusive: bool,
-) -> Result<Request, Fail>
-    ensures plain { IfOk result (λ request. is_iteration request ≡ false) }
-{
-    Ok(Request::Store {
-        key: Bytes::of(alloc, key.as_slice())?,
-        value: value.try_copy(alloc)?,
-        ttl,
-        exclusive,
-    })
-}
-
 fn flag(rt: &impl Abort, reply: Reply) -> bool {
     match reply {
         Reply::Flag(done) => done,
@@ -83,11 +66,28 @@ fn flag(rt: &impl Abort, reply: Reply) -> bool {
     }
 }
 
-// What is answered; the request goes.
+// What is answered. The request is let go here, in one place.
 fn ask(plain: &mut Plain, request: Request, t: u64) -> Result<Reply, Fail>
     requires { is_iteration request ≡ false }
 {
     Ok(plain.ask(&request, t)?)
+}
+
+// How long a row lives, whether it is stored beside no live one, and when.
+type How = (u32, bool, u64);
+
+// What a store of copies answers.
+fn ask_store(pair: &mut Pair, key: &Bytes, value: &Graph, how: How) -> Result<Reply, Fail> {
+    let (ttl, exclusive, t) = how;
+    let key = Bytes::of(pair.alloc, key.as_slice())?;
+    let value = value.try_copy(pair.alloc)?;
+    let request = Request::Store {
+        key,
+        value,
+        ttl,
+        exclusive,
+    };
+    ask(&mut pair.asked, request, t)
 }
 
 fn store(
@@ -95,14 +95,15 @@ fn store(
     pair: &mut Pair,
     key: Bytes,
     value: Graph,
-    how: (u32, bool, u64),
-) -> Result<bool, Fail> {
+    how: How,
+    expected: bool,
+) -> Result<(), Fail> {
+    let told = ask_store(pair, &key, &value, how)?;
+    assert_eq!(rt; flag(rt, told), expected);
     let (ttl, exclusive, t) = how;
-    let request = asked(pair.alloc, &key, &value, ttl, exclusive)?;
-    let told = ask(&mut pair.asked, request, t)?;
     let stored = pair.lending.store(key, value, ttl, exclusive, t)?;
-    assert_eq!(rt; flag(rt, told), stored);
-    Ok(stored)
+    assert_eq!(rt; stored, expected);
+    Ok(())
 }
 
 fn number_of(value: &Graph) -> i64 {
@@ -243,13 +244,12 @@ fn put(
     pair: &mut Pair,
     name: u8,
     value: Value,
-    how: (u32, bool, u64),
+    how: How,
     expected: bool,
 ) -> Result<(), Fail> {
     let value = value_of(rt, pair.alloc, value)?;
     let key = key(pair.alloc, name)?;
-    assert_eq!(rt; store(rt, pair, key, value, how)?, expected);
-    Ok(())
+    store(rt, pair, key, value, how, expected)
 }
 
 // No key: fewer than three are asked for.
