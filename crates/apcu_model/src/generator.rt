@@ -11,7 +11,6 @@ use std::marker::Model;
 /// it where no live row has the key. Contracts see the keys and times to live from outside in, and
 /// the value inside the innermost.
 #[cycle(generator)]
-#[derive(Drop)]
 pub struct Gen {
     kind: GenKind,
 }
@@ -41,6 +40,12 @@ impl Model for Gen {
     ghost size = { λ g. length g.levels };
 
     ghost size_decreases = { λ a h. Prim.grind arith };
+}
+
+impl Drop for Gen {
+    fn drop(self) {
+        let Gen { kind: _kind } = self;
+    }
 }
 
 impl Gen {

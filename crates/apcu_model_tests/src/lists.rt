@@ -121,6 +121,7 @@ fn takes_over_items(rt: HostRuntime) -> Result<(), Fail> {
     Ok(())
 }
 
+// The first key of two and its time to live, with one entry inside.
 fn expect_outer(rt: &impl Abort, generator: &Gen) {
     assert_eq!(rt; generator.entries(), 2);
     match generator.kind() {
@@ -133,11 +134,17 @@ fn expect_outer(rt: &impl Abort, generator: &Gen) {
     }
 }
 
-fn expect_lent(rt: &impl Abort, lent: Ask) {
+fn expect_entry(rt: &impl Abort, lent: Ask) {
     match lent {
         Ask::Entry(generator) => expect_outer(rt, generator),
+        _ => panic!(rt; "an entry is lent as one"),
+    }
+}
+
+fn expect_delete(rt: &impl Abort, lent: Ask) {
+    match lent {
         Ask::Delete(key) => assert_eq!(rt; key, b"k07".as_slice()),
-        _ => panic!(rt; "it is lent as it is asked"),
+        _ => panic!(rt; "a deletion is lent as one"),
     }
 }
 
@@ -146,14 +153,14 @@ fn expect_lent(rt: &impl Abort, lent: Ask) {
 fn tells_its_entries(rt: HostRuntime) -> Result<(), Fail> {
     let value = value_of(&rt, rt.alloc(), Value::Int(7))?;
     let request = Request::Entry(generator(rt.alloc(), &[(1, 0), (2, 5)], value)?);
-    expect_lent(&rt, request.lent());
+    expect_entry(&rt, request.lent());
     Ok(())
 }
 
 #[test]
 fn lends_a_request(rt: HostRuntime) -> Result<(), Fail> {
     let request = Request::Delete(key(rt.alloc(), 7)?);
-    expect_lent(&rt, request.lent());
+    expect_delete(&rt, request.lent());
     Ok(())
 }
 

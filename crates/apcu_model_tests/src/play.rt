@@ -1,4 +1,4 @@
-ghost use Rattle.std.specs.Prelude.{◌≡◌, false};
+ghost use Rattle.std.specs.Prelude.{◌≡◌, false, IfOk};
 ghost use Rattle.apcu_model.specs.Conf.{IsGood};
 ghost use Rattle.apcu_model.specs.Sequential.{is_iteration};
 
@@ -73,21 +73,42 @@ fn ask(plain: &mut Plain, request: Request, t: u64) -> Result<Reply, Fail>
     Ok(plain.ask(&request, t)?)
 }
 
+// The cache that is asked answers so.
+fn expect_flag(
+    rt: &impl Abort,
+    pair: &mut Pair,
+    request: Request,
+    t: u64,
+    expected: bool,
+) -> Result<(), Fail>
+    requires { is_iteration request ≡ false }
+{
+    let told = ask(&mut pair.asked, request, t)?;
+    assert_eq!(rt; flag(rt, told), expected);
+    Ok(())
+}
+
 // How long a row lives, whether it is stored beside no live one, and when.
 type How = (u32, bool, u64);
 
-// What a store of copies answers.
-fn ask_store(pair: &mut Pair, key: &Bytes, value: &Graph, how: How) -> Result<Reply, Fail> {
-    let (ttl, exclusive, t) = how;
-    let key = Bytes::of(pair.alloc, key.as_slice())?;
-    let value = value.try_copy(pair.alloc)?;
-    let request = Request::Store {
+// A store of copies.
+fn store_copies(
+    alloc: Global,
+    key: &Bytes,
+    value: &Graph,
+    ttl: u32,
+    exclusive: bool,
+) -> Result<Request, Fail>
+    ensures { IfOk result (λ made. is_iteration made ≡ false) }
+{
+    let key = Bytes::of(alloc, key.as_slice())?;
+    let value = value.try_copy(alloc)?;
+    Ok(Request::Store {
         key,
         value,
         ttl,
         exclusive,
-    };
-    ask(&mut pair.asked, request, t)
+    })
 }
 
 fn store(
@@ -98,9 +119,9 @@ fn store(
     how: How,
     expected: bool,
 ) -> Result<(), Fail> {
-    let told = ask_store(pair, &key, &value, how)?;
-    assert_eq!(rt; flag(rt, told), expected);
     let (ttl, exclusive, t) = how;
+    let request = store_copies(pair.alloc, &key, &value, ttl, exclusive)?;
+    expect_flag(rt, pair, request, t, expected)?;
     let stored = pair.lending.store(key, value, ttl, exclusive, t)?;
     assert_eq!(rt; stored, expected);
     Ok(())
@@ -155,9 +176,7 @@ fn exists(
     expected: bool,
 ) -> Result<(), Fail> {
     assert_eq!(rt; pair.lending.exists(key.as_slice(), t), expected);
-    let told = ask(&mut pair.asked, Request::Exists(key), t)?;
-    assert_eq!(rt; flag(rt, told), expected);
-    Ok(())
+    expect_flag(rt, pair, Request::Exists(key), t, expected)
 }
 
 fn delete(
@@ -168,9 +187,7 @@ fn delete(
     expected: bool,
 ) -> Result<(), Fail> {
     assert_eq!(rt; pair.lending.delete(key.as_slice(), t), expected);
-    let told = ask(&mut pair.asked, Request::Delete(key), t)?;
-    assert_eq!(rt; flag(rt, told), expected);
-    Ok(())
+    expect_flag(rt, pair, Request::Delete(key), t, expected)
 }
 
 fn counted(rt: &impl Abort, reply: Reply) -> Option<i64> {
@@ -205,16 +222,12 @@ fn cas(
 ) -> Result<(), Fail> {
     let (expect, set, t) = how;
     assert_eq!(rt; pair.lending.cas(key.as_slice(), expect, set, t), expected);
-    let told = ask(&mut pair.asked, Request::Cas { key, expect, set }, t)?;
-    assert_eq!(rt; flag(rt, told), expected);
-    Ok(())
+    expect_flag(rt, pair, Request::Cas { key, expect, set }, t, expected)
 }
 
 fn clear(rt: &impl Abort, pair: &mut Pair, t: u64) -> Result<(), Fail> {
     pair.lending.clear();
-    let told = ask(&mut pair.asked, Request::Clear, t)?;
-    assert!(rt; flag(rt, told));
-    Ok(())
+    expect_flag(rt, pair, Request::Clear, t, true)
 }
 
 // A call under the key of that number, and what it answers.

@@ -58,8 +58,8 @@ impl Model for Builder {
     ghost invariant = { λ a. IsBuilding (kinds_in a.places) a.containers.items a.key a.values };
 }
 
-// Written out, as below all drops of owned parts: a body that lets a builder go, on each of its ways
-// out, then has one call to follow there and not a walk through the parts.
+// Written out, as for each type whose parts are owned and many: a body that lets a builder go, on
+// each of its ways out, then has one call to follow there and not a walk through the parts.
 impl Drop for Builder {
     fn drop(self) {
         let Builder {
