@@ -23,6 +23,7 @@ fn fetch(alloc: Global, table: &PinTable, copying: &mut Copying, g: &Graph) -> O
     let Image {
         table: _,
         copying: _,
+        first: _,
     } = image;
     back.ok()
 }

@@ -66,7 +66,7 @@ impl Copying {
     }
 
     // The word at this place of the table, which is one of the image.
-    fn word_at(&mut self, table: &PinTable, place: usize) -> u64
+    pub(crate) fn word_at(&mut self, table: &PinTable, place: usize) -> u64
         requires table { self.old.table ≡ table.now }
         requires from { self.old.copy.first ≤ place }
         requires to { place < self.old.copy.first + length self.old.copy.content }
@@ -87,16 +87,17 @@ impl Copying {
         self.word_at(table, self.first as usize + i as usize)
     }
 
-    /// The eight words of the image from the word `i` on, as they were at the pin. Where the image
-    /// begins is read once for all eight.
-    pub fn eight(&mut self, table: &PinTable, i: u32) -> [u64; 8]
+    // The eight words of the image from the word `i` on, as they were at the pin. The place where the
+    // image begins is handed in, so that it is not looked for at each of them.
+    pub(crate) fn eight(&mut self, table: &PinTable, first: u32, i: u32) -> [u64; 8]
         requires table { self.old.table ≡ table.now }
+        requires first { first ≡ self.old.copy.first }
         requires place { i + 8 ≤ length self.old.copy.content }
         ensures each { (k : ℕ) → k < 8
             → slice_index result k ≡ slice_index self.old.copy.content (i + k) }
         ensures same { self.new ≡ self.old }
     {
-        let place = self.first as usize + i as usize;
+        let place = first as usize + i as usize;
         [
             self.word_at(table, place),
             self.word_at(table, place + 1),

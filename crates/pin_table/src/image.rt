@@ -14,7 +14,10 @@ pub struct Lent {
 pub struct Image<'a> {
     pub table: &'a PinTable,
     pub copying: &'a mut Copying,
+    /// The place of its first word, kept here since it would be read anew at each load.
+    pub first: u32,
     ghost same_table: { copying.now.table ≡ table.now },
+    ghost same_place: { first ≡ copying.now.copy.first },
     ghost short: { length copying.now.copy.content < 2 ^ 32 },
 }
 
@@ -25,10 +28,11 @@ impl Copying {
         ensures same_reference { result.copying.ghost_name ≡ self.entry.ghost_name }
         ensures same { result.copying.now ≡ self.old }
     {
-        let _range = self.range();
+        let (first, _len) = self.range();
         Image {
             table,
             copying: self,
+            first,
         }
     }
 }
@@ -52,10 +56,11 @@ impl WordsIn for Image<'_> {
     }
 
     fn load(&mut self, i: u32) -> u64 {
-        self.copying.word(self.table, i)
+        self.copying
+            .word_at(self.table, self.first as usize + i as usize)
     }
 
     fn load_eight(&mut self, i: u32) -> [u64; 8] {
-        self.copying.eight(self.table, i)
+        self.copying.eight(self.table, self.first, i)
     }
 }

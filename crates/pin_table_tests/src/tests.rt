@@ -137,6 +137,7 @@ fn copied(table: &PinTable, copying: &mut Copying) -> (u64, u64, [u64; 8], u32)
     let pin_table::Image {
         table: _,
         copying: _,
+        first: _,
     } = image;
     (first, fourth, eight, count)
 }

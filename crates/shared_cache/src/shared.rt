@@ -216,6 +216,7 @@ impl<N: TableName> Shared<N> {
         let Image {
             table: _,
             copying: _,
+            first: _,
         } = image;
         (copying.release(&self.table), value)
     }
