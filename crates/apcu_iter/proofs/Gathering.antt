@@ -14,11 +14,12 @@ use Rattle.php_graph.specs.Numbers.{hash_of}
 use Rattle.apcu_model.specs.declared.conf.Conf.{Conf}
 use Rattle.apcu_model.specs.Chunks.{item_of}
 use Rattle.apcu_model.specs.Walk.{slot_of, is_in_slot, in_slot_order}
+use Rattle.entry_slots.specs.Sums.{all_slots}
 use Rattle.ttl_expunge.specs.Lists.{row_places}
 use Rattle.apcu_iter.specs.declared.summing.Sums.{Sums}
 use Rattle.apcu_iter.specs.Adding.{within, with_rows, no_sums, sums_of_both}
 use Rattle.apcu_iter.specs.Choosing.{Choice, is_chosen, chosen_items, chosen_places}
-use Rattle.apcu_iter.proofs.Slots.{flat_last, is_between, between_is, all_slots, length_ordered}
+use Rattle.apcu_iter.proofs.Slots.{flat_last, is_between, between_is, length_ordered}
 
 -- ---- lists
 

@@ -16,6 +16,7 @@ use Rattle.entry_slots.specs.Lists.{is_at}
 use Rattle.entry_slots.specs.Entries.{Entries, entries_of}
 use Rattle.entry_slots.specs.Facts.{IsSound}
 use Rattle.entry_slots.specs.Standing.{Stands, entries}
+use Rattle.entry_slots.specs.Sums.{all_slots}
 use Rattle.ttl_expunge.specs.Dropping.{dropped_in}
 use Rattle.ttl_expunge.specs.Held.{Drops}
 use Rattle.ttl_expunge.specs.Lists.{row_places, AreRowsAt}
@@ -25,7 +26,7 @@ use Rattle.cache_core.specs.Lending.{with_slots}
 use Rattle.apcu_iter.specs.Choosing.{uncounted}
 use Rattle.apcu_iter.specs.Laws.{DropLaws, IterLaws}
 use Rattle.apcu_iter.proofs.Fewness.{some_of}
-use Rattle.apcu_iter.proofs.Slots.{between_is, all_slots}
+use Rattle.apcu_iter.proofs.Slots.{between_is}
 
 -- ---- which rows they are
 

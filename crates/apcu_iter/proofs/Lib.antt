@@ -1,5 +1,4 @@
 mod Reading
-mod Walking
 mod Keys
 mod Slots
 mod Fewness

@@ -1,4 +1,3 @@
-mod Walking
 mod GapRuns
 mod RowWords
 mod KeyBytes

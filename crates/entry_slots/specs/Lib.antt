@@ -6,6 +6,8 @@ pub mod Reading
 pub mod Written
 pub mod Links
 pub mod Facts
+pub mod Passing
+pub mod Sums
 pub mod Laws
 pub mod Changes
 pub mod Spots

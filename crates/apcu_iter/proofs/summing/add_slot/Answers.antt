@@ -2,20 +2,20 @@ use Rattle.std.proofs.Common.{◌∙◌, ◌∷◌, [], drop, filter, ap, sym, s
 use Rattle.std.specs.Prelude.{if◌then◌else◌}
 use Rattle.entry_slots.specs.Entries.{chain_of}
 use Rattle.entry_slots.specs.Standing.{entries}
+use Rattle.entry_slots.specs.Passing.{chain_here, chain_end, chain_over}
 use Rattle.apcu_iter.specs.Adding.{with_rows}
 use Rattle.apcu_iter.specs.Choosing.{Choice, is_chosen}
 use Rattle.apcu_iter.specs.declared.summing.Sums.{Sums}
 use Rattle.apcu_iter.proofs.Gathering.{AreSmall, adds_one, adds_on, adds_out, small_sums, small_none}
-use Rattle.apcu_iter.proofs.Walking.{chain_here, chain_end, chain_over}
 use Rattle.apcu_iter.proofs.summing.add_slot.Goals as goal
 
 pub add_row-requires-clause-there : goal.add_row-requires-clause-there
 add_row-requires-clause-there g c =
-    (chain_here c.lower_laws.ensures c.args.slots.now (g.S.WordsIn.words c.args.seg.now) (g.S.WordsIn.aside c.args.seg.now) (entries c.args.slots.now) c.args.slot c.loop-passed._passed c.loop-passed.at c.requires.stand c.loop-passed.invariant.at c.if-at-eq0.false).in_listed
+    (chain_here c.lower_laws.ensures.walked c.args.slots.now (g.S.WordsIn.words c.args.seg.now) (g.S.WordsIn.aside c.args.seg.now) (entries c.args.slots.now) c.args.slot c.loop-passed._passed c.loop-passed.at c.requires.stand c.loop-passed.invariant.at c.if-at-eq0.false).in_listed
 
 pub after-at-requires-clause-there : goal.after-at-requires-clause-there
 after-at-requires-clause-there g c =
-    (chain_here c.lower_laws.ensures c.args.slots.now (g.S.WordsIn.words c.args.seg.now) (g.S.WordsIn.aside c.args.seg.now) (entries c.args.slots.now) c.args.slot c.loop-passed._passed c.loop-passed.at c.requires.stand c.loop-passed.invariant.at c.if-at-eq0.false).in_listed
+    (chain_here c.lower_laws.ensures.walked c.args.slots.now (g.S.WordsIn.words c.args.seg.now) (g.S.WordsIn.aside c.args.seg.now) (entries c.args.slots.now) c.args.slot c.loop-passed._passed c.loop-passed.at c.requires.stand c.loop-passed.invariant.at c.if-at-eq0.false).in_listed
 
 pub loop-passed-init : goal.loop-passed-init
 loop-passed-init g c =
@@ -32,7 +32,7 @@ pub loop-passed-preserved : goal.loop-passed-preserved
 loop-passed-preserved g c =
     let s = entries c.args.slots.now in
     let i = c.loop-passed.invariant in
-    let here = chain_here c.lower_laws.ensures c.args.slots.now (g.S.WordsIn.words c.args.seg.now) (g.S.WordsIn.aside c.args.seg.now) s c.args.slot c.loop-passed._passed c.loop-passed.at c.requires.stand i.at c.if-at-eq0.false in
+    let here = chain_here c.lower_laws.ensures.walked c.args.slots.now (g.S.WordsIn.words c.args.seg.now) (g.S.WordsIn.aside c.args.seg.now) s c.args.slot c.loop-passed._passed c.loop-passed.at c.requires.stand i.at c.if-at-eq0.false in
     let row = c.in_ok-sums.ensures in
     let next = c.after-at.ensures in
     let old = c.loop-passed.sums in
@@ -50,7 +50,7 @@ pub returns-then-at-eq0-clause-sums : goal.returns-then-at-eq0-clause-sums
 returns-then-at-eq0-clause-sums g c =
     let s = entries c.args.slots.now in
     let i = c.loop-passed.invariant in
-    let none = chain_end c.lower_laws.ensures c.args.slots.now (g.S.WordsIn.words c.args.seg.now) (g.S.WordsIn.aside c.args.seg.now) s c.args.slot c.loop-passed._passed c.requires.stand (sym c.if-at-eq0.true ∙ i.at) in
+    let none = chain_end c.lower_laws.ensures.sound c.args.slots.now (g.S.WordsIn.words c.args.seg.now) (g.S.WordsIn.aside c.args.seg.now) s c.args.slot c.loop-passed._passed c.requires.stand (sym c.if-at-eq0.true ∙ i.at) in
     adds_out c.args.test.now (drop c.loop-passed._passed (chain_of s c.args.slot)) c.loop-passed.sums _ i.small none i.sums
 
 pub returns-clause-sums : goal.returns-clause-sums

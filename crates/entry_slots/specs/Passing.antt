@@ -1,4 +1,5 @@
--- Walks along the entries of a list, by the place of each.
+-- Walks along the entries of a list, by the place of each: facts that proofs of the crates above
+-- cite.
 use Rattle.std.proofs.Common.{◌≡◌, ◌≢◌, ◌∙◌, inl, inr, ℕ, zero, suc, ◌+◌, ◌≤◌, true, false, cond}
 use Rattle.std.proofs.Common.{List, [], ◌∷◌, ◌++◌, length, take, drop, refl, sym, ap, subst, arith}
 use Rattle.std.proofs.lemmas.Bool.{eq-eqb, false≢true, or_left, or_right, cases_Bool}
@@ -16,7 +17,24 @@ use Rattle.entry_slots.specs.declared.slots.EntrySlots.{EntrySlots}
 use Rattle.entry_slots.specs.Lists.{is_at, has_place, first_place, place_after}
 use Rattle.entry_slots.specs.Entries.{Entries, IsListed, chain_of, listed}
 use Rattle.entry_slots.specs.Standing.{Stands}
-use Rattle.cache_info.specs.Laws.{InfoLaws}
+use Rattle.entry_slots.specs.Facts.{IsSound, IsAtRow}
+
+-- ---- what the laws promise of all entries that stand
+
+-- no place is there twice, and none is 0
+abbrev pub AllAreSound : Type 0
+AllAreSound =
+    (e : EntrySlots) (words : List ℕ) (aside : Aside) (s : Entries)
+    → Stands e words aside s → IsSound s words aside.windows
+
+-- a walk along a chain stands at each of its rows
+abbrev pub AllAreWalked : Type 0
+AllAreWalked =
+    (e : EntrySlots) (words : List ℕ) (aside : Aside) (s : Entries) (slot : ℕ)
+    (front : List Row) (row : Row) (back : List Row) → Stands e words aside s
+    → chain_of s slot ≡ front ++ row ∷ back → IsAtRow s slot front row back
+
+-- ---- lists
 
 -- what is left of a list after so many rows begins with this row
 pub record IsLeft (rows : List Row) (passed at : ℕ) : Type 0 where
@@ -56,9 +74,12 @@ pub left_none : (rows : List Row) (passed : ℕ) → has_place 0 rows ≡ false
     → 0 ≡ first_place (drop passed rows) → drop passed rows ≡ []
 left_none [] passed none is = drop_none passed
 left_none (r ∷ rs) zero none is =
-    absurd (false≢true (sym none ∙ or_left (is_at 0 r) (has_place 0 rs) (eq-eqb r.place 0 (sym is))))
+    absurd (false≢true
+    (sym none ∙ or_left (is_at 0 r) (has_place 0 rs) (eq-eqb r.place 0 (sym is))))
 left_none (r ∷ rs) (suc p) none is =
-    left_none rs p (false_from_ne_true (has_place 0 rs) (λ t. false≢true (sym none ∙ or_right (is_at 0 r) (has_place 0 rs) t))) is
+    left_none rs p
+    (false_from_ne_true (has_place 0 rs) (λ t.
+    false≢true (sym none ∙ or_right (is_at 0 r) (has_place 0 rs) t))) is
 
 -- what follows a row
 pub next_is : (front back : List Row) (row : Row)
@@ -74,10 +95,12 @@ next_is (f ∷ fs) back row one = elim (cases_Bool (is_at row.place f)) [
         one,
         here,
         count-cons (is_at row.place) f (fs ++ row ∷ back),
-        counted_some (is_at row.place) (fs ++ row ∷ back) row member (eq-eqb row.place row.place refl),
+        counted_some (is_at row.place) (fs ++ row ∷ back) row member
+            (eq-eqb row.place row.place refl),
       ))
   | inr n ↦
-      rw n (next_is fs back row (omega (arith, one, count-cons (is_at row.place) f (fs ++ row ∷ back))))
+      rw n (next_is fs back row
+      (omega (arith, one, count-cons (is_at row.place) f (fs ++ row ∷ back))))
 ]
 
 -- rows among others have no place that those do not have
@@ -97,31 +120,35 @@ pub record IsHere (s : Entries) (rows : List Row) (passed at : ℕ) : Type 0 whe
   pub in_rows : has_place at rows ≡ true
   pub next : place_after at rows ≡ first_place (drop (passed + 1) rows)
 
-pub chain_here : InfoLaws → (e : EntrySlots) (words : List ℕ) (aside : Aside) (s : Entries)
+pub chain_here : AllAreWalked → (e : EntrySlots) (words : List ℕ) (aside : Aside) (s : Entries)
     (slot passed at : ℕ) → Stands e words aside s
     → at ≡ first_place (drop passed (chain_of s slot)) → at ≢ 0
     → IsHere s (chain_of s slot) passed at
-chain_here laws e words aside s slot passed at stand is some =
+chain_here walked e words aside s slot passed at stand is some =
     let chain = chain_of s slot in
     let left = left_here chain passed at is some in
-    let walk = laws.walked e words aside s slot (take passed chain) left.row (drop (passed + 1) chain) stand left.whole in
+    let front = take passed chain in
+    let back = drop (passed + 1) chain in
+    let walk = walked e words aside s slot front left.row back stand left.whole in
     let there = Contains-append_left s.rows s.removed left.row walk.there in
+    let same = eq-eqb left.row.place at left.place in
     record {
       left = left;
       member = record { there = there; place = left.place };
-      in_listed = any_from (is_at at) (s.rows ++ s.removed) left.row there (eq-eqb left.row.place at left.place);
-      in_rows = any_from (is_at at) chain left.row left.there (eq-eqb left.row.place at left.place);
+      in_listed = any_from (is_at at) (s.rows ++ s.removed) left.row there same;
+      in_rows = any_from (is_at at) chain left.row left.there same;
       next = sym (ap (λ n. place_after n chain) left.place) ∙ walk.next;
     }
 
-pub chain_end : InfoLaws → (e : EntrySlots) (words : List ℕ) (aside : Aside) (s : Entries)
+pub chain_end : AllAreSound → (e : EntrySlots) (words : List ℕ) (aside : Aside) (s : Entries)
     (slot passed : ℕ) → Stands e words aside s
     → 0 ≡ first_place (drop passed (chain_of s slot)) → drop passed (chain_of s slot) ≡ []
-chain_end laws e words aside s slot passed stand is =
+chain_end sound e words aside s slot passed stand is =
     left_none (chain_of s slot) passed
     (none_among 0 (listed s) (chain_of s slot)
-    (λ row c. Contains-append_left s.rows s.removed row (Contains-filter (is_in_slot s.conf slot) s.rows row c).0)
-    (laws.sound e words aside s stand).placed) is
+    (λ row c. Contains-append_left s.rows s.removed row
+    (Contains-filter (is_in_slot s.conf slot) s.rows row c).0)
+    (sound e words aside s stand).placed) is
 
 -- a chain is no longer than all rows
 pub chain_over : (s : Entries) (slot end passed : ℕ) → end ≡ length s.rows → end ≤ passed
@@ -139,30 +166,31 @@ chain_over s slot end passed is over =
 
 -- ---- removed rows
 
-pub removed_here : InfoLaws → (e : EntrySlots) (words : List ℕ) (aside : Aside) (s : Entries)
+pub removed_here : AllAreSound → (e : EntrySlots) (words : List ℕ) (aside : Aside) (s : Entries)
     (passed at : ℕ) → Stands e words aside s
     → at ≡ first_place (drop passed s.removed) → at ≢ 0 → IsHere s s.removed passed at
-removed_here laws e words aside s passed at stand is some =
+removed_here sound e words aside s passed at stand is some =
     let left = left_here s.removed passed at is some in
     let front = take passed s.removed in
     let back = drop (passed + 1) s.removed in
     let there = Contains-append_right s.rows s.removed left.row left.there in
-    let once = (laws.sound e words aside s stand).once left.row.place in
+    let same = eq-eqb left.row.place at left.place in
+    let once = (sound e words aside s stand).once left.row.place in
     let one : count_by (is_at left.row.place) s.removed ≤ 1 = omega (arith, once) in
     let few = subst (λ l. count_by (is_at left.row.place) l ≤ 1) left.whole one in
     record {
       left = left;
       member = record { there = there; place = left.place };
-      in_listed = any_from (is_at at) (s.rows ++ s.removed) left.row there (eq-eqb left.row.place at left.place);
-      in_rows = any_from (is_at at) s.removed left.row left.there (eq-eqb left.row.place at left.place);
+      in_listed = any_from (is_at at) (s.rows ++ s.removed) left.row there same;
+      in_rows = any_from (is_at at) s.removed left.row left.there same;
       next = sym (ap (λ n. place_after n s.removed) left.place)
           ∙ ap (place_after left.row.place) left.whole ∙ next_is front back left.row few;
     }
 
-pub removed_end : InfoLaws → (e : EntrySlots) (words : List ℕ) (aside : Aside) (s : Entries)
+pub removed_end : AllAreSound → (e : EntrySlots) (words : List ℕ) (aside : Aside) (s : Entries)
     (passed : ℕ) → Stands e words aside s
     → 0 ≡ first_place (drop passed s.removed) → drop passed s.removed ≡ []
-removed_end laws e words aside s passed stand is =
+removed_end sound e words aside s passed stand is =
     left_none s.removed passed
     (none_among 0 (listed s) s.removed (λ row c. Contains-append_right s.rows s.removed row c)
-    (laws.sound e words aside s stand).placed) is
+    (sound e words aside s stand).placed) is
