@@ -6,13 +6,13 @@
 #   fetch   a fetch that copies it through the block's image into a graph of its own, memory included
 #   read    the same fetch from words in memory that nobody shares
 # Loads and stores are in functions of their own, which have the table behind a reference, as a worker has it. The
-# works take turns, 31 times: each figure is the median. What the copy costs, the fetch less the memory, is divided by
+# works take turns, 15 times: each figure is the median. What the copy costs, the fetch less the memory, is divided by
 # the loads and by the stores of the same turn, since the processor's speed changes from turn to turn; of these the
 # median too.
 #
-# A line for each distance from the block to the memory that is handed out: it is longer by so many spare words behind
-# the block. Where it is a multiple of 4 KB and a few words more, as with none, a load waits for stores before it that
-# the processor takes for ones to the same word.
+# A line for each of eight distances from the block to the memory that is handed out, evenly over 4 KB: that memory is
+# further off by so many spare words behind the block. Where it is a multiple of 4 KB and a few words more, as with
+# none, a load waits for stores before it that the processor takes for ones to the same word. The last line is the mean.
 # Usage: bench/pins.sh PROGRAM, where PROGRAM is the built pin_bench.
 set -eu
 program=$1
@@ -25,10 +25,10 @@ spent() {
         | awk '{ printf "%.0f\n", ($1 + $2) * 1e9 }'
 }
 
-echo "spare   loads   stores   memory   fetch   read    copy/stores   copy/loads"
-for spare in 0 128 256 384; do
+echo "spare   loads   stores   memory   fetch    read   copy/stores   copy/loads"
+for spare in 0 64 128 192 256 320 384 448; do
     start=$(spent fetch 0 "$spare")
-    for turn in $(seq 31); do
+    for turn in $(seq 15); do
         for work in loads stores memory fetch read; do
             echo "$turn $work $(($(spent "$work" "$rounds" "$spare") - start))"
         done
@@ -53,4 +53,9 @@ for spare in 0 128 256 384; do
             printf "%5d   %5.3f   %6.3f   %6.3f   %5.3f   %5.3f   %11.2f   %10.2f\n", spare, median(loads),
                 median(stores), median(memory), median(fetch), median(read), median(to_stores), median(to_loads)
         }'
-done
+done | awk '
+    { print; for (i = 2; i <= NF; i++) sum[i] += $i; many++ }
+    END {
+        printf " mean   %5.3f   %6.3f   %6.3f   %5.3f   %5.3f   %11.2f   %10.2f\n", sum[2] / many, sum[3] / many,
+            sum[4] / many, sum[5] / many, sum[6] / many, sum[7] / many, sum[8] / many
+    }'

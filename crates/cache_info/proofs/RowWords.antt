@@ -4,15 +4,9 @@ use Rattle.std.proofs.Common.{List, [], ◌∷◌, drop, min, ap, arith}
 use Rattle.std.specs.Prelude.{sum_by}
 use Rattle.std.proofs.lemmas.List.Sums.{sum_by-cons}
 use Rattle.apcu_model.specs.Cache.{Row}
-use Rattle.apcu_model.specs.Infos.{number_kind, word_bytes}
 
 abbrev pub size_of : Row → ℕ
 size_of row = row.size
-
--- sums that stay at the last number of 64 bits are told alike
-pub told_alike : (w s : ℕ) → w ≤ 2 ^ 64 - 1 → min w (2 ^ 64 - 1) ≡ min s (2 ^ 64 - 1)
-    → number_kind (word_bytes w) ≡ number_kind (word_bytes s)
-told_alike w s low same = grind (arith, low, same)
 
 -- a part of a sum that stays at the last number was added
 pub sum_stays : (new old all part rest : ℕ) → new ≡ min (old + part) (2 ^ 64 - 1)
