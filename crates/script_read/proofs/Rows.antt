@@ -42,7 +42,7 @@ last_is (Make next) a b bytes goes = refl
 last_is (Refuse reason) a b bytes goes = absurd goes
 
 -- what follows an argument
-abbrev on : {A : Type 0} → (A → Form) → Result (A × List ℕ) Fault → Result (Effect × List ℕ) Fault
+abbrev pub on : {A : Type 0} → (A → Form) → Result (A × List ℕ) Fault → Result (Effect × List ℕ) Fault
 on next r = r >>= λ x. rest_at (next x.0) [] x.1
 
 value_on : {A : Type 0} (choose : List Kind → Option A) (next : A → Form) (argument : List ℕ) (r : Result (List Kind × List ℕ) Fault) → ((x : A) → Goes (next x))
@@ -85,6 +85,19 @@ pub make_is : (next : Generator → Form) (last bytes : List ℕ) → ((x : Gene
 unfolding rest_at
 make_is next last bytes goes = space_gen next (space_at bytes) goes
 
+-- a step fails, and so does what begins with it
+pub fails : {A : Type 0} (e : Stop) (r : Result A Fault) (f : A → Result (Effect × List ℕ) Fault) (whole : Result (Effect × List ℕ) Fault) → whole ≡ (r >>= f) → Stops e r → Stops e whole
+fails stops.Memory r f whole is stop = tt
+fails (stops.Fault fault) r f whole is stop = is ∙ ap (λ r. r >>= f) stop
+
+-- a step was taken, and what comes after it is all
+pub goes_on : {A : Type 0} (r : Result A Fault) (f : A → Result (Effect × List ℕ) Fault) (x : A) (whole : Result (Effect × List ℕ) Fault) → whole ≡ (r >>= f) → r ≡ Ok x → whole ≡ f x
+goes_on r f x whole is e = is ∙ ap (λ r. r >>= f) e
+
+-- this effect was read
+abbrev pub was_read : List ℕ → Effect → Result (Effect × List ℕ) Fault
+was_read rest e = Ok (e, rest)
+
 -- ---- words, each by the three above
 
 then_is : {A B : Type 0} (r : Result A Fault) (f g : A → Result B Fault) → ((x : A) → f x ≡ g x) → (r >>= f) ≡ (r >>= g)
@@ -100,14 +113,14 @@ unfolding form_in rest_at
 time_is last bytes = needs_is moment (λ t. Done (Sets t)) last bytes (λ t. tt)
 
 pub store_one_is : (exclusive : Bool) (k last bytes : List ℕ) → rest_at (store_one exclusive k) last bytes
-    ≡ (argument_at any_value bytes >>= λ v. optional_at 0 ttl v.1 >>= ended (λ t. Calls (StoreOne k v.0 t exclusive)))
+    ≡ (argument_at any_value bytes >>= λ v. on (λ t. calls (StoreOne k v.0 t exclusive)) (optional_at 0 ttl v.1))
 unfolding rest_at
 store_one_is exclusive k last bytes =
     needs_is any_value (λ v. may 0 ttl (λ t. calls (StoreOne k v t exclusive))) last bytes (λ v. tt)
     ∙ then_is (argument_at any_value bytes) _ _ (λ v. may_is 0 ttl (λ t. calls (StoreOne k v.0 t exclusive)) [] v.1 (λ t. tt))
 
 pub store_many_is : (exclusive : Bool) (ps : List (List ℕ × List Kind)) (last bytes : List ℕ) → rest_at (store_many exclusive ps) last bytes
-    ≡ (optional_at tt null bytes >>= λ n. optional_at 0 ttl n.1 >>= ended (λ t. Calls (StoreMany ps t exclusive)))
+    ≡ (optional_at tt null bytes >>= λ n. on (λ t. calls (StoreMany ps t exclusive)) (optional_at 0 ttl n.1))
 unfolding rest_at
 store_many_is exclusive ps last bytes =
     may_is tt null (λ n. may 0 ttl (λ t. calls (StoreMany ps t exclusive))) last bytes (λ n. tt)
@@ -147,24 +160,12 @@ delete_is last bytes = needs_is asked_of (λ a. calls (delete_of a)) last bytes 
 -- ---- counters
 
 pub count_is : (down : Bool) (last bytes : List ℕ) → rest_at (count_form down) last bytes
-    ≡ (argument_at key bytes >>= λ k. optional_at (pos 1) integer k.1 >>= λ n. optional_at 0 ttl n.1 >>= ended (λ t. Calls (Inc k.0 (step_by down n.0) t)))
+    ≡ (argument_at key bytes >>= λ k. optional_at (pos 1) integer k.1 >>= λ n. on (λ t. calls (Inc k.0 (step_by down n.0) t)) (optional_at 0 ttl n.1))
 unfolding rest_at
 count_is down last bytes =
     needs_is key (λ k. may (pos 1) integer (λ n. may 0 ttl (λ t. calls (Inc k (step_by down n) t)))) last bytes (λ k. tt)
     ∙ then_is (argument_at key bytes) _ _ (λ k. may_is (pos 1) integer (λ n. may 0 ttl (λ t. calls (Inc k.0 (step_by down n) t))) [] k.1 (λ n. tt)
     ∙ then_is (optional_at (pos 1) integer k.1) _ _ (λ n. may_is 0 ttl (λ t. calls (Inc k.0 (step_by down n.0) t)) [] n.1 (λ t. tt)))
-
--- the arguments were read one after the other
-pub count_at : (down : Bool) (last bytes k : List ℕ) (behind_key : List ℕ) (n : ℤ) (behind_step : List ℕ) (t : ℕ) (behind_ttl after : List ℕ) (step : ℤ)
-    → argument_at key bytes ≡ Ok (k, behind_key) → optional_at (pos 1) integer behind_key ≡ Ok (n, behind_step) → optional_at 0 ttl behind_step ≡ Ok (t, behind_ttl) → end_at behind_ttl ≡ Ok after → step ≡ step_by down n
-    → rest_at (count_form down) last bytes ≡ Ok (Calls (Inc k step t), after)
-count_at down last bytes k behind_key n behind_step t behind_ttl after step e1 e2 e3 e4 is =
-    count_is down last bytes
-    ∙ (ap (λ (r : Result (List ℕ × List ℕ) Fault). r >>= λ k. optional_at (pos 1) integer k.1 >>= λ n. optional_at 0 ttl n.1 >>= ended (λ t. Calls (Inc k.0 (step_by down n.0) t))) e1
-    ∙ (ap (λ (r : Result (ℤ × List ℕ) Fault). r >>= λ n. optional_at 0 ttl n.1 >>= ended (λ t. Calls (Inc k (step_by down n.0) t))) e2
-    ∙ (ap (λ (r : Result (ℕ × List ℕ) Fault). r >>= ended (λ t. Calls (Inc k (step_by down n) t))) e3
-    ∙ (ap (λ (r : Result (List ℕ) Fault). r >>= λ rest. Ok (Calls (Inc k (step_by down n) t), rest)) e4
-    ∙ ap (λ (m : ℤ). Ok (Calls (Inc k m t), after)) (sym is)))))
 
 pub cas_is : (last bytes : List ℕ) → rest_at cas_form last bytes
     ≡ (argument_at key bytes >>= λ k. argument_at integer k.1 >>= λ expect. argument_at integer expect.1 >>= ended (λ set. Calls (Cas k.0 expect.0 set)))
@@ -184,22 +185,22 @@ entry_is last bytes =
     ∙ then_is (argument_at key bytes) _ _ (λ k. make_is (λ gen. may 0 ttl (λ t. calls (Entry (entry_round k.0 t gen)))) [] k.1 (λ gen. tt)
     ∙ then_is (gen_argument_at k.1) _ _ (λ gen. may_is 0 ttl (λ t. calls (Entry (entry_round k.0 t gen.0))) [] gen.1 (λ t. tt)))
 
-pub key_info_is : (last bytes : List ℕ) → rest_at key_info_form last bytes ≡ (argument_at key bytes >>= ended (λ k. Calls (KeyInfo k)))
+pub key_info_is : (last bytes : List ℕ) → rest_at key_info_form last bytes ≡ on (λ k. calls (KeyInfo k)) (argument_at key bytes)
 unfolding rest_at
 key_info_is last bytes = needs_is key (λ k. calls (KeyInfo k)) last bytes (λ k. tt)
 
-pub cache_info_is : (last bytes : List ℕ) → rest_at (info_form CacheInfo) last bytes ≡ (optional_at false truth bytes >>= ended (λ limited. Calls (CacheInfo limited)))
+pub cache_info_is : (last bytes : List ℕ) → rest_at (info_form CacheInfo) last bytes ≡ on (λ limited. calls (CacheInfo limited)) (optional_at false truth bytes)
 unfolding rest_at
 cache_info_is last bytes = may_is false truth (λ limited. calls (CacheInfo limited)) last bytes (λ limited. tt)
 
-pub sma_info_is : (last bytes : List ℕ) → rest_at (info_form SmaInfo) last bytes ≡ (optional_at false truth bytes >>= ended (λ limited. Calls (SmaInfo limited)))
+pub sma_info_is : (last bytes : List ℕ) → rest_at (info_form SmaInfo) last bytes ≡ on (λ limited. calls (SmaInfo limited)) (optional_at false truth bytes)
 unfolding rest_at
 sma_info_is last bytes = may_is false truth (λ limited. calls (SmaInfo limited)) last bytes (λ limited. tt)
 
 -- ---- iterators
 
 pub walk_is : (last bytes : List ℕ) → rest_at walk_form last bytes
-    ≡ (argument_at search_for bytes >>= λ s. optional_at all_fields fields s.1 >>= λ f. optional_at usual_size chunk_size f.1 >>= λ n. optional_at Active which_list n.1 >>= ended (λ l. Calls (Walk s.0 f.0 n.0 l)))
+    ≡ (argument_at search_for bytes >>= λ s. optional_at all_fields fields s.1 >>= λ f. optional_at usual_size chunk_size f.1 >>= λ n. on (λ l. calls (Walk s.0 f.0 n.0 l)) (optional_at Active which_list n.1))
 unfolding rest_at
 walk_is last bytes =
     needs_is search_for (λ s. may all_fields fields (λ f. may usual_size chunk_size (λ n. may Active which_list (λ l. calls (Walk s f n l))))) last bytes (λ s. tt)
@@ -208,14 +209,14 @@ walk_is last bytes =
     ∙ then_is (optional_at usual_size chunk_size f.1) _ _ (λ n. may_is Active which_list (λ l. calls (Walk s.0 f.0 n.0 l)) [] n.1 (λ l. tt))))
 
 pub walk_delete_is : (last bytes : List ℕ) → rest_at walk_delete_form last bytes
-    ≡ (argument_at search_for bytes >>= λ s. optional_at usual_size chunk_size s.1 >>= ended (λ n. Calls (WalkDelete s.0 n)))
+    ≡ (argument_at search_for bytes >>= λ s. on (λ n. calls (WalkDelete s.0 n)) (optional_at usual_size chunk_size s.1))
 unfolding rest_at
 walk_delete_is last bytes =
     needs_is search_for (λ s. may usual_size chunk_size (λ n. calls (WalkDelete s n))) last bytes (λ s. tt)
     ∙ then_is (argument_at search_for bytes) _ _ (λ s. may_is usual_size chunk_size (λ n. calls (WalkDelete s.0 n)) [] s.1 (λ n. tt))
 
 pub totals_is : (last bytes : List ℕ) → rest_at totals_form last bytes
-    ≡ (argument_at search_for bytes >>= λ s. optional_at Active which_list s.1 >>= ended (λ l. Calls (Totals s.0 l)))
+    ≡ (argument_at search_for bytes >>= λ s. on (λ l. calls (Totals s.0 l)) (optional_at Active which_list s.1))
 unfolding rest_at
 totals_is last bytes =
     needs_is search_for (λ s. may Active which_list (λ l. calls (Totals s l))) last bytes (λ s. tt)
@@ -233,6 +234,11 @@ stored_fails exclusive last bytes (stops.Fault f) stop = stored_is exclusive las
 -- the same reading gives the same
 pub moved : {X Y : Type 0} (view : X → Y) (r : Result X Stop) (a b : Result Y Fault) → a ≡ b → GivesItem view r b → GivesItem view r a
 moved view r a b e h = subst (λ c. GivesItem view r c) (sym e) h
+
+-- a call that counts was read, with its step
+pub count_goes : {X : Type 0} (view : X → Effect × List ℕ) (r : Result X Stop) (k : List ℕ) (n m : ℤ) (t : ℕ) (rest : List ℕ) (whole : Result (Effect × List ℕ) Fault)
+    → whole ≡ rest_at (calls (Inc k n t)) [] rest → GivesItem view r (rest_at (calls (Inc k m t)) [] rest) → m ≡ n → GivesItem view r whole
+count_goes view r k n m t rest whole is h same = moved view r whole (rest_at (calls (Inc k m t)) [] rest) (is ∙ ap (λ (x : ℤ). rest_at (calls (Inc k x t)) [] rest) (sym same)) h
 
 -- ---- the first line
 

@@ -10,10 +10,10 @@ use crate::call::Call;
 use crate::effect::Effect;
 use crate::fault::Stop;
 use crate::generators::{entry_round, gen_argument};
+use crate::lines::bare;
 use std::alloc::Global;
 
 // The arguments of `apcu_inc` and `apcu_dec`.
-#[tactic(auto, using(crate::proofs::Rows::count_is))]
 pub(crate) fn count(alloc: Global, down: bool, bytes: &[u8]) -> Result<(Effect, &[u8]), Stop>
     ensures read { (last : List ℕ) → GivesItem (λ x. (x.0, x.1.now)) result
         (rest_at (count_form down) last bytes.now) }
@@ -23,9 +23,8 @@ pub(crate) fn count(alloc: Global, down: bool, bytes: &[u8]) -> Result<(Effect, 
     let (key, rest) = key_argument(alloc, bytes)?;
     let (step, rest) = step_argument(alloc, rest)?;
     let (ttl, rest) = ttl_argument(alloc, rest)?;
-    let rest = end(rest)?;
     let step = step_by(down, step);
-    Ok((Effect::Calls(Call::Inc { key, step, ttl }), rest))
+    bare(Call::Inc { key, step, ttl }, rest)
 }
 
 // The step of a call that counts up or down.
@@ -36,7 +35,6 @@ fn step_by(down: bool, step: i64) -> i64
 }
 
 // The arguments of `apcu_cas`.
-#[tactic(auto, using(crate::proofs::Rows::cas_is))]
 pub(crate) fn cas(alloc: Global, bytes: &[u8]) -> Result<(Effect, &[u8]), Stop>
     ensures read { (last : List ℕ) → GivesItem (λ x. (x.0, x.1.now)) result
         (rest_at cas_form last bytes.now) }
@@ -51,7 +49,6 @@ pub(crate) fn cas(alloc: Global, bytes: &[u8]) -> Result<(Effect, &[u8]), Stop>
 }
 
 // The arguments of `apcu_entry`.
-#[tactic(auto, using(crate::proofs::Rows::entry_is))]
 pub(crate) fn entry(alloc: Global, bytes: &[u8]) -> Result<(Effect, &[u8]), Stop>
     ensures read { (last : List ℕ) → GivesItem (λ x. (x.0, x.1.now)) result
         (rest_at entry_form last bytes.now) }

@@ -6,14 +6,14 @@ ghost use Rattle.script_read.specs.Table.{key_info_form, info_form};
 ghost use Rattle.script_read.specs.Reading.{rest_at};
 ghost use Rattle.script_read.specs.Gives.{GivesItem, IsInRange};
 
-use crate::arguments::{end, key_argument, truth_argument};
+use crate::arguments::{key_argument, truth_argument};
 use crate::call::Call;
 use crate::effect::Effect;
 use crate::fault::Stop;
+use crate::lines::bare;
 use std::alloc::Global;
 
 // The argument of `apcu_key_info`.
-#[tactic(auto, using(crate::proofs::Rows::key_info_is))]
 pub(crate) fn key_info(alloc: Global, bytes: &[u8]) -> Result<(Effect, &[u8]), Stop>
     ensures read { (last : List ℕ) → GivesItem (λ x. (x.0, x.1.now)) result
         (rest_at key_info_form last bytes.now) }
@@ -21,12 +21,10 @@ pub(crate) fn key_info(alloc: Global, bytes: &[u8]) -> Result<(Effect, &[u8]), S
     ensures range { IfOk result (λ x. IsInRange x.0) }
 {
     let (key, rest) = key_argument(alloc, bytes)?;
-    let rest = end(rest)?;
-    Ok((Effect::Calls(Call::KeyInfo(key)), rest))
+    bare(Call::KeyInfo(key), rest)
 }
 
 // The argument of `apcu_cache_info`.
-#[tactic(auto, using(crate::proofs::Rows::cache_info_is))]
 pub(crate) fn cache_info(alloc: Global, bytes: &[u8]) -> Result<(Effect, &[u8]), Stop>
     ensures read { (last : List ℕ) → GivesItem (λ x. (x.0, x.1.now)) result
         (rest_at (info_form CacheInfo) last bytes.now) }
@@ -34,12 +32,10 @@ pub(crate) fn cache_info(alloc: Global, bytes: &[u8]) -> Result<(Effect, &[u8]),
     ensures range { IfOk result (λ x. IsInRange x.0) }
 {
     let (limited, rest) = truth_argument(alloc, bytes)?;
-    let rest = end(rest)?;
-    Ok((Effect::Calls(Call::CacheInfo(limited)), rest))
+    bare(Call::CacheInfo(limited), rest)
 }
 
 // The argument of `apcu_sma_info`.
-#[tactic(auto, using(crate::proofs::Rows::sma_info_is))]
 pub(crate) fn sma_info(alloc: Global, bytes: &[u8]) -> Result<(Effect, &[u8]), Stop>
     ensures read { (last : List ℕ) → GivesItem (λ x. (x.0, x.1.now)) result
         (rest_at (info_form SmaInfo) last bytes.now) }
@@ -47,6 +43,5 @@ pub(crate) fn sma_info(alloc: Global, bytes: &[u8]) -> Result<(Effect, &[u8]), S
     ensures range { IfOk result (λ x. IsInRange x.0) }
 {
     let (limited, rest) = truth_argument(alloc, bytes)?;
-    let rest = end(rest)?;
-    Ok((Effect::Calls(Call::SmaInfo(limited)), rest))
+    bare(Call::SmaInfo(limited), rest)
 }

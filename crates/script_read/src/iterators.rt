@@ -5,14 +5,14 @@ ghost use Rattle.script_read.specs.Table.{walk_form, walk_delete_form, totals_fo
 ghost use Rattle.script_read.specs.Reading.{rest_at};
 ghost use Rattle.script_read.specs.Gives.{GivesItem, IsInRange};
 
-use crate::arguments::{end, fields_argument, list_argument, search_argument, size_argument};
+use crate::arguments::{fields_argument, list_argument, search_argument, size_argument};
 use crate::call::Call;
 use crate::effect::Effect;
 use crate::fault::Stop;
+use crate::lines::bare;
 use std::alloc::Global;
 
 // The arguments of `APCUIterator`.
-#[tactic(auto, using(crate::proofs::Rows::walk_is))]
 pub(crate) fn walk(alloc: Global, bytes: &[u8]) -> Result<(Effect, &[u8]), Stop>
     ensures read { (last : List ℕ) → GivesItem (λ x. (x.0, x.1.now)) result
         (rest_at walk_form last bytes.now) }
@@ -23,18 +23,16 @@ pub(crate) fn walk(alloc: Global, bytes: &[u8]) -> Result<(Effect, &[u8]), Stop>
     let (fields, rest) = fields_argument(alloc, rest)?;
     let (size, rest) = size_argument(alloc, rest)?;
     let (list, rest) = list_argument(alloc, rest)?;
-    let rest = end(rest)?;
     let call = Call::Walk {
         search,
         fields,
         size,
         list,
     };
-    Ok((Effect::Calls(call), rest))
+    bare(call, rest)
 }
 
 // The arguments of `APCUIterator_delete`.
-#[tactic(auto, using(crate::proofs::Rows::walk_delete_is))]
 pub(crate) fn walk_delete(alloc: Global, bytes: &[u8]) -> Result<(Effect, &[u8]), Stop>
     ensures read { (last : List ℕ) → GivesItem (λ x. (x.0, x.1.now)) result
         (rest_at walk_delete_form last bytes.now) }
@@ -43,12 +41,10 @@ pub(crate) fn walk_delete(alloc: Global, bytes: &[u8]) -> Result<(Effect, &[u8])
 {
     let (search, rest) = search_argument(alloc, bytes)?;
     let (size, rest) = size_argument(alloc, rest)?;
-    let rest = end(rest)?;
-    Ok((Effect::Calls(Call::WalkDelete { search, size }), rest))
+    bare(Call::WalkDelete { search, size }, rest)
 }
 
 // The arguments of `APCUIterator_totals`.
-#[tactic(auto, using(crate::proofs::Rows::totals_is))]
 pub(crate) fn totals(alloc: Global, bytes: &[u8]) -> Result<(Effect, &[u8]), Stop>
     ensures read { (last : List ℕ) → GivesItem (λ x. (x.0, x.1.now)) result
         (rest_at totals_form last bytes.now) }
@@ -57,6 +53,5 @@ pub(crate) fn totals(alloc: Global, bytes: &[u8]) -> Result<(Effect, &[u8]), Sto
 {
     let (search, rest) = search_argument(alloc, bytes)?;
     let (list, rest) = list_argument(alloc, rest)?;
-    let rest = end(rest)?;
-    Ok((Effect::Calls(Call::Totals { search, list }), rest))
+    bare(Call::Totals { search, list }, rest)
 }

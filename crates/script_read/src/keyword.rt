@@ -4,7 +4,7 @@ ghost use Rattle.script_read.specs.Table.{form_of};
 ghost use Rattle.script_read.specs.Gives.{form_named};
 
 /// What a line begins with.
-#[derive(Clone, Copy, Debug, PartialEq, Eq)]
+#[derive(Clone, Copy)]
 pub(crate) enum Keyword {
     Time,
     Store,

@@ -22,7 +22,6 @@ use notation::Reason;
 use std::alloc::Global;
 
 // The argument of `time`.
-#[tactic(auto, using(crate::proofs::Rows::time_is))]
 fn time(alloc: Global, bytes: &[u8]) -> Result<(Effect, &[u8]), Stop>
     ensures read { (last : List ℕ) → GivesItem (λ x. (x.0, x.1.now)) result
         (rest_at (form_of (codes "time")) last bytes.now) }
@@ -34,9 +33,9 @@ fn time(alloc: Global, bytes: &[u8]) -> Result<(Effect, &[u8]), Stop>
     Ok((Effect::Sets(t), rest))
 }
 
-// A call without arguments.
+// A call whose last argument is read, or that has none: its line ends here.
 #[tactic(auto, unfolding(crate::specs::Reading::rest_at))]
-fn bare(call: Call, bytes: &[u8]) -> Result<(Effect, &[u8]), Stop>
+pub(crate) fn bare(call: Call, bytes: &[u8]) -> Result<(Effect, &[u8]), Stop>
     requires { HasRanges call }
     ensures read { (last : List ℕ) → GivesItem (λ x. (x.0, x.1.now)) result
         (rest_at (calls call) last bytes.now) }

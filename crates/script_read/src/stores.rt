@@ -6,11 +6,12 @@ ghost use Rattle.script_read.specs.Table.{needs, store_one, store_many, store_by
 ghost use Rattle.script_read.specs.Reading.{rest_at};
 ghost use Rattle.script_read.specs.Gives.{GivesItem, IsInRange};
 
-use crate::arguments::{end, null_argument, stored_argument, ttl_argument, value_argument};
+use crate::arguments::{null_argument, stored_argument, ttl_argument, value_argument};
 use crate::call::Call;
 use crate::effect::Effect;
 use crate::fault::Stop;
 use crate::given::Stored;
+use crate::lines::bare;
 use apcu_model::Pairs;
 use php_graph::Bytes;
 use std::alloc::Global;
@@ -31,7 +32,6 @@ pub(crate) fn store(alloc: Global, exclusive: bool, bytes: &[u8]) -> Result<(Eff
 }
 
 // The value of a key, and a limit of time.
-#[tactic(auto, using(crate::proofs::Rows::store_one_is))]
 fn store_one(
     alloc: Global,
     exclusive: bool,
@@ -45,18 +45,16 @@ fn store_one(
 {
     let (value, rest) = value_argument(alloc, bytes)?;
     let (ttl, rest) = ttl_argument(alloc, rest)?;
-    let rest = end(rest)?;
     let call = Call::StoreOne {
         key,
         value,
         ttl,
         exclusive,
     };
-    Ok((Effect::Calls(call), rest))
+    bare(call, rest)
 }
 
 // What follows an array of keys with their values: a null, and a limit of time.
-#[tactic(auto, using(crate::proofs::Rows::store_many_is))]
 fn store_many(
     alloc: Global,
     exclusive: bool,
@@ -70,11 +68,10 @@ fn store_many(
 {
     let rest = null_argument(alloc, bytes)?;
     let (ttl, rest) = ttl_argument(alloc, rest)?;
-    let rest = end(rest)?;
     let call = Call::StoreMany {
         pairs,
         ttl,
         exclusive,
     };
-    Ok((Effect::Calls(call), rest))
+    bare(call, rest)
 }

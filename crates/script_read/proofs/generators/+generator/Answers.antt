@@ -1,4 +1,4 @@
-use Rattle.std.proofs.Common.{◌-◌, ℕ, List, sym, subst}
+use Rattle.std.proofs.Common.{◌-◌, ℕ, List, length, sym, ap, subst, arith}
 use Rattle.std.proofs.lemmas.Result.{err_from_is_err_and}
 use Rattle.notation.specs.declared.fault.Reason.TheVariants as reasons
 use Rattle.notation.specs.declared.fault.Fault.{Fault}
@@ -49,3 +49,6 @@ returns-clause-read t c =
     entry_ends (generator_at (c.args.levels - 1)) c.in-Some.inside.now c.in_ok-key.key c.in_ok-key.rest.now c.in_ok-argument.argument.now c.in_ok-inner.inner c.in_ok-inner.rest.now c.in_ok-ttl.ttl c.in_ok-ttl.rest.now c.in_ok-made.made _ whole
     c.in_ok-key.ensures.read c.in_ok-argument.ensures.read c.in_ok-inner.ensures.read c.in_ok-ttl.ensures.read
     (sym c.in_ok-made.ensures)
+
+pub returns-clause-levels : goal.returns-clause-levels
+returns-clause-levels t c = omega (arith, ap (λ (made : Generator). length made.levels) c.in_ok-made.ensures, c.in_ok-inner.ensures.levels, c.if-levels-eq0.false)

@@ -1,0 +1,18 @@
+use Rattle.std.proofs.Common.{[]}
+use Rattle.std.proofs.lemmas.Result.{err_from_is_err_and}
+use Rattle.script_read.proofs.Rows.{totals_is, fails, goes_on, moved}
+use Rattle.script_read.proofs.iterators.totals.Goals as goal
+
+pub returns-in_err-search-clause-read : goal.returns-in_err-search-clause-read
+returns-in_err-search-clause-read c = λ last.
+    let p = err_from_is_err_and c.from_residual.result c.from_residual.ensures.1 in
+    rw (p.1, p.2) (fails c.in_err-search.field-0.0 _ _ _ (totals_is last c.args.bytes.now) c.in_err-search.ensures.read)
+
+pub returns-in_err-list-clause-read : goal.returns-in_err-list-clause-read
+returns-in_err-list-clause-read c = λ last.
+    let p = err_from_is_err_and c.from_residual-in_err-list.result c.from_residual-in_err-list.ensures.1 in
+    rw (p.1, p.2) (fails c.in_err-list.field-0.0 _ _ _ (goes_on _ _ _ _ (totals_is last c.args.bytes.now) c.in_ok-search.ensures.read) c.in_err-list.ensures.read)
+
+pub returns-clause-read : goal.returns-clause-read
+returns-clause-read c = λ last.
+    moved _ c.bare.result _ _ (goes_on _ _ _ _ (goes_on _ _ _ _ (totals_is last c.args.bytes.now) c.in_ok-search.ensures.read) c.in_ok-list.ensures.read) (c.bare.ensures.read [])
