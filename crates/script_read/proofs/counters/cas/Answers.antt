@@ -33,3 +33,6 @@ returns-clause-read c = λ last.
     let expect : c.in_ok-expect.expect ≡ to_z w64 (of_z w64 c.in_ok-expect.expect) = grind (arith, ints, common_steps) in
     let set : c.in_ok-set.set ≡ to_z w64 (of_z w64 c.in_ok-set.set) = grind (arith, ints, common_steps) in
     goes_on _ _ _ _ (goes_on _ _ _ _ (goes_on _ _ _ _ (goes_on _ _ _ _ (cas_is last c.args.bytes.now) c.in_ok-key.ensures.read) c.in_ok-expect.ensures.read) c.in_ok-set.ensures.read) c.in_ok-rest.ensures.read ∙ ap₂ (λ (e : ℤ) (s : ℤ). was_read c.in_ok-rest.rest.now (Calls (Cas c.in_ok-key.key e s))) expect set
+
+pub returns-clause-fewer : goal.returns-clause-fewer
+returns-clause-fewer c = grind (arith, common_steps)

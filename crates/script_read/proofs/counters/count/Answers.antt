@@ -24,3 +24,6 @@ returns-in_err-ttl-clause-read c = λ last.
 pub returns-clause-read : goal.returns-clause-read
 returns-clause-read c = λ last.
     count_goes _ c.bare.result c.in_ok-key.key (step_by c.args.down c.in_ok-step.step) _ c.in_ok-ttl.ttl c.in_ok-ttl.rest.now _ (goes_on _ _ _ _ (goes_on _ _ _ _ (goes_on _ _ _ _ (count_is c.args.down last c.args.bytes.now) c.in_ok-key.ensures.read) c.in_ok-step.ensures.read) c.in_ok-ttl.ensures.read) (c.bare.ensures.read []) (grind (arith, ints, common_steps))
+
+pub returns-clause-fewer : goal.returns-clause-fewer
+returns-clause-fewer c = grind (arith, common_steps)

@@ -1,4 +1,5 @@
-use Rattle.std.proofs.Common.{sym, ap, ◌∙◌}
+use Rattle.std.proofs.Common.{sym, ap, ◌∙◌, arith}
+use Rattle.std.proofs.lemmas.Grind.{common_steps}
 use Rattle.std.proofs.lemmas.Result.{err_from_is_err_and}
 use Rattle.apcu_model.specs.Levels.{Generator}
 use Rattle.script_read.specs.declared.call.Call.TheVariants.{Entry}
@@ -29,3 +30,9 @@ returns-in_err-rest-clause-read c = λ last.
 pub returns-clause-read : goal.returns-clause-read
 returns-clause-read c = λ last.
     goes_on _ _ _ _ (goes_on _ _ _ _ (goes_on _ _ _ _ (goes_on _ _ _ _ (entry_is last c.args.bytes.now) c.in_ok-key.ensures.read) c.in_ok-inner.ensures.read) c.in_ok-ttl.ensures.read) c.in_ok-rest.ensures.read ∙ ap (λ (made : Generator). was_read c.in_ok-rest.rest.now (Calls (Entry made))) (sym c.in_ok-generator.ensures)
+
+pub returns-clause-fewer : goal.returns-clause-fewer
+returns-clause-fewer c = grind (arith, common_steps)
+
+pub returns-clause-range : goal.returns-clause-range
+returns-clause-range c = grind (arith, common_steps)

@@ -1,4 +1,5 @@
-use Rattle.std.proofs.Common.{[]}
+use Rattle.std.proofs.Common.{[], arith}
+use Rattle.std.proofs.lemmas.Grind.{common_steps}
 use Rattle.std.proofs.lemmas.Result.{err_from_is_err_and}
 use Rattle.script_read.proofs.Rows.{totals_is, fails, goes_on, moved}
 use Rattle.script_read.proofs.iterators.totals.Goals as goal
@@ -16,3 +17,6 @@ returns-in_err-list-clause-read c = λ last.
 pub returns-clause-read : goal.returns-clause-read
 returns-clause-read c = λ last.
     moved _ c.bare.result _ _ (goes_on _ _ _ _ (goes_on _ _ _ _ (totals_is last c.args.bytes.now) c.in_ok-search.ensures.read) c.in_ok-list.ensures.read) (c.bare.ensures.read [])
+
+pub returns-clause-fewer : goal.returns-clause-fewer
+returns-clause-fewer c = grind (arith, common_steps)

@@ -1,4 +1,5 @@
-use Rattle.std.proofs.Common.{[]}
+use Rattle.std.proofs.Common.{[], arith}
+use Rattle.std.proofs.lemmas.Grind.{common_steps}
 use Rattle.std.proofs.lemmas.Result.{err_from_is_err_and}
 use Rattle.script_read.proofs.Rows.{walk_is, fails, goes_on, moved}
 use Rattle.script_read.proofs.iterators.walk.Goals as goal
@@ -26,3 +27,9 @@ returns-in_err-list-clause-read c = λ last.
 pub returns-clause-read : goal.returns-clause-read
 returns-clause-read c = λ last.
     moved _ c.bare.result _ _ (goes_on _ _ _ _ (goes_on _ _ _ _ (goes_on _ _ _ _ (goes_on _ _ _ _ (walk_is last c.args.bytes.now) c.in_ok-search.ensures.read) c.in_ok-fields.ensures.read) c.in_ok-size.ensures.read) c.in_ok-list.ensures.read) (c.bare.ensures.read [])
+
+pub returns-clause-fewer : goal.returns-clause-fewer
+returns-clause-fewer c = grind (arith, common_steps)
+
+pub returns-clause-range : goal.returns-clause-range
+returns-clause-range c = grind (arith, common_steps)

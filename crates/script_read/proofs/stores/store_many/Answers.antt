@@ -1,4 +1,5 @@
-use Rattle.std.proofs.Common.{[]}
+use Rattle.std.proofs.Common.{[], arith}
+use Rattle.std.proofs.lemmas.Grind.{common_steps}
 use Rattle.std.proofs.lemmas.Result.{err_from_is_err_and}
 use Rattle.script_read.proofs.Rows.{store_many_is, fails, goes_on, moved}
 use Rattle.script_read.proofs.stores.store_many.Goals as goal
@@ -16,3 +17,6 @@ returns-in_err-ttl-clause-read c = λ last.
 pub returns-clause-read : goal.returns-clause-read
 returns-clause-read c = λ last.
     moved _ c.bare.result _ _ (goes_on _ _ _ _ (goes_on _ _ _ _ (store_many_is c.args.exclusive c.args.pairs last c.args.bytes.now) c.in_ok-rest.ensures.read) c.in_ok-ttl.ensures.read) (c.bare.ensures.read [])
+
+pub returns-clause-fewer : goal.returns-clause-fewer
+returns-clause-fewer c = grind (arith, common_steps)
