@@ -1,6 +1,6 @@
 -- Runs of free words, from the last word down.
 use Rattle.std.proofs.Common.{◌≡◌, ◌∙◌, ℕ, suc, ◌+◌, ◌-◌, ◌<◌, Bool, true, false, cond, List, [], ◌∷◌}
-use Rattle.std.proofs.Common.{◌++◌, filter, reverse, refl, sym, ap, arith}
+use Rattle.std.proofs.Common.{filter, reverse, refl, ap, arith}
 use Rattle.std.specs.Prelude.{sum_by}
 use Rattle.std.specs.List.{range_with_len}
 use Rattle.std.proofs.lemmas.List.{reverse-append}

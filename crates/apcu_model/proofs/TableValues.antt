@@ -1,8 +1,8 @@
 -- The tables of the information calls can be told as graphs.
-use Rattle.std.proofs.Common.{◌≡◌, ◌∙◌, ℕ, zero, suc, ◌+◌, ◌≤◌, ◌<◌, ◌^◌, ◌&&◌, Bool, true, false}
-use Rattle.std.proofs.Common.{List, [], ◌∷◌, ◌++◌, length, map, refl, sym, ap, arith, min}
+use Rattle.std.proofs.Common.{◌≡◌, ℕ, suc, ◌+◌, ◌≤◌, ◌<◌, ◌^◌, ◌&&◌, Bool, true, false}
+use Rattle.std.proofs.Common.{List, [], ◌∷◌, ◌++◌, length, map, refl, ap, arith}
 use Rattle.std.proofs.lemmas.List.{length-map}
-use Rattle.std.specs.Prelude.{codes, nat_lt, nat_le, pos, not}
+use Rattle.std.specs.Prelude.{codes, nat_lt, pos, not}
 use Rattle.std.specs.List.{AllByRecursion, list_all}
 use Rattle.std.proofs.lemmas.Bool.{and_parts, and_from}
 use Rattle.std.proofs.lemmas.Bool.Decides.{nat_tests}
@@ -22,7 +22,7 @@ use Rattle.apcu_model.specs.Infos.{told_list, told_array, told_notes, told_row, 
 use Rattle.apcu_model.specs.Infos.{told_counts, told_words, told_gaps, word_bytes}
 use Rattle.apcu_model.specs.Infos.{note_fields, row_fields, gap_fields}
 use Rattle.apcu_model.specs.Telling.{IsTellable}
-use Rattle.apcu_model.proofs.Tellings.{IsValue, IsFlat, AreKeys, single, array, tellable}
+use Rattle.apcu_model.proofs.Tellings.{IsValue, AreKeys, single, array, tellable}
 
 -- a value of fewer levels
 deeper : (d e : ℕ) (v : Told) → d ≤ e → IsValue d v → IsValue e v

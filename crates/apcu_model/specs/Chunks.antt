@@ -1,5 +1,5 @@
 -- What an iterator gives, step by step, and what its relatives answer.
-use Rattle.std.specs.Prelude.{ℕ, ◌+◌, ◌-◌, ◌^◌, ◌==◌, ◌&&◌, not, nat_le, nat_lt, min, Bool}
+use Rattle.std.specs.Prelude.{ℕ, ◌-◌, ◌^◌, ◌==◌, ◌&&◌, not, nat_le, nat_lt, min, Bool}
 use Rattle.std.specs.Prelude.{if◌then◌else◌, List, length, map, filter, sum_by, Option, Some, None}
 use Rattle.std.specs.Prelude.{unwrap_or, find}
 use Rattle.std.specs.Int.{bit_at}

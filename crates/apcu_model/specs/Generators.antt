@@ -1,7 +1,7 @@
 -- What comes of a generator: its keys are looked up from outside in, as far as one has a live row.
 -- The value is that row's, or else the literal inside; and it is stored under the keys that were
 -- missed, inner first. `held` is the list of the places of blocks that are held, t the time.
-use Rattle.std.specs.Prelude.{ℕ, Bool, true, if◌then◌else◌, List, [], ◌∷◌, Option, Some, None}
+use Rattle.std.specs.Prelude.{ℕ, true, if◌then◌else◌, List, [], ◌∷◌, Option, Some, None}
 use Rattle.std.specs.Prelude.{is_some}
 use Rattle.php_graph.specs.declared.kind.Kind.{Kind}
 use Rattle.apcu_model.specs.declared.request.StoreAnswer.{StoreAnswer}

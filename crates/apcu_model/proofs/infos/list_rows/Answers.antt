@@ -1,4 +1,4 @@
-use Rattle.std.proofs.Common.{◌≡◌, ◌++◌, ap, ◌∙◌, map, filter}
+use Rattle.std.proofs.Common.{◌++◌, ap, ◌∙◌, map, filter}
 use Rattle.apcu_model.specs.Infos.{listed_of}
 use Rattle.apcu_model.specs.Walk.{is_in_slot}
 use Rattle.apcu_model.proofs.Listing.{slot_goes_on}

@@ -1,4 +1,5 @@
-use Rattle.std.proofs.Common.{◌≡◌, ◌+◌, ◌*◌, ◌≤◌, ◌^◌, ◌∷◌, [], List, ◌++◌, ap, arith, sym, subst, ◌∙◌, map, length, rules}
+use Rattle.std.proofs.Common.{◌≡◌, ◌+◌, ◌∷◌, [], List, ◌++◌, ap, arith, sym, subst, ◌∙◌, map, length, rules}
+use Rattle.std.proofs.lemmas.Grind.{common_steps}
 use Rattle.php_graph.specs.declared.kind.Kind.{Kind}
 use Rattle.apcu_model.specs.Infos.{told_row, told_list, told_values, told_counts, told_array, told_rows}
 use Rattle.apcu_model.specs.Telling.{IsTellable}
@@ -22,3 +23,78 @@ returns-clause-told c = all_told c
 pub returns-clause-tellable : goal.returns-clause-tellable
 returns-clause-tellable c =
     subst IsTellable (sym (all_told c)) (cache_tellable c.args.conf c.args.counts c.args.words c.args.rows.items c.args.removed.items c.in_ok-push_rows.ensures.keys c.in_ok-push_rows-2.ensures.keys c.in_ok-push_rows.ensures.few c.in_ok-push_rows-2.ensures.few)
+
+pub returns-then-len-clause-told : goal.returns-then-len-clause-told
+returns-then-len-clause-told c = grind (arith, common_steps)
+
+pub returns-then-len-clause-tellable : goal.returns-then-len-clause-tellable
+returns-then-len-clause-tellable c = grind (arith, common_steps)
+
+pub overflow_cast-len : goal.overflow_cast-len
+overflow_cast-len c = grind (arith, common_steps)
+
+pub overflow_mul-len : goal.overflow_mul-len
+overflow_mul-len c = grind (arith, common_steps)
+
+pub overflow_add-len : goal.overflow_add-len
+overflow_add-len c = grind (arith, common_steps)
+
+pub slice_bounds-array_of-end-11 : goal.slice_bounds-array_of-end-11
+slice_bounds-array_of-end-11 c = grind (arith, common_steps)
+
+pub array_of-requires-clause-few : goal.array_of-requires-clause-few
+array_of-requires-clause-few c = grind (arith, common_steps)
+
+pub array_of-requires-clause-short : goal.array_of-requires-clause-short
+array_of-requires-clause-short c = grind (arith, common_steps)
+
+pub array_of-requires-clause-room : goal.array_of-requires-clause-room
+array_of-requires-clause-room c = grind (arith, common_steps)
+
+pub returns-in_err-first-clause-told : goal.returns-in_err-first-clause-told
+returns-in_err-first-clause-told c = grind (arith, common_steps)
+
+pub returns-in_err-first-clause-tellable : goal.returns-in_err-first-clause-tellable
+returns-in_err-first-clause-tellable c = grind (arith, common_steps)
+
+pub new-telling-requires-clause-cells : goal.new-telling-requires-clause-cells
+new-telling-requires-clause-cells c = grind (arith, common_steps)
+
+pub new-telling-requires-clause-small : goal.new-telling-requires-clause-small
+new-telling-requires-clause-small c = grind (arith, common_steps)
+
+pub push_counts-requires : goal.push_counts-requires
+push_counts-requires c = grind (arith, common_steps)
+
+pub drop-telling-requires : goal.drop-telling-requires
+drop-telling-requires c = grind (arith, common_steps)
+
+pub returns-in_err-push_counts-clause-told : goal.returns-in_err-push_counts-clause-told
+returns-in_err-push_counts-clause-told c = grind (arith, common_steps)
+
+pub returns-in_err-push_counts-clause-tellable : goal.returns-in_err-push_counts-clause-tellable
+returns-in_err-push_counts-clause-tellable c = grind (arith, common_steps)
+
+pub push_rows-requires : goal.push_rows-requires
+push_rows-requires c = grind (arith, common_steps)
+
+pub drop-telling-requires-in_err-push_rows : goal.drop-telling-requires-in_err-push_rows
+drop-telling-requires-in_err-push_rows c = grind (arith, common_steps)
+
+pub returns-in_err-push_rows-clause-told : goal.returns-in_err-push_rows-clause-told
+returns-in_err-push_rows-clause-told c = grind (arith, common_steps)
+
+pub returns-in_err-push_rows-clause-tellable : goal.returns-in_err-push_rows-clause-tellable
+returns-in_err-push_rows-clause-tellable c = grind (arith, common_steps)
+
+pub push_rows-requires-2 : goal.push_rows-requires-2
+push_rows-requires-2 c = grind (arith, common_steps)
+
+pub drop-telling-requires-in_err-push_rows-2 : goal.drop-telling-requires-in_err-push_rows-2
+drop-telling-requires-in_err-push_rows-2 c = grind (arith, common_steps)
+
+pub returns-in_err-push_rows-2-clause-told : goal.returns-in_err-push_rows-2-clause-told
+returns-in_err-push_rows-2-clause-told c = grind (arith, common_steps)
+
+pub returns-in_err-push_rows-2-clause-tellable : goal.returns-in_err-push_rows-2-clause-tellable
+returns-in_err-push_rows-2-clause-tellable c = grind (arith, common_steps)

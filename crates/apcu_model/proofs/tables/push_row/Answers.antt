@@ -1,6 +1,3 @@
-use Rattle.std.proofs.Common.{map}
-use Rattle.php_graph.specs.declared.kind.Kind.TheVariants as kinds
-use Rattle.apcu_model.specs.Infos.{number_kind, word_bytes}
 use Rattle.apcu_model.proofs.Runs.{joined}
 use Rattle.apcu_model.proofs.tables.push_row.Goals as goal
 

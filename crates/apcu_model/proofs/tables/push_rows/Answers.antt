@@ -1,4 +1,4 @@
-use Rattle.std.proofs.Common.{◌≡◌, ℕ, ◌+◌, ◌*◌, ◌∷◌, [], List, ◌++◌, ap, arith, sym, subst, refl, ◌∙◌, map, length, append-nil, rules}
+use Rattle.std.proofs.Common.{◌≡◌, ◌+◌, ◌∷◌, [], List, ◌++◌, ap, arith, sym, subst, ◌∙◌, map, length, append-nil, rules}
 use Rattle.std.specs.Vec.Iter.{into_iter_items}
 use Rattle.std.specs.List.{AllByRecursion}
 use Rattle.php_graph.specs.ByteStrings.{AreBytes}

@@ -1,4 +1,4 @@
-use Rattle.std.proofs.Common.{◌≡◌, ◌+◌, ◌-◌, ◌++◌, length}
+use Rattle.std.proofs.Common.{◌≡◌, ◌-◌, ◌++◌, length}
 use Rattle.apcu_model.specs.Telling.{stepped_members, stepped_end}
 use Rattle.apcu_model.proofs.telling.list_of.Given as goal
 

@@ -1,10 +1,10 @@
-use Rattle.std.proofs.Common.{◌≡◌, ℕ, List, ◌&&◌, not, sym, ap, ap₂, ◌∙◌, refl}
+use Rattle.std.proofs.Common.{◌≡◌, ℕ, List, ◌&&◌, not, sym, ap, ap₂, ◌∙◌}
 use Rattle.std.specs.Prelude.{Option, find}
 use Rattle.apcu_model.specs.Cache.{Row, has_key}
 use Rattle.apcu_model.specs.Expiry.{is_hard_expired, live_row}
 use Rattle.apcu_model.specs.Levels.{Generator}
 use Rattle.apcu_model.specs.Nesting.{generator_of}
-use Rattle.apcu_model.specs.Generators.{value_or, value_under, given_by}
+use Rattle.apcu_model.specs.Generators.{given_by}
 use Rattle.apcu_model.specs.Rows.{cache_in}
 use Rattle.apcu_model.proofs.state.State.+given_by.Goals as goal
 

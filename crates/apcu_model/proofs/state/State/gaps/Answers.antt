@@ -1,4 +1,4 @@
-use Rattle.std.proofs.Common.{◌≡◌, ◌++◌, [], ◌∙◌, ap, sym, append-nil, map}
+use Rattle.std.proofs.Common.{◌≡◌, ◌∙◌, ap, sym, append-nil, map}
 use Rattle.std.specs.Prelude.{sum_by}
 use Rattle.seg_words.specs.declared.extents.Extent.{Extent}
 use Rattle.seg_words.specs.Gaps.{free_runs}

@@ -1,4 +1,5 @@
 use Rattle.std.proofs.Common.{◌≡◌, ◌+◌, ◌-◌, ◌≤◌, ltb, true, sym, ◌∙◌, subst, drop, arith, refl, rules}
+use Rattle.std.proofs.lemmas.Grind.{common_steps}
 use Rattle.std.proofs.lemmas.Bool.{and_parts, ltb-true}
 use Rattle.std.specs.List.{count_by}
 use Rattle.seg_words.specs.Windows.{has, is_named}
@@ -40,3 +41,15 @@ returns-clause-held c =
       mask = sym (s.met c.args.at (ltb-true 0 c.args.at (and_parts (ltb 0 c.args.at) (has c.args.at s.windows) named).0));
       refused = marked 64 s.left c.args.at s.marks (search rules) s.within some;
     }
+
+pub returns-then-not-is_named-clause-held : goal.returns-then-not-is_named-clause-held
+returns-then-not-is_named-clause-held c = grind (arith, common_steps)
+
+pub returns-then-not-is_named-clause-answer : goal.returns-then-not-is_named-clause-answer
+returns-then-not-is_named-clause-answer c = grind (arith, common_steps)
+
+pub returns-clause-free : goal.returns-clause-free
+returns-clause-free c = grind (arith, common_steps)
+
+pub returns-clause-answer : goal.returns-clause-answer
+returns-clause-answer c = grind (arith, common_steps)

@@ -1,0 +1,33 @@
+use Rattle.std.proofs.Common.{arith}
+use Rattle.std.proofs.lemmas.Grind.{common_steps}
+use Rattle.script_read.proofs.searches.field_bit.Goals as goal
+
+pub returns-then-is_word : goal.returns-then-is_word
+returns-then-is_word c = grind (arith, common_steps)
+
+pub returns-then-is_word-2 : goal.returns-then-is_word-2
+returns-then-is_word-2 c = grind (arith, common_steps)
+
+pub returns-then-is_word-3 : goal.returns-then-is_word-3
+returns-then-is_word-3 c = grind (arith, common_steps)
+
+pub returns-then-is_word-4 : goal.returns-then-is_word-4
+returns-then-is_word-4 c = grind (arith, common_steps)
+
+pub returns-then-is_word-5 : goal.returns-then-is_word-5
+returns-then-is_word-5 c = grind (arith, common_steps)
+
+pub returns-then-is_word-6 : goal.returns-then-is_word-6
+returns-then-is_word-6 c = grind (arith, common_steps)
+
+pub returns-then-is_word-7 : goal.returns-then-is_word-7
+returns-then-is_word-7 c = grind (arith, common_steps)
+
+pub returns-then-is_word-8 : goal.returns-then-is_word-8
+returns-then-is_word-8 c = grind (arith, common_steps)
+
+pub returns-then-is_word-9 : goal.returns-then-is_word-9
+returns-then-is_word-9 c = grind (arith, common_steps)
+
+pub returns-else-is_word-9 : goal.returns-else-is_word-9
+returns-else-is_word-9 c = grind (arith, common_steps)

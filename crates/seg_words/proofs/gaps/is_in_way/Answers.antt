@@ -1,0 +1,6 @@
+use Rattle.std.proofs.Common.{arith}
+use Rattle.std.proofs.lemmas.Grind.{common_steps}
+use Rattle.seg_words.proofs.gaps.is_in_way.Goals as goal
+
+pub returns : goal.returns
+returns c = grind (arith, common_steps)
