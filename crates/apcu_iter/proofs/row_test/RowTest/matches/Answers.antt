@@ -2,9 +2,6 @@ use Rattle.std.proofs.Common.{arith}
 use Rattle.std.proofs.lemmas.Grind.{common_steps}
 use Rattle.apcu_iter.proofs.row_test.RowTest.matches.Goals as goal
 
-pub invariant_of-live : goal.invariant_of-live
-invariant_of-live c = grind (arith, common_steps)
-
 pub returns-clause-matches : goal.returns-clause-matches
 returns-clause-matches c = grind (arith, common_steps)
 
