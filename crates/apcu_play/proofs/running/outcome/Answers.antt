@@ -1,6 +1,14 @@
+use Rattle.std.proofs.Common.{arith}
+use Rattle.std.proofs.lemmas.Grind.{common_steps}
 use Rattle.conf_read.specs.Options.{conf_of}
 use Rattle.apcu_play.proofs.Unmet.{unmet}
 use Rattle.apcu_play.proofs.running.outcome.Goals as goal
+
+pub returns-in-Ok-clause-replayed : goal.returns-in-Ok-clause-replayed
+returns-in-Ok-clause-replayed g c = grind (arith, common_steps)
+
+pub returns-in-Ok-clause-cut : goal.returns-in-Ok-clause-cut
+returns-in-Ok-clause-cut g c = grind (arith, common_steps)
 
 -- where no memory was found for the words, it is not known what they call for
 pub returns-in-Err-Memory-clause-replayed : goal.returns-in-Err-Memory-clause-replayed
