@@ -1,9 +1,10 @@
 //! Many workers on one counter.
 
 use crate::gates::{Hold, Holding};
+use crate::runs::{Ended, Streams, played, smooth};
 use apcu_iter::RegexMaker;
-use apcu_play::{Status, run};
-use io_edges::{MemSink, MemSource, Point};
+use apcu_play::Status;
+use io_edges::Point;
 use notation::ByteOut;
 use std::alloc::Global;
 use std::process::Abort;
@@ -44,6 +45,39 @@ fn each_once(alloc: Global, printed: &[u8], last: usize) -> Result<bool, Fail> {
     Ok(found == last)
 }
 
+// The scripts of so many workers, which count so often each under one key.
+fn counting(alloc: Global, workers: u32, calls: u32) -> Result<ByteOut, Fail> {
+    let mut scripts = ByteOut::new(alloc);
+    for _worker in 0..workers {
+        scripts.push(b"worker\n")?;
+        for _call in 0..calls {
+            scripts.push(b"apcu_inc s:1:\"n\";\n")?;
+        }
+    }
+    Ok(scripts)
+}
+
+// Each number that so many workers came to in so many calls each is printed once, and all events.
+fn expect_each(
+    rt: &impl Abort,
+    alloc: Global,
+    ended: &Ended<'_>,
+    workers: usize,
+    calls: usize,
+) -> Result<(), Fail> {
+    assert_eq!(rt; ended.status, Status::Done);
+    let last = workers.saturating_mul(calls);
+    assert!(rt; last < 1_000_000);
+    assert!(rt; each_once(alloc, ended.printed(), last)?);
+    // A line and an event for each call, a line and an end for each worker, and the journal's head.
+    let expected = last
+        .saturating_mul(2)
+        .saturating_add(workers.saturating_mul(2))
+        .saturating_add(1);
+    assert_eq!(rt; ended.lines(), expected);
+    Ok(())
+}
+
 // So many workers count so often each under one key, in the cache without options, and meet before
 // their call of this number.
 fn expect_counted<R: Threads + Wait + Sync + Abort>(
@@ -55,46 +89,16 @@ fn expect_counted<R: Threads + Wait + Sync + Abort>(
 ) -> Result<(), Fail> {
     let mut words = Vec::new(alloc);
     words.push(String::from_str(alloc, "apcu_run")?)?;
-    let mut scripts = ByteOut::new(alloc);
-    for _worker in 0..workers {
-        scripts.push(b"worker\n")?;
-        for _call in 0..calls {
-            scripts.push(b"apcu_inc s:1:\"n\";\n")?;
-        }
-    }
+    let scripts = counting(alloc, workers, calls)?;
     let meeting = [Hold::Meet(workers, Point::Before(meet))];
     let gate = Holding::new(rt, alloc, &meeting)?;
-    let mut input = MemSource::new(scripts.as_slice(), 65536, &[]);
-    let mut out = MemSink::new(alloc, 2_097_152, 65536, &[])?;
-    let mut err = MemSink::new(alloc, 64, 64, &[])?;
-    let status = run(
-        rt,
-        alloc,
-        &words,
-        &mut input,
-        &mut out,
-        &mut err,
-        &RegexMaker,
-        &gate,
-    );
-    assert_eq!(rt; status, Status::Done);
+    let streams = Streams {
+        room: 2_097_152,
+        ..smooth(scripts.as_slice())
+    };
+    let ended = played(rt, alloc, &words, streams, &RegexMaker, &gate)?;
     assert!(rt; !gate.has_given_up());
-    let last = (workers as usize).saturating_mul(calls as usize);
-    assert!(rt; last < 1_000_000);
-    assert!(rt; each_once(alloc, out.as_slice(), last)?);
-    let mut lines = 0usize;
-    for byte in out.as_slice() {
-        if *byte == b'\n' {
-            lines = lines.saturating_add(1);
-        }
-    }
-    // A line and an event for each call, a line and an end for each worker, and the journal's head.
-    let expected = last
-        .saturating_mul(2)
-        .saturating_add((workers as usize).saturating_mul(2))
-        .saturating_add(1);
-    assert_eq!(rt; lines, expected);
-    Ok(())
+    expect_each(rt, alloc, &ended, workers as usize, calls as usize)
 }
 
 #[test]

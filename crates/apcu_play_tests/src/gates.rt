@@ -45,12 +45,22 @@ impl Hold {
 
 // Holds workers, and notes who came to the points for which others wait. One that waits for too
 // long goes on, and that is noted too.
-#[derive(Drop)]
 pub(crate) struct Holding<'a, R: Wait> {
     rt: &'a R,
     holds: &'a [Hold],
     come: Mutex<Vec<Come>>,
     given_up: Mutex<bool>,
+}
+
+impl<R: Wait> Drop for Holding<'_, R> {
+    fn drop(self) {
+        let Holding {
+            rt: _,
+            holds: _,
+            come: _,
+            given_up: _,
+        } = self;
+    }
 }
 
 impl<'a, R: Wait> Holding<'a, R> {

@@ -2,7 +2,7 @@
 
 use apcu_iter::{Maker, RegexMaker};
 use apcu_play::{Status, run};
-use io_edges::{MemSink, MemSource, NoGate};
+use io_edges::{Gate, MemSink, MemSource, NoGate};
 use notation::ByteOut;
 use std::alloc::Global;
 use std::process::Abort;
@@ -63,6 +63,84 @@ pub(crate) fn words_of(alloc: Global, values: [&'static str; 3]) -> Result<Vec<S
     Ok(words)
 }
 
+// The streams of a run: the input, the most bytes of a read and of a write, the numbers from 0 of
+// the reads and writes that fail, and the bytes for which the output has room.
+#[derive(Clone, Copy)]
+pub(crate) struct Streams<'a> {
+    pub(crate) input: &'a [u8],
+    pub(crate) piece: usize,
+    pub(crate) fails: [&'a [u64]; 2],
+    pub(crate) room: usize,
+}
+
+// Streams without faults, of some pages.
+pub(crate) fn smooth(input: &[u8]) -> Streams<'_> {
+    Streams {
+        input,
+        piece: 4096,
+        fails: [[].as_slice(), [].as_slice()],
+        room: 16_384,
+    }
+}
+
+// How a run ended, what it printed and what it told.
+pub(crate) struct Ended<'a> {
+    pub(crate) status: Status,
+    out: MemSink<'a>,
+    err: MemSink<'a>,
+}
+
+impl Drop for Ended<'_> {
+    fn drop(self) {
+        let Ended {
+            status: _,
+            out: _,
+            err: _,
+        } = self;
+    }
+}
+
+impl Ended<'_> {
+    pub(crate) fn printed(&self) -> &[u8] {
+        self.out.as_slice()
+    }
+
+    pub(crate) fn told(&self) -> &[u8] {
+        self.err.as_slice()
+    }
+
+    // The line feeds among what was printed.
+    pub(crate) fn lines(&self) -> usize {
+        let mut lines = 0usize;
+        for byte in self.printed() {
+            if *byte == b'\n' {
+                lines = lines.saturating_add(1);
+            }
+        }
+        lines
+    }
+}
+
+// A run on these streams. It is the one place at which `run` is called: what a call of it keeps
+// until the end of a body makes the proof of that body long.
+pub(crate) fn played<'a, R: Threads + Wait + Sync + Abort, M: Maker + Sync, G: Gate + Sync>(
+    rt: &R,
+    alloc: Global,
+    words: &[String],
+    streams: Streams<'a>,
+    maker: &M,
+    gate: &G,
+) -> Result<Ended<'a>, Fail> {
+    assert!(rt; streams.piece > 0);
+    let mut input = MemSource::new(streams.input, streams.piece, streams.fails[0]);
+    let mut out = MemSink::new(alloc, streams.room, streams.piece, streams.fails[1])?;
+    let mut err = MemSink::new(alloc, 64, 64, &[])?;
+    let status = run(
+        rt, alloc, words, &mut input, &mut out, &mut err, maker, gate,
+    );
+    Ok(Ended { status, out, err })
+}
+
 pub(crate) fn expect<R: Threads + Wait + Sync + Abort>(
     rt: &R,
     alloc: Global,
@@ -90,16 +168,16 @@ pub(crate) fn expect_by<R: Threads + Wait + Sync + Abort, M: Maker + Sync>(
     maker: &M,
     case: Run<'_>,
 ) -> Result<(), Fail> {
-    assert!(rt; case.piece > 0);
-    let mut input = MemSource::new(case.input, case.piece, case.fails[0]);
-    let mut out = MemSink::new(alloc, 16384, case.piece, case.fails[1])?;
-    let mut err = MemSink::new(alloc, 64, 64, &[])?;
-    let status = run(
-        rt, alloc, words, &mut input, &mut out, &mut err, maker, &NoGate,
-    );
-    assert_eq!(rt; status, case.status);
-    assert_eq!(rt; out.as_slice(), case.printed);
-    assert_eq!(rt; err.as_slice(), case.told);
+    let streams = Streams {
+        input: case.input,
+        piece: case.piece,
+        fails: case.fails,
+        room: 16_384,
+    };
+    let ended = played(rt, alloc, words, streams, maker, &NoGate)?;
+    assert_eq!(rt; ended.status, case.status);
+    assert_eq!(rt; ended.printed(), case.printed);
+    assert_eq!(rt; ended.told(), case.told);
     Ok(())
 }
 

@@ -1,9 +1,8 @@
 //! A script of this cache in `docs/DIFFERENCES.md`, and what it prints there.
 
-use crate::runs::words_of;
+use crate::runs::{played, smooth, words_of};
 use apcu_iter::RegexMaker;
-use apcu_play::run;
-use io_edges::{MemSink, MemSource, NoGate};
+use io_edges::NoGate;
 use std::alloc::Global;
 use std::process::Abort;
 use std::sync::Wait;
@@ -42,25 +41,13 @@ fn expect_one<R: Threads + Wait + Sync + Abort>(
     case: Shown,
 ) -> Result<(), Fail> {
     let words = words_of(alloc, case.options)?;
-    let mut input = MemSource::new(case.script, 64, &[]);
-    let mut out = MemSink::new(alloc, 4096, 64, &[])?;
-    let mut err = MemSink::new(alloc, 64, 64, &[])?;
-    let _status = run(
-        rt,
-        alloc,
-        &words,
-        &mut input,
-        &mut out,
-        &mut err,
-        &RegexMaker,
-        &NoGate,
-    );
-    if err.as_slice().is_empty() {
-        let rest = out.as_slice().strip_prefix(case.shown).unwrap_or(&[]);
+    let ended = played(rt, alloc, &words, smooth(case.script), &RegexMaker, &NoGate)?;
+    if ended.told().is_empty() {
+        let rest = ended.printed().strip_prefix(case.shown).unwrap_or(&[]);
         assert!(rt; rest.starts_with(b"journal\n"));
     } else {
-        assert_eq!(rt; err.as_slice(), case.shown);
-        assert!(rt; out.as_slice().is_empty());
+        assert_eq!(rt; ended.told(), case.shown);
+        assert!(rt; ended.printed().is_empty());
     }
     Ok(())
 }

@@ -4,11 +4,11 @@ use crate::gates::Hold::{self, Until};
 use crate::gates::Holding;
 use crate::pieces::Piece::{self, Text, Zs};
 use crate::pieces::spelled;
-use crate::runs::{LARGER, SMALL, words_of};
+use crate::runs::{LARGER, SMALL, played, smooth, words_of};
 use apcu_iter::RegexMaker;
-use apcu_play::{Status, run};
+use apcu_play::Status;
+use io_edges::NoGate;
 use io_edges::Point::{After, Before, Chunk, Pinned};
-use io_edges::{MemSink, MemSource, NoGate};
 use notation::ByteOut;
 use std::alloc::Global;
 use std::process::Abort;
@@ -25,6 +25,13 @@ struct Held {
     printed: &'static [Piece],
 }
 
+// Whether these pieces are printed, and behind them the ends of both workers.
+fn ends_after(alloc: Global, pieces: &[Piece], printed: &[u8]) -> Result<bool, Fail> {
+    let wanted = spelled(alloc, pieces)?;
+    let ends = printed.strip_prefix(wanted.as_slice()).unwrap_or(&[]);
+    Ok(ends == b"0\n1\n".as_slice() || ends == b"1\n0\n".as_slice())
+}
+
 fn expect_held<R: Threads + Wait + Sync + Abort>(
     rt: &R,
     alloc: Global,
@@ -33,26 +40,17 @@ fn expect_held<R: Threads + Wait + Sync + Abort>(
     let words = words_of(alloc, SMALL)?;
     let scripts = spelled(alloc, case.scripts)?;
     let gate = Holding::new(rt, alloc, case.holds)?;
-    let mut input = MemSource::new(scripts.as_slice(), 4096, &[]);
-    let mut out = MemSink::new(alloc, 16384, 4096, &[])?;
-    let mut err = MemSink::new(alloc, 64, 64, &[])?;
-    let status = run(
+    let ended = played(
         rt,
         alloc,
         &words,
-        &mut input,
-        &mut out,
-        &mut err,
+        smooth(scripts.as_slice()),
         &RegexMaker,
         &gate,
-    );
-    assert_eq!(rt; status, Status::Done);
+    )?;
+    assert_eq!(rt; ended.status, Status::Done);
     assert!(rt; !gate.has_given_up());
-    let mut first = spelled(alloc, case.printed)?;
-    first.push(b"0\n1\n")?;
-    let mut other = spelled(alloc, case.printed)?;
-    other.push(b"1\n0\n")?;
-    assert!(rt; out.as_slice() == first.as_slice() || out.as_slice() == other.as_slice());
+    assert!(rt; ends_after(alloc, case.printed, ended.printed())?);
     Ok(())
 }
 
@@ -301,30 +299,18 @@ fn as_many_workers_as_may_be(rt: HostRuntime) -> Result<(), Fail> {
     for _worker in 0..64 {
         scripts.push(b"worker\napcu_store s:1:\"a\"; s:3:\"abc\";\napcu_fetch s:1:\"a\";\n")?;
     }
-    let mut input = MemSource::new(scripts.as_slice(), 4096, &[]);
-    let mut out = MemSink::new(alloc, 16384, 4096, &[])?;
-    let mut err = MemSink::new(alloc, 64, 64, &[])?;
-    let status = run(
+    let ended = played(
         &rt,
         alloc,
         &words,
-        &mut input,
-        &mut out,
-        &mut err,
+        smooth(scripts.as_slice()),
         &RegexMaker,
         &NoGate,
-    );
-    assert_eq!(rt; status, Status::Done);
-    let first = b"worker 0\nb:1;\ns:3:\"abc\";b:1;\nworker 1\nb:1;\ns:3:\"abc\";b:1;\n".as_slice();
-    assert!(rt; out.as_slice().len() > first.len());
-    assert_eq!(rt; &out.as_slice()[..first.len()], first);
-    let mut lines = 0u32;
-    for byte in out.as_slice() {
-        if *byte == b'\n' {
-            lines = lines.saturating_add(1);
-        }
-    }
+    )?;
+    assert_eq!(rt; ended.status, Status::Done);
+    let first = b"worker 0\nb:1;\ns:3:\"abc\";b:1;\nworker 1\nb:1;\ns:3:\"abc\";b:1;\n";
+    assert!(rt; ended.printed().starts_with(first));
     // Three lines for each worker, one for the journal, and three events of each.
-    assert_eq!(rt; lines, 385);
+    assert_eq!(rt; ended.lines(), 385);
     Ok(())
 }

@@ -122,12 +122,9 @@ fn marks_of(alloc: Global, journal: &Journal) -> Result<Vec<(u32, u64)>, Fail> {
     Ok(marks)
 }
 
-// While the first worker has the block of its value pinned, the second one deletes the key and
-// stores another value under it. The first one still copies what it found, and finds the other
-// value later.
-#[test]
-fn copies_what_is_deleted_meanwhile(rt: HostRuntime) -> Result<(), Fail> {
-    let alloc = rt.alloc();
+// The first worker stores a value, fetches it and looks on; the second one deletes the key and stores
+// another value under it.
+fn scripts_of_both(alloc: Global) -> Result<(Script, Script), Fail> {
     let first = script_of(
         alloc,
         b"worker\n\
@@ -142,18 +139,12 @@ fn copies_what_is_deleted_meanwhile(rt: HostRuntime) -> Result<(), Fail> {
         apcu_delete s:1:\"a\";\n\
         apcu_store a:2:{s:1:\"a\";s:3:\"new\";s:1:\"b\";i:7;} N;\n",
     )?;
-    let gate = Noting::new(&rt, alloc, 64)?;
-    let Ok(fresh) = open_cache(&rt, alloc, &CONF, &[6, 4]) else {
-        return Err(Fail::new("open_cache"));
-    };
-    let played = plays_both::<Brand, _, _>(&rt, alloc, fresh, &(first, second), &gate);
-    let Some((closed, printed, other)) = played else {
-        return Err(Fail::new("too few events"));
-    };
-    let wanted = b"b:1;\ns:3:\"old\";b:1;\na:2:{s:1:\"a\";b:1;s:1:\"b\";b:1;}\ni:7;b:1;\n";
-    expect_printed(&rt, printed, wanted)?;
-    expect_printed(&rt, other, b"b:1;\na:0:{}\n")?;
-    let marks = marks_of(alloc, &closed.journal)?;
+    Ok((first, second))
+}
+
+// The three events of the second worker met the first one.
+fn expect_marks(rt: &impl Abort, alloc: Global, journal: &Journal) -> Result<(), Fail> {
+    let marks = marks_of(alloc, journal)?;
     let met_first = 1;
     assert_eq!(rt;
         marks.as_slice(),
@@ -171,7 +162,11 @@ fn copies_what_is_deleted_meanwhile(rt: HostRuntime) -> Result<(), Fail> {
         ]
         .as_slice()
     );
-    let points = gate.into_points();
+    Ok(())
+}
+
+// The points of the first worker, and those of the second one.
+fn expect_points(rt: &impl Abort, alloc: Global, points: &[(u32, Point)]) -> Result<(), Fail> {
     use Point::{After, Before, Pinned};
     for (worker, own) in [
         (
@@ -191,10 +186,32 @@ fn copies_what_is_deleted_meanwhile(rt: HostRuntime) -> Result<(), Fail> {
         ),
         (1, &[Before(0), After(0), Before(1), After(1)]),
     ] {
-        let noted = points_of(alloc, &points, worker)?;
+        let noted = points_of(alloc, points, worker)?;
         assert_eq!(rt; noted.as_slice(), own);
     }
     Ok(())
+}
+
+// While the first worker has the block of its value pinned, the second one deletes the key and
+// stores another value under it. The first one still copies what it found, and finds the other
+// value later.
+#[test]
+fn copies_what_is_deleted_meanwhile(rt: HostRuntime) -> Result<(), Fail> {
+    let alloc = rt.alloc();
+    let scripts = scripts_of_both(alloc)?;
+    let gate = Noting::new(&rt, alloc, 64)?;
+    let Ok(fresh) = open_cache(&rt, alloc, &CONF, &[6, 4]) else {
+        return Err(Fail::new("open_cache"));
+    };
+    let played = plays_both::<Brand, _, _>(&rt, alloc, fresh, &scripts, &gate);
+    let Some((closed, printed, other)) = played else {
+        return Err(Fail::new("too few events"));
+    };
+    let wanted = b"b:1;\ns:3:\"old\";b:1;\na:2:{s:1:\"a\";b:1;s:1:\"b\";b:1;}\ni:7;b:1;\n";
+    expect_printed(&rt, printed, wanted)?;
+    expect_printed(&rt, other, b"b:1;\na:0:{}\n")?;
+    expect_marks(&rt, alloc, &closed.journal)?;
+    expect_points(&rt, alloc, &gate.into_points())
 }
 
 fn expect_printed<R: Abort>(
