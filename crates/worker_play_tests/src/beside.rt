@@ -122,7 +122,7 @@ fn marks_of(alloc: Global, journal: &Journal) -> Result<Vec<(u32, u64)>, Fail> {
     Ok(marks)
 }
 
-// The first worker stores a value, fetches it and looks on; the second one deletes the key and stores
+// The first worker stores a value and fetches it; the second one deletes the key and stores
 // another value under it.
 fn scripts_of_both(alloc: Global) -> Result<(Script, Script), Fail> {
     let first = script_of(
