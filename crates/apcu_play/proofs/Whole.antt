@@ -12,7 +12,9 @@ use Rattle.std.specs.Io.KnownBytes.{prepend_known, IsAtEnd}
 use Rattle.script_read.specs.Ties.{ScriptsAreOne}
 use Rattle.crew_play.specs.Budgets.{all_events, most_events}
 use Rattle.crew_play.specs.Searching.{SomeRefusable}
-use Rattle.apcu_play.specs.Run.{longest_input, WasRead, AnswersInput, Replays, ReplaysPart, IsRefused, IsCrowded, IsUnsearchable, IsUnlessMemory, Completes}
+use Rattle.notation.specs.declared.fault.Reason.{Reason}
+use Rattle.apcu_play.specs.Message.{script_message}
+use Rattle.apcu_play.specs.Run.{longest_input, WasRead, AnswersInput, Replays, ReplaysPart, IsRefusedAt, IsRefused, IsCrowded, IsUnsearchable, TellsMessage, TellsRefusal, IsUnlessMemory, Completes}
 
 all_read : (left input : List ℕ) (after : Option (List ℕ)) → Some left ≡ prepend_known input after → IsAtEnd after → left ≡ input
 all_read left input None taken end = absurd cc
@@ -160,3 +162,10 @@ completes_if one may_refuse (Some conf) before after held_before held_after read
   where
     some_is_not_none : Some conf ≡ None → ⊥
     some_is_not_none e = cc
+
+-- a script's fault was told
+pub told_refusal : (status : Status) (place : ℕ) (reason : Reason) (before after held_before held_after : Option (List ℕ)) (faults_before faults_after : ℕ)
+    → (status ≡ Script → IsRefusedAt before after place reason)
+    → (status ≡ Script → TellsMessage (script_message place reason) held_before held_after faults_before faults_after)
+    → status ≡ Script → TellsRefusal before after held_before held_after faults_before faults_after
+told_refusal status place reason before after held_before held_after faults_before faults_after refused told is = record { place = place; reason = reason; refused = refused is; told = told is }
