@@ -5,16 +5,35 @@ use crate::draws::{Draw, Kinds};
 use crate::pair::Pair;
 use crate::values::{Value, key};
 use notation::ByteOut;
+use std::alloc::Global;
 use std::process::Abort;
 use std::test::Fail;
 
-// The calls in turn at their times, with what both answer.
-fn play(rt: &impl Abort, pair: &mut Pair, rows: &[(u64, &[u8], Call, Answer)]) -> Result<(), Fail> {
+// A call at its time under a key, with what both answer.
+type Row<'a> = (u64, &'a [u8], Call, Answer);
+
+fn play(rt: &impl Abort, pair: &mut Pair, rows: &[Row<'_>]) -> Result<(), Fail> {
     for (t, key, call, wanted) in rows {
         let answer = pair.ask(rt, key, *call, *t)?;
         assert_eq!(rt; answer, *wanted);
     }
     Ok(())
+}
+
+// What is told: of a key at a moment, of the cache, or of the segment; the flag is for less of it.
+#[derive(Clone, Copy)]
+enum Told {
+    Key(&'static [u8], u64),
+    Cache(bool),
+    Segment(bool),
+}
+
+fn tell(rt: &impl Abort, pair: &mut Pair, what: Told) -> Result<ByteOut, Fail> {
+    match what {
+        Told::Key(key, t) => pair.key(rt, key, t),
+        Told::Cache(limited) => pair.cache(rt, limited),
+        Told::Segment(limited) => pair.segment(rt, limited),
+    }
 }
 
 // The text is these parts, one after the other.
@@ -30,138 +49,192 @@ fn reads(rt: &impl Abort, told: &ByteOut, parts: &[&str]) {
     assert!(rt; left.is_empty());
 }
 
+// A text that is told, in parts.
+type Text = (Told, &'static [&'static str]);
+
+fn tell_all(rt: &impl Abort, pair: &mut Pair, texts: &[Text]) -> Result<(), Fail> {
+    for (what, parts) in texts {
+        let told = tell(rt, pair, *what)?;
+        reads(rt, &told, parts);
+    }
+    Ok(())
+}
+
+// What both tell after these calls, in new caches of 512 words.
+fn told_after(
+    rt: &impl Abort,
+    alloc: Global,
+    rows: &[Row<'_>],
+    texts: &[Text],
+) -> Result<(), Fail> {
+    let mut pair = Pair::new(alloc, 512, 0)?;
+    play(rt, &mut pair, rows)?;
+    tell_all(rt, &mut pair, texts)
+}
+
+// The same where this limit is set, and the one call is made under each key from one number to
+// another, and then the next one.
+fn told_after_each(
+    rt: &impl Abort,
+    alloc: Global,
+    limit: u32,
+    each: &[((u8, u8), (u64, Call, Answer))],
+    texts: &[Text],
+) -> Result<(), Fail> {
+    let mut pair = Pair::new(alloc, 512, limit)?;
+    for (names, row) in each {
+        pair.each(rt, *names, *row)?;
+    }
+    tell_all(rt, &mut pair, texts)
+}
+
 // A row that was fetched, and a key without a row; a row whose time is over is not told.
 #[test]
 fn tells_of_a_key(rt: HostRuntime) -> Result<(), Fail> {
-    let mut pair = Pair::new(rt.alloc(), 512, 0)?;
-    let rows = [
-        (100, b"a".as_slice(), put(ONE, 10), YES),
-        (105, b"a", FETCH, number(1)),
+    const TEXTS: &[Text] = &[
+        (
+            Told::Key(b"a", 110),
+            &[
+                "a:6:{s:4:\"hits\";i:1;s:11:\"access_time\";i:105;s:5:\"mtime\";i:100;",
+                "s:13:\"creation_time\";i:100;s:13:\"deletion_time\";i:0;s:3:\"ttl\";i:10;}",
+            ],
+        ),
+        (Told::Key(b"x", 105), &["N;"]),
+        (Told::Key(b"a", 111), &["N;"]),
     ];
-    play(&rt, &mut pair, &rows)?;
-    let fresh = pair.key(&rt, b"a", 110)?;
-    reads(
+    told_after(
         &rt,
-        &fresh,
+        rt.alloc(),
         &[
-            "a:6:{s:4:\"hits\";i:1;s:11:\"access_time\";i:105;s:5:\"mtime\";i:100;",
-            "s:13:\"creation_time\";i:100;s:13:\"deletion_time\";i:0;s:3:\"ttl\";i:10;}",
+            (100, b"a", put(ONE, 10), YES),
+            (105, b"a", FETCH, number(1)),
         ],
-    );
-    let absent = pair.key(&rt, b"x", 105)?;
-    reads(&rt, &absent, &["N;"]);
-    let over = pair.key(&rt, b"a", 111)?;
-    reads(&rt, &over, &["N;"]);
-    Ok(())
+        TEXTS,
+    )
 }
 
 // Thirty rows fill the segment, and one more needs all of them to go.
 #[test]
 fn tells_of_a_cache_after_an_expunge(rt: HostRuntime) -> Result<(), Fail> {
-    let mut pair = Pair::new(rt.alloc(), 512, 0)?;
-    pair.each(&rt, (1, 31), (100, put(ONE, 0), YES))?;
-    let cache = pair.cache(&rt, true)?;
-    reads(
+    const TEXTS: &[Text] = &[
+        (
+            Told::Cache(true),
+            &[
+                "a:8:{s:9:\"num_slots\";i:32;s:3:\"ttl\";i:0;s:8:\"num_hits\";i:0;",
+                "s:10:\"num_misses\";i:0;s:11:\"num_inserts\";i:1;s:11:\"num_entries\";i:1;",
+                "s:8:\"expunges\";i:1;s:8:\"mem_size\";i:128;}",
+            ],
+        ),
+        (
+            Told::Segment(false),
+            &[
+                "a:4:{s:7:\"num_seg\";i:1;s:8:\"seg_size\";i:4096;s:9:\"avail_mem\";i:3712;",
+                "s:11:\"block_lists\";a:1:{i:0;a:1:{i:0;a:2:{s:4:\"size\";i:3712;",
+                "s:6:\"offset\";i:384;}}}}",
+            ],
+        ),
+    ];
+    told_after_each(
         &rt,
-        &cache,
-        &[
-            "a:8:{s:9:\"num_slots\";i:32;s:3:\"ttl\";i:0;s:8:\"num_hits\";i:0;",
-            "s:10:\"num_misses\";i:0;s:11:\"num_inserts\";i:1;s:11:\"num_entries\";i:1;",
-            "s:8:\"expunges\";i:1;s:8:\"mem_size\";i:128;}",
-        ],
-    );
-    let segment = pair.segment(&rt, false)?;
-    reads(
-        &rt,
-        &segment,
-        &[
-            "a:4:{s:7:\"num_seg\";i:1;s:8:\"seg_size\";i:4096;s:9:\"avail_mem\";i:3712;",
-            "s:11:\"block_lists\";a:1:{i:0;a:1:{i:0;a:2:{s:4:\"size\";i:3712;",
-            "s:6:\"offset\";i:384;}}}}",
-        ],
-    );
-    Ok(())
+        rt.alloc(),
+        0,
+        &[((1, 31), (100, put(ONE, 0), YES))],
+        TEXTS,
+    )
 }
 
 // Where one row's time is over, it goes alone; the segment is full again.
 #[test]
 fn tells_of_a_cache_without_an_expunge(rt: HostRuntime) -> Result<(), Fail> {
-    let mut pair = Pair::new(rt.alloc(), 512, 10)?;
-    pair.each(&rt, (1, 1), (100, put(ONE, 5), YES))?;
-    pair.each(&rt, (2, 30), (100, put(ONE, 0), YES))?;
-    pair.each(&rt, (31, 31), (106, put(ONE, 0), YES))?;
-    let cache = pair.cache(&rt, true)?;
-    reads(
+    const TEXTS: &[Text] = &[
+        (
+            Told::Cache(true),
+            &[
+                "a:8:{s:9:\"num_slots\";i:32;s:3:\"ttl\";i:10;s:8:\"num_hits\";i:0;",
+                "s:10:\"num_misses\";i:0;s:11:\"num_inserts\";i:31;s:11:\"num_entries\";i:30;",
+                "s:8:\"expunges\";i:0;s:8:\"mem_size\";i:3840;}",
+            ],
+        ),
+        (
+            Told::Segment(false),
+            &[
+                "a:4:{s:7:\"num_seg\";i:1;s:8:\"seg_size\";i:4096;s:9:\"avail_mem\";i:0;",
+                "s:11:\"block_lists\";a:1:{i:0;a:0:{}}}",
+            ],
+        ),
+    ];
+    told_after_each(
         &rt,
-        &cache,
+        rt.alloc(),
+        10,
         &[
-            "a:8:{s:9:\"num_slots\";i:32;s:3:\"ttl\";i:10;s:8:\"num_hits\";i:0;",
-            "s:10:\"num_misses\";i:0;s:11:\"num_inserts\";i:31;s:11:\"num_entries\";i:30;",
-            "s:8:\"expunges\";i:0;s:8:\"mem_size\";i:3840;}",
+            ((1, 1), (100, put(ONE, 5), YES)),
+            ((2, 30), (100, put(ONE, 0), YES)),
+            ((31, 31), (106, put(ONE, 0), YES)),
         ],
-    );
-    let segment = pair.segment(&rt, false)?;
-    reads(
-        &rt,
-        &segment,
-        &[
-            "a:4:{s:7:\"num_seg\";i:1;s:8:\"seg_size\";i:4096;s:9:\"avail_mem\";i:0;",
-            "s:11:\"block_lists\";a:1:{i:0;a:0:{}}}",
-        ],
-    );
-    Ok(())
+        TEXTS,
+    )
 }
 
 // Rows come by slot and place, those whose time is over too; gaps by rising place.
 #[test]
 fn lists_rows_and_gaps(rt: HostRuntime) -> Result<(), Fail> {
-    let mut pair = Pair::new(rt.alloc(), 512, 0)?;
-    let rows = [
-        (100, b"b".as_slice(), put(ONE, 0), YES),
-        (100, b"c", put(ONE, 0), YES),
-        (101, b"a", put(ONE, 5), YES),
-        (102, b"A", put(Value::Text(9), 0), YES),
-        (103, b"c", DELETE, YES),
-        (107, b"a", FETCH, NONE),
+    const TEXTS: &[Text] = &[
+        (
+            Told::Cache(false),
+            &[
+                "a:10:{s:9:\"num_slots\";i:32;s:3:\"ttl\";i:0;s:8:\"num_hits\";i:0;",
+                "s:10:\"num_misses\";i:1;s:11:\"num_inserts\";i:4;s:11:\"num_entries\";i:3;",
+                "s:8:\"expunges\";i:0;s:8:\"mem_size\";i:384;s:10:\"cache_list\";a:3:{i:0;a:8:{",
+                "s:4:\"info\";s:1:\"a\";s:3:\"ttl\";i:5;s:8:\"num_hits\";i:0;s:5:\"mtime\";i:101;",
+                "s:13:\"creation_time\";i:101;s:13:\"deletion_time\";i:0;",
+                "s:11:\"access_time\";i:101;s:8:\"mem_size\";i:128;}i:1;a:8:{",
+                "s:4:\"info\";s:1:\"A\";s:3:\"ttl\";i:0;s:8:\"num_hits\";i:0;s:5:\"mtime\";i:102;",
+                "s:13:\"creation_time\";i:102;s:13:\"deletion_time\";i:0;",
+                "s:11:\"access_time\";i:102;s:8:\"mem_size\";i:128;}i:2;a:8:{",
+                "s:4:\"info\";s:1:\"b\";s:3:\"ttl\";i:0;s:8:\"num_hits\";i:0;s:5:\"mtime\";i:100;",
+                "s:13:\"creation_time\";i:100;s:13:\"deletion_time\";i:0;",
+                "s:11:\"access_time\";i:100;s:8:\"mem_size\";i:128;}}s:12:\"deleted_list\";a:0:{",
+                "}}",
+            ],
+        ),
+        (
+            Told::Segment(false),
+            &[
+                "a:4:{s:7:\"num_seg\";i:1;s:8:\"seg_size\";i:4096;s:9:\"avail_mem\";i:3456;",
+                "s:11:\"block_lists\";a:1:{i:0;a:2:{i:0;a:2:{s:4:\"size\";i:128;",
+                "s:6:\"offset\";i:384;}i:1;a:2:{s:4:\"size\";i:3328;s:6:\"offset\";i:768;}}}}",
+            ],
+        ),
+        (
+            Told::Segment(true),
+            &["a:3:{s:7:\"num_seg\";i:1;s:8:\"seg_size\";i:4096;s:9:\"avail_mem\";i:3456;}"],
+        ),
     ];
-    play(&rt, &mut pair, &rows)?;
-    let cache = pair.cache(&rt, false)?;
-    reads(
+    told_after(
         &rt,
-        &cache,
+        rt.alloc(),
         &[
-            "a:10:{s:9:\"num_slots\";i:32;s:3:\"ttl\";i:0;s:8:\"num_hits\";i:0;",
-            "s:10:\"num_misses\";i:1;s:11:\"num_inserts\";i:4;s:11:\"num_entries\";i:3;",
-            "s:8:\"expunges\";i:0;s:8:\"mem_size\";i:384;s:10:\"cache_list\";a:3:{i:0;a:8:{",
-            "s:4:\"info\";s:1:\"a\";s:3:\"ttl\";i:5;s:8:\"num_hits\";i:0;s:5:\"mtime\";i:101;",
-            "s:13:\"creation_time\";i:101;s:13:\"deletion_time\";i:0;",
-            "s:11:\"access_time\";i:101;s:8:\"mem_size\";i:128;}i:1;a:8:{",
-            "s:4:\"info\";s:1:\"A\";s:3:\"ttl\";i:0;s:8:\"num_hits\";i:0;s:5:\"mtime\";i:102;",
-            "s:13:\"creation_time\";i:102;s:13:\"deletion_time\";i:0;",
-            "s:11:\"access_time\";i:102;s:8:\"mem_size\";i:128;}i:2;a:8:{",
-            "s:4:\"info\";s:1:\"b\";s:3:\"ttl\";i:0;s:8:\"num_hits\";i:0;s:5:\"mtime\";i:100;",
-            "s:13:\"creation_time\";i:100;s:13:\"deletion_time\";i:0;",
-            "s:11:\"access_time\";i:100;s:8:\"mem_size\";i:128;}}s:12:\"deleted_list\";a:0:{",
-            "}}",
+            (100, b"b", put(ONE, 0), YES),
+            (100, b"c", put(ONE, 0), YES),
+            (101, b"a", put(ONE, 5), YES),
+            (102, b"A", put(Value::Text(9), 0), YES),
+            (103, b"c", DELETE, YES),
+            (107, b"a", FETCH, NONE),
         ],
-    );
-    let segment = pair.segment(&rt, false)?;
-    reads(
-        &rt,
-        &segment,
-        &[
-            "a:4:{s:7:\"num_seg\";i:1;s:8:\"seg_size\";i:4096;s:9:\"avail_mem\";i:3456;",
-            "s:11:\"block_lists\";a:1:{i:0;a:2:{i:0;a:2:{s:4:\"size\";i:128;",
-            "s:6:\"offset\";i:384;}i:1;a:2:{s:4:\"size\";i:3328;s:6:\"offset\";i:768;}}}}",
-        ],
-    );
-    let limited = pair.segment(&rt, true)?;
-    reads(
-        &rt,
-        &limited,
-        &["a:3:{s:7:\"num_seg\";i:1;s:8:\"seg_size\";i:4096;s:9:\"avail_mem\";i:3456;}"],
-    );
-    Ok(())
+        TEXTS,
+    )
+}
+
+// Something is told by both, as the draw has it.
+fn tell_drawn(rt: &impl Abort, pair: &mut Pair, draw: Draw, name: u8) -> Result<ByteOut, Fail> {
+    match (draw.bits >> 40) % 8 {
+        0 => pair.key(rt, &key(name), draw.t),
+        1 => pair.cache(rt, false),
+        2 => pair.segment(rt, false),
+        3 => pair.cache(rt, true),
+        _ => pair.key(rt, &key(1), draw.t),
+    }
 }
 
 // The plain cache is the judge of what is told between calls as they come.
@@ -174,13 +247,7 @@ fn tells_as_the_plain_cache(rt: HostRuntime) -> Result<(), Fail> {
         let name = draw.name(Kinds::All);
         let call = draw.call(Kinds::All, name);
         pair.ask(&rt, &key(name), call, draw.t)?;
-        match (draw.bits >> 40) % 8 {
-            0 => pair.key(&rt, &key(name), draw.t)?,
-            1 => pair.cache(&rt, false)?,
-            2 => pair.segment(&rt, false)?,
-            3 => pair.cache(&rt, true)?,
-            _ => pair.key(&rt, &key(1), draw.t)?,
-        };
+        let _told = tell_drawn(&rt, &mut pair, draw, name)?;
     }
     Ok(())
 }

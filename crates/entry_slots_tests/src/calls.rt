@@ -26,17 +26,8 @@ fn sets_and_uses(rt: HostRuntime) -> Result<(), Fail> {
     let Some(read) = set_and_use(&mut words, &small(), gaps, b"ab", &five, -1, 9) else {
         panic!(rt; "there is room");
     };
-    let head = read.head;
-    assert_eq!(rt;
-        (head.key_len, head.image, head.image_len, head.size),
-        (2, 45, 2, 16)
-    );
-    assert_eq!(rt;
-        (head.ctime, head.mtime, head.atime, head.dtime),
-        (0, 9, 9, 0)
-    );
-    assert_eq!(rt; (head.hits, head.ttl, head.number), (1, 0, 1));
-    assert_eq!(rt; (read.has_key, read.next), (true, 0));
+    assert_eq!(rt; numbers_of(&read), [2, 45, 2, 16, 0, 9, 9, 0, 1, 0, 1]);
+    assert!(rt; read.has_key && read.next == 0);
     assert_eq!(rt; words.into_words().get(46), Some(&u64::MAX));
     Ok(())
 }
@@ -47,6 +38,25 @@ struct Read {
     head: Head,
     has_key: bool,
     next: u32,
+}
+
+// The key's length, the image's place and length, and the block's size; when it was created,
+// changed, used and dropped; its hits, its ttl and its number.
+fn numbers_of(read: &Read) -> [u64; 11] {
+    let head = read.head;
+    [
+        u64::from(head.key_len),
+        u64::from(head.image),
+        u64::from(head.image_len),
+        u64::from(head.size),
+        head.ctime,
+        head.mtime,
+        head.atime,
+        head.dtime,
+        head.hits,
+        u64::from(head.ttl),
+        head.number,
+    ]
 }
 
 // In a cache made anew: stores a number under a key, sets it to n at the moment t, and uses it;
@@ -156,7 +166,8 @@ fn drops_a_slot(rt: HostRuntime) -> Result<(), Fail> {
     assert_eq!(rt; slots.words(), 512);
     assert!(rt; slots.slots() > 6);
     drop_slot(&mut slots, &mut words, 6, 7);
-    assert_eq!(rt; (slots.rows(), slots.first_removed()), (0, 32));
+    let left = [slots.rows(), slots.first_removed()];
+    assert_eq!(rt; left, [0, 32]);
     Ok(())
 }
 

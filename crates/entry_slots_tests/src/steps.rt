@@ -175,15 +175,17 @@ pub(crate) fn plays(
     let gaps = MaxRow::new(alloc, 128)?;
     let mut slots = EntrySlots::format(&mut words, &small(), gaps);
     assert_eq!(rt; play(&mut slots, &mut words, &one, steps), steps.len());
-    assert_eq!(rt;
-        (slots.rows(), slots.first_removed()),
-        (rows, first_removed)
-    );
-    let items = words.into_words();
-    for (place, word) in wanted.iter() {
-        assert_eq!(rt; items.get(*place), Some(word), "at {place}");
-    }
+    let left = [slots.rows(), slots.first_removed()];
+    assert_eq!(rt; left, [rows, first_removed]);
+    expect_words(rt, words.into_words().as_slice(), wanted);
     Ok(())
+}
+
+// At these places stand these words.
+fn expect_words(rt: &impl Abort, words: &[u64], wanted: &[(usize, u64)]) {
+    for (place, word) in wanted.iter() {
+        assert_eq!(rt; words.get(*place), Some(word), "at {place}");
+    }
 }
 
 // Three keys of one slot, the one in the middle replaced.

@@ -3,7 +3,7 @@
 use apcu_model::{Gen, GenKind, Keys, List, Pairs, Pattern};
 use notation::{Cursor, read_value};
 use php_graph::Graph;
-use script_read::{Call, read_scripts};
+use script_read::{Call, Script, Step, read_scripts};
 use std::alloc::Global;
 use std::process::Abort;
 use std::test::Fail;
@@ -103,6 +103,50 @@ fn is_search(expected: Search, search: &Option<Pattern>) -> bool {
     }
 }
 
+// Whether it is this iterator.
+fn is_iterator(expected: Asked, call: &Call) -> bool {
+    match (expected, call) {
+        (
+            Asked::Walk(s, f, n, l),
+            Call::Walk {
+                search,
+                fields,
+                size,
+                list,
+            },
+        ) => is_search(s, search) && fields.0 == f && *size == n && *list == l,
+        (Asked::WalkDelete(s, n), Call::WalkDelete { search, size }) => {
+            is_search(s, search) && *size == n
+        }
+        (Asked::Totals(s, l), Call::Totals { search, list }) => is_search(s, search) && *list == l,
+        _ => false,
+    }
+}
+
+// Whether it is this call, of those that hold no values.
+fn is_plain_call(expected: Asked, call: &Call) -> bool {
+    match (expected, call) {
+        (Asked::Fetch(k), Call::FetchOne(key))
+        | (Asked::Exists(k), Call::ExistsOne(key))
+        | (Asked::Delete(k), Call::DeleteOne(key))
+        | (Asked::KeyInfo(k), Call::KeyInfo(key)) => key.as_slice() == k,
+        (Asked::FetchMany(ks), Call::FetchMany(keys))
+        | (Asked::ExistsMany(ks), Call::ExistsMany(keys))
+        | (Asked::DeleteMany(ks), Call::DeleteMany(keys)) => are_keys(ks, keys),
+        (Asked::Inc(k, n, t), Call::Inc { key, step, ttl }) => {
+            key.as_slice() == k && *step == n && *ttl == t
+        }
+        (Asked::Cas(k, e, s), Call::Cas { key, expect, set }) => {
+            key.as_slice() == k && *expect == e && *set == s
+        }
+        (Asked::Clear, Call::Clear) | (Asked::Enabled, Call::Enabled) => true,
+        (Asked::CacheInfo(l), Call::CacheInfo(limited))
+        | (Asked::SmaInfo(l), Call::SmaInfo(limited)) => *limited == l,
+        _ => is_iterator(expected, call),
+    }
+}
+
+// Whether it is this call.
 fn is_call(alloc: Global, expected: Asked, call: &Call) -> Result<bool, Fail> {
     match (expected, call) {
         (
@@ -122,46 +166,38 @@ fn is_call(alloc: Global, expected: Asked, call: &Call) -> Result<bool, Fail> {
                 exclusive,
             },
         ) => Ok(*ttl == t && *exclusive == x && are_pairs(alloc, ps, pairs)?),
-        (Asked::Fetch(k), Call::FetchOne(key))
-        | (Asked::Exists(k), Call::ExistsOne(key))
-        | (Asked::Delete(k), Call::DeleteOne(key)) => Ok(key.as_slice() == k),
-        (Asked::FetchMany(ks), Call::FetchMany(keys))
-        | (Asked::ExistsMany(ks), Call::ExistsMany(keys))
-        | (Asked::DeleteMany(ks), Call::DeleteMany(keys)) => Ok(are_keys(ks, keys)),
-        (Asked::Inc(k, n, t), Call::Inc { key, step, ttl }) => {
-            Ok(key.as_slice() == k && *step == n && *ttl == t)
-        }
-        (Asked::Cas(k, e, s), Call::Cas { key, expect, set }) => {
-            Ok(key.as_slice() == k && *expect == e && *set == s)
-        }
         (Asked::Entry(levels, literal), Call::Entry(generator)) => {
             is_generator(alloc, levels, literal, generator)
         }
-        (Asked::Clear, Call::Clear) | (Asked::Enabled, Call::Enabled) => Ok(true),
-        (Asked::KeyInfo(k), Call::KeyInfo(key)) => Ok(key.as_slice() == k),
-        (Asked::CacheInfo(l), Call::CacheInfo(limited))
-        | (Asked::SmaInfo(l), Call::SmaInfo(limited)) => Ok(*limited == l),
-        (
-            Asked::Walk(s, f, n, l),
-            Call::Walk {
-                search,
-                fields,
-                size,
-                list,
-            },
-        ) => Ok(is_search(s, search) && fields.0 == f && *size == n && *list == l),
-        (Asked::WalkDelete(s, n), Call::WalkDelete { search, size }) => {
-            Ok(is_search(s, search) && *size == n)
-        }
-        (Asked::Totals(s, l), Call::Totals { search, list }) => {
-            Ok(is_search(s, search) && *list == l)
-        }
-        _ => Ok(false),
+        _ => Ok(is_plain_call(expected, call)),
     }
 }
 
 // A line of the table: the moment, the call, and its events.
 pub(crate) type Row = (u64, Asked, u64);
+
+// The step's moment, its call and how many events that may make.
+fn expect_step(rt: &impl Abort, alloc: Global, step: &Step, row: Row) -> Result<(), Fail> {
+    assert_eq!(rt; step.t, row.0);
+    let same = is_call(alloc, row.1, &step.call)?;
+    assert!(rt; same);
+    assert_eq!(rt; step.call.events(32), row.2);
+    Ok(())
+}
+
+fn expect_script(
+    rt: &impl Abort,
+    alloc: Global,
+    script: &Script,
+    rows: &[Row],
+) -> Result<(), Fail> {
+    assert_eq!(rt; script.len() as usize, rows.len());
+    for i in 0..script.len() {
+        assert!(rt; (i as usize) < rows.len());
+        expect_step(rt, alloc, script.at(i), rows[i as usize])?;
+    }
+    Ok(())
+}
 
 pub(crate) fn expect_steps(
     rt: &impl Abort,
@@ -173,15 +209,5 @@ pub(crate) fn expect_steps(
     let scripts = read_scripts(alloc, text)?;
     assert_eq!(rt; scripts.len(), 1);
     assert!(rt; !scripts.is_empty());
-    let script = scripts.at(0);
-    assert_eq!(rt; script.len() as usize, rows.len());
-    for i in 0..script.len() {
-        let step = script.at(i);
-        assert!(rt; (i as usize) < rows.len());
-        let row = rows[i as usize];
-        assert_eq!(rt; step.t, row.0);
-        assert!(rt; is_call(alloc, row.1, &step.call)?);
-        assert_eq!(rt; step.call.events(32), row.2);
-    }
-    Ok(())
+    expect_script(rt, alloc, scripts.at(0), rows)
 }

@@ -32,7 +32,7 @@ pub(crate) fn all_refused(rt: &impl Abort, alloc: Global, faults: &[Fault]) {
 
 #[test]
 fn values_at_fault(rt: HostRuntime) {
-    let faults: &[Fault] = &[
+    const FAULTS: &[Fault] = &[
         (b"worker\napcu_store s:1:\"a\"; i:05;\n", 29, Reason::Number),
         (
             b"worker\napcu_store s:1:\"a\"; s:3:\"ab\";\n",
@@ -46,12 +46,12 @@ fn values_at_fault(rt: HostRuntime) {
             Reason::Target,
         ),
     ];
-    all_refused(&rt, rt.alloc(), faults);
+    all_refused(&rt, rt.alloc(), FAULTS);
 }
 
 #[test]
 fn lines_at_fault(rt: HostRuntime) {
-    let faults: &[Fault] = &[
+    const FAULTS: &[Fault] = &[
         (b"worker", 6, Reason::End),
         (b"worker ", 7, Reason::End),
         (b"worker N;\n", 7, Reason::Argument),
@@ -110,12 +110,12 @@ fn lines_at_fault(rt: HostRuntime) {
             Reason::Separator,
         ),
     ];
-    all_refused(&rt, rt.alloc(), faults);
+    all_refused(&rt, rt.alloc(), FAULTS);
 }
 
 #[test]
 fn arguments_at_fault(rt: HostRuntime) {
-    let faults: &[Fault] = &[
+    const FAULTS: &[Fault] = &[
         (b"worker\ntime\n", 11, Reason::Argument),
         (b"worker\ntime i:-1;\n", 12, Reason::Argument),
         (b"worker\ntime i:1000000000000;\n", 12, Reason::Argument),
@@ -187,12 +187,12 @@ fn arguments_at_fault(rt: HostRuntime) {
         (b"worker\napcu_store a:0:{} i:1;\n", 25, Reason::Argument),
         (b"worker\napcu_store a:0:{} N; N;\n", 28, Reason::Argument),
     ];
-    all_refused(&rt, rt.alloc(), faults);
+    all_refused(&rt, rt.alloc(), FAULTS);
 }
 
 #[test]
 fn entries_at_fault(rt: HostRuntime) {
-    let faults: &[Fault] = &[
+    const FAULTS: &[Fault] = &[
         (b"worker\napcu_entry\n", 17, Reason::Argument),
         (b"worker\napcu_entry i:1; (i:1;)\n", 18, Reason::Argument),
         (b"worker\napcu_entry s:1:\"k\";\n", 26, Reason::Argument),
@@ -302,12 +302,12 @@ fn entries_at_fault(rt: HostRuntime) {
             Reason::Separator,
         ),
     ];
-    all_refused(&rt, rt.alloc(), faults);
+    all_refused(&rt, rt.alloc(), FAULTS);
 }
 
 #[test]
 fn information_at_fault(rt: HostRuntime) {
-    let faults: &[Fault] = &[
+    const FAULTS: &[Fault] = &[
         (b"worker\napcu_key_info\n", 20, Reason::Argument),
         (b"worker\napcu_key_info i:1;\n", 21, Reason::Argument),
         (
@@ -329,5 +329,5 @@ fn information_at_fault(rt: HostRuntime) {
         (b"worker\napcu_sma_info N;\n", 21, Reason::Argument),
         (b"worker\napcu_sma_info s:1:\"1\";\n", 21, Reason::Argument),
     ];
-    all_refused(&rt, rt.alloc(), faults);
+    all_refused(&rt, rt.alloc(), FAULTS);
 }

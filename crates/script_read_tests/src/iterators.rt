@@ -26,7 +26,7 @@ fn iterators_in_all_their_forms(rt: HostRuntime) -> Result<(), Fail> {
         APCUIterator_delete s:6:\"/^a$/i\"; i:1;\n\
         APCUIterator_totals N;\n\
         APCUIterator_totals s:3:\"/a/\"; s:7:\"deleted\";\n";
-    let rows: [Row; 11] = [
+    const ROWS: &[Row] = &[
         (100, Asked::Walk(None, 511, 100, List::Active), 32),
         (
             100,
@@ -59,12 +59,12 @@ fn iterators_in_all_their_forms(rt: HostRuntime) -> Result<(), Fail> {
         (100, Asked::Totals(None, List::Active), 1),
         (100, Asked::Totals(Some((b"a", false)), List::Deleted), 1),
     ];
-    expect_steps(&rt, rt.alloc(), text, &rows)
+    expect_steps(&rt, rt.alloc(), text, ROWS)
 }
 
 #[test]
 fn iterators_at_fault(rt: HostRuntime) {
-    let faults: &[Fault] = &[
+    const FAULTS: &[Fault] = &[
         (b"worker\nAPCUIterator\n", 19, Reason::Argument),
         (b"worker\nAPCUIterator x\n", 20, Reason::Tag),
         (b"worker\nAPCUIterator N;", 22, Reason::End),
@@ -178,5 +178,5 @@ fn iterators_at_fault(rt: HostRuntime) {
             Reason::Argument,
         ),
     ];
-    all_refused(&rt, rt.alloc(), faults);
+    all_refused(&rt, rt.alloc(), FAULTS);
 }

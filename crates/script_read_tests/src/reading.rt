@@ -34,7 +34,7 @@ fn calls_in_all_their_forms(rt: HostRuntime) -> Result<(), Fail> {
         apcu_clear_cache\n\
         time i:7;\n\
         apcu_enabled\n";
-    let rows: [Row; 19] = [
+    const ROWS: &[Row] = &[
         (0, Asked::Store(b"a", b"i:5;", 0, false), 1),
         (0, Asked::Store(b"a", b"N;", 4294967295, true), 1),
         (
@@ -63,7 +63,7 @@ fn calls_in_all_their_forms(rt: HostRuntime) -> Result<(), Fail> {
         (0, Asked::Clear, 1),
         (7, Asked::Enabled, 0),
     ];
-    expect_steps(&rt, rt.alloc(), text, &rows)
+    expect_steps(&rt, rt.alloc(), text, ROWS)
 }
 
 #[test]
@@ -82,7 +82,7 @@ fn entries_and_information(rt: HostRuntime) -> Result<(), Fail> {
         apcu_sma_info\n\
         apcu_sma_info b:0;\n\
         apcu_sma_info b:1;\n";
-    let rows: [Row; 11] = [
+    const ROWS: &[Row] = &[
         (100, Asked::Entry(&[(b"k", 0)], b"i:7;"), 1),
         (
             100,
@@ -107,7 +107,7 @@ fn entries_and_information(rt: HostRuntime) -> Result<(), Fail> {
         (100, Asked::SmaInfo(false), 1),
         (100, Asked::SmaInfo(true), 1),
     ];
-    expect_steps(&rt, rt.alloc(), text, &rows)
+    expect_steps(&rt, rt.alloc(), text, ROWS)
 }
 
 // A line `apcu_entry` of so many entries in one another.

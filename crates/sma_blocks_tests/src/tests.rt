@@ -7,7 +7,7 @@ use std::test::Fail;
 
 #[test]
 fn takes_and_gives(rt: HostRuntime) -> Result<(), Fail> {
-    let steps = [
+    const STEPS: &[Step] = &[
         Step::FirstGap(32),
         Step::Word(32, 33),
         Step::Word(33, 0),
@@ -31,13 +31,13 @@ fn takes_and_gives(rt: HostRuntime) -> Result<(), Fail> {
         Step::Free(0),
         Step::Largest(0),
     ];
-    assert_eq!(rt; play_fresh(rt.alloc(), 64, &steps)?, 22);
+    assert_eq!(rt; play_fresh(rt.alloc(), 64, STEPS)?, 22);
     Ok(())
 }
 
 #[test]
 fn links_gaps(rt: HostRuntime) -> Result<(), Fail> {
-    let steps = [
+    const STEPS: &[Step] = &[
         Step::Take(8, Some(32)),
         Step::Take(8, Some(40)),
         Step::Take(8, Some(48)),
@@ -60,13 +60,13 @@ fn links_gaps(rt: HostRuntime) -> Result<(), Fail> {
         Step::Take(8, Some(48)),
         Step::Word(35, 0),
     ];
-    assert_eq!(rt; play_fresh(rt.alloc(), 64, &steps)?, 21);
+    assert_eq!(rt; play_fresh(rt.alloc(), 64, STEPS)?, 21);
     Ok(())
 }
 
 #[test]
 fn merges_in_either_order(rt: HostRuntime) -> Result<(), Fail> {
-    let late = [
+    const LATE: &[Step] = &[
         Step::Take(160, Some(32)),
         Step::Take(160, Some(192)),
         Step::Take(160, Some(352)),
@@ -74,7 +74,7 @@ fn merges_in_either_order(rt: HostRuntime) -> Result<(), Fail> {
         Step::Give(0),
         Step::Take(320, Some(32)),
     ];
-    let early = [
+    const EARLY: &[Step] = &[
         Step::Take(160, Some(32)),
         Step::Take(160, Some(192)),
         Step::Take(160, Some(352)),
@@ -82,20 +82,20 @@ fn merges_in_either_order(rt: HostRuntime) -> Result<(), Fail> {
         Step::Give(0),
         Step::Take(320, Some(32)),
     ];
-    assert_eq!(rt; play_fresh(rt.alloc(), 512, &late)?, 6);
-    assert_eq!(rt; play_fresh(rt.alloc(), 512, &early)?, 6);
+    assert_eq!(rt; play_fresh(rt.alloc(), 512, LATE)?, 6);
+    assert_eq!(rt; play_fresh(rt.alloc(), 512, EARLY)?, 6);
     Ok(())
 }
 
 #[test]
 fn keeps_blocks(rt: HostRuntime) -> Result<(), Fail> {
-    let full = [
+    const FULL: &[Step] = &[
         Step::Take(8, Some(32)),
         Step::Take(8, Some(40)),
         Step::Take(8, Some(48)),
         Step::Take(8, Some(56)),
     ];
-    let some = [
+    const SOME: &[Step] = &[
         Step::Keep(0b0110),
         Step::FirstGap(32),
         Step::Word(32, 9),
@@ -110,7 +110,7 @@ fn keeps_blocks(rt: HostRuntime) -> Result<(), Fail> {
         Step::Take(8, Some(56)),
         Step::Take(2, None),
     ];
-    let none = [
+    const NONE: &[Step] = &[
         Step::Keep(0),
         Step::FirstGap(32),
         Step::Word(32, 33),
@@ -120,7 +120,7 @@ fn keeps_blocks(rt: HostRuntime) -> Result<(), Fail> {
         Step::GapFrom(33, None),
         Step::Take(32, Some(32)),
     ];
-    let all = [
+    const ALL: &[Step] = &[
         Step::Keep(0b1111),
         Step::FirstGap(0),
         Step::Free(0),
@@ -129,7 +129,7 @@ fn keeps_blocks(rt: HostRuntime) -> Result<(), Fail> {
         Step::Give(0),
         Step::Take(8, Some(32)),
     ];
-    let gaps_before = [
+    const GAPS_BEFORE: &[Step] = &[
         Step::Give(1),
         Step::Keep(0b010),
         Step::Word(32, 17),
@@ -140,11 +140,8 @@ fn keeps_blocks(rt: HostRuntime) -> Result<(), Fail> {
         Step::Take(16, Some(32)),
         Step::Take(8, Some(56)),
     ];
-    for (i, then) in [&some[..], &none[..], &all[..], &gaps_before[..]]
-        .iter()
-        .enumerate()
-    {
-        let steps = joined(rt.alloc(), &full, then)?;
+    for (i, then) in [SOME, NONE, ALL, GAPS_BEFORE].iter().enumerate() {
+        let steps = joined(rt.alloc(), FULL, then)?;
         assert_eq!(rt;
             play_fresh(rt.alloc(), 64, steps.as_slice())?,
             steps.len(),
