@@ -56,6 +56,23 @@ struct Alone {
     events: u32,
 }
 
+// The script of the case, played alone.
+fn played_alone<M: Maker + Sync, R: Wait>(
+    rt: &R,
+    alloc: Global,
+    case: Alone,
+    maker: &M,
+) -> Result<(Closed, Result<ByteOut, PlayFault>), Fail> {
+    let script = script_of(alloc, case.script)?;
+    let Ok(fresh) = open_cache(rt, alloc, &CONF, &[case.budget]) else {
+        return Err(Fail::new("open_cache"));
+    };
+    match plays_alone::<Brand, _, _>(rt, alloc, fresh, case.budget, &script, maker) {
+        Some(played) => Ok(played),
+        None => Err(Fail::new("too few events")),
+    }
+}
+
 // Where memory is missing the play ends with the fault, and only some first of the events were
 // made.
 fn expect<M: Maker + Sync, R: Wait + Abort>(
@@ -64,14 +81,7 @@ fn expect<M: Maker + Sync, R: Wait + Abort>(
     case: Alone,
     maker: &M,
 ) -> Result<(), Fail> {
-    let script = script_of(alloc, case.script)?;
-    let Ok(fresh) = open_cache(rt, alloc, &CONF, &[case.budget]) else {
-        return Err(Fail::new("open_cache"));
-    };
-    let played = plays_alone::<Brand, _, _>(rt, alloc, fresh, case.budget, &script, maker);
-    let Some((closed, printed)) = played else {
-        return Err(Fail::new("too few events"));
-    };
+    let (closed, printed) = played_alone(rt, alloc, case, maker)?;
     let events = closed.journal.len();
     match (printed, case.printed) {
         (Ok(printed), Some(wanted)) => {

@@ -192,31 +192,53 @@ fn expect_points(rt: &impl Abort, alloc: Global, points: &[(u32, Point)]) -> Res
     Ok(())
 }
 
+// What came of both scripts: the closed cache, what each worker printed, and the points that the
+// gate noted.
+#[derive(Drop)]
+struct Met {
+    closed: Closed,
+    first: Result<ByteOut, PlayFault>,
+    second: Result<ByteOut, PlayFault>,
+    points: Vec<(u32, Point)>,
+}
+
+fn meet<R: Threads + Wait + Sync>(rt: &R, alloc: Global) -> Result<Met, Fail>
+    requires sync { IsSync R.row }
+{
+    let scripts = scripts_of_both(alloc)?;
+    let gate = Noting::new(rt, alloc, 64)?;
+    let Ok(fresh) = open_cache(rt, alloc, &CONF, &[6, 4]) else {
+        return Err(Fail::new("open_cache"));
+    };
+    let played = plays_both::<Brand, _, _>(rt, alloc, fresh, &scripts, &gate);
+    let Some((closed, first, second)) = played else {
+        return Err(Fail::new("too few events"));
+    };
+    Ok(Met {
+        closed,
+        first,
+        second,
+        points: gate.into_points(),
+    })
+}
+
 // While the first worker has the block of its value pinned, the second one deletes the key and
 // stores another value under it. The first one still copies what it found, and finds the other
 // value later.
 #[test]
 fn copies_what_is_deleted_meanwhile(rt: HostRuntime) -> Result<(), Fail> {
     let alloc = rt.alloc();
-    let scripts = scripts_of_both(alloc)?;
-    let gate = Noting::new(&rt, alloc, 64)?;
-    let Ok(fresh) = open_cache(&rt, alloc, &CONF, &[6, 4]) else {
-        return Err(Fail::new("open_cache"));
-    };
-    let played = plays_both::<Brand, _, _>(&rt, alloc, fresh, &scripts, &gate);
-    let Some((closed, printed, other)) = played else {
-        return Err(Fail::new("too few events"));
-    };
+    let met = meet(&rt, alloc)?;
     let wanted = b"b:1;\ns:3:\"old\";b:1;\na:2:{s:1:\"a\";b:1;s:1:\"b\";b:1;}\ni:7;b:1;\n";
-    expect_printed(&rt, printed, wanted)?;
-    expect_printed(&rt, other, b"b:1;\na:0:{}\n")?;
-    expect_marks(&rt, alloc, &closed.journal)?;
-    expect_points(&rt, alloc, &gate.into_points())
+    expect_printed(&rt, &met.first, wanted)?;
+    expect_printed(&rt, &met.second, b"b:1;\na:0:{}\n")?;
+    expect_marks(&rt, alloc, &met.closed.journal)?;
+    expect_points(&rt, alloc, &met.points)
 }
 
 fn expect_printed<R: Abort>(
     rt: &R,
-    printed: Result<ByteOut, PlayFault>,
+    printed: &Result<ByteOut, PlayFault>,
     wanted: &[u8],
 ) -> Result<(), Fail> {
     match printed {
