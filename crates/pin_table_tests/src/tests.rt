@@ -142,32 +142,65 @@ fn copied(table: &PinTable, copying: &mut Copying) -> (u64, u64, [u64; 8], u32)
     (first, fourth, eight, count)
 }
 
-#[test]
-fn pins_probes_and_releases(rt: HostRuntime) -> Result<(), Fail> {
-    let words = one_block(rt.alloc())?;
+// What is seen on the way: the passes' numbers and events, the word that was stored, what the two
+// probes answered and whom they met, where the image stands and what was copied of it, the events
+// that are left after the second probe, and the words that come back.
+#[derive(Clone, Copy)]
+struct Seen {
+    passes: [u32; 4],
+    found: u64,
+    held: (bool, u64),
+    range: (u32, u32),
+    image: (u64, u64, [u64; 8], u32),
+    free: (bool, u64),
+    left: [u32; 2],
+    words: (u32, u64, u64, u64),
+}
+
+// The first pass pins the block while the second one stores and probes; then it lets the block go,
+// and the second one probes again.
+fn pin_probe_and_release(alloc: Global) -> Result<Seen, Fail> {
+    let words = one_block(alloc)?;
     let budgets = [4u32, 4u32];
-    let (table, mut seat, mut passes, mut ended) = PinTable::new(rt.alloc(), words, &budgets)?;
+    let (table, mut seat, mut passes, mut ended) = PinTable::new(alloc, words, &budgets)?;
     let Some((first, second)) = two_passes(&table, &budgets, &mut passes) else {
         return Err(Fail::new("two passes"));
     };
-    let numbers = (first.worker(), first.left(), second.worker(), second.left());
-    assert_eq!(rt; numbers, (0, 4, 1, 4));
+    let passes = [first.worker(), first.left(), second.worker(), second.left()];
     let (second, found) = writes(&table, &mut seat, second, 77);
-    assert_eq!(rt; found, 77);
     let mut copying = crosses(pins(&table, &mut seat, first), &table);
-    let (second, free, mask) = probes(&table, &mut seat, second);
-    assert_eq!(rt; (free, mask), (false, 1));
-    assert_eq!(rt; copying.range(), (15, 9));
-    let seen = copied(&table, &mut copying);
-    assert_eq!(rt; seen, (9, 12, [0, 0, 12, 0, 0, 0, 0, 6], 9));
+    let (second, held, met) = probes(&table, &mut seat, second);
+    let range = copying.range();
+    let image = copied(&table, &mut copying);
     let first = copying.release(&table);
-    let (second, free, mask) = probes(&table, &mut seat, second);
-    assert_eq!(rt; (free, mask, first.left(), second.left()), (true, 0, 3, 1));
+    let (second, free, nobody) = probes(&table, &mut seat, second);
+    let left = [first.left(), second.left()];
     ended.push(ends(&table, &mut seat, first));
     ended.push(ends(&table, &mut seat, second));
     let mut back = table.close(seat, ended);
-    let last = (back.len(), back.load(1), back.load(4), back.load(13));
-    assert_eq!(rt; last, (32, 77, 3, 0));
+    Ok(Seen {
+        passes,
+        found,
+        held: (held, met),
+        range,
+        image,
+        free: (free, nobody),
+        left,
+        words: (back.len(), back.load(1), back.load(4), back.load(13)),
+    })
+}
+
+#[test]
+fn pins_probes_and_releases(rt: HostRuntime) -> Result<(), Fail> {
+    let seen = pin_probe_and_release(rt.alloc())?;
+    assert_eq!(rt; seen.passes, [0, 4, 1, 4]);
+    assert_eq!(rt; seen.found, 77);
+    assert_eq!(rt; seen.held, (false, 1));
+    assert_eq!(rt; seen.range, (15, 9));
+    assert_eq!(rt; seen.image, (9, 12, [0, 0, 12, 0, 0, 0, 0, 6], 9));
+    assert_eq!(rt; seen.free, (true, 0));
+    assert_eq!(rt; seen.left, [3, 1]);
+    assert_eq!(rt; seen.words, (32, 77, 3, 0));
     Ok(())
 }
 
