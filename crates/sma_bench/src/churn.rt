@@ -33,14 +33,31 @@ pub fn time_pairs<S: Segment>(
     let all = places.len();
     let mut state = 1;
     for _ in 0..TIMES {
-        let start = Instant::now(rt)?;
-        state = pairs(sma, seg, places, 64, PAIRS, state);
-        near = near.min(since(rt, start)?);
-        let start = Instant::now(rt)?;
-        state = pairs(sma, seg, places, all, PAIRS, state);
-        far = far.min(since(rt, start)?);
+        near = near.min(time_some(rt, sma, seg, places, 64, &mut state)?);
+        far = far.min(time_some(rt, sma, seg, places, all, &mut state)?);
     }
     Ok([near / u64::from(PAIRS), far / u64::from(PAIRS)])
+}
+
+// The nanoseconds of the pairs that are measured at once. The state of the random numbers goes on.
+fn time_some<S: Segment>(
+    rt: &HostRuntime,
+    sma: &mut Sma,
+    seg: &mut S,
+    places: &mut Vec<u32>,
+    among: usize,
+    state: &mut u64,
+) -> io::Result<u64>
+    requires ready { IsReady sma.old (S.words seg.old) (S.aside seg.old) }
+    requires closed { (at : ℕ) → is_named (S.aside seg.old).windows at ≡ false }
+    requires listed { AreListed (live_blocks (S.words seg.old) sma.old.from) places.old.items }
+    ensures ready { IsReady sma.new (S.words seg.new) (S.aside seg.new) }
+    ensures listed { AreListed (live_blocks (S.words seg.new) sma.new.from) places.new.items }
+    ensures aside { S.aside seg.new ≡ S.aside seg.old }
+{
+    let start = Instant::now(rt)?;
+    *state = pairs(sma, seg, places, among, PAIRS, *state);
+    since(rt, start)
 }
 
 /// The next number of a linear congruential generator.
