@@ -1,11 +1,12 @@
 #!/usr/bin/env bash
 # What the gate costs, crate by crate: processor seconds and peak memory of a proof from nothing, and of the proof with
-# its tests, each with one job. The edits of a crate cost its proof once more and a check each beside this.
-# Usage: bench/gate.sh [CRATE..], after `rt all check`, on a machine without other work. No name means all crates.
+# its tests, each with one job. With --edits each must-fail edit of the crates is tried too, over what a proof of the
+# crate as it stands leaves, and what each took is told, the dearest first.
+# Usage: bench/gate.sh [--edits] [CRATE..], after `rt all check`, on a machine without other work. No name means all.
 set -eu
 cd "$(dirname "$0")/.."
 exec python3 - "$@" <<'PYTHON'
-import glob, os, shutil, subprocess, sys
+import glob, os, shutil, subprocess, sys, tempfile
 
 kit = os.path.dirname(os.path.dirname(os.path.realpath(shutil.which("rt"))))
 below = {}
@@ -29,9 +30,9 @@ def rlib(name):
     return own if name in below else f"{kit}/rlibs/{name}.rlib"
 
 
-def check(name, *flags):
+def check(name, *flags, folder=None):
     """Seconds of processor time, gigabytes at most, and whether it passed."""
-    folder = f"crates/{name}"
+    folder = folder or f"crates/{name}"
     root = "src/main.rt" if os.path.isfile(f"{folder}/src/main.rt") else "src/lib.rt"
     words = [f"{kit}/bin/rattle", "check", "--crate-name", name, root, "-L", f"dependency={kit}/rlibs"]
     for dep in ["std"] + below[name]:
@@ -46,9 +47,49 @@ def check(name, *flags):
     return used.ru_utime + used.ru_stime, used.ru_maxrss / 1048576, status == 0
 
 
+def edited(name, edit, room):
+    """Copies the crate to the folder, and makes the edit there."""
+    for part in ["src", "specs", "proofs"]:
+        if os.path.isdir(f"crates/{name}/{part}"):
+            shutil.copytree(f"crates/{name}/{part}", f"{room}/{part}")
+    for line in open(edit, encoding="utf-8").read().split("\n"):
+        word, _, rest = line.partition(":")
+        if word == "file":
+            file = f"{room}/{rest.strip()}"
+        elif word == "old":
+            old = rest[1:]
+        elif word == "new":
+            text = open(file, encoding="utf-8").read()
+            open(file, "w", encoding="utf-8").write(text.replace(old, rest[1:]))
+
+
+def link_or_copy(one, other):
+    # a check replaces what it proved, and changes none
+    (os.link if one.endswith(".oantt") else shutil.copy2)(one, other)
+
+
+def try_edits(name, edits):
+    """Seconds of processor time of the proof that they begin with, and of each edit, with what it came to."""
+    with tempfile.TemporaryDirectory(prefix="gate-") as room:
+        os.mkdir(f"{room}/seed")
+        seed, _, passed = check(name, "--incremental", f"{room}/seed")
+        found = []
+        for edit in edits:
+            shutil.copytree(f"{room}/seed", f"{room}/over", copy_function=link_or_copy)
+            edited(name, edit, f"{room}/crate")
+            took, _, proved = check(name, "--incremental", f"{room}/over", folder=f"{room}/crate")
+            found.append((took, os.path.basename(edit)[:-5], "  NOT REFUSED" if proved else ""))
+            shutil.rmtree(f"{room}/over")
+            shutil.rmtree(f"{room}/crate")
+        return seed, passed, sorted(found, reverse=True)
+
+
+names = sys.argv[1:]
+with_edits = names[:1] == ["--edits"]
+names = names[with_edits:] or list(below)
 print(f"{'crate':20} {'proof s':>8} {'GB':>5} {'tests s':>8} {'GB':>5} {'edits':>6}")
 total = 0.0
-for name in sys.argv[1:] or below:
+for name in names:
     proof, proof_peak, passed = check(name)
     total += proof
     sources = glob.glob(f"crates/{name}/src/**/*.rt", recursive=True)
@@ -60,7 +101,14 @@ for name in sys.argv[1:] or below:
         row += f" {tests:8.1f} {tests_peak:5.1f}"
     else:
         row += f" {'':8} {'':5}"
-    row += f" {len(glob.glob(f'crates/{name}/must-fail/*.edit')):6}"
+    edits = sorted(glob.glob(f"crates/{name}/must-fail/*.edit"))
+    row += f" {len(edits):6}"
     print(row + ("" if passed else "  not proved"), flush=True)
+    if with_edits and edits:
+        seed, passed, found = try_edits(name, edits)
+        total += seed + sum(took for took, _, _ in found)
+        print(f"  {seed:8.1f} before the edits" + ("" if passed else "  not proved"))
+        for took, edit, missed in found:
+            print(f"  {took:8.1f} {edit}{missed}", flush=True)
 print(f"{'all':20} {total:8.1f} s")
 PYTHON
