@@ -1,4 +1,5 @@
 use Rattle.std.proofs.Common.{arith, ◌∙◌, length-drop}
+use Rattle.std.proofs.lemmas.Grind.{common_steps}
 use Rattle.io_edges.proofs.Bytes.{held_more, rest_from}
 use Rattle.io_edges.proofs.writing.write_all.Goals as goal
 
@@ -11,3 +12,18 @@ turns-preserved g c =
       held = held_more _ _ _ _ _ _ c.turns.invariant.held bytes;
       faults = c.in-Took.ensures.faults ∙ c.turns.invariant.faults;
     }
+
+pub returns-clause-all : goal.returns-clause-all
+returns-clause-all g c = grind (arith, common_steps)
+
+pub returns-in-Failed-clause-part : goal.returns-in-Failed-clause-part
+returns-in-Failed-clause-part g c = grind (arith, common_steps)
+
+pub returns-in-Failed-clause-fault : goal.returns-in-Failed-clause-fault
+returns-in-Failed-clause-fault g c = grind (arith, common_steps)
+
+pub returns-clause-calm : goal.returns-clause-calm
+returns-clause-calm g c = grind (arith, common_steps)
+
+pub returns-clause-never_falls : goal.returns-clause-never_falls
+returns-clause-never_falls g c = grind (arith, common_steps)

@@ -1,4 +1,5 @@
 use Rattle.std.proofs.Common.{◌≡◌, ◌∙◌, ◌+◌, ◌≤◌, sym, ap, subst, List, length, arith, Option}
+use Rattle.std.proofs.lemmas.Grind.{common_steps}
 use Rattle.php_graph.specs.declared.container.Container.{Container}
 use Rattle.php_graph.specs.declared.key.Key.{Key}
 use Rattle.php_graph.specs.declared.child.Child.TheVariants.{Back}
@@ -27,3 +28,12 @@ invariant_of-self-2 c =
     let within : c.args.place ≤ length g = omega (arith, c.if-place-len.false, c.len.ensures, ap (λ (o : Option PlaceList). length (kinds_in o)) c.in-Some.is) in
     let built = building_back g (kinds_of c.attach.new.places) cs c.self.inside.key c.self.inside.values c.args.place c.self.invariant wants room (omega (arith, c.if-place-eq0.false)) within is in
     subst (λ (k : Option Key). IsBuilding (kinds_of c.attach.new.places) cs k (c.self.inside.values + 1)) (sym c.in_ok-attach.ensures.used) built
+
+pub returns-clause-ok : goal.returns-clause-ok
+returns-clause-ok c = grind (arith, common_steps)
+
+pub returns-in_err-attach-clause-answer : goal.returns-in_err-attach-clause-answer
+returns-in_err-attach-clause-answer c = grind (arith, common_steps)
+
+pub returns-clause-answer : goal.returns-clause-answer
+returns-clause-answer c = grind (arith, common_steps)
