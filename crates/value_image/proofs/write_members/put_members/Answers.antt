@@ -1,5 +1,4 @@
 use Rattle.std.proofs.Common.{◌+◌, ◌∙◌, arith}
-use Rattle.std.proofs.lemmas.Grind.{common_steps}
 use Rattle.php_graph.specs.Size.{key_cells, offset_of}
 use Rattle.value_image.specs.Image.{member_words}
 use Rattle.value_image.proofs.ItemRuns.{item_may_write, item_written, cells-more}
@@ -19,6 +18,3 @@ loop-i-preserved g c = record {
   next = omega (arith, cells-more (λ m. 1 + key_cells m.0) c.args.members.now c.loop-i.i _ c.at-child.ensures);
   beside = record { aside = c.put_member-next.ensures.beside.aside ∙ c.loop-i.invariant.beside.aside; rest = c.put_member-next.ensures.beside.rest ∙ c.loop-i.invariant.beside.rest };
 }
-
-pub put_member-next-requires-clause-short : goal.put_member-next-requires-clause-short
-put_member-next-requires-clause-short g c = grind (arith, common_steps)
