@@ -1,4 +1,5 @@
 use Rattle.std.proofs.Common.{◌≡◌, ℕ, ◌+◌, ◌*◌, ◌/◌, ◌%◌, List, ap, sym, ◌∙◌, arith, subst, length, take, drop, get_or}
+use Rattle.std.proofs.lemmas.Grind.{common_steps}
 use Rattle.std.proofs.lemmas.List.{take_all, get_or-drop, length-drop}
 use Rattle.seg_words.specs.Blocks.{IsTold}
 use Rattle.byteorder.specs.Endian.{little_bytes}
@@ -36,3 +37,30 @@ returns-else-left-ne0-clause-bytes g c =
     let len = c.loop-i.auto.out in
     sym (take_all (8 * c.loop-i.i) c.loop-i.out (omega arith))
     ∙ (c.loop-i.invariant.bytes ∙ sym (take-bytes_of-whole (drop c.args.at (g.W.WordsIn.words c.args.from.now)) c.loop-i.i (length c.args.out.now) (omega arith) (omega arith)))
+
+pub load-word-requires : goal.load-word-requires
+load-word-requires g c = grind (arith, common_steps)
+
+pub load-word-requires-then-left-ne0 : goal.load-word-requires-then-left-ne0
+load-word-requires-then-left-ne0 g c = grind (arith, common_steps)
+
+pub overflow_add-at : goal.overflow_add-at
+overflow_add-at g c = grind (arith, common_steps)
+
+pub overflow_add-at-then-left-ne0 : goal.overflow_add-at-then-left-ne0
+overflow_add-at-then-left-ne0 g c = grind (arith, common_steps)
+
+pub copy_from_slice-requires : goal.copy_from_slice-requires
+copy_from_slice-requires g c = grind (arith, common_steps)
+
+pub write_u64-requires : goal.write_u64-requires
+write_u64-requires g c = grind (arith, common_steps)
+
+pub loop-i-init : goal.loop-i-init
+loop-i-init g c = grind (arith, common_steps)
+
+pub returns-else-left-ne0-clause-kept : goal.returns-else-left-ne0-clause-kept
+returns-else-left-ne0-clause-kept g c = grind (arith, common_steps)
+
+pub returns-then-left-ne0-clause-kept : goal.returns-then-left-ne0-clause-kept
+returns-then-left-ne0-clause-kept g c = grind (arith, common_steps)

@@ -16,3 +16,12 @@ overflow_add-result c = grind (arith, common_steps)
 
 pub read_text-requires : goal.read_text-requires
 read_text-requires c = grind (arith, common_steps)
+
+pub load-tag-requires : goal.load-tag-requires
+load-tag-requires g c = grind (arith, common_steps)
+
+pub load-number-requires : goal.load-number-requires
+load-number-requires g c = grind (arith, common_steps)
+
+pub returns-in_err-bytes-clause-key : goal.returns-in_err-bytes-clause-key
+returns-in_err-bytes-clause-key g c = grind (arith, common_steps)

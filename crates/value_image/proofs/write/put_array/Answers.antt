@@ -1,4 +1,5 @@
 use Rattle.std.proofs.Common.{◌+◌, ◌*◌, [], ◌∷◌, arith}
+use Rattle.std.proofs.lemmas.Grind.{common_steps}
 use Rattle.value_image.proofs.Runs.{may_write-fewer, may_write-along}
 use Rattle.value_image.proofs.write.put_array.Goals as goal
 
@@ -8,3 +9,6 @@ put_one-next-requires g c = may_write-fewer _ _ _ _ 1 c.requires.apart (omega ar
 pub put_members-requires-clause-apart : goal.put_members-requires-clause-apart
 put_members-requires-clause-apart g c =
     may_write-along _ _ _ _ ((4 + 8 * c.from.result) ∷ []) _ _ _ _ c.requires.apart c.put_one-next.ensures.words c.put_one-next.ensures.beside.aside c.put_one-next.ensures.end (omega arith)
+
+pub returns-clause-words : goal.returns-clause-words
+returns-clause-words g c = grind (arith, common_steps)

@@ -1,4 +1,5 @@
-use Rattle.std.proofs.Common.{◌+◌, ap, sym, ◌∙◌, subst}
+use Rattle.std.proofs.Common.{◌+◌, ap, sym, ◌∙◌, subst, arith}
+use Rattle.std.proofs.lemmas.Grind.{common_steps}
 use Rattle.php_graph.specs.declared.kind.Kind.{Kind}
 use Rattle.php_graph.specs.Size.{cells_of}
 use Rattle.value_image.specs.Rows.{MayWrite}
@@ -10,3 +11,6 @@ put_object-requires-clause-apart g c =
 
 pub returns-in-Object-clause-end : goal.returns-in-Object-clause-end
 returns-in-Object-clause-end g c = c.put_object.ensures.end ∙ ap (λ (k : Kind). c.args.at + cells_of k) (sym c.in-Object.is)
+
+pub returns-in-Same-clause-words : goal.returns-in-Same-clause-words
+returns-in-Same-clause-words g c = grind (arith, common_steps)
