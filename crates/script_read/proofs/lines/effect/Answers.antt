@@ -1,6 +1,7 @@
-use Rattle.std.proofs.Common.{ap}
+use Rattle.std.proofs.Common.{◌≡◌, true, ap}
 use Rattle.script_read.specs.declared.keyword.Keyword.{Keyword}
-use Rattle.script_read.specs.Table.{form_in}
+use Rattle.script_read.specs.Arguments.{stored}
+use Rattle.script_read.specs.Table.{needs, store_by, count_form, form_in}
 use Rattle.script_read.specs.Reading.{rest_at}
 use Rattle.script_read.specs.Gives.{form_named}
 use Rattle.script_read.proofs.Rows.{moved}
@@ -25,7 +26,8 @@ unfolding form_in
 returns-in-Add-clause-read c =
     let line = c.args.line.now in
     let rest = c.args.rest.now in
-    moved _ c.store-in-Add.result _ _ (ap (λ (w : Keyword). rest_at (form_named w) line rest) c.in-Add.is) (c.store-in-Add.ensures.read line)
+    let is : rest_at (form_named c.args.word) line rest ≡ rest_at (needs stored (store_by true)) line rest = ap (λ (w : Keyword). rest_at (form_named w) line rest) c.in-Add.is in
+    moved _ c.store-in-Add.result _ _ is (c.store-in-Add.ensures.read line)
 
 pub returns-in-Fetch-clause-read : goal.returns-in-Fetch-clause-read
 unfolding form_in
@@ -60,7 +62,8 @@ unfolding form_in
 returns-in-Dec-clause-read c =
     let line = c.args.line.now in
     let rest = c.args.rest.now in
-    moved _ c.count-in-Dec.result _ _ (ap (λ (w : Keyword). rest_at (form_named w) line rest) c.in-Dec.is) (c.count-in-Dec.ensures.read line)
+    let is : rest_at (form_named c.args.word) line rest ≡ rest_at (count_form true) line rest = ap (λ (w : Keyword). rest_at (form_named w) line rest) c.in-Dec.is in
+    moved _ c.count-in-Dec.result _ _ is (c.count-in-Dec.ensures.read line)
 
 pub returns-in-Cas-clause-read : goal.returns-in-Cas-clause-read
 unfolding form_in

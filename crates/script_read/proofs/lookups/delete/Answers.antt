@@ -11,3 +11,6 @@ returns-in_err-asked-clause-read c = λ last.
 
 pub returns-clause-fewer : goal.returns-clause-fewer
 returns-clause-fewer c = grind (arith, common_steps)
+
+pub returns-clause-read : goal.returns-clause-read
+returns-clause-read c = grind (arith, delete_is)
