@@ -1,4 +1,5 @@
-use Rattle.std.proofs.Common.{◌≡◌, ◌≤◌, refl, sym, ap, subst, ◌∙◌}
+use Rattle.std.proofs.Common.{◌≡◌, ◌≤◌, refl, sym, ap, subst, ◌∙◌, arith}
+use Rattle.std.proofs.lemmas.Grind.{common_steps}
 use Rattle.seg_words.specs.Probing.{goes_nowhere}
 use Rattle.seg_words.specs.Windows.{held_blocks}
 use Rattle.apcu_model.specs.declared.request.Reply.TheVariants as replies
@@ -12,6 +13,9 @@ use Rattle.apcu_iter.specs.Choosing.{Choice, uncounted}
 use Rattle.apcu_iter.proofs.Gone.{rows_of_chunk, rows_noted, drops_of_core, core_dropped, cache_dropped}
 use Rattle.apcu_iter.proofs.deleting.chunk_delete.Goals as goal
 use Rattle.apcu_iter.proofs.deleting.chunk_delete.Given as given
+
+pub note_chunk-requires-clause-list : goal.note_chunk-requires-clause-list
+note_chunk-requires-clause-list g c = ap (λ (x : Choice). x.list) c.in_ok-test.ensures
 
 pub drop_rows-requires-clause-rows : goal.drop_rows-requires-clause-rows
 drop_rows-requires-clause-rows g c = (
@@ -87,3 +91,42 @@ returns-clause-stand g c =
       stand = c.drop_rows.ensures.stand;
       whole = (cache_dropped core slots (held_blocks now) c.args.search.now c.args.from c.args.size c.args.t gone).whole;
     }
+
+pub note_chunk-requires-clause-stand : goal.note_chunk-requires-clause-stand
+note_chunk-requires-clause-stand g c = grind (arith, common_steps)
+
+pub note_chunk-requires-clause-from : goal.note_chunk-requires-clause-from
+note_chunk-requires-clause-from g c = grind (arith, common_steps)
+
+pub drop_rows-requires-clause-stand : goal.drop_rows-requires-clause-stand
+drop_rows-requires-clause-stand g c = grind (arith, common_steps)
+
+pub drop_rows-requires-clause-refused : goal.drop_rows-requires-clause-refused
+drop_rows-requires-clause-refused g c = grind (arith, common_steps)
+
+pub returns-in_err-test-clause-goes : goal.returns-in_err-test-clause-goes
+returns-in_err-test-clause-goes g c = grind (arith, common_steps)
+
+pub returns-in_err-test-clause-keeps : goal.returns-in_err-test-clause-keeps
+returns-in_err-test-clause-keeps g c = grind (arith, common_steps)
+
+pub returns-in_err-test-clause-refused : goal.returns-in_err-test-clause-refused
+returns-in_err-test-clause-refused g c = grind (arith, common_steps)
+
+pub returns-in_err-test-clause-stand : goal.returns-in_err-test-clause-stand
+returns-in_err-test-clause-stand g c = grind (arith, common_steps)
+
+pub returns-in_err-next-clause-goes : goal.returns-in_err-next-clause-goes
+returns-in_err-next-clause-goes g c = grind (arith, common_steps)
+
+pub returns-in_err-next-clause-keeps : goal.returns-in_err-next-clause-keeps
+returns-in_err-next-clause-keeps g c = grind (arith, common_steps)
+
+pub returns-in_err-next-clause-refused : goal.returns-in_err-next-clause-refused
+returns-in_err-next-clause-refused g c = grind (arith, common_steps)
+
+pub returns-in_err-next-clause-stand : goal.returns-in_err-next-clause-stand
+returns-in_err-next-clause-stand g c = grind (arith, common_steps)
+
+pub returns-clause-search : goal.returns-clause-search
+returns-clause-search g c = grind (arith, common_steps)

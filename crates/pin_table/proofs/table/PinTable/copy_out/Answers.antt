@@ -1,4 +1,5 @@
 use Rattle.std.proofs.Common.{◌≡◌, ℕ, ◌+◌, ◌-◌, ◌<◌, length, ap, sym, ◌∙◌, subst, arith}
+use Rattle.std.proofs.lemmas.Grind.{common_steps}
 use mathlib.Core.Option.{some}
 use lib.ListN.{get_elem?}
 use Rattle.atomic_table.specs.Seated.{TableId}
@@ -39,3 +40,15 @@ split_seat-own-requires g c =
       rw (c.fetch_add.ensures.1, c.fetch_add.ensures.2, back, c.seat.invariant.0)
           (ruled.copies_out (pinning_at (desk_of c.seat.inside.seat.me.0) c.args.block) g.Q.Saying.event p (e ∙ c.requires.hand) (c.requires.event ∙ sym c.requires.worker) c.requires.fetch (omega (arith, c.requires.left)) c.requires.block.positive),
     )
+
+pub invariant_of-seat : goal.invariant_of-seat
+invariant_of-seat g c = grind (arith, common_steps)
+
+pub invariant_of-result : goal.invariant_of-result
+invariant_of-result g c = grind (arith, common_steps)
+
+pub returns-clause-desk : goal.returns-clause-desk
+returns-clause-desk g c = grind (arith, common_steps)
+
+pub returns-clause-copy : goal.returns-clause-copy
+returns-clause-copy g c = grind (arith, common_steps)

@@ -1,4 +1,5 @@
 use Rattle.std.proofs.Common.{◌≡◌, ap, sym, ◌∙◌, arith}
+use Rattle.std.proofs.lemmas.Grind.{common_steps}
 use Rattle.pin_table.specs.declared.views.Known.{Known}
 use Rattle.pin_table.specs.declared.views.Desk.{Desk}
 use Rattle.pin_table.specs.Values.{Writing}
@@ -15,3 +16,12 @@ split_seat-own-requires g c =
       c.self.invariant.0,
       rw (c.seat.invariant.0, ap (λ m. m.0) c.seat.invariant.1) (ruled.gives (desk_of c.seat.inside.seat.me.0) g.Q.Saying.event p (e ∙ c.requires.hand) (c.requires.event ∙ sym c.requires.worker) (omega (arith, c.requires.left))),
     )
+
+pub invariant_of-result : goal.invariant_of-result
+invariant_of-result g c = grind (arith, common_steps)
+
+pub returns-clause-desk : goal.returns-clause-desk
+returns-clause-desk g c = grind (arith, common_steps)
+
+pub returns-clause-known : goal.returns-clause-known
+returns-clause-known g c = grind (arith, common_steps)

@@ -1,4 +1,5 @@
 use Rattle.std.proofs.Common.{◌≡◌, ap, sym, ◌∙◌, subst, arith}
+use Rattle.std.proofs.lemmas.Grind.{common_steps}
 use Rattle.atomic_table.specs.Seated.{TableId}
 use Rattle.seg_words.specs.Windows.{has}
 use Rattle.seg_words.specs.Blocks.{MayProbe}
@@ -19,3 +20,21 @@ load-found-requires c =
       rw (c.seat.invariant.0, c.seat.invariant.1)
           (ruled.probes _ (desk_of c.seat.inside.seat.me.0) c.args.at may (ap (λ (v : Desk). has c.args.at (refused_in v.readings)) d ∙ c.requires.fresh) c.seat.invariant.6),
     )
+
+pub invariant_of-seat : goal.invariant_of-seat
+invariant_of-seat c = grind (arith, common_steps)
+
+pub invariant_of-seat-else-found-eq0 : goal.invariant_of-seat-else-found-eq0
+invariant_of-seat-else-found-eq0 c = grind (arith, common_steps)
+
+pub returns-then-found-eq0-clause-desk : goal.returns-then-found-eq0-clause-desk
+returns-then-found-eq0-clause-desk c = grind (arith, common_steps)
+
+pub returns-then-found-eq0-clause-met : goal.returns-then-found-eq0-clause-met
+returns-then-found-eq0-clause-met c = grind (arith, common_steps)
+
+pub returns-else-found-eq0-clause-desk : goal.returns-else-found-eq0-clause-desk
+returns-else-found-eq0-clause-desk c = grind (arith, common_steps)
+
+pub returns-else-found-eq0-clause-met : goal.returns-else-found-eq0-clause-met
+returns-else-found-eq0-clause-met c = grind (arith, common_steps)

@@ -16,3 +16,6 @@ returns-clause-pass c = grind (arith, common_steps)
 
 pub returns-clause-known : goal.returns-clause-known
 returns-clause-known c = grind (arith, common_steps)
+
+pub give_back-requires-clause-left : goal.give_back-requires-clause-left
+give_back-requires-clause-left c = grind (arith, common_steps)
