@@ -96,3 +96,9 @@ returns-clause-stand g c =
     let all = row_added c.lower_laws.ensures c.args.self.now c.args.key.now c.args.g.now c.args.ttl c.args.t new c.after_room-self.result c.requires.stand.whole made c.put_in.ensures.puts refl
     (record { hits = after.hits; misses = after.misses; inserts = after.inserts; expunges = after.expunges }) c.after_insert-self.ensures now (goes_nowhere now now refl) in
     record { stand = c.put_in.ensures.stand; whole = whole_made new _ all.1 all.0 }
+
+pub returns-in_default-clause-keeps : goal.returns-in_default-clause-keeps
+returns-in_default-clause-keeps c = search rules
+
+pub returns-clause-keeps : goal.returns-clause-keeps
+returns-clause-keeps c = search rules
