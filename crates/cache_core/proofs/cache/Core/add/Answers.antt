@@ -1,4 +1,4 @@
-use Rattle.std.proofs.Common.{◌≡◌, ℕ, Bool, List, length, refl, sym, ap, ◌∙◌, subst}
+use Rattle.std.proofs.Common.{◌≡◌, ℕ, Bool, List, length, refl, sym, ap, ◌∙◌, subst, rules}
 use Rattle.seg_words.specs.Windows.{Aside, held_blocks}
 use Rattle.php_graph.specs.Size.{block_size}
 use Rattle.apcu_model.specs.Cache.{Row}
@@ -83,8 +83,9 @@ returns-clause-later g c = λ later on.
     let new : Core = record { slots = c.put_in.new.slots; conf = c.args.self.now.conf; tally = c.after_insert-self.result } in
     let made = made_as c.block_words-n.ensures c.in-Some.is c.make_room_next-place.ensures.made in
     let after = c.after_room-self.ensures in
-    (row_added c.lower_laws.ensures c.args.self.now c.args.key.now c.args.g.now c.args.ttl c.args.t new c.after_room-self.result c.requires.stand.whole made c.put_in.ensures.puts refl
-    (record { hits = after.hits; misses = after.misses; inserts = after.inserts; expunges = after.expunges }) c.after_insert-self.ensures later on).2
+    let done = (row_added c.lower_laws.ensures c.args.self.now c.args.key.now c.args.g.now c.args.ttl c.args.t new c.after_room-self.result c.requires.stand.whole made c.put_in.ensures.puts refl
+    (record { hits = after.hits; misses = after.misses; inserts = after.inserts; expunges = after.expunges }) c.after_insert-self.ensures later on).2 in
+    search (rules, done)
 
 pub returns-clause-stand : goal.returns-clause-stand
 returns-clause-stand g c =
@@ -95,3 +96,9 @@ returns-clause-stand g c =
     let all = row_added c.lower_laws.ensures c.args.self.now c.args.key.now c.args.g.now c.args.ttl c.args.t new c.after_room-self.result c.requires.stand.whole made c.put_in.ensures.puts refl
     (record { hits = after.hits; misses = after.misses; inserts = after.inserts; expunges = after.expunges }) c.after_insert-self.ensures now (goes_nowhere now now refl) in
     record { stand = c.put_in.ensures.stand; whole = whole_made new _ all.1 all.0 }
+
+pub returns-in_default-clause-keeps : goal.returns-in_default-clause-keeps
+returns-in_default-clause-keeps c = search rules
+
+pub returns-clause-keeps : goal.returns-clause-keeps
+returns-clause-keeps c = search rules

@@ -1,4 +1,4 @@
-use Rattle.std.proofs.Common.{arith}
+use Rattle.std.proofs.Common.{arith, rules}
 use Rattle.std.proofs.lemmas.Grind.{common_steps}
 use Rattle.cache_core.proofs.cache.Core.seek_new.Goals as goal
 
@@ -57,7 +57,7 @@ pub returns-in-Some-clause-kept : goal.returns-in-Some-clause-kept
 returns-in-Some-clause-kept c = grind (arith, common_steps)
 
 pub returns-in-None-clause-added : goal.returns-in-None-clause-added
-returns-in-None-clause-added c = grind (arith, common_steps)
+returns-in-None-clause-added c = search rules
 
 pub returns-in-None-clause-fits : goal.returns-in-None-clause-fits
 returns-in-None-clause-fits c = grind (arith, common_steps)

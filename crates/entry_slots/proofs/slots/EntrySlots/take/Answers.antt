@@ -1,7 +1,8 @@
-use Rattle.std.proofs.Common.{◌∙◌, Some, refl, sym, subst}
+use Rattle.std.proofs.Common.{◌∙◌, Some, refl, sym, subst, arith}
 use Rattle.entry_slots.specs.Standing.{Stands, entries}
 use Rattle.entry_slots.proofs.Now.{restand}
 use Rattle.entry_slots.proofs.Taking.{take_place, take_some, take_none}
+use Rattle.std.proofs.lemmas.Grind.{common_steps}
 use Rattle.entry_slots.proofs.slots.EntrySlots.take.Goals as goal
 
 pub returns-in_default-clause-place : goal.returns-in_default-clause-place
@@ -22,3 +23,9 @@ returns-clause-stand g c =
     c.requires.size.1 c.in-Some.ensures.place c.in-Some.ensures.taken c.in-Some.ensures.others c.in-Some.ensures.from c.in-Some.ensures.to c.in-Some.ensures.beside.aside c.in-Some.ensures.ready (entries old) c.requires.stand in
     subst (λ x. Stands e' (g.S.WordsIn.words c.take.new.seg) (g.S.WordsIn.aside c.take.new.seg) x) (sym c.then-self.ensures)
     (restand {e' = e'} done refl refl refl refl)
+
+pub returns-clause-none : goal.returns-clause-none
+returns-clause-none c = grind (arith, common_steps)
+
+pub returns-clause-same : goal.returns-clause-same
+returns-clause-same c = grind (arith, common_steps)
