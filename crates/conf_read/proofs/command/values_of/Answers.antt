@@ -1,4 +1,5 @@
-use Rattle.std.proofs.Common.{◌≡◌, ap, sym, subst, ◌∙◌, codes}
+use Rattle.std.proofs.Common.{◌≡◌, ap, sym, subst, ◌∙◌, codes, arith}
+use Rattle.std.proofs.lemmas.Grind.{common_steps}
 use Rattle.clap.specs.Words.{HasKind, fault_of, is_simple_and_free}
 use Rattle.std.specs.String.{string_bytes}
 use Rattle.conf_read.specs.Command.{as_texts}
@@ -29,3 +30,6 @@ returns-clause-slots c = value_is _ (as_texts c.args.words.now) c.in-Ok.matches 
 
 pub returns-clause-ttl : goal.returns-clause-ttl
 returns-clause-ttl c = value_is _ (as_texts c.args.words.now) c.in-Ok.matches (codes "ttl") c.get_str-3.result c.in_ok-command.ensures c.in-Ok.ensures.matches c.get_str-3.ensures
+
+pub returns-then-is_empty-clause-free : goal.returns-then-is_empty-clause-free
+returns-then-is_empty-clause-free c = grind (arith, common_steps)
