@@ -1,7 +1,7 @@
 //! The calls of a script: for each the events that it asks, in order, and what it prints for their
 //! replies. Where memory is missing only some first of the events were made.
 
-ghost use Rattle.std.specs.Prelude.{◌≡◌, ◌<◌, ◌^◌, ◌++◌, [], length, map, codes, OnOk};
+ghost use Rattle.std.specs.Prelude.{◌≡◌, ◌≤◌, ◌<◌, ◌^◌, ◌++◌, [], length, map, codes, OnOk};
 ghost use Rattle.apcu_model.specs.declared.request.Request.TheVariants.{Store, Fetch, Exists};
 ghost use Rattle.apcu_model.specs.declared.request.Request.TheVariants.{Delete};
 ghost use Rattle.script_read.specs.Calls.{HasRanges, event_bound};
@@ -9,6 +9,7 @@ ghost use Rattle.script_read.specs.Play.{next_of};
 ghost use Rattle.reply_text.specs.Replies.{unstored_text, found_text, there_text, undeleted_text};
 ghost use Rattle.reply_text.specs.Lines.{call_text};
 ghost use Rattle.worker_play.specs.Goes.{KnowsOwnEvents, Reaches, Tells};
+ghost use Rattle.worker_play.specs.Groups.{IsFlagged, IsInforming, IsSearching};
 ghost use Rattle.worker_play.specs.Patterns.{call_pattern};
 ghost use Rattle.worker_play.specs.Turns.{turns_at, asks_at};
 
@@ -61,14 +62,8 @@ pub(crate) fn play_call<N: TableName, G: Gate, R: Wait>(
         (λ replies. out.old ++ call_text call.now replies) out.new) }
 {
     match call {
-        Call::StoreOne {
-            key,
-            value,
-            ttl,
-            exclusive,
-        } => {
-            let (pass, stored) = store(rt, shared, pass, key, value, *ttl, *exclusive, t);
-            (pass, write_flag(out, stored))
+        Call::StoreOne { .. } | Call::ExistsOne(_) | Call::DeleteOne(_) | Call::Cas { .. } => {
+            play_flagged(rt, shared, pass, call, t, out)
         }
         Call::StoreMany {
             pairs,
@@ -107,23 +102,11 @@ pub(crate) fn play_call<N: TableName, G: Gate, R: Wait>(
                 out,
             )
         }
-        Call::ExistsOne(key) => {
-            let (pass, there) = exists(rt, shared, pass, key, t);
-            (pass, write_flag(out, there))
-        }
         Call::ExistsMany(keys) => { look_for_all(rt, alloc, shared, pass, keys.as_slice(), t, out) }
-        Call::DeleteOne(key) => {
-            let (pass, deleted) = delete(rt, shared, pass, key, t);
-            (pass, write_flag(out, deleted))
-        }
         Call::DeleteMany(keys) => delete_all(rt, alloc, shared, pass, keys.as_slice(), t, out),
         Call::Inc { key, step, ttl } => {
             let (pass, number) = inc(rt, shared, pass, key, *step, *ttl, t);
             (pass, write_number(out, number))
-        }
-        Call::Cas { key, expect, set } => {
-            let (pass, was_set) = cas(rt, shared, pass, key, *expect, *set, t);
-            (pass, write_flag(out, was_set))
         }
         Call::Entry(generator) => {
             let (pass, value) = entry(rt, alloc, shared, pass, generator, t);
@@ -137,6 +120,81 @@ pub(crate) fn play_call<N: TableName, G: Gate, R: Wait>(
             (pass, write_flag(out, true))
         }
         Call::Enabled => (pass, write_flag(out, true)),
+        Call::KeyInfo(_) | Call::CacheInfo(_) | Call::SmaInfo(_) => {
+            play_told(rt, alloc, shared, pass, call, t, out)
+        }
+        Call::Walk { .. } | Call::WalkDelete { .. } | Call::Totals { .. } => play_searching(
+            rt, alloc, shared, gate, number, slots, pass, call, search, t, out,
+        ),
+    }
+}
+
+// Plays a call on one key that answers whether it was done, and prints that.
+fn play_flagged<N: TableName, R: Wait>(
+    rt: &R,
+    shared: &Shared<N>,
+    pass: Pass,
+    call: &Call,
+    t: u64,
+    out: &mut ByteOut,
+) -> (Pass, Result<(), AllocError>)
+    requires table { pass.table ≡ N.table }
+    requires whole { KnowsOwnEvents pass }
+    requires left { 2 ≤ pass.known.left }
+    requires flagged { IsFlagged call.now }
+    ensures reaches { Reaches N.conf (length N.budgets) pass result.0
+        (turns_at t (next_of N.conf call.now)) }
+    ensures line { OnOk result.1 (Tells N.conf (length N.budgets) pass result.0
+        (turns_at t (next_of N.conf call.now))
+        (λ replies. out.old ++ call_text call.now replies) out.new) }
+{
+    match call {
+        Call::StoreOne {
+            key,
+            value,
+            ttl,
+            exclusive,
+        } => {
+            let (pass, stored) = store(rt, shared, pass, key, value, *ttl, *exclusive, t);
+            (pass, write_flag(out, stored))
+        }
+        Call::ExistsOne(key) => {
+            let (pass, there) = exists(rt, shared, pass, key, t);
+            (pass, write_flag(out, there))
+        }
+        Call::DeleteOne(key) => {
+            let (pass, deleted) = delete(rt, shared, pass, key, t);
+            (pass, write_flag(out, deleted))
+        }
+        Call::Cas { key, expect, set } => {
+            let (pass, was_set) = cas(rt, shared, pass, key, *expect, *set, t);
+            (pass, write_flag(out, was_set))
+        }
+        _ => unreachable!(),
+    }
+}
+
+// Plays a call that asks what is noted of a key, of the cache or of its segment, and prints that.
+fn play_told<N: TableName, R: Wait>(
+    rt: &R,
+    alloc: Global,
+    shared: &Shared<N>,
+    pass: Pass,
+    call: &Call,
+    t: u64,
+    out: &mut ByteOut,
+) -> (Pass, Result<(), AllocError>)
+    requires table { pass.table ≡ N.table }
+    requires whole { KnowsOwnEvents pass }
+    requires left { 2 ≤ pass.known.left }
+    requires informs { IsInforming call.now }
+    ensures reaches { Reaches N.conf (length N.budgets) pass result.0
+        (turns_at t (next_of N.conf call.now)) }
+    ensures line { OnOk result.1 (Tells N.conf (length N.budgets) pass result.0
+        (turns_at t (next_of N.conf call.now))
+        (λ replies. out.old ++ call_text call.now replies) out.new) }
+{
+    match call {
         Call::KeyInfo(key) => {
             let (pass, info) = key_info(rt, alloc, shared, pass, key, t);
             match info {
@@ -158,6 +216,39 @@ pub(crate) fn play_call<N: TableName, G: Gate, R: Wait>(
                 Err(e) => (pass, Err(e)),
             }
         }
+        _ => unreachable!(),
+    }
+}
+
+// Plays a call of an iterator, and prints what it answers. `number` is that of the call in its
+// script, and `search` is one for its pattern.
+fn play_searching<N: TableName, G: Gate, R: Wait>(
+    rt: &R,
+    alloc: Global,
+    shared: &Shared<N>,
+    gate: &G,
+    number: u32,
+    slots: u32,
+    pass: Pass,
+    call: &Call,
+    search: &mut Search,
+    t: u64,
+    out: &mut ByteOut,
+) -> (Pass, Result<(), AllocError>)
+    requires table { pass.table ≡ N.table }
+    requires whole { KnowsOwnEvents pass }
+    requires slots { slots ≡ N.conf.slots }
+    requires left { event_bound N.conf.slots call.now < pass.known.left }
+    requires ranges { HasRanges call.now }
+    requires search { search.old ≡ call_pattern call.now }
+    requires searches { IsSearching call.now }
+    ensures reaches { Reaches N.conf (length N.budgets) pass result.0
+        (turns_at t (next_of N.conf call.now)) }
+    ensures line { OnOk result.1 (Tells N.conf (length N.budgets) pass result.0
+        (turns_at t (next_of N.conf call.now))
+        (λ replies. out.old ++ call_text call.now replies) out.new) }
+{
+    match call {
         Call::Walk {
             fields,
             size,
@@ -181,6 +272,7 @@ pub(crate) fn play_call<N: TableName, G: Gate, R: Wait>(
                 Err(e) => (pass, Err(e)),
             }
         }
+        _ => unreachable!(),
     }
 }
 

@@ -1,0 +1,27 @@
+-- Calls that are played in the same way.
+use Rattle.script_read.specs.declared.call.Call.{Call}
+use Rattle.script_read.specs.declared.call.Call.TheVariants.{StoreOne, ExistsOne, DeleteOne, Cas}
+use Rattle.script_read.specs.declared.call.Call.TheVariants.{KeyInfo, CacheInfo, SmaInfo, Walk}
+use Rattle.script_read.specs.declared.call.Call.TheVariants.{WalkDelete, Totals}
+
+-- of one key, and answered by whether it was done
+abbrev pub IsFlagged : Call → Type 0
+IsFlagged (StoreOne key value ttl exclusive) = Unit {0}
+IsFlagged (ExistsOne key) = Unit {0}
+IsFlagged (DeleteOne key) = Unit {0}
+IsFlagged (Cas key expect set) = Unit {0}
+IsFlagged _ = ⊥
+
+-- answered by what is noted of a key, of the cache or of its segment
+abbrev pub IsInforming : Call → Type 0
+IsInforming (KeyInfo key) = Unit {0}
+IsInforming (CacheInfo limited) = Unit {0}
+IsInforming (SmaInfo limited) = Unit {0}
+IsInforming _ = ⊥
+
+-- over the rows whose keys a search finds
+abbrev pub IsSearching : Call → Type 0
+IsSearching (Walk wanted fields size list) = Unit {0}
+IsSearching (WalkDelete wanted size) = Unit {0}
+IsSearching (Totals wanted list) = Unit {0}
+IsSearching _ = ⊥
