@@ -20,6 +20,21 @@ use crate::telling::measure_telling;
 use crate::values::Values;
 use std::{env, io};
 
+// Measures each kind of work over few rows, and prints nothing.
+fn measure_few(rt: &HostRuntime, values: &Values) -> io::Result<()> {
+    measure_staying(rt, 100, values, 1, false)?;
+    measure_leaving(rt, 100, values, 1, false)?;
+    measure_telling(rt, 100, values, 1, false)
+}
+
+// Measures what is asked for by name over so many rows.
+fn measure_named(rt: &HostRuntime, values: &Values, what: &str, rows: u32) -> io::Result<()> {
+    match what {
+        "info" => measure_telling(rt, rows, values, 5, true),
+        _ => measure_leaving(rt, rows, values, 5, true),
+    }
+}
+
 fn main(rt: HostRuntime) -> io::Result<()> {
     let mut args = env::args(&rt)?;
     let _program = args.next();
@@ -29,21 +44,13 @@ fn main(rt: HostRuntime) -> io::Result<()> {
         return Ok(());
     };
     let Some(what) = what else {
-        measure_staying(&rt, 100, &values, 1, false)?;
-        measure_leaving(&rt, 100, &values, 1, false)?;
-        measure_telling(&rt, 100, &values, 1, false)?;
-        return Ok(());
+        return measure_few(&rt, &values);
     };
     if let Some(count) = count {
         let rows = count.as_str().parse::<u32>().unwrap_or(0);
-        match what.as_str() {
-            "info" => measure_telling(&rt, rows, &values, 5, true)?,
-            _ => measure_leaving(&rt, rows, &values, 5, true)?,
-        }
-        return Ok(());
+        return measure_named(&rt, &values, what.as_str(), rows);
     }
     let rows = what.as_str().parse::<u32>().unwrap_or(0);
     let times = 3 + 200_000 / rows.max(1);
-    measure_staying(&rt, rows, &values, times, true)?;
-    Ok(())
+    measure_staying(&rt, rows, &values, times, true)
 }

@@ -39,6 +39,61 @@ pub fn shape(rows: u32) -> Conf {
     }
 }
 
+// Measures each kind of call on texts once.
+fn report_texts(
+    rt: &HostRuntime,
+    cache: &mut WordCache,
+    short: &[u32],
+    long: &[u32],
+    values: &Values,
+    is_loud: bool,
+) -> io::Result<()> {
+    for step in TEXTS {
+        let keys = if step.is_long() { long } else { short };
+        report(rt, cache, keys, values, step, is_loud)?;
+    }
+    Ok(())
+}
+
+// Measures each kind of call on integers once.
+fn report_integers(
+    rt: &HostRuntime,
+    cache: &mut WordCache,
+    keys: &[u32],
+    values: &Values,
+    is_loud: bool,
+) -> io::Result<()> {
+    for step in INTEGERS {
+        report(rt, cache, keys, values, step, is_loud)?;
+    }
+    Ok(())
+}
+
+// Measures each kind of call so many times: on texts, then with an integer in each short one's row.
+fn report_all(
+    rt: &HostRuntime,
+    cache: &mut WordCache,
+    short: &mut [u32],
+    long: &mut [u32],
+    values: &Values,
+    times: u32,
+    is_loud: bool,
+) -> io::Result<()> {
+    let mut state = 1;
+    for _ in 0..times {
+        state = shuffle(short, state);
+        state = shuffle(long, state);
+        report_texts(rt, cache, short, long, values, is_loud)?;
+    }
+    let put = Act::Store(&values.number, 0, false);
+    let _stored = cache.calls(rt.alloc(), short, put, NOW);
+    for _ in 0..times {
+        state = shuffle(short, state);
+        report_integers(rt, cache, short, values, is_loud)?;
+    }
+    Ok(())
+}
+
 /// Measures each kind of call on so many rows, so many times.
 pub fn measure_staying(
     rt: &HostRuntime,
@@ -56,23 +111,15 @@ pub fn measure_staying(
     cache.fill(alloc, rows, STEP, values, 0, NOW);
     let mut short = numbers(alloc, 0, rows, STEP)?;
     let mut long = numbers(alloc, 1, rows, STEP)?;
-    let mut state = 1;
-    for _ in 0..times {
-        state = shuffle(short.as_mut_slice(), state);
-        state = shuffle(long.as_mut_slice(), state);
-        for step in TEXTS {
-            let keys = if step.is_long() { &long } else { &short };
-            report(rt, &mut cache, keys.as_slice(), values, step, is_loud)?;
-        }
-    }
-    let put = Act::Store(&values.number, 0, false);
-    let _stored = cache.calls(alloc, short.as_slice(), put, NOW);
-    for _ in 0..times {
-        state = shuffle(short.as_mut_slice(), state);
-        for step in INTEGERS {
-            report(rt, &mut cache, short.as_slice(), values, step, is_loud)?;
-        }
-    }
+    report_all(
+        rt,
+        &mut cache,
+        short.as_mut_slice(),
+        long.as_mut_slice(),
+        values,
+        times,
+        is_loud,
+    )?;
     if is_loud {
         println!(rt; "rows 0 {}", cache.rows())?;
     }

@@ -27,6 +27,17 @@ fn name(told: Told) -> &'static str {
     }
 }
 
+// Measures one thing that is told, and prints what was measured.
+fn report(rt: &HostRuntime, cache: &mut WordCache, told: Told, is_loud: bool) -> io::Result<()> {
+    let start = Instant::now(rt)?;
+    let places = cache.tell(rt.alloc(), told)?;
+    let spent = since(rt, start)?;
+    if is_loud {
+        println!(rt; "{} {} {places}", name(told), spent.saturating_mul(1000))?;
+    }
+    Ok(())
+}
+
 /// Measures what is told of a cache of so many rows, of which each tenth left a gap, so many times,
 /// and prints what was measured.
 pub fn measure_telling(
@@ -47,12 +58,7 @@ pub fn measure_telling(
     let _deleted = cache.calls(alloc, gone.as_slice(), Act::Delete, NOW);
     for _ in 0..times {
         for told in ALL {
-            let start = Instant::now(rt)?;
-            let places = cache.tell(alloc, told)?;
-            let spent = since(rt, start)?;
-            if is_loud {
-                println!(rt; "{} {} {places}", name(told), spent.saturating_mul(1000))?;
-            }
+            report(rt, &mut cache, told, is_loud)?;
         }
     }
     Ok(())
