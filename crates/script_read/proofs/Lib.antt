@@ -12,4 +12,5 @@ pub mod Walking
 pub mod Members
 pub mod Slashes
 pub mod Bits
+pub mod Calling
 pub mod Answered

@@ -1,7 +1,9 @@
-use Rattle.std.proofs.Common.{[], arith}
+use Rattle.std.proofs.Common.{[], refl, arith}
 use Rattle.std.proofs.lemmas.Grind.{common_steps}
 use Rattle.std.proofs.lemmas.Result.{err_from_is_err_and}
-use Rattle.script_read.proofs.Rows.{store_one_is, fails, goes_on, moved}
+use Rattle.script_read.specs.declared.call.Call.TheVariants.{StoreOne}
+use Rattle.script_read.proofs.Calling.{call_goes}
+use Rattle.script_read.proofs.Rows.{store_one_is, fails, goes_on}
 use Rattle.script_read.proofs.stores.store_one.Goals as goal
 
 pub returns-in_err-value-clause-read : goal.returns-in_err-value-clause-read
@@ -16,7 +18,8 @@ returns-in_err-ttl-clause-read c = λ last.
 
 pub returns-clause-read : goal.returns-clause-read
 returns-clause-read c = λ last.
-    moved _ c.bare.result _ _ (goes_on _ _ _ _ (goes_on _ _ _ _ (store_one_is c.args.exclusive c.args.key last c.args.bytes.now) c.in_ok-value.ensures.read) c.in_ok-ttl.ensures.read) (c.bare.ensures.read [])
+    call_goes _ c.bare.result (StoreOne c.args.key c.in_ok-value.value c.in_ok-ttl.ttl c.args.exclusive) _ c.in_ok-ttl.rest.now _
+    (goes_on _ _ _ _ (goes_on _ _ _ _ (store_one_is c.args.exclusive c.args.key last c.args.bytes.now) c.in_ok-value.ensures.read) c.in_ok-ttl.ensures.read) (c.bare.ensures.read []) refl
 
 pub returns-clause-fewer : goal.returns-clause-fewer
 returns-clause-fewer c = grind (arith, common_steps)

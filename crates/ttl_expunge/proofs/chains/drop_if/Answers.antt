@@ -28,3 +28,6 @@ returns-else-is_dropped-clause-drops g c =
     let none : filter (is_to_drop c.args.which c.args.t) (only_at c.args.at s.rows) ≡ [] = ap (filter (is_to_drop c.args.which c.args.t)) o.only ∙ ap (λ b. cond b (o.row ∷ []) []) is in
     subst (λ (l : List Row). Drops s s (g.S.WordsIn.aside c.args.seg.now) (g.S.WordsIn.aside c.head-head.new.seg) c.args.t l) (sym none)
     (drops_none s (g.S.WordsIn.aside c.args.seg.now) (g.S.WordsIn.aside c.head-head.new.seg) c.args.t c.head-head.ensures.kept.aside c.requires.refused)
+
+pub drop_row-requires-clause-there : goal.drop_row-requires-clause-there
+drop_row-requires-clause-there g c = c.requires.there

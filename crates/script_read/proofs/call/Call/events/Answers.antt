@@ -49,3 +49,6 @@ returns-in-StoreOne-12 c = grind (arith, common_steps)
 
 pub returns-in-StoreOne-13 : goal.returns-in-StoreOne-13
 returns-in-StoreOne-13 c = grind (arith, common_steps)
+
+pub returns-in-Walk-default-default-default-Active : goal.returns-in-Walk-default-default-default-Active
+returns-in-Walk-default-default-default-Active c = grind (arith, common_steps)
