@@ -1,4 +1,5 @@
-use Rattle.std.proofs.Common.{Option, refl, sym, ap, ◌∙◌, w64, to_z, of_z}
+use Rattle.std.proofs.Common.{arith, Option, refl, sym, ap, ◌∙◌, w64, to_z, of_z}
+use Rattle.std.proofs.lemmas.Grind.{common_steps}
 use Rattle.std.proofs.lemmas.Int.{to_z-of_z}
 use Rattle.seg_words.specs.Windows.{held_blocks}
 use Rattle.seg_words.specs.Probing.{goes_nowhere}
@@ -32,3 +33,96 @@ returns-in-Nothing-clause-cache g c =
     (ap (λ z. (counted_at (held_blocks now) c.args.key.now z c.args.ttl c.args.t old (live_row c.args.key.now c.args.t old)).cache) (sym (to_z-of_z w64 c.args.step c.ranges.step))
     ∙ (ap (λ (o : Option Row). (counted_at (held_blocks now) c.args.key.now n c.args.ttl c.args.t old o).cache) none
     ∙ ap (λ (n : Count). n.cache) (c.begin.ensures.later now (goes_nowhere now now refl))))
+
+pub look_for-requires-clause-short : goal.look_for-requires-clause-short
+look_for-requires-clause-short g c = grind (arith, common_steps)
+
+pub look_for-requires-clause-stand : goal.look_for-requires-clause-stand
+look_for-requires-clause-stand g c = grind (arith, common_steps)
+
+pub begin-requires-clause-short : goal.begin-requires-clause-short
+begin-requires-clause-short g c = grind (arith, common_steps)
+
+pub begin-requires-clause-stand : goal.begin-requires-clause-stand
+begin-requires-clause-stand g c = grind (arith, common_steps)
+
+pub begin-requires-clause-fresh : goal.begin-requires-clause-fresh
+begin-requires-clause-fresh g c = grind (arith, common_steps)
+
+pub set_int-requires-clause-stand : goal.set_int-requires-clause-stand
+set_int-requires-clause-stand g c = grind (arith, common_steps)
+
+pub returns-in-Nothing-clause-answer : goal.returns-in-Nothing-clause-answer
+returns-in-Nothing-clause-answer g c = grind (arith, common_steps)
+
+pub returns-in-Nothing-clause-reply : goal.returns-in-Nothing-clause-reply
+returns-in-Nothing-clause-reply g c = grind (arith, common_steps)
+
+pub returns-in-Nothing-clause-later : goal.returns-in-Nothing-clause-later
+returns-in-Nothing-clause-later g c = grind (arith, common_steps)
+
+pub returns-in-Nothing-clause-goes : goal.returns-in-Nothing-clause-goes
+returns-in-Nothing-clause-goes g c = grind (arith, common_steps)
+
+pub returns-in-Nothing-clause-keeps : goal.returns-in-Nothing-clause-keeps
+returns-in-Nothing-clause-keeps g c = grind (arith, common_steps)
+
+pub returns-in-Nothing-clause-refused : goal.returns-in-Nothing-clause-refused
+returns-in-Nothing-clause-refused g c = grind (arith, common_steps)
+
+pub returns-in-Nothing-clause-stand : goal.returns-in-Nothing-clause-stand
+returns-in-Nothing-clause-stand g c = grind (arith, common_steps)
+
+pub returns-in-Nothing-clause-rest : goal.returns-in-Nothing-clause-rest
+returns-in-Nothing-clause-rest g c = grind (arith, common_steps)
+
+pub returns-in-Other-clause-answer : goal.returns-in-Other-clause-answer
+returns-in-Other-clause-answer g c = grind (arith, common_steps)
+
+pub returns-in-Other-clause-reply : goal.returns-in-Other-clause-reply
+returns-in-Other-clause-reply g c = grind (arith, common_steps)
+
+pub returns-in-Other-clause-cache : goal.returns-in-Other-clause-cache
+returns-in-Other-clause-cache g c = grind (arith, common_steps)
+
+pub returns-in-Other-clause-later : goal.returns-in-Other-clause-later
+returns-in-Other-clause-later g c = grind (arith, common_steps)
+
+pub returns-in-Other-clause-goes : goal.returns-in-Other-clause-goes
+returns-in-Other-clause-goes g c = grind (arith, common_steps)
+
+pub returns-in-Other-clause-keeps : goal.returns-in-Other-clause-keeps
+returns-in-Other-clause-keeps g c = grind (arith, common_steps)
+
+pub returns-in-Other-clause-refused : goal.returns-in-Other-clause-refused
+returns-in-Other-clause-refused g c = grind (arith, common_steps)
+
+pub returns-in-Other-clause-stand : goal.returns-in-Other-clause-stand
+returns-in-Other-clause-stand g c = grind (arith, common_steps)
+
+pub returns-in-Other-clause-rest : goal.returns-in-Other-clause-rest
+returns-in-Other-clause-rest g c = grind (arith, common_steps)
+
+pub returns-in-Integer-clause-answer : goal.returns-in-Integer-clause-answer
+returns-in-Integer-clause-answer g c = grind (arith, common_steps)
+
+pub returns-in-Integer-clause-reply : goal.returns-in-Integer-clause-reply
+returns-in-Integer-clause-reply g c = grind (arith, common_steps)
+
+pub returns-in-Integer-clause-cache : goal.returns-in-Integer-clause-cache
+returns-in-Integer-clause-cache g c = grind (arith, common_steps)
+
+pub returns-in-Integer-clause-later : goal.returns-in-Integer-clause-later
+returns-in-Integer-clause-later g c = grind (arith, common_steps)
+
+pub returns-in-Integer-clause-goes : goal.returns-in-Integer-clause-goes
+returns-in-Integer-clause-goes g c = grind (arith, common_steps)
+
+pub returns-in-Integer-clause-refused : goal.returns-in-Integer-clause-refused
+returns-in-Integer-clause-refused g c = grind (arith, common_steps)
+
+pub returns-in-Integer-clause-stand : goal.returns-in-Integer-clause-stand
+returns-in-Integer-clause-stand g c = grind (arith, common_steps)
+
+pub returns-in-Integer-clause-rest : goal.returns-in-Integer-clause-rest
+returns-in-Integer-clause-rest g c = grind (arith, common_steps)

@@ -1,7 +1,7 @@
-use Rattle.std.proofs.Common.{arith, sym, ◌∙◌, ◌≡◌, ◌+◌, ◌++◌, take, length, refl}
+use Rattle.std.proofs.Common.{arith, sym, ◌∙◌, ◌≡◌, ◌+◌, ◌++◌, take, length, refl, []}
 use Rattle.std.proofs.lemmas.Grind.{common_steps}
 use Rattle.std.proofs.lemmas.Result.{err_from_is_err_and}
-use Rattle.io_edges.proofs.Bytes.{given_more, taken_more}
+use Rattle.io_edges.proofs.Bytes.{nothing_before, given_more, read_before, all_read, taken_more}
 use Rattle.io_edges.proofs.reading.read_all.Goals as goal
 
 pub returns-in-Took-clause-one_more : goal.returns-in-Took-clause-one_more
@@ -61,7 +61,7 @@ pub returns-in_err-buffer-clause-never_falls : goal.returns-in_err-buffer-clause
 returns-in_err-buffer-clause-never_falls g c = omega arith
 
 pub returns-in_err-buffer-clause-part : goal.returns-in_err-buffer-clause-part
-returns-in_err-buffer-clause-part g c = grind (arith, common_steps)
+returns-in_err-buffer-clause-part g c = rw (err_from_is_err_and c.from_residual.result c.from_residual.ensures.1).1 (0, omega arith, ([], refl, sym (nothing_before _)))
 
 pub turns-init : goal.turns-init
 turns-init g c = grind (arith, common_steps)
@@ -136,16 +136,16 @@ pub returns-in_err-map_err-in-Took-2-clause-never_falls : goal.returns-in_err-ma
 returns-in_err-map_err-in-Took-2-clause-never_falls g c = omega (arith, c.in-Took-2.ensures.faults, c.turns.invariant.faults)
 
 pub returns-in-End-clause-all : goal.returns-in-End-clause-all
-returns-in-End-clause-all g c = grind (arith, common_steps)
+returns-in-End-clause-all g c = all_read _ _ _ _ c.turns.invariant.given c.in-End.ensures.bytes c.in-End.ensures.end
 
 pub returns-in-End-clause-given : goal.returns-in-End-clause-given
-returns-in-End-clause-given g c = grind (arith, common_steps)
+returns-in-End-clause-given g c = read_before _ _ _ _ c.turns.invariant.given c.in-End.ensures.bytes
 
 pub returns-in-End-clause-end : goal.returns-in-End-clause-end
-returns-in-End-clause-end g c = grind (arith, common_steps)
+returns-in-End-clause-end g c = c.in-End.ensures.end
 
 pub returns-in-End-clause-within : goal.returns-in-End-clause-within
-returns-in-End-clause-within g c = grind (arith, common_steps)
+returns-in-End-clause-within g c = c.turns.invariant.within
 
 pub returns-in-End-clause-too_long : goal.returns-in-End-clause-too_long
 returns-in-End-clause-too_long g c = λ h. absurd (cc (h))
@@ -190,7 +190,8 @@ pub returns-in-Failed-clause-calm : goal.returns-in-Failed-clause-calm
 returns-in-Failed-clause-calm g c = λ other. absurd (other refl)
 
 pub returns-in-Failed-clause-never_falls : goal.returns-in-Failed-clause-never_falls
-returns-in-Failed-clause-never_falls g c = grind (arith, common_steps)
+returns-in-Failed-clause-never_falls g c = rw (sym c.turns.invariant.faults) c.in-Failed.ensures.faults.0
 
 pub returns-in-Failed-clause-part : goal.returns-in-Failed-clause-part
-returns-in-Failed-clause-part g c = grind (arith, common_steps)
+returns-in-Failed-clause-part g c =
+    (length c.turns.bytes.items, omega (arith, c.turns.invariant.within), (c.turns.bytes.items, refl, read_before _ _ _ _ c.turns.invariant.given c.in-Failed.ensures.bytes))
