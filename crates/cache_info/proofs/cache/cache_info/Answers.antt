@@ -1,4 +1,5 @@
-use Rattle.std.proofs.Common.{◌++◌, ◌≡◌, ◌∙◌, ap, sym, map}
+use Rattle.std.proofs.Common.{arith, ◌++◌, ◌≡◌, ◌∙◌, ap, sym, map}
+use Rattle.std.proofs.lemmas.Grind.{common_steps}
 use Rattle.std.specs.Prelude.{Bool, sum_by}
 use Rattle.std.proofs.lemmas.Result.{IfOk-weaker}
 use Rattle.php_graph.specs.declared.graph.Graph.{Graph}
@@ -46,3 +47,63 @@ pub returns-clause-reply : goal.returns-clause-reply
 returns-clause-reply g c = λ t.
     let all = cache_of c.args.core.now in
     IfOk-weaker c.tell_cache.result (λ (x : Graph). x ≡ cache_info_of c.args.limited all) (λ (x : Graph). Info x ≡ Info (cache_info_of c.args.limited all)) (λ x is. ap Info is) (returns-clause-info g c)
+
+pub conf-conf-requires : goal.conf-conf-requires
+conf-conf-requires g c = grind (arith, common_steps)
+
+pub counts-counts-requires : goal.counts-counts-requires
+counts-counts-requires g c = grind (arith, common_steps)
+
+pub slots-slots-requires : goal.slots-slots-requires
+slots-slots-requires g c = grind (arith, common_steps)
+
+pub words_of-words-requires : goal.words_of-words-requires
+words_of-words-requires g c = grind (arith, common_steps)
+
+pub tell_counts-requires : goal.tell_counts-requires
+tell_counts-requires g c = grind (arith, common_steps)
+
+pub returns-then-limited-clause-same : goal.returns-then-limited-clause-same
+returns-then-limited-clause-same g c = grind (arith, common_steps)
+
+pub returns-then-limited-clause-kept : goal.returns-then-limited-clause-kept
+returns-then-limited-clause-kept g c = grind (arith, common_steps)
+
+pub list_rows-requires : goal.list_rows-requires
+list_rows-requires g c = grind (arith, common_steps)
+
+pub returns-in_err-rows-clause-info : goal.returns-in_err-rows-clause-info
+returns-in_err-rows-clause-info g c = grind (arith, common_steps)
+
+pub returns-in_err-rows-clause-reply : goal.returns-in_err-rows-clause-reply
+returns-in_err-rows-clause-reply g c = grind (arith, common_steps)
+
+pub returns-in_err-rows-clause-same : goal.returns-in_err-rows-clause-same
+returns-in_err-rows-clause-same g c = grind (arith, common_steps)
+
+pub returns-in_err-rows-clause-kept : goal.returns-in_err-rows-clause-kept
+returns-in_err-rows-clause-kept g c = grind (arith, common_steps)
+
+pub list_removed-requires : goal.list_removed-requires
+list_removed-requires g c = grind (arith, common_steps)
+
+pub returns-in_err-removed-clause-info : goal.returns-in_err-removed-clause-info
+returns-in_err-removed-clause-info g c = grind (arith, common_steps)
+
+pub returns-in_err-removed-clause-reply : goal.returns-in_err-removed-clause-reply
+returns-in_err-removed-clause-reply g c = grind (arith, common_steps)
+
+pub returns-in_err-removed-clause-same : goal.returns-in_err-removed-clause-same
+returns-in_err-removed-clause-same g c = grind (arith, common_steps)
+
+pub returns-in_err-removed-clause-kept : goal.returns-in_err-removed-clause-kept
+returns-in_err-removed-clause-kept g c = grind (arith, common_steps)
+
+pub tell_cache-requires : goal.tell_cache-requires
+tell_cache-requires g c = grind (arith, common_steps)
+
+pub returns-clause-same : goal.returns-clause-same
+returns-clause-same g c = grind (arith, common_steps)
+
+pub returns-clause-kept : goal.returns-clause-kept
+returns-clause-kept g c = grind (arith, common_steps)

@@ -1,4 +1,5 @@
 use Rattle.std.proofs.Common.{◌≡◌, ◌∙◌, ◌+◌, ◌++◌, ap, sym, subst, arith, length, take, drop}
+use Rattle.std.proofs.lemmas.Grind.{common_steps}
 use Rattle.std.proofs.Math.Seq.{take-append_seam}
 use Rattle.std.specs.Prelude.{vec_len}
 use Rattle.seg_words.specs.declared.layout.TheConstants.{HEAD_WORDS}
@@ -57,3 +58,30 @@ returns-clause-row g c = λ row is.
     c.from_vec.ensures ∙ ap (λ n. take n (out ++ rest)) long ∙ take-append_seam out rest ∙ bytes in
     let noted : c.noted.result ≡ noted_of row = c.noted.ensures ∙ heads_alike words aside.windows c.head-head.result row head in
     λ i. record { key = key i; noted = noted i }
+
+pub lower_laws-requires : goal.lower_laws-requires
+lower_laws-requires g c = grind (arith, common_steps)
+
+pub head-head-requires-clause-stand : goal.head-head-requires-clause-stand
+head-head-requires-clause-stand g c = grind (arith, common_steps)
+
+pub head-head-requires-clause-there : goal.head-head-requires-clause-there
+head-head-requires-clause-there g c = grind (arith, common_steps)
+
+pub overflow_cast-head : goal.overflow_cast-head
+overflow_cast-head g c = grind (arith, common_steps)
+
+pub returns-in_err-key-clause-row : goal.returns-in_err-key-clause-row
+returns-in_err-key-clause-row g c = grind (arith, common_steps)
+
+pub returns-in_err-key-clause-kept : goal.returns-in_err-key-clause-kept
+returns-in_err-key-clause-kept g c = grind (arith, common_steps)
+
+pub from_vec-requires : goal.from_vec-requires
+from_vec-requires g c = grind (arith, common_steps)
+
+pub noted-requires : goal.noted-requires
+noted-requires g c = grind (arith, common_steps)
+
+pub returns-clause-kept : goal.returns-clause-kept
+returns-clause-kept g c = grind (arith, common_steps)

@@ -1,4 +1,5 @@
 use Rattle.std.proofs.Common.{◌≡◌, ◌∙◌, ◌+◌, ◌∷◌, [], ◌++◌, ap, sym, arith, length, length-append, drop, map, append-nil}
+use Rattle.std.proofs.lemmas.Grind.{common_steps}
 use Rattle.apcu_model.specs.Infos.{listed_of}
 use Rattle.entry_slots.specs.Lists.{first_place}
 use Rattle.entry_slots.specs.Standing.{entries}
@@ -38,3 +39,36 @@ returns-clause-rows g c =
     let old = c.loop-at.list.items in
     let none = removed_end c.lower_laws.ensures.sound c.args.slots.now (g.S.WordsIn.words c.args.seg.now) (g.S.WordsIn.aside c.args.seg.now) s (length old) c.requires.stand (sym c.loop-at-test.false ∙ i.at) in
     sym (append-nil old) ∙ sym (ap (λ l. old ++ map listed_of l) none) ∙ i.rows
+
+pub lower_laws-requires : goal.lower_laws-requires
+lower_laws-requires g c = grind (arith, common_steps)
+
+pub first_removed-at-requires : goal.first_removed-at-requires
+first_removed-at-requires g c = grind (arith, common_steps)
+
+pub loop-at-init : goal.loop-at-init
+loop-at-init g c = grind (arith, common_steps)
+
+pub listed_at-requires-clause-stand : goal.listed_at-requires-clause-stand
+listed_at-requires-clause-stand g c = grind (arith, common_steps)
+
+pub returns-in_err-listed_at-clause-rows : goal.returns-in_err-listed_at-clause-rows
+returns-in_err-listed_at-clause-rows g c = grind (arith, common_steps)
+
+pub returns-in_err-listed_at-clause-kept : goal.returns-in_err-listed_at-clause-kept
+returns-in_err-listed_at-clause-kept g c = grind (arith, common_steps)
+
+pub returns-in_err-push-clause-rows : goal.returns-in_err-push-clause-rows
+returns-in_err-push-clause-rows g c = grind (arith, common_steps)
+
+pub returns-in_err-push-clause-kept : goal.returns-in_err-push-clause-kept
+returns-in_err-push-clause-kept g c = grind (arith, common_steps)
+
+pub after-at-requires-clause-stand : goal.after-at-requires-clause-stand
+after-at-requires-clause-stand g c = grind (arith, common_steps)
+
+pub loop-at-smaller : goal.loop-at-smaller
+loop-at-smaller g c = grind (arith, common_steps)
+
+pub returns-clause-kept : goal.returns-clause-kept
+returns-clause-kept g c = grind (arith, common_steps)

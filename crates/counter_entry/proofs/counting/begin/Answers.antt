@@ -9,16 +9,16 @@ pub returns-clause-later : goal.returns-clause-later
 returns-clause-later c = grind (arith, common_steps)
 
 pub returns-clause-goes : goal.returns-clause-goes
-returns-clause-goes c = grind (arith, common_steps)
+returns-clause-goes g c = c.store.ensures.goes
 
 pub returns-clause-keeps : goal.returns-clause-keeps
-returns-clause-keeps c = grind (arith, common_steps)
+returns-clause-keeps g c = c.store.ensures.keeps
 
 pub returns-clause-refused : goal.returns-clause-refused
-returns-clause-refused c = grind (arith, common_steps)
+returns-clause-refused g c = c.store.ensures.refused
 
 pub returns-clause-stand : goal.returns-clause-stand
-returns-clause-stand c = grind (arith, common_steps)
+returns-clause-stand g c = c.store.ensures.stand
 
 pub returns-clause-rest : goal.returns-clause-rest
-returns-clause-rest c = grind (arith, common_steps)
+returns-clause-rest g c = c.store.ensures.rest
