@@ -2,6 +2,7 @@
 
 mod keys;
 mod leaving;
+mod lines;
 mod staying;
 mod steps;
 mod telling;

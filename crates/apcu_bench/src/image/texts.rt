@@ -14,15 +14,20 @@ pub fn write_often(alloc: Global, g: &Graph, rounds: u32) -> Option<()> {
     Some(())
 }
 
+// Reads the value from its text once, and says how many places it has.
+fn read_once(alloc: Global, text: &[u8]) -> Option<u32> {
+    let mut from = Cursor::new(text);
+    let back = read_value(alloc, &mut from).ok()?;
+    Some(back.places())
+}
+
 /// Writes the value's text once, and reads the value from it so many times.
 pub fn read_often(alloc: Global, g: &Graph, rounds: u32) -> Option<u32> {
     let mut out = ByteOut::new(alloc);
     write_value(g, 0, &mut out).ok()?;
     let mut places = 0;
     'rounds: for _ in 0..rounds {
-        let mut from = Cursor::new(out.as_slice());
-        let back = read_value(alloc, &mut from).ok()?;
-        places = back.places();
+        places = read_once(alloc, out.as_slice())?;
     }
     Some(places)
 }

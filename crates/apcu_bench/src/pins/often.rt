@@ -4,11 +4,12 @@ ghost use Rattle.std.specs.Prelude.{◌≡◌, ◌<◌, ◌^◌, length};
 ghost use Rattle.php_graph.specs.Size.{image_length};
 ghost use Rattle.value_image.specs.Image.{IsImageOf};
 
+use crate::image::often::unpersist_often;
 use php_graph::Graph;
 use pin_table::{Copying, Image, PinTable};
 use seg_words::{VecWords, WordsIn};
 use std::alloc::Global;
-use value_image::{persist, unpersist};
+use value_image::unpersist;
 
 // One fetch: the value of the pinned block.
 fn fetch(alloc: Global, table: &PinTable, copying: &mut Copying, g: &Graph) -> Option<Graph>
@@ -119,11 +120,5 @@ pub fn read_often(alloc: Global, g: &Graph, rounds: u32) -> Option<u32> {
         return None;
     }
     let mut row = VecWords::new(alloc, words as u32).ok()?;
-    persist(&mut row, 0, g);
-    let mut places = 0;
-    'rounds: for _ in 0..rounds {
-        let back = unpersist(alloc, &mut row, 0, words as u32).ok()?;
-        places = back.places();
-    }
-    Some(places)
+    unpersist_often(alloc, &mut row, g, rounds)
 }
