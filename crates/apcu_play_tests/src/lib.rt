@@ -18,6 +18,8 @@ mod iterators;
 #[cfg(test)]
 mod iterators_that_differ;
 #[cfg(test)]
+mod laws;
+#[cfg(test)]
 mod options;
 #[cfg(test)]
 mod pieces;

@@ -1,4 +1,5 @@
-use Rattle.std.proofs.Common.{not, List, [], sym, ap, ◌∙◌}
+use Rattle.std.proofs.Common.{not, List, [], sym, ap, ◌∙◌, arith}
+use Rattle.std.proofs.lemmas.Grind.{common_steps}
 use Rattle.std.proofs.lemmas.Bool.{cond-true}
 use Rattle.std.specs.Prelude.{is_some}
 use Rattle.apcu_model.specs.Cache.{Row, Cache, has_key}
@@ -23,3 +24,12 @@ returns-clause-valid c =
       good = c.requires.good;
       apart = ap are_apart c.drop_key.ensures ∙ are_apart-filter (λ row. not (has_key c.args.key.now row)) s.rows.items c.requires.apart;
     }
+
+pub returns-then-not-is_live-clause-reply : goal.returns-then-not-is_live-clause-reply
+returns-then-not-is_live-clause-reply c = grind (arith, common_steps)
+
+pub returns-then-not-is_live-clause-cache : goal.returns-then-not-is_live-clause-cache
+returns-then-not-is_live-clause-cache c = grind (arith, common_steps)
+
+pub returns-clause-reply : goal.returns-clause-reply
+returns-clause-reply c = grind (arith, common_steps)

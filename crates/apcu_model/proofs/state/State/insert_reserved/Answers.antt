@@ -1,4 +1,4 @@
-use Rattle.std.proofs.Common.{arith}
+use Rattle.std.proofs.Common.{arith, rules}
 use Rattle.std.proofs.lemmas.Grind.{common_steps}
 use Rattle.apcu_model.proofs.state.State.insert_reserved.Goals as goal
 
@@ -37,3 +37,6 @@ returns-in-None-clause-capacity c = grind (arith, common_steps)
 
 pub returns-in-None-clause-extents : goal.returns-in-None-clause-extents
 returns-in-None-clause-extents c = grind (arith, common_steps)
+
+pub make_room-requires-clause-valid : goal.make_room-requires-clause-valid
+make_room-requires-clause-valid c = search (rules, c.requires.valid)

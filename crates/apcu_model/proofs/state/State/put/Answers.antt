@@ -7,12 +7,6 @@ use Rattle.apcu_model.specs.Walk.{is_in_slot, slot_of}
 use Rattle.apcu_model.proofs.Apart.{fresh_rows, new_row, placed_of, are_apart-filter, are_apart-with_row}
 use Rattle.apcu_model.proofs.state.State.put.Goals as goal
 
-pub put_row-requires-clause-apart : goal.put_row-requires-clause-apart
-put_row-requires-clause-apart c =
-    let s = c.args.self.now in
-    let slot = c.hash_of.result % c.from.result in
-    ap are_apart c.drop_expired_in.ensures.items ∙ are_apart-filter (λ row. not (is_in_slot s.conf slot row && is_expired s.conf c.args.t row)) s.rows.items c.requires.valid.apart
-
 pub returns-clause-cache : goal.returns-clause-cache
 returns-clause-cache c =
     let s = c.args.self.now in
@@ -41,3 +35,9 @@ returns-clause-valid c =
       good = c.requires.valid.good;
       apart = ap are_apart c.put_row.ensures.items ∙ are_apart-with_row new c.drop_expired_in.new.rows.items fresh;
     }
+
+pub put_row-requires-clause-apart : goal.put_row-requires-clause-apart
+put_row-requires-clause-apart c =
+    let s = c.args.self.now in
+    let slot = c.hash_of.result % c.from.result in
+    ap are_apart c.drop_expired_in.ensures.items ∙ are_apart-filter (λ row. not (is_in_slot s.conf slot row && is_expired s.conf c.args.t row)) s.rows.items c.requires.valid.apart

@@ -1,9 +1,10 @@
-use Rattle.std.proofs.Common.{◌≡◌, ◌∙◌, ◌+◌, ◌≤◌, sym, ap, subst, List, length, arith, Option}
+use Rattle.std.proofs.Common.{◌≡◌, ◌∙◌, ◌+◌, ◌≤◌, sym, ap, ap₂, subst, List, length, arith, Option}
 use Rattle.std.proofs.lemmas.Grind.{common_steps}
 use Rattle.php_graph.specs.declared.container.Container.{Container}
 use Rattle.php_graph.specs.declared.key.Key.{Key}
+use Rattle.php_graph.specs.declared.kind.Kind.{Kind}
 use Rattle.php_graph.specs.declared.child.Child.TheVariants.{Back}
-use Rattle.php_graph.specs.Building.{wants_of, room_fault, attached}
+use Rattle.php_graph.specs.Building.{Draft, wants_of, room_fault, attached, with_back}
 use Rattle.php_graph.specs.Kept.{PlaceList, kinds_of}
 use Rattle.php_graph.specs.Drafted.{CanAttach, IsBuilding, kinds_in, places_of, draft_of}
 use Rattle.php_graph.proofs.DraftKept.{can_attach}
@@ -30,7 +31,13 @@ invariant_of-self-2 c =
     subst (λ (k : Option Key). IsBuilding (kinds_of c.attach.new.places) cs k (c.self.inside.values + 1)) (sym c.in_ok-attach.ensures.used) built
 
 pub returns-clause-ok : goal.returns-clause-ok
-returns-clause-ok c = grind (arith, common_steps)
+returns-clause-ok c =
+    let g = kinds_in c.self.inside.places in
+    let cs = c.self.inside.containers.items in
+    let is : kinds_of c.attach.new.places ≡ attached g (places_of cs) c.self.inside.key (Back c.args.place) =
+    c.in_ok-attach.ensures.ok ∙ ap (λ (xs : List Container). attached (kinds_of c.in-Some.places) (places_of xs) c.self.inside.key (Back c.args.place)) c.deref.ensures.value
+    ∙ ap (λ (o : Option PlaceList). attached (kinds_in o) (places_of cs) c.self.inside.key (Back c.args.place)) (sym c.in-Some.is) in
+    ap₂ (λ (xs : List Kind) (k : Option Key). draft_of xs cs k) is c.in_ok-attach.ensures.used ∙ ap (λ (d : Draft). with_back d c.args.place) c.self.view_is
 
 pub returns-in_err-attach-clause-answer : goal.returns-in_err-attach-clause-answer
 returns-in_err-attach-clause-answer c = grind (arith, common_steps)

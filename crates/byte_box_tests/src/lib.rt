@@ -1,5 +1,0 @@
-//! Tests of byte strings of sixteen bytes.
-#![tactic(auto)]
-
-#[cfg(test)]
-mod tests;

@@ -1,5 +1,0 @@
-//! Tests of notation.
-#![tactic(auto)]
-
-#[cfg(test)]
-mod tests;

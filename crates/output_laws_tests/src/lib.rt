@@ -1,5 +1,0 @@
-//! Calls the laws of what runs print.
-#![tactic(auto)]
-
-#[cfg(test)]
-mod tests;

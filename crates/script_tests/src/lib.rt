@@ -1,0 +1,15 @@
+//! Tests of scripts, of what a worker asks and of how its replies are written.
+#![tactic(auto)]
+
+#[cfg(test)]
+mod asked;
+#[cfg(test)]
+mod faults;
+#[cfg(test)]
+mod iterators;
+#[cfg(test)]
+mod laws;
+#[cfg(test)]
+mod reading;
+#[cfg(test)]
+mod replies;

@@ -1,6 +1,0 @@
-use Rattle.std.proofs.Common.{◌∙◌}
-use Rattle.seg_words.specs.Members.{any_has}
-use Rattle.sma_blocks_tests.proofs.listed.stands.Goals as goal
-
-pub returns : goal.returns
-returns c = c.contains.ensures.value ∙ any_has c.args.at c.args.places.now

@@ -1,5 +1,0 @@
-//! Calls the laws of walks.
-#![tactic(auto)]
-
-#[cfg(test)]
-mod tests;
