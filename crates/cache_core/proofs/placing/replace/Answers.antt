@@ -1,4 +1,5 @@
-use Rattle.std.proofs.Common.{◌≡◌, true, false, sym, ap, ◌∙◌, subst}
+use Rattle.std.proofs.lemmas.Grind.{common_steps}
+use Rattle.std.proofs.Common.{arith, ◌≡◌, true, false, sym, ap, ◌∙◌, subst}
 use Rattle.std.proofs.lemmas.Bool.{or_left, not-true, not-false}
 use Rattle.seg_words.specs.Windows.{Aside, has, is_named, held_blocks}
 use Rattle.entry_slots.specs.Lists.{is_at, has_place}
@@ -65,3 +66,54 @@ returns-else-is_free-clause-replaces g c =
     subst (λ (x : Aside). Replaces s (entries c.to_removed.new.self) (g.S.WordsIn.aside c.args.seg.now) x c.args.at c.args.key.now c.args.g.now c.args.ttl c.args.t) (sym same)
     (replaces_old c.args.at c.args.key.now c.args.g.now c.args.ttl c.args.t o c.is_let_go-is_free.ensures.met c.requires.refused
     (replaced_held (held_blocks a) c.args.at c.args.key.now c.args.g.now c.args.ttl c.args.t o is (c.to_removed.ensures.removed ∙ ap (removed_at c.args.spot.at c.args.t) c.link_at-2.ensures.linked)))
+
+pub lower_laws-requires : goal.lower_laws-requires
+lower_laws-requires g c = grind (arith, common_steps)
+
+pub link_at-requires-clause-short : goal.link_at-requires-clause-short
+link_at-requires-clause-short g c = grind (arith, common_steps)
+
+pub link_at-requires-clause-stand : goal.link_at-requires-clause-stand
+link_at-requires-clause-stand g c = grind (arith, common_steps)
+
+pub link_at-requires-clause-taken : goal.link_at-requires-clause-taken
+link_at-requires-clause-taken g c = grind (arith, common_steps)
+
+pub link_at-requires-clause-spot : goal.link_at-requires-clause-spot
+link_at-requires-clause-spot g c = grind (arith, common_steps)
+
+pub returns-then-old-eq0-clause-stand : goal.returns-then-old-eq0-clause-stand
+returns-then-old-eq0-clause-stand g c = grind (arith, common_steps)
+
+pub returns-then-old-eq0-clause-rest : goal.returns-then-old-eq0-clause-rest
+returns-then-old-eq0-clause-rest g c = grind (arith, common_steps)
+
+pub link_at-requires-2-clause-short : goal.link_at-requires-2-clause-short
+link_at-requires-2-clause-short g c = grind (arith, common_steps)
+
+pub link_at-requires-2-clause-stand : goal.link_at-requires-2-clause-stand
+link_at-requires-2-clause-stand g c = grind (arith, common_steps)
+
+pub link_at-requires-2-clause-taken : goal.link_at-requires-2-clause-taken
+link_at-requires-2-clause-taken g c = grind (arith, common_steps)
+
+pub link_at-requires-2-clause-spot : goal.link_at-requires-2-clause-spot
+link_at-requires-2-clause-spot g c = grind (arith, common_steps)
+
+pub free_unlinked-requires-clause-stand : goal.free_unlinked-requires-clause-stand
+free_unlinked-requires-clause-stand g c = grind (arith, common_steps)
+
+pub to_removed-requires-clause-stand : goal.to_removed-requires-clause-stand
+to_removed-requires-clause-stand g c = grind (arith, common_steps)
+
+pub returns-then-is_free-clause-stand : goal.returns-then-is_free-clause-stand
+returns-then-is_free-clause-stand g c = grind (arith, common_steps)
+
+pub returns-then-is_free-clause-rest : goal.returns-then-is_free-clause-rest
+returns-then-is_free-clause-rest g c = grind (arith, common_steps)
+
+pub returns-else-is_free-clause-stand : goal.returns-else-is_free-clause-stand
+returns-else-is_free-clause-stand g c = grind (arith, common_steps)
+
+pub returns-else-is_free-clause-rest : goal.returns-else-is_free-clause-rest
+returns-else-is_free-clause-rest g c = grind (arith, common_steps)

@@ -1,3 +1,4 @@
+use Rattle.std.proofs.lemmas.Grind.{common_steps}
 use Rattle.std.proofs.Common.{◌≡◌, ℕ, ◌≤◌, List, [], ◌++◌, map, drop, length, sym, ap, ◌∙◌, arith}
 use Rattle.std.proofs.Math.ListN.{drop_of_length-le}
 use Rattle.std.proofs.lemmas.List.{length-map}
@@ -18,3 +19,48 @@ returns c =
     (c.in_ok-write_head.ensures ∙ ap (λ (n : ℕ). c.args.out.now ++ array_head n) count)
     c.loop-i.invariant (ap (λ (l : List (List ℕ)). members_text (numbered c.loop-i.i l)) none))
     c.push.ensures.ok
+
+pub write_head-requires : goal.write_head-requires
+write_head-requires c = grind (arith, common_steps)
+
+pub returns-in_err-write_head : goal.returns-in_err-write_head
+returns-in_err-write_head c = grind (arith, common_steps)
+
+pub loop-i-init : goal.loop-i-init
+loop-i-init c = grind (arith, common_steps)
+
+pub offset_bounds-strings-i : goal.offset_bounds-strings-i
+offset_bounds-strings-i c = grind (arith, common_steps)
+
+pub bounds-strings-i : goal.bounds-strings-i
+bounds-strings-i c = grind (arith, common_steps)
+
+pub new-digits-requires : goal.new-digits-requires
+new-digits-requires c = grind (arith, common_steps)
+
+pub as_bytes-requires : goal.as_bytes-requires
+as_bytes-requires c = grind (arith, common_steps)
+
+pub write_key-requires : goal.write_key-requires
+write_key-requires c = grind (arith, common_steps)
+
+pub returns-in_err-write_key : goal.returns-in_err-write_key
+returns-in_err-write_key c = grind (arith, common_steps)
+
+pub as_slice-requires : goal.as_slice-requires
+as_slice-requires c = grind (arith, common_steps)
+
+pub write_string-requires : goal.write_string-requires
+write_string-requires c = grind (arith, common_steps)
+
+pub returns-in_err-write_string : goal.returns-in_err-write_string
+returns-in_err-write_string c = grind (arith, common_steps)
+
+pub loop-i-smaller : goal.loop-i-smaller
+loop-i-smaller c = grind (arith, common_steps)
+
+pub loop-i-preserved : goal.loop-i-preserved
+loop-i-preserved c = grind (arith, common_steps)
+
+pub push-requires : goal.push-requires
+push-requires c = grind (arith, common_steps)

@@ -1,4 +1,5 @@
-use Rattle.std.proofs.Common.{◌≡◌, true, false, cond, not, sym, ap, ◌∙◌, Some, None}
+use Rattle.std.proofs.lemmas.Grind.{common_steps}
+use Rattle.std.proofs.Common.{arith, ◌≡◌, true, false, cond, not, sym, ap, ◌∙◌, Some, None}
 use Rattle.std.proofs.lemmas.Bool.{or_left}
 use Rattle.std.proofs.lemmas.List.Elements.{Contains-append_left}
 use Rattle.apcu_model.specs.Expiry.{is_hard_expired}
@@ -58,3 +59,45 @@ returns-clause-found g c =
       place = o.place;
       head_is = head_kept c.head-head.result o.row c.seek-spot.ensures.kept h;
     }
+
+pub standing_laws-requires : goal.standing_laws-requires
+standing_laws-requires g c = grind (arith, common_steps)
+
+pub seek-spot-requires-clause-short : goal.seek-spot-requires-clause-short
+seek-spot-requires-clause-short g c = grind (arith, common_steps)
+
+pub seek-spot-requires-clause-stand : goal.seek-spot-requires-clause-stand
+seek-spot-requires-clause-stand g c = grind (arith, common_steps)
+
+pub returns-then-spot-eq0-clause-spot : goal.returns-then-spot-eq0-clause-spot
+returns-then-spot-eq0-clause-spot g c = grind (arith, common_steps)
+
+pub returns-then-spot-eq0-clause-found : goal.returns-then-spot-eq0-clause-found
+returns-then-spot-eq0-clause-found g c = grind (arith, common_steps)
+
+pub returns-then-spot-eq0-clause-kept : goal.returns-then-spot-eq0-clause-kept
+returns-then-spot-eq0-clause-kept g c = grind (arith, common_steps)
+
+pub head-head-requires-clause-stand : goal.head-head-requires-clause-stand
+head-head-requires-clause-stand g c = grind (arith, common_steps)
+
+pub is_over-requires : goal.is_over-requires
+is_over-requires g c = grind (arith, common_steps)
+
+pub returns-then-is_over-clause-spot : goal.returns-then-is_over-clause-spot
+returns-then-is_over-clause-spot g c = grind (arith, common_steps)
+
+pub returns-then-is_over-clause-found : goal.returns-then-is_over-clause-found
+returns-then-is_over-clause-found g c = grind (arith, common_steps)
+
+pub returns-then-is_over-clause-kept : goal.returns-then-is_over-clause-kept
+returns-then-is_over-clause-kept g c = grind (arith, common_steps)
+
+pub returns-clause-spot : goal.returns-clause-spot
+returns-clause-spot g c = grind (arith, common_steps)
+
+pub returns-clause-none : goal.returns-clause-none
+returns-clause-none g c = grind (arith, common_steps)
+
+pub returns-clause-kept : goal.returns-clause-kept
+returns-clause-kept g c = grind (arith, common_steps)

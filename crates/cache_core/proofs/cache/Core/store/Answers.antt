@@ -1,4 +1,5 @@
-use Rattle.std.proofs.Common.{inl, inr, refl, sym, ap, ◌∙◌}
+use Rattle.std.proofs.lemmas.Grind.{common_steps}
+use Rattle.std.proofs.Common.{arith, inl, inr, refl, sym, ap, ◌∙◌}
 use Rattle.seg_words.specs.Windows.{held_blocks}
 use Rattle.seg_words.specs.Probing.{goes_nowhere, goes_on}
 use Rattle.apcu_model.specs.Change.{Insertion}
@@ -53,3 +54,75 @@ pub returns-in-Ok-clause-cache : goal.returns-in-Ok-clause-cache
 returns-in-Ok-clause-cache g c =
     let now = g.S.WordsIn.aside c.add.new.seg in
     ap (λ (i : Insertion). i.cache) (sym (returns-in-Ok-clause-later g c now (goes_nowhere now now refl)))
+
+pub lower_laws-requires : goal.lower_laws-requires
+lower_laws-requires g c = grind (arith, common_steps)
+
+pub slot_of_key-slot-requires : goal.slot_of_key-slot-requires
+slot_of_key-slot-requires g c = grind (arith, common_steps)
+
+pub seek_new-requires-clause-short : goal.seek_new-requires-clause-short
+seek_new-requires-clause-short g c = grind (arith, common_steps)
+
+pub seek_new-requires-clause-stand : goal.seek_new-requires-clause-stand
+seek_new-requires-clause-stand g c = grind (arith, common_steps)
+
+pub sweep-requires-clause-stand : goal.sweep-requires-clause-stand
+sweep-requires-clause-stand g c = grind (arith, common_steps)
+
+pub sweep-requires-clause-fresh : goal.sweep-requires-clause-fresh
+sweep-requires-clause-fresh g c = grind (arith, common_steps)
+
+pub add-requires-clause-short : goal.add-requires-clause-short
+add-requires-clause-short g c = grind (arith, common_steps)
+
+pub add-requires-clause-fits : goal.add-requires-clause-fits
+add-requires-clause-fits g c = grind (arith, common_steps)
+
+pub add-requires-clause-stand : goal.add-requires-clause-stand
+add-requires-clause-stand g c = grind (arith, common_steps)
+
+pub add-requires-clause-held : goal.add-requires-clause-held
+add-requires-clause-held g c = grind (arith, common_steps)
+
+pub add-requires-clause-refused : goal.add-requires-clause-refused
+add-requires-clause-refused g c = grind (arith, common_steps)
+
+pub returns-in-Err-clause-goes : goal.returns-in-Err-clause-goes
+returns-in-Err-clause-goes g c = grind (arith, common_steps)
+
+pub returns-in-Err-clause-keeps : goal.returns-in-Err-clause-keeps
+returns-in-Err-clause-keeps g c = grind (arith, common_steps)
+
+pub returns-in-Err-clause-refused : goal.returns-in-Err-clause-refused
+returns-in-Err-clause-refused g c = grind (arith, common_steps)
+
+pub returns-in-Err-clause-held : goal.returns-in-Err-clause-held
+returns-in-Err-clause-held g c = grind (arith, common_steps)
+
+pub returns-in-Err-clause-kept : goal.returns-in-Err-clause-kept
+returns-in-Err-clause-kept g c = grind (arith, common_steps)
+
+pub returns-in-Err-clause-stand : goal.returns-in-Err-clause-stand
+returns-in-Err-clause-stand g c = grind (arith, common_steps)
+
+pub returns-in-Err-clause-rest : goal.returns-in-Err-clause-rest
+returns-in-Err-clause-rest g c = grind (arith, common_steps)
+
+pub returns-in-Ok-clause-goes : goal.returns-in-Ok-clause-goes
+returns-in-Ok-clause-goes g c = grind (arith, common_steps)
+
+pub returns-in-Ok-clause-keeps : goal.returns-in-Ok-clause-keeps
+returns-in-Ok-clause-keeps g c = grind (arith, common_steps)
+
+pub returns-in-Ok-clause-refused : goal.returns-in-Ok-clause-refused
+returns-in-Ok-clause-refused g c = grind (arith, common_steps)
+
+pub returns-in-Ok-clause-held : goal.returns-in-Ok-clause-held
+returns-in-Ok-clause-held g c = grind (arith, common_steps)
+
+pub returns-in-Ok-clause-stand : goal.returns-in-Ok-clause-stand
+returns-in-Ok-clause-stand g c = grind (arith, common_steps)
+
+pub returns-in-Ok-clause-rest : goal.returns-in-Ok-clause-rest
+returns-in-Ok-clause-rest g c = grind (arith, common_steps)
