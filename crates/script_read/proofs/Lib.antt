@@ -13,4 +13,5 @@ pub mod Members
 pub mod Slashes
 pub mod Bits
 pub mod Calling
+pub mod Choosing
 pub mod Answered
