@@ -13,5 +13,4 @@ pub mod Members
 pub mod Slashes
 pub mod Bits
 pub mod Calling
-pub mod Choosing
 pub mod Answered

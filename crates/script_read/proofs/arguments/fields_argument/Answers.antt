@@ -1,11 +1,9 @@
 use Rattle.std.proofs.Common.{arith}
 use Rattle.std.proofs.lemmas.Grind.{common_steps}
-use Rattle.script_read.specs.Arguments.{all_fields, fields}
-use Rattle.script_read.proofs.Choosing.{left_out}
 use Rattle.script_read.proofs.arguments.fields_argument.Goals as goal
 
 pub returns-then-ends_here-clause-read : goal.returns-then-ends_here-clause-read
-returns-then-ends_here-clause-read c = left_out all_fields fields c.args.bytes.now c.ends_here.result c.ends_here.ensures c.if-ends_here.true
+returns-then-ends_here-clause-read c = grind (arith, common_steps)
 
 pub returns-in_err-argument-clause-read : goal.returns-in_err-argument-clause-read
 returns-in_err-argument-clause-read c = grind (arith, common_steps)
