@@ -3,6 +3,7 @@
 use crate::cache::{Act, WordCache};
 use crate::clock::since;
 use crate::keys::{FIRST, key_of};
+use crate::lines::tell;
 use crate::values::Values;
 use apcu_model::Conf;
 use std::io;
@@ -50,6 +51,36 @@ fn time_expiry(
     Ok((since(rt, start)?, cache.rows()))
 }
 
+// Measures both once, and prints what was measured.
+fn report(
+    rt: &HostRuntime,
+    cache: &mut WordCache,
+    rows: u32,
+    values: &Values,
+    is_loud: bool,
+) -> io::Result<()> {
+    let (cleared, filled) = time_clear(rt, cache, rows, values)?;
+    let (expired, left) = time_expiry(rt, cache, rows, values)?;
+    cache.clear(2000);
+    tell(rt, is_loud, "clear", cleared.saturating_mul(1000), filled)?;
+    tell(rt, is_loud, "expire", expired.saturating_mul(1000), left)
+}
+
+// Measures both so many times.
+fn report_often(
+    rt: &HostRuntime,
+    cache: &mut WordCache,
+    rows: u32,
+    values: &Values,
+    times: u32,
+    is_loud: bool,
+) -> io::Result<()> {
+    for _ in 0..times {
+        report(rt, cache, rows, values, is_loud)?;
+    }
+    Ok(())
+}
+
 /// Measures dropping as many rows as fill a cache, by a call and by a store that finds all rows
 /// expired, and prints what was measured.
 pub fn measure_leaving(
@@ -64,14 +95,5 @@ pub fn measure_leaving(
         return Ok(());
     }
     let mut cache = WordCache::new(rt.alloc(), &conf)?;
-    for _ in 0..times {
-        let (cleared, rows) = time_clear(rt, &mut cache, conf.slots, values)?;
-        let (expired, left) = time_expiry(rt, &mut cache, conf.slots, values)?;
-        cache.clear(2000);
-        if is_loud {
-            println!(rt; "clear {} {rows}", cleared.saturating_mul(1000))?;
-            println!(rt; "expire {} {left}", expired.saturating_mul(1000))?;
-        }
-    }
-    Ok(())
+    report_often(rt, &mut cache, conf.slots, values, times, is_loud)
 }

@@ -9,6 +9,7 @@ mod cache;
 mod clock;
 mod keys;
 mod leaving;
+mod lines;
 mod staying;
 mod steps;
 mod telling;
@@ -35,22 +36,30 @@ fn measure_named(rt: &HostRuntime, values: &Values, what: &str, rows: u32) -> io
     }
 }
 
-fn main(rt: HostRuntime) -> io::Result<()> {
-    let mut args = env::args(&rt)?;
-    let _program = args.next();
-    let what = args.next();
-    let count = args.next();
+// Measures the calls over so many rows.
+fn measure_calls(rt: &HostRuntime, values: &Values, rows: u32) -> io::Result<()> {
+    let times = 3 + 200_000 / rows.max(1);
+    measure_staying(rt, rows, values, times, true)
+}
+
+// The number that the word is; 0 where it is none.
+fn number(word: &String) -> u32 {
+    word.as_str().parse::<u32>().unwrap_or(0)
+}
+
+// Measures what the words say.
+fn measure(rt: &HostRuntime, words: &[String]) -> io::Result<()> {
     let Some(values) = Values::new(rt.alloc()) else {
         return Ok(());
     };
-    let Some(what) = what else {
-        return measure_few(&rt, &values);
-    };
-    if let Some(count) = count {
-        let rows = count.as_str().parse::<u32>().unwrap_or(0);
-        return measure_named(&rt, &values, what.as_str(), rows);
+    match words {
+        [_program, what, rows, ..] => measure_named(rt, &values, what.as_str(), number(rows)),
+        [_program, rows] => measure_calls(rt, &values, number(rows)),
+        _ => measure_few(rt, &values),
     }
-    let rows = what.as_str().parse::<u32>().unwrap_or(0);
-    let times = 3 + 200_000 / rows.max(1);
-    measure_staying(&rt, rows, &values, times, true)
+}
+
+fn main(rt: HostRuntime) -> io::Result<()> {
+    let words: Vec<String> = env::args(&rt)?.collect(rt.alloc())?;
+    measure(&rt, words.as_slice())
 }

@@ -2,6 +2,7 @@
 
 use crate::cache::{Act, WordCache};
 use crate::keys::{numbers, shuffle};
+use crate::lines::tell;
 use crate::steps::{INTEGERS, Step, TEXTS};
 use crate::values::Values;
 use apcu_model::Conf;
@@ -23,10 +24,7 @@ fn report(
     is_loud: bool,
 ) -> io::Result<()> {
     let pass = cache.pass(rt, numbers, step.act(values), NOW)?;
-    if is_loud {
-        println!(rt; "{} {} {}", step.name(), pass.time, pass.answers)?;
-    }
-    Ok(())
+    tell(rt, is_loud, step.name(), pass.time, pass.answers)
 }
 
 /// The shape of a cache of so many rows, with as many slots.
@@ -70,6 +68,7 @@ fn report_integers(
 }
 
 // Measures each kind of call so many times: on texts, then with an integer in each short one's row.
+// Prints how many rows there are then.
 fn report_all(
     rt: &HostRuntime,
     cache: &mut WordCache,
@@ -91,7 +90,31 @@ fn report_all(
         state = shuffle(short, state);
         report_integers(rt, cache, short, values, is_loud)?;
     }
-    Ok(())
+    tell(rt, is_loud, "rows", 0, cache.rows())
+}
+
+// Measures each kind of call on a cache that is filled.
+fn report_filled(
+    rt: &HostRuntime,
+    cache: &mut WordCache,
+    rows: u32,
+    values: &Values,
+    times: u32,
+    is_loud: bool,
+) -> io::Result<()> {
+    let alloc = rt.alloc();
+    cache.fill(alloc, rows, STEP, values, 0, NOW);
+    let mut short = numbers(alloc, 0, rows, STEP)?;
+    let mut long = numbers(alloc, 1, rows, STEP)?;
+    report_all(
+        rt,
+        cache,
+        short.as_mut_slice(),
+        long.as_mut_slice(),
+        values,
+        times,
+        is_loud,
+    )
 }
 
 /// Measures each kind of call on so many rows, so many times.
@@ -102,26 +125,10 @@ pub fn measure_staying(
     times: u32,
     is_loud: bool,
 ) -> io::Result<()> {
-    let alloc = rt.alloc();
     let conf = shape(rows);
     if !conf.good() {
         return Ok(());
     }
-    let mut cache = WordCache::new(alloc, &conf)?;
-    cache.fill(alloc, rows, STEP, values, 0, NOW);
-    let mut short = numbers(alloc, 0, rows, STEP)?;
-    let mut long = numbers(alloc, 1, rows, STEP)?;
-    report_all(
-        rt,
-        &mut cache,
-        short.as_mut_slice(),
-        long.as_mut_slice(),
-        values,
-        times,
-        is_loud,
-    )?;
-    if is_loud {
-        println!(rt; "rows 0 {}", cache.rows())?;
-    }
-    Ok(())
+    let mut cache = WordCache::new(rt.alloc(), &conf)?;
+    report_filled(rt, &mut cache, rows, values, times, is_loud)
 }

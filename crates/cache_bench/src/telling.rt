@@ -3,8 +3,10 @@
 use crate::cache::{Act, Told, WordCache};
 use crate::clock::since;
 use crate::keys::numbers;
+use crate::lines::tell;
 use crate::staying::shape;
 use crate::values::Values;
+use std::alloc::{AllocError, Global};
 use std::io;
 use std::time::Instant;
 
@@ -32,10 +34,54 @@ fn report(rt: &HostRuntime, cache: &mut WordCache, told: Told, is_loud: bool) ->
     let start = Instant::now(rt)?;
     let places = cache.tell(rt.alloc(), told)?;
     let spent = since(rt, start)?;
-    if is_loud {
-        println!(rt; "{} {} {places}", name(told), spent.saturating_mul(1000))?;
+    tell(
+        rt,
+        is_loud,
+        name(told),
+        spent.saturating_mul(1000),
+        u64::from(places),
+    )
+}
+
+// Measures each thing that is told so many times.
+fn report_often(
+    rt: &HostRuntime,
+    cache: &mut WordCache,
+    times: u32,
+    is_loud: bool,
+) -> io::Result<()> {
+    for _ in 0..times {
+        for told in ALL {
+            report(rt, cache, told, is_loud)?;
+        }
     }
     Ok(())
+}
+
+// Stores so many rows, of which each tenth leaves a gap.
+fn fill(
+    alloc: Global,
+    cache: &mut WordCache,
+    rows: u32,
+    values: &Values,
+) -> Result<(), AllocError> {
+    cache.fill(alloc, rows, STEP, values, 0, NOW);
+    let gone = numbers(alloc, 0, rows, STEP)?;
+    let _deleted = cache.calls(alloc, gone.as_slice(), Act::Delete, NOW);
+    Ok(())
+}
+
+// Measures what is told of a cache that was filled.
+fn report_filled(
+    rt: &HostRuntime,
+    cache: &mut WordCache,
+    rows: u32,
+    values: &Values,
+    times: u32,
+    is_loud: bool,
+) -> io::Result<()> {
+    fill(rt.alloc(), cache, rows, values)?;
+    report_often(rt, cache, times, is_loud)
 }
 
 /// Measures what is told of a cache of so many rows, of which each tenth left a gap, so many times,
@@ -47,19 +93,10 @@ pub fn measure_telling(
     times: u32,
     is_loud: bool,
 ) -> io::Result<()> {
-    let alloc = rt.alloc();
     let conf = shape(rows);
     if !conf.good() {
         return Ok(());
     }
-    let mut cache = WordCache::new(alloc, &conf)?;
-    cache.fill(alloc, rows, STEP, values, 0, NOW);
-    let gone = numbers(alloc, 0, rows, STEP)?;
-    let _deleted = cache.calls(alloc, gone.as_slice(), Act::Delete, NOW);
-    for _ in 0..times {
-        for told in ALL {
-            report(rt, &mut cache, told, is_loud)?;
-        }
-    }
-    Ok(())
+    let mut cache = WordCache::new(rt.alloc(), &conf)?;
+    report_filled(rt, &mut cache, rows, values, times, is_loud)
 }

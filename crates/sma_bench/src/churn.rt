@@ -4,8 +4,9 @@ ghost use Rattle.sma_blocks.specs.Live.{live_blocks};
 ghost use Rattle.sma_blocks.specs.Ready.{IsReady};
 ghost use Rattle.sma_bench.specs.Listed.{AreListed};
 
+use super::fill::BLOCK;
 use crate::clock::since;
-use crate::fill::BLOCK;
+use crate::draws::drawn;
 use seg_words::{Segment, fit_laws, gap_laws};
 use sma_blocks::{Sma, block_laws, list_laws};
 use std::io;
@@ -58,13 +59,6 @@ fn time_some<S: Segment>(
     let start = Instant::now(rt)?;
     *state = pairs(sma, seg, places, among, PAIRS, *state);
     since(rt, start)
-}
-
-/// The next number of a linear congruential generator.
-pub fn drawn(state: u64) -> u64 {
-    state
-        .wrapping_mul(6364136223846793005)
-        .wrapping_add(1442695040888963407)
 }
 
 // Gives a block and takes one of its size, so many times: a random one of the first so many blocks

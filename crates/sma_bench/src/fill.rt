@@ -37,24 +37,35 @@ fn fill<S: Segment>(
     ensures aside { S.aside seg.new ≡ S.aside seg.old }
 {
     for unit in 0..units {
-        add(sma, seg, places, BLOCK)?;
-        add(sma, seg, places, BLOCK)?;
-        if unit % every == 0 {
-            leave(sma, seg, places, GAP);
-        }
-        add(sma, seg, places, BLOCK)?;
+        add_unit(sma, seg, places, unit % every == 0)?;
     }
     Ok(())
 }
 
-// Takes a block, where one fits, and lists it.
-fn add<S: Segment>(
+// Takes three blocks, and where that is asked for another one before the third, which is not
+// listed.
+fn add_unit<S: Segment>(
     sma: &mut Sma,
     seg: &mut S,
     places: &mut Vec<u32>,
-    n: u32,
+    is_left: bool,
 ) -> Result<(), AllocError>
-    requires size { (n % 2 ≡ 0) × (2 ≤ n) }
+    requires ready { IsReady sma.old (S.words seg.old) (S.aside seg.old) }
+    requires live { AreLive (live_blocks (S.words seg.old) sma.old.from) places.old.items }
+    ensures ready { IsReady sma.new (S.words seg.new) (S.aside seg.new) }
+    ensures live { OnOk result (AreLive (live_blocks (S.words seg.new) sma.new.from)
+        places.new.items) }
+    ensures from { sma.new.from ≡ sma.old.from }
+    ensures aside { S.aside seg.new ≡ S.aside seg.old }
+{
+    add(sma, seg, places)?;
+    add(sma, seg, places)?;
+    leave(sma, seg, is_left);
+    add(sma, seg, places)
+}
+
+// Takes a block, where one fits, and lists it.
+fn add<S: Segment>(sma: &mut Sma, seg: &mut S, places: &mut Vec<u32>) -> Result<(), AllocError>
     requires ready { IsReady sma.old (S.words seg.old) (S.aside seg.old) }
     requires live { AreLive (live_blocks (S.words seg.old) sma.old.from) places.old.items }
     ensures ready { IsReady sma.new (S.words seg.new) (S.aside seg.new) }
@@ -64,24 +75,27 @@ fn add<S: Segment>(
     ensures aside { S.aside seg.new ≡ S.aside seg.old }
 {
     list_laws();
-    if let Some(at) = sma.take(seg, n) {
+    if let Some(at) = sma.take(seg, BLOCK) {
         places.push(at)?;
     }
     Ok(())
 }
 
-// Takes a block, where one fits, and does not list it.
-fn leave<S: Segment>(sma: &mut Sma, seg: &mut S, places: &[u32], n: u32)
-    requires size { (n % 2 ≡ 0) × (2 ≤ n) }
+// Takes the words of a gap, where that is asked for and they fit, and does not list them.
+fn leave<S: Segment>(sma: &mut Sma, seg: &mut S, is_asked: bool)
     requires ready { IsReady sma.old (S.words seg.old) (S.aside seg.old) }
-    requires live { AreLive (live_blocks (S.words seg.old) sma.old.from) places.now }
     ensures ready { IsReady sma.new (S.words seg.new) (S.aside seg.new) }
-    ensures live { AreLive (live_blocks (S.words seg.new) sma.new.from) places.now }
+    ensures live { (places : List ℕ)
+        → AreLive (live_blocks (S.words seg.old) sma.old.from) places
+        → AreLive (live_blocks (S.words seg.new) sma.new.from) places }
     ensures from { sma.new.from ≡ sma.old.from }
     ensures aside { S.aside seg.new ≡ S.aside seg.old }
 {
+    if !is_asked {
+        return;
+    }
     list_laws();
-    let _taken = sma.take(seg, n);
+    let _taken = sma.take(seg, GAP);
 }
 
 // Whether each place but the first lies past the one before.
@@ -112,6 +126,23 @@ fn keep_listed<S: Segment>(sma: &mut Sma, seg: &mut S, places: &[u32])
 {
     list_laws();
     sma.keep(seg, places);
+}
+
+// Keeps the blocks at these places where they rise, and makes gaps of all else; whether it did so.
+fn keep_rising<S: Segment>(sma: &mut Sma, seg: &mut S, places: &[u32]) -> bool
+    requires ready { IsReady sma.old (S.words seg.old) (S.aside seg.old) }
+    requires closed { (at : ℕ) → is_named (S.aside seg.old).windows at ≡ false }
+    requires live { AreLive (live_blocks (S.words seg.old) sma.old.from) places.now }
+    ensures ready { IsReady sma.new (S.words seg.new) (S.aside seg.new) }
+    ensures listed { result ≡ true
+        → AreListed (live_blocks (S.words seg.new) sma.new.from) places.now }
+    ensures aside { S.aside seg.new ≡ S.aside seg.old }
+{
+    if !are_rising(places) {
+        return false;
+    }
+    keep_listed(sma, seg, places);
+    true
 }
 
 /// The nanoseconds of keeping the blocks at these places, or the largest number where they do not
@@ -152,11 +183,7 @@ pub fn lay_out<S: Segment>(
     ensures aside { S.aside seg.new ≡ S.aside seg.old }
 {
     fill(sma, seg, places, units, every)?;
-    if !are_rising(places.as_slice()) {
-        return Ok(false);
-    }
-    keep_listed(sma, seg, places.as_slice());
-    Ok(true)
+    Ok(keep_rising(sma, seg, places.as_slice()))
 }
 
 /// Every so many places of a list, from the first on.

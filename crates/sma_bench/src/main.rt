@@ -4,7 +4,7 @@
 //! over few words, and prints nothing.
 #![tactic(auto)]
 
-ghost use Rattle.std.specs.Prelude.{◌≡◌, ℕ, false, ◌+◌, ◌*◌, ◌%◌, ◌/◌, ◌^◌, ◌<◌, ◌≤◌};
+ghost use Rattle.std.specs.Prelude.{◌≡◌, ℕ, false, ◌+◌, ◌*◌, ◌%◌, ◌/◌, ◌^◌, ◌<◌, ◌≤◌, IfOk};
 ghost use Rattle.seg_words.specs.Windows.{is_named};
 ghost use Rattle.sma_blocks.specs.Live.{live_blocks};
 ghost use Rattle.sma_blocks.specs.Ready.{IsReady};
@@ -12,12 +12,14 @@ ghost use Rattle.sma_bench.specs.Listed.{AreLive};
 
 mod churn;
 mod clock;
+mod draws;
 mod fill;
 mod walk;
 
 use max_tree::MaxRow;
-use seg_words::{Segment, VecWords};
+use seg_words::{Segment, VecWords, WordsIn};
 use sma_blocks::Sma;
+use std::alloc::{AllocError, Global};
 use std::{env, io};
 
 // The nanoseconds of a pair near the front, and of one anywhere, over words that are laid out
@@ -41,6 +43,28 @@ fn pairs_over<S: Segment>(
     churn::time_pairs(rt, sma, seg, places)
 }
 
+// The nanoseconds of a pair near the front, of one anywhere, and of one anywhere by a walk, over
+// words that are laid out first.
+fn pairs_and_walk(
+    rt: &HostRuntime,
+    sma: &mut Sma,
+    seg: &mut VecWords,
+    places: &mut Vec<u32>,
+    from: u32,
+    units: u32,
+    every: u32,
+) -> io::Result<[u64; 3]>
+    requires every { 1 ≤ every }
+    requires ready { IsReady sma.old (⟦<VecWords as WordsIn>⟧.words seg.old)
+        (⟦<VecWords as WordsIn>⟧.aside seg.old) }
+    requires live { AreLive (live_blocks (⟦<VecWords as WordsIn>⟧.words seg.old) sma.old.from)
+        places.old.items }
+{
+    let [near, far] = pairs_over(rt, sma, seg, places, units, every)?;
+    let walk = walk::time_walk(rt, seg, from, places.as_mut_slice())?;
+    Ok([near, far, walk])
+}
+
 // The nanoseconds of keeping 64 of the blocks, over words that are laid out first.
 fn keep_over<S: Segment>(
     rt: &HostRuntime,
@@ -62,6 +86,19 @@ fn keep_over<S: Segment>(
     fill::time_keep(rt, sma, seg, few.as_slice())
 }
 
+// So many words, and an allocator over those from `from` on.
+fn formatted(alloc: Global, words: u32, from: u32) -> Result<(Sma, VecWords), AllocError>
+    requires even { (from % 2 ≡ 0) × (words % 4 ≡ 0) }
+    requires room { from + 2 ≤ words }
+    ensures { IfOk result (λ r. IsReady r.0 (⟦<VecWords as WordsIn>⟧.words r.1)
+        (⟦<VecWords as WordsIn>⟧.aside r.1)) }
+{
+    let row = MaxRow::new(alloc, words as usize / 4)?;
+    let mut seg = VecWords::new(alloc, words)?;
+    let sma = Sma::format(&mut seg, from, row);
+    Ok((sma, seg))
+}
+
 // The nanoseconds of a pair near the front, of one anywhere, and of one anywhere by a walk: the
 // best of several times.
 fn measure_pairs(
@@ -75,13 +112,9 @@ fn measure_pairs(
     requires room { from + 2 ≤ words }
     requires every { 1 ≤ every }
 {
-    let row = MaxRow::new(rt.alloc(), words as usize / 4)?;
-    let mut seg = VecWords::new(rt.alloc(), words)?;
-    let mut sma = Sma::format(&mut seg, from, row);
+    let (mut sma, mut seg) = formatted(rt.alloc(), words, from)?;
     let mut places = Vec::new(rt.alloc());
-    let [near, far] = pairs_over(rt, &mut sma, &mut seg, &mut places, units, every)?;
-    let walk = walk::time_walk(rt, &mut seg, from, places.as_mut_slice())?;
-    Ok([near, far, walk])
+    pairs_and_walk(rt, &mut sma, &mut seg, &mut places, from, units, every)
 }
 
 // The nanoseconds of keeping 64 of the blocks.
@@ -90,9 +123,7 @@ fn measure_keep(rt: &HostRuntime, words: u32, from: u32, units: u32, every: u32)
     requires room { from + 2 ≤ words }
     requires every { 1 ≤ every }
 {
-    let row = MaxRow::new(rt.alloc(), words as usize / 4)?;
-    let mut seg = VecWords::new(rt.alloc(), words)?;
-    let mut sma = Sma::format(&mut seg, from, row);
+    let (mut sma, mut seg) = formatted(rt.alloc(), words, from)?;
     let mut places = Vec::new(rt.alloc());
     keep_over(rt, &mut sma, &mut seg, &mut places, units, every)
 }

@@ -2,9 +2,9 @@
 
 ghost use Rattle.std.specs.Prelude.{◌≡◌, ◌<◌, ◌≤◌, ◌^◌, length};
 
-use crate::churn::drawn;
+use super::fill::BLOCK;
 use crate::clock::since;
-use crate::fill::BLOCK;
+use crate::draws::drawn;
 use seg_words::{Segment, VecWords, WordsIn};
 use std::io;
 use std::time::Instant;

