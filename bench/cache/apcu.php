@@ -1,8 +1,8 @@
 <?php
-// What PHP's APCu takes for the calls that `apcu_bench cache` measures, under the same keys and with the same values.
-// With ROWS it prints for each kind of call several times the picoseconds of one, and how many calls did not answer
-// false; with `clear ROWS` that of dropping all rows, and of dropping them because their time is over, and with
-// `info ROWS` that of telling of them.
+// What PHP's APCu takes for the calls that cache_bench measures, under the same keys and with the same values. With
+// ROWS it prints for each kind of call several times the picoseconds of one, and how many calls did not answer false;
+// with `clear ROWS` that of dropping all rows, and of dropping them because their time is over, and with `info ROWS`
+// that of telling of them.
 // Run with: php -d apc.enable_cli=1 -d apc.shm_size=.. -d apc.entries_hint=ROWS apcu.php [clear|info] ROWS
 
 const BATCH = 10000;

@@ -1,4 +1,4 @@
-use Rattle.std.proofs.Common.{Bool, ◌≡◌, ℕ, ◌==◌, true, false, ◌∷◌, refl, ap, sym, ◌∙◌, subst, arith}
+use Rattle.std.proofs.Common.{Bool, ◌≡◌, ℕ, ◌==◌, true, false, ◌∷◌, refl, ap, sym, ◌∙◌, subst, arith, rules}
 use Rattle.seg_words.specs.Windows.{has, is_named}
 use Rattle.pin_table.specs.declared.views.Desk.{Desk}
 use Rattle.pin_table.specs.Views.{probed}
@@ -16,6 +16,9 @@ frees d e at n same is told =
 
 pub returns-clause-free : goal.returns-clause-free
 returns-clause-free c = λ is. frees c.args.self.now.seat.now.desk c.probe.new.seat.desk c.args.at c.probe.result c.probe.ensures.desk is c.probe.ensures.met
+
+pub returns-clause-held : goal.returns-clause-held
+returns-clause-held c = search rules
 
 -- the reading is kept either way
 read : (d e : Desk) (at n : ℕ) → e ≡ probed d at n → (b : Bool) → (n == 0) ≡ b → e.readings ≡ (at, n) ∷ d.readings
