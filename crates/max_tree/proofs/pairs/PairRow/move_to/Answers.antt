@@ -1,3 +1,4 @@
+use Rattle.std.proofs.lemmas.Grind.{common_steps}
 use Rattle.std.proofs.Common.{◌+◌, ◌/◌, ◌%◌, length, ap, arith}
 use Rattle.std.proofs.lemmas.List.{length-set}
 use Rattle.max_tree.proofs.Halving.{pair_inside, moved_in_seen, moved_to_seen}
@@ -41,3 +42,15 @@ returns-else-gone-p-clause-gone c =
 pub returns-else-gone-p-clause-others : goal.returns-else-gone-p-clause-others
 returns-else-gone-p-clause-others c =
     (moved_in_seen c.self.inside.row c.set.new.self c.args.self.now c.args.gone c.args.p c.args.size c.self.view_is c.set.ensures c.requires.inside.1 c.requires.apart c.if-gone-p.false c.requires.size.0).others
+
+pub overflow_cast-p : goal.overflow_cast-p
+overflow_cast-p c = grind (arith, common_steps)
+
+pub overflow_add-size : goal.overflow_add-size
+overflow_add-size c = grind (arith, common_steps)
+
+pub invariant_of-self : goal.invariant_of-self
+invariant_of-self c = grind (arith, common_steps)
+
+pub invariant_of-self-else-gone-p : goal.invariant_of-self-else-gone-p
+invariant_of-self-else-gone-p c = grind (arith, common_steps)

@@ -10,3 +10,15 @@ invariant_of-self c =
     let is : take c.self.inside.numbers.len (new ++ drop (length new) c.self.inside.numbers.items) ≡ new = grind (arith, common_steps) in
     subst (λ (xs : List ℕ). IsPaged xs c.clear.new.self) (sym is)
     (cleared_paged c.self.inside.numbers.items new c.self.inside.tops c.clear.new.self c.self.invariant (grind (arith, common_steps)) c.clear_pages.ensures.zeros c.clear.ensures)
+
+pub clear_pages-requires : goal.clear_pages-requires
+clear_pages-requires c = grind (arith, common_steps)
+
+pub clear-requires : goal.clear-requires
+clear-requires c = grind (arith, common_steps)
+
+pub returns-clause-count : goal.returns-clause-count
+returns-clause-count c = grind (arith, common_steps)
+
+pub returns-clause-zeros : goal.returns-clause-zeros
+returns-clause-zeros c = grind (arith, common_steps)
