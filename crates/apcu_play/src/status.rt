@@ -1,5 +1,8 @@
 ghost use Rattle.std.specs.Prelude.{◌≡◌, length};
+ghost use Rattle.std.specs.Process.{exit_status};
 ghost use Rattle.apcu_play.specs.Message.{message_of, code_of};
+
+use std::process::ExitCode;
 
 /// How a run ended. Its number is the program's exit status.
 #[derive(Clone, Copy, Debug, PartialEq, Eq)]
@@ -40,6 +43,13 @@ impl Status {
             Status::TooMany => 7,
             Status::Pattern => 8,
         }
+    }
+
+    /// What a program ends with whose run ended so: its exit status is the code.
+    pub fn exit_code(self) -> ExitCode
+        ensures { exit_status result ≡ code_of self }
+    {
+        ExitCode::from(self.code())
     }
 
     /// What is told of it on standard error, a line; nothing where the run is done, and nothing

@@ -1,10 +1,6 @@
 //! Plays scripts of apcu calls.
 #![tactic(auto)]
 
-ghost use Rattle.std.specs.Prelude.{◌≡◌};
-ghost use Rattle.std.specs.Process.{exit_status};
-ghost use Rattle.apcu_play.specs.Message.{code_of};
-
 use apcu_iter::RegexMaker;
 use apcu_play::{Status, run, tell};
 use io_edges::{NoGate, StdSink, StdSource};
@@ -22,13 +18,6 @@ fn words_of<R: Env + AllocGlobal>(rt: &R) -> Result<Vec<String>, AllocError> {
         Err(error) if error.kind() == ErrorKind::OutOfMemory => Err(AllocError),
         Err(_) => Ok(Vec::new(rt.alloc())),
     }
-}
-
-// The exit status that tells how a run ended. It stands apart since `main` can have no contract.
-fn exit_code(status: Status) -> ExitCode
-    ensures { exit_status result ≡ code_of status }
-{
-    ExitCode::from(status.code())
 }
 
 fn main(rt: HostRuntime) -> ExitCode {
@@ -53,5 +42,5 @@ fn main(rt: HostRuntime) -> ExitCode {
             Status::NoMemory
         }
     };
-    exit_code(status)
+    status.exit_code()
 }
