@@ -54,6 +54,30 @@ fn chosen_count(fields: Fields, all: &[(&[u8], Held)]) -> usize
     count
 }
 
+// The value that a field holds, behind so many values of the reply.
+fn write_told(out: &mut ByteOut, held: Held, base: u64) -> Result<(), AllocError>
+    requires { base < 2 ^ 56 }
+    ensures { OnOk result (out.new ≡ out.old ++ text_from base (held_value held.entry)) }
+{
+    match held {
+        Held::Text(bytes) => write_string(out, bytes),
+        Held::Number(n) => write_count(out, n),
+        Held::Value(value) => write_value(value, base, out),
+        Held::Null => out.push(b"N;"),
+    }
+}
+
+// How many values that take a number it has.
+fn places_of(held: Held) -> u32
+    ensures count { result ≡ length (held_value held.entry) }
+    ensures few { result ≤ 2 ^ 24 }
+{
+    match held {
+        Held::Value(value) => value.places(),
+        _ => 1,
+    }
+}
+
 // The value that a field holds, behind so many values of the reply. Answers how many values that
 // take a number it has.
 fn write_held(out: &mut ByteOut, held: Held, base: u64) -> Result<u32, AllocError>
@@ -62,24 +86,8 @@ fn write_held(out: &mut ByteOut, held: Held, base: u64) -> Result<u32, AllocErro
     ensures count { IfOk result (λ count. count ≡ length (held_value held.entry)) }
     ensures few { IfOk result (λ count. count ≤ 2 ^ 24) }
 {
-    match held {
-        Held::Text(bytes) => {
-            write_string(out, bytes)?;
-            Ok(1)
-        }
-        Held::Number(n) => {
-            write_count(out, n)?;
-            Ok(1)
-        }
-        Held::Value(value) => {
-            write_value(value, base, out)?;
-            Ok(value.places())
-        }
-        Held::Null => {
-            out.push(b"N;")?;
-            Ok(1)
-        }
-    }
+    write_told(out, held, base)?;
+    Ok(places_of(held))
 }
 
 // The field, if it is chosen. Answers how many values of the reply stand before what follows.
