@@ -1,9 +1,13 @@
-use Rattle.std.proofs.Common.{arith}
-use Rattle.std.proofs.lemmas.Grind.{common_steps}
+use Rattle.std.proofs.Common.{ap, ◌∙◌}
+use Rattle.apcu_model.specs.Cache.{Cache}
+use Rattle.apcu_model.specs.Expiry.{live_row}
+use Rattle.apcu_model.specs.Lookups.{looked_up}
 use Rattle.apcu_model.proofs.plain.Plain.note_fetch.Goals as goal
 
 pub invariant_of-self : goal.invariant_of-self
-invariant_of-self c = grind (arith, common_steps)
+invariant_of-self c = c.note_fetch.ensures.valid
 
 pub returns : goal.returns
-returns c = grind (arith, common_steps)
+returns c =
+    c.note_fetch.ensures.cache
+    ∙ ap (λ (m : Cache). looked_up c.args.key.now c.args.t (live_row c.args.key.now c.args.t m) m) c.self.view_is

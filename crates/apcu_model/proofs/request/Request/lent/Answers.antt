@@ -1,4 +1,4 @@
-use Rattle.std.proofs.Common.{arith}
+use Rattle.std.proofs.Common.{sym, arith}
 use Rattle.std.proofs.lemmas.Grind.{common_steps}
 use Rattle.apcu_model.proofs.request.Request.lent.Goals as goal
 
@@ -24,7 +24,7 @@ pub returns-in-Entry : goal.returns-in-Entry
 returns-in-Entry c = grind (arith, common_steps)
 
 pub returns-in-Clear : goal.returns-in-Clear
-returns-in-Clear c = grind (arith, common_steps)
+returns-in-Clear c = sym c.in-Clear.is
 
 pub returns-in-KeyInfo : goal.returns-in-KeyInfo
 returns-in-KeyInfo c = grind (arith, common_steps)

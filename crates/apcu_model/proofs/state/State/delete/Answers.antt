@@ -1,5 +1,4 @@
-use Rattle.std.proofs.Common.{not, List, [], sym, ap, ◌∙◌, arith}
-use Rattle.std.proofs.lemmas.Grind.{common_steps}
+use Rattle.std.proofs.Common.{not, Bool, cond, List, [], sym, ap, ◌∙◌}
 use Rattle.std.proofs.lemmas.Bool.{cond-true}
 use Rattle.std.specs.Prelude.{is_some}
 use Rattle.apcu_model.specs.Cache.{Row, Cache, has_key}
@@ -26,10 +25,12 @@ returns-clause-valid c =
     }
 
 pub returns-then-not-is_live-clause-reply : goal.returns-then-not-is_live-clause-reply
-returns-then-not-is_live-clause-reply c = grind (arith, common_steps)
+returns-then-not-is_live-clause-reply c = sym c.if-not-is_live.true ∙ c.is_live.ensures
 
 pub returns-then-not-is_live-clause-cache : goal.returns-then-not-is_live-clause-cache
-returns-then-not-is_live-clause-cache c = grind (arith, common_steps)
+returns-then-not-is_live-clause-cache c =
+    let s = cache_in c.args.self.now in
+    ap (λ (b : Bool). cond b (dropped [] c.args.t (has_key c.args.key.now) s) s) (sym c.if-not-is_live.true ∙ c.is_live.ensures)
 
 pub returns-clause-reply : goal.returns-clause-reply
-returns-clause-reply c = grind (arith, common_steps)
+returns-clause-reply c = sym c.if-not-is_live.false ∙ c.is_live.ensures
