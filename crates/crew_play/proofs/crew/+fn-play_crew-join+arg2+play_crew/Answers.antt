@@ -1,12 +1,23 @@
-use Rattle.std.proofs.Common.{◌≡◌, ◌-◌, subst, arith, suc, ℕ, ◌∷◌, [], ◌++◌}
+use Rattle.std.proofs.Common.{◌≡◌, ◌-◌, sym, subst, arith, suc, ℕ, ◌∷◌, [], ◌++◌}
 use Rattle.std.specs.Prelude.{List, Result, Err, Contains}
 use Rattle.std.specs.Result.{result_ok}
+use Rattle.pin_table.specs.Values.{Bearer}
 use Rattle.worker_play.specs.Ends.{Ends}
 use Rattle.worker_play.specs.declared.script.PlayFault.{PlayFault}
 use Rattle.worker_play.specs.declared.script.PlayFault.TheVariants.{Pattern}
 use Rattle.crew_play.specs.Crew.{AllEnd}
-use Rattle.crew_play.proofs.Crews.{all_more, by_more, cause_of, contains_at}
+use Rattle.crew_play.proofs.Crews.{all_none, all_more, by_more, cause_of, contains_at}
 use Rattle.crew_play.proofs.crew.+fn-play_crew-join+arg2+play_crew.Goals as goal
+
+pub returns-then-count-eq0-clause-all : goal.returns-then-count-eq0-clause-all
+returns-then-count-eq0-clause-all g t c =
+    let table = g.N.TableName.table in
+    let conf = g.N.TableName.conf in
+    let scripts = c.args.scripts.now in
+    subst (λ (n : ℕ). AllEnd table conf scripts n c.args.ended.ended c.args.texts.items) (sym c.if-count-eq0.true)
+    (subst (λ (l : List Bearer). AllEnd table conf scripts 0 l c.args.texts.items) (sym {A = List Bearer} c.requires.none_ended)
+    (subst (λ (l : List (Result (List ℕ) PlayFault)). AllEnd table conf scripts 0 [] l) (sym {A = List (Result (List ℕ) PlayFault)} c.requires.no_text)
+    (all_none table conf scripts)))
 
 pub returns-clause-all : goal.returns-clause-all
 returns-clause-all g t c =

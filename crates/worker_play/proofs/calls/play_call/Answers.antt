@@ -6,6 +6,86 @@ use Rattle.worker_play.proofs.Going.{nothing_asked, nothing_made, on_ok, of_if_o
 use Rattle.worker_play.proofs.Forms.{call_asks, call_tells, told_once}
 use Rattle.worker_play.proofs.calls.play_call.Goals as goal
 
+-- ---- what the calls ask for
+
+pub play_flagged-requires-clause-table : goal.play_flagged-requires-clause-table
+play_flagged-requires-clause-table g c = c.requires.table
+
+pub play_flagged-requires-clause-whole : goal.play_flagged-requires-clause-whole
+play_flagged-requires-clause-whole g c = c.requires.whole
+
+pub store_all-requires-clause-table : goal.store_all-requires-clause-table
+store_all-requires-clause-table g c = c.requires.table
+
+pub store_all-requires-clause-whole : goal.store_all-requires-clause-whole
+store_all-requires-clause-whole g c = c.requires.whole
+
+pub fetch-pass-requires-clause-table : goal.fetch-pass-requires-clause-table
+fetch-pass-requires-clause-table g c = c.requires.table
+
+pub fetch-pass-requires-clause-whole : goal.fetch-pass-requires-clause-whole
+fetch-pass-requires-clause-whole g c = c.requires.whole
+
+pub fetch_all-requires-clause-table : goal.fetch_all-requires-clause-table
+fetch_all-requires-clause-table g c = c.requires.table
+
+pub fetch_all-requires-clause-whole : goal.fetch_all-requires-clause-whole
+fetch_all-requires-clause-whole g c = c.requires.whole
+
+pub look_for_all-requires-clause-table : goal.look_for_all-requires-clause-table
+look_for_all-requires-clause-table g c = c.requires.table
+
+pub look_for_all-requires-clause-whole : goal.look_for_all-requires-clause-whole
+look_for_all-requires-clause-whole g c = c.requires.whole
+
+pub delete_all-requires-clause-table : goal.delete_all-requires-clause-table
+delete_all-requires-clause-table g c = c.requires.table
+
+pub delete_all-requires-clause-whole : goal.delete_all-requires-clause-whole
+delete_all-requires-clause-whole g c = c.requires.whole
+
+pub inc-pass-requires-clause-table : goal.inc-pass-requires-clause-table
+inc-pass-requires-clause-table g c = c.requires.table
+
+pub inc-pass-requires-clause-whole : goal.inc-pass-requires-clause-whole
+inc-pass-requires-clause-whole g c = c.requires.whole
+
+pub entry-pass-requires-clause-table : goal.entry-pass-requires-clause-table
+entry-pass-requires-clause-table g c = c.requires.table
+
+pub entry-pass-requires-clause-whole : goal.entry-pass-requires-clause-whole
+entry-pass-requires-clause-whole g c = c.requires.whole
+
+pub clear-pass-requires-clause-table : goal.clear-pass-requires-clause-table
+clear-pass-requires-clause-table g c = c.requires.table
+
+pub clear-pass-requires-clause-whole : goal.clear-pass-requires-clause-whole
+clear-pass-requires-clause-whole g c = c.requires.whole
+
+pub play_told-requires-clause-table : goal.play_told-requires-clause-table
+play_told-requires-clause-table g c = c.requires.table
+
+pub play_told-requires-clause-whole : goal.play_told-requires-clause-whole
+play_told-requires-clause-whole g c = c.requires.whole
+
+pub play_searching-requires-clause-table : goal.play_searching-requires-clause-table
+play_searching-requires-clause-table g c = c.requires.table
+
+pub play_searching-requires-clause-whole : goal.play_searching-requires-clause-whole
+play_searching-requires-clause-whole g c = c.requires.whole
+
+pub play_searching-requires-clause-slots : goal.play_searching-requires-clause-slots
+play_searching-requires-clause-slots g c = c.requires.slots
+
+pub play_searching-requires-clause-left : goal.play_searching-requires-clause-left
+play_searching-requires-clause-left g c = c.requires.left
+
+pub play_searching-requires-clause-ranges : goal.play_searching-requires-clause-ranges
+play_searching-requires-clause-ranges g c = c.requires.ranges
+
+pub play_searching-requires-clause-search : goal.play_searching-requires-clause-search
+play_searching-requires-clause-search g c = c.requires.search
+
 -- ---- one event
 
 pub returns-in-Inc-clause-line : goal.returns-in-Inc-clause-line
