@@ -1,4 +1,5 @@
-use Rattle.std.proofs.Common.{refl, rules}
+use Rattle.std.proofs.Common.{◌≡◌, ◌++◌, refl, rules}
+use Rattle.reply_text.specs.Replies.{flag_text}
 use Rattle.worker_play.proofs.Going.{on_ok}
 use Rattle.worker_play.proofs.Forms.{told_once}
 use Rattle.worker_play.proofs.calls.play_flagged.Goals as goal
@@ -46,7 +47,7 @@ pub returns-in-ExistsOne-clause-line : goal.returns-in-ExistsOne-clause-line
 returns-in-ExistsOne-clause-line g c = on_ok c.write_flag-in-ExistsOne.result (λ e. told_once _ _ _ _ _ _ _ _ _ _ _ c.in-ExistsOne.is c.exists-pass.ensures refl refl e) c.write_flag-in-ExistsOne.ensures
 
 pub returns-in-DeleteOne-clause-line : goal.returns-in-DeleteOne-clause-line
-returns-in-DeleteOne-clause-line g c = on_ok c.write_flag-in-DeleteOne.result (λ e. told_once _ _ _ _ _ _ _ _ _ _ _ c.in-DeleteOne.is c.delete-pass.ensures refl refl e) c.write_flag-in-DeleteOne.ensures
+returns-in-DeleteOne-clause-line g c = on_ok c.write_flag-in-DeleteOne.result (λ (e : c.write_flag-in-DeleteOne.new.out ≡ c.args.out.now ++ flag_text c.delete-pass.result.1). told_once _ _ _ _ _ _ _ _ _ _ _ c.in-DeleteOne.is c.delete-pass.ensures refl refl e) c.write_flag-in-DeleteOne.ensures
 
 pub returns-in-Cas-clause-line : goal.returns-in-Cas-clause-line
 returns-in-Cas-clause-line g c = on_ok c.write_flag-in-Cas.result (λ e. told_once _ _ _ _ _ _ _ _ _ _ _ c.in-Cas.is c.cas-pass.ensures (search rules) refl e) c.write_flag-in-Cas.ensures
