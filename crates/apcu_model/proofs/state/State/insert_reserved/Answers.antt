@@ -31,10 +31,10 @@ stays key graph ttl t n now room same none =
     same ∙ ap (λ (gap : Option ℕ). (put_in [] key graph ttl t n room gap).cache) (none ∙ ap (λ (c : Cache). gap_of c n) same)
 
 pub returns-in-Some-clause-reply : goal.returns-in-Some-clause-reply
-returns-in-Some-clause-reply c = search (rules, told_stored c.args.draft.key c.args.draft.graph c.args.draft.ttl c.args.t c.args.draft.size _ _ _ c.make_room.ensures.cache (sym c.in-Some.is ∙ c.make_room.ensures.place))
+returns-in-Some-clause-reply c = told_stored c.args.draft.key c.args.draft.graph c.args.draft.ttl c.args.t c.args.draft.size _ _ _ c.make_room.ensures.cache (sym c.in-Some.is ∙ c.make_room.ensures.place)
 
 pub returns-in-Some-clause-after : goal.returns-in-Some-clause-after
-returns-in-Some-clause-after c = search (rules, stored_there c.args.draft.key c.args.draft.graph c.args.draft.ttl c.args.t c.args.draft.size _ _ _ _ c.make_room.ensures.cache (sym c.in-Some.is ∙ c.make_room.ensures.place) c.put.ensures.cache)
+returns-in-Some-clause-after c = stored_there c.args.draft.key c.args.draft.graph c.args.draft.ttl c.args.t c.args.draft.size _ _ _ _ c.make_room.ensures.cache (sym c.in-Some.is ∙ c.make_room.ensures.place) c.put.ensures.cache
 
 pub returns-in-Some-clause-valid : goal.returns-in-Some-clause-valid
 returns-in-Some-clause-valid c = c.put.ensures.valid
@@ -49,10 +49,10 @@ pub returns-in-Some-clause-extents : goal.returns-in-Some-clause-extents
 returns-in-Some-clause-extents c = grind (arith, common_steps)
 
 pub returns-in-None-clause-reply : goal.returns-in-None-clause-reply
-returns-in-None-clause-reply c = search (rules, told_unstored c.args.draft.key c.args.draft.graph c.args.draft.ttl c.args.t c.args.draft.size _ _ c.make_room.ensures.cache (sym c.in-None.is ∙ c.make_room.ensures.place))
+returns-in-None-clause-reply c = told_unstored c.args.draft.key c.args.draft.graph c.args.draft.ttl c.args.t c.args.draft.size _ _ c.make_room.ensures.cache (sym c.in-None.is ∙ c.make_room.ensures.place)
 
 pub returns-in-None-clause-after : goal.returns-in-None-clause-after
-returns-in-None-clause-after c = search (rules, stays c.args.draft.key c.args.draft.graph c.args.draft.ttl c.args.t c.args.draft.size _ _ c.make_room.ensures.cache (sym c.in-None.is ∙ c.make_room.ensures.place))
+returns-in-None-clause-after c = stays c.args.draft.key c.args.draft.graph c.args.draft.ttl c.args.t c.args.draft.size _ _ c.make_room.ensures.cache (sym c.in-None.is ∙ c.make_room.ensures.place)
 
 pub returns-in-None-clause-valid : goal.returns-in-None-clause-valid
 returns-in-None-clause-valid c = c.make_room.ensures.valid
