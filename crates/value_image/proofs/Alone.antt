@@ -13,7 +13,7 @@ use Rattle.seg_words.specs.Blocks.{IsTold}
 use Rattle.value_image.specs.Image.{IsImageOf}
 use Rattle.value_image.specs.Reading.{IsKindAt, renumbered_kind, scalar_at}
 use Rattle.value_image.proofs.Counts.{kept}
-use Rattle.value_image.proofs.Parts.{kind-first}
+use Rattle.value_image.proofs.Parts.{kind-there}
 use Rattle.value_image.proofs.Walk.{walk-first}
 
 -- a value without members takes one place
@@ -65,4 +65,4 @@ pub first-read : (row : List ℕ) (old : Aside) (at len tag : ℕ) (g : List Kin
     → (kind : Kind) × (slice_get g 0 ≡ Some kind) × IsKindAt row' new.windows at (renumbered_kind (offset_of g) kind) × (tag ≡ slice_index row' at)
 first-read row old at len tag g row' new image short told word er ea =
     let step = walk-first row old at len g image short told in
-    (step.0, step.1, rw (er, ea) step.2, rw er (word (kind-first row old.windows at (renumbered_kind (offset_of g) step.0) step.2)))
+    (step.0, step.1, rw (er, ea) step.2, rw er (word (kind-there row old.windows at (renumbered_kind (offset_of g) step.0) step.2).1))

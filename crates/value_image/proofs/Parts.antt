@@ -1,5 +1,5 @@
 -- What stands in a row, part by part.
-use Rattle.std.proofs.Common.{◌≡◌, ◌≢◌, ℕ, ◌+◌, ◌*◌, ◌/◌, ◌%◌, ◌<◌, ◌≤◌, ◌^◌, true, false, List, [], ◌∷◌, ◌++◌, length, take, drop, slice_index, slice_get, Some, sum_by, refl, sym, ap, ◌∙◌, subst, arith, FitsSigned, ℤ}
+use Rattle.std.proofs.Common.{◌≡◌, ◌≢◌, ℕ, ◌+◌, ◌*◌, ◌/◌, ◌%◌, ◌<◌, ◌≤◌, ◌^◌, true, false, List, [], ◌∷◌, ◌++◌, length, take, drop, slice_index, slice_get, Some, None, sum_by, refl, sym, ap, ◌∙◌, subst, arith, FitsSigned, ℤ}
 use Rattle.std.specs.List.{flat_map}
 use Rattle.std.specs.Int.{w64, cast_unsigned}
 use Rattle.std.proofs.lemmas.List.{take-append-drop}
@@ -10,13 +10,13 @@ use Rattle.php_graph.specs.declared.child.Child.{Child}
 use Rattle.php_graph.specs.declared.kind.Kind.{Kind}
 use Rattle.php_graph.specs.declared.kind.Kind.TheVariants as kinds
 use Rattle.seg_words.specs.Layout.{words_in}
-use Rattle.php_graph.specs.Size.{key_cells}
+use Rattle.php_graph.specs.Size.{key_cells, cells_of}
 use Rattle.seg_words.specs.Windows.{Aside}
 use Rattle.seg_words.specs.Blocks.{IsTold}
 use Rattle.value_image.specs.Packed.{bytes_of, words_of}
 use Rattle.value_image.specs.Rows.{IsToldAt}
 use Rattle.value_image.specs.Image.{string_words, member_words, property_words}
-use Rattle.value_image.specs.Reading.{itself, IsStringAt, IsKeyAt, IsMemberAt, IsPropertyAt, AreMembersAt, ArePropertiesAt, IsObjectAt, IsKindAt, FitsMember, FitsProperty}
+use Rattle.value_image.specs.Reading.{itself, IsStringAt, IsKeyAt, IsMemberAt, IsPropertyAt, AreMembersAt, ArePropertiesAt, IsObjectAt, IsKindAt, scalar_at, FitsMember, FitsProperty}
 use Rattle.value_image.proofs.Runs.{stands-inside, stands-at, told-front, told-back}
 use Rattle.value_image.proofs.Packing.{length-words_of, unpacked}
 use Rattle.value_image.proofs.ItemRuns.{told-item, all-get, get-some, length-items}
@@ -172,14 +172,27 @@ pub object-few : (row windows : List ℕ) (at count : ℕ) (class : List ℕ) (p
 object-few row windows at count class ps h short =
     omega (arith, h.count_is, items-few (property_words itself) (λ p. 2 + words_in (length p.0)) (length-property_words itself) (λ p. omega arith) row windows (at + length (string_words class)) ps (told-back row windows at (string_words class) (flat_map (property_words itself) ps) (at + length (string_words class)) h.told refl) short)
 
-pub kind-first : (row windows : List ℕ) (at : ℕ) (kind : Kind) → IsKindAt row windows at kind → IsTold windows at
-kind-first row windows at kinds.Null h = (told-first row windows at _ _ h.told).1
-kind-first row windows at (kinds.Bool b) h = (told-first row windows at _ _ h.told).1
-kind-first row windows at (kinds.Int n) h = (told-first row windows at _ _ h.told).1
-kind-first row windows at (kinds.Str bytes) h = (told-first row windows at _ _ h.told).1
-kind-first row windows at (kinds.Array ms) h = (told-first row windows at _ _ h.told).1
-kind-first row windows at (kinds.Object class ps) h = (told-first row windows at _ _ h.told).1
-kind-first row windows at (kinds.Same x) h = (told-first row windows at _ _ h.told).1
+-- the tag is there, and is told
+pub kind-there : (row windows : List ℕ) (at : ℕ) (kind : Kind) → IsKindAt row windows at kind → (at < length row) × IsTold windows at
+kind-there row windows at kinds.Null h = let first = told-first row windows at _ _ h.told in (first.0, first.1)
+kind-there row windows at (kinds.Bool b) h = let first = told-first row windows at _ _ h.told in (first.0, first.1)
+kind-there row windows at (kinds.Int n) h = let first = told-first row windows at _ _ h.told in (first.0, first.1)
+kind-there row windows at (kinds.Str bytes) h = let first = told-first row windows at _ _ h.told in (first.0, first.1)
+kind-there row windows at (kinds.Array ms) h = let first = told-first row windows at _ _ h.told in (first.0, first.1)
+kind-there row windows at (kinds.Object class ps) h = let first = told-first row windows at _ _ h.told in (first.0, first.1)
+kind-there row windows at (kinds.Same x) h = let first = told-first row windows at _ _ h.told in (first.0, first.1)
+
+-- a place with the tag of a byte string
+pub kind-string : (row windows : List ℕ) (at : ℕ) (kind : Kind) → IsKindAt row windows at kind → slice_index row at % 8 ≡ 3
+    → (bytes : List ℕ) × (kind ≡ kinds.Str bytes) × IsStringAt row windows at bytes × (slice_index row at ≡ 3 + 8 * length bytes)
+kind-string row windows at kinds.Null h code = let tag = (told-first row windows at _ _ h.told).2 in absurd (omega (arith, tag, code))
+kind-string row windows at (kinds.Bool true) h code = let tag = (told-first row windows at 9 [] h.told).2 in absurd (omega (arith, tag, code))
+kind-string row windows at (kinds.Bool false) h code = let tag = (told-first row windows at 1 [] h.told).2 in absurd (omega (arith, tag, code))
+kind-string row windows at (kinds.Int n) h code = let tag = (told-first row windows at _ _ h.told).2 in absurd (omega (arith, tag, code))
+kind-string row windows at (kinds.Str bytes) h code = (bytes, refl, record { told = h.told; fits = h.fits }, (told-first row windows at (3 + 8 * length bytes) (words_of bytes) h.told).2)
+kind-string row windows at (kinds.Array ms) h code = let tag = (told-first row windows at (4 + 8 * length ms) (flat_map (member_words itself) ms) h.told).2 in absurd (omega (arith, tag, code))
+kind-string row windows at (kinds.Object class ps) h code = let tag = (told-first row windows at (5 + 8 * length ps) (string_words class ++ flat_map (property_words itself) ps) h.told).2 in absurd (omega (arith, tag, code))
+kind-string row windows at (kinds.Same x) h code = let tag = (told-first row windows at _ _ h.told).2 in absurd (omega (arith, tag, code))
 
 -- a place with the tag of an array
 pub kind-array : (row windows : List ℕ) (at : ℕ) (kind : Kind) → IsKindAt row windows at kind → slice_index row at % 8 ≡ 4
@@ -225,12 +238,56 @@ kind-object row windows at (kinds.Object class ps) h code =
     )
 kind-object row windows at (kinds.Same x) h code = let tag = (told-first row windows at _ _ h.told).2 in absurd (omega (arith, tag, code))
 
+-- a place with no such tag that is no scalar
+pub kind-same : (row windows : List ℕ) (at : ℕ) (kind : Kind) → IsKindAt row windows at kind → scalar_at at kind ≡ None → ((n : ℕ) → 3 ≤ n → n ≤ 5 → slice_index row at % 8 ≢ n)
+    → (x : ℕ) × (kind ≡ kinds.Same x) × (x < 2 ^ 32) × (at + 1 < length row) × IsTold windows (at + 1) × (slice_index row (at + 1) ≡ x)
+kind-same row windows at kinds.Null h none other = absurd cc
+kind-same row windows at (kinds.Bool b) h none other = absurd cc
+kind-same row windows at (kinds.Int n) h none other = absurd cc
+kind-same row windows at (kinds.Str bytes) h none other = let tag = (told-first row windows at (3 + 8 * length bytes) (words_of bytes) h.told).2 in absurd (other 3 (omega arith) (omega arith) (omega (arith, tag)))
+kind-same row windows at (kinds.Array ms) h none other = let tag = (told-first row windows at (4 + 8 * length ms) (flat_map (member_words itself) ms) h.told).2 in absurd (other 4 (omega arith) (omega arith) (omega (arith, tag)))
+kind-same row windows at (kinds.Object class ps) h none other = let tag = (told-first row windows at (5 + 8 * length ps) (string_words class ++ flat_map (property_words itself) ps) h.told).2 in absurd (other 5 (omega arith) (omega arith) (omega (arith, tag)))
+kind-same row windows at (kinds.Same x) h none other =
+    let second = told-first row windows (at + 1) x [] (told-rest row windows at 6 (x ∷ []) h.told) in
+    (x, refl, h.fits, second.0, second.1, second.2)
+
+-- the value and the place behind it, of a scalar
+pub scalar-is : (at : ℕ) (kind : Kind) (read : Kind × ℕ) → scalar_at at kind ≡ Some read → (read.0 ≡ kind) × (read.1 ≡ at + cells_of kind)
+scalar-is at kinds.Null read e = let same : read ≡ (kinds.Null, at + 1) = cc in (ap (λ p. p.0) same, ap (λ p. p.1) same)
+scalar-is at (kinds.Bool b) read e = let same : read ≡ (kinds.Bool b, at + 1) = cc in (ap (λ p. p.0) same, ap (λ p. p.1) same)
+scalar-is at (kinds.Int n) read e = let same : read ≡ (kinds.Int n, at + 2) = cc in (ap (λ p. p.0) same, ap (λ p. p.1) same)
+scalar-is at (kinds.Str bytes) read e = absurd cc
+scalar-is at (kinds.Array ms) read e = absurd cc
+scalar-is at (kinds.Object class ps) read e = absurd cc
+scalar-is at (kinds.Same x) read e = absurd cc
+
 -- the same behind the read of the tag
+pub kind-behind : (row : List ℕ) (old : Aside) (at tag : ℕ) (kind : Kind) (row' : List ℕ) (new : Aside)
+    → IsKindAt row old.windows at kind → (IsTold old.windows at → tag ≡ slice_index row at) → row' ≡ row → new ≡ old
+    → IsKindAt row' new.windows at kind × (tag ≡ slice_index row' at)
+kind-behind row old at tag kind row' new h word er ea = rw (er, ea) (h, word (kind-there row old.windows at kind h).1)
+
+pub string-at : (row : List ℕ) (old : Aside) (at tag : ℕ) (kind : Kind) (row' : List ℕ) (new : Aside)
+    → IsKindAt row old.windows at kind → (IsTold old.windows at → tag ≡ slice_index row at) → tag % 8 ≡ 3 → row' ≡ row → new ≡ old
+    → (bytes : List ℕ) × (kind ≡ kinds.Str bytes) × IsStringAt row' new.windows at bytes × (tag ≡ 3 + 8 * length bytes)
+string-at row old at tag kind row' new h word code er ea =
+    let is = word (kind-there row old.windows at kind h).1 in
+    let found = kind-string row old.windows at kind h (ap (λ (w : ℕ). w % 8) (sym is) ∙ code) in
+    (found.0, found.1, rw (er, ea) found.2, is ∙ found.3)
+
+pub same-at : (row : List ℕ) (old : Aside) (at tag : ℕ) (kind : Kind) (row' : List ℕ) (new : Aside)
+    → IsKindAt row old.windows at kind → (IsTold old.windows at → tag ≡ slice_index row at) → scalar_at at kind ≡ None → ((n : ℕ) → 3 ≤ n → n ≤ 5 → tag % 8 ≢ n) → row' ≡ row → new ≡ old
+    → (x : ℕ) × (kind ≡ kinds.Same x) × (x < 2 ^ 32) × (at + 1 < length row') × IsTold new.windows (at + 1) × (slice_index row' (at + 1) ≡ x)
+same-at row old at tag kind row' new h word none other er ea =
+    let is = ap (λ (w : ℕ). w % 8) (word (kind-there row old.windows at kind h).1) in
+    let found = kind-same row old.windows at kind h none (λ n low high e. other n low high (is ∙ e)) in
+    (found.0, found.1, found.2, rw er found.3, rw ea found.4, rw er found.5)
+
 pub array-at : (row : List ℕ) (old : Aside) (at tag : ℕ) (kind : Kind) (row' : List ℕ) (new : Aside)
     → IsKindAt row old.windows at kind → (IsTold old.windows at → tag ≡ slice_index row at) → tag % 8 ≡ 4 → row' ≡ row → new ≡ old
     → (ms : List (Key × Child)) × (kind ≡ kinds.Array ms) × AreMembersAt row' new.windows (at + 1) (tag / 8) ms
 array-at row old at tag kind row' new h word code er ea =
-    let is = word (kind-first row old.windows at kind h) in
+    let is = word (kind-there row old.windows at kind h).1 in
     let found = kind-array row old.windows at kind h (ap (λ (w : ℕ). w % 8) (sym is) ∙ code) in
     let there : AreMembersAt row old.windows (at + 1) (tag / 8) found.0 = subst (λ (w : ℕ). AreMembersAt row old.windows (at + 1) (w / 8) found.0) (sym is) found.2 in
     (found.0, found.1, rw (er, ea) there)
@@ -239,7 +296,7 @@ pub object-at : (row : List ℕ) (old : Aside) (at tag : ℕ) (kind : Kind) (row
     → IsKindAt row old.windows at kind → (IsTold old.windows at → tag ≡ slice_index row at) → tag % 8 ≡ 5 → row' ≡ row → new ≡ old
     → (class : List ℕ) × (ps : List (List ℕ × Child)) × (kind ≡ kinds.Object class ps) × IsObjectAt row' new.windows (at + 1) (tag / 8) class ps
 object-at row old at tag kind row' new h word code er ea =
-    let is = word (kind-first row old.windows at kind h) in
+    let is = word (kind-there row old.windows at kind h).1 in
     let found = kind-object row old.windows at kind h (ap (λ (w : ℕ). w % 8) (sym is) ∙ code) in
     let there : IsObjectAt row old.windows (at + 1) (tag / 8) found.0 found.1 = subst (λ (w : ℕ). IsObjectAt row old.windows (at + 1) (w / 8) found.0 found.1) (sym is) found.3 in
     (found.0, found.1, found.2, rw (er, ea) there)
