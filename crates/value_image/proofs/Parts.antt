@@ -7,6 +7,7 @@ use Rattle.std.proofs.lemmas.List.Sums.{sum_by-cons}
 use Rattle.php_graph.specs.declared.key.Key.{Key}
 use Rattle.php_graph.specs.declared.key.Key.TheVariants as keys
 use Rattle.php_graph.specs.declared.child.Child.{Child}
+use Rattle.php_graph.specs.declared.child.Child.TheVariants.{Own, Back}
 use Rattle.php_graph.specs.declared.kind.Kind.{Kind}
 use Rattle.php_graph.specs.declared.kind.Kind.TheVariants as kinds
 use Rattle.seg_words.specs.Layout.{words_in}
@@ -15,7 +16,8 @@ use Rattle.seg_words.specs.Windows.{Aside}
 use Rattle.seg_words.specs.Blocks.{IsTold}
 use Rattle.value_image.specs.Packed.{bytes_of, words_of}
 use Rattle.value_image.specs.Rows.{IsToldAt}
-use Rattle.value_image.specs.Image.{string_words, member_words, property_words}
+use Rattle.value_image.specs.Places.{number_of}
+use Rattle.value_image.specs.Image.{string_words, key_words, child_word, member_words, property_words}
 use Rattle.value_image.specs.Reading.{itself, IsStringAt, IsKeyAt, IsMemberAt, IsPropertyAt, AreMembersAt, ArePropertiesAt, IsObjectAt, IsKindAt, scalar_at, FitsMember, FitsProperty}
 use Rattle.value_image.proofs.Runs.{stands-inside, stands-at, told-front, told-back}
 use Rattle.value_image.proofs.Packing.{length-words_of, unpacked}
@@ -97,7 +99,40 @@ key-string row windows at (keys.Str bytes) h tag =
     let first = told-first row windows at (3 + 8 * length bytes) (words_of bytes) h.told in
     (bytes, refl, record { told = h.told; fits = h.fits }, first.2)
 
+-- the same behind the read of the tag
+pub int-key-at : (row : List ℕ) (old : Aside) (at tag : ℕ) (key : Key) (row' : List ℕ) (new : Aside)
+    → IsKeyAt row old.windows at key → (IsTold old.windows at → tag ≡ slice_index row at) → tag ≡ 2 → row' ≡ row → new ≡ old
+    → (n : ℤ) × (key ≡ keys.Int n) × FitsSigned w64 n × (at + 1 < length row') × IsTold new.windows (at + 1) × (slice_index row' (at + 1) ≡ cast_unsigned w64 n)
+int-key-at row old at tag key row' new h word code er ea = rw (er, ea) (key-int row old.windows at key h (sym (word (key-first row old.windows at key h).1) ∙ code))
+
+pub string-key-at : (row : List ℕ) (old : Aside) (at tag : ℕ) (key : Key) (row' : List ℕ) (new : Aside)
+    → IsKeyAt row old.windows at key → (IsTold old.windows at → tag ≡ slice_index row at) → tag ≢ 2 → row' ≡ row → new ≡ old
+    → (bytes : List ℕ) × (key ≡ keys.Str bytes) × IsStringAt row' new.windows at bytes × (tag ≡ 3 + 8 * length bytes)
+string-key-at row old at tag key row' new h word other er ea =
+    let is = word (key-first row old.windows at key h).1 in
+    let found = key-string row old.windows at key h (λ e. other (is ∙ e)) in
+    (found.0, found.1, rw (er, ea) found.2, is ∙ found.3)
+
 -- ---- members
+
+-- a member's word is there and is told, and its key stands behind it
+pub member-there : (row windows : List ℕ) (at : ℕ) (m : Key × Child) → IsMemberAt row windows at m → (at < length row) × IsTold windows at × (slice_index row at ≡ child_word itself m.1)
+member-there row windows at m h = told-first row windows at (child_word itself m.1) (key_words m.0) h.told
+
+pub member-key : (row : List ℕ) (old : Aside) (at : ℕ) (m : Key × Child) (row' : List ℕ) (new : Aside) → IsMemberAt row old.windows at m → row' ≡ row → new ≡ old → IsKeyAt row' new.windows (at + 1) m.0
+member-key row old at m row' new h er ea = rw (er, ea) (record { told = told-rest row old.windows at (child_word itself m.1) (key_words m.0) h.told; fits = h.fits.0 })
+
+-- so it is with a property and its name
+pub property-there : (row windows : List ℕ) (at : ℕ) (p : List ℕ × Child) → IsPropertyAt row windows at p → (at < length row) × IsTold windows at × (slice_index row at ≡ child_word itself p.1)
+property-there row windows at p h = told-first row windows at (child_word itself p.1) (string_words p.0) h.told
+
+pub property-name : (row : List ℕ) (old : Aside) (at : ℕ) (p : List ℕ × Child) (row' : List ℕ) (new : Aside) → IsPropertyAt row old.windows at p → row' ≡ row → new ≡ old → IsStringAt row' new.windows (at + 1) p.0
+property-name row old at p row' new h er ea = rw (er, ea) (record { told = told-rest row old.windows at (child_word itself p.1) (string_words p.0) h.told; fits = h.fits.0 })
+
+-- a word of an offset of 32 bits has at most 33
+pub child-short : (child : Child) (word : ℕ) → word ≡ child_word itself child → number_of child < 2 ^ 32 → word < 2 ^ 33
+child-short (Own x) word e fits = omega arith
+child-short (Back x) word e fits = omega arith
 
 pub members-item : (row windows : List ℕ) (at count : ℕ) (ms : List (Key × Child)) (i : ℕ) (m : Key × Child) → AreMembersAt row windows at count ms → slice_get ms i ≡ Some m
     → IsMemberAt row windows (at + sum_by (λ m. 1 + key_cells m.0) (take i ms)) m
