@@ -7,7 +7,7 @@ use Rattle.pin_table.specs.declared.views.Known.{Known}
 use Rattle.pin_table.specs.declared.views.Desk.{Desk}
 use Rattle.pin_table.specs.Values.{Writing}
 use Rattle.pin_table.specs.Pins.{IsBlock, MeetsNone, AreApart}
-use Rattle.pin_table.specs.Views.{desk_of, in_hand, pinning_at}
+use Rattle.pin_table.specs.Views.{desk_of, reader_of, in_hand, pinning_at, copied, reader_after, on_desk}
 use Rattle.pin_table.proofs.Lists.{named_there}
 use Rattle.pin_table.proofs.Ruled as ruled
 use Rattle.pin_table.proofs.table.PinTable.copy_out.Goals as goal
@@ -48,7 +48,17 @@ pub invariant_of-result : goal.invariant_of-result
 invariant_of-result g c = grind (arith, common_steps)
 
 pub returns-clause-desk : goal.returns-clause-desk
-returns-clause-desk g c = grind (arith, common_steps)
+returns-clause-desk g c =
+    let d : desk_of c.seat.inside.seat.me.0 ≡ c.args.seat.now.desk = ap (λ (w : Writing). w.desk) c.seat.view_is in
+    let back : c.args.block + 11 - 11 ≡ c.args.block = omega arith in
+    ap (λ m. desk_of m.0) c.split_seat-own.ensures.2 ∙ ap (λ m. desk_of (on_desk (λ v. copied v g.Q.Saying.event) m.0)) c.fetch_add.ensures.2
+    ∙ ap (λ (at : ℕ). copied (pinning_at (desk_of c.seat.inside.seat.me.0) at) g.Q.Saying.event) back
+    ∙ ap (λ (v : Desk). copied (pinning_at v c.args.block) g.Q.Saying.event) d
 
 pub returns-clause-copy : goal.returns-clause-copy
-returns-clause-copy g c = grind (arith, common_steps)
+returns-clause-copy g c =
+    let d : desk_of c.seat.inside.seat.me.0 ≡ c.args.seat.now.desk = ap (λ (w : Writing). w.desk) c.seat.view_is in
+    let back : c.args.block + 11 - 11 ≡ c.args.block = omega arith in
+    ap (λ m. reader_of m.0) c.split_seat-own.ensures.4 ∙ ap (λ m. reader_after (desk_of m.0) g.Q.Saying.event) c.fetch_add.ensures.2
+    ∙ ap (λ (at : ℕ). reader_after (pinning_at (desk_of c.seat.inside.seat.me.0) at) g.Q.Saying.event) back
+    ∙ ap (λ (v : Desk). reader_after (pinning_at v c.args.block) g.Q.Saying.event) d
