@@ -7,6 +7,39 @@ use Rattle.value_image.proofs.Packing.{take-bytes_of, take-bytes_of-whole, bytes
 use Rattle.value_image.proofs.bytes.bytes_at.Goals as goal
 use Rattle.value_image.proofs.bytes.bytes_at.Goals.{then-left-ne0, else-left-ne0}
 
+pub overflow_add-at : goal.overflow_add-at
+overflow_add-at g c = omega (arith, c.requires.inside, g.met.W.WordsIn.short c.args.from.now)
+
+pub load_eight-words-requires : goal.load_eight-words-requires
+load_eight-words-requires g c =
+    let long : length (g.W.WordsIn.words c.eights.from) ≡ length (g.W.WordsIn.words c.args.from.now) = ap (λ (r : List ℕ). length r) c.eights.invariant.kept.words in
+    omega (arith, c.requires.inside, long)
+
+pub push_eight-requires : goal.push_eight-requires
+push_eight-requires g c = omega (arith, c.eights.invariant.len, c.eights.invariant.room)
+
+pub overflow_add-at-in-words : goal.overflow_add-at-in-words
+overflow_add-at-in-words g c = omega (arith, c.requires.inside, g.met.W.WordsIn.short c.args.from.now)
+
+pub load-word-requires : goal.load-word-requires
+load-word-requires g c =
+    let long : length (g.W.WordsIn.words c.words.from) ≡ length (g.W.WordsIn.words c.args.from.now) = ap (λ (r : List ℕ). length r) (c.words.invariant.kept.words ∙ c.eights.invariant.kept.words) in
+    omega (arith, c.requires.inside, long)
+
+pub push_word-requires : goal.push_word-requires
+push_word-requires g c = omega (arith, c.words.invariant.len, c.words.invariant.room)
+
+pub overflow_add-at-then-left-ne0 : goal.overflow_add-at-then-left-ne0
+overflow_add-at-then-left-ne0 g c = omega (arith, c.requires.inside, g.met.W.WordsIn.short c.args.from.now)
+
+pub load-word-requires-then-left-ne0 : goal.load-word-requires-then-left-ne0
+load-word-requires-then-left-ne0 g c =
+    let long : length (g.W.WordsIn.words c.words.from) ≡ length (g.W.WordsIn.words c.args.from.now) = ap (λ (r : List ℕ). length r) (c.words.invariant.kept.words ∙ c.eights.invariant.kept.words) in
+    omega (arith, c.requires.inside, long)
+
+pub push_part-requires-clause-room : goal.push_part-requires-clause-room
+push_part-requires-clause-room g c = omega (arith, c.words.invariant.len, c.words.invariant.room, c.words-test.false, c.words.auto.i)
+
 pub eights-preserved : goal.eights-preserved
 eights-preserved g c =
     let row = g.W.WordsIn.words c.args.from.now in
