@@ -1,6 +1,6 @@
 -- Keys and names.
 use Rattle.std.proofs.Common.{◌≡◌, ◌⊎◌, inl, inr, ℕ, Bool, true, false, cond, List, [], ◌∷◌, ◌++◌, map, Option, Some, None, refl, sym, ap, ◌∙◌, arith}
-use Rattle.std.specs.Prelude.{ℤ, ◌||◌, nat_lt, Result, Ok, Err, OnOk, OnErr}
+use Rattle.std.specs.Prelude.{ℤ, ◌||◌, not, nat_lt, Result, Ok, Err, OnOk, OnErr}
 use Rattle.std.specs.Cmp.Lexicographic.{bytes_decides}
 use Rattle.std.specs.List.{list_any}
 use Rattle.std.specs.Ordering.{is_eq, nat_cmp}
@@ -100,6 +100,20 @@ marks_more ks k m set new e updates has q there = elim (among ks k q there) [
   | inl old ↦ updates.0 (key_mark q) ∙ ap (cond (is_at (nat_cmp m) (key_mark q)) true) (has q old) ∙ always (is_at (nat_cmp m) (key_mark q))
   | inr last ↦ ap (contains nat_cmp new) (ap key_mark last ∙ sym e) ∙ updates.1
 ]
+
+not_true : (b : Bool) → (b ≡ true → ⊥) → b ≡ false
+not_true true h = absurd (h refl)
+not_true false h = refl
+
+-- a key whose mark is not there is not there
+pub new_mark : (ks : List Key) (k : Key) (m : ℕ) (set : BTreeSet ℕ) → m ≡ key_mark k → HasMarks ks set → contains nat_cmp set m ≡ false → repeat_fault ks k ≡ None
+new_mark ks k m set e has none =
+    ap (λ (b : Bool). cond b (Some RepeatedKey) None) (not_true (holds_key ks k) (λ there. let both : false ≡ true = sym none ∙ ap (contains nat_cmp set) e ∙ has k there in cc))
+
+-- what was new was not there
+pub was_new : (b there : Bool) → b ≡ not there → b ≡ true → there ≡ false
+was_new b true e new = absurd cc
+was_new b false e new = refl
 
 -- the highest once a key more is there
 bounds_one : (h : ℕ) (b : Bool) (ks : List Key) (k : Key) → nat_lt h (key_mark k) ≡ b → BoundsKeys (Some h) ks → BoundsKeys (cond b (Some (key_mark k)) (Some h)) (ks ++ k ∷ [])

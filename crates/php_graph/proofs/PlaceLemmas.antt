@@ -1,5 +1,5 @@
 -- Places as they stand in memory.
-use Rattle.std.proofs.Common.{◌≡◌, ◌∙◌, ℕ, zero, suc, ◌+◌, ◌-◌, ◌<◌, List, [], ◌∷◌, ◌++◌, length, take, drop, get_or, set, Option, Some, None, refl, sym, ap, ap₂, arith}
+use Rattle.std.proofs.Common.{◌≡◌, ◌∙◌, ℕ, zero, suc, ◌+◌, ◌-◌, ◌<◌, List, [], ◌∷◌, ◌++◌, length, take, drop, get_or, set, Option, Some, None, refl, sym, ap, ap₂, arith, add-one, append_assoc, drop-cons}
 use Rattle.std.specs.Prelude.{OnOk, Result, Ok, Err, slice_set}
 use Rattle.std.specs.List.{slice_get}
 use Rattle.std.specs.Option.{option_map, option_and_then}
@@ -97,3 +97,9 @@ low_some by x y xs e = ap (option_and_then (λ (k : Kind). option_map (λ (other
 pub low_list : (by : ℕ) (x y : Kind) (g rest : List Kind) (o : Option (List Kind)) → g ≡ x ∷ rest → lowered_kind by x ≡ Some y → o ≡ lowered_places by rest → option_map (λ (others : List Kind). y ∷ others) o ≡ lowered_places by g
 low_list by x y g rest o list first others =
     sym (ap (lowered_places by) list ∙ low_some by x y rest first ∙ ap (option_map (λ (ks : List Kind). y ∷ ks)) (sym others))
+
+-- the copies so far with one more, and the rest
+pub copied_one : {A : Type 0} (made more xs all : List A) (i : ℕ) (x y : A) → made ++ drop i xs ≡ all → i < length xs → x ≡ get_or xs i x → y ≡ x → more ≡ made ++ y ∷ [] → more ++ drop (i + 1) xs ≡ all
+copied_one made more xs all i x y so_far lt is copy pushed =
+    let front : drop i xs ≡ x ∷ drop (i + 1) xs = drop-cons xs i x lt ∙ ap₂ (λ z k. z ∷ drop k xs) (sym is) (sym (add-one i)) in
+    rw (pushed, copy, append_assoc) (ap (λ (l : List _). made ++ l) (sym front) ∙ so_far)
