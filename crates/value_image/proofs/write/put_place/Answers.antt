@@ -1,11 +1,16 @@
-use Rattle.std.proofs.Common.{◌+◌, ap, sym, ◌∙◌, subst, length, arith}
+use Rattle.std.proofs.Common.{◌≡◌, ℕ, ◌+◌, List, [], ◌∷◌, ap, sym, ◌∙◌, subst, length, arith}
 use Rattle.std.proofs.lemmas.Grind.{common_steps}
 use Rattle.php_graph.specs.declared.kind.Kind.{Kind}
-use Rattle.php_graph.specs.Size.{cells_of}
+use Rattle.php_graph.specs.declared.kind.Kind.TheVariants.{Same}
+use Rattle.php_graph.specs.Size.{cells_of, offset_of}
 use Rattle.value_image.specs.Rows.{written, MayWrite}
 use Rattle.value_image.specs.Places.{NamesPlaces}
 use Rattle.value_image.specs.Image.{place_words}
 use Rattle.value_image.proofs.write.put_place.Goals as goal
+
+-- a place that names another is written with its offset
+same-words : (row : List ℕ) (at : ℕ) (new : List ℕ) (n : ℕ) (g : List Kind) (place : ℕ) (kind : Kind) → new ≡ written row at (6 ∷ n ∷ []) → n ≡ offset_of g place → kind ≡ Same place → new ≡ written row at (place_words g kind)
+same-words row at new n g place kind words offset is = words ∙ ap (λ (w : ℕ). written row at (6 ∷ w ∷ [])) offset ∙ ap (λ (k : Kind). written row at (place_words g k)) (sym is)
 
 pub put_one-requires : goal.put_one-requires
 put_one-requires g c = subst (λ (k : Kind). MayWrite (g.S.WordsIn.words c.args.seg.now) (g.S.WordsIn.aside c.args.seg.now).windows c.args.at (cells_of k)) c.in-Null.is c.requires.apart
@@ -71,7 +76,7 @@ pub returns-in-Object-clause-end : goal.returns-in-Object-clause-end
 returns-in-Object-clause-end g c = c.put_object.ensures.end ∙ ap (λ (k : Kind). c.args.at + cells_of k) (sym c.in-Object.is)
 
 pub returns-in-Same-clause-words : goal.returns-in-Same-clause-words
-returns-in-Same-clause-words g c = grind (arith, common_steps)
+returns-in-Same-clause-words g c = same-words _ c.args.at _ _ c.args.g.now _ _ c.put_two-in-Same.ensures.words (cc) c.in-Same.is
 
 pub returns-in-Same-clause-end : goal.returns-in-Same-clause-end
 returns-in-Same-clause-end g c = c.put_two-in-Same.ensures.end ∙ ap (λ (k : Kind). c.args.at + cells_of k) (sym c.in-Same.is)

@@ -1,10 +1,14 @@
-use Rattle.std.proofs.Common.{◌≡◌, ℕ, ◌+◌, ◌-◌, ◌<◌, length, ap, sym, ◌∙◌, subst, arith}
-use Rattle.std.proofs.lemmas.Grind.{common_steps}
+use Rattle.std.proofs.Common.{◌≡◌, ℕ, ◌+◌, ◌-◌, ◌<◌, List, [], length, drop, slice_index, slice_set, refl, ap, sym, ◌∙◌, subst, arith}
+use Rattle.std.proofs.lemmas.List.{length-set, length-take, length-drop}
+use Rattle.seg_words.specs.Blocks.{image_place}
 use mathlib.Core.Option.{some}
 use lib.ListN.{get_elem?}
 use Rattle.atomic_table.specs.Seated.{TableId}
 use Rattle.pin_table.specs.declared.views.Known.{Known}
 use Rattle.pin_table.specs.declared.views.Desk.{Desk}
+use Rattle.pin_table.specs.declared.views.Reader.{Reader}
+use Rattle.pin_table.specs.declared.views.View.{View}
+use Rattle.pin_table.specs.declared.views.View.TheVariants.{Writer, Copying}
 use Rattle.pin_table.specs.Values.{Writing}
 use Rattle.pin_table.specs.Pins.{IsBlock, MeetsNone, AreApart}
 use Rattle.pin_table.specs.Views.{desk_of, reader_of, in_hand, pinning_at, copied, reader_after, on_desk}
@@ -41,11 +45,59 @@ split_seat-own-requires g c =
           (ruled.copies_out (pinning_at (desk_of c.seat.inside.seat.me.0) c.args.block) g.Q.Saying.event p (e ∙ c.requires.hand) (c.requires.event ∙ sym c.requires.worker) c.requires.fetch (omega (arith, c.requires.left)) c.requires.block.positive),
     )
 
+-- the writer is one still, after the pin and after the event
+pinned : {A : Type 0} (l : List A) (now : View × List A) (d : Desk) → now ≡ (Writer d, l) → l ≡ [] → now ≡ (Writer d, [])
+pinned {A = A} l now d is none = is ∙ ap (λ (k : List A). (Writer d, k)) none
+
+writes : {A : Type 0} (f : Desk → Desk) (was now : View × List A) (d : Desk) → now ≡ (on_desk f was.0, was.1) → was ≡ (Writer d, []) → now ≡ (Writer (desk_of now.0), [])
+writes f was now d is before = rw (is, before) refl
+
+-- the new pass copies
+copies : {A : Type 0} (now : View × List A) (r : Reader) → now ≡ (Copying r, []) → now ≡ (Copying (reader_of now.0), [])
+copies now r is = rw is refl
+
 pub invariant_of-seat : goal.invariant_of-seat
-invariant_of-seat g c = grind (arith, common_steps)
+invariant_of-seat g c =
+    let d : desk_of c.seat.inside.seat.me.0 ≡ c.args.seat.now.desk = ap (λ (w : Writing). w.desk) c.seat.view_is in
+    let back : c.args.block + 11 - 11 ≡ c.args.block = omega arith in
+    let pin = pinned _ c.fetch_add.new.seat.me _ c.fetch_add.ensures.2 (ap (λ m. m.1) c.seat.invariant.1) in
+    let made : desk_of c.split_seat-own.new.seat.me.0 ≡ copied (pinning_at (desk_of c.seat.inside.seat.me.0) c.args.block) g.Q.Saying.event =
+    ap (λ m. desk_of m.0) c.split_seat-own.ensures.2 ∙ ap (λ m. desk_of (on_desk (λ v. copied v g.Q.Saying.event) m.0)) c.fetch_add.ensures.2
+    ∙ ap (λ (at : ℕ). copied (pinning_at (desk_of c.seat.inside.seat.me.0) at) g.Q.Saying.event) back in
+    let worker : (in_hand (desk_of c.seat.inside.seat.me.0).book.hand).worker ≡ c.args.worker = ap (λ (v : Desk). (in_hand v.book.hand).worker) d ∙ c.requires.worker in (
+      c.split_seat-own.ensures.1 ∙ c.fetch_add.ensures.1 ∙ c.seat.invariant.0,
+      writes (λ v. copied v g.Q.Saying.event) c.fetch_add.new.seat.me c.split_seat-own.new.seat.me _ c.split_seat-own.ensures.2 pin,
+      ap (λ (v : Desk). length v.words) made ∙ c.seat.invariant.2 ∙ ap (λ (z : TableId). z.words) (sym (c.split_seat-own.ensures.0 ∙ c.fetch_add.ensures.0)),
+      c.set_window.ensures ∙ ap (λ (ws : List ℕ). slice_set ws c.args.worker c.args.block) c.seat.invariant.3
+          ∙ ap (λ (w : ℕ). slice_set (desk_of c.seat.inside.seat.me.0).windows w c.args.block) (sym worker) ∙ sym (ap (λ (v : Desk). v.windows) made),
+      omega (arith, ap (λ (ws : List ℕ). length ws) c.set_window.ensures, length-set c.seat.inside.windows.items c.args.worker c.args.block, c.seat.invariant.4),
+      sym (ap (λ (v : Desk). v.mask) made),
+      ap (λ (v : Desk). v.pinning) made,
+    )
 
 pub invariant_of-result : goal.invariant_of-result
-invariant_of-result g c = grind (arith, common_steps)
+invariant_of-result g c =
+    let d : desk_of c.seat.inside.seat.me.0 ≡ c.args.seat.now.desk = ap (λ (w : Writing). w.desk) c.seat.view_is in
+    let back : c.args.block + 11 - 11 ≡ c.args.block = omega arith in
+    let made : reader_of c.split_seat-own.result.me.0 ≡ reader_after (pinning_at c.args.seat.now.desk c.args.block) g.Q.Saying.event =
+    ap (λ m. reader_of m.0) c.split_seat-own.ensures.4 ∙ ap (λ m. reader_after (desk_of m.0) g.Q.Saying.event) c.fetch_add.ensures.2
+    ∙ ap (λ (at : ℕ). reader_after (pinning_at (desk_of c.seat.inside.seat.me.0) at) g.Q.Saying.event) back
+    ∙ ap (λ (v : Desk). reader_after (pinning_at v c.args.block) g.Q.Saying.event) d in
+    let words : List ℕ = c.args.seat.now.desk.words in
+    let first = image_place words c.args.block in
+    let long = length-take (slice_index words (c.args.block + 3)) (drop first words) in
+    let rest = length-drop first words in
+    let content = ap (λ (r : Reader). length r.content) made in
+    let count : length words ≡ c.split_seat-own.result.table_id.words = ap (λ (v : Desk). length v.words) (sym d) ∙ c.seat.invariant.2 ∙ ap (λ (z : TableId). z.words) (sym (c.split_seat-own.ensures.3 ∙ c.fetch_add.ensures.0)) in (
+      copies c.split_seat-own.result.me _ c.split_seat-own.ensures.4,
+      sym (ap (λ (r : Reader). r.known.worker) made ∙ c.requires.worker),
+      omega (arith, ap (λ (r : Reader). r.known.left) made, c.requires.left),
+      sym (ap (λ (r : Reader). r.block) made),
+      omega (arith, content, long, rest, count, c.requires.first, c.requires.block.inside),
+      omega (arith, c.requires.first),
+      omega (arith, content, long, rest, c.requires.len, c.requires.block.inside),
+      c.requires.first ∙ sym (ap (λ (r : Reader). r.first) made),
+    )
 
 pub returns-clause-desk : goal.returns-clause-desk
 returns-clause-desk g c =
