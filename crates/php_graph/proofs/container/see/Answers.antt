@@ -1,4 +1,4 @@
-use Rattle.std.proofs.Common.{List, inl, subst}
+use Rattle.std.proofs.Common.{inl, subst}
 use Rattle.std.proofs.lemmas.Result.{err_from_is_err_and}
 use Rattle.php_graph.specs.declared.container.Seen.{Seen}
 use Rattle.php_graph.specs.Graph.{keys_of}
