@@ -26,7 +26,8 @@ fn move_if_held<S: Segment>(slots: &mut EntrySlots, seg: &mut S, at: u32, t: u64
     ensures rest { S.rest seg.new ≡ S.rest seg.old }
 {
     standing_laws();
-    if !is_let_go(slots, seg, at) {
+    let is_free = is_let_go(slots, seg, at);
+    if !is_free {
         slots.unlink(seg, at);
         slots.to_removed(seg, at, t);
     }

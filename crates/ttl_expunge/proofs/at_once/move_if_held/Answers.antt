@@ -10,8 +10,8 @@ use Rattle.ttl_expunge.proofs.Moving.{stays_one, moves_one}
 use Rattle.entry_slots.specs.Standing.{entries}
 use Rattle.ttl_expunge.proofs.at_once.move_if_held.Goals as goal
 
-pub is_let_go-requires : goal.is_let_go-requires
-is_let_go-requires g c =
+pub is_let_go-is_free-requires : goal.is_let_go-is_free-requires
+is_let_go-is_free-requires g c =
     let s = entries c.args.slots.now in
     let o = only_of c.args.at (c.standing_laws.ensures.sound c.args.slots.now (g.S.WordsIn.words c.args.seg.now) (g.S.WordsIn.aside c.args.seg.now) (entries c.args.slots.now) c.requires.stand) c.requires.there in
     record {
@@ -25,20 +25,20 @@ to_removed-requires-clause-there g c =
     let o = only_of c.args.at (c.standing_laws.ensures.sound c.args.slots.now (g.S.WordsIn.words c.args.seg.now) (g.S.WordsIn.aside c.args.seg.now) (entries c.args.slots.now) c.requires.stand) c.requires.there in
     ap (λ (x : Entries). has_place c.args.at x.unlinked) c.unlink.ensures.unlinked ∙ only_loose o
 
-pub returns-then-not-is_let_go-clause-moves : goal.returns-then-not-is_let_go-clause-moves
-returns-then-not-is_let_go-clause-moves g c =
+pub returns-then-not-is_free-clause-moves : goal.returns-then-not-is_free-clause-moves
+returns-then-not-is_free-clause-moves g c =
     let s = entries c.args.slots.now in
     let o = only_of c.args.at (c.standing_laws.ensures.sound c.args.slots.now (g.S.WordsIn.words c.args.seg.now) (g.S.WordsIn.aside c.args.seg.now) (entries c.args.slots.now) c.requires.stand) c.requires.there in
-    let a : Aside = g.S.WordsIn.aside c.is_let_go.new.seg in
+    let a : Aside = g.S.WordsIn.aside c.is_let_go-is_free.new.seg in
     let same : g.S.WordsIn.aside c.to_removed.new.seg ≡ a = c.to_removed.ensures.beside.aside ∙ c.unlink.ensures.beside.aside in
-    let is : has c.args.at (held_blocks a) ≡ true = not-false (has c.args.at (held_blocks a)) (sym c.is_let_go.ensures.free ∙ c.if-not-is_let_go.true) in
+    let is : has c.args.at (held_blocks a) ≡ true = not-false (has c.args.at (held_blocks a)) (sym c.is_let_go-is_free.ensures.free ∙ c.if-not-is_free.true) in
     subst (λ (x : Aside). Moves s (entries c.to_removed.new.self) (g.S.WordsIn.aside c.args.seg.now) x c.args.t (only_at c.args.at s.rows)) (sym same)
-    (moves_one o c.is_let_go.ensures.met c.requires.refused is (c.to_removed.ensures.removed ∙ (ap (removed_at c.args.at c.args.t) c.unlink.ensures.unlinked ∙ removed_one c.args.t (held_blocks a) o is)))
+    (moves_one o c.is_let_go-is_free.ensures.met c.requires.refused is (c.to_removed.ensures.removed ∙ (ap (removed_at c.args.at c.args.t) c.unlink.ensures.unlinked ∙ removed_one c.args.t (held_blocks a) o is)))
 
-pub returns-else-not-is_let_go-clause-moves : goal.returns-else-not-is_let_go-clause-moves
-returns-else-not-is_let_go-clause-moves g c =
+pub returns-else-not-is_free-clause-moves : goal.returns-else-not-is_free-clause-moves
+returns-else-not-is_free-clause-moves g c =
     let s = entries c.args.slots.now in
     let o = only_of c.args.at (c.standing_laws.ensures.sound c.args.slots.now (g.S.WordsIn.words c.args.seg.now) (g.S.WordsIn.aside c.args.seg.now) (entries c.args.slots.now) c.requires.stand) c.requires.there in
-    let a : Aside = g.S.WordsIn.aside c.is_let_go.new.seg in
-    let free : has c.args.at (held_blocks a) ≡ false = not-true (has c.args.at (held_blocks a)) (sym c.is_let_go.ensures.free ∙ c.if-not-is_let_go.false) in
-    stays_one o c.is_let_go.ensures.met c.requires.refused free
+    let a : Aside = g.S.WordsIn.aside c.is_let_go-is_free.new.seg in
+    let free : has c.args.at (held_blocks a) ≡ false = not-true (has c.args.at (held_blocks a)) (sym c.is_let_go-is_free.ensures.free ∙ c.if-not-is_free.false) in
+    stays_one o c.is_let_go-is_free.ensures.met c.requires.refused free
