@@ -1,9 +1,10 @@
 -- What a look-up for an integer finds, and the cache once the integer was set.
 use Rattle.std.proofs.Common.{◌≡◌, ℕ, Bool, true, false, not, ◌&&◌, cond, List, [], ◌∷◌, ◌++◌, map, Option, Some, None, refl, sym, ap, ◌∙◌, subst, inl, inr}
 use Rattle.std.specs.Prelude.{ℤ, Contains, find, option_map, if◌then◌else◌}
+use Rattle.std.proofs.lemmas.Bool.{false≢true}
 use Rattle.std.proofs.lemmas.List.Elements.{Contains-append_left, Contains-append_right, Contains-append_cases}
 use Rattle.seg_words.specs.declared.segment.WordsIn.{Ghosts}
-use Rattle.seg_words.specs.Windows.{Aside, is_named}
+use Rattle.seg_words.specs.Windows.{Aside, has, is_named}
 use Rattle.seg_words.specs.Kept.{Kept}
 use Rattle.seg_words.specs.Members.{Contains-first, Contains-later, Contains-map}
 use Rattle.php_graph.specs.declared.kind.Kind.{Kind}
@@ -14,17 +15,20 @@ use Rattle.apcu_model.specs.declared.request.StoreAnswer.TheVariants as answers
 use Rattle.apcu_model.specs.Cache.{Row, Cache, has_key}
 use Rattle.apcu_model.specs.Expiry.{is_hard_expired, live_row}
 use Rattle.apcu_model.specs.History.{is_scalar}
-use Rattle.apcu_model.specs.Counters.{integer_in, with_integer, with_integer_at, integer_set, number_if}
+use Rattle.apcu_model.specs.Counters.{integer_in, with_integer, with_integer_at, integer_set, number_if, counted, counted_at, counted_on}
+use Rattle.apcu_model.specs.Sequential.{number_reply}
 use Rattle.entry_slots.specs.Entries.{HoldsInt}
 use Rattle.entry_slots.specs.Standing.{Stands, entries}
-use Rattle.ttl_expunge.specs.Held.{KeepsOpen}
+use Rattle.ttl_expunge.specs.Held.{AreRemoved, KeepsOpen}
 use Rattle.cache_core.specs.declared.cache.Core.{Core}
 use Rattle.cache_core.specs.declared.scalar.Scalar.{Scalar}
 use Rattle.cache_core.specs.Caching.{cache_of, CacheStands}
 use Rattle.cache_core.specs.Integers.{NameNoScalar}
 use Rattle.cache_core.specs.Looking.{scalar_of}
 use Rattle.counter_entry.specs.declared.looking.Found.TheVariants.{Nothing, Other, Integer}
-use Rattle.counter_entry.specs.Numbers.{integer_of, found_at, found_of, begun_answer, number_answered}
+use Rattle.counter_entry.specs.declared.answer.IncAnswer.{IncAnswer}
+use Rattle.counter_entry.specs.declared.answer.IncAnswer.TheVariants.{NotInteger, NoRoom, Value}
+use Rattle.counter_entry.specs.Numbers.{integer_of, found_at, found_of, begun_answer, number_answered, answer_at, sum_answer, inc_answer, reply_of}
 
 integer_is : (g : List Kind) → integer_of (scalar_of g) ≡ integer_in g
 integer_is [] = refl
@@ -169,3 +173,25 @@ number_begun step answers.Stored = refl
 number_begun step answers.TooLarge = refl
 number_begun step answers.Exists = refl
 number_begun step answers.NoRoom = refl
+
+pub reply_is : (a : IncAnswer) → reply_of a ≡ number_reply (number_answered a)
+reply_is NotInteger = refl
+reply_is NoRoom = refl
+reply_is (Value n) = refl
+
+-- nothing counts on from a value that is no integer
+pub other_counted : (held key : List ℕ) (step : ℤ) (ttl t : ℕ) (c : Cache) → Other ≡ found_of (live_row key t c) → counted held key step ttl t c ≡ record { number = None; cache = c }
+other_counted held key step ttl t c h =
+    let o = other_of (live_row key t c) h in
+    ap (counted_at held key step ttl t c) o.1 ∙ ap (counted_on key step t c) o.2
+
+pub other_answer : (held key : List ℕ) (step : ℤ) (ttl t : ℕ) (c : Cache) → Other ≡ found_of (live_row key t c) → NotInteger ≡ inc_answer held key step ttl t c
+other_answer held key step ttl t c h =
+    let o = other_of (live_row key t c) h in
+    sym (ap (answer_at held key step ttl t c) o.1 ∙ ap (sum_answer step) o.2)
+
+-- where no place was refused, none is that is not of a removed row
+pub none_refused : (old new : Aside) (removed : List Row) → new ≡ old → ((b : ℕ) → has b old.refused ≡ false) → AreRemoved new removed
+none_refused old new removed same fresh = record {
+  each = λ b h. absurd (false≢true (sym (ap (λ (a : Aside). has b a.refused) same ∙ fresh b) ∙ h));
+}

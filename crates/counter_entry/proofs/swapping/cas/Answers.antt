@@ -1,5 +1,6 @@
+use Rattle.std.proofs.Common.{◌∙◌}
 use Rattle.cache_core.specs.Caching.{cache_of}
-use Rattle.counter_entry.proofs.Finding.{counter_of, holds_int, unnamed_at, set_keeps}
+use Rattle.counter_entry.proofs.Finding.{counter_of, holds_int, unnamed_at, cache_kept, same_keeps, set_keeps}
 use Rattle.counter_entry.proofs.swapping.cas.Goals as goal
 
 pub set_int-requires-clause-int : goal.set_int-requires-clause-int
@@ -14,3 +15,39 @@ pub returns-clause-keeps : goal.returns-clause-keeps
 returns-clause-keeps g c =
     let k = counter_of c.args.key.now c.args.t (cache_of c.args.core.now) c.in-Integer.at _ c.in-Integer.ensures.found in
     set_keeps (g.S.WordsIn.aside c.set_int.new.seg).windows c.args.key.now _ c.args.t c.args.core.now c.set_int.new.self (c.set_int.ensures.cache c.args.key.now c.args.t k.row k.live k.place)
+
+pub look_for-requires-clause-short : goal.look_for-requires-clause-short
+look_for-requires-clause-short g c = c.requires.short
+
+pub look_for-requires-clause-stand : goal.look_for-requires-clause-stand
+look_for-requires-clause-stand g c = c.requires.stand
+
+pub set_int-requires-clause-stand : goal.set_int-requires-clause-stand
+set_int-requires-clause-stand g c = cache_kept c.args.core.now c.look_for.ensures.kept c.requires.stand
+
+pub returns-in_default-clause-keeps : goal.returns-in_default-clause-keeps
+returns-in_default-clause-keeps g c = same_keeps (g.S.WordsIn.aside c.look_for.new.seg).windows c.args.core.now
+
+pub returns-in_default-clause-stand : goal.returns-in_default-clause-stand
+returns-in_default-clause-stand g c = cache_kept c.args.core.now c.look_for.ensures.kept c.requires.stand
+
+pub returns-in_default-clause-beside : goal.returns-in_default-clause-beside
+returns-in_default-clause-beside g c = record { aside = c.look_for.ensures.kept.aside; rest = c.look_for.ensures.kept.rest }
+
+pub returns-then-n-expect-clause-keeps : goal.returns-then-n-expect-clause-keeps
+returns-then-n-expect-clause-keeps g c = same_keeps (g.S.WordsIn.aside c.look_for.new.seg).windows c.args.core.now
+
+pub returns-then-n-expect-clause-stand : goal.returns-then-n-expect-clause-stand
+returns-then-n-expect-clause-stand g c = cache_kept c.args.core.now c.look_for.ensures.kept c.requires.stand
+
+pub returns-then-n-expect-clause-beside : goal.returns-then-n-expect-clause-beside
+returns-then-n-expect-clause-beside g c = record { aside = c.look_for.ensures.kept.aside; rest = c.look_for.ensures.kept.rest }
+
+pub returns-clause-stand : goal.returns-clause-stand
+returns-clause-stand g c = c.set_int.ensures.stand
+
+pub returns-clause-beside : goal.returns-clause-beside
+returns-clause-beside g c =
+    let kept = c.look_for.ensures.kept in
+    let beside = c.set_int.ensures.beside in
+    record { aside = beside.aside ∙ kept.aside; rest = beside.rest ∙ kept.rest }
