@@ -61,3 +61,42 @@ returns-clause-cache g c =
     let f = c.in-Some.ensures.found in
     let sound = c.standing_laws.ensures.sound core.slots (g.S.WordsIn.words c.args.seg.now) (g.S.WordsIn.aside c.args.seg.now) (entries core.slots) c.requires.stand.stand in
     (core_touched core new c.args.key.now c.args.t c.in-Some.at f.row c.requires.stand.whole (old_found f refl sound) sound c.touch.ensures.touched refl c.after_hit-self.ensures f.live).0
+
+pub returns-in_default-clause-beside : goal.returns-in_default-clause-beside
+returns-in_default-clause-beside g c = record { aside = c.find_live.ensures.kept.aside; rest = c.find_live.ensures.kept.rest }
+
+pub returns-in_err-value-clause-stand : goal.returns-in_err-value-clause-stand
+returns-in_err-value-clause-stand g c =
+    let core = c.args.self.now in
+    let new : Core = record core { slots = c.touch.new.self; tally = c.after_hit-self.result } in
+    let f = c.in-Some.ensures.found in
+    let sound = c.standing_laws.ensures.sound core.slots (g.S.WordsIn.words c.args.seg.now) (g.S.WordsIn.aside c.args.seg.now) (entries core.slots) c.requires.stand.stand in
+    record {
+      stand = c.touch.ensures.stand;
+      whole = (core_touched core new c.args.key.now c.args.t c.in-Some.at f.row c.requires.stand.whole (old_found f refl sound) sound c.touch.ensures.touched refl c.after_hit-self.ensures f.live).1;
+    }
+
+pub returns-in_err-value-clause-beside : goal.returns-in_err-value-clause-beside
+returns-in_err-value-clause-beside g c =
+    let touched = c.touch.ensures.beside in
+    let read = c.unpersist-value.ensures.kept in
+    let found = c.find_live.ensures.kept in
+    record { aside = touched.aside ∙ (read.aside ∙ found.aside); rest = touched.rest ∙ (read.rest ∙ found.rest) }
+
+pub returns-clause-stand : goal.returns-clause-stand
+returns-clause-stand g c =
+    let core = c.args.self.now in
+    let new : Core = record core { slots = c.touch.new.self; tally = c.after_hit-self.result } in
+    let f = c.in-Some.ensures.found in
+    let sound = c.standing_laws.ensures.sound core.slots (g.S.WordsIn.words c.args.seg.now) (g.S.WordsIn.aside c.args.seg.now) (entries core.slots) c.requires.stand.stand in
+    record {
+      stand = c.touch.ensures.stand;
+      whole = (core_touched core new c.args.key.now c.args.t c.in-Some.at f.row c.requires.stand.whole (old_found f refl sound) sound c.touch.ensures.touched refl c.after_hit-self.ensures f.live).1;
+    }
+
+pub returns-clause-beside : goal.returns-clause-beside
+returns-clause-beside g c =
+    let touched = c.touch.ensures.beside in
+    let read = c.unpersist-value.ensures.kept in
+    let found = c.find_live.ensures.kept in
+    record { aside = touched.aside ∙ (read.aside ∙ found.aside); rest = touched.rest ∙ (read.rest ∙ found.rest) }
