@@ -7,3 +7,4 @@ mod Gathering
 mod Chunking
 mod Comes
 mod Gone
+mod Passing
