@@ -1,6 +1,7 @@
 -- What a look-up for an integer finds, and the cache once the integer was set.
 use Rattle.std.proofs.Common.{◌≡◌, ℕ, Bool, true, false, not, ◌&&◌, cond, List, [], ◌∷◌, ◌++◌, map, Option, Some, None, refl, sym, ap, ◌∙◌, subst, inl, inr}
 use Rattle.std.specs.Prelude.{ℤ, Contains, find, option_map, if◌then◌else◌}
+use Rattle.std.specs.Ordering.{int_eq}
 use Rattle.std.proofs.lemmas.Bool.{false≢true}
 use Rattle.std.proofs.lemmas.List.Elements.{Contains-append_left, Contains-append_right, Contains-append_cases}
 use Rattle.seg_words.specs.declared.segment.WordsIn.{Ghosts}
@@ -15,7 +16,7 @@ use Rattle.apcu_model.specs.declared.request.StoreAnswer.TheVariants as answers
 use Rattle.apcu_model.specs.Cache.{Row, Cache, has_key}
 use Rattle.apcu_model.specs.Expiry.{is_hard_expired, live_row}
 use Rattle.apcu_model.specs.History.{is_scalar}
-use Rattle.apcu_model.specs.Counters.{integer_in, with_integer, with_integer_at, integer_set, number_if, counted, counted_at, counted_on}
+use Rattle.apcu_model.specs.Counters.{integer_in, with_integer, with_integer_at, integer_set, Count, number_if, counted, counted_at, counted_on, is_expected, is_integer}
 use Rattle.apcu_model.specs.Sequential.{number_reply}
 use Rattle.entry_slots.specs.Entries.{HoldsInt}
 use Rattle.entry_slots.specs.Standing.{Stands, entries}
@@ -28,7 +29,7 @@ use Rattle.cache_core.specs.Looking.{scalar_of}
 use Rattle.counter_entry.specs.declared.looking.Found.TheVariants.{Nothing, Other, Integer}
 use Rattle.counter_entry.specs.declared.answer.IncAnswer.{IncAnswer}
 use Rattle.counter_entry.specs.declared.answer.IncAnswer.TheVariants.{NotInteger, NoRoom, Value}
-use Rattle.counter_entry.specs.Numbers.{integer_of, found_at, found_of, begun_answer, number_answered, answer_at, sum_answer, inc_answer, reply_of}
+use Rattle.counter_entry.specs.Numbers.{integer_of, found_at, found_of, begun_answer, new_counter, number_answered, answer_at, sum_answer, inc_answer, reply_of}
 
 integer_is : (g : List Kind) → integer_of (scalar_of g) ≡ integer_in g
 integer_is [] = refl
@@ -195,3 +196,26 @@ pub none_refused : (old new : Aside) (removed : List Row) → new ≡ old → ((
 none_refused old new removed same fresh = record {
   each = λ b h. absurd (false≢true (sym (ap (λ (a : Aside). has b a.refused) same ∙ fresh b) ∙ h));
 }
+
+-- the number that counting gives is that of its answer
+pub number_told : (held key : List ℕ) (step : ℤ) (ttl t : ℕ) (c : Cache) → (counted held key step ttl t c).number ≡ number_answered (inc_answer held key step ttl t c)
+number_told held key step ttl t c = go (live_row key t c)
+  where
+    at_row : (o : Option ℤ) → (counted_on key step t c o).number ≡ number_answered (sum_answer step o)
+    at_row None = refl
+    at_row (Some n) = refl
+
+    go : (o : Option Row) → (counted_at held key step ttl t c o).number ≡ number_answered (answer_at held key step ttl t c o)
+    go None = number_begun step (new_counter held key step ttl t c).answer
+    go (Some row) = at_row (integer_in row.graph)
+
+-- an integer that is there counts on, whatever is held
+pub counts_on : (held key : List ℕ) (step : ℤ) (ttl t : ℕ) (c : Cache) {at : ℕ} {n : ℤ} → IsCounter key t c at n → counted held key step ttl t c ≡ counted_on key step t c (Some n)
+counts_on held key step ttl t c k = ap (counted_at held key step ttl t c) k.live ∙ ap (counted_on key step t c) k.int
+
+pub same_count : (x y : Count) → x.number ≡ y.number → x.cache ≡ y.cache → x ≡ y
+same_count x y number cache = λ i. record { number = number i; cache = cache i }
+
+-- what is expected is the integer that was found
+pub expected_is : {key : List ℕ} {t : ℕ} {c : Cache} {at : ℕ} {n : ℤ} (expect : ℤ) → IsCounter key t c at n → is_expected expect (live_row key t c) ≡ int_eq n expect
+expected_is expect k = ap (is_expected expect) k.live ∙ ap (is_integer expect) k.int

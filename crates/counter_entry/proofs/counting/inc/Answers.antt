@@ -9,8 +9,8 @@ use Rattle.apcu_model.specs.Expiry.{live_row}
 use Rattle.apcu_model.specs.Counters.{Count, counted_at}
 use Rattle.apcu_model.specs.Sequential.{number_reply}
 use Rattle.cache_core.specs.Caching.{cache_of}
-use Rattle.counter_entry.specs.Numbers.{answer_at}
-use Rattle.counter_entry.proofs.Finding.{nothing_of, counter_of, holds_int, unnamed_at, cache_kept, same_keeps, set_keeps, reply_is, other_counted, other_answer, none_refused}
+use Rattle.counter_entry.specs.Numbers.{answer_at, number_answered, reply_of}
+use Rattle.counter_entry.proofs.Finding.{nothing_of, counter_of, holds_int, unnamed_at, cache_kept, same_keeps, set_keeps, reply_is, other_counted, other_answer, none_refused, number_told, counts_on, same_count}
 use Rattle.counter_entry.proofs.counting.inc.Goals as goal
 
 pub set_int-requires-clause-int : goal.set_int-requires-clause-int
@@ -116,13 +116,23 @@ pub returns-in-Integer-clause-answer : goal.returns-in-Integer-clause-answer
 returns-in-Integer-clause-answer g c = grind (arith, common_steps)
 
 pub returns-in-Integer-clause-reply : goal.returns-in-Integer-clause-reply
-returns-in-Integer-clause-reply g c = grind (arith, common_steps)
+returns-in-Integer-clause-reply g c =
+    let held = held_blocks (g.S.WordsIn.aside c.set_int.new.seg) in
+    let told = number_told held c.args.key.now c.args.step c.args.ttl c.args.t (cache_of c.args.core.now) in
+    ap reply_of (returns-in-Integer-clause-answer g c) ∙ (reply_is _ ∙ ap number_reply (sym told))
 
 pub returns-in-Integer-clause-cache : goal.returns-in-Integer-clause-cache
 returns-in-Integer-clause-cache g c = grind (arith, common_steps)
 
 pub returns-in-Integer-clause-later : goal.returns-in-Integer-clause-later
-returns-in-Integer-clause-later g c = grind (arith, common_steps)
+returns-in-Integer-clause-later g c = λ later on.
+    let held = held_blocks (g.S.WordsIn.aside c.set_int.new.seg) in
+    let old = cache_of c.args.core.now in
+    let k = counter_of c.args.key.now c.args.t old c.in-Integer.at _ c.in-Integer.ensures.found in
+    let told = number_told held c.args.key.now c.args.step c.args.ttl c.args.t old in
+    counts_on (held_blocks later) c.args.key.now c.args.step c.args.ttl c.args.t old k
+    ∙ (sym (counts_on held c.args.key.now c.args.step c.args.ttl c.args.t old k)
+    ∙ same_count _ _ (told ∙ ap number_answered (sym (returns-in-Integer-clause-answer g c))) (sym (returns-in-Integer-clause-cache g c)))
 
 pub returns-in-Integer-clause-goes : goal.returns-in-Integer-clause-goes
 returns-in-Integer-clause-goes g c = goes_nowhere (g.S.WordsIn.aside c.args.seg.now) (g.S.WordsIn.aside c.set_int.new.seg) (c.set_int.ensures.beside.aside ∙ c.look_for.ensures.kept.aside)

@@ -1,6 +1,11 @@
-use Rattle.std.proofs.Common.{◌∙◌}
+use Rattle.std.proofs.Common.{◌≡◌, Bool, true, false, sym, ap, ◌∙◌, w64, arith}
+use Rattle.std.specs.Prelude.{if◌then◌else◌}
+use Rattle.std.specs.Ordering.{int_eq}
+use Rattle.std.proofs.lemmas.Grind.{common_steps}
+use Rattle.std.proofs.lemmas.Int.{to_z-of_z}
+use Rattle.apcu_model.specs.Counters.{integer_set}
 use Rattle.cache_core.specs.Caching.{cache_of}
-use Rattle.counter_entry.proofs.Finding.{counter_of, holds_int, unnamed_at, cache_kept, same_keeps, set_keeps}
+use Rattle.counter_entry.proofs.Finding.{counter_of, holds_int, unnamed_at, cache_kept, same_keeps, set_keeps, expected_is}
 use Rattle.counter_entry.proofs.swapping.cas.Goals as goal
 
 pub set_int-requires-clause-int : goal.set_int-requires-clause-int
@@ -51,3 +56,28 @@ returns-clause-beside g c =
     let kept = c.look_for.ensures.kept in
     let beside = c.set_int.ensures.beside in
     record { aside = beside.aside ∙ kept.aside; rest = beside.rest ∙ kept.rest }
+
+pub returns-then-n-expect-clause-found : goal.returns-then-n-expect-clause-found
+returns-then-n-expect-clause-found g c =
+    let k = counter_of c.args.key.now c.args.t (cache_of c.args.core.now) c.in-Integer.at _ c.in-Integer.ensures.found in
+    let other : int_eq c.in-Integer.n c.args.expect ≡ false = grind (arith, common_steps, c.if-n-expect.true) in
+    sym (expected_is c.args.expect k ∙ other)
+
+pub returns-then-n-expect-clause-cache : goal.returns-then-n-expect-clause-cache
+returns-then-n-expect-clause-cache g c =
+    let old = cache_of c.args.core.now in
+    ap (λ (b : Bool). if b then integer_set c.args.key.now c.args.set c.args.t old else old) (returns-then-n-expect-clause-found g c)
+
+pub returns-clause-found : goal.returns-clause-found
+returns-clause-found g c =
+    let k = counter_of c.args.key.now c.args.t (cache_of c.args.core.now) c.in-Integer.at _ c.in-Integer.ensures.found in
+    let same : int_eq c.in-Integer.n c.args.expect ≡ true = grind (arith, common_steps, c.if-n-expect.false) in
+    sym (expected_is c.args.expect k ∙ same)
+
+pub returns-clause-cache : goal.returns-clause-cache
+returns-clause-cache g c =
+    let old = cache_of c.args.core.now in
+    let k = counter_of c.args.key.now c.args.t old c.in-Integer.at _ c.in-Integer.ensures.found in
+    c.set_int.ensures.cache c.args.key.now c.args.t k.row k.live k.place
+    ∙ (ap (λ z. integer_set c.args.key.now z c.args.t old) (to_z-of_z w64 c.args.set c.ranges.set)
+    ∙ ap (λ (b : Bool). if b then integer_set c.args.key.now c.args.set c.args.t old else old) (returns-clause-found g c))
