@@ -1,5 +1,5 @@
-use Rattle.std.proofs.Common.{◌≡◌, Bool, true, false, sym, ap, ◌∙◌, w64, arith}
-use Rattle.std.specs.Prelude.{if◌then◌else◌}
+use Rattle.std.proofs.Common.{◌≡◌, Bool, true, false, sym, ap, ◌∙◌, w64, of_z, arith}
+use Rattle.std.specs.Prelude.{ℤ, if◌then◌else◌}
 use Rattle.std.specs.Ordering.{int_eq}
 use Rattle.std.proofs.lemmas.Grind.{common_steps}
 use Rattle.std.proofs.lemmas.Int.{to_z-of_z}
@@ -7,6 +7,10 @@ use Rattle.apcu_model.specs.Counters.{integer_set}
 use Rattle.cache_core.specs.Caching.{cache_of}
 use Rattle.counter_entry.proofs.Finding.{counter_of, holds_int, unnamed_at, cache_kept, same_keeps, set_keeps, expected_is}
 use Rattle.counter_entry.proofs.swapping.cas.Goals as goal
+
+-- numbers whose words differ are not equal
+other_int : (n expect : ℤ) → (of_z w64 n ≡ of_z w64 expect → ⊥) → int_eq n expect ≡ false
+other_int n expect differ = grind (arith, common_steps, differ)
 
 pub set_int-requires-clause-int : goal.set_int-requires-clause-int
 set_int-requires-clause-int g c = holds_int c.args.core.now (counter_of c.args.key.now c.args.t (cache_of c.args.core.now) c.in-Integer.at _ c.in-Integer.ensures.found)
@@ -60,8 +64,7 @@ returns-clause-beside g c =
 pub returns-then-n-expect-clause-found : goal.returns-then-n-expect-clause-found
 returns-then-n-expect-clause-found g c =
     let k = counter_of c.args.key.now c.args.t (cache_of c.args.core.now) c.in-Integer.at _ c.in-Integer.ensures.found in
-    let other : int_eq c.in-Integer.n c.args.expect ≡ false = grind (arith, common_steps, c.if-n-expect.true) in
-    sym (expected_is c.args.expect k ∙ other)
+    sym (expected_is c.args.expect k ∙ other_int c.in-Integer.n c.args.expect c.if-n-expect.true)
 
 pub returns-then-n-expect-clause-cache : goal.returns-then-n-expect-clause-cache
 returns-then-n-expect-clause-cache g c =
