@@ -6,9 +6,9 @@ use Rattle.seg_words.specs.Windows.{Aside}
 use Rattle.entry_slots.specs.declared.slots.EntrySlots.{EntrySlots}
 use Rattle.entry_slots.specs.Standing.{Stand, Stands, entries}
 
-pub stand_after : {X R : Type 0} {gh : Ghosts X R} {old new : X} (e : EntrySlots) → Kept gh old new
+pub stand_kept : {X R : Type 0} {gh : Ghosts X R} {old new : X} (e : EntrySlots) → Kept gh old new
     → Stand gh e old → Stand gh e new
-stand_after {gh = gh} {old} {new} e kept stand =
+stand_kept {gh = gh} {old} {new} e kept stand =
     subst (λ (words : List ℕ). Stands e words (gh.aside new) (entries e)) (sym kept.words)
     (subst (λ (aside : Aside). Stands e (gh.words old) aside (entries e)) (sym kept.aside) stand)
 

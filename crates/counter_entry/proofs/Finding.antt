@@ -191,7 +191,7 @@ other_answer held key step ttl t c h =
     let o = other_of (live_row key t c) h in
     sym (ap (answer_at held key step ttl t c) o.1 ∙ ap (sum_answer step) o.2)
 
--- where no place was refused, none is that is not of a removed row
+-- no place is refused but those of removed rows, since none is
 pub none_refused : (old new : Aside) (removed : List Row) → new ≡ old → ((b : ℕ) → has b old.refused ≡ false) → AreRemoved new removed
 none_refused old new removed same fresh = record {
   each = λ b h. absurd (false≢true (sym (ap (λ (a : Aside). has b a.refused) same ∙ fresh b) ∙ h));

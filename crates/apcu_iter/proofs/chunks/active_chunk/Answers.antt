@@ -8,7 +8,7 @@ use Rattle.apcu_iter.specs.Choosing.{Choice, chosen_items, uncounted}
 use Rattle.apcu_iter.proofs.Chunking.{slot_more, between_few, chunk_made}
 use Rattle.apcu_iter.proofs.Fewness.{are_few}
 use Rattle.apcu_iter.proofs.Stepping.{step_starts, step_on, step_ends, none_between}
-use Rattle.apcu_iter.proofs.Passing.{stand_after, kept_on}
+use Rattle.apcu_iter.proofs.Passing.{stand_kept, kept_on}
 use Rattle.apcu_iter.proofs.chunks.active_chunk.Goals as goal
 
 pub loop-slot-init : goal.loop-slot-init
@@ -71,7 +71,7 @@ returns-then-len-size-clause-chunk g c =
     chunk_made test.pattern test.t (uncounted s) c.args.fields c.args.from c.args.size (at + 1) c.from_vec.result end (c.from_vec.ensures ∙ all)
 
 pub list_slot-requires-clause-stand : goal.list_slot-requires-clause-stand
-list_slot-requires-clause-stand g c = stand_after c.args.slots.now c.loop-slot.invariant.kept c.requires.stand
+list_slot-requires-clause-stand g c = stand_kept c.args.slots.now c.loop-slot.invariant.kept c.requires.stand
 
 pub returns-in_err-list_slot-clause-test : goal.returns-in_err-list_slot-clause-test
 returns-in_err-list_slot-clause-test g c = c.in_err-list_slot.ensures.test ∙ c.loop-slot.invariant.test

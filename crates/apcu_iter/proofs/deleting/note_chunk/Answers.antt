@@ -8,7 +8,7 @@ use Rattle.ttl_expunge.specs.Lists.{row_places}
 use Rattle.apcu_iter.specs.Choosing.{Choice, chosen_places, uncounted}
 use Rattle.apcu_iter.proofs.Chunking.{slot_more}
 use Rattle.apcu_iter.proofs.Stepping.{step_starts, step_on, step_ends, none_between}
-use Rattle.apcu_iter.proofs.Passing.{stand_after, kept_on}
+use Rattle.apcu_iter.proofs.Passing.{stand_kept, kept_on}
 use Rattle.apcu_iter.proofs.deleting.note_chunk.Goals as goal
 
 pub loop-slot-init : goal.loop-slot-init
@@ -67,7 +67,7 @@ returns-then-len-size-clause-places g c =
     all ∙ ap (λ n. row_places (items_between test.pattern test.t (uncounted s) c.args.from n)) (returns-then-len-size-clause-next g c)
 
 pub note_slot-requires-clause-stand : goal.note_slot-requires-clause-stand
-note_slot-requires-clause-stand g c = stand_after c.args.slots.now c.loop-slot.invariant.kept c.requires.stand
+note_slot-requires-clause-stand g c = stand_kept c.args.slots.now c.loop-slot.invariant.kept c.requires.stand
 
 pub returns-in_err-note_slot-clause-test : goal.returns-in_err-note_slot-clause-test
 returns-in_err-note_slot-clause-test g c = c.in_err-note_slot.ensures.test ∙ c.loop-slot.invariant.test

@@ -7,7 +7,7 @@ use Rattle.apcu_iter.specs.Adding.{with_rows}
 use Rattle.apcu_iter.specs.Choosing.{Choice, is_chosen}
 use Rattle.apcu_iter.specs.declared.summing.Sums.{Sums}
 use Rattle.apcu_iter.proofs.Gathering.{AreSmall, adds_one, adds_on, adds_out, small_sums, small_none}
-use Rattle.apcu_iter.proofs.Passing.{stand_after, kept_on}
+use Rattle.apcu_iter.proofs.Passing.{stand_kept, kept_on}
 use Rattle.apcu_iter.proofs.summing.add_slot.Goals as goal
 
 pub add_row-requires-clause-there : goal.add_row-requires-clause-there
@@ -62,10 +62,10 @@ returns-clause-sums g c =
     adds_out c.args.test.now (drop c.loop-passed._passed (chain_of s c.args.slot)) c.loop-passed.sums _ i.small none i.sums
 
 pub add_row-requires-clause-stand : goal.add_row-requires-clause-stand
-add_row-requires-clause-stand g c = stand_after c.args.slots.now c.loop-passed.invariant.kept c.requires.stand
+add_row-requires-clause-stand g c = stand_kept c.args.slots.now c.loop-passed.invariant.kept c.requires.stand
 
 pub after-at-requires-clause-stand : goal.after-at-requires-clause-stand
-after-at-requires-clause-stand g c = stand_after c.args.slots.now (kept_on c.in_ok-sums.ensures.kept c.loop-passed.invariant.kept) c.requires.stand
+after-at-requires-clause-stand g c = stand_kept c.args.slots.now (kept_on c.in_ok-sums.ensures.kept c.loop-passed.invariant.kept) c.requires.stand
 
 pub returns-in_err-sums-clause-test : goal.returns-in_err-sums-clause-test
 returns-in_err-sums-clause-test g c = c.in_err-sums.ensures.test ∙ c.loop-passed.invariant.test
