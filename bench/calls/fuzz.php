@@ -1,8 +1,9 @@
 <?php
-// Random calls on few keys: php fuzz.php SEED COUNT script|printed [seconds]
+// Random calls on few keys: php fuzz.php moment|seconds|workers SEED COUNT script|printed
 // prints a script of so many calls, or plays them on PHP's APCu and prints what apcu_run has to print of their replies.
-// With `seconds` some lines set the time, for which this waits as long, and the calls are left out that PHP answers
-// otherwise once a row's time is over.
+// Over `seconds` some lines set the time, for which this waits as long, and the calls are left out that PHP answers
+// otherwise once a row's time is over. Of four `workers` each makes so many calls, of one event each; they are played
+// one by one in the order of the journal on standard input.
 
 function key_of_row(): string
 {
@@ -24,9 +25,11 @@ function ttl(): int
     return [0, 0, 1, 2, 3, 1000][mt_rand(0, 5)];
 }
 
+// Null, a truth value, an integer or a string, at times a long one, so that workers meet while they copy.
 function scalar()
 {
-    $all = [null, true, false, 0, 1, 5, 7, -1, PHP_INT_MAX, PHP_INT_MIN, '', 'abc', 'i:5;', 'x"y', "\xff\0"];
+    $long = str_repeat('yz', 5000);
+    $all = [null, true, false, 0, 1, 5, 7, -1, PHP_INT_MAX, PHP_INT_MIN, '', 'abc', 'i:5;', 'x"y', "\xff\0", $long];
     return $all[mt_rand(0, count($all) - 1)];
 }
 
@@ -105,10 +108,10 @@ function ask_entry(): array
     return [$text, fn () => serialize($give())];
 }
 
-function store(string $word): array
+function store(string $word, bool $many): array
 {
     $ttl = ttl();
-    if (mt_rand(0, 3) > 0) {
+    if (!$many || mt_rand(0, 3) > 0) {
         $made = [];
         [$key, $value] = [key_of_row(), value(3, $made)];
         $line = "$word " . serialize($key) . ' ' . serialize($value) . " i:$ttl;";
@@ -121,10 +124,10 @@ function store(string $word): array
     return ["$word " . serialize($values) . " N; i:$ttl;", fn () => serialize($word($values, null, $ttl))];
 }
 
-// A call on a key or on some.
-function ask(string $word): array
+// A call on a key, or on some where there may be many.
+function ask(string $word, bool $many): array
 {
-    $keys = mt_rand(0, 2) > 0 ? key_of_row() : keys();
+    $keys = !$many || mt_rand(0, 2) > 0 ? key_of_row() : keys();
     $play = function () use ($word, $keys) {
         if ($word === 'apcu_fetch') {
             $answer = apcu_fetch($keys, $success);
@@ -199,26 +202,30 @@ function iterator_delete(): array
 }
 
 // A line of a script, and what plays it.
-function call(bool $timed): array
+function call(string $how): array
 {
     $kind = mt_rand(0, 99);
-    if ($timed && $kind >= 88) {
+    if ($how === 'seconds' && $kind >= 88) {
         $kind -= 88;
     }
+    if ($how === 'workers' && $kind >= 97) {
+        $kind -= 97;
+    }
+    $many = $how !== 'workers';
     return match (true) {
-        $kind < 22 => store('apcu_store'),
-        $kind < 32 => store('apcu_add'),
-        $kind < 52 => ask('apcu_fetch'),
-        $kind < 60 => ask('apcu_exists'),
+        $kind < 22 => store('apcu_store', $many),
+        $kind < 32 => store('apcu_add', $many),
+        $kind < 52 => ask('apcu_fetch', $many),
+        $kind < 60 => ask('apcu_exists', $many),
         $kind < 68 => count_by('apcu_inc'),
         $kind < 72 => count_by('apcu_dec'),
         $kind < 78 => swap(),
         $kind < 84 => ask_entry(),
-        $kind < 86 => totals(),
-        $kind < 87 => iterator_delete(),
-        $kind < 88 => ['apcu_clear_cache', fn () => serialize(apcu_clear_cache())],
-        $kind < 94 => ask('apcu_delete'),
-        $kind < 98 => key_info(),
+        $kind < 85 => ['apcu_clear_cache', fn () => serialize(apcu_clear_cache())],
+        $kind < 86 => $many ? iterator_delete() : cache_info(),
+        $kind < 88 => $many ? totals() : key_info(),
+        $kind < 93 => ask('apcu_delete', $many),
+        $kind < 97 => key_info(),
         default => cache_info(),
     };
 }
@@ -233,24 +240,62 @@ function wait_until(int $seconds): void
     }
 }
 
-[, $seed, $count, $what] = $argv;
-$timed = ($argv[4] ?? '') === 'seconds';
-mt_srand((int) $seed);
-if ($what === 'script') {
-    echo "worker\n";
-} elseif ($timed) {
-    wait_until(0);
+// The calls of one worker, with its lines or its replies.
+function play_one(string $how, int $count, string $what): void
+{
+    if ($what === 'script') {
+        echo "worker\n";
+    } elseif ($how === 'seconds') {
+        wait_until(0);
+    }
+    $now = 0;
+    for ($i = 0; $i < $count; $i++) {
+        if ($how === 'seconds' && $i % 40 === 39) {
+            $now += mt_rand(1, 2);
+            if ($what === 'script') {
+                echo "time i:$now;\n";
+            } else {
+                wait_until($now);
+            }
+        }
+        [$line, $play] = call($how);
+        echo $what === 'script' ? $line : $play(), "\n";
+    }
 }
-$now = 0;
-for ($i = 0; $i < (int) $count; $i++) {
-    if ($timed && $i % 40 === 39) {
-        $now += mt_rand(1, 2);
-        if ($what === 'script') {
-            echo "time i:$now;\n";
-        } else {
-            wait_until($now);
+
+// The calls of four workers. Each line of the journal is the next event of the worker that it names.
+function play_four(int $count, string $what): void
+{
+    $calls = [];
+    for ($worker = 0; $worker < 4; $worker++) {
+        for ($i = 0; $i < $count; $i++) {
+            $calls[$worker][] = call('workers');
         }
     }
-    [$line, $play] = call($timed);
-    echo $what === 'script' ? $line : $play(), "\n";
+    if ($what === 'script') {
+        foreach ($calls as $own) {
+            echo "worker\n", implode("\n", array_column($own, 0)), "\n";
+        }
+        return;
+    }
+    $replies = [[], [], [], []];
+    while (($event = fgets(STDIN)) !== false) {
+        $worker = (int) $event;
+        $made = count($replies[$worker]);
+        // The last event of a worker is its end.
+        if ($made < $count) {
+            $replies[$worker][] = $calls[$worker][$made][1]();
+        }
+    }
+    foreach ($replies as $worker => $own) {
+        echo "worker $worker\n", implode("\n", $own), "\n";
+    }
+}
+
+[, $how, $seed, $count, $what] = $argv;
+mt_srand((int) $seed);
+if ($how === 'workers') {
+    play_four((int) $count, $what);
+} else {
+    play_one($how, (int) $count, $what);
 }
