@@ -194,6 +194,31 @@ function totals(): array
     return ['APCUIterator_totals ' . serialize($pattern), $play];
 }
 
+// The place in which a cache of 4096 slots comes to a key. No two of the keys have the same.
+function slot(string $key): int
+{
+    $slot = 5381 % 4096;
+    for ($i = 0; $i < strlen($key); $i++) {
+        $slot = ($slot * 33 + ord($key[$i])) % 4096;
+    }
+    return $slot;
+}
+
+function iterate(): array
+{
+    $pattern = pattern();
+    $play = function () use ($pattern) {
+        $rows = [];
+        foreach (new APCUIterator($pattern, APC_ITER_KEY | APC_ITER_VALUE | APC_ITER_NUM_HITS) as $row) {
+            $told = ['key' => $row['key'], 'value' => $row['value'], 'num_hits' => $row['num_hits']];
+            $rows[slot($row['key'])] = $told;
+        }
+        ksort($rows);
+        return serialize(array_values($rows));
+    };
+    return ['APCUIterator ' . serialize($pattern) . ' ' . serialize(['key', 'value', 'num_hits']), $play];
+}
+
 function iterator_delete(): array
 {
     $pattern = pattern();
@@ -223,7 +248,8 @@ function call(string $how): array
         $kind < 84 => ask_entry(),
         $kind < 85 => ['apcu_clear_cache', fn () => serialize(apcu_clear_cache())],
         $kind < 86 => $many ? iterator_delete() : cache_info(),
-        $kind < 88 => $many ? totals() : key_info(),
+        $kind < 87 => $many ? totals() : key_info(),
+        $kind < 88 => $many ? iterate() : key_info(),
         $kind < 93 => ask('apcu_delete', $many),
         $kind < 97 => key_info(),
         default => cache_info(),
