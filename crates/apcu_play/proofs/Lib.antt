@@ -1,5 +1,5 @@
 pub mod Masks
 pub mod Written
-pub mod Telling
+pub mod Parts
 pub mod Whole
 pub mod Unmet

@@ -93,12 +93,12 @@ pub record IsUnsearchable (may_refuse : Bool → List ℕ → Type 0) (conf : Co
   pub few : all_events conf.slots scripts ≤ most_events
   pub refusable : SomeRefusable may_refuse scripts
 
--- whether all of a text was told: it stands behind what was held, or only the first of it and a
+-- whether all of a text was written: it stands behind what was held, or only the first of it and a
 -- write failed
-abbrev pub WasTold : Bool → List ℕ → Option (List ℕ) → Option (List ℕ) → ℕ → ℕ → Type 0
-WasTold true text held_before held_after faults_before faults_after =
+abbrev pub WasWritten : Bool → List ℕ → Option (List ℕ) → Option (List ℕ) → ℕ → ℕ → Type 0
+WasWritten true text held_before held_after faults_before faults_after =
     (held_after ≡ append_known held_before text) × (faults_after ≡ faults_before)
-WasTold false text held_before held_after faults_before faults_after =
+WasWritten false text held_before held_after faults_before faults_after =
     (count : ℕ)
     × (count < length text)
     × (held_after ≡ append_known held_before (take count text))
@@ -109,7 +109,7 @@ pub record TellsMessage
     (message : List ℕ) (held_before held_after : Option (List ℕ)) (faults_before faults_after : ℕ)
     : Type 0 where
   pub all : Bool
-  pub told : WasTold all message held_before held_after faults_before faults_after
+  pub told : WasWritten all message held_before held_after faults_before faults_after
 
 -- a script's first fault was told
 pub record TellsRefusal

@@ -7,6 +7,7 @@ mod play;
 mod printing;
 mod running;
 mod status;
+mod writing;
 
 pub use messages::tell;
 pub use running::run;

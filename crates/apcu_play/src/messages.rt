@@ -1,9 +1,10 @@
 ghost use Rattle.std.specs.Prelude.{◌≡◌};
 ghost use Rattle.apcu_play.specs.Message.{message_of, reason_text, script_message};
-ghost use Rattle.apcu_play.specs.Run.{WasTold, TellsMessage};
+ghost use Rattle.apcu_play.specs.Run.{TellsMessage};
 
 use crate::status::Status;
-use io_edges::{Sink, write_all};
+use crate::writing::write_text;
+use io_edges::Sink;
 use itoa::Buffer;
 use notation::Reason;
 
@@ -12,7 +13,7 @@ pub fn tell<E: Sink>(err: &mut E, status: Status)
     ensures { TellsMessage (message_of status)
         (E.held err.old) (E.held err.new) (E.faults err.old) (E.faults err.new) }
 {
-    let _all = tell_text(err, status.message());
+    let _all = write_text(err, status.message());
 }
 
 /// Tells the first fault of a script on `err`, a line with its byte, from 0, and its reason. It
@@ -21,25 +22,14 @@ pub fn tell_fault<E: Sink>(err: &mut E, place: u64, reason: Reason)
     ensures { TellsMessage (script_message place reason)
         (E.held err.old) (E.held err.new) (E.faults err.old) (E.faults err.new) }
 {
-    if !tell_text(err, b"apcu_run: script: byte ") {
+    if !write_text(err, b"apcu_run: script: byte ") {
         return;
     }
     let mut digits = Buffer::new();
-    if !tell_text(err, digits.format(place).as_bytes()) {
+    if !write_text(err, digits.format(place).as_bytes()) {
         return;
     }
-    let _all = tell_text(err, ending_of(reason));
-}
-
-// Whether all of a text was told.
-fn tell_text<E: Sink>(err: &mut E, text: &[u8]) -> bool
-    ensures { WasTold result text.now
-        (E.held err.old) (E.held err.new) (E.faults err.old) (E.faults err.new) }
-{
-    match write_all(err, text) {
-        Ok(()) => true,
-        Err(_) => false,
-    }
+    let _all = write_text(err, ending_of(reason));
 }
 
 // How the message ends.

@@ -1,20 +1,33 @@
-ghost use Rattle.std.specs.Prelude.{◌≡◌, ◌<◌, ◌≤◌, ◌++◌, length, IfOk, IfErr, OnOk};
+ghost use Rattle.std.specs.Prelude.{◌≡◌, ◌<◌, ◌≤◌, ◌++◌, length, codes, IfOk, IfErr, OnOk};
+ghost use Rattle.std.specs.Fmt.{decimal};
 ghost use Rattle.apcu_model.specs.Conf.{IsGood};
 ghost use Rattle.crew_play.specs.Budgets.{all_events, most_events};
 ghost use Rattle.crew_play.specs.Searching.{SomeRefusable};
 ghost use Rattle.crew_play.specs.declared.play.CrewFault.TheVariants.{TooMany, Pattern};
+ghost use Rattle.script_read.specs.Grammar.{ends_line};
 ghost use Rattle.apcu_play.specs.Output.{worker_texts, journal_lines, IsOutput};
+ghost use Rattle.apcu_play.specs.Run.{WasWritten};
 
-use crate::printing::{write_mark, write_worker};
+use crate::printing::write_mark;
+use crate::writing::write_text;
 use apcu_iter::Maker;
 use apcu_model::{Conf, Journal};
-use crew_play::{CrewFault, play_scripts};
-use io_edges::Gate;
+use crew_play::{CrewFault, Played, play_scripts};
+use io_edges::{Gate, Sink};
+use itoa::Buffer;
 use notation::ByteOut;
 use script_read::Scripts;
 use std::alloc::{AllocError, Global};
 use std::sync::Wait;
 use std::thread::Threads;
+
+/// What a run prints: the lines of each worker, and then the journal's. They are written one after
+/// the other from where they are, so no reply is copied once more.
+#[derive(Drop)]
+pub(crate) struct Printed {
+    texts: Vec<ByteOut>,
+    journal: ByteOut,
+}
 
 /// Plays the scripts, each worker on a thread of its own, and gathers what is printed: the lines of
 /// each worker, then the journal. Nothing is played where the calls may make more than 4,194,304
@@ -26,9 +39,10 @@ pub(crate) fn play<R: Threads + Wait + Sync, M: Maker + Sync, G: Gate + Sync>(
     scripts: &Scripts,
     maker: &M,
     gate: &G,
-) -> Result<ByteOut, CrewFault>
+) -> Result<Printed, CrewFault>
     requires good { IsGood conf.now }
-    ensures output { IfOk result (λ out. IsOutput conf.now scripts.now out) }
+    ensures output { IfOk result (λ p.
+        IsOutput conf.now scripts.now (worker_texts 0 p.texts.items ++ p.journal)) }
     ensures few { OnOk result (all_events conf.now.slots scripts.now ≤ most_events) }
     ensures many { IfErr result (λ e. e ≡ TooMany
         → most_events < all_events conf.now.slots scripts.now) }
@@ -36,22 +50,55 @@ pub(crate) fn play<R: Threads + Wait + Sync, M: Maker + Sync, G: Gate + Sync>(
         → (all_events conf.now.slots scripts.now ≤ most_events)
         × SomeRefusable (M.may_refuse maker.now) scripts.now) }
 {
-    let played = play_scripts(rt, alloc, conf, scripts, maker, gate)?;
-    let mut out = ByteOut::new(alloc);
-    write_texts(&mut out, &played.texts)?;
-    write_journal(&mut out, &played.journal)?;
-    Ok(out)
+    let Played { journal, texts } = play_scripts(rt, alloc, conf, scripts, maker, gate)?;
+    let mut lines = ByteOut::new(alloc);
+    write_journal(&mut lines, &journal)?;
+    Ok(Printed {
+        texts,
+        journal: lines,
+    })
+}
+
+/// Prints all of it; whether it was written. It takes no memory.
+pub(crate) fn print<K: Sink>(out: &mut K, printed: &Printed) -> bool
+    ensures { WasWritten result (worker_texts 0 printed.now.texts.items ++ printed.now.journal)
+        (K.held out.old) (K.held out.new) (K.faults out.old) (K.faults out.new) }
+{
+    if !print_texts(out, &printed.texts) {
+        return false;
+    }
+    write_text(out, printed.journal.as_slice())
 }
 
 // For each worker its number and its lines.
-fn write_texts(out: &mut ByteOut, texts: &[ByteOut]) -> Result<(), AllocError>
-    ensures { OnOk result (out.new ≡ out.old ++ worker_texts 0 texts.now) }
+fn print_texts<K: Sink>(out: &mut K, texts: &[ByteOut]) -> bool
+    ensures { WasWritten result (worker_texts 0 texts.now)
+        (K.held out.old) (K.held out.new) (K.faults out.old) (K.faults out.new) }
 {
     for worker in 0..texts.len() {
-        write_worker(out, worker)?;
-        out.push(texts[worker].as_slice())?;
+        if !print_worker(out, worker, texts[worker].as_slice()) {
+            return false;
+        }
     }
-    Ok(())
+    true
+}
+
+// The line of a worker's number, and the worker's lines.
+fn print_worker<K: Sink>(out: &mut K, worker: usize, text: &[u8]) -> bool
+    ensures { WasWritten result (codes "worker " ++ decimal worker ++ ends_line ++ text.now)
+        (K.held out.old) (K.held out.new) (K.faults out.old) (K.faults out.new) }
+{
+    if !write_text(out, b"worker ") {
+        return false;
+    }
+    let mut digits = Buffer::new();
+    if !write_text(out, digits.format(worker).as_bytes()) {
+        return false;
+    }
+    if !write_text(out, b"\n") {
+        return false;
+    }
+    write_text(out, text)
 }
 
 // The journal's lines.

@@ -1,22 +1,11 @@
-ghost use Rattle.std.specs.Prelude.{◌≡◌, ◌++◌, ◌≤◌, OnOk, codes};
+ghost use Rattle.std.specs.Prelude.{◌≡◌, ◌++◌, ◌≤◌, OnOk};
 ghost use Rattle.std.specs.Fmt.{decimal};
-ghost use Rattle.script_read.specs.Grammar.{ends_line};
 ghost use Rattle.apcu_play.specs.Output.{mark_line, mask_text};
 
 use apcu_model::Mark;
 use itoa::Buffer;
 use notation::ByteOut;
 use std::alloc::AllocError;
-
-// The line of a worker's number.
-pub fn write_worker(out: &mut ByteOut, worker: usize) -> Result<(), AllocError>
-    ensures { OnOk result (out.new ≡ out.old ++ codes "worker " ++ decimal worker ++ ends_line) }
-{
-    let mut buffer = Buffer::new();
-    out.push(b"worker ")?;
-    out.push(buffer.format(worker).as_bytes())?;
-    out.push(b"\n")
-}
 
 // A journal's line.
 pub fn write_mark(out: &mut ByteOut, mark: Mark) -> Result<(), AllocError>

@@ -1,4 +1,5 @@
-ghost use Rattle.std.specs.Prelude.{◌≡◌, ◌≢◌, ◌⊎◌, ◌+◌, ◌<◌, ◌≤◌, ℕ, List, length, Some, None};
+ghost use Rattle.std.specs.Prelude.{◌≡◌, ◌≢◌, ◌⊎◌, ◌+◌, ◌<◌, ◌≤◌, ◌++◌, ℕ, List, length, Some};
+ghost use Rattle.std.specs.Prelude.{None};
 ghost use Rattle.std.specs.Prelude.{IfOk, IfErr, IfSome, OnErr, IsErrOf, Err};
 ghost use Rattle.std.specs.Io.KnownBytes.{prepend_known, append_known, IsAtEnd};
 ghost use Rattle.io_edges.specs.Faults.{Rose};
@@ -6,6 +7,7 @@ ghost use Rattle.io_edges.specs.Reading.{HasTaken};
 ghost use Rattle.apcu_model.specs.Conf.{IsGood};
 ghost use Rattle.script_read.specs.Gives.{IsFirstScriptFault, ReadsScripts};
 ghost use Rattle.apcu_play.specs.Message.{message_of, script_message};
+ghost use Rattle.apcu_play.specs.Output.{worker_texts};
 ghost use Rattle.conf_read.specs.Options.{conf_of};
 ghost use Rattle.apcu_play.specs.Run.{longest_input, WasRead, AnswersInput, Replays, ReplaysPart};
 ghost use Rattle.apcu_play.specs.Run.{IsRefusedAt, IsRefused, IsCrowded, IsUnsearchable};
@@ -13,14 +15,14 @@ ghost use Rattle.apcu_play.specs.Run.{TellsMessage};
 ghost use Rattle.apcu_play.specs.Run.{TellsRefusal, IsUnlessMemory, Completes};
 
 use crate::messages::{tell, tell_fault};
-use crate::play::play;
+use crate::play::{Printed, play, print};
 use crate::status::Status;
 use apcu_iter::Maker;
 use apcu_model::Conf;
 use conf_read::{ConfFault, read_conf};
 use crew_play::CrewFault;
-use io_edges::{Gate, ReadError, Sink, Source, read_all, write_all};
-use notation::{ByteOut, Reason};
+use io_edges::{Gate, ReadError, Sink, Source, read_all};
+use notation::Reason;
 use script_read::{ScriptFault, read_scripts, readings_are_scripts};
 use std::alloc::Global;
 use std::sync::Wait;
@@ -96,10 +98,10 @@ fn answer<R: Threads + Wait + Sync, S: Source, M: Maker + Sync, G: Gate + Sync>(
     input: &mut S,
     maker: &M,
     gate: &G,
-) -> Result<ByteOut, Ending>
+) -> Result<Printed, Ending>
     requires good { IsGood conf.now }
-    ensures answer { IfOk result (λ out.
-        AnswersInput conf.now (S.left input.old) (S.left input.new) out) }
+    ensures answer { IfOk result (λ p. AnswersInput conf.now (S.left input.old) (S.left input.new)
+        (worker_texts 0 p.texts.items ++ p.journal)) }
     ensures script { IfErr result (λ e. e.status ≡ Status.Script
         → IsRefusedAt (S.left input.old) (S.left input.new) e.place e.reason) }
     ensures too_many { IfErr result (λ e. e.status ≡ Status.TooMany
@@ -122,7 +124,7 @@ fn answer<R: Threads + Wait + Sync, S: Source, M: Maker + Sync, G: Gate + Sync>(
     };
     match read_scripts(alloc, &bytes) {
         Ok(scripts) => match play(rt, alloc, conf, &scripts, maker, gate) {
-            Ok(out) => Ok(out),
+            Ok(printed) => Ok(printed),
             Err(CrewFault::TooMany) => Err(Ending::of(Status::TooMany)),
             Err(CrewFault::Pattern) => Err(Ending::of(Status::Pattern)),
             Err(CrewFault::Memory) => Err(Ending::of(Status::NoMemory)),
@@ -166,10 +168,13 @@ fn outcome_on<R: Threads + Wait + Sync, S: Source, K: Sink, M: Maker + Sync, G: 
         → (K.held out.new ≡ K.held out.old) × (K.faults out.new ≡ K.faults out.old) }
 {
     match answer(rt, alloc, conf, input, maker, gate) {
-        Ok(text) => match write_all(out, text.as_slice()) {
-            Ok(()) => Ending::of(Status::Done),
-            Err(_) => Ending::of(Status::WriteFault),
-        },
+        Ok(printed) => {
+            if print(out, &printed) {
+                Ending::of(Status::Done)
+            } else {
+                Ending::of(Status::WriteFault)
+            }
+        }
         Err(ending) => ending,
     }
 }
