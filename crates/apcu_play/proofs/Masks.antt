@@ -1,6 +1,7 @@
 -- The text of a mask, worker by worker.
 use Rattle.std.proofs.Common.{◌≡◌, ℕ, zero, suc, ◌+◌, ◌/◌, ◌%◌, ◌^◌, ◌≢◌, true, false, List, [], ◌∷◌, ◌++◌, refl, sym, ap, ◌∙◌, append_assoc, add-zero, add-one, arith}
-use Rattle.std.specs.Prelude.{codes, filter}
+use native.Mathlib.Nat.{zero-div}
+use Rattle.std.specs.Prelude.{◌==◌, codes, filter}
 use Rattle.std.specs.Fmt.{decimal}
 use Rattle.std.specs.List.{flat_map, range_with_len}
 use Rattle.std.proofs.lemmas.Bool.{eq-eqb, ne_eqb}
@@ -48,6 +49,12 @@ mask_text-in mask n e =
 pub mask_text-out : (mask n : ℕ) → is_in_mask mask n ≡ false → mask_text mask (n + 1) ≡ mask_text mask n
 mask_text-out mask n e =
     mask_text-next mask n ∙ (ap (λ (l : List ℕ). mask_text mask n ++ l) (rw e refl) ∙ append-nil (mask_text mask n))
+
+-- nobody is in the mask 0
+pub mask_text-zero : (n : ℕ) → mask_text 0 n ≡ []
+mask_text-zero zero = mask_text-none 0
+mask_text-zero (suc n) =
+    ap (mask_text 0) (sym (add-one n)) ∙ (mask_text-out 0 n (ap (λ (k : ℕ). k % 2 == 1) (zero-div (2 ^ n))) ∙ mask_text-zero n)
 
 -- a worker of the mask was written
 pub mask_in_step : (before out spaced numbered : List ℕ) (mask n : ℕ) → out ≡ before ++ mask_text mask n → spaced ≡ out ++ codes " " → numbered ≡ spaced ++ decimal n → mask / 2 ^ n % 2 ≡ 1

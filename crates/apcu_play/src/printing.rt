@@ -21,6 +21,10 @@ fn write_mask(out: &mut ByteOut, mask: u64, workers: u32) -> Result<(), AllocErr
     requires { workers ≤ 64 }
     ensures { OnOk result (out.new ≡ out.old ++ mask_text mask workers) }
 {
+    // Most events meet nobody.
+    if mask == 0 {
+        return Ok(());
+    }
     for worker in 0..workers {
         if (mask >> worker) % 2 == 1 {
             out.push(b" ")?;
