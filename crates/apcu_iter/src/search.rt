@@ -24,7 +24,8 @@ pub(crate) struct Needle {
 
 /// A search for the keys that a pattern matches, or for every key. Contracts see the pattern.
 pub struct Search {
-    needle: Option<Needle>,
+    // A regex is large, and a search is handed on by value also where there is none.
+    needle: Option<Box<Needle>>,
     alloc: Global,
 }
 
@@ -43,7 +44,7 @@ impl Model for Search {
 
     ghost Value = { Option Pattern };
 
-    ghost view = { λ s. option_map (λ n. n.pattern) s.needle };
+    ghost view = { λ s. option_map (λ n. n.value.pattern) s.needle };
 }
 
 // Equal text, with the same flag.
@@ -56,8 +57,14 @@ fn copy_of(alloc: Global, pattern: &Pattern) -> Result<Pattern, AllocError>
     })
 }
 
-fn built<M: Maker>(alloc: Global, maker: &M, pattern: &Pattern) -> Result<Needle, SearchFault>
-    ensures made { IfOk result (λ n. n.pattern ≡ pattern.now) }
+fn boxed(alloc: Global, needle: Needle) -> Result<Box<Needle>, AllocError>
+    ensures { IfOk result (λ n. n.value ≡ needle) }
+{
+    Ok(Box::new(alloc, needle)?)
+}
+
+fn built<M: Maker>(alloc: Global, maker: &M, pattern: &Pattern) -> Result<Box<Needle>, SearchFault>
+    ensures made { IfOk result (λ n. n.value.pattern ≡ pattern.now) }
     ensures bad { IfErr result (λ e. e ≡ SearchFault.BadPattern
         → IsNoPattern pattern.now.fold pattern.now.text) }
     ensures big { IfErr result (λ e. e ≡ SearchFault.TooBig
@@ -65,7 +72,7 @@ fn built<M: Maker>(alloc: Global, maker: &M, pattern: &Pattern) -> Result<Needle
 {
     let regex = maker.build(alloc, pattern)?;
     let pattern = copy_of(alloc, pattern)?;
-    Ok(Needle { pattern, regex })
+    Ok(boxed(alloc, Needle { pattern, regex })?)
 }
 
 impl Search {
