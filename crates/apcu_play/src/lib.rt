@@ -2,6 +2,7 @@
 //! effect.
 #![tactic(auto)]
 
+mod journal;
 mod messages;
 mod play;
 mod printing;

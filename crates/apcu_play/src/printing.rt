@@ -1,42 +1,55 @@
-ghost use Rattle.std.specs.Prelude.{◌≡◌, ◌++◌, ◌≤◌, OnOk};
-ghost use Rattle.std.specs.Fmt.{decimal};
-ghost use Rattle.apcu_play.specs.Output.{mark_line, mask_text};
+//! What is printed, written to a sink.
 
-use apcu_model::Mark;
+ghost use Rattle.std.specs.Prelude.{◌++◌, codes};
+ghost use Rattle.std.specs.Fmt.{decimal};
+ghost use Rattle.script_read.specs.Grammar.{ends_line};
+ghost use Rattle.apcu_play.specs.Output.{worker_texts};
+ghost use Rattle.apcu_play.specs.Run.{WasWritten};
+
+use crate::play::Printed;
+use crate::writing::write_text;
+use io_edges::Sink;
 use itoa::Buffer;
 use notation::ByteOut;
-use std::alloc::AllocError;
 
-// A journal's line.
-pub fn write_mark(out: &mut ByteOut, mark: Mark) -> Result<(), AllocError>
-    ensures { OnOk result (out.new ≡ out.old ++ mark_line mark) }
+/// Prints all of it; whether it was written. It takes no memory.
+pub(crate) fn print<K: Sink>(out: &mut K, printed: &Printed) -> bool
+    ensures { WasWritten result (worker_texts 0 printed.now.texts.items ++ printed.now.journal)
+        (K.held out.old) (K.held out.new) (K.faults out.old) (K.faults out.new) }
 {
-    write_number(out, mark.worker)?;
-    write_mask(out, mark.mask, 64)?;
-    out.push(b"\n")
+    if !print_texts(out, &printed.texts) {
+        return false;
+    }
+    write_text(out, printed.journal.as_slice())
 }
 
-// The workers of a mask that come before this one.
-fn write_mask(out: &mut ByteOut, mask: u64, workers: u32) -> Result<(), AllocError>
-    requires { workers ≤ 64 }
-    ensures { OnOk result (out.new ≡ out.old ++ mask_text mask workers) }
+// For each worker its number and its lines.
+fn print_texts<K: Sink>(out: &mut K, texts: &[ByteOut]) -> bool
+    ensures { WasWritten result (worker_texts 0 texts.now)
+        (K.held out.old) (K.held out.new) (K.faults out.old) (K.faults out.new) }
 {
-    // Most events meet nobody.
-    if mask == 0 {
-        return Ok(());
-    }
-    for worker in 0..workers {
-        if (mask >> worker) % 2 == 1 {
-            out.push(b" ")?;
-            write_number(out, worker)?;
+    for worker in 0..texts.len() {
+        if !print_worker(out, worker, texts[worker].as_slice()) {
+            return false;
         }
     }
-    Ok(())
+    true
 }
 
-fn write_number(out: &mut ByteOut, number: u32) -> Result<(), AllocError>
-    ensures { OnOk result (out.new ≡ out.old ++ decimal number) }
+// The line of a worker's number, and the worker's lines.
+fn print_worker<K: Sink>(out: &mut K, worker: usize, text: &[u8]) -> bool
+    ensures { WasWritten result (codes "worker " ++ decimal worker ++ ends_line ++ text.now)
+        (K.held out.old) (K.held out.new) (K.faults out.old) (K.faults out.new) }
 {
-    let mut buffer = Buffer::new();
-    out.push(buffer.format(number).as_bytes())
+    if !write_text(out, b"worker ") {
+        return false;
+    }
+    let mut digits = Buffer::new();
+    if !write_text(out, digits.format(worker).as_bytes()) {
+        return false;
+    }
+    if !write_text(out, b"\n") {
+        return false;
+    }
+    write_text(out, text)
 }

@@ -15,7 +15,8 @@ ghost use Rattle.apcu_play.specs.Run.{TellsMessage};
 ghost use Rattle.apcu_play.specs.Run.{TellsRefusal, IsUnlessMemory, Completes};
 
 use crate::messages::{tell, tell_fault};
-use crate::play::{Printed, play, print};
+use crate::play::{Printed, play};
+use crate::printing::print;
 use crate::status::Status;
 use apcu_iter::Maker;
 use apcu_model::Conf;

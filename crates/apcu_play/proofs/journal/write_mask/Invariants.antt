@@ -1,6 +1,6 @@
 use Rattle.std.proofs.Common.{◌≡◌, ◌++◌}
 use Rattle.apcu_play.specs.Output.{mask_text}
-use Rattle.apcu_play.proofs.printing.write_mask.Given as goal
+use Rattle.apcu_play.proofs.journal.write_mask.Given as goal
 
 abbrev pub invariant-loop-worker : goal.invariant-loop-worker
 invariant-loop-worker l = l.out ≡ l.initial.out ++ mask_text l.mask l.worker

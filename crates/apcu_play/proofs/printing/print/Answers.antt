@@ -1,7 +1,7 @@
 use Rattle.std.proofs.Common.{true, ap}
 use Rattle.apcu_play.specs.Output.{worker_texts}
 use Rattle.apcu_play.proofs.Parts.{written_after, written_as}
-use Rattle.apcu_play.proofs.play.print.Goals as goal
+use Rattle.apcu_play.proofs.printing.print.Goals as goal
 
 pub returns : goal.returns
 returns g c =

@@ -1,0 +1,55 @@
+//! What is printed of a journal.
+
+ghost use Rattle.std.specs.Prelude.{◌≡◌, ◌++◌, ◌≤◌, OnOk};
+ghost use Rattle.std.specs.Fmt.{decimal};
+ghost use Rattle.apcu_play.specs.Output.{journal_lines, mark_line, mask_text};
+
+use apcu_model::{Journal, Mark};
+use itoa::Buffer;
+use notation::ByteOut;
+use std::alloc::AllocError;
+
+/// Writes the journal's lines.
+pub(crate) fn write_journal(out: &mut ByteOut, journal: &Journal) -> Result<(), AllocError>
+    ensures { OnOk result (out.new ≡ out.old ++ journal_lines journal.now.marks) }
+{
+    out.push(b"journal\n")?;
+    for i in 0..journal.len() {
+        write_mark(out, journal.at(i))?;
+    }
+    Ok(())
+}
+
+// A journal's line.
+fn write_mark(out: &mut ByteOut, mark: Mark) -> Result<(), AllocError>
+    ensures { OnOk result (out.new ≡ out.old ++ mark_line mark) }
+{
+    write_number(out, mark.worker)?;
+    write_mask(out, mark.mask, 64)?;
+    out.push(b"\n")
+}
+
+// The workers of a mask that come before this one.
+fn write_mask(out: &mut ByteOut, mask: u64, workers: u32) -> Result<(), AllocError>
+    requires { workers ≤ 64 }
+    ensures { OnOk result (out.new ≡ out.old ++ mask_text mask workers) }
+{
+    // Most events meet nobody.
+    if mask == 0 {
+        return Ok(());
+    }
+    for worker in 0..workers {
+        if (mask >> worker) % 2 == 1 {
+            out.push(b" ")?;
+            write_number(out, worker)?;
+        }
+    }
+    Ok(())
+}
+
+fn write_number(out: &mut ByteOut, number: u32) -> Result<(), AllocError>
+    ensures { OnOk result (out.new ≡ out.old ++ decimal number) }
+{
+    let mut buffer = Buffer::new();
+    out.push(buffer.format(number).as_bytes())
+}
