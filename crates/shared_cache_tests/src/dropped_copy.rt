@@ -2,36 +2,15 @@
 
 ghost use Rattle.std.specs.Prelude.{◌≡◌, ◌+◌, ◌≤◌, [], ◌∷◌};
 
+use crate::meeting::{CONF, letters, two_passes};
 use crate::steps::{put, remove};
-use crate::tests::two_passes;
-use apcu_model::Conf;
-use php_graph::{Builder, Bytes, Graph, Item, Wants};
+use php_graph::Graph;
 use pin_table::{Pass, TableName};
 use shared_cache::{Fresh, Pinned, Shared, open_cache};
 use std::alloc::Global;
 use std::marker::Brand;
-use std::process::Abort;
 use std::sync::Wait;
 use std::test::Fail;
-
-// 480 words for blocks.
-pub(crate) const CONF: Conf = Conf {
-    words: 512,
-    slots: 32,
-    ttl: 0,
-};
-
-// A string of this many bytes `z`.
-pub(crate) fn letters(rt: &impl Abort, alloc: Global, count: usize) -> Result<Graph, Fail> {
-    assert!(rt; count < 1 << 20);
-    let bytes = vec![in alloc; b'z'; count]?;
-    let mut builder = Builder::new(alloc);
-    let item = Item::Str(Bytes::of(alloc, &bytes)?);
-    assert!(rt; builder.wants().permits(&item));
-    builder.push(item)?;
-    assert!(rt; builder.wants() == Wants::Done);
-    Ok(builder.seal())
-}
 
 // What becomes of a copy that a fetch has begun.
 #[derive(Clone, Copy)]

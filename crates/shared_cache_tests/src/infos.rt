@@ -2,8 +2,7 @@
 
 ghost use Rattle.std.specs.Prelude.{◌≡◌, ◌+◌, ◌<◌, ◌≤◌, ◌^◌, [], ◌∷◌, length};
 
-use crate::dropped_copy::CONF;
-use crate::tests::two_passes;
+use crate::meeting::{CONF, two_passes};
 use apcu_model::integer;
 use notation::{ByteOut, write_value};
 use php_graph::Graph;

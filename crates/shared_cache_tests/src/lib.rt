@@ -2,18 +2,12 @@
 #![tactic(auto)]
 
 #[cfg(test)]
-mod copies;
-#[cfg(test)]
-mod counters;
-#[cfg(test)]
 mod dropped_copy;
-#[cfg(test)]
-mod generators;
 #[cfg(test)]
 mod infos;
 #[cfg(test)]
-mod iterators;
+mod meeting;
 #[cfg(test)]
 mod steps;
 #[cfg(test)]
-mod tests;
+mod works;

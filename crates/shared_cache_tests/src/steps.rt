@@ -1,7 +1,8 @@
-//! A worker's calls, one after the other.
+//! Single calls of a worker.
 
 ghost use Rattle.std.specs.Prelude.{◌≡◌, ◌+◌, ◌<◌, ◌≤◌, ◌^◌, length};
 
+use cache_core::Scalar;
 use php_graph::Graph;
 use pin_table::{Ended, Pass, TableName};
 use shared_cache::{Pinned, Shared};
@@ -26,7 +27,12 @@ pub(crate) fn put<N: TableName, R: Wait>(
     shared.store(rt, pass, key, value, 0, exclusive, 5)
 }
 
-fn look<N: TableName, R: Wait>(rt: &R, shared: &Shared<N>, pass: Pass, key: &[u8]) -> (Pass, bool)
+pub(crate) fn look<N: TableName, R: Wait>(
+    rt: &R,
+    shared: &Shared<N>,
+    pass: Pass,
+    key: &[u8],
+) -> (Pass, bool)
     requires table { pass.table ≡ N.table }
     requires left { 2 ≤ pass.known.left }
     requires short { length key.now < 2 ^ 32 }
@@ -53,14 +59,31 @@ pub(crate) fn remove<N: TableName, R: Wait>(
     shared.delete(rt, pass, key, 8)
 }
 
-// How many places the value has that a fetch found, or 0; -1 where memory was missing.
-fn fetch<N: TableName, R: Wait>(
+// What a fetch found, as a number.
+#[derive(Clone, Copy, Debug, PartialEq, Eq)]
+pub(crate) enum Found {
+    Nothing,
+    // how many places the value has that was copied
+    Places(u32),
+    Int(i64),
+    Other,
+    NoMemory,
+}
+
+fn found_in(scalar: Scalar) -> Found {
+    match scalar {
+        Scalar::Int(n) => Found::Int(n),
+        Scalar::Null | Scalar::Bool(_) => Found::Other,
+    }
+}
+
+pub(crate) fn fetch<N: TableName, R: Wait>(
     rt: &R,
     alloc: Global,
     shared: &Shared<N>,
     pass: Pass,
     key: &[u8],
-) -> (Pass, i64)
+) -> (Pass, Found)
     requires table { pass.table ≡ N.table }
     requires left { 2 ≤ pass.known.left }
     requires short { length key.now < 2 ^ 32 }
@@ -71,59 +94,51 @@ fn fetch<N: TableName, R: Wait>(
     match shared.pin(rt, pass, key, 7) {
         Pinned::Hit(copying) => {
             let (pass, value) = shared.copy_out(alloc, copying);
-            let places = match value {
-                Ok(value) => i64::from(value.places()),
-                Err(_) => -1,
+            let found = match value {
+                Ok(value) => Found::Places(value.places()),
+                Err(_) => Found::NoMemory,
             };
-            (pass, places)
+            (pass, found)
         }
-        Pinned::Scalar(pass, _) => (pass, 1),
-        Pinned::Miss(pass) => (pass, 0),
+        Pinned::Scalar(pass, scalar) => (pass, found_in(scalar)),
+        Pinned::Miss(pass) => (pass, Found::Nothing),
     }
 }
 
-// What a worker was answered.
-#[derive(Clone, Copy, Debug, PartialEq, Eq)]
-pub(crate) struct Met {
-    pub(crate) stored: bool,
-    pub(crate) again: bool,
-    pub(crate) there: bool,
-    pub(crate) places: i64,
-    pub(crate) gone: bool,
-    pub(crate) missing: i64,
-}
-
-// Six events under a key.
-pub(crate) fn works<N: TableName, R: Wait>(
+// One more under a key.
+pub(crate) fn count<N: TableName, R: Wait>(
     rt: &R,
-    alloc: Global,
     shared: &Shared<N>,
     pass: Pass,
     key: &[u8],
-    value: &Graph,
-) -> (Pass, Met)
+) -> (Pass, Option<i64>)
     requires table { pass.table ≡ N.table }
-    requires left { 7 ≤ pass.known.left }
+    requires left { 2 ≤ pass.known.left }
     requires short { length key.now < 2 ^ 32 }
     ensures table { result.0.table ≡ N.table }
     ensures worker { result.0.known.worker ≡ pass.known.worker }
-    ensures left { result.0.known.left + 6 ≡ pass.known.left }
+    ensures left { result.0.known.left + 1 ≡ pass.known.left }
 {
-    let (pass, stored) = put(rt, shared, pass, key, value, false);
-    let (pass, again) = put(rt, shared, pass, key, value, true);
-    let (pass, there) = look(rt, shared, pass, key);
-    let (pass, places) = fetch(rt, alloc, shared, pass, key);
-    let (pass, gone) = remove(rt, shared, pass, key);
-    let (pass, missing) = fetch(rt, alloc, shared, pass, key);
-    let met = Met {
-        stored,
-        again,
-        there,
-        places,
-        gone,
-        missing,
-    };
-    (pass, met)
+    shared.inc(rt, pass, key, 1, 0, 5)
+}
+
+// A counter is set where it is as expected.
+pub(crate) fn swap<N: TableName, R: Wait>(
+    rt: &R,
+    shared: &Shared<N>,
+    pass: Pass,
+    key: &[u8],
+    expect: i64,
+    set: i64,
+) -> (Pass, bool)
+    requires table { pass.table ≡ N.table }
+    requires left { 2 ≤ pass.known.left }
+    requires short { length key.now < 2 ^ 32 }
+    ensures table { result.0.table ≡ N.table }
+    ensures worker { result.0.known.worker ≡ pass.known.worker }
+    ensures left { result.0.known.left + 1 ≡ pass.known.left }
+{
+    shared.cas(rt, pass, key, expect, set, 6)
 }
 
 // The second pass sees the first one's end, and both end.

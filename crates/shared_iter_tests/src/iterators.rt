@@ -2,10 +2,7 @@
 
 ghost use Rattle.std.specs.Prelude.{◌≡◌, ◌+◌, ◌≤◌, [], ◌∷◌};
 
-use crate::copies::{begin_copy, end_copy};
-use crate::dropped_copy::{CONF, letters};
-use crate::steps::put;
-use crate::tests::two_passes;
+use crate::copies::{CONF, array, begin_copy, end_copy, opened, store};
 use apcu_iter::{RefuseAll, Search};
 use apcu_model::{Chunk, Fields, List, integer};
 use php_graph::Graph;
@@ -102,11 +99,10 @@ fn iterate<N: TableName, R: Wait>(
     requires table { N.table ≡ fresh.table }
     requires conf { N.conf ≡ fresh.conf }
     requires budgets { N.budgets ≡ fresh.budgets }
-    requires two { fresh.budgets ≡ 3 ∷ 2 ∷ [] }
+    requires two { fresh.budgets ≡ 3 ∷ 5 ∷ [] }
 {
-    let (shared, mut passes, _) = fresh.name::<N>();
-    let (first, second) = two_passes::<N>(&mut passes)?;
-    let (first, _) = put(rt, &shared, first, b"a", value, false);
+    let (shared, first, second) = opened::<N>(fresh)?;
+    let (first, _) = store(rt, &shared, first, b'a', value);
     let (_, step) = one_step(rt, alloc, &shared, second, search, List::Active, ALL);
     let (_, sum) = sums(rt, alloc, &shared, first, search);
     Some(Told { step, sum })
@@ -116,7 +112,7 @@ fn iterate<N: TableName, R: Wait>(
 fn two_workers_iterate(rt: HostRuntime) -> Result<(), Fail> {
     let value = integer(rt.alloc(), 1);
     let mut search = Search::new(rt.alloc(), &RefuseAll, None)?;
-    let Ok(fresh) = open_cache(&rt, rt.alloc(), &CONF, &[3, 2]) else {
+    let Ok(fresh) = open_cache(&rt, rt.alloc(), &CONF, &[3, 5]) else {
         return Err(Fail::new("open_cache"));
     };
     let Some(told) = iterate::<Brand, _>(&rt, rt.alloc(), fresh, &value, &mut search) else {
@@ -172,15 +168,15 @@ fn delete_step<N: TableName, R: Wait>(
     (pass, next.ok())
 }
 
-// The second worker deletes the row, asks for the deleted rows, and stores a value that fills all
-// blocks.
+// The second worker deletes the row, asks for the deleted rows, and stores a value for which there
+// is no room beside the row's block.
 fn act_meanwhile<N: TableName, R: Wait>(
     rt: &R,
     alloc: Global,
     shared: &Shared<N>,
     pass: Pass,
     search: &mut Search,
-    larger: &Graph,
+    value: &Graph,
 ) -> (Pass, Meanwhile)
     requires table { pass.table ≡ N.table }
     requires left { 4 ≤ pass.known.left }
@@ -190,7 +186,7 @@ fn act_meanwhile<N: TableName, R: Wait>(
     let (pass, next) = delete_step(rt, alloc, shared, pass, search);
     let list = List::Deleted;
     let (pass, deleted) = one_step(rt, alloc, shared, pass, search, list, KEY_AND_DELETION);
-    let (pass, stored) = put(rt, shared, pass, b"b", larger, false);
+    let (pass, stored) = store(rt, shared, pass, b'b', value);
     let met = Meanwhile {
         next,
         deleted,
@@ -205,7 +201,6 @@ fn wait<N: TableName, R: Wait>(
     alloc: Global,
     fresh: Fresh,
     value: &Graph,
-    larger: &Graph,
     search: &mut Search,
 ) -> Option<Waited>
     requires table { N.table ≡ fresh.table }
@@ -213,12 +208,11 @@ fn wait<N: TableName, R: Wait>(
     requires budgets { N.budgets ≡ fresh.budgets }
     requires two { fresh.budgets ≡ 3 ∷ 5 ∷ [] }
 {
-    let (shared, mut passes, _) = fresh.name::<N>();
-    let (first, second) = two_passes::<N>(&mut passes)?;
+    let (shared, first, second) = opened::<N>(fresh)?;
     let copying = begin_copy(rt, &shared, first, value)?;
-    let (second, met) = act_meanwhile(rt, alloc, &shared, second, search, larger);
-    let whole = end_copy(alloc, &shared, copying);
-    let (_, again) = put(rt, &shared, second, b"b", larger, false);
+    let (second, met) = act_meanwhile(rt, alloc, &shared, second, search, value);
+    let whole = end_copy(alloc, &shared, copying, value);
+    let (_, again) = store(rt, &shared, second, b'b', value);
     Some(Waited {
         meanwhile: met,
         whole,
@@ -228,13 +222,14 @@ fn wait<N: TableName, R: Wait>(
 
 #[test]
 fn a_copy_waits_while_its_row_is_deleted(rt: HostRuntime) -> Result<(), Fail> {
-    let value = letters(&rt, rt.alloc(), 2_000)?;
-    let larger = letters(&rt, rt.alloc(), 3_728)?;
+    let Some(value) = array(rt.alloc()) else {
+        return Err(Fail::new("a value"));
+    };
     let mut search = Search::new(rt.alloc(), &RefuseAll, None)?;
     let Ok(fresh) = open_cache(&rt, rt.alloc(), &CONF, &[3, 5]) else {
         return Err(Fail::new("open_cache"));
     };
-    let waited = wait::<Brand, _>(&rt, rt.alloc(), fresh, &value, &larger, &mut search);
+    let waited = wait::<Brand, _>(&rt, rt.alloc(), fresh, &value, &mut search);
     let deleted = Step {
         next: 32,
         items: 1,
