@@ -1,5 +1,5 @@
-//! Tests of the cache over words, of its counters and entries and of what it tells: the worked
-//! cases, and the plain cache as judge.
+//! Tests of the cache over words, and of its counters and entries: the worked cases, and the plain
+//! cache as judge.
 #![tactic(auto)]
 
 #[cfg(test)]
@@ -9,8 +9,6 @@ mod counting;
 #[cfg(test)]
 mod draws;
 #[cfg(test)]
-mod held;
-#[cfg(test)]
 mod pair;
 #[cfg(test)]
 mod plainly;
@@ -19,8 +17,4 @@ mod small;
 #[cfg(test)]
 mod storing;
 #[cfg(test)]
-mod telling;
-#[cfg(test)]
 mod values;
-#[cfg(test)]
-mod windows;

@@ -1,17 +1,15 @@
 //! The cache over words and the plain one, which are asked the same.
 
-ghost use Rattle.std.specs.Prelude.{◌≡◌, ◌%◌, ◌≤◌, false};
+ghost use Rattle.std.specs.Prelude.{◌≡◌, ◌%◌, ◌≤◌};
 ghost use Rattle.apcu_model.specs.Conf.{IsGood};
-ghost use Rattle.apcu_model.specs.Sequential.{is_iteration};
 
 use crate::calls::{Answer, Call};
 use crate::draws::{Draw, Kinds};
-use crate::plainly::{call_plainly, told_plainly};
+use crate::plainly::call_plainly;
 use crate::small::Small;
 use crate::values::key;
-use apcu_model::{Conf, Plain, Request};
-use notation::{ByteOut, write_value};
-use php_graph::{Bytes, Graph};
+use apcu_model::{Conf, Plain};
+use php_graph::Bytes;
 use std::alloc::Global;
 use std::process::Abort;
 use std::test::Fail;
@@ -26,16 +24,6 @@ pub(crate) fn shape(words: u32, ttl: u32) -> Conf
         slots: 32,
         ttl,
     }
-}
-
-// What the text of an answer is.
-fn text_of(alloc: Global, answer: Option<&Graph>) -> Result<ByteOut, Fail> {
-    let mut out = ByteOut::new(alloc);
-    match answer {
-        Some(g) => write_value(g, 0, &mut out)?,
-        None => out.push(b"N;")?,
-    }
-    Ok(out)
 }
 
 #[derive(Drop)]
@@ -101,42 +89,6 @@ impl Pair {
             assert_eq!(rt; answer, wanted);
         }
         Ok(())
-    }
-
-    // The two answers to a request are one. Its text.
-    fn told(
-        &mut self,
-        rt: &impl Abort,
-        request: &Request,
-        answer: Option<Graph>,
-        t: u64,
-    ) -> Result<ByteOut, Fail>
-        requires plain { is_iteration request.now ≡ false }
-    {
-        let wanted = told_plainly(&mut self.plain, request, t)?;
-        match (&answer, &wanted) {
-            (Some(a), Some(b)) => assert!(rt; a.same(b)),
-            (None, None) => {}
-            _ => assert!(rt; false),
-        }
-        text_of(self.alloc, answer.as_ref())
-    }
-
-    pub(crate) fn key(&mut self, rt: &impl Abort, key: &[u8], t: u64) -> Result<ByteOut, Fail> {
-        assert!(rt; key.len() < 1 << 20);
-        let key = Bytes::of(self.alloc, key)?;
-        let answer = self.small.key(self.alloc, &key, t)?;
-        self.told(rt, &Request::KeyInfo(key), answer, t)
-    }
-
-    pub(crate) fn cache(&mut self, rt: &impl Abort, limited: bool) -> Result<ByteOut, Fail> {
-        let answer = self.small.cache(self.alloc, limited)?;
-        self.told(rt, &Request::CacheInfo(limited), Some(answer), 0)
-    }
-
-    pub(crate) fn segment(&mut self, rt: &impl Abort, limited: bool) -> Result<ByteOut, Fail> {
-        let answer = self.small.segment(self.alloc, limited)?;
-        self.told(rt, &Request::SmaInfo(limited), Some(answer), 0)
     }
 }
 

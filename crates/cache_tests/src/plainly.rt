@@ -1,13 +1,10 @@
 //! What the plain cache does.
 
-ghost use Rattle.std.specs.Prelude.{◌≡◌, false};
-ghost use Rattle.apcu_model.specs.Sequential.{is_iteration};
-
 use crate::calls::{Act, Answer, Call};
 use crate::values::{generator_of, number_of, told, value_of};
 use apcu_model::{Gen, Plain, Reply, Request};
 use counter_entry::Fate;
-use php_graph::{Bytes, Graph};
+use php_graph::Bytes;
 use std::alloc::Global;
 use std::process::Abort;
 use std::test::Fail;
@@ -80,19 +77,5 @@ pub(crate) fn call_plainly(
             given(rt, plain, key.as_slice(), generator, t)
         }
         Call::Counts => Ok(Answer::Counts(plain.counts())),
-    }
-}
-
-// What it answers to a request of information.
-pub(crate) fn told_plainly(
-    plain: &mut Plain,
-    request: &Request,
-    t: u64,
-) -> Result<Option<Graph>, Fail>
-    requires plain { is_iteration request.now ≡ false }
-{
-    match plain.ask(request, t)? {
-        Reply::Info(info) => Ok(Some(info)),
-        _ => Ok(None),
     }
 }

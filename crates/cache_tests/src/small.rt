@@ -10,10 +10,9 @@ use crate::calls::{Act, Answer, Call};
 use crate::values::{generator_of, told, value_of};
 use apcu_model::{Conf, Counts, Gen, StoreAnswer};
 use cache_core::{Core, Look, Scalar};
-use cache_info::{cache_info, key_info, sma_info};
 use counter_entry::{IncAnswer, cas, entry, inc};
 use max_tree::MaxRow;
-use php_graph::{Bytes, Graph};
+use php_graph::Bytes;
 use seg_words::{Segment, VecWords, WordsIn};
 use std::alloc::Global;
 use std::marker::Model;
@@ -138,22 +137,5 @@ impl Small {
             }
             Call::Counts => Ok(Answer::Counts(self.counts())),
         }
-    }
-
-    pub(crate) fn key(
-        &mut self,
-        alloc: Global,
-        key: &Bytes,
-        t: u64,
-    ) -> Result<Option<Graph>, Fail> {
-        Ok(key_info(alloc, &mut self.core, &mut self.words, key.as_slice(), t)?)
-    }
-
-    pub(crate) fn cache(&mut self, alloc: Global, limited: bool) -> Result<Graph, Fail> {
-        Ok(cache_info(alloc, &mut self.core, &mut self.words, limited)?)
-    }
-
-    pub(crate) fn segment(&mut self, alloc: Global, limited: bool) -> Result<Graph, Fail> {
-        Ok(sma_info(alloc, &mut self.core, &mut self.words, limited)?)
     }
 }

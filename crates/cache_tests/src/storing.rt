@@ -6,7 +6,6 @@ use crate::calls::{
 use crate::draws::Kinds;
 use crate::pair::{Pair, many, play};
 use crate::values::Value;
-use crate::windows::{many_held, room_is_held};
 use std::test::Fail;
 
 #[test]
@@ -111,16 +110,4 @@ fn answers_as_the_plain_cache(rt: HostRuntime) -> Result<(), Fail> {
     many(&rt, rt.alloc(), 512, 0, Kinds::Core)?;
     many(&rt, rt.alloc(), 1_024, 2, Kinds::Core)?;
     many(&rt, rt.alloc(), 2_048, 4, Kinds::Core)
-}
-
-// So it is where blocks are held for workers.
-#[test]
-fn answers_as_the_plain_cache_with_windows(rt: HostRuntime) -> Result<(), Fail> {
-    many_held(&rt, rt.alloc(), 0, 2_000)?;
-    many_held(&rt, rt.alloc(), 3, 2_000)
-}
-
-#[test]
-fn keeps_what_is_held(rt: HostRuntime) -> Result<(), Fail> {
-    room_is_held(&rt, rt.alloc())
 }

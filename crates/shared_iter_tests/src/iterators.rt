@@ -236,7 +236,7 @@ fn a_copy_waits_while_its_row_is_deleted(rt: HostRuntime) -> Result<(), Fail> {
         is_a: true,
         has_value: false,
         dtime: 0,
-        size: 2_112,
+        size: 160,
     };
     let all = Waited {
         meanwhile: Meanwhile {

@@ -13,8 +13,8 @@ use Rattle.entry_slots.specs.Entries.{listed, Entries}
 use Rattle.entry_slots.specs.Standing.{Stands, entries}
 use Rattle.entry_slots.specs.Facts.{OnlyClose, OnlyOpensAt}
 use Rattle.cache_core.specs.declared.cache.Core.{Core}
-use Rattle.cache_tests.specs.Holding.{IsRowsPlace, HoldsTwo}
-use Rattle.cache_tests.proofs.Opening.{stands_begun}
+use Rattle.cache_info_tests.specs.Holding.{IsRowsPlace, HoldsTwo}
+use Rattle.cache_info_tests.proofs.Opening.{stands_begun}
 
 pub zero_at : (n i : ℕ) → slice_index (replicate n 0) i ≡ 0
 zero_at zero i = get_or_past [] i 0 (omega arith)

@@ -1,6 +1,6 @@
 use Rattle.seg_words.specs.contracts.held_words.HeldWordsWordsIn.TheImpl.{ghosts}
-use Rattle.cache_tests.proofs.Starting.{two_begun}
-use Rattle.cache_tests.proofs.held.begin_with.Goals as goal
+use Rattle.cache_info_tests.proofs.Starting.{two_begun}
+use Rattle.cache_info_tests.proofs.held.begin_with.Goals as goal
 
 pub returns-clause-two : goal.returns-clause-two
 returns-clause-two c =

@@ -8,21 +8,17 @@ ghost use Rattle.entry_slots.specs.Lists.{has_place};
 ghost use Rattle.entry_slots.specs.Entries.{listed};
 ghost use Rattle.entry_slots.specs.Standing.{Stand, entries};
 ghost use Rattle.cache_core.specs.Caching.{CacheStands};
-ghost use Rattle.cache_tests.specs.Holding.{IsRowsPlace, HoldsTwo};
+ghost use Rattle.cache_info_tests.specs.Holding.{IsRowsPlace, HoldsTwo};
 
-use crate::calls::{Act, Answer};
-use crate::small::answer_of;
-use crate::values::key;
-use apcu_model::{Conf, Counts};
+use crate::asking::answer_of;
+use apcu_model::{Conf, Counts, Request};
 use cache_core::Core;
 use entry_slots::{EntrySlots, place_laws, window_laws};
 use max_tree::MaxRow;
 use php_graph::Bytes;
 use seg_words::{HeldWords, Segment, WordsIn};
-use std::alloc::Global;
+use std::alloc::{AllocError, Global};
 use std::marker::Model;
-use std::process::Abort;
-use std::test::Fail;
 
 // Whether the row of the key, or a removed row, stands at a place.
 fn stands_at<S: Segment>(slots: &EntrySlots, words: &mut S, key: &[u8], at: u32) -> bool
@@ -79,37 +75,18 @@ fn begin_with(core: &Core, words: &mut HeldWords, mask: u64, first: u32, second:
     words.begin(mask);
 }
 
-// The rows that the workers 0 and 1 may copy: their keys and places.
+// The row that a worker may copy: its key and its place. At 0 nothing is held.
 #[derive(Drop)]
-pub(crate) struct Copies {
-    first: Bytes,
-    first_at: u32,
-    second: Bytes,
-    second_at: u32,
+pub(crate) struct Copy {
+    pub(crate) key: Bytes,
+    pub(crate) at: u32,
 }
 
-impl Copies {
-    pub(crate) fn new(alloc: Global) -> Result<Copies, Fail> {
-        let first = Bytes::of(alloc, &key(0))?;
-        let second = Bytes::of(alloc, &key(0))?;
-        Ok(Copies {
-            first,
-            first_at: 0,
-            second,
-            second_at: 0,
-        })
-    }
-
-    // From the next event on the row of the key is held for the worker, while it is there.
-    pub(crate) fn hold(&mut self, second: bool, key: Bytes, at: u32) {
-        if second {
-            self.second = key;
-            self.second_at = at;
-        } else {
-            self.first = key;
-            self.first_at = at;
-        }
-    }
+// Those of the workers 0 and 1.
+#[derive(Drop)]
+pub(crate) struct Copies {
+    pub(crate) first: Copy,
+    pub(crate) second: Copy,
 }
 
 // A cache over words of which two workers may copy blocks. Contracts see the cache.
@@ -122,7 +99,7 @@ pub(crate) struct Held {
 impl Model for Held {
     ghost use Rattle.apcu_model.specs.Cache.{Cache};
     ghost use Rattle.cache_core.specs.Caching.{cache_of};
-    ghost use Rattle.cache_tests.specs.Holding.{HoldsTwo};
+    ghost use Rattle.cache_info_tests.specs.Holding.{HoldsTwo};
 
     ghost Value = { Cache };
 
@@ -132,7 +109,7 @@ impl Model for Held {
 }
 
 impl Held {
-    pub(crate) fn new(alloc: Global, conf: &Conf) -> Result<Held, Fail>
+    pub(crate) fn new(alloc: Global, conf: &Conf) -> Result<Held, AllocError>
         requires { IsGood conf.now }
     {
         let mut words = HeldWords::new(alloc, conf.words)?;
@@ -158,21 +135,18 @@ impl Held {
         self.core.slots().first_removed()
     }
 
-    // A call in an event that meets the workers of the mask.
+    // What is answered in an event that meets the workers of the mask.
     pub(crate) fn event(
         &mut self,
-        rt: &impl Abort,
-        alloc: Global,
         copies: &Copies,
         mask: u64,
-        key: &Bytes,
-        act: Act,
+        request: &Request,
         t: u64,
-    ) -> Result<Answer, Fail> {
+    ) -> Option<i64> {
         let (core, words) = (&mut self.core, &mut self.words);
-        let first = there(core, words, copies.first.as_slice(), copies.first_at);
-        let second = there(core, words, copies.second.as_slice(), copies.second_at);
+        let first = there(core, words, copies.first.key.as_slice(), copies.first.at);
+        let second = there(core, words, copies.second.key.as_slice(), copies.second.at);
         begin_with(core, words, mask, first, second);
-        answer_of(rt, alloc, core, words, key, act, t)
+        answer_of(core, words, request, t)
     }
 }

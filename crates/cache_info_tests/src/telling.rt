@@ -1,20 +1,24 @@
 //! What is told of a key, of the cache and of its segment.
 
-use crate::calls::{Answer, Call, DELETE, FETCH, NONE, ONE, YES, number, put};
-use crate::draws::{Draw, Kinds};
-use crate::pair::Pair;
-use crate::values::{Value, key};
+ghost use Rattle.std.specs.Prelude.{◌≡◌, false, IfOk};
+ghost use Rattle.apcu_model.specs.Sequential.{is_iteration};
+
+use crate::asking::{Act, NONE, YES};
+use crate::both::Both;
+use crate::draws::{Draw, key};
+use apcu_model::Request;
 use notation::ByteOut;
+use php_graph::Bytes;
 use std::alloc::Global;
 use std::process::Abort;
 use std::test::Fail;
 
-// A call at its time under a key, with what both answer.
-type Row<'a> = (u64, &'a [u8], Call, Answer);
+// What is asked at its time under a key, with what both answer.
+type Row<'a> = (u64, &'a [u8], Act, Option<i64>);
 
-fn play(rt: &impl Abort, pair: &mut Pair, rows: &[Row<'_>]) -> Result<(), Fail> {
-    for (t, key, call, wanted) in rows {
-        let answer = pair.ask(rt, key, *call, *t)?;
+fn play(rt: &impl Abort, both: &mut Both, rows: &[Row<'_>]) -> Result<(), Fail> {
+    for (t, key, act, wanted) in rows {
+        let answer = both.ask(rt, key, *act, *t)?;
         assert_eq!(rt; answer, *wanted);
     }
     Ok(())
@@ -22,18 +26,29 @@ fn play(rt: &impl Abort, pair: &mut Pair, rows: &[Row<'_>]) -> Result<(), Fail> 
 
 // What is told: of a key at a moment, of the cache, or of the segment; the flag is for less of it.
 #[derive(Clone, Copy)]
-enum Told {
-    Key(&'static [u8], u64),
+enum Told<'a> {
+    Key(&'a [u8], u64),
     Cache(bool),
     Segment(bool),
 }
 
-fn tell(rt: &impl Abort, pair: &mut Pair, what: Told) -> Result<ByteOut, Fail> {
+// What is asked for it, and when.
+fn asked(rt: &impl Abort, alloc: Global, what: Told<'_>) -> Result<(Request, u64), Fail>
+    ensures { IfOk result (λ asked. is_iteration asked.0 ≡ false) }
+{
     match what {
-        Told::Key(key, t) => pair.key(rt, key, t),
-        Told::Cache(limited) => pair.cache(rt, limited),
-        Told::Segment(limited) => pair.segment(rt, limited),
+        Told::Key(key, t) => {
+            assert!(rt; key.len() < 1 << 20);
+            Ok((Request::KeyInfo(Bytes::of(alloc, key)?), t))
+        }
+        Told::Cache(limited) => Ok((Request::CacheInfo(limited), 0)),
+        Told::Segment(limited) => Ok((Request::SmaInfo(limited), 0)),
     }
+}
+
+fn tell(rt: &impl Abort, alloc: Global, both: &mut Both, what: Told<'_>) -> Result<ByteOut, Fail> {
+    let (request, t) = asked(rt, alloc, what)?;
+    both.tell(rt, &request, t)
 }
 
 // The text is these parts, one after the other.
@@ -50,42 +65,53 @@ fn reads(rt: &impl Abort, told: &ByteOut, parts: &[&str]) {
 }
 
 // A text that is told, in parts.
-type Text = (Told, &'static [&'static str]);
+type Text = (Told<'static>, &'static [&'static str]);
 
-fn tell_all(rt: &impl Abort, pair: &mut Pair, texts: &[Text]) -> Result<(), Fail> {
+fn tell_all(rt: &impl Abort, alloc: Global, both: &mut Both, texts: &[Text]) -> Result<(), Fail> {
     for (what, parts) in texts {
-        let told = tell(rt, pair, *what)?;
+        let told = tell(rt, alloc, both, *what)?;
         reads(rt, &told, parts);
     }
     Ok(())
 }
 
-// What both tell after these calls, in new caches of 512 words.
+// What both tell after these rows, in new caches of 512 words.
 fn told_after(
     rt: &impl Abort,
     alloc: Global,
     rows: &[Row<'_>],
     texts: &[Text],
 ) -> Result<(), Fail> {
-    let mut pair = Pair::new(alloc, 512, 0)?;
-    play(rt, &mut pair, rows)?;
-    tell_all(rt, &mut pair, texts)
+    let mut both = Both::new(alloc, 512, 0)?;
+    play(rt, &mut both, rows)?;
+    tell_all(rt, alloc, &mut both, texts)
 }
 
-// The same where this limit is set, and the one call is made under each key from one number to
-// another, and then the next one.
+// A number is stored under each key from one number to another, at a moment and with a ttl.
+type Each = ((u8, u8), u64, u32);
+
+fn put_each(rt: &impl Abort, both: &mut Both, each: Each) -> Result<(), Fail> {
+    let (names, t, ttl) = each;
+    for name in names.0..=names.1 {
+        let answer = both.ask(rt, &key(name), Act::Put(1, ttl), t)?;
+        assert_eq!(rt; answer, YES);
+    }
+    Ok(())
+}
+
+// The same after these, where this limit is set.
 fn told_after_each(
     rt: &impl Abort,
     alloc: Global,
     limit: u32,
-    each: &[((u8, u8), (u64, Call, Answer))],
+    all: &[Each],
     texts: &[Text],
 ) -> Result<(), Fail> {
-    let mut pair = Pair::new(alloc, 512, limit)?;
-    for (names, row) in each {
-        pair.each(rt, *names, *row)?;
+    let mut both = Both::new(alloc, 512, limit)?;
+    for each in all {
+        put_each(rt, &mut both, *each)?;
     }
-    tell_all(rt, &mut pair, texts)
+    tell_all(rt, alloc, &mut both, texts)
 }
 
 // A row that was fetched, and a key without a row; a row whose time is over is not told.
@@ -106,8 +132,8 @@ fn tells_of_a_key(rt: HostRuntime) -> Result<(), Fail> {
         &rt,
         rt.alloc(),
         &[
-            (100, b"a", put(ONE, 10), YES),
-            (105, b"a", FETCH, number(1)),
+            (100, b"a", Act::Put(1, 10), YES),
+            (105, b"a", Act::Fetch, Some(1)),
         ],
         TEXTS,
     )
@@ -134,13 +160,7 @@ fn tells_of_a_cache_after_an_expunge(rt: HostRuntime) -> Result<(), Fail> {
             ],
         ),
     ];
-    told_after_each(
-        &rt,
-        rt.alloc(),
-        0,
-        &[((1, 31), (100, put(ONE, 0), YES))],
-        TEXTS,
-    )
+    told_after_each(&rt, rt.alloc(), 0, &[((1, 31), 100, 0)], TEXTS)
 }
 
 // Where one row's time is over, it goes alone; the segment is full again.
@@ -167,11 +187,7 @@ fn tells_of_a_cache_without_an_expunge(rt: HostRuntime) -> Result<(), Fail> {
         &rt,
         rt.alloc(),
         10,
-        &[
-            ((1, 1), (100, put(ONE, 5), YES)),
-            ((2, 30), (100, put(ONE, 0), YES)),
-            ((31, 31), (106, put(ONE, 0), YES)),
-        ],
+        &[((1, 1), 100, 5), ((2, 30), 100, 0), ((31, 31), 106, 0)],
         TEXTS,
     )
 }
@@ -215,39 +231,39 @@ fn lists_rows_and_gaps(rt: HostRuntime) -> Result<(), Fail> {
         &rt,
         rt.alloc(),
         &[
-            (100, b"b", put(ONE, 0), YES),
-            (100, b"c", put(ONE, 0), YES),
-            (101, b"a", put(ONE, 5), YES),
-            (102, b"A", put(Value::Text(9), 0), YES),
-            (103, b"c", DELETE, YES),
-            (107, b"a", FETCH, NONE),
+            (100, b"b", Act::Put(1, 0), YES),
+            (100, b"c", Act::Put(1, 0), YES),
+            (101, b"a", Act::Put(1, 5), YES),
+            (102, b"A", Act::Text(9, 0), YES),
+            (103, b"c", Act::Delete, YES),
+            (107, b"a", Act::Fetch, NONE),
         ],
         TEXTS,
     )
 }
 
 // Something is told by both, as the draw has it.
-fn tell_drawn(rt: &impl Abort, pair: &mut Pair, draw: Draw, name: u8) -> Result<ByteOut, Fail> {
-    match (draw.bits >> 40) % 8 {
-        0 => pair.key(rt, &key(name), draw.t),
-        1 => pair.cache(rt, false),
-        2 => pair.segment(rt, false),
-        3 => pair.cache(rt, true),
-        _ => pair.key(rt, &key(1), draw.t),
-    }
+fn tell_drawn(rt: &impl Abort, alloc: Global, both: &mut Both, draw: Draw) -> Result<(), Fail> {
+    let key = key(draw.name() % 20);
+    let what = match (draw.bits >> 40) % 8 {
+        0 => Told::Cache(false),
+        1 => Told::Segment(false),
+        2 => Told::Cache(true),
+        _ => Told::Key(&key, draw.t),
+    };
+    let _text = tell(rt, alloc, both, what)?;
+    Ok(())
 }
 
-// The plain cache is the judge of what is told between calls as they come.
+// The plain cache is the judge of what is told between requests as they come.
 #[test]
 fn tells_as_the_plain_cache(rt: HostRuntime) -> Result<(), Fail> {
-    let mut pair = Pair::new(rt.alloc(), 1_024, 3)?;
+    let mut both = Both::new(rt.alloc(), 1_024, 3)?;
     let mut draw = Draw::new(7);
-    for _call in 0..1_000 {
+    for _request in 0..1_000 {
         draw = draw.next();
-        let name = draw.name(Kinds::All);
-        let call = draw.call(Kinds::All, name);
-        pair.ask(&rt, &key(name), call, draw.t)?;
-        let _told = tell_drawn(&rt, &mut pair, draw, name)?;
+        both.ask(&rt, &key(draw.name() % 20), draw.count(), draw.t)?;
+        tell_drawn(&rt, rt.alloc(), &mut both, draw)?;
     }
     Ok(())
 }
