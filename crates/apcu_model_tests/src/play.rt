@@ -28,8 +28,8 @@ pub(crate) fn value_of(rt: &impl Abort, alloc: Global, value: Value) -> Result<G
         Value::Int(n) => graph(rt, alloc, Item::Int(n)),
         Value::Text(len) => {
             assert!(rt; len < 1 << 20);
-            let bytes = vec![in alloc; b'z'; len]?;
-            graph(rt, alloc, Item::Str(Bytes::of(alloc, &bytes)?))
+            let bytes = Bytes::from_vec(vec![in alloc; b'z'; len]?);
+            graph(rt, alloc, Item::Str(bytes))
         }
     }
 }

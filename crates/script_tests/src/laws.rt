@@ -1,7 +1,11 @@
 use play_laws::{histories_are_plays, one_event_own};
+use walk_laws::{steps_of_walks, walks_give_once, walks_in_histories};
 
 #[test]
 fn states_its_laws() {
     one_event_own();
     histories_are_plays();
+    walks_give_once();
+    steps_of_walks();
+    walks_in_histories();
 }

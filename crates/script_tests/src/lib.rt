@@ -1,4 +1,5 @@
-//! Tests of scripts, of what a worker asks and of how its replies are written.
+//! Tests of scripts, of what a worker asks and of how its replies are written; the laws of plays and
+//! walks are called.
 #![tactic(auto)]
 
 #[cfg(test)]
