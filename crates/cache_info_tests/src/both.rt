@@ -5,7 +5,7 @@ ghost use Rattle.apcu_model.specs.Conf.{IsGood};
 ghost use Rattle.apcu_model.specs.Sequential.{is_iteration};
 
 use crate::asking::{Act, answer_of, flag, number_in, request_of, shape};
-use apcu_model::{Conf, Plain, Reply, Request};
+use apcu_model::{Conf, Counts, Plain, Reply, Request};
 use cache_core::Core;
 use cache_info::{cache_info, key_info, sma_info};
 use counter_entry::{IncAnswer, cas, inc};
@@ -51,6 +51,10 @@ impl Small {
         let gaps = MaxRow::new(alloc, conf.words as usize / 4 + 1)?;
         let core = Core::format(&mut words, conf, gaps);
         Ok(Small { words, core })
+    }
+
+    fn counts(&self) -> Counts {
+        self.core.counts()
     }
 
     fn count(&mut self, alloc: Global, key: &Bytes, how: (i64, u32), t: u64) -> Option<i64> {
@@ -139,7 +143,7 @@ impl Both {
         })
     }
 
-    // Both do it, and answer the same.
+    // Both do it. They answer the same, and count the same.
     pub(crate) fn ask(
         &mut self,
         rt: &impl Abort,
@@ -153,6 +157,7 @@ impl Both {
         let answer = self.small.ask(self.alloc, &request, t);
         let reply = self.plain.ask(&request, t)?;
         assert_eq!(rt; answer, number_in(&reply));
+        assert_eq!(rt; self.small.counts(), self.plain.counts());
         Ok(answer)
     }
 
