@@ -1,8 +1,10 @@
 #!/usr/bin/env bash
 # What the gate costs, crate by crate: processor seconds and peak memory of a proof from nothing, and of the proof with
 # its tests, each with one job. With --edits each must-fail edit of the crates is tried too, over what a proof of the
-# crate as it stands leaves, and what each took is told, the dearest first.
-# Usage: bench/gate.sh [--edits] [CRATE..], after `rt all check`, on a machine without other work. No name means all.
+# crate as it stands leaves, and what each took is told, the dearest first. With --table the same is measured, and told
+# as the table of GATE.md, where the time of a crate's edits has that proof in it.
+# Usage: bench/gate.sh [--edits | --table] [CRATE..], after `rt all check`, on a machine without other work. No name
+# means all.
 set -eu
 cd "$(dirname "$0")/.."
 exec python3 - "$@" <<'PYTHON'
@@ -84,31 +86,57 @@ def try_edits(name, edits):
         return seed, passed, sorted(found, reverse=True)
 
 
-names = sys.argv[1:]
-with_edits = names[:1] == ["--edits"]
-names = names[with_edits:] or list(below)
-print(f"{'crate':20} {'proof s':>8} {'GB':>5} {'tests s':>8} {'GB':>5} {'edits':>6}")
-total = 0.0
-for name in names:
-    proof, proof_peak, passed = check(name)
-    total += proof
+def has_tests(name):
     sources = glob.glob(f"crates/{name}/src/**/*.rt", recursive=True)
-    row = f"{name:20} {proof:8.1f} {proof_peak:5.1f}"
-    if any("#[test]" in open(source).read() for source in sources):
-        tests, tests_peak, tests_passed = check(name, "--test")
-        passed = passed and tests_passed
-        total += tests
-        row += f" {tests:8.1f} {tests_peak:5.1f}"
-    else:
-        row += f" {'':8} {'':5}"
-    edits = sorted(glob.glob(f"crates/{name}/must-fail/*.edit"))
-    row += f" {len(edits):6}"
-    print(row + ("" if passed else "  not proved"), flush=True)
-    if with_edits and edits:
-        seed, passed, found = try_edits(name, edits)
-        total += seed + sum(took for took, _, _ in found)
+    return any("#[test]" in open(source).read() for source in sources)
+
+
+def tell_plainly(name, proof, tests, edits, tried):
+    """A line of the crate, and one of each edit."""
+    row = f"{name:20} {proof[0]:8.1f} {proof[1]:5.1f}"
+    row += f" {tests[0]:8.1f} {tests[1]:5.1f}" if tests else f" {'':8} {'':5}"
+    print(f"{row} {edits:6}" + ("" if proof[2] and (not tests or tests[2]) else "  not proved"), flush=True)
+    if tried:
+        seed, passed, found = tried
         print(f"  {seed:8.1f} before the edits" + ("" if passed else "  not proved"))
         for took, edit, missed in found:
             print(f"  {took:8.1f} {edit}{missed}", flush=True)
-print(f"{'all':20} {total:8.1f} s")
+
+
+def tell_in_table(name, proof, tests, edits, tried):
+    """A row of GATE.md's table. What did not pass is told beside it."""
+    cells = [f"{took:.0f} | {peak:.1f}" for took, peak, _ in [proof] + ([tests] if tests else [])] + [" | "] * (not tests)
+    cells.append(f"{edits or ''} | {edits_time(tried):.0f}" if tried else " | ")
+    print(f"| `{name}` | {' | '.join(cells)} |", flush=True)
+    if not all(passed for _, _, passed in [proof] + ([tests] if tests else [])) or tried and not tried[1]:
+        print(f"{name}: not proved", file=sys.stderr)
+    for _, edit, missed in tried[2] if tried else []:
+        if missed:
+            print(f"{name}: {edit}{missed}", file=sys.stderr)
+
+
+def edits_time(tried):
+    return tried[0] + sum(took for took, _, _ in tried[2]) if tried else 0.0
+
+
+words = sys.argv[1:]
+in_table, with_edits = words[:1] == ["--table"], words[:1] in (["--table"], ["--edits"])
+names = words[with_edits:] or list(below)
+if in_table:
+    print("| crate | proof | GB | tests | GB | edits | their time |\n|---|---|---|---|---|---|---|")
+else:
+    print(f"{'crate':20} {'proof s':>8} {'GB':>5} {'tests s':>8} {'GB':>5} {'edits':>6}")
+sums, many = [0.0, 0.0, 0.0], 0
+for name in names:
+    proof = check(name)
+    tests = check(name, "--test") if has_tests(name) else None
+    edits = sorted(glob.glob(f"crates/{name}/must-fail/*.edit"))
+    tried = try_edits(name, edits) if with_edits and edits else None
+    (tell_in_table if in_table else tell_plainly)(name, proof, tests, len(edits), tried)
+    sums = [one + other for one, other in zip(sums, [proof[0], tests[0] if tests else 0.0, edits_time(tried)])]
+    many += len(edits)
+if in_table:
+    print(f"| all | {sums[0]:.0f} |  | {sums[1]:.0f} |  | {many} | {sums[2]:.0f} |")
+else:
+    print(f"{'all':20} {sum(sums):8.1f} s")
 PYTHON

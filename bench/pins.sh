@@ -13,7 +13,7 @@
 # A line for each of eight distances from the block to the memory that is handed out, evenly over 4 KB: that memory is
 # further off by so many spare words behind the block. Where it is a multiple of 4 KB and a few words more, as with
 # none, a load waits for stores before it that the processor takes for ones to the same word. The last line is the mean.
-# Usage: bench/pins.sh PROGRAM, where PROGRAM is the built pin_bench.
+# Usage: bench/pins.sh PROGRAM, where PROGRAM is the built apcu_bench.
 set -eu
 program=$1
 rounds=20000
@@ -21,7 +21,7 @@ words=8193
 
 # Processor time of one run in nanoseconds.
 spent() {
-    { /usr/bin/env bash -c 'TIMEFORMAT="%3U %3S"; time "$@" >/dev/null' sh "$program" "$@"; } 2>&1 \
+    { /usr/bin/env bash -c 'TIMEFORMAT="%3U %3S"; time "$@" >/dev/null' sh "$program" pins "$@"; } 2>&1 \
         | awk '{ printf "%.0f\n", ($1 + $2) * 1e9 }'
 }
 

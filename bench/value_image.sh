@@ -2,7 +2,7 @@
 # Nanoseconds a word of writing images, of reading graphs back, of copying the graph itself (which is what the
 # memory of a graph costs that a reader gets for its own), and of a plain copy of as many words. Then nanoseconds
 # a value of small values: their images, and their texts in the notation.
-# Usage: bench/value_image.sh PROGRAM, where PROGRAM is the built image_bench.
+# Usage: bench/value_image.sh PROGRAM, where PROGRAM is the built apcu_bench.
 set -eu
 program=$1
 
@@ -15,8 +15,8 @@ spent() {
 
 # The time of one round of this work over so many units.
 round() {
-    base=$(spent "$program" "$1" "$2" 0)
-    full=$(spent "$program" "$1" "$2" "$3")
+    base=$(spent "$program" image "$1" "$2" 0)
+    full=$(spent "$program" image "$1" "$2" "$3")
     echo "$full $base $3 $4" | awk '{ printf "%.2f", ($1 - $2) / $3 / $4 }'
 }
 

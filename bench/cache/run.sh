@@ -8,11 +8,13 @@
 # 10,000 calls or less of several runs of both, without what a loop takes that makes the key alone. Then milliseconds of
 # dropping 100,000 rows that fill a cache: by a clear, and by a store that finds no room while all rows' time is over;
 # and of telling of 10,000 rows, of which each tenth left a gap.
-# Usage: bench/cache/run.sh [PROGRAM [RUNS [ROWS..]]], where PROGRAM is the built cache_bench.
+# Usage: bench/cache/run.sh [PROGRAM [RUNS [ROWS..]]], where PROGRAM is the built apcu_bench. SEGMENTS=N in the
+# environment cuts our words into so many segments.
 set -eu
 here=$(cd "$(dirname "${BASH_SOURCE[0]}")" && pwd)
-program=${1:-$here/../../crates/cache_bench/out/cache_bench}
+program=${1:-$here/../../crates/apcu_bench/out/apcu_bench}
 runs=${2:-3}
+segments=${SEGMENTS:-1}
 shift $(($# < 2 ? $# : 2))
 sizes=${*:-1000 100000 1000000}
 scratch=$(mktemp -d)
@@ -53,7 +55,7 @@ table() {
 for rows in $sizes; do
     : >"$scratch/ours" && : >"$scratch/php"
     for _ in $(seq "$runs"); do
-        "$program" "$rows" >>"$scratch/ours"
+        "$program" cache calls "$rows" "$segments" >>"$scratch/ours"
         if [ -n "$php" ]; then in_php $((64 + rows / 2000)) "$rows" "$rows" >>"$scratch/php"; fi
     done
     printf '\n%-18s %9s %9s %7s\n' "$rows rows" ns php ratio
@@ -64,7 +66,7 @@ for work in "clear 100000" "info 10000"; do
     read -r what rows <<<"$work"
     : >"$scratch/ours" && : >"$scratch/php"
     for _ in $(seq "$runs"); do
-        "$program" "$what" "$rows" >>"$scratch/ours"
+        "$program" cache "$what" "$rows" "$segments" >>"$scratch/ours"
         if [ -n "$php" ]; then in_php 64 "$rows" "$what" "$rows" >>"$scratch/php"; fi
     done
     printf '\n%-18s %9s %9s %7s\n' "$rows rows" ms php ratio

@@ -24,7 +24,8 @@ use Rattle.cache_core.specs.declared.cache.Core.{Core}
 use Rattle.cache_core.specs.Caching.{cache_of}
 use Rattle.cache_core.specs.Lending.{with_slots}
 use Rattle.apcu_iter.specs.Choosing.{uncounted}
-use Rattle.apcu_iter.specs.Laws.{DropLaws, IterLaws}
+use Rattle.ttl_expunge.specs.Laws.{DropLaws}
+use Rattle.entry_slots.specs.Laws.{StandingLaws}
 use Rattle.apcu_iter.proofs.Fewness.{some_of}
 use Rattle.apcu_iter.proofs.Slots.{between_is}
 
@@ -83,7 +84,7 @@ rows_of_chunk {s} wanted t from size places sound low are =
     }
 
 -- so are those that were noted where a core lent its entries
-pub rows_noted : IterLaws → (core : Core) (slots : EntrySlots) (words : List ℕ) (aside : Aside)
+pub rows_noted : StandingLaws → (core : Core) (slots : EntrySlots) (words : List ℕ) (aside : Aside)
     (wanted : Option Pattern) (t from size : ℕ) (places : List ℕ) → slots ≡ core.slots
     → Stands core.slots words aside (entries core.slots)
     → entries core.slots ≡ entries_of (cache_of core) → from ≤ core.conf.slots

@@ -1,5 +1,5 @@
 mod Reading
-mod Keys
+mod Choosing
 mod Slots
 mod Fewness
 mod Stepping

@@ -9,10 +9,9 @@ ghost use Rattle.entry_slots.specs.Standing.{Stand, entries};
 ghost use Rattle.apcu_iter.specs.Choosing.{chosen_items};
 
 use crate::entry::item_at;
-use crate::lower::lower_laws;
 use crate::row_test::RowTest;
 use apcu_model::{Fields, ItemRow};
-use entry_slots::EntrySlots;
+use entry_slots::{EntrySlots, standing_laws};
 use seg_words::{Segment, WordsIn};
 use std::alloc::{AllocError, Global};
 
@@ -56,7 +55,7 @@ pub(crate) fn list_slot<S: Segment>(
     ensures test { test.new ≡ test.old }
     ensures kept { Kept S.WordsIn seg.old seg.new }
 {
-    lower_laws();
+    standing_laws();
     let mut at = slots.first_in(seg, slot);
     for _passed in 0..slots.rows() {
         if at == 0 {
@@ -82,7 +81,7 @@ pub(crate) fn list_removed<S: Segment>(
     ensures test { test.new ≡ test.old }
     ensures kept { Kept S.WordsIn seg.old seg.new }
 {
-    lower_laws();
+    standing_laws();
     let mut items = Vec::new(alloc);
     let mut at = slots.first_removed();
     for _passed in 0..slots.words() {

@@ -2,13 +2,10 @@
 
 ghost use Rattle.std.specs.Prelude.{◌≡◌, ◌≤◌, IfOk};
 ghost use Rattle.seg_words.specs.Kept.{Kept};
-ghost use Rattle.seg_words.specs.Windows.{held_blocks};
-ghost use Rattle.apcu_model.specs.declared.request.Request.TheVariants as requests;
-ghost use Rattle.apcu_model.specs.declared.request.Reply.TheVariants as replies;
 ghost use Rattle.apcu_model.specs.Chunks.{chunk_of};
-ghost use Rattle.apcu_model.specs.Sequential.{reply_to};
 ghost use Rattle.entry_slots.specs.Standing.{Stand, entries};
 ghost use Rattle.cache_core.specs.Caching.{cache_of, CacheStands};
+ghost use Rattle.cache_core.specs.Events.{IsUnchanged};
 ghost use Rattle.apcu_iter.specs.Choosing.{uncounted};
 
 use crate::chains::{list_removed, list_slot};
@@ -105,12 +102,8 @@ pub fn chunk<S: Segment>(
     requires size { 1 ≤ size }
     ensures chunk { IfOk result
         (λ x. x ≡ chunk_of search.old from size list fields t (cache_of core.old)) }
-    ensures reply { IfOk result (λ x. replies.Chunk x
-        ≡ reply_to (held_blocks (S.aside seg.new)) t
-        (requests.Chunk search.old from size list fields) (cache_of core.old)) }
     ensures search { search.new ≡ search.old }
-    ensures same { core.new ≡ core.old }
-    ensures kept { Kept S.WordsIn seg.old seg.new }
+    ensures same { IsUnchanged S.WordsIn core.old core.new seg.old seg.new }
 {
     let mut test = search.test(list, t)?;
     let slots = core.slots();

@@ -1,32 +1,28 @@
 //! Deleting what an iterator goes over.
 
-ghost use Rattle.std.specs.Prelude.{◌≡◌, ◌<◌, ◌≤◌, ◌++◌, [], ◌∷◌, true, IfOk, OnOk, OnErr};
+ghost use Rattle.std.specs.Prelude.{◌≡◌, ◌<◌, ◌≤◌, ◌++◌, [], ◌∷◌, true, IfOk, OnOk};
 ghost use Rattle.seg_words.specs.Kept.{Kept};
-ghost use Rattle.seg_words.specs.Probing.{Goes};
-ghost use Rattle.seg_words.specs.Windows.{Aside, held_blocks};
 ghost use Rattle.apcu_model.specs.declared.request.Request.TheVariants as requests;
 ghost use Rattle.apcu_model.specs.declared.request.Reply.TheVariants as replies;
 ghost use Rattle.apcu_model.specs.Cache.{Row};
 ghost use Rattle.apcu_model.specs.Chunks.{chunk_end, chunk_rows};
-ghost use Rattle.apcu_model.specs.Sequential.{cache_after, reply_to};
 ghost use Rattle.entry_slots.specs.Lists.{has_place};
 ghost use Rattle.entry_slots.specs.Entries.{IsListed, chain_of, listed};
 ghost use Rattle.entry_slots.specs.Standing.{Stand, entries};
-ghost use Rattle.ttl_expunge.specs.Held.{AreRemoved, KeepsOpen};
 ghost use Rattle.ttl_expunge.specs.Lists.{row_places};
-ghost use Rattle.cache_core.specs.Caching.{cache_of, CacheStands};
+ghost use Rattle.cache_core.specs.Caching.{cache_of};
+ghost use Rattle.cache_core.specs.Events.{MayDrop, DoesIf};
 ghost use Rattle.apcu_iter.specs.Choosing.{chosen_places, uncounted};
 
 use crate::entry::head_at;
-use crate::lower::{dropping_laws, lower_laws};
 use crate::row_test::RowTest;
 use crate::search::Search;
 use apcu_model::List;
 use cache_core::Core;
-use entry_slots::EntrySlots;
+use entry_slots::{EntrySlots, standing_laws};
 use seg_words::{Segment, WordsIn};
 use std::alloc::{AllocError, Global};
-use ttl_expunge::drop_rows;
+use ttl_expunge::{drop_laws, drop_rows};
 
 // The place of the row at a place comes behind the places, if the row is chosen.
 fn note_row<S: Segment>(
@@ -64,7 +60,7 @@ fn note_slot<S: Segment>(
     ensures test { test.new ≡ test.old }
     ensures kept { Kept S.WordsIn seg.old seg.new }
 {
-    lower_laws();
+    standing_laws();
     let mut at = slots.first_in(seg, slot);
     for _passed in 0..slots.rows() {
         if at == 0 {
@@ -124,33 +120,15 @@ pub fn chunk_delete<S: Segment>(
     size: u32,
     t: u64,
 ) -> Result<u32, AllocError>
-    requires stand { CacheStands S.WordsIn core.old seg.old }
-    requires refused { AreRemoved (S.aside seg.old) (cache_of core.old).removed }
+    requires ready { MayDrop S.WordsIn core.old seg.old }
     requires from { from ≤ (cache_of core.old).conf.slots }
     requires size { 1 ≤ size }
-    ensures next { IfOk result
-        (λ next. next ≡ chunk_end search.old t (cache_of core.old) from size) }
-    ensures reply { IfOk result (λ next. replies.Next next
-        ≡ reply_to (held_blocks (S.aside seg.new)) t
-        (requests.ChunkDelete search.old from size) (cache_of core.old)) }
-    ensures cache { OnOk result (cache_of core.new
-        ≡ cache_after (held_blocks (S.aside seg.new)) t
-        (requests.ChunkDelete search.old from size) (cache_of core.old)) }
-    ensures later { OnOk result ((later : Aside) → Goes (S.aside seg.new) later
-        → cache_of core.new ≡ cache_after (held_blocks later) t
-        (requests.ChunkDelete search.old from size) (cache_of core.old)) }
-    ensures same { OnErr result (core.new ≡ core.old) }
-    ensures kept { OnErr result (Kept S.WordsIn seg.old seg.new) }
-    ensures goes { Goes (S.aside seg.old) (S.aside seg.new) }
-    ensures keeps { KeepsOpen (S.aside seg.new).windows
-        (entries core.old.slots) (entries core.new.slots) }
-    ensures refused { AreRemoved (S.aside seg.new) (cache_of core.new).removed }
-    ensures stand { CacheStands S.WordsIn core.new seg.new }
+    ensures does { DoesIf S.WordsIn core.old core.new seg.old seg.new t
+        (requests.ChunkDelete search.old from size) result (λ next. replies.Next next) }
     ensures search { search.new ≡ search.old }
-    ensures rest { S.rest seg.new ≡ S.rest seg.old }
 {
-    lower_laws();
-    dropping_laws();
+    standing_laws();
+    drop_laws();
     let mut test = search.test(List::Active, t)?;
     let slots = core.slots();
     let (next, places) = note_chunk(alloc, slots, seg, &mut test, from, size)?;

@@ -14,39 +14,17 @@ ghost use Rattle.entry_slots.specs.Entries.{IsListed, listed};
 ghost use Rattle.entry_slots.specs.Reading.{HeadIn};
 ghost use Rattle.entry_slots.specs.Standing.{Stand, entries};
 ghost use Rattle.apcu_iter.specs.Choosing.{is_chosen};
-ghost use Rattle.apcu_iter.specs.Reading.{HasKeyAt};
 
-use crate::lower::lower_laws;
 use crate::row_test::RowTest;
 use apcu_model::{Fields, ItemRow};
-use entry_slots::{EntrySlots, Head};
+use entry_slots::{EntrySlots, Head, standing_laws};
 use php_graph::{Bytes, Graph};
-use seg_words::{HEAD_WORDS, Segment, WordsIn};
+use seg_words::{Segment, WordsIn};
 use std::alloc::{AllocError, Global};
-use value_image::{bytes_are_packed, get_bytes, unpersist};
+use value_image::unpersist;
 
 /// The bit of `Fields` that asks for the value.
 const VALUE: u16 = 2;
-
-// The bytes of a key, which stand from a place on.
-fn read_key<W: WordsIn>(
-    alloc: Global,
-    from: &mut W,
-    at: u32,
-    len: u32,
-) -> Result<Vec<u8>, AllocError>
-    requires key { (key : List ℕ)
-        × HasKeyAt (W.words from.old) (W.aside from.old).windows at len key }
-    ensures bytes { (key : List ℕ)
-        → HasKeyAt (W.words from.old) (W.aside from.old).windows at len key
-        → IfOk result (λ bytes. bytes.items ≡ key) }
-    ensures kept { Kept W.WordsIn from.old from.new }
-{
-    bytes_are_packed();
-    let mut key = vec![in alloc; 0u8; len as usize]?;
-    get_bytes(from, at, &mut key);
-    Ok(key)
-}
 
 // The value whose image the head names, if it is asked for.
 fn read_value<W: WordsIn>(
@@ -113,12 +91,12 @@ pub(crate) fn item_at<S: Segment>(
     ensures test { test.new ≡ test.old }
     ensures kept { Kept S.WordsIn seg.old seg.new }
 {
-    lower_laws();
+    standing_laws();
     let head = slots.head(seg, at);
     if test.leaves_out(head) {
         return Ok(None);
     }
-    let key = read_key(alloc, seg, at + HEAD_WORDS, head.key_len)?;
+    let key = slots.copy_key(alloc, seg, at, head.key_len)?;
     if !test.matches(&key) {
         return Ok(None);
     }
@@ -142,13 +120,13 @@ pub(crate) fn head_at<S: Segment>(
     ensures test { test.new ≡ test.old }
     ensures kept { Kept S.WordsIn seg.old seg.new }
 {
-    lower_laws();
+    standing_laws();
     let head = slots.head(seg, at);
     if test.leaves_out(head) {
         return Ok(None);
     }
     if test.is_picky() {
-        let key = read_key(test.alloc(), seg, at + HEAD_WORDS, head.key_len)?;
+        let key = slots.copy_key(test.alloc(), seg, at, head.key_len)?;
         if !test.matches(&key) {
             return Ok(None);
         }

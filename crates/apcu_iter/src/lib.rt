@@ -5,7 +5,6 @@ mod chains;
 mod chunks;
 mod deleting;
 mod entry;
-mod lower;
 mod maker;
 mod row_test;
 mod search;

@@ -62,9 +62,7 @@ impl<'r> RowTest<'r> {
             → result ≡ is_left_out self.now row }
     {
         match self.list {
-            List::Active => {
-                head.ttl > 0 && head.ctime.saturating_add(u64::from(head.ttl)) < self.t
-            }
+            List::Active => head.is_hard_expired(self.t),
             List::Deleted => false,
         }
     }

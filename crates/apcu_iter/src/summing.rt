@@ -3,26 +3,23 @@
 ghost use Rattle.std.specs.Prelude.{◌≡◌, ◌<◌, [], ◌∷◌, true, filter, IfOk};
 ghost use Rattle.std.specs.Prelude.{if◌then◌else◌};
 ghost use Rattle.seg_words.specs.Kept.{Kept};
-ghost use Rattle.seg_words.specs.Windows.{held_blocks};
-ghost use Rattle.apcu_model.specs.declared.request.Request.TheVariants as requests;
 ghost use Rattle.apcu_model.specs.declared.request.Reply.TheVariants as replies;
 ghost use Rattle.apcu_model.specs.Cache.{Row};
 ghost use Rattle.apcu_model.specs.Chunks.{all_items, totals_of};
-ghost use Rattle.apcu_model.specs.Sequential.{reply_to};
 ghost use Rattle.entry_slots.specs.Lists.{has_place};
 ghost use Rattle.entry_slots.specs.Entries.{IsListed, chain_of, listed};
 ghost use Rattle.entry_slots.specs.Standing.{Stand, entries};
 ghost use Rattle.cache_core.specs.Caching.{cache_of, CacheStands};
+ghost use Rattle.cache_core.specs.Events.{IsUnchanged};
 ghost use Rattle.apcu_iter.specs.Adding.{no_sums, with_rows, sums_of_both};
 ghost use Rattle.apcu_iter.specs.Choosing.{is_chosen, rows_in};
 
 use crate::entry::head_at;
-use crate::lower::lower_laws;
 use crate::row_test::RowTest;
 use crate::search::Search;
 use apcu_model::List;
 use cache_core::Core;
-use entry_slots::{EntrySlots, Head};
+use entry_slots::{EntrySlots, Head, standing_laws};
 use seg_words::{Segment, WordsIn};
 use std::alloc::AllocError;
 
@@ -108,7 +105,7 @@ fn add_slot<S: Segment>(
     ensures test { test.new ≡ test.old }
     ensures kept { Kept S.WordsIn seg.old seg.new }
 {
-    lower_laws();
+    standing_laws();
     let mut sums = Sums::new();
     let mut at = slots.first_in(seg, slot);
     for _passed in 0..slots.rows() {
@@ -153,7 +150,7 @@ fn add_removed<S: Segment>(
     ensures test { test.new ≡ test.old }
     ensures kept { Kept S.WordsIn seg.old seg.new }
 {
-    lower_laws();
+    standing_laws();
     let mut sums = Sums::new();
     let mut at = slots.first_removed();
     for _passed in 0..slots.words() {
@@ -201,12 +198,8 @@ pub fn totals<S: Segment>(
     requires stand { CacheStands S.WordsIn core.old seg.old }
     ensures totals { IfOk result (λ r. replies.Totals r.0 r.1 r.2
         ≡ totals_of (all_items search.old list t (cache_of core.old))) }
-    ensures reply { IfOk result (λ r. replies.Totals r.0 r.1 r.2
-        ≡ reply_to (held_blocks (S.aside seg.new)) t (requests.Totals search.old list)
-        (cache_of core.old)) }
     ensures search { search.new ≡ search.old }
-    ensures same { core.new ≡ core.old }
-    ensures kept { Kept S.WordsIn seg.old seg.new }
+    ensures same { IsUnchanged S.WordsIn core.old core.new seg.old seg.new }
 {
     let mut test = search.test(list, t)?;
     let slots = core.slots();

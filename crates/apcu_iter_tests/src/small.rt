@@ -12,6 +12,7 @@ const CONF: Conf = Conf {
     words: 4_096,
     slots: 32,
     ttl: 0,
+    segments: 1,
 };
 
 /// The moment at which rows are stored.

@@ -8,28 +8,28 @@ use Rattle.std.proofs.lemmas.List.Sums.{sum_by-cons, sum_by-append}
 use Rattle.seg_words.specs.declared.extents.Extent.{Extent}
 use Rattle.seg_words.specs.Gaps.{is_free, runs_of, with_word}
 
-pick : (b : Bool) (word : ℕ) (rest : List ℕ)
-    → cond b (with_word word (runs_of rest)) (runs_of rest)
-    ≡ runs_of (cond b (word ∷ rest) rest)
-pick true word rest = refl
-pick false word rest = refl
+pick : (piece : ℕ) (b : Bool) (word : ℕ) (rest : List ℕ)
+    → cond b (with_word piece word (runs_of piece rest)) (runs_of piece rest)
+    ≡ runs_of piece (cond b (word ∷ rest) rest)
+pick piece true word rest = refl
+pick piece false word rest = refl
 
 -- one word more, below the others
-pub run_goes_on_below : (extents : List Extent) (to i : ℕ) (runs : List Extent) → i < to
-    → runs ≡ runs_of (filter (λ word. is_free word 1 extents) (range_with_len (to - i) i))
-    → cond (is_free (to - (i + 1)) 1 extents) (with_word (to - (i + 1)) runs) runs
-    ≡ runs_of (filter (λ word. is_free word 1 extents)
+pub run_goes_on_below : (piece : ℕ) (extents : List Extent) (to i : ℕ) (runs : List Extent) → i < to
+    → runs ≡ runs_of piece (filter (λ word. is_free word 1 extents) (range_with_len (to - i) i))
+    → cond (is_free (to - (i + 1)) 1 extents) (with_word piece (to - (i + 1)) runs) runs
+    ≡ runs_of piece (filter (λ word. is_free word 1 extents)
     (range_with_len (to - (i + 1)) (i + 1)))
-run_goes_on_below extents to i runs low are =
+run_goes_on_below piece extents to i runs low are =
     let word = to - (i + 1) in
     let free : ℕ → Bool = λ w. is_free w 1 extents in
     let rest = filter free (range_with_len (to - i) i) in
     let one : suc i ≡ i + 1 = omega arith in
     let next : to - i ≡ word + 1 = omega (arith, low) in
-    ap (λ l. cond (free word) (with_word word l) l) are ∙ pick (free word) word rest
-    ∙ ap (λ n. runs_of (cond (free word) (word ∷ filter free (range_with_len n i))
+    ap (λ l. cond (free word) (with_word piece word l) l) are ∙ pick piece (free word) word rest
+    ∙ ap (λ n. runs_of piece (cond (free word) (word ∷ filter free (range_with_len n i))
     (filter free (range_with_len n i)))) next
-    ∙ ap (λ n. runs_of (filter free (range_with_len word n))) one
+    ∙ ap (λ n. runs_of piece (filter free (range_with_len word n))) one
 
 -- the same words, whichever way they are listed
 pub sum-reverse : (gaps : List Extent)

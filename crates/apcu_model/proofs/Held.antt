@@ -1,9 +1,10 @@
 -- Of the list of held places only its members count.
-use Rattle.std.proofs.Common.{◌≡◌, ℕ, ◌-◌, ◌&&◌, Bool, true, not, if◌then◌else◌, List, ◌++◌, length, map, filter, Option, Some, None, refl, ap, ◌∙◌, ◌∷◌, []}
+use Rattle.std.proofs.Common.{◌≡◌, ℕ, ◌&&◌, Bool, true, not, if◌then◌else◌, List, ◌++◌, length, map, filter, Option, Some, None, refl, ap, ◌∙◌, ◌∷◌, []}
 use Rattle.std.specs.Prelude.{ℤ, false, nat_lt, is_some}
 use Rattle.php_graph.specs.declared.kind.Kind.{Kind}
 use Rattle.php_graph.specs.declared.kind.Kind.TheVariants as kinds
 use Rattle.php_graph.specs.Size.{block_size}
+use Rattle.apcu_model.specs.Conf.{most_of}
 use Rattle.apcu_model.specs.declared.request.Request.{Request}
 use Rattle.apcu_model.specs.declared.request.Request.TheVariants as request
 use Rattle.apcu_model.specs.declared.request.Reply.TheVariants.{Flag}
@@ -63,8 +64,8 @@ module _ (held other : List ℕ) (same : AreAlike held other) where
   pub inserted_alike : (key : List ℕ) (graph : List Kind) (ttl : ℕ) (exclusive : Bool) (t : ℕ) (c : Cache) → inserted held key graph ttl exclusive t c ≡ inserted other key graph ttl exclusive t c
   inserted_alike key graph ttl exclusive t c =
       let n = block_size (length key) graph in
-      ap (λ (room : Cache). if nat_lt (c.conf.words - c.conf.slots) n then record { answer = TooLarge; cache = c } else if exclusive && is_some (live_row key t c) then record { answer = Exists; cache = c } else put_in held key graph ttl t n room (gap_of room n)) (room_alike n t c)
-      ∙ ap (λ (put : Insertion). if nat_lt (c.conf.words - c.conf.slots) n then record { answer = TooLarge; cache = c } else if exclusive && is_some (live_row key t c) then record { answer = Exists; cache = c } else put) (put_alike key graph ttl t n (with_room other n t c) (gap_of (with_room other n t c) n))
+      ap (λ (room : Cache). if nat_lt (most_of c.conf) n then record { answer = TooLarge; cache = c } else if exclusive && is_some (live_row key t c) then record { answer = Exists; cache = c } else put_in held key graph ttl t n room (gap_of room n)) (room_alike n t c)
+      ∙ ap (λ (put : Insertion). if nat_lt (most_of c.conf) n then record { answer = TooLarge; cache = c } else if exclusive && is_some (live_row key t c) then record { answer = Exists; cache = c } else put) (put_alike key graph ttl t n (with_room other n t c) (gap_of (with_room other n t c) n))
 
   count_alike : (key : List ℕ) (step : ℤ) (ttl t : ℕ) (c : Cache) (o : Option Row) → counted_at held key step ttl t c o ≡ counted_at other key step ttl t c o
   count_alike key step ttl t c (Some row) = refl

@@ -14,3 +14,4 @@ mod TableValues
 mod Runs
 mod Listing
 mod Gaps
+pub mod Staying

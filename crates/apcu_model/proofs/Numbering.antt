@@ -10,8 +10,10 @@ use Rattle.std.proofs.lemmas.List.Elements.{Contains-append_left, Contains-appen
 use Rattle.php_graph.specs.declared.kind.Kind.{Kind}
 use Rattle.php_graph.specs.declared.kind.Kind.TheVariants as kinds
 use Rattle.php_graph.specs.Size.{block_size}
+use Rattle.apcu_model.specs.Conf.{most_of}
 use Rattle.apcu_model.specs.declared.conf.Conf.{Conf}
 use Rattle.apcu_model.specs.declared.event.Event.{Event}
+use Rattle.apcu_model.specs.declared.journal.TheConstants.{MOST_EVENTS}
 use Rattle.apcu_model.specs.declared.request.Request.{Request}
 use Rattle.apcu_model.specs.declared.request.Request.TheVariants as request
 use Rattle.apcu_model.specs.declared.request.StoreAnswer.TheVariants as answers
@@ -211,7 +213,7 @@ sub_swapped key expect set t c keys = go (live_row key t c) refl
     go (Some row) live = at_int row live (integer_in row.graph) refl
 
 grown_inserted : (held key : List ℕ) (graph : List Kind) (ttl : ℕ) (exclusive : Bool) (t : ℕ) (c : Cache) → Numbers c → c.next_number < 2 ^ 64 - 1 → Grown 1 c (inserted held key graph ttl exclusive t c).cache
-grown_inserted held key graph ttl exclusive t c num small = go (nat_lt (c.conf.words - c.conf.slots) (block_size (length key) graph)) (exclusive && is_some (live_row key t c))
+grown_inserted held key graph ttl exclusive t c num small = go (nat_lt (most_of c.conf) (block_size (length key) graph)) (exclusive && is_some (live_row key t c))
   where
     go : (a b : Bool) → Grown 1 c (if a then record { answer = answers.TooLarge; cache = c } else if b then record { answer = answers.Exists; cache = c } else put_in held key graph ttl t (block_size (length key) graph) (with_room held (block_size (length key) graph) t c) (gap_of (with_room held (block_size (length key) graph) t c) (block_size (length key) graph))).cache
     go true b = same_grown c c (sub_refl c) num
@@ -417,7 +419,7 @@ grown_all m (e ∷ h) o small shallow =
     } in
     grown_all (after_event m e) h next (omega (arith, small, g.next)) few.1
 
-pub is_numbered : (conf : Conf) (h : List Event) → length h ≤ 4194304 → are_shallow h ≡ true → IsNumbered (stage_of conf h)
+pub is_numbered : (conf : Conf) (h : List Event) → length h ≤ MOST_EVENTS → are_shallow h ≡ true → IsNumbered (stage_of conf h)
 is_numbered conf h short shallow =
     let start : Ordered (start_of conf) = record {
       numbers = record { below = λ p c. absurd (none_in_nil p c); apart = λ p q c. absurd (none_in_nil p c); keys = refl };

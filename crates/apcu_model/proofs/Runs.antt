@@ -18,6 +18,13 @@ use Rattle.apcu_model.specs.declared.noted.ListedRow.{ListedRow}
 use Rattle.apcu_model.specs.Infos.{Told, told_members, told_values, told_numbered, told_list}
 use Rattle.apcu_model.specs.Infos.{told_row, told_gap, told_array, told_counts, told_rows}
 use Rattle.apcu_model.specs.Infos.{told_words, told_gaps, number_kind, word_bytes}
+use Rattle.apcu_model.specs.Infos.{told_segment, gaps_in}
+use Rattle.apcu_model.specs.Conf.{piece_of}
+use Rattle.std.specs.List.{range_with_len}
+use Rattle.php_graph.specs.Size.{cells_of, key_cells}
+use Rattle.std.proofs.lemmas.List.Sums.{sum_by-cons}
+use Rattle.std.proofs.lemmas.List.{length-map}
+use Rattle.std.proofs.Common.{Bool, true, false, cond, filter, ◌/◌, ◌%◌, ◌-◌, ◌≤◌, ◌==◌}
 use Rattle.apcu_model.specs.Telling.{values_run, stepped_members, stepped_end}
 
 -- places that come in three steps
@@ -143,17 +150,78 @@ cache_told conf counts words many rows removed are =
     ∷ told_values 2 (told_counts conf counts words)
     ++ (first 10 ++ (second (10 + length (first 10)) ++ []))) same
 
-pub gaps_told : (words free : ℕ) (gaps : List Extent)
-    → let one = told_list (map told_gap gaps) 6 in
+pub gaps_told : (conf : Conf) (free : ℕ) (gaps : List Extent)
+    → let one = told_list (map (told_segment (piece_of conf) gaps) (range_with_len 0 conf.segments)) 5 in
     kinds.Array ((keys.Str (codes "num_seg"), Own 2) ∷ (keys.Str (codes "seg_size"), Own 3)
     ∷ (keys.Str (codes "avail_mem"), Own 4) ∷ (keys.Str (codes "block_lists"), Own 5) ∷ [])
-    ∷ number_kind 1 ∷ number_kind (word_bytes words) ∷ number_kind (word_bytes free)
-    ∷ kinds.Array ((keys.Int (pos 0), Own 6) ∷ []) ∷ one
-    ≡ told_array (told_words words free ++ told_gaps gaps) 1
-gaps_told words free gaps =
-    let one = told_list (map told_gap gaps) 6 in
-    let same = sym (append-nil one) ∙ sym (append-nil (one ++ [])) in
+    ∷ number_kind conf.segments ∷ number_kind (word_bytes (piece_of conf))
+    ∷ number_kind (word_bytes free) ∷ one
+    ≡ told_array (told_words conf free ++ told_gaps conf gaps) 1
+gaps_told conf free gaps =
+    let one = told_list (map (told_segment (piece_of conf) gaps) (range_with_len 0 conf.segments)) 5 in
     ap (λ l. kinds.Array ((keys.Str (codes "num_seg"), Own 2) ∷ (keys.Str (codes "seg_size"), Own 3)
     ∷ (keys.Str (codes "avail_mem"), Own 4) ∷ (keys.Str (codes "block_lists"), Own 5) ∷ [])
-    ∷ number_kind 1 ∷ number_kind (word_bytes words) ∷ number_kind (word_bytes free)
-    ∷ kinds.Array ((keys.Int (pos 0), Own 6) ∷ []) ∷ l) same
+    ∷ number_kind conf.segments ∷ number_kind (word_bytes (piece_of conf))
+    ∷ number_kind (word_bytes free) ∷ l) (sym (append-nil one))
+
+-- ---- the gaps of each segment
+
+gaps_many : (place n : ℕ) (gaps : List Extent)
+    → length (told_values place (told_numbered n (map told_gap gaps))) ≡ 3 * length gaps
+gaps_many place n [] = refl
+gaps_many place n (gap ∷ gaps) =
+    let rest = told_values (place + 3) (told_numbered (n + 1) (map told_gap gaps)) in
+    omega (arith, length-append (told_gap gap place) rest, gaps_many (place + 3) (n + 1) gaps)
+
+pub segment_many : (piece k place : ℕ) (gaps : List Extent)
+    → length (told_segment piece gaps k place) ≡ 1 + 3 * length (gaps_in piece gaps k)
+segment_many piece k place gaps = omega (arith, gaps_many (place + 1) 0 (gaps_in piece gaps k))
+
+filter_few : {X : Type 0} (p : X → Bool) (xs : List X) → length (filter p xs) ≤ length xs
+filter_few p [] = omega arith
+filter_few p (x ∷ xs) = go (p x) (filter_few p xs)
+  where
+    go : (b : Bool) → length (filter p xs) ≤ length xs
+        → length (cond b (x ∷ filter p xs) (filter p xs)) ≤ suc (length xs)
+    go true e = omega (arith, e)
+    go false e = omega (arith, e)
+
+-- a segment has no more gaps than there are
+pub segment_few : (piece k : ℕ) (gaps : List Extent)
+    → length (gaps_in piece gaps k) ≤ length gaps
+segment_few piece k gaps =
+    let here : Extent → Bool = λ gap. gap.place / piece == k in
+    let local : Extent → Extent = λ gap. record { place = gap.place % piece; size = gap.size } in
+    omega (arith, length-map (filter here gaps) local, filter_few here gaps)
+
+-- the numbers from k on that are left
+pub range_left : (k n : ℕ) → k < n
+    → range_with_len k (n - k) ≡ k ∷ range_with_len (k + 1) (n - (k + 1))
+range_left k n low =
+    let many : n - k ≡ suc (n - (k + 1)) = omega (arith, low) in
+    ap (λ m. range_with_len k m) many
+
+-- one list more of those that are left
+pub lists_go_on : (f : ℕ → Told) (items : List (Key × Child)) (next k n step : ℕ) → k < n
+    → length (f k next) ≡ step
+    → (items ++ (keys.Int (pos k), Own next) ∷ [])
+    ++ told_members (next + step) (told_numbered (k + 1) (map f (range_with_len (k + 1) (n - (k + 1)))))
+    ≡ items ++ told_members next (told_numbered k (map f (range_with_len k (n - k))))
+lists_go_on f items next k n step low long =
+    let m : Key × Child = (keys.Int (pos k), Own next) in
+    let rest = map f (range_with_len (k + 1) (n - (k + 1))) in
+    append_assoc items (m ∷ []) (told_members (next + step) (told_numbered (k + 1) rest))
+    ∙ ap (λ s. items ++ (m ∷ told_members (next + s) (told_numbered (k + 1) rest))) (sym long)
+    ∙ ap (λ ks. items ++ told_members next (told_numbered k (map f ks))) (sym (range_left k n low))
+
+pub numbered_cells : (place n : ℕ) (vs : List Told)
+    → cells_of (kinds.Array (told_members place (told_numbered n vs))) ≡ 1 + 3 * length vs
+numbered_cells place n [] = refl
+numbered_cells place n (v ∷ vs) =
+    let rest = told_members (place + length (v place)) (told_numbered (n + 1) vs) in
+    let m : Key × Child = (keys.Int (pos n), Own place) in
+    omega (
+      arith,
+      numbered_cells (place + length (v place)) (n + 1) vs,
+      sum_by-cons (λ (x : Key × Child). 1 + key_cells x.0) m rest,
+    )

@@ -21,6 +21,11 @@ use Rattle.apcu_model.specs.Infos.{Told, told_number, number_kind, told_string, 
 use Rattle.apcu_model.specs.Infos.{told_list, told_array, told_notes, told_row, told_rows, told_gap}
 use Rattle.apcu_model.specs.Infos.{told_counts, told_words, told_gaps, word_bytes}
 use Rattle.apcu_model.specs.Infos.{note_fields, row_fields, gap_fields}
+use Rattle.apcu_model.specs.Infos.{told_segment, gaps_in}
+use Rattle.apcu_model.specs.Conf.{piece_of}
+use Rattle.apcu_model.proofs.Runs.{segment_few}
+use Rattle.std.proofs.lemmas.List.FromFn.{length-range_with_len}
+use Rattle.std.specs.List.{range_with_len}
 use Rattle.apcu_model.specs.Telling.{IsTellable}
 use Rattle.apcu_model.proofs.Tellings.{IsValue, AreKeys, single, array, tellable}
 
@@ -198,29 +203,40 @@ cache_tellable conf counts words rows removed are gone few left =
     (number_three conf.slots, (number_three conf.ttl, (number_three counts.hits, (number_three counts.misses, (number_three counts.inserts, (number_three counts.entries, (number_three counts.expunges, (number_three (word_bytes words), (rows_list rows are few, (rows_list removed gone left, tt)))))))))))
     (omega arith)
 
-pub words_tellable : (words free : ℕ) → IsTellable (told_array (told_words words free) 1)
+pub words_tellable : (conf : Conf) (free : ℕ) → IsTellable (told_array (told_words conf free) 1)
 unfolding int_of_text
-words_tellable words free =
+words_tellable conf free =
     let names = codes "num_seg" ∷ codes "seg_size" ∷ codes "avail_mem" ∷ [] in
-    tellable 2 (told_array (told_words words free))
-    (array 1 (told_words words free)
+    tellable 2 (told_array (told_words conf free))
+    (array 1 (told_words conf free)
     (record { distinct = refl; keys = refl; fits = names_fit names refl })
-    (number_value 1, (number_value (word_bytes words), (number_value (word_bytes free), tt))))
+    (number_value conf.segments, (number_value (word_bytes (piece_of conf)), (number_value (word_bytes free), tt))))
     (omega arith)
 
-pub gaps_tellable : (words free : ℕ) (gaps : List Extent) → length gaps ≤ 2 ^ 32
-    → IsTellable (told_array (told_words words free ++ told_gaps gaps) 1)
+segments_values : (piece : ℕ) (gaps : List Extent) (ks : List ℕ) → length gaps ≤ 2 ^ 32
+    → AllByRecursion (IsValue 3) (map (told_segment piece gaps) ks)
+segments_values piece gaps [] few = tt
+segments_values piece gaps (k ∷ ks) few = (
+  list_value 2 (map told_gap (gaps_in piece gaps k)) (gaps_values (gaps_in piece gaps k))
+      (omega (arith, few, length-map (gaps_in piece gaps k) told_gap, segment_few piece k gaps)),
+  segments_values piece gaps ks few,
+)
+
+pub gaps_tellable : (conf : Conf) (free : ℕ) (gaps : List Extent) → length gaps ≤ 2 ^ 32
+    → conf.segments ≤ 64
+    → IsTellable (told_array (told_words conf free ++ told_gaps conf gaps) 1)
 unfolding int_of_text
-gaps_tellable words free gaps few =
+gaps_tellable conf free gaps few segments =
     let names = codes "num_seg" ∷ codes "seg_size" ∷ codes "avail_mem" ∷ codes "block_lists"
     ∷ [] in
-    let inner = list_value 2 (map told_gap gaps) (gaps_values gaps)
-    (omega (arith, few, length-map gaps told_gap)) in
-    let outer = list_value 3 (told_list (map told_gap gaps) ∷ []) (inner, tt) (omega arith) in
+    let lists = map (told_segment (piece_of conf) gaps) (range_with_len 0 conf.segments) in
+    let outer = list_value 3 lists
+    (segments_values (piece_of conf) gaps (range_with_len 0 conf.segments) few)
+    (omega (arith, segments, length-map (range_with_len 0 conf.segments) (told_segment (piece_of conf) gaps), length-range_with_len 0 conf.segments)) in
     let number : (n : ℕ) → IsValue 4 (told_number n) =
     λ n. deeper 1 4 (told_number n) (omega arith) (number_value n) in
-    tellable 5 (told_array (told_words words free ++ told_gaps gaps))
-    (array 4 (told_words words free ++ told_gaps gaps)
+    tellable 5 (told_array (told_words conf free ++ told_gaps conf gaps))
+    (array 4 (told_words conf free ++ told_gaps conf gaps)
     (record { distinct = refl; keys = refl; fits = names_fit names refl })
-    (number 1, (number (word_bytes words), (number (word_bytes free), (outer, tt)))))
+    (number conf.segments, (number (word_bytes (piece_of conf)), (number (word_bytes free), (outer, tt)))))
     (omega arith)

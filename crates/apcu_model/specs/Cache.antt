@@ -5,6 +5,7 @@ use Rattle.php_graph.specs.declared.kind.Kind.{Kind}
 use Rattle.seg_words.specs.declared.extents.Extent.{Extent}
 use Rattle.seg_words.specs.Gaps.{first_fit}
 use Rattle.apcu_model.specs.declared.conf.Conf.{Conf}
+use Rattle.apcu_model.specs.Conf.{piece_of}
 use Rattle.apcu_model.specs.declared.counts.Counts.{Counts}
 
 -- A key with its value. Times are in seconds, places and sizes in words.
@@ -71,6 +72,8 @@ has_key key row = bytes_eq row.key key
 abbrev pub extent_of : Row → Extent
 extent_of row = record { place = row.place; size = row.size }
 
--- the least place where a block of n words fits beside the blocks of all rows, also of removed ones
+-- the least place where a block of n words fits in one segment beside the blocks of all rows, also
+-- of removed ones
 abbrev pub gap_of : Cache → ℕ → Option ℕ
-gap_of c n = first_fit c.conf.slots c.conf.words n (map extent_of (c.rows ++ c.removed))
+gap_of c n =
+    first_fit c.conf.slots c.conf.words (piece_of c.conf) n (map extent_of (c.rows ++ c.removed))

@@ -1,10 +1,12 @@
 -- How rows leave a cache, how room is made, and how a row comes in. `held` is the list of the
 -- places of blocks that somebody copies: a row that is held keeps its block when it is dropped.
-use Rattle.std.specs.Prelude.{◌≡◌, ℕ, ◌-◌, ◌==◌, ◌&&◌, not, nat_lt, Bool, true, if◌then◌else◌, List}
+use Rattle.std.specs.Prelude.{◌≡◌, ℕ, ◌==◌, ◌&&◌, not, nat_lt, Bool, true, if◌then◌else◌, List}
 use Rattle.std.specs.Prelude.{[], ◌∷◌, ◌++◌, length, map, filter, Option, Some, None, is_some}
 use Rattle.std.specs.List.{list_any}
 use Rattle.php_graph.specs.declared.kind.Kind.{Kind}
 use Rattle.php_graph.specs.Size.{block_size}
+use Rattle.apcu_model.specs.Conf.{most_of}
+use Rattle.apcu_model.specs.declared.conf.Conf.{Conf}
 use Rattle.apcu_model.specs.declared.request.StoreAnswer.{StoreAnswer}
 use Rattle.apcu_model.specs.declared.request.StoreAnswer.TheVariants.{TooLarge, Exists, NoRoom}
 use Rattle.apcu_model.specs.declared.request.StoreAnswer.TheVariants.{Stored}
@@ -20,14 +22,21 @@ abbrev pub AreAlike : List ℕ → List ℕ → Type 0
 AreAlike held other =
     (at : ℕ) → list_any (λ place. place == at) held ≡ list_any (λ place. place == at) other
 
--- The rows that pass leave the rows. Those of them that are held go to the end of the removed rows,
--- by slot and place, with the time; the others are gone, and so are their blocks.
+-- which rows go, and in which order: those that pass, by slot and place
+abbrev pub leaving : Conf → (Row → Bool) → List Row → List Row
+leaving conf pass rows = in_slot_order conf (filter pass rows)
+
+-- the removed rows when these have gone: those of them that are held come last, with the time
+abbrev pub removed_with : List ℕ → ℕ → List Row → List Row → List Row
+removed_with held t gone removed =
+    removed ++ map {A = Row} (λ row. record row { dtime = t }) (filter (is_held held) gone)
+
+-- The rows that pass leave the rows. Those of them that are held become removed rows; the others
+-- are gone, and so are their blocks.
 abbrev pub dropped : List ℕ → ℕ → (Row → Bool) → Cache → Cache
 dropped held t pass c = record c {
   rows = filter (λ row. not (pass row)) c.rows;
-  removed = c.removed
-      ++ map {A = Row} (λ row. record row { dtime = t })
-      (filter (is_held held) (in_slot_order c.conf (filter pass c.rows)));
+  removed = removed_with held t (leaving c.conf pass c.rows) c.removed;
 }
 
 -- the removed rows that nobody copies any more are gone
@@ -136,12 +145,12 @@ put_in held key graph ttl t n c (Some place) = record {
   cache = placed held key graph ttl t n c place;
 }
 
--- A value is stored under a key: never one that an empty segment could not take; with `exclusive`
+-- A value is stored under a key: never one that the empty segments could not take; with `exclusive`
 -- never over a live row; else after room was made, with the old row's block still taken.
 abbrev pub inserted : List ℕ → List ℕ → List Kind → ℕ → Bool → ℕ → Cache → Insertion
 inserted held key graph ttl exclusive t c =
     let n = block_size (length key) graph in
     let room = with_room held n t c in
-    if nat_lt (c.conf.words - c.conf.slots) n then record { answer = TooLarge; cache = c }
+    if nat_lt (most_of c.conf) n then record { answer = TooLarge; cache = c }
     else if exclusive && is_some (live_row key t c) then record { answer = Exists; cache = c }
     else put_in held key graph ttl t n room (gap_of room n)

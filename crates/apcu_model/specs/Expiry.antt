@@ -7,9 +7,13 @@ use Rattle.apcu_model.specs.Cache.{Row, Cache, has_key}
 abbrev pub is_hard_expired : ℕ → Row → Bool
 is_hard_expired t row = nat_lt 0 row.ttl && nat_lt (row.ctime + row.ttl) t
 
+-- it has no time of its own, and was not used for longer than so many seconds; 0 is no limit
+abbrev pub is_unused : ℕ → ℕ → Row → Bool
+is_unused limit t row = row.ttl == 0 && nat_lt 0 limit && nat_lt (row.atime + limit) t
+
 -- it has no time of its own, and was not used for longer than the cache's: a look-up still finds it
 abbrev pub is_soft_expired : Conf → ℕ → Row → Bool
-is_soft_expired conf t row = row.ttl == 0 && nat_lt 0 conf.ttl && nat_lt (row.atime + conf.ttl) t
+is_soft_expired conf t row = is_unused conf.ttl t row
 
 abbrev pub is_expired : Conf → ℕ → Row → Bool
 is_expired conf t row = is_hard_expired t row || is_soft_expired conf t row

@@ -12,11 +12,7 @@ use Rattle.apcu_model.specs.declared.conf.Conf.{Conf}
 use Rattle.apcu_model.specs.declared.event.Event.{Event}
 use Rattle.apcu_model.specs.declared.journal.Mark.{Mark}
 use Rattle.apcu_model.specs.declared.request.Request.{Request}
-use Rattle.apcu_model.specs.declared.request.Request.TheVariants.{Store, Fetch, Exists, Delete}
-use Rattle.apcu_model.specs.declared.request.Request.TheVariants.{Inc, Cas, Entry, Clear, KeyInfo}
-use Rattle.apcu_model.specs.declared.request.Request.TheVariants.{CacheInfo, SmaInfo}
-use Rattle.apcu_model.specs.declared.request.Request.TheVariants.{Chunk, ChunkDelete}
-use Rattle.apcu_model.specs.declared.request.Request.TheVariants.{Totals, Retire}
+use Rattle.apcu_model.specs.declared.request.Request.TheVariants.{Entry, Fetch}
 use Rattle.apcu_model.specs.declared.request.Reply.{Reply}
 use Rattle.apcu_model.specs.Levels.{most_levels}
 use Rattle.apcu_model.specs.Cache.{Row, Cache, empty_cache}
@@ -79,20 +75,7 @@ opened_at worker (Some row) = if is_scalar row.graph then [] else (worker, row.n
 -- the window that a request opens
 abbrev pub opened : ℕ → ℕ → Request → Cache → List (ℕ × ℕ)
 opened worker t (Fetch key) c = opened_at worker (live_row key t c)
-opened worker t (Store key value ttl exclusive) c = []
-opened worker t (Exists key) c = []
-opened worker t (Delete key) c = []
-opened worker t (Inc key step ttl) c = []
-opened worker t (Cas key expect set) c = []
-opened worker t (Entry g) c = []
-opened worker t Clear c = []
-opened worker t (KeyInfo key) c = []
-opened worker t (CacheInfo limited) c = []
-opened worker t (SmaInfo limited) c = []
-opened worker t (Chunk wanted from size list fields) c = []
-opened worker t (ChunkDelete wanted from size) c = []
-opened worker t (Totals wanted list) c = []
-opened worker t Retire c = []
+opened worker t _ c = []
 
 abbrev pub reply_in : Stage → Event → Reply
 reply_in m e = reply_to (held_places m e.mask) e.t e.request m.cache

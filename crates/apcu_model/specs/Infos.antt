@@ -1,4 +1,6 @@
 -- What the information calls answer: arrays of named fields, some of them lists of such arrays.
+use Rattle.std.specs.List.{range_with_len}
+use Rattle.std.specs.Prelude.{◌/◌, ◌%◌, ◌==◌, filter}
 use Rattle.std.specs.Prelude.{ℕ, ◌+◌, ◌-◌, ◌*◌, ◌^◌, min, pos, Bool, if◌then◌else◌, List, [], ◌∷◌}
 use Rattle.std.specs.Prelude.{◌++◌, length, map, sum_by, codes, Option, option_map}
 use Rattle.seg_words.specs.declared.extents.Extent.{Extent}
@@ -9,6 +11,7 @@ use Rattle.php_graph.specs.declared.child.Child.{Child}
 use Rattle.php_graph.specs.declared.child.Child.TheVariants.{Own}
 use Rattle.php_graph.specs.declared.kind.Kind.{Kind}
 use Rattle.php_graph.specs.declared.kind.Kind.TheVariants as kinds
+use Rattle.apcu_model.specs.Conf.{piece_of}
 use Rattle.apcu_model.specs.declared.conf.Conf.{Conf}
 use Rattle.apcu_model.specs.declared.counts.Counts.{Counts}
 use Rattle.apcu_model.specs.declared.noted.Noted.{Noted}
@@ -142,11 +145,12 @@ row_words c = sum_by (λ (row : Row). row.size) c.rows
 
 -- ---- a segment
 
--- what apcu_sma_info tells always: the words of the segment, and how many of them are free
-abbrev pub told_words : ℕ → ℕ → List (Key × Told)
-told_words words free =
-    told_field (codes "num_seg") (told_number 1)
-    ∷ told_field (codes "seg_size") (told_number (word_bytes words))
+-- what apcu_sma_info tells always: how many segments there are, the words of each, and how many of
+-- all their words are free
+abbrev pub told_words : Conf → ℕ → List (Key × Told)
+told_words conf free =
+    told_field (codes "num_seg") (told_number conf.segments)
+    ∷ told_field (codes "seg_size") (told_number (word_bytes (piece_of conf)))
     ∷ told_field (codes "avail_mem") (told_number (word_bytes free))
     ∷ []
 
@@ -159,14 +163,25 @@ gap_fields gap =
 abbrev pub told_gap : Extent → Told
 told_gap gap = told_array (gap_fields gap)
 
--- and where it is not limited, the gaps of the one segment
-abbrev pub told_gaps : List Extent → List (Key × Told)
-told_gaps gaps =
-    told_field (codes "block_lists") (told_list (told_list (map told_gap gaps) ∷ [])) ∷ []
+-- the gaps of the k-th segment of so many words, by their places in it
+abbrev pub gaps_in : ℕ → List Extent → ℕ → List Extent
+gaps_in piece gaps k =
+    map (λ (gap : Extent). record { place = gap.place % piece; size = gap.size })
+    (filter (λ (gap : Extent). gap.place / piece == k) gaps)
+
+abbrev pub told_segment : ℕ → List Extent → ℕ → Told
+told_segment piece gaps k = told_list (map told_gap (gaps_in piece gaps k))
+
+-- and where it is not limited, the gaps of each segment
+abbrev pub told_gaps : Conf → List Extent → List (Key × Told)
+told_gaps conf gaps =
+    told_field (codes "block_lists")
+    (told_list (map (told_segment (piece_of conf) gaps) (range_with_len 0 conf.segments))) ∷ []
 
 -- the runs of words that no block takes, those of removed rows included, by rising place
 abbrev pub gaps_of : Cache → List Extent
-gaps_of c = free_runs c.conf.slots c.conf.words (map extent_of (c.rows ++ c.removed))
+gaps_of c =
+    free_runs c.conf.slots c.conf.words (piece_of c.conf) (map extent_of (c.rows ++ c.removed))
 
 abbrev pub gap_words_of : Cache → ℕ
 gap_words_of c = sum_by (λ (gap : Extent). gap.size) (gaps_of c)
@@ -186,8 +201,8 @@ cache_info_of limited c =
     let removed = map listed_of c.removed in
     told_array (if limited then counts else counts ++ told_rows rows removed) 1
 
--- Of the segment: its words and those that are free; unless limited also its gaps.
+-- Of the segments: their words and those that are free; unless limited also their gaps.
 abbrev pub sma_info_of : Bool → Cache → List Kind
 sma_info_of limited c =
-    let words = told_words c.conf.words (gap_words_of c) in
-    told_array (if limited then words else words ++ told_gaps (gaps_of c)) 1
+    let words = told_words c.conf (gap_words_of c) in
+    told_array (if limited then words else words ++ told_gaps c.conf (gaps_of c)) 1

@@ -18,3 +18,4 @@ pub mod Sequential
 pub mod History
 pub mod Journal
 pub mod Asking
+pub mod Laws

@@ -49,18 +49,7 @@ abbrev pub is_iteration : Request → Bool
 is_iteration (Chunk wanted from size list fields) = true
 is_iteration (ChunkDelete wanted from size) = true
 is_iteration (Totals wanted list) = true
-is_iteration (Store key value ttl exclusive) = false
-is_iteration (Fetch key) = false
-is_iteration (Exists key) = false
-is_iteration (Delete key) = false
-is_iteration (Inc key step ttl) = false
-is_iteration (Cas key expect set) = false
-is_iteration (Entry g) = false
-is_iteration Clear = false
-is_iteration (KeyInfo key) = false
-is_iteration (CacheInfo limited) = false
-is_iteration (SmaInfo limited) = false
-is_iteration Retire = false
+is_iteration _ = false
 
 abbrev pub reply_to : List ℕ → ℕ → Request → Cache → Reply
 reply_to held t (Store key value ttl exclusive) c =

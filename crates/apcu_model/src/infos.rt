@@ -3,6 +3,7 @@
 ghost use Rattle.std.specs.Prelude.{◌≡◌, ◌+◌, ◌<◌, ◌^◌, ◌++◌, [], ◌∷◌, map, filter, reverse};
 ghost use Rattle.std.specs.Prelude.{if◌then◌else◌, ◌≤◌, sum_by, IfOk, OnOk};
 ghost use Rattle.seg_words.specs.Gaps.{free_runs, is_free, meets, with_word};
+ghost use Rattle.apcu_model.specs.Conf.{piece_of};
 ghost use Rattle.apcu_model.specs.Cache.{Row};
 ghost use Rattle.apcu_model.specs.Infos.{cache_info_of, gap_words_of, gaps_of, key_info_of};
 ghost use Rattle.apcu_model.specs.Infos.{listed_of, noted_of};
@@ -17,7 +18,7 @@ use crate::rows::{list_extents, live_in};
 use crate::state::State;
 use crate::tables::{tell_cache, tell_counts, tell_gaps, tell_key, tell_words};
 use php_graph::{Bytes, Graph};
-use seg_words::Extent;
+use seg_words::{Extent, begins_segment};
 use std::alloc::{AllocError, Global};
 
 impl Entry {
@@ -93,17 +94,17 @@ fn words_of(rows: &[Entry]) -> u64
 }
 
 // A word comes before the gaps, which are listed by falling place.
-fn put_word(gaps: &mut Vec<Extent>, word: u32) -> Result<(), AllocError>
+fn put_word(gaps: &mut Vec<Extent>, word: u32, piece: u32) -> Result<(), AllocError>
     requires { word + sum_by (λ (gap : Extent). gap.size) gaps.old.items + 1 < 2 ^ 32 }
     ensures gaps { OnOk result
-        (reverse gaps.new.items ≡ with_word word (reverse gaps.old.items)) }
+        (reverse gaps.new.items ≡ with_word piece word (reverse gaps.old.items)) }
     ensures words { OnOk result (sum_by (λ (gap : Extent). gap.size) gaps.new.items
         ≡ sum_by (λ (gap : Extent). gap.size) gaps.old.items + 1) }
 {
     let Some(gap) = gaps.pop() else {
         return put(gaps, word, 1);
     };
-    if gap.place == word + 1 {
+    if gap.place == word + 1 && !begins_segment(piece, gap.place) {
         return put(gaps, word, gap.size + 1);
     }
     gaps.push(gap)?;
@@ -145,13 +146,14 @@ fn is_free_word(extents: &[Extent], word: u32) -> bool
 fn look_at_word(
     extents: &[Extent],
     word: u32,
+    piece: u32,
     gaps: &mut Vec<Extent>,
     free: u32,
 ) -> Result<u32, AllocError>
     requires room { word + free + 1 < 2 ^ 32 }
     requires free { free ≡ sum_by (λ (gap : Extent). gap.size) gaps.old.items }
     ensures gaps { OnOk result (reverse gaps.new.items
-        ≡ (if is_free word 1 extents.now then with_word word (reverse gaps.old.items)
+        ≡ (if is_free word 1 extents.now then with_word piece word (reverse gaps.old.items)
         else reverse gaps.old.items)) }
     ensures free { IfOk result (λ n. n ≡ sum_by (λ (gap : Extent). gap.size) gaps.new.items) }
     ensures few { IfOk result (λ n. n ≤ free + 1) }
@@ -159,7 +161,7 @@ fn look_at_word(
     if !is_free_word(extents, word) {
         return Ok(free);
     }
-    put_word(gaps, word)?;
+    put_word(gaps, word, piece)?;
     Ok(free + 1)
 }
 
@@ -170,14 +172,15 @@ fn gaps_beside(
     extents: &[Extent],
 ) -> Result<(Vec<Extent>, u32), AllocError>
     ensures gaps { IfOk result
-        (λ r. r.0.items ≡ free_runs conf.slots conf.words extents.now) }
+        (λ r. r.0.items ≡ free_runs conf.slots conf.words (piece_of conf) extents.now) }
     ensures words { IfOk result
         (λ r. r.1 ≡ sum_by (λ (gap : Extent). gap.size) r.0.items) }
 {
     let mut gaps = Vec::new(alloc);
     let mut free = 0;
+    let piece = conf.piece();
     for i in 0..conf.words.saturating_sub(conf.slots) {
-        free = look_at_word(extents, conf.words - (i + 1), &mut gaps, free)?;
+        free = look_at_word(extents, conf.words - (i + 1), piece, &mut gaps, free)?;
     }
     gaps.reverse();
     Ok((gaps, free))
@@ -221,12 +224,13 @@ impl State {
 
     // What is told of the segment.
     pub(crate) fn sma_info(&self, limited: bool) -> Result<Graph, AllocError>
+        requires { IsValid self.now }
         ensures { IfOk result (λ g. g ≡ sma_info_of limited (cache_in self.now)) }
     {
         let (gaps, free) = self.gaps()?;
         if limited {
-            return tell_words(self.alloc, self.conf.words, free);
+            return tell_words(self.alloc, self.conf, free);
         }
-        tell_gaps(self.alloc, self.conf.words, free, &gaps)
+        tell_gaps(self.alloc, self.conf, free, &gaps)
     }
 }

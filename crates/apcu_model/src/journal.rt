@@ -4,6 +4,9 @@ ghost use Rattle.std.specs.Prelude.{slice_get, Some};
 use std::alloc::{AllocError, Global};
 use std::marker::Model;
 
+/// The most events that the workers of one cache may make, all together.
+pub const MOST_EVENTS: u64 = 4_194_304;
+
 /// One line of a journal: whose event it was, and which workers were still copying.
 #[derive(Clone, Copy, Debug, PartialEq, Eq)]
 pub struct Mark {

@@ -31,22 +31,6 @@ impl Keys {
         }
     }
 
-    /// The keys of this list. It takes no memory.
-    pub fn from_vec(keys: Vec<Bytes>) -> Keys
-        requires { length keys.items < 2 ^ 32 }
-        ensures { result ≡ keys.items }
-    {
-        Keys { keys }
-    }
-
-    /// The list again. It takes no memory.
-    pub fn into_vec(self) -> Vec<Bytes>
-        ensures items { result.items ≡ self }
-        ensures few { length result.items < 2 ^ 32 }
-    {
-        self.keys
-    }
-
     /// Adds a key at the end. Without memory the keys stay as they were, and the new one is
     /// dropped.
     pub fn push(&mut self, key: Bytes) -> Result<(), AllocError>

@@ -26,15 +26,16 @@ mod telling;
 mod value;
 
 pub use ask::Ask;
-pub use conf::Conf;
+pub use conf::{Conf, MOST_SEGMENTS, MOST_SLOTS, MOST_WORDS};
 pub use counts::Counts;
 pub use event::Event;
 pub use generator::{Gen, GenKind};
 pub use items::{Chunk, ItemRow, Items};
-pub use journal::{Journal, Mark};
+pub use journal::{Journal, MOST_EVENTS, Mark};
 pub use keys::Keys;
 pub use laws::{
-    count_laws, held_alike, numbered, one_event_more, order_single, rows_stay_apart, works_alone,
+    count_laws, events_keep, held_alike, numbered, one_event_more, order_single, rows_stay_apart,
+    works_alone,
 };
 pub use noted::{ListedRow, Noted};
 pub use pairs::Pairs;

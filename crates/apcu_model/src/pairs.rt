@@ -32,22 +32,6 @@ impl Pairs {
         }
     }
 
-    /// The pairs of this list. It takes no memory.
-    pub fn from_vec(pairs: Vec<(Bytes, Graph)>) -> Pairs
-        requires { length pairs.items < 2 ^ 32 }
-        ensures { result ≡ pairs.items }
-    {
-        Pairs { pairs }
-    }
-
-    /// The list again. It takes no memory.
-    pub fn into_vec(self) -> Vec<(Bytes, Graph)>
-        ensures items { result.items ≡ self }
-        ensures few { length result.items < 2 ^ 32 }
-    {
-        self.pairs
-    }
-
     /// Adds a pair at the end. Without memory the pairs stay as they were, and the new one is
     /// dropped.
     pub fn push(&mut self, key: Bytes, value: Graph) -> Result<(), AllocError>

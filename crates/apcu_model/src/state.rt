@@ -6,6 +6,7 @@ ghost use Rattle.apcu_model.specs.Change.{cleared, deleted, expired_dropped, exp
 ghost use Rattle.apcu_model.specs.Change.{placed, put_in, with_room};
 ghost use Rattle.apcu_model.specs.Expiry.{live_row};
 ghost use Rattle.apcu_model.specs.Rows.{IsValid, cache_in};
+ghost use Rattle.apcu_model.specs.Conf.{IsGood};
 ghost use Rattle.apcu_model.specs.Lookups.{looked_up};
 ghost use Rattle.apcu_model.specs.Sequential.{found_in, is_stored};
 
@@ -44,12 +45,19 @@ struct Draft {
 impl State {
     // The least place where a block of so many words fits. The list has room for all blocks.
     fn gap(&self, n: u32, extents: &mut Vec<Extent>) -> Option<u32>
-        requires { vec_len self.now.rows ≤ vec_capacity extents.old }
+        requires room { vec_len self.now.rows ≤ vec_capacity extents.old }
+        requires good { IsGood self.now.conf }
         ensures place { result ≡ gap_of (cache_in self.now) n }
         ensures capacity { vec_capacity extents.new ≡ vec_capacity extents.old }
     {
         list_extents(&self.rows, extents);
-        first_fit(self.conf.slots, self.conf.words, n, extents)
+        first_fit(
+            self.conf.slots,
+            self.conf.words,
+            self.conf.piece(),
+            n,
+            extents,
+        )
     }
 
     // Expired rows go, where the cache has a time limit.
@@ -195,7 +203,7 @@ impl State {
         live_in(&self.rows, key, t).is_some()
     }
 
-    // What is to be inserted: nothing where an empty segment could not take it, or where it is
+    // What is to be inserted: nothing where the empty segments could not take it, or where it is
     // exclusive and a live row has the key.
     fn draft(&self, key: Bytes, value: Graph, ttl: u32, exclusive: bool, t: u64) -> Option<Draft>
         requires { IsValid self.now }
@@ -207,7 +215,7 @@ impl State {
             i ≡ put_in [] d.key d.graph d.ttl t d.size room (gap_of room d.size)) }
     {
         let size = block_words(key.as_slice().len() as u64, &value);
-        if u64::from(self.conf.words - self.conf.slots) < size {
+        if u64::from(self.conf.most()) < size {
             return None;
         }
         if exclusive && self.is_live(key.as_slice(), t) {

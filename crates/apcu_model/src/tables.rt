@@ -4,15 +4,21 @@ ghost use Rattle.std.specs.Prelude.{◌≡◌, ◌+◌, ◌++◌, ◌≤◌, ◌
 ghost use Rattle.std.specs.List.{AllByRecursion};
 ghost use Rattle.php_graph.specs.ByteStrings.{AreBytes};
 ghost use Rattle.apcu_model.specs.Infos.{told_array, told_counts, told_gap, told_gaps, told_list};
+ghost use Rattle.apcu_model.specs.Infos.{gaps_in, told_members, told_numbered, told_segment};
 ghost use Rattle.apcu_model.specs.Infos.{told_values};
+ghost use Rattle.apcu_model.specs.Conf.{IsGood};
+ghost use Rattle.php_graph.specs.Size.{cells_of};
+ghost use Rattle.php_graph.specs.declared.kind.Kind.TheVariants as kinds;
+ghost use Rattle.std.specs.List.{range_with_len};
+ghost use Rattle.std.specs.Prelude.{◌<◌};
 ghost use Rattle.apcu_model.specs.Telling.{IsTellable};
 ghost use Rattle.apcu_model.specs.Infos.{told_notes, told_row, told_rows, told_words, word_bytes};
 
 use crate::conf::Conf;
 use crate::counts::Counts;
 use crate::noted::{ListedRow, Noted};
-use crate::telling::{Telling, array_of, list_of};
-use php_graph::{Graph, MOST_VALUES};
+use crate::telling::{Telling, array_of, item, list_of};
+use php_graph::{Graph, Kind, MOST_VALUES, Members};
 use seg_words::Extent;
 use std::alloc::{AllocError, Global};
 
@@ -248,9 +254,81 @@ fn cache_places(
     Ok(telling)
 }
 
-/// What `apcu_sma_info` tells of a segment without its gaps: its words, and how many are free.
-pub fn tell_words(alloc: Global, words: u32, free: u32) -> Result<Graph, AllocError>
-    ensures { IfOk result (λ g. g ≡ told_array (told_words words free) 1) }
+// The gaps of one segment, by their places in it.
+fn gaps_in(alloc: Global, piece: u32, gaps: &[Extent], k: u32) -> Result<Vec<Extent>, AllocError>
+    requires { 0 < piece }
+    ensures gaps { IfOk result (λ list. list.items ≡ gaps_in piece gaps.now k) }
+{
+    let mut list = Vec::new(alloc);
+    for gap in gaps {
+        if gap.place / piece == k {
+            list.push(Extent {
+                place: gap.place % piece,
+                size: gap.size,
+            })?;
+        }
+    }
+    Ok(list)
+}
+
+// The list of the segments' lists of gaps, which begin at `place`; and how many words its own place
+// has in an image.
+fn segment_lists(
+    alloc: Global,
+    piece: u32,
+    gaps: &[Extent],
+    segments: u32,
+    place: u32,
+) -> Result<(Kind, u64), AllocError>
+    requires some { 0 < piece }
+    requires few { (length gaps.now ≤ 2 ^ 24) × (segments ≤ 64) × (place ≤ 2 ^ 25) }
+    ensures kind { IfOk result (λ r. r.0 ≡ kinds.Array (told_members place (told_numbered 0 (map
+        (told_segment piece gaps.now) (range_with_len 0 segments))))) }
+    ensures cells { IfOk result (λ r. r.1 ≡ cells_of r.0) }
+    ensures small { IfOk result (λ r. r.1 ≤ 2 ^ 34) }
+{
+    let mut items = Vec::with_capacity(alloc, segments as usize)?;
+    let mut next = place;
+    for k in 0..segments {
+        let list = gaps_in(alloc, piece, gaps, k)?;
+        items.push(item(k, next))?;
+        next += 1 + GAP_PLACES * list.len() as u32;
+    }
+    let kind = Kind::Array(Members::from_vec(items));
+    Ok((kind, 1 + 3 * u64::from(segments)))
+}
+
+// A list of the gaps of each segment.
+fn push_segments(
+    telling: &mut Telling,
+    alloc: Global,
+    piece: u32,
+    gaps: &[Extent],
+    segments: u32,
+) -> Result<(), AllocError>
+    requires some { 0 < piece }
+    requires few { segments ≤ 64 }
+    ensures told { OnOk result (telling.new ≡ telling.old ++ told_list (map
+        (told_segment piece gaps.now) (range_with_len 0 segments)) (length telling.old + 1)) }
+    ensures few { OnOk result (length gaps.now ≤ 2 ^ 32) }
+{
+    if gaps.len() > MOST_VALUES as usize {
+        return Err(AllocError);
+    }
+    let place = telling.len() + 1;
+    let (kind, cells) = segment_lists(alloc, piece, gaps, segments, place + 1)?;
+    telling.push(kind, cells)?;
+    for k in 0..segments {
+        let list = gaps_in(alloc, piece, gaps, k)?;
+        push_gaps(telling, alloc, &list)?;
+    }
+    Ok(())
+}
+
+/// What `apcu_sma_info` tells of the segments without their gaps: how many there are, the words of
+/// each, and how many of all words are free.
+pub fn tell_words(alloc: Global, conf: Conf, free: u32) -> Result<Graph, AllocError>
+    ensures { IfOk result (λ g. g ≡ told_array (told_words conf free) 1) }
 {
     let (first, cells) = array_of(
         alloc,
@@ -258,28 +336,34 @@ pub fn tell_words(alloc: Global, words: u32, free: u32) -> Result<Graph, AllocEr
         2,
     )?;
     let mut telling = Telling::new(alloc, first, cells);
-    telling.push_numbers(&[1, bytes_in(words), bytes_in(free)])?;
+    telling.push_numbers(&[
+        u64::from(conf.segments),
+        bytes_in(conf.piece()),
+        bytes_in(free),
+    ])?;
     Ok(telling.finish())
 }
 
-/// What `apcu_sma_info` tells of a segment with its gaps.
-pub fn tell_gaps(alloc: Global, words: u32, free: u32, gaps: &[Extent]) -> Result<Graph, AllocError>
+/// What `apcu_sma_info` tells of the segments with their gaps.
+pub fn tell_gaps(alloc: Global, conf: Conf, free: u32, gaps: &[Extent]) -> Result<Graph, AllocError>
+    requires { IsGood conf }
     ensures { IfOk result
-        (λ g. g ≡ told_array (told_words words free ++ told_gaps gaps.now) 1) }
+        (λ g. g ≡ told_array (told_words conf free ++ told_gaps conf gaps.now) 1) }
 {
-    let telling = segment_places(alloc, words, free, gaps)?;
+    let telling = segment_places(alloc, conf, free, gaps)?;
     Ok(telling.finish())
 }
 
-// The places of a segment with its gaps.
+// The places of the segments with their gaps.
 fn segment_places(
     alloc: Global,
-    words: u32,
+    conf: Conf,
     free: u32,
     gaps: &[Extent],
 ) -> Result<Telling, AllocError>
+    requires { IsGood conf }
     ensures told { IfOk result
-        (λ t. t ≡ told_array (told_words words free ++ told_gaps gaps.now) 1) }
+        (λ t. t ≡ told_array (told_words conf free ++ told_gaps conf gaps.now) 1) }
     ensures tellable { IfOk result (λ t. IsTellable t) }
 {
     let (first, cells) = array_of(
@@ -292,11 +376,9 @@ fn segment_places(
         ],
         2,
     )?;
+    let piece = conf.piece();
     let mut telling = Telling::new(alloc, first, cells);
-    telling.push_numbers(&[1, bytes_in(words), bytes_in(free)])?;
-    // the one segment's list, in a list of all segments
-    let (kind, cells) = list_of(alloc, 1, 1, 6)?;
-    telling.push(kind, cells)?;
-    push_gaps(&mut telling, alloc, gaps)?;
+    telling.push_numbers(&[u64::from(conf.segments), bytes_in(piece), bytes_in(free)])?;
+    push_segments(&mut telling, alloc, piece, gaps, conf.segments)?;
     Ok(telling)
 }

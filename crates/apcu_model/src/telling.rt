@@ -153,7 +153,7 @@ pub(crate) fn array_of(
 }
 
 // The member of a list under this key, whose value begins at `place`.
-fn item(i: u32, place: u32) -> (Key, Child)
+pub(crate) fn item(i: u32, place: u32) -> (Key, Child)
     ensures { result ≡ (keys.Int (pos i), Own place) }
 {
     (Key::Int(i64::from(i)), Child::Own(place))

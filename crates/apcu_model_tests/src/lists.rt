@@ -25,13 +25,14 @@ fn expect_two(rt: &impl Abort, pairs: &Pairs) {
 }
 
 // The keys of the pairs that are not stored.
-fn failed_of(rt: &impl Abort, alloc: Global, pairs: Pairs) -> Result<Keys, Fail> {
+fn failed_of(rt: &impl Abort, alloc: Global, pairs: &Pairs) -> Result<Keys, Fail> {
     let mut plain = Plain::new(alloc, &small(0));
     let mut failed = Keys::new(alloc);
     assert!(rt; failed.is_empty());
-    for (key, value) in pairs.into_vec() {
+    for (key, value) in pairs.as_slice() {
         let name = Bytes::of(alloc, key.as_slice())?;
-        if !plain.store(key, value, 0, false, 100)? {
+        let copy = Bytes::of(alloc, key.as_slice())?;
+        if !plain.store(copy, value.try_copy(alloc)?, 0, false, 100)? {
             assert!(rt; failed.len() < 2);
             failed.push(name)?;
         }
@@ -50,14 +51,14 @@ fn expect_key(rt: &impl Abort, keys: &Keys, text: &[u8]) {
 fn stores_pairs(rt: HostRuntime) -> Result<(), Fail> {
     let pairs = two_pairs(&rt, rt.alloc())?;
     expect_two(&rt, &pairs);
-    let failed = failed_of(&rt, rt.alloc(), pairs)?;
-    expect_key(&rt, &Keys::from_vec(failed.into_vec()), b"k02");
+    let failed = failed_of(&rt, rt.alloc(), &pairs)?;
+    expect_key(&rt, &failed, b"k02");
     Ok(())
 }
 
-fn misses_of(alloc: Global, keys: Keys) -> u64 {
+fn misses_of(alloc: Global, keys: &Keys) -> u64 {
     let mut plain = Plain::new(alloc, &small(0));
-    for key in keys.into_vec() {
+    for key in keys.as_slice() {
         plain.note_fetch(key.as_slice(), 100);
     }
     plain.counts().misses
@@ -67,8 +68,8 @@ fn misses_of(alloc: Global, keys: Keys) -> u64 {
 #[test]
 fn fetches_no_keys(rt: HostRuntime) -> Result<(), Fail> {
     let alloc = rt.alloc();
-    assert_eq!(rt; misses_of(alloc, Keys::new(alloc)), 0);
-    let none = Pairs::from_vec(Pairs::new(alloc).into_vec());
+    assert_eq!(rt; misses_of(alloc, &Keys::new(alloc)), 0);
+    let none = Pairs::new(alloc);
     assert!(rt; none.is_empty());
     Ok(())
 }

@@ -373,6 +373,7 @@ pub(crate) fn small(ttl: u32) -> Conf
         words: 512,
         slots: 32,
         ttl,
+        segments: 1,
     }
 }
 

@@ -3,3 +3,4 @@ pub mod Written
 pub mod Parts
 pub mod Whole
 pub mod Unmet
+pub mod Taken

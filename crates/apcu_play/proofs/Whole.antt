@@ -3,6 +3,7 @@ use Rattle.std.proofs.Common.{◌≡◌, ◌≢◌, ◌<◌, ◌≤◌, ℕ, Lis
 use Rattle.std.specs.Prelude.{Bool, IfSome}
 use Rattle.io_edges.specs.Faults.{Rose}
 use Rattle.apcu_model.specs.declared.conf.Conf.{Conf}
+use Rattle.conf_read.specs.declared.settings.Settings.{Settings}
 use Rattle.script_read.specs.declared.script.Step.{Step}
 use Rattle.apcu_play.specs.declared.status.Status.{Status}
 use Rattle.apcu_play.specs.declared.status.Status.TheVariants.{Done, Usage, Script, ReadFault, WriteFault, NoMemory, TooLong, TooMany, Pattern}
@@ -134,20 +135,20 @@ module _ (one : ScriptsAreOne) (may_refuse : Bool → List ℕ → Type 0) (conf
   completes status e = record { done = done_by status e; too_many = too_many_by status e; refused = refused_by status e; too_long = too_long_by status e }
 
 -- the same of the cache that the words tell, if they tell one
-pub completes_if : (one : ScriptsAreOne) (may_refuse : Bool → List ℕ → Type 0) (told : Option Conf) (before after held_before held_after : Option (List ℕ)) (reads_before reads_after writes_before writes_after : ℕ) (status : Status)
-    → IfSome told (λ conf. status ≡ Done → Replays conf before after held_before held_after)
+pub completes_if : (one : ScriptsAreOne) (may_refuse : Bool → List ℕ → Type 0) (told : Option Settings) (before after held_before held_after : Option (List ℕ)) (reads_before reads_after writes_before writes_after : ℕ) (status : Status)
+    → IfSome told (λ s. status ≡ Done → Replays s.conf before after held_before held_after)
     → (status ≡ Usage → told ≡ None)
     → (status ≡ Script → IsRefused before after)
-    → IfSome told (λ conf. status ≡ TooMany → IsCrowded conf before after)
-    → IfSome told (λ conf. status ≡ Pattern → IsUnsearchable may_refuse conf before after)
+    → IfSome told (λ s. status ≡ TooMany → IsCrowded s.conf before after)
+    → IfSome told (λ s. status ≡ Pattern → IsUnsearchable may_refuse s.conf before after)
     → (status ≡ TooLong → IfSome before (λ left. longest_input < length left))
     → (status ≡ ReadFault → Rose reads_before reads_after)
     → (status ≡ WriteFault → Rose writes_before writes_after)
-    → IfSome told (λ conf. status ≡ WriteFault → ReplaysPart conf before after held_before held_after)
-    → IfSome told (λ conf. Completes may_refuse conf status before reads_before reads_after writes_before writes_after)
+    → IfSome told (λ s. status ≡ WriteFault → ReplaysPart s.conf before after held_before held_after)
+    → IfSome told (λ s. Completes may_refuse s.conf status before reads_before reads_after writes_before writes_after)
 completes_if one may_refuse None before after held_before held_after reads_before reads_after writes_before writes_after status replayed usage script too_many pattern longer read_fault write_fault cut = tt
-completes_if one may_refuse (Some conf) before after held_before held_after reads_before reads_after writes_before writes_after status replayed usage script too_many pattern longer read_fault write_fault cut =
-    completes one may_refuse conf before after held_before held_after reads_before reads_after writes_before writes_after status
+completes_if one may_refuse (Some s) before after held_before held_after reads_before reads_after writes_before writes_after status replayed usage script too_many pattern longer read_fault write_fault cut =
+    completes one may_refuse s.conf before after held_before held_after reads_before reads_after writes_before writes_after status
     (record {
       replayed = replayed;
       usage = λ is. absurd (some_is_not_none (usage is));
@@ -160,7 +161,7 @@ completes_if one may_refuse (Some conf) before after held_before held_after read
       cut = cut;
     })
   where
-    some_is_not_none : Some conf ≡ None → ⊥
+    some_is_not_none : Some s ≡ None → ⊥
     some_is_not_none e = cc
 
 -- a script's fault was told

@@ -8,7 +8,7 @@ use Rattle.apcu_model.specs.History.{is_in_mask}
 use Rattle.script_read.specs.declared.script.Step.{Step}
 use Rattle.script_read.specs.Grammar.{ends_line}
 use Rattle.script_read.specs.Play.{Play, played, IsLegal, IsCompletePlay}
-use Rattle.crew_play.specs.Played.{texts_of}
+use Rattle.reply_text.specs.Lines.{texts_of}
 
 -- for each worker, from number w on, its line and then its text
 abbrev pub worker_texts : ℕ → List (List ℕ) → List ℕ

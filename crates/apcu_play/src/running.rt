@@ -3,12 +3,12 @@ ghost use Rattle.std.specs.Prelude.{None};
 ghost use Rattle.std.specs.Prelude.{IfOk, IfErr, IfSome, OnErr, IsErrOf, Err};
 ghost use Rattle.std.specs.Io.KnownBytes.{prepend_known, append_known, IsAtEnd};
 ghost use Rattle.io_edges.specs.Faults.{Rose};
-ghost use Rattle.io_edges.specs.Reading.{HasTaken};
+ghost use Rattle.io_edges.specs.Reading.{HasTaken, HasTakenWithin};
 ghost use Rattle.apcu_model.specs.Conf.{IsGood};
 ghost use Rattle.script_read.specs.Gives.{IsFirstScriptFault, ReadsScripts};
 ghost use Rattle.apcu_play.specs.Message.{message_of, script_message};
 ghost use Rattle.apcu_play.specs.Output.{worker_texts};
-ghost use Rattle.conf_read.specs.Options.{conf_of};
+ghost use Rattle.conf_read.specs.Options.{settings_of};
 ghost use Rattle.apcu_play.specs.Run.{longest_input, WasRead, AnswersInput, Replays, ReplaysPart};
 ghost use Rattle.apcu_play.specs.Run.{IsRefusedAt, IsRefused, IsCrowded, IsUnsearchable};
 ghost use Rattle.apcu_play.specs.Run.{TellsMessage};
@@ -20,12 +20,13 @@ use crate::printing::print;
 use crate::status::Status;
 use apcu_iter::Maker;
 use apcu_model::Conf;
-use conf_read::{ConfFault, read_conf};
+use conf_read::{ConfFault, read_settings};
 use crew_play::CrewFault;
 use io_edges::{Gate, ReadError, Sink, Source, read_all};
 use notation::Reason;
 use script_read::{ScriptFault, read_scripts, readings_are_scripts};
 use std::alloc::Global;
+use std::mem::forget;
 use std::sync::Wait;
 use std::thread::Threads;
 
@@ -40,6 +41,8 @@ fn input_of<S: Source>(alloc: Global, input: &mut S) -> Result<Vec<u8>, Status>
         → HasTaken (S.left input.old) (S.left input.new) (longest_input + 1) }
     ensures longer { IsErrOf result Status.TooLong
         → IfSome (S.left input.old) (λ left. longest_input < length left) }
+    ensures within { ¬ IsErrOf result Status.TooLong
+        → HasTakenWithin (S.left input.old) (S.left input.new) longest_input }
     ensures fault { IsErrOf result Status.ReadFault
         → Rose (S.faults input.old) (S.faults input.new) }
     ensures others { OnErr result ((IsErrOf result Status.TooLong)
@@ -114,6 +117,8 @@ fn answer<R: Threads + Wait + Sync, S: Source, M: Maker + Sync, G: Gate + Sync>(
         → HasTaken (S.left input.old) (S.left input.new) (longest_input + 1)) }
     ensures longer { IfErr result (λ e. e.status ≡ Status.TooLong
         → IfSome (S.left input.old) (λ left. longest_input < length left)) }
+    ensures within { IfErr result (λ e. e.status ≢ Status.TooLong
+        → HasTakenWithin (S.left input.old) (S.left input.new) longest_input) }
     ensures fault { IfErr result (λ e. e.status ≡ Status.ReadFault
         → Rose (S.faults input.old) (S.faults input.new)) }
     ensures others { IfErr result (λ e. (e.status ≢ Status.Done)
@@ -124,12 +129,17 @@ fn answer<R: Threads + Wait + Sync, S: Source, M: Maker + Sync, G: Gate + Sync>(
         Err(status) => return Err(Ending::of(status)),
     };
     match read_scripts(alloc, &bytes) {
-        Ok(scripts) => match play(rt, alloc, conf, &scripts, maker, gate) {
-            Ok(printed) => Ok(printed),
-            Err(CrewFault::TooMany) => Err(Ending::of(Status::TooMany)),
-            Err(CrewFault::Pattern) => Err(Ending::of(Status::Pattern)),
-            Err(CrewFault::Memory) => Err(Ending::of(Status::NoMemory)),
-        },
+        Ok(scripts) => {
+            let played = play(rt, alloc, conf, &scripts, maker, gate);
+            // The program ends soon, and its memory goes at once.
+            forget(scripts);
+            match played {
+                Ok(printed) => Ok(printed),
+                Err(CrewFault::TooMany) => Err(Ending::of(Status::TooMany)),
+                Err(CrewFault::Pattern) => Err(Ending::of(Status::Pattern)),
+                Err(CrewFault::Memory) => Err(Ending::of(Status::NoMemory)),
+            }
+        }
         Err(fault) => Err(ending_of(&fault)),
     }
 }
@@ -159,6 +169,8 @@ fn outcome_on<R: Threads + Wait + Sync, S: Source, K: Sink, M: Maker + Sync, G: 
         → HasTaken (S.left input.old) (S.left input.new) (longest_input + 1) }
     ensures longer { result.status ≡ Status.TooLong
         → IfSome (S.left input.old) (λ left. longest_input < length left) }
+    ensures within { result.status ≢ Status.TooLong
+        → HasTakenWithin (S.left input.old) (S.left input.new) longest_input }
     ensures read_fault { result.status ≡ Status.ReadFault
         → Rose (S.faults input.old) (S.faults input.new) }
     ensures write_fault { result.status ≡ Status.WriteFault
@@ -180,7 +192,7 @@ fn outcome_on<R: Threads + Wait + Sync, S: Source, K: Sink, M: Maker + Sync, G: 
     }
 }
 
-// Answers the input on `out` by the cache that the words tell, or tells why not.
+// Answers the input on `out` as the words tell, or tells why not.
 fn outcome<R: Threads + Wait + Sync, S: Source, K: Sink, M: Maker + Sync, G: Gate + Sync>(
     rt: &R,
     alloc: Global,
@@ -190,32 +202,35 @@ fn outcome<R: Threads + Wait + Sync, S: Source, K: Sink, M: Maker + Sync, G: Gat
     maker: &M,
     gate: &G,
 ) -> Ending
-    ensures replayed { IfSome (conf_of words.now) (λ conf. result.status ≡ Status.Done
-        → Replays conf (S.left input.old) (S.left input.new) (K.held out.old) (K.held out.new)) }
-    ensures usage { result.status ≡ Status.Usage → conf_of words.now ≡ None }
-    ensures faulty_words { conf_of words.now ≡ None → IsUnlessMemory Status.Usage result.status }
+    ensures replayed { IfSome (settings_of words.now) (λ s. result.status ≡ Status.Done
+        → Replays s.conf (S.left input.old) (S.left input.new) (K.held out.old) (K.held out.new)) }
+    ensures usage { result.status ≡ Status.Usage → settings_of words.now ≡ None }
+    ensures faulty_words { settings_of words.now ≡ None
+        → IsUnlessMemory Status.Usage result.status }
     ensures script { result.status ≡ Status.Script
         → IsRefusedAt (S.left input.old) (S.left input.new) result.place result.reason }
-    ensures too_many { IfSome (conf_of words.now) (λ conf. result.status ≡ Status.TooMany
-        → IsCrowded conf (S.left input.old) (S.left input.new)) }
-    ensures pattern { IfSome (conf_of words.now) (λ conf. result.status ≡ Status.Pattern
-        → IsUnsearchable (M.may_refuse maker.now) conf (S.left input.old) (S.left input.new)) }
+    ensures too_many { IfSome (settings_of words.now) (λ s. result.status ≡ Status.TooMany
+        → IsCrowded s.conf (S.left input.old) (S.left input.new)) }
+    ensures pattern { IfSome (settings_of words.now) (λ s. result.status ≡ Status.Pattern
+        → IsUnsearchable (M.may_refuse maker.now) s.conf (S.left input.old) (S.left input.new)) }
     ensures too_long { result.status ≡ Status.TooLong
         → HasTaken (S.left input.old) (S.left input.new) (longest_input + 1) }
     ensures longer { result.status ≡ Status.TooLong
         → IfSome (S.left input.old) (λ left. longest_input < length left) }
+    ensures within { result.status ≢ Status.TooLong
+        → HasTakenWithin (S.left input.old) (S.left input.new) longest_input }
     ensures read_fault { result.status ≡ Status.ReadFault
         → Rose (S.faults input.old) (S.faults input.new) }
     ensures write_fault { result.status ≡ Status.WriteFault
         → Rose (K.faults out.old) (K.faults out.new) }
-    ensures cut { IfSome (conf_of words.now) (λ conf. result.status ≡ Status.WriteFault
-        → ReplaysPart conf (S.left input.old) (S.left input.new)
+    ensures cut { IfSome (settings_of words.now) (λ s. result.status ≡ Status.WriteFault
+        → ReplaysPart s.conf (S.left input.old) (S.left input.new)
         (K.held out.old) (K.held out.new)) }
     ensures unchanged { result.status ≢ Status.Done → result.status ≢ Status.WriteFault
         → (K.held out.new ≡ K.held out.old) × (K.faults out.new ≡ K.faults out.old) }
 {
-    match read_conf(alloc, words) {
-        Ok(conf) => outcome_on(rt, alloc, &conf, input, out, maker, gate),
+    match read_settings(alloc, words) {
+        Ok(settings) => outcome_on(rt, alloc, &settings.conf, input, out, maker, gate),
         Err(ConfFault::Usage) => Ending::of(Status::Usage),
         Err(ConfFault::Memory) => Ending::of(Status::NoMemory),
     }
@@ -243,10 +258,8 @@ fn tell_ending<E: Sink>(err: &mut E, ending: Ending)
 /// worker's calls answer and the journal: the order in which the calls took effect. What went wrong
 /// is told on `err`, a line.
 ///
-/// `words` are the program's words with its name first. They call for a cache as
-/// `conf_read::read_conf` reads them: `--shm-size` (PHP's `apc.shm_size`, 32M where it is left
-/// out), `--slots` (4096) and `--ttl` (the seconds of PHP's `apc.ttl`, 0), in any order, each at
-/// most once. A script's calls are those of PHP's APCu functions, one on a line, with their
+/// `words` are the program's words with its name first, options as `conf_read::read_settings` reads
+/// them. A script's calls are those of PHP's APCu functions, one on a line, with their
 /// arguments in PHP's serialize notation. `maker` makes the regexes of their patterns; `gate` is
 /// told of each call, of each value that is copied and of each step of an iterator.
 ///
@@ -265,32 +278,34 @@ pub fn run<R: Threads + Wait + Sync, S: Source, K: Sink, E: Sink, M: Maker + Syn
     gate: &G,
 ) -> Status
     // What is printed is the output of a journal that is legal and complete for the scripts of the
-    // whole input, on the cache that the words tell.
-    ensures replayed { IfSome (conf_of words.now) (λ conf. result ≡ Status.Done
-        → Replays conf (S.left input.old) (S.left input.new) (K.held out.old) (K.held out.new)) }
+    // whole input, on the cache that the words ask for.
+    ensures replayed { IfSome (settings_of words.now) (λ s. result ≡ Status.Done
+        → Replays s.conf (S.left input.old) (S.left input.new) (K.held out.old) (K.held out.new)) }
 
     // Each other status, and when it comes.
-    ensures usage { result ≡ Status.Usage → conf_of words.now ≡ None }
-    ensures faulty_words { conf_of words.now ≡ None → IsUnlessMemory Status.Usage result }
+    ensures usage { result ≡ Status.Usage → settings_of words.now ≡ None }
+    ensures faulty_words { settings_of words.now ≡ None → IsUnlessMemory Status.Usage result }
     ensures script { result ≡ Status.Script → IsRefused (S.left input.old) (S.left input.new) }
-    ensures too_many { IfSome (conf_of words.now) (λ conf. result ≡ Status.TooMany
-        → IsCrowded conf (S.left input.old) (S.left input.new)) }
-    ensures pattern { IfSome (conf_of words.now) (λ conf. result ≡ Status.Pattern
-        → IsUnsearchable (M.may_refuse maker.now) conf (S.left input.old) (S.left input.new)) }
+    ensures too_many { IfSome (settings_of words.now) (λ s. result ≡ Status.TooMany
+        → IsCrowded s.conf (S.left input.old) (S.left input.new)) }
+    ensures pattern { IfSome (settings_of words.now) (λ s. result ≡ Status.Pattern
+        → IsUnsearchable (M.may_refuse maker.now) s.conf (S.left input.old) (S.left input.new)) }
     ensures too_long { result ≡ Status.TooLong
         → HasTaken (S.left input.old) (S.left input.new) (longest_input + 1) }
     ensures longer { result ≡ Status.TooLong
         → IfSome (S.left input.old) (λ left. longest_input < length left) }
+    ensures within { result ≢ Status.TooLong
+        → HasTakenWithin (S.left input.old) (S.left input.new) longest_input }
     ensures read_fault { result ≡ Status.ReadFault
         → Rose (S.faults input.old) (S.faults input.new) }
     ensures write_fault { result ≡ Status.WriteFault → Rose (K.faults out.old) (K.faults out.new) }
-    ensures complete { IfSome (conf_of words.now) (λ conf.
-        Completes (M.may_refuse maker.now) conf result (S.left input.old)
+    ensures complete { IfSome (settings_of words.now) (λ s.
+        Completes (M.may_refuse maker.now) s.conf result (S.left input.old)
         (S.faults input.old) (S.faults input.new) (K.faults out.old) (K.faults out.new)) }
 
     // What is left on the sinks.
-    ensures cut { IfSome (conf_of words.now) (λ conf. result ≡ Status.WriteFault
-        → ReplaysPart conf (S.left input.old) (S.left input.new)
+    ensures cut { IfSome (settings_of words.now) (λ s. result ≡ Status.WriteFault
+        → ReplaysPart s.conf (S.left input.old) (S.left input.new)
         (K.held out.old) (K.held out.new)) }
     ensures unchanged { result ≢ Status.Done → result ≢ Status.WriteFault
         → (K.held out.new ≡ K.held out.old) × (K.faults out.new ≡ K.faults out.old) }

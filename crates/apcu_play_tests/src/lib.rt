@@ -28,6 +28,8 @@ mod room;
 #[cfg(test)]
 mod runs;
 #[cfg(test)]
+mod segments;
+#[cfg(test)]
 mod shown;
 #[cfg(test)]
 mod threads;

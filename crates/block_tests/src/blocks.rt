@@ -1,9 +1,19 @@
 //! Blocks that are taken, given and kept, and the gaps that are left.
 
-use crate::steps::{Step, play_fresh};
+use crate::steps::{Shape, Step, play_over};
 use sma_blocks::{block_laws, call_laws, list_laws};
 use std::alloc::{AllocError, Global};
 use std::test::Fail;
+
+// Steps over so many words of one segment, from the word 32 on.
+fn play_fresh(alloc: Global, len: u32, steps: &[Step]) -> Result<usize, AllocError> {
+    let shape = Shape {
+        len,
+        from: 32,
+        piece: 0,
+    };
+    play_over(alloc, shape, steps)
+}
 
 #[test]
 fn takes_and_gives(rt: HostRuntime) -> Result<(), Fail> {
@@ -186,6 +196,170 @@ fn draw(alloc: Global, count: u32) -> Result<Vec<Step>, AllocError> {
 fn agrees_with_the_plain_list(rt: HostRuntime) -> Result<(), Fail> {
     let steps = draw(rt.alloc(), 10_000)?;
     assert_eq!(rt; play_fresh(rt.alloc(), 512, &steps)?, 10_000);
+    Ok(())
+}
+
+// Two segments of 34 words. The border stands in the middle of four words that have one number of
+// the index.
+const TWO: Shape = Shape {
+    len: 68,
+    from: 2,
+    piece: 34,
+};
+
+#[test]
+fn crosses_no_border(rt: HostRuntime) -> Result<(), Fail> {
+    const APART: &[Step] = &[
+        Step::FirstGap(2),
+        Step::Word(2, 33),
+        Step::Word(3, 34),
+        Step::Word(34, 35),
+        Step::Word(35, 0),
+        Step::Free(66),
+        Step::Largest(34),
+        Step::GapFrom(0, Some((2, 32))),
+        Step::GapFrom(3, Some((34, 34))),
+        Step::Take(36, None),
+        Step::Take(34, Some(34)),
+        Step::Take(34, None),
+        Step::Take(32, Some(2)),
+        Step::Free(0),
+        Step::Give(0),
+        Step::Word(3, 0),
+        Step::Give(0),
+        Step::FirstGap(2),
+        Step::Word(2, 33),
+        Step::Word(3, 34),
+        Step::Word(34, 35),
+        Step::Word(35, 0),
+        Step::Largest(34),
+        Step::Take(36, None),
+    ];
+    const GIVEN_LAST_FIRST: &[Step] = &[
+        Step::Take(34, Some(34)),
+        Step::Take(32, Some(2)),
+        Step::Give(1),
+        Step::Give(0),
+        Step::Word(2, 33),
+        Step::Word(3, 34),
+        Step::Word(34, 35),
+        Step::Largest(34),
+        Step::Take(36, None),
+        Step::Take(34, Some(34)),
+    ];
+    const TWINS: &[Step] = &[
+        Step::Take(30, Some(2)),
+        Step::FirstGap(32),
+        Step::Word(32, 3),
+        Step::Word(33, 34),
+        Step::Word(34, 35),
+        Step::GapFrom(32, Some((32, 2))),
+        Step::GapFrom(33, Some((34, 34))),
+        Step::Free(36),
+        Step::Largest(34),
+        Step::Take(4, Some(34)),
+        Step::Largest(30),
+        Step::Take(2, Some(32)),
+        Step::FirstGap(38),
+        Step::Give(1),
+        Step::FirstGap(32),
+        Step::Word(33, 38),
+        Step::Give(1),
+        Step::Word(33, 34),
+        Step::Word(34, 35),
+        Step::Largest(34),
+        Step::Take(34, Some(34)),
+        Step::Take(2, Some(32)),
+        Step::Take(2, None),
+    ];
+    const IN_ALL_AND_IN_NONE: &[Step] = &[
+        Step::Take(14, Some(2)),
+        Step::Take(18, Some(16)),
+        Step::Take(18, Some(34)),
+        Step::Take(16, Some(52)),
+        Step::Give(1),
+        Step::Give(1),
+        Step::Free(36),
+        Step::Largest(18),
+        Step::Word(16, 19),
+        Step::Word(17, 34),
+        Step::Word(34, 19),
+        Step::Take(20, None),
+        Step::Take(18, Some(16)),
+        Step::Take(18, Some(34)),
+    ];
+    for (i, steps) in [APART, GIVEN_LAST_FIRST, TWINS, IN_ALL_AND_IN_NONE]
+        .iter()
+        .enumerate()
+    {
+        assert_eq!(rt; play_over(rt.alloc(), TWO, steps)?, steps.len(), "row {i}");
+    }
+    Ok(())
+}
+
+#[test]
+fn keeps_blocks_of_segments(rt: HostRuntime) -> Result<(), Fail> {
+    const BESIDE_THE_BORDER: &[Step] = &[
+        Step::Take(14, Some(2)),
+        Step::Take(18, Some(16)),
+        Step::Take(18, Some(34)),
+        Step::Take(16, Some(52)),
+        Step::Keep(0b1001),
+        Step::FirstGap(16),
+        Step::Word(16, 19),
+        Step::Word(17, 34),
+        Step::Word(34, 19),
+        Step::Word(35, 0),
+        Step::Free(36),
+        Step::Largest(18),
+        Step::Take(20, None),
+        Step::Keep(0),
+        Step::FirstGap(2),
+        Step::Word(2, 33),
+        Step::Word(3, 34),
+        Step::Word(34, 35),
+        Step::Free(66),
+        Step::Largest(34),
+        Step::Take(34, Some(34)),
+        Step::Keep(1),
+        Step::Word(2, 33),
+        Step::Word(3, 0),
+        Step::Free(32),
+        Step::Take(32, Some(2)),
+    ];
+    const TWINS: &[Step] = &[
+        Step::Take(30, Some(2)),
+        Step::Take(34, Some(34)),
+        Step::Keep(0b01),
+        Step::FirstGap(32),
+        Step::Word(33, 34),
+        Step::Largest(34),
+        Step::Take(34, Some(34)),
+        Step::Take(2, Some(32)),
+    ];
+    for (i, steps) in [BESIDE_THE_BORDER, TWINS].iter().enumerate() {
+        assert_eq!(rt; play_over(rt.alloc(), TWO, steps)?, steps.len(), "row {i}");
+    }
+    Ok(())
+}
+
+// Calls as they come, over segments of 4 j + 2 words, of 4 j words, and of as many as can be.
+#[test]
+fn agrees_with_the_plain_list_in_segments(rt: HostRuntime) -> Result<(), Fail> {
+    const SHAPES: [(u32, u32, u32); 6] = [
+        (68, 2, 34),
+        (132, 2, 66),
+        (1032, 32, 258),
+        (512, 32, 256),
+        (2176, 2, 34),
+        (1152, 2, 18),
+    ];
+    let steps = draw(rt.alloc(), 3_000)?;
+    for (len, from, piece) in SHAPES {
+        let shape = Shape { len, from, piece };
+        let count = play_over(rt.alloc(), shape, &steps)?;
+        assert_eq!(rt; count, 3_000, "segments of {piece}");
+    }
     Ok(())
 }
 

@@ -1,5 +1,5 @@
-ghost use Rattle.std.specs.Prelude.{◌≡◌, ℕ, ◌+◌, ◌<◌, ◌^◌, length, slice_index};
-ghost use Rattle.max_tree.specs.Halves.{other_half};
+ghost use Rattle.std.specs.Prelude.{◌≡◌, ℕ, ◌+◌, ◌%◌, ◌<◌, ◌≤◌, ◌^◌, true, length, slice_index};
+ghost use Rattle.max_tree.specs.Halves.{other_half, MayStand};
 
 use max_tree::{MaxRow, PairRow};
 use std::alloc::{AllocError, Global};
@@ -10,7 +10,7 @@ use std::test::Fail;
 enum Step {
     // The number made the one at the place.
     Put(usize, u32),
-    // Of a row of pairs: the number at the one place cleared, and this number put at the other.
+    // Of a row of pairs: the number at the one place made 0, and this number put at the other.
     Move(usize, usize, u32),
     // The number at the place made 0.
     Zero(usize),
@@ -83,13 +83,34 @@ fn other(p: usize) -> usize
     if p % 2 == 0 { p + 1 } else { p - 1 }
 }
 
-// Makes an even number the one at a place, where the other one of the pair is 0; whether it could.
+// Whether a number may stand at a place beside the other one of its pair.
+fn may_stand(p: usize, size: u32, other: u32) -> bool
+    ensures { result ≡ true → MayStand p size other }
+{
+    if other == 0 {
+        return true;
+    }
+    if p % 2 == 0 { size == 2 } else { other == 2 }
+}
+
+// Whether it is a number that a row of pairs may have.
+fn is_size(size: u32) -> bool
+    ensures { result ≡ true → (size % 2 ≡ 0) × (2 ≤ size) × (size < 2 ^ 31) }
+{
+    size % 2 == 0 && size > 1 && size < 1 << 31
+}
+
+// Makes an even number the one at a place, where the other one of the pair lets it; whether it
+// could.
 fn put(pairs: &mut PairRow, count: usize, p: usize, size: u32) -> bool
     requires { length pairs.old ≡ count }
     ensures { length pairs.new ≡ count }
 {
     let beside = other(p);
-    if p < count && beside < count && size % 2 == 0 && size > 1 && pairs.get(beside) == 0 {
+    if p >= count || beside >= count || !is_size(size) {
+        return false;
+    }
+    if may_stand(p, size, pairs.get(beside)) {
         pairs.put(p, size);
         return true;
     }
@@ -102,10 +123,10 @@ fn move_to(pairs: &mut PairRow, count: usize, gone: usize, p: usize, size: u32) 
     ensures { length pairs.new ≡ count }
 {
     let beside = other(p);
-    if gone >= count || p >= count || beside >= count || gone == p || size % 2 == 1 || size < 2 {
+    if gone >= count || p >= count || beside >= count || gone == p || !is_size(size) {
         return false;
     }
-    if pairs.get(gone) > 0 && (beside == gone || pairs.get(beside) == 0) {
+    if beside == gone || may_stand(p, size, pairs.get(beside)) {
         pairs.move_to(gone, p, size);
         return true;
     }
@@ -247,11 +268,68 @@ fn finds_numbers_of_pairs(rt: HostRuntime) -> Result<(), Fail> {
         Step::Clear,
         Step::Get(196, 0),
         Step::Largest(0),
-        Step::Put(0, 4294967294),
-        Step::First(4294967294, Some(0)),
-        Step::Largest(4294967294),
+        Step::Put(0, 2147483646),
+        Step::First(2147483646, Some(0)),
+        Step::First(2147483648, None),
+        Step::First(4294967294, None),
+        Step::Largest(2147483646),
     ];
-    assert_eq!(rt; play_on_pairs(rt.alloc(), 100, &steps)?, 35);
+    assert_eq!(rt; play_on_pairs(rt.alloc(), 100, &steps)?, 37);
+    Ok(())
+}
+
+// Both numbers of a pair, of which the first is 2.
+#[test]
+fn finds_twins_in_pairs(rt: HostRuntime) -> Result<(), Fail> {
+    let steps = [
+        Step::Put(8, 2),
+        Step::Put(9, 30),
+        Step::Get(8, 2),
+        Step::Get(9, 30),
+        Step::First(2, Some(8)),
+        Step::First(4, Some(9)),
+        Step::First(32, None),
+        Step::Largest(30),
+        Step::LastBefore(8, None),
+        Step::LastBefore(9, Some(8)),
+        Step::LastBefore(10, Some(9)),
+        Step::Put(9, 2),
+        Step::Get(8, 2),
+        Step::Get(9, 2),
+        Step::First(2, Some(8)),
+        Step::First(4, None),
+        Step::Zero(8),
+        Step::Get(9, 2),
+        Step::First(2, Some(9)),
+        Step::LastBefore(9, None),
+        Step::Put(9, 6),
+        Step::Put(8, 2),
+        Step::Get(9, 6),
+        Step::Zero(9),
+        Step::Get(8, 2),
+        Step::LastBefore(10, Some(8)),
+        Step::Put(3, 12),
+        Step::Move(3, 9, 14),
+        Step::Get(8, 2),
+        Step::Get(9, 14),
+        Step::First(4, Some(9)),
+        Step::Move(8, 2, 4),
+        Step::Get(8, 0),
+        Step::First(6, Some(9)),
+        Step::Move(2, 8, 2),
+        Step::Get(9, 14),
+        Step::Move(9, 8, 8),
+        Step::Get(9, 0),
+        Step::Get(8, 8),
+        Step::Largest(8),
+        Step::Put(198, 2),
+        Step::Put(199, 2147483646),
+        Step::Get(198, 2),
+        Step::Get(199, 2147483646),
+        Step::First(10, Some(199)),
+        Step::Largest(2147483646),
+    ];
+    assert_eq!(rt; play_on_pairs(rt.alloc(), 100, &steps)?, 46);
     Ok(())
 }
 

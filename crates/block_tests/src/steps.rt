@@ -1,6 +1,6 @@
 //! Steps over words, and how many go as they say.
 
-ghost use Rattle.std.specs.Prelude.{◌≡◌, ℕ, ◌%◌, ◌≤◌, false, [], OnOk};
+ghost use Rattle.std.specs.Prelude.{◌≡◌, ℕ, ◌+◌, ◌%◌, ◌^◌, ◌<◌, ◌≤◌, true, false, [], OnOk};
 ghost use Rattle.seg_words.specs.Windows.{is_named};
 ghost use Rattle.sma_blocks.specs.Live.{live_blocks};
 ghost use Rattle.sma_blocks.specs.Ready.{IsReady};
@@ -53,7 +53,7 @@ fn play_one<S: Segment>(
         },
         Step::TakeLeast(n) => {
             if n % 2 == 0 && n > 1 {
-                let least = first_fit(sma.from, sma.to, n, blocks);
+                let least = first_fit(sma.from, sma.to, sma.piece, n, blocks);
                 return Ok(take_listed(sma, seg, blocks, n)? == least);
             }
             Ok(false)
@@ -98,12 +98,34 @@ fn play<S: Segment>(
     Ok(steps.len())
 }
 
-// Plays steps over so many freshly formatted words, from the word 32 on.
-pub(crate) fn play_fresh(alloc: Global, len: u32, steps: &[Step]) -> Result<usize, AllocError>
-    requires { (34 ≤ len) × (len % 2 ≡ 0) }
+// How many words there are, from which on blocks stand, and how many a segment has: 0 where all are
+// one segment.
+#[derive(Clone, Copy)]
+pub(crate) struct Shape {
+    pub(crate) len: u32,
+    pub(crate) from: u32,
+    pub(crate) piece: u32,
+}
+
+// Whether blocks can stand in words of this shape.
+fn is_shape(shape: Shape) -> bool
+    ensures even { result ≡ true → (shape.from % 2 ≡ 0) × (shape.len % 2 ≡ 0) }
+    ensures piece { result ≡ true → shape.piece % 2 ≡ 0 }
+    ensures short { result ≡ true → shape.len < 2 ^ 31 }
+    ensures room { result ≡ true → shape.from + 2 ≤ shape.len }
 {
+    let Shape { len, from, piece } = shape;
+    from % 2 == 0 && len % 2 == 0 && piece % 2 == 0 && len < 1 << 31 && from < len
+}
+
+// Plays steps over freshly formatted words; how many went as they say, or 0 where that is no shape.
+pub(crate) fn play_over(alloc: Global, shape: Shape, steps: &[Step]) -> Result<usize, AllocError> {
+    if !is_shape(shape) {
+        return Ok(0);
+    }
+    let Shape { len, from, piece } = shape;
     let gaps = MaxRow::new(alloc, len as usize / 4 + 1)?;
     let mut words = VecWords::new(alloc, len)?;
-    let mut sma = Sma::format(&mut words, 32, gaps);
+    let mut sma = Sma::format(&mut words, from, piece, gaps);
     play(alloc, &mut sma, &mut words, steps)
 }

@@ -1,4 +1,5 @@
-ghost use Rattle.std.specs.Prelude.{◌≡◌, ◌≢◌, ℕ, ◌+◌, ◌<◌, ◌≤◌, length, slice_index, [], false};
+ghost use Rattle.std.specs.Prelude.{◌≡◌, ◌≢◌, ℕ, ◌+◌, ◌%◌, ◌<◌, ◌≤◌, length, slice_index, []};
+ghost use Rattle.std.specs.Prelude.{false};
 ghost use Rattle.seg_words.specs.Windows.{has, is_named};
 ghost use Rattle.seg_words.specs.Blocks.{IsTold};
 
@@ -21,6 +22,16 @@ struct Fit<'a> {
 
 const fn extent(place: u32, size: u32) -> Extent {
     Extent { place, size }
+}
+
+// The places are found, where so many words are a segment.
+fn find_each<A: Abort>(rt: &A, piece: u32, fits: &[Fit<'_>])
+    requires { piece % 2 ≡ 0 }
+{
+    for fit in fits {
+        let place = first_fit(fit.from, fit.to, piece, fit.n, fit.extents);
+        assert_eq!(rt; place, fit.place);
+    }
 }
 
 #[test]
@@ -99,10 +110,104 @@ fn finds_the_least_place(rt: HostRuntime) {
             place: None,
         },
     ];
-    for fit in &fits {
-        let place = first_fit(fit.from, fit.to, fit.n, fit.extents);
-        assert_eq!(rt; place, fit.place);
-    }
+    find_each(&rt, 0, &fits);
+}
+
+// Two segments of 34 words, and one of almost all.
+#[test]
+fn finds_the_least_place_in_one_segment(rt: HostRuntime) {
+    let front = [extent(2, 2)];
+    let apart = [extent(2, 14), extent(50, 2)];
+    let ends = [extent(2, 30), extent(34, 32)];
+    let fits = [
+        Fit {
+            from: 2,
+            to: 68,
+            n: 32,
+            extents: &[],
+            place: Some(2),
+        },
+        Fit {
+            from: 2,
+            to: 68,
+            n: 34,
+            extents: &[],
+            place: Some(34),
+        },
+        Fit {
+            from: 2,
+            to: 68,
+            n: 36,
+            extents: &[],
+            place: None,
+        },
+        Fit {
+            from: 2,
+            to: 68,
+            n: 32,
+            extents: &front,
+            place: Some(34),
+        },
+        Fit {
+            from: 2,
+            to: 68,
+            n: 18,
+            extents: &apart,
+            place: Some(16),
+        },
+        Fit {
+            from: 2,
+            to: 68,
+            n: 20,
+            extents: &apart,
+            place: None,
+        },
+        Fit {
+            from: 2,
+            to: 68,
+            n: 2,
+            extents: &ends,
+            place: Some(32),
+        },
+        Fit {
+            from: 33,
+            to: 68,
+            n: 2,
+            extents: &ends,
+            place: Some(66),
+        },
+        Fit {
+            from: 2,
+            to: 68,
+            n: 4,
+            extents: &ends,
+            place: None,
+        },
+        Fit {
+            from: 33,
+            to: 34,
+            n: 0,
+            extents: &ends,
+            place: Some(34),
+        },
+    ];
+    find_each(&rt, 34, &fits);
+    let last = [Fit {
+        from: 4294967290,
+        to: u32::MAX,
+        n: 4,
+        extents: &front,
+        place: Some(4294967290),
+    }];
+    find_each(&rt, 4294967294, &last);
+    let border = [Fit {
+        from: 4294967290,
+        to: u32::MAX,
+        n: 4,
+        extents: &front,
+        place: None,
+    }];
+    find_each(&rt, 4294967292, &border);
 }
 
 #[test]

@@ -44,6 +44,19 @@ fn takes_blocks(rt: HostRuntime) -> Result<(), Fail> {
     Ok(())
 }
 
+// A block is given back with its string: so many of 3 GiB have no room beside one another, since a
+// process has addresses for 128 TiB. Nothing but the first bytes of a block is ever touched.
+#[test]
+fn gives_blocks_back(rt: HostRuntime) -> Result<(), Fail> {
+    for number in 0..50_000_u32 {
+        let byte = (number % 256) as u8;
+        let mut bytes = Vec::with_capacity(rt.alloc(), 3 << 30)?;
+        bytes.push(byte)?;
+        assert_eq!(rt; ByteBox::from_vec(bytes).as_slice(), [byte].as_slice());
+    }
+    Ok(())
+}
+
 #[test]
 fn compares(rt: HostRuntime) -> Result<(), Fail> {
     let rows = [

@@ -62,10 +62,10 @@ counts_after_room laws held n t c old new full is counts hits misses inserts exp
     go : (b : Bool) → b ≡ is_expunged held n t c → new.hits ≡ (if b then 0 else old.hits) → new.misses ≡ (if b then 0 else old.misses) → new.inserts ≡ (if b then 0 else old.inserts)
         → new.expunges ≡ (if b then risen old.expunges else old.expunges) → AreCounts new (with_room held n t c)
     go true e h m i x =
-        let f = laws.forgotten held n t c (sym e) in
+        let f = laws.counts.forgotten held n t c (sym e) in
         record { hits = h ∙ sym f.hits; misses = m ∙ sym f.misses; inserts = i ∙ sym f.inserts; expunges = x ∙ (ap risen counts.expunges ∙ sym f.expunges) }
     go false e h m i x =
-        let k = laws.kept held n t c (sym e) in
+        let k = laws.counts.kept held n t c (sym e) in
         record { hits = h ∙ (counts.hits ∙ sym k.hits); misses = m ∙ (counts.misses ∙ sym k.misses); inserts = i ∙ (counts.inserts ∙ sym k.inserts); expunges = x ∙ (counts.expunges ∙ sym k.expunges) }
 
 -- the removed rows were swept, by the blocks that are held later too

@@ -3,6 +3,7 @@ use Rattle.std.proofs.Common.{◌≡◌, ℕ, ◌-◌, Bool, true, false, ◌&&�
 use Rattle.std.specs.Prelude.{nat_lt, is_some, if◌then◌else◌}
 use Rattle.php_graph.specs.declared.kind.Kind.{Kind}
 use Rattle.php_graph.specs.Size.{block_size}
+use Rattle.apcu_model.specs.Conf.{most_of}
 use Rattle.apcu_model.specs.declared.request.StoreAnswer.TheVariants.{TooLarge, Exists}
 use Rattle.apcu_model.specs.Cache.{Row, Cache, gap_of}
 use Rattle.apcu_model.specs.Change.{is_held, swept, expired_dropped, expunged, has_gap, with_room, put_in, inserted}
@@ -12,16 +13,16 @@ use Rattle.seg_words.specs.Members.{filter_all, Contains-filter}
 
 -- the three ways of an insertion
 module _ (held key : List ℕ) (graph : List Kind) (ttl : ℕ) (exclusive : Bool) (t : ℕ) (c : Cache) where
-  pub too_large : nat_lt (c.conf.words - c.conf.slots) (block_size (length key) graph) ≡ true → inserted held key graph ttl exclusive t c ≡ record { answer = TooLarge; cache = c }
+  pub too_large : nat_lt (most_of c.conf) (block_size (length key) graph) ≡ true → inserted held key graph ttl exclusive t c ≡ record { answer = TooLarge; cache = c }
   too_large h =
       ap (λ b. if b then record { answer = TooLarge; cache = c } else if exclusive && is_some (live_row key t c) then record { answer = Exists; cache = c } else added held key graph ttl t c) h
 
-  pub exists_there : nat_lt (c.conf.words - c.conf.slots) (block_size (length key) graph) ≡ false → (exclusive && is_some (live_row key t c)) ≡ true → inserted held key graph ttl exclusive t c ≡ record { answer = Exists; cache = c }
+  pub exists_there : nat_lt (most_of c.conf) (block_size (length key) graph) ≡ false → (exclusive && is_some (live_row key t c)) ≡ true → inserted held key graph ttl exclusive t c ≡ record { answer = Exists; cache = c }
   exists_there h e =
       ap (λ b. if b then record { answer = TooLarge; cache = c } else if exclusive && is_some (live_row key t c) then record { answer = Exists; cache = c } else added held key graph ttl t c) h
       ∙ ap (λ b. if b then record { answer = Exists; cache = c } else added held key graph ttl t c) e
 
-  pub added_then : nat_lt (c.conf.words - c.conf.slots) (block_size (length key) graph) ≡ false → (exclusive && is_some (live_row key t c)) ≡ false → inserted held key graph ttl exclusive t c ≡ added held key graph ttl t c
+  pub added_then : nat_lt (most_of c.conf) (block_size (length key) graph) ≡ false → (exclusive && is_some (live_row key t c)) ≡ false → inserted held key graph ttl exclusive t c ≡ added held key graph ttl t c
   added_then h e =
       ap (λ b. if b then record { answer = TooLarge; cache = c } else if exclusive && is_some (live_row key t c) then record { answer = Exists; cache = c } else added held key graph ttl t c) h
       ∙ ap (λ b. if b then record { answer = Exists; cache = c } else added held key graph ttl t c) e

@@ -47,8 +47,8 @@ only_once at (r ∷ rows) row c place few = elim (Contains-cases r rows row c) [
 pub passing_later : (laws : CacheLaws) {s new : Entries} {before after : Aside} {t : ℕ} {words windows : List ℕ} (pass : Row → Bool) (c : Cache)
     → Drops s new before after t (in_slot_order s.conf (filter pass s.rows)) → IsSound s words windows → s ≡ entries_of c → (later : Aside) → Goes after later → new ≡ entries_of (dropped (held_blocks later) t pass c)
 passing_later laws {s} {new} {before} {after} {t} {words} {windows} pass c drops sound e later on =
-    laws.later s new before after later t (in_slot_order s.conf (filter pass s.rows)) drops on
-    ∙ (laws.order s words windows (held_blocks later) t pass sound ∙ ap (λ (x : Entries). dropped_in (held_blocks later) t pass x) e)
+    laws.drops.later s new before after later t (in_slot_order s.conf (filter pass s.rows)) drops on
+    ∙ (laws.drops.order s words windows (held_blocks later) t pass sound ∙ ap (λ (x : Entries). dropped_in (held_blocks later) t pass x) e)
 
 map_alike : (f h : Row → Row) (rows : List Row) → ((row : Row) → Contains rows row → f row ≡ h row) → map f rows ≡ map h rows
 map_alike f h [] e = refl

@@ -1,8 +1,10 @@
 pub mod Standing
+pub mod Events
 pub mod Replacing
 pub mod Live
 pub mod Caching
 pub mod Insertions
+pub mod Inserting
 pub mod Keyed
 pub mod Adding
 pub mod Tags

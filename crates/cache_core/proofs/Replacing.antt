@@ -271,11 +271,11 @@ pub puts_from : (laws : CacheLaws) {s0 s1 s2 : Entries} {a0 a1 a2 : Aside} {word
 puts_from laws {s0} {s1} {s2} {a0} {a1} {a2} {words} {windows} at key graph ttl t slot sound is drops rep = record {
   placed_is = placed_is;
   goes = goes_on a0 a1 a2 drops.goes rep.goes;
-  keeps = laws.joined s0 s1 s2 a1 a2 rep.goes
-      (laws.keeps s0 s1 words windows a0 a1 t (filter (is_expired s0.conf t) (chain_of s0 slot)) sound (λ row c. (Contains-filter (is_in_slot s0.conf slot) s0.rows row (Contains-filter (is_expired s0.conf t) (chain_of s0 slot) row c).0).0) drops)
+  keeps = laws.drops.joined s0 s1 s2 a1 a2 rep.goes
+      (laws.drops.keeps s0 s1 words windows a0 a1 t (filter (is_expired s0.conf t) (chain_of s0 slot)) sound (λ row c. (Contains-filter (is_in_slot s0.conf slot) s0.rows row (Contains-filter (is_expired s0.conf t) (chain_of s0 slot) row c).0).0) drops)
       (replaces_open rep);
   refused = rep.refused;
-  held = λ was. replaces_held rep (laws.held s0 s1 a0 a1 t (filter (is_expired s0.conf t) (chain_of s0 slot)) drops was);
+  held = λ was. replaces_held rep (laws.drops.held s0 s1 a0 a1 t (filter (is_expired s0.conf t) (chain_of s0 slot)) drops was);
 }
   where
     n : ℕ
@@ -291,9 +291,9 @@ puts_from laws {s0} {s1} {s2} {a0} {a1} {a2} {words} {windows} at key graph ttl 
         let fresh : Cache = dropped held t (λ row. is_in_slot c.conf (slot_of c.conf key) row && is_expired c.conf t row) c in
         let conf : s0.conf ≡ c.conf = ap (λ (x : Entries). x.conf) e in
         let first : s1 ≡ with_taken at n (entries_of fresh) =
-        laws.later s0 s1 a0 a1 later t (filter (is_expired s0.conf t) (chain_of s0 slot)) drops on1
+        laws.drops.later s0 s1 a0 a1 later t (filter (is_expired s0.conf t) (chain_of s0 slot)) drops on1
         ∙ (ap (λ l. dropped_rows held t l s0) (order_chain laws s0 t slot low)
-        ∙ (laws.order s0 words windows held t (λ row. is_in_slot s0.conf slot row && is_expired s0.conf t row) sound
+        ∙ (laws.drops.order s0 words windows held t (λ row. is_in_slot s0.conf slot row && is_expired s0.conf t row) sound
         ∙ (ap (λ (x : Entries). dropped_in held t (λ row. is_in_slot x.conf slot row && is_expired x.conf t row) x) e
         ∙ ap (λ k. dropped_in held t (λ row. is_in_slot c.conf k row && is_expired c.conf t row) (with_taken at n (entries_of c))) (is ∙ ap (λ (k : Conf). slot_of k key) conf)))) in
         let mid : s2 ≡ replaced_in held at key graph ttl t s1 =

@@ -4,7 +4,7 @@ use Rattle.seg_words.specs.Windows.{Aside}
 use Rattle.seg_words.specs.declared.segment.WordsIn.{Ghosts}
 use Rattle.apcu_model.specs.Cache.{Cache}
 use Rattle.entry_slots.specs.Entries.{entries_of}
-use Rattle.entry_slots.specs.Standing.{Stand, Stands, entries}
+use Rattle.entry_slots.specs.Standing.{Stands, entries}
 use Rattle.cache_core.specs.declared.cache.Core.{Core}
 
 -- the cache that a core keeps
@@ -20,12 +20,12 @@ cache_of core = record {
   expunges = core.tally.expunges;
 }
 
--- The words stand for it: no block is loose, and the shape is that of the words.
-pub record CacheStands {X R : Type 0} (g : Ghosts X R) (core : Core) (seg : X) : Type 0 where
-  pub stand : Stand g core.slots seg
-  pub whole : entries core.slots ≡ entries_of (cache_of core)
-
--- So do words alone, with what is kept beside them.
+-- The words, with what is kept beside them, stand for it: no block is loose, and the shape is that
+-- of the words.
 pub record CoreStands (core : Core) (words : List ℕ) (aside : Aside) : Type 0 where
   pub stand : Stands core.slots words aside (entries core.slots)
   pub whole : entries core.slots ≡ entries_of (cache_of core)
+
+-- so do those of a segment
+abbrev pub CacheStands : {X R : Type 0} → Ghosts X R → Core → X → Type 0
+CacheStands g core seg = CoreStands core (g.words seg) (g.aside seg)

@@ -2,6 +2,7 @@ pub mod Laws
 pub mod Placing
 pub mod Looking
 pub mod Caching
+pub mod Events
 pub mod Lending
 pub mod Storing
 pub mod Integers

@@ -1,9 +1,7 @@
 -- A value is stored.
-use Rattle.std.specs.Prelude.{◌≡◌, ◌⊎◌, ℕ, List, length}
+use Rattle.std.specs.Prelude.{ℕ, List, length}
 use Rattle.php_graph.specs.declared.kind.Kind.{Kind}
 use Rattle.php_graph.specs.Size.{block_size}
-use Rattle.apcu_model.specs.declared.request.StoreAnswer.{StoreAnswer}
-use Rattle.apcu_model.specs.declared.request.StoreAnswer.TheVariants.{TooLarge, Exists}
 use Rattle.apcu_model.specs.Cache.{Cache, gap_of}
 use Rattle.apcu_model.specs.Change.{Insertion, with_room, put_in}
 
@@ -14,7 +12,3 @@ added held key graph ttl t c =
     let n = block_size (length key) graph in
     let room = with_room held n t c in
     put_in held key graph ttl t n room (gap_of room n)
-
--- an answer before room is made
-abbrev pub IsEarly : StoreAnswer → Type 0
-IsEarly answer = (answer ≡ TooLarge) ⊎ (answer ≡ Exists)

@@ -9,6 +9,7 @@ ghost use Rattle.apcu_model.specs.Expiry.{live_row};
 ghost use Rattle.entry_slots.specs.Entries.{HoldsInt};
 ghost use Rattle.entry_slots.specs.Standing.{entries};
 ghost use Rattle.cache_core.specs.Caching.{cache_of, CacheStands};
+ghost use Rattle.cache_core.specs.Events.{IsStep};
 ghost use Rattle.cache_core.specs.Looking.{scalar_of};
 
 use crate::cache::Core;
@@ -45,7 +46,7 @@ impl Core {
         ensures cache { (key : List ℕ) (seen : ℕ) (row : Row)
             → live_row key seen (cache_of self.old) ≡ Some row → row.place ≡ at
             → cache_of self.new ≡ integer_set key n t (cache_of self.old) }
-        ensures stand { CacheStands S.WordsIn self.new seg.new }
+        ensures step { IsStep S.WordsIn self.old self.new seg.old seg.new }
         ensures beside { KeptBeside S.WordsIn seg.old seg.new }
     {
         standing_laws();

@@ -1,33 +1,23 @@
 //! Look-ups.
 
 ghost use Rattle.std.specs.Prelude.{◌≡◌, ℕ, ◌<◌, ◌^◌, true, length, None};
-ghost use Rattle.std.specs.Prelude.{is_some, option_map, IfSome, IfNone, IfOk};
+ghost use Rattle.std.specs.Prelude.{is_some, IfSome, IfNone};
 ghost use Rattle.seg_words.specs.Kept.{Kept, KeptBeside};
-ghost use Rattle.apcu_model.specs.Cache.{Row};
 ghost use Rattle.apcu_model.specs.Expiry.{live_row, is_hard_expired};
-ghost use Rattle.apcu_model.specs.Sequential.{looked_up};
+ghost use Rattle.apcu_model.specs.declared.request.Request.TheVariants.{Fetch};
+ghost use Rattle.apcu_model.specs.Sequential.{found_in};
 ghost use Rattle.apcu_model.specs.Walk.{slot_of};
 ghost use Rattle.entry_slots.specs.declared.head.Head.{Head};
 ghost use Rattle.entry_slots.specs.Spots.{IsSpot, IsSpotOf};
 ghost use Rattle.entry_slots.specs.Standing.{entries};
 ghost use Rattle.cache_core.specs.Caching.{cache_of, CacheStands};
+ghost use Rattle.cache_core.specs.Events.{Does};
 ghost use Rattle.cache_core.specs.Looking.{look_at, look_of, IsFound};
 
 use crate::cache::Core;
 use crate::scalar::{Look, Scalar, read_scalar};
 use entry_slots::{Head, Spot, standing_laws};
-use php_graph::Graph;
 use seg_words::{Segment, WordsIn};
-use std::alloc::{AllocError, Global};
-use value_image::unpersist;
-
-// Whether the own time of a row of which this is noted is over.
-fn is_over(head: Head, t: u64) -> bool
-    ensures { (row : Row) → head.ttl ≡ row.ttl → head.ctime ≡ row.ctime
-        → result ≡ is_hard_expired t row }
-{
-    head.ttl > 0 && head.ctime.saturating_add(u64::from(head.ttl)) < t
-}
 
 // What a look-up answers that found the row at a place with this value.
 fn answer(at: u32, scalar: Option<Scalar>) -> Look
@@ -59,7 +49,7 @@ impl Core {
             return None;
         };
         let head = self.slots.head(seg, at);
-        if is_over(head, t) {
+        if head.is_hard_expired(t) {
             return None;
         }
         Some((at, head))
@@ -89,7 +79,7 @@ impl Core {
             return (spot, None);
         }
         let head = self.slots.head(seg, spot.at);
-        if is_over(head, t) {
+        if head.is_hard_expired(t) {
             return (spot, None);
         }
         (spot, Some(head))
@@ -160,9 +150,8 @@ impl Core {
         requires short { length key.now < 2 ^ 32 }
         requires stand { CacheStands S.WordsIn self.old seg.old }
         ensures look { result ≡ look_of (live_row key.now t (cache_of self.old)) }
-        ensures cache { cache_of self.new
-            ≡ looked_up key.now t (live_row key.now t (cache_of self.old)) (cache_of self.old) }
-        ensures stand { CacheStands S.WordsIn self.new seg.new }
+        ensures does { Does S.WordsIn self.old self.new seg.old seg.new t
+            (Fetch key.now) (found_in (live_row key.now t (cache_of self.old))) }
         ensures beside { KeptBeside S.WordsIn seg.old seg.new }
     {
         standing_laws();
@@ -174,34 +163,5 @@ impl Core {
         self.slots.touch(seg, at, t);
         self.tally = self.tally.after_hit();
         answer(at, scalar)
-    }
-
-    /// Fetches the value of a key at the moment `t`, as `look` does. Where memory is missing for
-    /// the value, the look-up still stands: the row was used, and a hit is counted.
-    pub fn fetch<S: Segment>(
-        &mut self,
-        alloc: Global,
-        seg: &mut S,
-        key: &[u8],
-        t: u64,
-    ) -> Result<Option<Graph>, AllocError>
-        requires short { length key.now < 2 ^ 32 }
-        requires stand { CacheStands S.WordsIn self.old seg.old }
-        ensures found { IfOk result (λ found. found
-            ≡ option_map (λ (row : Row). row.graph) (live_row key.now t (cache_of self.old))) }
-        ensures cache { cache_of self.new
-            ≡ looked_up key.now t (live_row key.now t (cache_of self.old)) (cache_of self.old) }
-        ensures stand { CacheStands S.WordsIn self.new seg.new }
-        ensures beside { KeptBeside S.WordsIn seg.old seg.new }
-    {
-        standing_laws();
-        let Some((at, head)) = self.find_live(seg, key, t) else {
-            self.tally = self.tally.after_miss();
-            return Ok(None);
-        };
-        let value = unpersist(alloc, seg, head.image, head.image_len);
-        self.slots.touch(seg, at, t);
-        self.tally = self.tally.after_hit();
-        Ok(Some(value?))
     }
 }

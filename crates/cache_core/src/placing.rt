@@ -6,7 +6,7 @@ ghost use Rattle.entry_slots.specs.Entries.{block_for};
 ghost use Rattle.entry_slots.specs.Spots.{IsSpotOf};
 ghost use Rattle.entry_slots.specs.Standing.{Stand, entries};
 ghost use Rattle.ttl_expunge.specs.Dropping.{expired_in};
-ghost use Rattle.ttl_expunge.specs.Held.{AreRemoved, Drops};
+ghost use Rattle.ttl_expunge.specs.Steps.{MayDropRows, DropsRows};
 ghost use Rattle.cache_core.specs.Placing.{Replaces, Puts};
 ghost use Rattle.cache_core.specs.Spots.{IsSpotIfAny};
 
@@ -28,11 +28,10 @@ fn replace<S: Segment>(
     t: u64,
     spot: Spot,
 )
-    requires stand { Stand S.WordsIn slots.old seg.old }
+    requires ready { MayDropRows S.WordsIn slots.old seg.old }
     requires short { length key.now < 2 ^ 32 }
     requires taken { Contains (entries slots.old).taken (block_for at key.now g.now) }
     requires spot { IsSpotOf (entries slots.old) key.now t spot }
-    requires refused { AreRemoved (S.aside seg.old) (entries slots.old).removed }
     ensures replaces { Replaces (entries slots.old) (entries slots.new)
         (S.aside seg.old) (S.aside seg.new) at key.now g.now ttl t }
     ensures stand { Stand S.WordsIn slots.new seg.new }
@@ -64,17 +63,14 @@ fn spot_swept<S: Segment>(
     limit: u32,
     t: u64,
 ) -> Spot
-    requires stand { Stand S.WordsIn slots.old seg.old }
+    requires ready { MayDropRows S.WordsIn slots.old seg.old }
     requires short { length key.now < 2 ^ 32 }
     requires slot { slot ≡ slot_of (entries slots.old).conf key.now }
     requires spot { IsSpotIfAny (entries slots.old) key.now t spot }
     requires limit { limit ≡ (entries slots.old).conf.ttl }
-    requires refused { AreRemoved (S.aside seg.old) (entries slots.old).removed }
-    ensures drops { Drops (entries slots.old) (entries slots.new)
-        (S.aside seg.old) (S.aside seg.new) t (expired_in t slot (entries slots.old)) }
+    ensures swept { DropsRows S.WordsIn slots.old slots.new seg.old seg.new t
+        (expired_in t slot (entries slots.old)) }
     ensures spot { IsSpotOf (entries slots.new) key.now t result }
-    ensures stand { Stand S.WordsIn slots.new seg.new }
-    ensures rest { S.rest seg.new ≡ S.rest seg.old }
 {
     let Some(spot) = spot else {
         return seek_swept(slots, seg, key, slot, limit, t);
@@ -100,13 +96,12 @@ pub(crate) fn put_in<S: Segment>(
     limit: u32,
     t: u64,
 )
-    requires stand { Stand S.WordsIn slots.old seg.old }
+    requires ready { MayDropRows S.WordsIn slots.old seg.old }
     requires short { length key.now < 2 ^ 32 }
     requires slot { slot ≡ slot_of (entries slots.old).conf key.now }
     requires spot { IsSpotIfAny (entries slots.old) key.now t spot }
     requires limit { limit ≡ (entries slots.old).conf.ttl }
     requires taken { Contains (entries slots.old).taken (block_for at key.now g.now) }
-    requires refused { AreRemoved (S.aside seg.old) (entries slots.old).removed }
     ensures puts { Puts (entries slots.old) (entries slots.new)
         (S.aside seg.old) (S.aside seg.new) at key.now g.now ttl t }
     ensures stand { Stand S.WordsIn slots.new seg.new }

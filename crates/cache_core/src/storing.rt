@@ -1,20 +1,21 @@
 //! Storing.
 
-ghost use Rattle.std.specs.Prelude.{◌≡◌, ◌≢◌, ℕ, ◌<◌, ◌^◌, ◌-◌, ◌&&◌, nat_lt, false, List};
+ghost use Rattle.std.specs.Prelude.{◌≡◌, ℕ, ◌<◌, ◌^◌, ◌-◌, ◌&&◌, nat_lt, true, false, List};
 ghost use Rattle.std.specs.Prelude.{length, ◌==◌, None, if◌then◌else◌, IfOk, IfErr, OnOk};
 ghost use Rattle.seg_words.specs.Kept.{Kept};
-ghost use Rattle.seg_words.specs.Windows.{Aside, has, held_blocks};
-ghost use Rattle.seg_words.specs.Probing.{Goes};
 ghost use Rattle.php_graph.specs.Size.{block_size};
+ghost use Rattle.apcu_model.specs.declared.request.Request.TheVariants as requests;
+ghost use Rattle.apcu_model.specs.declared.request.Reply.TheVariants.{Flag};
 ghost use Rattle.apcu_model.specs.Change.{inserted, swept};
 ghost use Rattle.apcu_model.specs.Expiry.{live_row};
+ghost use Rattle.apcu_model.specs.Sequential.{is_stored};
 ghost use Rattle.apcu_model.specs.Walk.{slot_of};
 ghost use Rattle.entry_slots.specs.Standing.{entries};
-ghost use Rattle.ttl_expunge.specs.Held.{AreRemoved, AreHeld, KeepsOpen};
 ghost use Rattle.cache_core.specs.Caching.{cache_of, CacheStands};
-ghost use Rattle.cache_core.specs.Storing.{added, IsEarly};
+ghost use Rattle.cache_core.specs.Events.{MayInsert, Does, IsBy, IsStep, IsUnchanged};
+ghost use Rattle.cache_core.specs.Events.{makes_room};
+ghost use Rattle.cache_core.specs.Storing.{added};
 ghost use Rattle.cache_core.specs.Spots.{IsSpotIfAny, HaveSameRows};
-ghost use Rattle.apcu_model.specs.declared.request.StoreAnswer.TheVariants as answers;
 
 use crate::cache::Core;
 use crate::lower::lower_laws;
@@ -27,10 +28,10 @@ use ttl_expunge::{make_room_next, sweep_removed};
 
 impl Core {
     /// Stores a value at the moment `t`, in seconds. `ttl` is in seconds, 0 is no limit; an
-    /// `exclusive` store leaves a live row as it is. No place may be refused before in this event.
+    /// `exclusive` store leaves a live row as it is. It is the first insertion of its event.
     ///
-    /// `TooLarge` where the value could not even fit into an empty segment, then `Exists` where an
-    /// exclusive store meets a live row; nothing changed then. `NoRoom` where no gap is large
+    /// `TooLarge` where the value could not even fit into the empty segments, then `Exists` where
+    /// an exclusive store meets a live row; nothing changed then. `NoRoom` where no gap is large
     /// enough, not even after room was made.
     pub fn store<S: Segment>(
         &mut self,
@@ -42,24 +43,14 @@ impl Core {
         t: u64,
     ) -> StoreAnswer
         requires short { length key.now < 2 ^ 32 }
-        requires stand { CacheStands S.WordsIn self.old seg.old }
-        requires fresh { (b : ℕ) → has b (S.aside seg.old).refused ≡ false }
-        ensures answer { result ≡ (inserted (held_blocks (S.aside seg.new))
-            key.now g.now ttl exclusive t (cache_of self.old)).answer }
-        ensures cache { cache_of self.new ≡ (inserted (held_blocks (S.aside seg.new))
-            key.now g.now ttl exclusive t (cache_of self.old)).cache }
-        ensures later { (later : Aside) → Goes (S.aside seg.new) later
-            → inserted (held_blocks later) key.now g.now ttl exclusive t (cache_of self.old)
-            ≡ record { answer = result; cache = cache_of self.new } }
-        ensures goes { Goes (S.aside seg.old) (S.aside seg.new) }
-        ensures keeps { KeepsOpen (S.aside seg.new).windows
-            (entries self.old.slots) (entries self.new.slots) }
-        ensures refused { AreRemoved (S.aside seg.new) (cache_of self.new).removed }
-        ensures held { result ≢ answers.TooLarge → result ≢ answers.Exists
-            → AreHeld (S.aside seg.new) (cache_of self.new).removed }
-        ensures kept { IsEarly result → Kept S.WordsIn seg.old seg.new }
-        ensures stand { CacheStands S.WordsIn self.new seg.new }
-        ensures rest { S.rest seg.new ≡ S.rest seg.old }
+        requires ready { MayInsert S.WordsIn false self.old seg.old }
+        ensures answer { IsBy (S.aside seg.new) (λ held. (inserted held
+            key.now g.now ttl exclusive t (cache_of self.old)).answer) result }
+        ensures does { Does S.WordsIn self.old self.new seg.old seg.new t
+            (requests.Store key.now g.now ttl exclusive) (Flag (is_stored result)) }
+        ensures early { makes_room result ≡ false
+            → IsUnchanged S.WordsIn self.old self.new seg.old seg.new }
+        ensures next { MayInsert S.WordsIn (makes_room result) self.new seg.new }
     {
         lower_laws();
         let slot = self.slots.slot_of_key(key);
@@ -84,23 +75,14 @@ impl Core {
         t: u64,
     ) -> StoreAnswer
         requires short { length key.now < 2 ^ 32 }
-        requires stand { CacheStands S.WordsIn self.old seg.old }
-        requires held { AreHeld (S.aside seg.old) (cache_of self.old).removed }
-        requires refused { AreRemoved (S.aside seg.old) (cache_of self.old).removed }
-        ensures answer { result ≡ (inserted (held_blocks (S.aside seg.new))
-            key.now g.now ttl exclusive t (cache_of self.old)).answer }
-        ensures cache { cache_of self.new ≡ (inserted (held_blocks (S.aside seg.new))
-            key.now g.now ttl exclusive t (cache_of self.old)).cache }
-        ensures later { (later : Aside) → Goes (S.aside seg.new) later
-            → inserted (held_blocks later) key.now g.now ttl exclusive t (cache_of self.old)
-            ≡ record { answer = result; cache = cache_of self.new } }
-        ensures goes { Goes (S.aside seg.old) (S.aside seg.new) }
-        ensures keeps { KeepsOpen (S.aside seg.new).windows
-            (entries self.old.slots) (entries self.new.slots) }
-        ensures refused { AreRemoved (S.aside seg.new) (cache_of self.new).removed }
-        ensures held { AreHeld (S.aside seg.new) (cache_of self.new).removed }
-        ensures stand { CacheStands S.WordsIn self.new seg.new }
-        ensures rest { S.rest seg.new ≡ S.rest seg.old }
+        requires ready { MayInsert S.WordsIn true self.old seg.old }
+        ensures answer { IsBy (S.aside seg.new) (λ held. (inserted held
+            key.now g.now ttl exclusive t (cache_of self.old)).answer) result }
+        ensures does { Does S.WordsIn self.old self.new seg.old seg.new t
+            (requests.Store key.now g.now ttl exclusive) (Flag (is_stored result)) }
+        ensures early { makes_room result ≡ false
+            → IsUnchanged S.WordsIn self.old self.new seg.old seg.new }
+        ensures next { MayInsert S.WordsIn true self.new seg.new }
     {
         lower_laws();
         let slot = self.slots.slot_of_key(key);
@@ -133,10 +115,10 @@ impl Core {
         ensures refused { IfErr result (λ answer. (held : List ℕ) (ttl : ℕ)
             → inserted held key.now g.now ttl exclusive t (cache_of self.now)
             ≡ record { answer = answer; cache = cache_of self.now }) }
-        ensures early { IfErr result (λ answer. IsEarly answer) }
+        ensures early { IfErr result (λ answer. makes_room answer ≡ false) }
         ensures kept { Kept S.WordsIn seg.old seg.new }
     {
-        let room = self.conf.words - self.conf.slots;
+        let room = self.conf.most();
         let n = block_words(key.len() as u64, g);
         if n > u64::from(room) {
             return Err(StoreAnswer::TooLarge);
@@ -152,19 +134,13 @@ impl Core {
 
     // Frees the removed rows that nobody copies any more.
     fn sweep<S: Segment>(&mut self, seg: &mut S)
-        requires stand { CacheStands S.WordsIn self.old seg.old }
-        requires fresh { (b : ℕ) → has b (S.aside seg.old).refused ≡ false }
+        requires ready { MayInsert S.WordsIn false self.old seg.old }
         ensures conf { self.new.conf ≡ self.old.conf }
         ensures alike { HaveSameRows (entries self.old.slots) (entries self.new.slots) }
-        ensures later { (later : Aside) → Goes (S.aside seg.new) later
-            → cache_of self.new ≡ swept (held_blocks later) (cache_of self.old) }
-        ensures goes { Goes (S.aside seg.old) (S.aside seg.new) }
-        ensures keeps { KeepsOpen (S.aside seg.new).windows
-            (entries self.old.slots) (entries self.new.slots) }
-        ensures refused { AreRemoved (S.aside seg.new) (cache_of self.new).removed }
-        ensures held { AreHeld (S.aside seg.new) (cache_of self.new).removed }
-        ensures stand { CacheStands S.WordsIn self.new seg.new }
-        ensures rest { S.rest seg.new ≡ S.rest seg.old }
+        ensures swept { IsBy (S.aside seg.new)
+            (λ held. swept held (cache_of self.old)) (cache_of self.new) }
+        ensures step { IsStep S.WordsIn self.old self.new seg.old seg.new }
+        ensures next { MayInsert S.WordsIn true self.new seg.new }
     {
         lower_laws();
         sweep_removed(&mut self.slots, seg);
@@ -186,21 +162,13 @@ impl Core {
         requires slot { slot ≡ slot_of self.old.conf key.now }
         requires fits { block_size (length key.now) g.now < 2 ^ 32 }
         requires spot { IsSpotIfAny (entries self.old.slots) key.now t spot }
-        requires stand { CacheStands S.WordsIn self.old seg.old }
-        requires held { AreHeld (S.aside seg.old) (cache_of self.old).removed }
-        requires refused { AreRemoved (S.aside seg.old) (cache_of self.old).removed }
-        ensures later { (later : Aside) → Goes (S.aside seg.new) later
-            → added (held_blocks later) key.now g.now ttl t (cache_of self.old)
-            ≡ record { answer = result; cache = cache_of self.new } }
-        ensures fits { result ≢ answers.TooLarge }
-        ensures new { result ≢ answers.Exists }
-        ensures goes { Goes (S.aside seg.old) (S.aside seg.new) }
-        ensures keeps { KeepsOpen (S.aside seg.new).windows
-            (entries self.old.slots) (entries self.new.slots) }
-        ensures refused { AreRemoved (S.aside seg.new) (cache_of self.new).removed }
-        ensures held { AreHeld (S.aside seg.new) (cache_of self.new).removed }
-        ensures stand { CacheStands S.WordsIn self.new seg.new }
-        ensures rest { S.rest seg.new ≡ S.rest seg.old }
+        requires ready { MayInsert S.WordsIn true self.old seg.old }
+        ensures added { IsBy (S.aside seg.new)
+            (λ held. added held key.now g.now ttl t (cache_of self.old))
+            (record { answer = result; cache = cache_of self.new }) }
+        ensures room { makes_room result ≡ true }
+        ensures step { IsStep S.WordsIn self.old self.new seg.old seg.new }
+        ensures next { MayInsert S.WordsIn true self.new seg.new }
     {
         lower_laws();
         let n = block_words(key.len() as u64, g);

@@ -1,13 +1,13 @@
 -- The gaps beside live blocks, from the first one on.
-use Rattle.std.proofs.Common.{◌≡◌, ◌∙◌, inl, inr, ℕ, zero, suc, ◌+◌, ◌-◌, ◌<◌, ◌≤◌, ◌==◌, Bool}
+use Rattle.std.proofs.Common.{◌≡◌, ◌∙◌, inl, inr, ℕ, zero, suc, ◌+◌, ◌-◌, ◌<◌, ◌≤◌, ◌==◌, ◌&&◌, Bool}
 use Rattle.std.proofs.Common.{true, false, cond, List, [], ◌∷◌, filter, refl, sym, ap}
 use Rattle.std.proofs.Common.{subst, arith, Option, Some, None}
 use Rattle.std.specs.Prelude.{nat_le, find, option_map}
 use Rattle.std.specs.List.{count_by, range_with_len}
-use Rattle.std.proofs.lemmas.Bool.{cases_Bool, eqb-true, ne_eqb}
+use Rattle.std.proofs.lemmas.Bool.{cases_Bool, and_parts, eqb-true, ne_eqb}
 use Rattle.std.proofs.lemmas.Bool.Decides.{nat_tests}
 use Rattle.seg_words.specs.declared.extents.Extent.{Extent}
-use Rattle.seg_words.specs.Gaps.{meets, is_free, free_runs, runs_of, with_word}
+use Rattle.seg_words.specs.Gaps.{meets, is_free, is_whole, free_runs, runs_of, with_word}
 use Rattle.seg_words.specs.Members.{count-cons, filter_alike}
 use Rattle.entry_slots.specs.Lists.{HaveSame}
 
@@ -20,24 +20,25 @@ sooner : (lo low hi : ℕ) (rs : List Extent) → lo ≤ low → AreBehind low h
 sooner lo low hi [] up h = omega (arith, up, h)
 sooner lo low hi (r ∷ rs) up h = (omega (arith, up, h.0), h.1, h.2)
 
-word_behind : (w hi : ℕ) (rs : List Extent) → AreBehind (w + 1) hi rs
-    → AreBehind w hi (with_word w rs)
-word_behind w hi [] h = (omega arith, omega arith, h)
-word_behind w hi (r ∷ rs) h = elim (cases_Bool (r.place == w + 1)) [
+word_behind : (piece w hi : ℕ) (rs : List Extent) → AreBehind (w + 1) hi rs
+    → AreBehind w hi (with_word piece w rs)
+word_behind piece w hi [] h = (omega arith, omega arith, h)
+word_behind piece w hi (r ∷ rs) h = elim (cases_Bool (r.place == w + 1 && is_whole piece w 2)) [
   | inl t ↦
-      let end : r.place + r.size ≡ w + (r.size + 1) = omega (arith, eqb-true r.place (w + 1) t) in
+      let next = (and_parts (r.place == w + 1) (is_whole piece w 2) t).0 in
+      let end : r.place + r.size ≡ w + (r.size + 1) = omega (arith, eqb-true r.place (w + 1) next) in
       rw t (omega arith, omega arith, subst (λ n. AreBehind n hi rs) end h.2)
   | inr f ↦ rw f (omega arith, omega arith, h)
 ]
 
-pub runs_behind : (p : ℕ → Bool) (n lo hi : ℕ) → lo + n ≤ hi
-    → AreBehind lo hi (runs_of (filter p (range_with_len lo n)))
-runs_behind p zero lo hi low = omega (arith, low)
-runs_behind p (suc n) lo hi low =
-    let rest = runs_behind p n (lo + 1) hi (omega (arith, low)) in
+pub runs_behind : (piece : ℕ) (p : ℕ → Bool) (n lo hi : ℕ) → lo + n ≤ hi
+    → AreBehind lo hi (runs_of piece (filter p (range_with_len lo n)))
+runs_behind piece p zero lo hi low = omega (arith, low)
+runs_behind piece p (suc n) lo hi low =
+    let rest = runs_behind piece p n (lo + 1) hi (omega (arith, low)) in
     elim (cases_Bool (p lo)) [
-      | inl t ↦ rw t (word_behind lo hi (runs_of (filter p (range_with_len (lo + 1) n))) rest)
-      | inr f ↦ rw f (sooner lo (lo + 1) hi (runs_of (filter p (range_with_len (lo + 1) n))) (omega arith) rest)
+      | inl t ↦ rw t (word_behind piece lo hi (runs_of piece (filter p (range_with_len (lo + 1) n))) rest)
+      | inr f ↦ rw f (sooner lo (lo + 1) hi (runs_of piece (filter p (range_with_len (lo + 1) n))) (omega arith) rest)
     ]
 
 -- the gaps that begin at a place or past it
@@ -142,10 +143,10 @@ gap_none at rs is = go (find (λ run. nat_le at run.place) rs) refl is
     go (Some r) e none = absurd cc
 
 -- all gaps
-pub gaps_behind : (from to : ℕ) (es : List Extent)
-    → AreBehind from (from + (to - from)) (free_runs from to es)
-gaps_behind from to es =
-    runs_behind (λ w. is_free w 1 es) (to - from) from (from + (to - from)) (omega arith)
+pub gaps_behind : (from to piece : ℕ) (es : List Extent)
+    → AreBehind from (from + (to - from)) (free_runs from to piece es)
+gaps_behind from to piece es =
+    runs_behind piece (λ w. is_free w 1 es) (to - from) from (from + (to - from)) (omega arith)
 
 -- ---- the same blocks in another order
 
@@ -171,8 +172,8 @@ free_alike : (xs ys : List Extent) → HaveSame xs ys → (a n : ℕ)
 free_alike xs ys same a n =
     free_count a n xs ∙ ap (λ k. k == 0) (same.count (meets a n)) ∙ sym (free_count a n ys)
 
-pub runs_alike : (from to : ℕ) (xs ys : List Extent) → HaveSame xs ys
-    → free_runs from to xs ≡ free_runs from to ys
-runs_alike from to xs ys same =
-    ap runs_of (filter_alike (λ w. is_free w 1 xs) (λ w. is_free w 1 ys)
+pub runs_alike : (from to piece : ℕ) (xs ys : List Extent) → HaveSame xs ys
+    → free_runs from to piece xs ≡ free_runs from to piece ys
+runs_alike from to piece xs ys same =
+    ap (runs_of piece) (filter_alike (λ w. is_free w 1 xs) (λ w. is_free w 1 ys)
     (range_with_len from (to - from)) (λ w c. free_alike xs ys same w 1))

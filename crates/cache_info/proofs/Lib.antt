@@ -1,5 +1,5 @@
 mod GapRuns
 mod RowWords
-mod KeyBytes
+mod Noted
 mod Listed
 mod Whole

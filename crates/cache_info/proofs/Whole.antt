@@ -10,6 +10,7 @@ use Rattle.seg_words.specs.Gaps.{free_runs}
 use Rattle.seg_words.specs.Members.{Contains-first, Contains-later, any_from}
 use Rattle.seg_words.specs.Windows.{Aside}
 use Rattle.sma_blocks.specs.Live.{live_blocks}
+use Rattle.apcu_model.specs.Conf.{piece_of}
 use Rattle.apcu_model.specs.declared.conf.Conf.{Conf}
 use Rattle.apcu_model.specs.declared.counts.Counts.{Counts}
 use Rattle.apcu_model.specs.declared.noted.ListedRow.{ListedRow}
@@ -71,7 +72,7 @@ whole_told c conf counts w rows removed shape many words are gone =
 
 pub gaps_are : (e : EntrySlots) (words : List ℕ) (aside : Aside) (c : Cache) (s : Entries)
     → Stands e words aside s → s ≡ entries_of c
-    → free_runs e.sma.from e.sma.to (live_blocks words e.sma.from) ≡ gaps_of c
+    → free_runs e.sma.from e.sma.to e.sma.piece (live_blocks words e.sma.from) ≡ gaps_of c
 gaps_are e words aside c s stand whole =
     let live = live_blocks words e.sma.from in
     let slots : s.conf.slots ≡ c.conf.slots = ap (λ (x : Entries). x.conf.slots) whole in
@@ -80,24 +81,26 @@ gaps_are e words aside c s stand whole =
     ap blocks_of whole
     ∙ ap (λ l. map extent_of c.rows ++ l) (append-nil (map extent_of c.removed))
     ∙ sym (map-append extent_of c.rows c.removed) in
-    ap (λ n. free_runs n e.sma.to live) (stand.from ∙ slots)
-    ∙ ap (λ n. free_runs c.conf.slots n live) (stand.to ∙ all)
-    ∙ runs_alike c.conf.slots c.conf.words live (blocks_of s) stand.blocks
-    ∙ ap (free_runs c.conf.slots c.conf.words) blocks
+    let piece : piece_of s.conf ≡ piece_of c.conf = ap (λ (x : Entries). piece_of x.conf) whole in
+    ap (λ n. free_runs n e.sma.to e.sma.piece live) (stand.from ∙ slots)
+    ∙ ap (λ n. free_runs c.conf.slots n e.sma.piece live) (stand.to ∙ all)
+    ∙ ap (λ n. free_runs c.conf.slots c.conf.words n live) (stand.piece ∙ piece)
+    ∙ runs_alike c.conf.slots c.conf.words (piece_of c.conf) live (blocks_of s) stand.blocks
+    ∙ ap (free_runs c.conf.slots c.conf.words (piece_of c.conf)) blocks
 
-pub words_told : (c : Cache) (words free : ℕ) → words ≡ c.conf.words → free ≡ gap_words_of c
-    → told_array (told_words words free) 1 ≡ sma_info_of true c
-words_told c words free all some =
-    ap (λ n. told_array (told_words n free) 1) all
-    ∙ ap (λ n. told_array (told_words c.conf.words n) 1) some
+pub words_told : (c : Cache) (conf : Conf) (free : ℕ) → conf ≡ c.conf → free ≡ gap_words_of c
+    → told_array (told_words conf free) 1 ≡ sma_info_of true c
+words_told c conf free shape some =
+    ap (λ n. told_array (told_words n free) 1) shape
+    ∙ ap (λ n. told_array (told_words c.conf n) 1) some
 
-pub gaps_told : (c : Cache) (words free : ℕ) (gaps : List Extent) → words ≡ c.conf.words
+pub gaps_told : (c : Cache) (conf : Conf) (free : ℕ) (gaps : List Extent) → conf ≡ c.conf
     → free ≡ gap_words_of c → gaps ≡ gaps_of c
-    → told_array (told_words words free ++ told_gaps gaps) 1 ≡ sma_info_of false c
-gaps_told c words free gaps all some are =
-    ap (λ n. told_array (told_words n free ++ told_gaps gaps) 1) all
-    ∙ ap (λ n. told_array (told_words c.conf.words n ++ told_gaps gaps) 1) some
-    ∙ ap (λ l. told_array (told_words c.conf.words (gap_words_of c) ++ told_gaps l) 1) are
+    → told_array (told_words conf free ++ told_gaps conf gaps) 1 ≡ sma_info_of false c
+gaps_told c conf free gaps shape some are =
+    ap (λ n. told_array (told_words n free ++ told_gaps n gaps) 1) shape
+    ∙ ap (λ n. told_array (told_words c.conf n ++ told_gaps c.conf gaps) 1) some
+    ∙ ap (λ l. told_array (told_words c.conf (gap_words_of c) ++ told_gaps c.conf l) 1) are
 
 -- ---- the row of a key
 

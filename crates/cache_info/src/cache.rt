@@ -1,13 +1,9 @@
 //! What is told of the cache.
 
 ghost use Rattle.std.specs.Prelude.{◌≡◌, ℕ, IfOk};
-ghost use Rattle.seg_words.specs.Kept.{Kept};
-ghost use Rattle.seg_words.specs.Windows.{held_blocks};
-ghost use Rattle.apcu_model.specs.declared.request.Request.TheVariants.{CacheInfo};
-ghost use Rattle.apcu_model.specs.declared.request.Reply.TheVariants.{Info};
 ghost use Rattle.apcu_model.specs.Infos.{cache_info_of};
-ghost use Rattle.apcu_model.specs.Sequential.{reply_to};
 ghost use Rattle.cache_core.specs.Caching.{cache_of, CacheStands};
+ghost use Rattle.cache_core.specs.Events.{IsUnchanged};
 
 use crate::rows::{list_removed, list_rows, words_of};
 use apcu_model::{tell_cache, tell_counts};
@@ -29,10 +25,7 @@ pub fn cache_info<S: Segment>(
 ) -> Result<Graph, AllocError>
     requires stand { CacheStands S.WordsIn core.old seg.old }
     ensures info { IfOk result (λ g. g ≡ cache_info_of limited (cache_of core.old)) }
-    ensures reply { (t : ℕ) → IfOk result (λ g. Info g
-        ≡ reply_to (held_blocks (S.aside seg.new)) t (CacheInfo limited) (cache_of core.old)) }
-    ensures same { core.new ≡ core.old }
-    ensures kept { Kept S.WordsIn seg.old seg.new }
+    ensures same { IsUnchanged S.WordsIn core.old core.new seg.old seg.new }
 {
     let conf = *core.conf();
     let counts = core.counts();

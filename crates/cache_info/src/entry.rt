@@ -9,13 +9,11 @@ ghost use Rattle.entry_slots.specs.Entries.{IsListed, listed};
 ghost use Rattle.entry_slots.specs.Standing.{Stand, entries};
 ghost use Rattle.cache_info.specs.Telling.{noted_in};
 
-use crate::lower::lower_laws;
 use apcu_model::{ListedRow, Noted};
 use entry_slots::{EntrySlots, Head};
 use php_graph::Bytes;
-use seg_words::{HEAD_WORDS, Segment, WordsIn};
+use seg_words::{Segment, WordsIn};
 use std::alloc::{AllocError, Global};
-use value_image::get_bytes;
 
 // What the first words of an entry say beside its key and its value.
 pub(crate) fn noted(head: Head) -> Noted
@@ -55,10 +53,8 @@ pub(crate) fn listed_at<S: Segment>(
         → IfOk result (λ r. r ≡ listed_of row) }
     ensures kept { Kept S.WordsIn seg.old seg.new }
 {
-    lower_laws();
     let head = slots.head(seg, at);
-    let mut key = vec![in alloc; 0u8; head.key_len as usize]?;
-    get_bytes(seg, at + HEAD_WORDS, &mut key);
+    let key = slots.copy_key(alloc, seg, at, head.key_len)?;
     Ok(ListedRow {
         key: Bytes::from_vec(key),
         noted: noted(head),

@@ -1,12 +1,9 @@
 //! What is told of a key.
 
 ghost use Rattle.std.specs.Prelude.{◌≡◌, ◌<◌, ◌^◌, length, IfOk};
-ghost use Rattle.seg_words.specs.Kept.{Kept};
-ghost use Rattle.seg_words.specs.Windows.{held_blocks};
-ghost use Rattle.apcu_model.specs.declared.request.Request.TheVariants.{KeyInfo};
 ghost use Rattle.apcu_model.specs.Infos.{key_info_of};
-ghost use Rattle.apcu_model.specs.Sequential.{info_reply, reply_to};
 ghost use Rattle.cache_core.specs.Caching.{cache_of, CacheStands};
+ghost use Rattle.cache_core.specs.Events.{IsUnchanged};
 
 use crate::entry::noted_at;
 use apcu_model::tell_key;
@@ -30,10 +27,7 @@ pub fn key_info<S: Segment>(
     requires short { length key.now < 2 ^ 32 }
     requires stand { CacheStands S.WordsIn core.old seg.old }
     ensures info { IfOk result (λ g. g ≡ key_info_of key.now t (cache_of core.old)) }
-    ensures reply { IfOk result (λ g. info_reply g
-        ≡ reply_to (held_blocks (S.aside seg.new)) t (KeyInfo key.now) (cache_of core.old)) }
-    ensures same { core.new ≡ core.old }
-    ensures kept { Kept S.WordsIn seg.old seg.new }
+    ensures same { IsUnchanged S.WordsIn core.old core.new seg.old seg.new }
 {
     let Some((at, _value)) = core.peek(seg, key, t) else {
         return Ok(None);

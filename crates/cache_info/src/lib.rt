@@ -4,7 +4,6 @@
 mod cache;
 mod entry;
 mod key;
-mod lower;
 mod rows;
 mod segment;
 

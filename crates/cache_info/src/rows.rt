@@ -10,9 +10,8 @@ ghost use Rattle.entry_slots.specs.Entries.{chain_of};
 ghost use Rattle.entry_slots.specs.Standing.{Stand, entries};
 
 use crate::entry::{listed_at, noted_at};
-use crate::lower::lower_laws;
 use apcu_model::ListedRow;
-use entry_slots::EntrySlots;
+use entry_slots::{EntrySlots, standing_laws};
 use seg_words::{Segment, WordsIn};
 use std::alloc::{AllocError, Global};
 
@@ -30,7 +29,7 @@ fn list_chain<S: Segment>(
         ≡ list.old.items ++ map listed_of (chain_of (entries slots.now) slot)) }
     ensures kept { Kept S.WordsIn seg.old seg.new }
 {
-    lower_laws();
+    standing_laws();
     let mut at = slots.first_in(seg, slot);
     for _passed in 0..slots.rows() {
         if at == 0 {
@@ -72,7 +71,7 @@ pub(crate) fn list_removed<S: Segment>(
         (λ list. list.items ≡ map listed_of (entries slots.now).removed) }
     ensures kept { Kept S.WordsIn seg.old seg.new }
 {
-    lower_laws();
+    standing_laws();
     let mut list = Vec::new(alloc);
     let mut at = slots.first_removed();
     while at != 0 {
@@ -91,7 +90,7 @@ fn add_chain<S: Segment>(slots: &EntrySlots, seg: &mut S, slot: u32, words: u64)
         (2 ^ 64 - 1) }
     ensures kept { Kept S.WordsIn seg.old seg.new }
 {
-    lower_laws();
+    standing_laws();
     let mut sum = words;
     let mut at = slots.first_in(seg, slot);
     for _passed in 0..slots.rows() {

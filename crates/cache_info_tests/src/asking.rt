@@ -1,7 +1,6 @@
 //! Requests, and what each cache answers to them, as a number.
 
-ghost use Rattle.std.specs.Prelude.{◌≡◌, ℕ, ◌≤◌, ◌%◌, false, IfOk};
-ghost use Rattle.apcu_model.specs.Conf.{IsGood};
+ghost use Rattle.std.specs.Prelude.{◌≡◌, ℕ, false, IfOk};
 ghost use Rattle.apcu_model.specs.Sequential.{is_iteration};
 ghost use Rattle.seg_words.specs.Windows.{has};
 ghost use Rattle.cache_core.specs.Caching.{CacheStands};
@@ -14,16 +13,23 @@ use std::alloc::Global;
 use std::process::Abort;
 use std::test::Fail;
 
-// 32 slots.
-pub(crate) fn shape(words: u32, ttl: u32) -> Conf
-    requires even { (words % 2 ≡ 0) × (512 ≤ words) × (words ≤ 65536) }
-    ensures good { IsGood result }
-    ensures words { result.words ≡ words }
-{
+// One segment of so many words, and 32 slots.
+pub(crate) const fn shape(words: u32, ttl: u32) -> Conf {
     Conf {
         words,
         slots: 32,
         ttl,
+        segments: 1,
+    }
+}
+
+// So many words with so many slots, in so many segments.
+pub(crate) const fn segments(words: u32, slots: u32, segments: u32) -> Conf {
+    Conf {
+        words,
+        slots,
+        ttl: 0,
+        segments,
     }
 }
 

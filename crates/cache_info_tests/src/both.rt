@@ -1,10 +1,10 @@
 //! The cache over words and the plain one, of which the same is asked.
 
-ghost use Rattle.std.specs.Prelude.{◌≡◌, ◌%◌, ◌≤◌, false};
+ghost use Rattle.std.specs.Prelude.{◌≡◌, false};
 ghost use Rattle.apcu_model.specs.Conf.{IsGood};
 ghost use Rattle.apcu_model.specs.Sequential.{is_iteration};
 
-use crate::asking::{Act, answer_of, flag, number_in, request_of, shape};
+use crate::asking::{Act, answer_of, flag, number_in, request_of};
 use apcu_model::{Conf, Counts, Plain, Reply, Request};
 use cache_core::Core;
 use cache_info::{cache_info, key_info, sma_info};
@@ -131,15 +131,13 @@ pub(crate) struct Both {
 }
 
 impl Both {
-    // Caches of so many words with this limit.
-    pub(crate) fn new(alloc: Global, words: u32, ttl: u32) -> Result<Both, AllocError>
-        requires even { (words % 2 ≡ 0) × (512 ≤ words) × (words ≤ 65536) }
-    {
-        let conf = shape(words, ttl);
+    // Caches of this shape, which is a good one.
+    pub(crate) fn new(rt: &impl Abort, alloc: Global, conf: &Conf) -> Result<Both, Fail> {
+        assert!(rt; conf.good());
         Ok(Both {
             alloc,
-            small: Small::new(alloc, &conf)?,
-            plain: Plain::new(alloc, &conf),
+            small: Small::new(alloc, conf)?,
+            plain: Plain::new(alloc, conf),
         })
     }
 

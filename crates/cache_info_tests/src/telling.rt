@@ -3,10 +3,10 @@
 ghost use Rattle.std.specs.Prelude.{◌≡◌, false, IfOk};
 ghost use Rattle.apcu_model.specs.Sequential.{is_iteration};
 
-use crate::asking::{Act, NONE, YES};
+use crate::asking::{Act, NO, NONE, YES, segments, shape};
 use crate::both::Both;
 use crate::draws::{Draw, key};
-use apcu_model::Request;
+use apcu_model::{Conf, Request};
 use notation::ByteOut;
 use php_graph::Bytes;
 use std::alloc::Global;
@@ -75,14 +75,15 @@ fn tell_all(rt: &impl Abort, alloc: Global, both: &mut Both, texts: &[Text]) -> 
     Ok(())
 }
 
-// What both tell after these rows, in new caches of 512 words.
+// What both tell after these rows, in new caches of this shape.
 fn told_after(
     rt: &impl Abort,
     alloc: Global,
+    conf: &Conf,
     rows: &[Row<'_>],
     texts: &[Text],
 ) -> Result<(), Fail> {
-    let mut both = Both::new(alloc, 512, 0)?;
+    let mut both = Both::new(rt, alloc, conf)?;
     play(rt, &mut both, rows)?;
     tell_all(rt, alloc, &mut both, texts)
 }
@@ -99,7 +100,7 @@ fn put_each(rt: &impl Abort, both: &mut Both, each: Each) -> Result<(), Fail> {
     Ok(())
 }
 
-// The same after these, where this limit is set.
+// The same after these, in 512 words with this limit.
 fn told_after_each(
     rt: &impl Abort,
     alloc: Global,
@@ -107,7 +108,7 @@ fn told_after_each(
     all: &[Each],
     texts: &[Text],
 ) -> Result<(), Fail> {
-    let mut both = Both::new(alloc, 512, limit)?;
+    let mut both = Both::new(rt, alloc, &shape(512, limit))?;
     for each in all {
         put_each(rt, &mut both, *each)?;
     }
@@ -131,6 +132,7 @@ fn tells_of_a_key(rt: HostRuntime) -> Result<(), Fail> {
     told_after(
         &rt,
         rt.alloc(),
+        &shape(512, 0),
         &[
             (100, b"a", Act::Put(1, 10), YES),
             (105, b"a", Act::Fetch, Some(1)),
@@ -230,6 +232,7 @@ fn lists_rows_and_gaps(rt: HostRuntime) -> Result<(), Fail> {
     told_after(
         &rt,
         rt.alloc(),
+        &shape(512, 0),
         &[
             (100, b"b", Act::Put(1, 0), YES),
             (100, b"c", Act::Put(1, 0), YES),
@@ -255,15 +258,169 @@ fn tell_drawn(rt: &impl Abort, alloc: Global, both: &mut Both, draw: Draw) -> Re
     Ok(())
 }
 
+// So many requests as they come, between which something is told.
+fn tell_many(rt: &impl Abort, alloc: Global, conf: &Conf, requests: u32) -> Result<(), Fail> {
+    let mut both = Both::new(rt, alloc, conf)?;
+    let mut draw = Draw::new(7);
+    for _request in 0..requests {
+        draw = draw.next();
+        both.ask(rt, &key(draw.name() % 20), draw.count(), draw.t)?;
+        tell_drawn(rt, alloc, &mut both, draw)?;
+    }
+    Ok(())
+}
+
 // The plain cache is the judge of what is told between requests as they come.
 #[test]
 fn tells_as_the_plain_cache(rt: HostRuntime) -> Result<(), Fail> {
-    let mut both = Both::new(rt.alloc(), 1_024, 3)?;
-    let mut draw = Draw::new(7);
-    for _request in 0..1_000 {
-        draw = draw.next();
-        both.ask(&rt, &key(draw.name() % 20), draw.count(), draw.t)?;
-        tell_drawn(&rt, rt.alloc(), &mut both, draw)?;
+    tell_many(&rt, rt.alloc(), &shape(1_024, 3), 1_000)?;
+    // Words, slots, segments and requests.
+    for [words, slots, count, requests] in [
+        [1_024, 32, 2, 500],
+        [65_536, 32, 2, 50],
+        [1_032, 32, 4, 500],
+        [2_176, 2, 64, 200],
+        [1_152, 2, 64, 200],
+    ] {
+        let conf = segments(words, slots, count);
+        tell_many(&rt, rt.alloc(), &conf, requests)?;
+    }
+    Ok(())
+}
+
+// Two segments of 512 words: each has gaps of its own, told by their place in it, and the largest
+// block is as long as a segment.
+#[test]
+fn tells_each_segment(rt: HostRuntime) -> Result<(), Fail> {
+    const EMPTY: &[Text] = &[
+        (
+            Told::Segment(false),
+            &[
+                "a:4:{s:7:\"num_seg\";i:2;s:8:\"seg_size\";i:4096;s:9:\"avail_mem\";i:7936;",
+                "s:11:\"block_lists\";a:2:{i:0;a:1:{i:0;a:2:{s:4:\"size\";i:3840;",
+                "s:6:\"offset\";i:256;}}i:1;a:1:{i:0;a:2:{s:4:\"size\";i:4096;",
+                "s:6:\"offset\";i:0;}}}}",
+            ],
+        ),
+        (
+            Told::Segment(true),
+            &["a:3:{s:7:\"num_seg\";i:2;s:8:\"seg_size\";i:4096;s:9:\"avail_mem\";i:7936;}"],
+        ),
+    ];
+    const FULL: &[Text] = &[(
+        Told::Segment(false),
+        &[
+            "a:4:{s:7:\"num_seg\";i:2;s:8:\"seg_size\";i:4096;s:9:\"avail_mem\";i:0;",
+            "s:11:\"block_lists\";a:2:{i:0;a:0:{}i:1;a:0:{}}}",
+        ],
+    )];
+    let two = segments(1_024, 32, 2);
+    told_after(&rt, rt.alloc(), &two, &[], EMPTY)?;
+    told_after(
+        &rt,
+        rt.alloc(),
+        &two,
+        &[
+            (0, b"a", Act::Text(3_985, 0), NO),
+            (0, b"a", Act::Text(3_984, 0), YES),
+            (0, b"b", Act::Text(3_728, 0), YES),
+            (0, b"a", Act::Exists, YES),
+        ],
+        FULL,
+    )
+}
+
+// Two segments of 34 words, of which two are slots. Twice 16 words are free on either side of the
+// border: a row of 16 fits there, and for one of 18 all rows have to go.
+#[test]
+fn finds_no_room_over_a_border(rt: HostRuntime) -> Result<(), Fail> {
+    const APART: &[Text] = &[(
+        Told::Segment(false),
+        &[
+            "a:4:{s:7:\"num_seg\";i:2;s:8:\"seg_size\";i:272;s:9:\"avail_mem\";i:272;",
+            "s:11:\"block_lists\";a:2:{i:0;a:1:{i:0;a:2:{s:4:\"size\";i:128;",
+            "s:6:\"offset\";i:144;}}i:1;a:2:{i:0;a:2:{s:4:\"size\";i:128;s:6:\"offset\";i:0;}",
+            "i:1;a:2:{s:4:\"size\";i:16;s:6:\"offset\";i:256;}}}}",
+        ],
+    )];
+    const ALONE: &[Text] = &[
+        (
+            Told::Cache(true),
+            &[
+                "a:8:{s:9:\"num_slots\";i:2;s:3:\"ttl\";i:0;s:8:\"num_hits\";i:0;",
+                "s:10:\"num_misses\";i:0;s:11:\"num_inserts\";i:1;s:11:\"num_entries\";i:1;",
+                "s:8:\"expunges\";i:1;s:8:\"mem_size\";i:144;}",
+            ],
+        ),
+        (
+            Told::Segment(false),
+            &[
+                "a:4:{s:7:\"num_seg\";i:2;s:8:\"seg_size\";i:272;s:9:\"avail_mem\";i:384;",
+                "s:11:\"block_lists\";a:2:{i:0;a:1:{i:0;a:2:{s:4:\"size\";i:112;",
+                "s:6:\"offset\";i:160;}}i:1;a:1:{i:0;a:2:{s:4:\"size\";i:272;",
+                "s:6:\"offset\";i:0;}}}}",
+            ],
+        ),
+    ];
+    const ROWS: &[Row<'static>] = &[
+        (0, b"a", Act::Put(1, 0), YES),
+        (0, b"b", Act::Put(1, 0), YES),
+        (0, b"c", Act::Put(1, 0), YES),
+        (0, b"d", Act::Put(1, 0), YES),
+        (0, b"b", Act::Delete, YES),
+        (0, b"c", Act::Delete, YES),
+    ];
+    const MORE: &[Row<'static>] = &[
+        (0, b"e", Act::Text(16, 0), YES),
+        (0, b"a", Act::Exists, YES),
+        (0, b"e", Act::Delete, YES),
+        (0, b"e", Act::Text(32, 0), YES),
+        (0, b"a", Act::Exists, NO),
+    ];
+    let mut both = Both::new(&rt, rt.alloc(), &segments(68, 2, 2))?;
+    play(&rt, &mut both, ROWS)?;
+    tell_all(&rt, rt.alloc(), &mut both, APART)?;
+    play(&rt, &mut both, MORE)?;
+    tell_all(&rt, rt.alloc(), &mut both, ALONE)
+}
+
+// Beside a row, a text one byte longer than the longest is stored nowhere, and the row stays. The
+// longest is stored, and the row stays where that is in a segment without it.
+fn take_the_longest(
+    rt: &impl Abort,
+    alloc: Global,
+    conf: &Conf,
+    bytes: usize,
+    stays: Option<i64>,
+) -> Result<(), Fail> {
+    let mut both = Both::new(rt, alloc, conf)?;
+    let rows = [
+        (0, b"a".as_slice(), Act::Put(1, 0), YES),
+        (0, b"b", Act::Text(bytes.wrapping_add(1), 0), NO),
+        (0, b"a", Act::Exists, YES),
+        (0, b"b", Act::Text(bytes, 0), YES),
+        (0, b"a", Act::Exists, stays),
+        (0, b"b", Act::Exists, YES),
+    ];
+    play(rt, &mut both, rows.as_slice())
+}
+
+#[test]
+fn takes_the_longest_text(rt: HostRuntime) -> Result<(), Fail> {
+    // Words, slots and segments.
+    const LONGEST: [([u32; 3], usize, Option<i64>); 8] = [
+        ([512, 32, 1], 3_728, NO),
+        ([1_024, 32, 2], 3_984, YES),
+        ([68, 2, 2], 160, YES),
+        ([132, 2, 2], 416, YES),
+        ([516, 2, 2], 1_952, YES),
+        ([2_176, 2, 64], 160, YES),
+        ([2_048, 2, 64], 144, YES),
+        ([1_152, 2, 64], 32, YES),
+    ];
+    for ([words, slots, count], bytes, stays) in LONGEST {
+        let conf = segments(words, slots, count);
+        take_the_longest(&rt, rt.alloc(), &conf, bytes, stays)?;
     }
     Ok(())
 }

@@ -3,10 +3,10 @@
 ghost use Rattle.std.specs.Prelude.{◌≡◌, false, IfOk};
 ghost use Rattle.apcu_model.specs.Sequential.{is_iteration};
 
-use crate::asking::{Act, NO, YES, number_in, request_of, shape};
+use crate::asking::{Act, NO, YES, number_in, request_of, segments, shape};
 use crate::draws::{Draw, key};
 use crate::held::{Copies, Copy, Held};
-use apcu_model::{Plain, Request};
+use apcu_model::{Conf, Plain, Request};
 use php_graph::Bytes;
 use std::alloc::{AllocError, Global};
 use std::process::Abort;
@@ -119,13 +119,24 @@ fn ask_held(
     Ok(draw.t)
 }
 
-// So many requests as they come, of both caches, in a segment that is never short of room, so that
-// what is held changes no answer. Each one meets some of two workers, for which blocks are held by
-// turns. In the end each key has the same value in both.
-fn many_held(rt: &impl Abort, alloc: Global, limit: u32, requests: u32) -> Result<(), Fail> {
-    let conf = shape(65_536, limit);
-    let mut held = Held::new(alloc, &conf)?;
-    let mut plain = Plain::new(alloc, &conf);
+// A cache of this shape, which is a good one.
+fn held_of(rt: &impl Abort, alloc: Global, conf: &Conf) -> Result<Held, Fail> {
+    assert!(rt; conf.good());
+    Ok(Held::new(alloc, conf)?)
+}
+
+// A plain one.
+fn plain_of(rt: &impl Abort, alloc: Global, conf: &Conf) -> Plain {
+    assert!(rt; conf.good());
+    Plain::new(alloc, conf)
+}
+
+// So many requests as they come, of both caches, which are never short of room, so that what is
+// held changes no answer. Each one meets some of two workers, for which blocks are held by turns.
+// In the end each key has the same value in both.
+fn many_held(rt: &impl Abort, alloc: Global, conf: &Conf, requests: u32) -> Result<(), Fail> {
+    let mut held = held_of(rt, alloc, conf)?;
+    let mut plain = plain_of(rt, alloc, conf);
     let mut copies = no_copies(alloc)?;
     let t = ask_held(
         rt,
@@ -133,7 +144,7 @@ fn many_held(rt: &impl Abort, alloc: Global, limit: u32, requests: u32) -> Resul
         &mut held,
         &mut plain,
         &mut copies,
-        limit,
+        conf.ttl,
         requests,
     )?;
     for name in 0..40u8 {
@@ -146,8 +157,9 @@ fn many_held(rt: &impl Abort, alloc: Global, limit: u32, requests: u32) -> Resul
 // The plain cache is the judge where blocks are held for workers.
 #[test]
 fn answers_as_the_plain_cache_with_windows(rt: HostRuntime) -> Result<(), Fail> {
-    many_held(&rt, rt.alloc(), 0, 2_000)?;
-    many_held(&rt, rt.alloc(), 3, 2_000)
+    many_held(&rt, rt.alloc(), &shape(65_536, 0), 2_000)?;
+    many_held(&rt, rt.alloc(), &shape(65_536, 3), 2_000)?;
+    many_held(&rt, rt.alloc(), &segments(262_144, 32, 64), 2_000)
 }
 
 // Each is asked in an event that meets the workers of the mask, and has its answer.
@@ -169,7 +181,7 @@ fn play_held(
 #[test]
 fn keeps_what_is_held(rt: HostRuntime) -> Result<(), Fail> {
     let alloc = rt.alloc();
-    let mut held = Held::new(alloc, &shape(512, 0))?;
+    let mut held = held_of(&rt, alloc, &shape(512, 0))?;
     let mut copies = no_copies(alloc)?;
     play_held(
         &rt,
@@ -192,4 +204,90 @@ fn keeps_what_is_held(rt: HostRuntime) -> Result<(), Fail> {
     )?;
     assert_eq!(rt; held.first_removed(), 0);
     Ok(())
+}
+
+// What is asked in an event that meets the workers of the mask, the answer, and where the row of
+// the key then stands; 0 for nowhere.
+type Placed = (u64, u8, Act, Option<i64>, u32);
+
+fn play_placed(
+    rt: &impl Abort,
+    alloc: Global,
+    held: &mut Held,
+    copies: &Copies,
+    rows: &[Placed],
+) -> Result<(), Fail> {
+    for (mask, name, act, wanted, place) in rows {
+        let answer = answer_held(rt, alloc, held, copies, *mask, (100, *name, *act))?;
+        assert_eq!(rt; answer, *wanted);
+        let key = Bytes::of(alloc, &key(*name))?;
+        assert_eq!(rt; held.place_of(&key), *place);
+    }
+    Ok(())
+}
+
+// The rows of these two keys, held from the next event on.
+fn hold_both(alloc: Global, held: &mut Held, first: u8, second: u8) -> Result<Copies, AllocError> {
+    Ok(Copies {
+        first: held_row(alloc, held, first)?,
+        second: held_row(alloc, held, second)?,
+    })
+}
+
+// Two removed rows stand on either side of a border, and are held. What becomes free there is two
+// gaps, also where all rows go and where both are let go at once.
+#[test]
+fn keeps_what_is_held_beside_a_border(rt: HostRuntime) -> Result<(), Fail> {
+    const FULL: &[Placed] = &[
+        (0, 1, Act::Text(1_728, 0), YES, 32),
+        (0, 2, Act::Text(1_888, 0), YES, 262),
+        (0, 3, Act::Text(1_968, 0), YES, 512),
+        (0, 4, Act::Text(1_904, 0), YES, 772),
+    ];
+    const HELD: &[Placed] = &[
+        (3, 2, Act::Delete, YES, 0),
+        (3, 3, Act::Delete, YES, 0),
+        (3, 1, Act::Delete, YES, 0),
+        (3, 5, Act::Text(1_984, 0), NO, 0),
+        (1, 5, Act::Text(3_985, 0), NO, 0),
+        (1, 5, Act::Text(3_984, 0), YES, 512),
+        (1, 6, Act::Text(1_728, 0), YES, 32),
+        (1, 7, Act::Text(8, 0), YES, 32),
+        (0, 8, Act::Text(3_984, 0), YES, 512),
+        (0, 9, Act::Text(3_600, 0), YES, 48),
+        (0, 7, Act::Exists, YES, 32),
+    ];
+    const AGAIN: &[Placed] = &[
+        (0, 0, Act::Clear, YES, 0),
+        (0, 1, Act::Text(1_728, 0), YES, 32),
+        (0, 2, Act::Text(1_888, 0), YES, 262),
+        (0, 3, Act::Text(1_968, 0), YES, 512),
+        (0, 4, Act::Text(1_904, 0), YES, 772),
+    ];
+    const LET_GO: &[Placed] = &[
+        (3, 2, Act::Delete, YES, 0),
+        (3, 3, Act::Delete, YES, 0),
+        (0, 5, Act::Text(1_968, 0), YES, 512),
+        (0, 6, Act::Text(1_888, 0), YES, 262),
+        (0, 1, Act::Exists, YES, 32),
+        (0, 4, Act::Exists, YES, 772),
+    ];
+    let alloc = rt.alloc();
+    let mut held = held_of(&rt, alloc, &segments(1_024, 32, 2))?;
+    play_then_hold(&rt, alloc, &mut held, FULL, HELD)?;
+    play_then_hold(&rt, alloc, &mut held, AGAIN, LET_GO)
+}
+
+// The one rows, with nothing held, and then the others, while those of the keys 2 and 3 are held.
+fn play_then_hold(
+    rt: &impl Abort,
+    alloc: Global,
+    held: &mut Held,
+    before: &[Placed],
+    then: &[Placed],
+) -> Result<(), Fail> {
+    let none = no_copies(alloc)?;
+    play_placed(rt, alloc, held, &none, before)?;
+    let copies = hold_both(alloc, held, 2, 3)?;
+    play_placed(rt, alloc, held, &copies, then)
 }

@@ -23,6 +23,7 @@ pub(crate) fn shape(words: u32, ttl: u32) -> Conf
         words,
         slots: 32,
         ttl,
+        segments: 1,
     }
 }
 

@@ -10,7 +10,8 @@ use Rattle.clap.specs.declared.error.kind.ErrorKind.TheVariants.{OutOfMemory}
 use Rattle.clap.specs.declared.parser.matches.ArgMatches.{ArgMatches}
 use Rattle.clap.proofs.OnLiterals.{clap_on_literals}
 use Rattle.clap.proofs.WalkLemmas.{first_value-rows}
-use Rattle.conf_read.specs.Command.{are_faulty, is_none_of, option_rule, program, value_given}
+use Rattle.conf_read.specs.Command.{option_rule}
+use Rattle.conf_read.specs.Options.{are_faulty, is_none_of, program}
 
 pub program_is_simple : is_simple_and_free program ≡ true
 unfolding clap_on_literals
@@ -46,10 +47,3 @@ faulty words e h never =
 -- where a parse succeeds there is no fault
 pub free : (words : List Text) → is_none_of words ≡ false → fault_of program words ≡ [] → are_faulty words ≡ false
 free words some none = rw (some, none) refl
-
--- what clap gives as the value of an option
-pub value_is : (app : App) (words : List Text) (m : ArgMatches) (name : Text) (r : Option (Bor Text)) → app ≡ program → HasMatchesOf app words m →
-    option_map (λ s. s.now) r ≡ first_value (found_of m) name → option_map (λ s. s.now) r ≡ value_given name words
-value_is app words m name r is h e =
-    let at_program = subst (λ a. HasMatchesOf a words m) is h in
-    e ∙ first_value-rows (found_of m) name ∙ ap (first_of name) (at_program refl).0

@@ -1,4 +1,3 @@
 pub mod Command
 pub mod Numbers
 pub mod Options
-pub mod Values

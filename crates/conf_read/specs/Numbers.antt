@@ -55,9 +55,12 @@ words_by bytes =
 abbrev pub words_told : List ℕ → Option ℕ
 words_told text = option_and_then words_by (bytes_in text)
 
--- ---- slots
+-- ---- bounds
 
--- so many slots of so many words: an even number of them, which leaves 16 words for blocks
-abbrev pub slots_by : ℕ → ℕ → Option ℕ
-slots_by words slots =
-    if slots % 2 == 0 && (nat_le 2 slots && nat_le (slots + 16) words) then Some slots else None
+-- the same, where it is not below another one
+abbrev pub at_least : ℕ → ℕ → Option ℕ
+at_least low n = if nat_le low n then Some n else None
+
+-- a number of at most twenty digits, between these two
+abbrev pub number_from : ℕ → ℕ → List ℕ → Option ℕ
+number_from low high text = option_and_then (at_least low) (number_in 20 high text)

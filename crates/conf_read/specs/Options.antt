@@ -1,38 +1,115 @@
--- What the words that the program is called with tell of the cache.
-use Rattle.std.specs.Prelude.{ℕ, if◌then◌else◌, List, codes, Option, Some, None, String}
-use Rattle.std.specs.Option.{option_and_then, option_map}
-use Rattle.clap.specs.Words.{Text}
+-- The options of the program, and what its words ask for by them.
+use Rattle.std.specs.Prelude.{◌≡◌, ℕ, ◌+◌, ◌*◌, ◌%◌, ◌≤◌, Bool, true, false, not, ◌&&◌, ◌||◌, ◌==◌}
+use Rattle.std.specs.Prelude.{nat_le, if◌then◌else◌, List, [], ◌∷◌, map, codes, Option, Some, None}
+use Rattle.std.specs.Prelude.{String, string_bytes}
+use Rattle.clap.specs.Words.{App, Row, Text, fault_of, first_of, matches_of, new_app}
 use Rattle.apcu_model.specs.declared.conf.Conf.{Conf}
-use Rattle.conf_read.specs.Command.{as_texts, are_faulty, value_given}
-use Rattle.conf_read.specs.Numbers.{number_in, words_told, slots_by}
+use Rattle.conf_read.specs.declared.settings.Settings.{Settings}
+use Rattle.conf_read.specs.declared.options.Row.{Row as CodeRow}
+use Rattle.conf_read.specs.declared.options.Reader.{Reader}
+use Rattle.conf_read.specs.declared.options.Reader.TheVariants.{Size, Number}
+use Rattle.conf_read.specs.Command.{with_options}
+use Rattle.conf_read.specs.Numbers.{number_from, words_told}
 
--- what is read of an option's value, and what stands for an option that is left out
+-- ---- the table
+
+-- an option: its name, what stands for it where it is left out, and what is read of its value
+pub record ProgramOption : Type 0 where
+  pub name : Text
+  pub default : ℕ
+  pub read : Text → Option ℕ
+
+-- the size of each segment, in words of 8 bytes: 32 MB
+abbrev pub shm_size : ProgramOption
+shm_size = record { name = codes "shm-size"; default = 4194304; read = words_told }
+
+abbrev pub segments : ProgramOption
+segments = record { name = codes "segments"; default = 1; read = number_from 1 64 }
+
+abbrev pub slots : ProgramOption
+slots = record { name = codes "slots"; default = 4096; read = number_from 2 1048576 }
+
+-- in seconds; none: no row grows old
+abbrev pub ttl : ProgramOption
+ttl = record { name = codes "ttl"; default = 0; read = number_from 0 4294967295 }
+
+abbrev pub names : List Text
+names = map (λ o. o.name) (shm_size ∷ segments ∷ slots ∷ ttl ∷ [])
+
+abbrev pub program : App
+program = with_options (new_app (codes "apcu_run")) names
+
+-- ---- what the words ask for
+
+infixl 10 ◌>>=◌
+abbrev pub ◌>>=◌ : {A B : Type 0} → Option A → (A → Option B) → Option B
+(Some x) >>= f = f x
+None >>= f = None
+
 abbrev pub read_or : ℕ → (Text → Option ℕ) → Option Text → Option ℕ
 read_or default read None = Some default
 read_or default read (Some text) = read text
 
--- the cache of so many words and slots: without `--ttl` no row grows old, and else its number of
--- seconds is below 2^32
-abbrev pub conf_with : ℕ → Option Text → ℕ → Option Conf
-conf_with words ttl slots = option_map (λ t. record { words = words; slots = slots; ttl = t })
-    (read_or 0 (number_in 20 4294967295) ttl)
+-- what clap's rows tell of an option
+abbrev pub told : ProgramOption → List Row → Option ℕ
+told option rows = read_or option.default option.read (first_of option.name rows)
 
--- the cache of so many words: without `--slots` there are 4096
-abbrev pub conf_in : Option Text → Option Text → ℕ → Option Conf
-conf_in slots ttl words = option_and_then (conf_with words ttl)
-    (option_and_then (slots_by words) (read_or 4096 (number_in 20 1048576) slots))
+-- so many slots leave 16 words of the first segment for blocks, and so many segments of so many
+-- words have 128 MB at most
+abbrev pub is_in_order : ℕ → ℕ → ℕ → Bool
+is_in_order words count chains =
+    chains % 2 == 0 && (nat_le (chains + 16) words && nat_le (count * words) 16777216)
 
--- the cache that the values tell: without `--shm-size` it has 32 MB
-abbrev pub conf_by : Option Text → Option Text → Option Text → Option Conf
-conf_by size slots ttl = option_and_then (conf_in slots ttl) (read_or 4194304 words_told size)
+abbrev pub cache_with : ℕ → ℕ → ℕ → ℕ → Conf
+cache_with words count chains seconds =
+    record { words = count * words; slots = chains; ttl = seconds; segments = count }
 
-abbrev pub conf_told : List Text → Option Conf
-conf_told words =
-    if are_faulty words then None
-    else conf_by (value_given (codes "shm-size") words) (value_given (codes "slots") words)
-    (value_given (codes "ttl") words)
+-- what clap's rows ask for: nothing where a value is out of its form or range, or two do not agree
+abbrev pub settings_in : List Row → Option Settings
+settings_in rows = do
+  words ← told shm_size rows
+  count ← told segments rows
+  chains ← told slots rows
+  seconds ← told ttl rows
+  if is_in_order words count chains
+      then Some (record { conf = cache_with words count chains seconds })
+      else None
 
--- the cache that the program is called for; none where its words are not in order, or a value is
--- out of its form or range
-abbrev pub conf_of : {Z : Type 0} → List (String Z) → Option Conf
-conf_of words = conf_told (as_texts words)
+-- the program's words as texts
+abbrev pub as_texts : {Z : Type 0} → List (String Z) → List Text
+as_texts = map string_bytes
+
+abbrev pub is_none_of : {A : Type 0} → List A → Bool
+is_none_of [] = true
+is_none_of (x ∷ xs) = false
+
+-- there is no word, or clap finds a fault: an unknown or a repeated option, a missing value, a word
+-- that is none of an option, a call for help
+abbrev pub are_faulty : List Text → Bool
+are_faulty words = is_none_of words || not (is_none_of (fault_of program words))
+
+abbrev pub settings_told : List Text → Option Settings
+settings_told words = if are_faulty words then None else settings_in (matches_of program words)
+
+-- what the program is called for; nothing where its words are not in order, or a value is out of
+-- its form or range
+abbrev pub settings_of : {Z : Type 0} → List (String Z) → Option Settings
+settings_of words = settings_told (as_texts words)
+
+-- ---- the code's rows
+
+abbrev pub reader_of : Reader → Text → Option ℕ
+reader_of Size text = words_told text
+reader_of (Number low high) text = number_from low high text
+
+abbrev pub option_of : CodeRow → ProgramOption
+option_of row =
+    record { name = row.name.now; default = row.default; read = reader_of row.reader }
+
+abbrev pub names_of : List CodeRow → List Text
+names_of rows = map (λ row. row.name.now) rows
+
+-- a number that the reader can give
+abbrev pub IsWithin : Reader → ℕ → Type 0
+IsWithin Size n = (n % 2 ≡ 0) × (32 ≤ n) × (n ≤ 16777216)
+IsWithin (Number low high) n = (low ≤ n) × (n ≤ high)

@@ -1,10 +1,11 @@
-//! The cache that the program's words call for: its options, read by clap, and their values.
+//! What the program's words ask for: its options, read by clap, and their values.
 #![tactic(auto)]
 
 mod command;
-mod conf;
 mod fault;
 mod numbers;
+mod options;
+mod settings;
 
-pub use conf::read_conf;
 pub use fault::ConfFault;
+pub use settings::{Settings, read_settings};

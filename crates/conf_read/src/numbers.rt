@@ -1,15 +1,12 @@
 // The numbers that the values of options write.
-ghost use Rattle.std.specs.Prelude.{◌≡◌, ◌<◌, ◌≤◌, ◌+◌, ◌%◌, ◌^◌, IfSome};
-ghost use Rattle.conf_read.specs.Numbers.{number_in, unit_of, bytes_in, words_told, slots_by};
+ghost use Rattle.std.specs.Prelude.{◌≡◌, ◌<◌, ◌≤◌, ◌%◌, ◌^◌, IfSome};
+ghost use Rattle.conf_read.specs.Numbers.{number_in, unit_of, bytes_in, words_told};
 
 // The most bytes of a segment.
 const MOST_BYTES: u32 = 134_217_728;
 
-// The most slots.
-const MOST_SLOTS: u32 = 1_048_576;
-
 // The number that a text writes in at most so many digits, where it is not above another.
-fn number_in(text: &[u8], most: usize, high: u32) -> Option<u32>
+pub(crate) fn number_in(text: &[u8], most: usize, high: u32) -> Option<u32>
     ensures is { result ≡ number_in most high text.now }
     ensures low { IfSome result (λ n. n ≤ high) }
 {
@@ -64,35 +61,4 @@ pub(crate) fn words_told(text: &str) -> Option<u32>
     } else {
         None
     }
-}
-
-// The number of slots that a text writes.
-pub(crate) fn slots_told(text: &str) -> Option<u32>
-    ensures is { result ≡ number_in 20 1048576 text.now }
-    ensures most { IfSome result (λ slots. slots ≤ 1048576) }
-{
-    number_in(text.as_bytes(), 20, MOST_SLOTS)
-}
-
-// So many slots of so many words, where there can be.
-pub(crate) fn slots_by(words: u32, slots: u32) -> Option<u32>
-    requires { slots ≤ 1048576 }
-    ensures is { result ≡ slots_by words slots }
-    ensures even { IfSome result (λ slots. slots % 2 ≡ 0) }
-    ensures least { IfSome result (λ slots. 2 ≤ slots) }
-    ensures most { IfSome result (λ slots. slots ≤ 1048576) }
-    ensures room { IfSome result (λ slots. slots + 16 ≤ words) }
-{
-    if slots % 2 == 0 && slots >= 2 && slots + 16 <= words {
-        Some(slots)
-    } else {
-        None
-    }
-}
-
-// The seconds of a time limit.
-pub(crate) fn seconds_told(text: &str) -> Option<u32>
-    ensures { result ≡ number_in 20 4294967295 text.now }
-{
-    number_in(text.as_bytes(), 20, u32::MAX)
 }

@@ -1,5 +1,5 @@
 use apcu_model::Conf;
-use conf_read::{ConfFault, read_conf};
+use conf_read::{ConfFault, Settings, read_settings};
 use std::alloc::Global;
 use std::process::Abort;
 use std::test::Fail;
@@ -9,23 +9,25 @@ fn expect<R: Abort>(
     rt: &R,
     alloc: Global,
     options: &[&str],
-    wanted: Result<Conf, ConfFault>,
+    wanted: Result<Settings, ConfFault>,
 ) -> Result<(), Fail> {
     let mut words = Vec::new(alloc);
     words.push(String::from_str(alloc, "apcu_run")?)?;
     for option in options {
         words.push(String::from_str(alloc, option)?)?;
     }
-    assert_eq!(rt; read_conf(alloc, &words), wanted);
+    assert_eq!(rt; read_settings(alloc, &words), wanted);
     Ok(())
 }
 
 #[test]
 fn words_in_order(rt: HostRuntime) -> Result<(), Fail> {
+    for options in [[].as_slice(), &["--"]] {
+        let conf = Conf::usual();
+        expect(&rt, rt.alloc(), options, Ok(Settings { conf }))?;
+    }
     for (options, words, slots, ttl) in [
-        ([].as_slice(), 4_194_304, 4096, 0),
-        (&["--"], 4_194_304, 4096, 0),
-        (&["--slots", "32"], 4_194_304, 32, 0),
+        (["--slots", "32"].as_slice(), 4_194_304, 32, 0),
         (&["--slots=32"], 4_194_304, 32, 0),
         (&["--shm-size=64k"], 8192, 4096, 0),
         (&["--ttl", "4294967295"], 4_194_304, 4096, 4_294_967_295),
@@ -43,8 +45,13 @@ fn words_in_order(rt: HostRuntime) -> Result<(), Fail> {
         ),
         (&["--slots", "32", "--ttl=7", "--shm-size=4096"], 512, 32, 7),
     ] {
-        let wanted = Conf { words, slots, ttl };
-        expect(&rt, rt.alloc(), options, Ok(wanted))?;
+        let conf = Conf {
+            words,
+            slots,
+            ttl,
+            segments: 1,
+        };
+        expect(&rt, rt.alloc(), options, Ok(Settings { conf }))?;
     }
     Ok(())
 }
@@ -56,7 +63,7 @@ fn words_out_of_order(rt: HostRuntime) -> Result<(), Fail> {
         &["-h"],
         &["help"],
         &["--version"],
-        &["--segments", "2"],
+        &["--segment", "2"],
         &["--tt", "7"],
         &["-ttl", "7"],
         &["32"],
@@ -77,7 +84,7 @@ fn words_out_of_order(rt: HostRuntime) -> Result<(), Fail> {
 
 #[test]
 fn no_word_at_all(rt: HostRuntime) {
-    assert_eq!(rt; read_conf(rt.alloc(), &[]), Err(ConfFault::Usage));
+    assert_eq!(rt; read_settings(rt.alloc(), &[]), Err(ConfFault::Usage));
 }
 
 #[test]
@@ -95,12 +102,13 @@ fn values_in_their_range(rt: HostRuntime) -> Result<(), Fail> {
     ] {
         let [words, slots_wanted, ttl_wanted] = wanted;
         let options = ["--shm-size", size, "--slots", slots, "--ttl", ttl];
-        let wanted = Conf {
+        let conf = Conf {
             words,
             slots: slots_wanted,
             ttl: ttl_wanted,
+            segments: 1,
         };
-        expect(&rt, rt.alloc(), options.as_slice(), Ok(wanted))?;
+        expect(&rt, rt.alloc(), options.as_slice(), Ok(Settings { conf }))?;
     }
     Ok(())
 }
@@ -133,6 +141,64 @@ fn values_out_of_their_range(rt: HostRuntime) -> Result<(), Fail> {
         ("4096", "32", "1s"),
     ] {
         let options = ["--shm-size", size, "--slots", slots, "--ttl", ttl];
+        expect(&rt, rt.alloc(), options.as_slice(), Err(ConfFault::Usage))?;
+    }
+    Ok(())
+}
+
+#[test]
+fn segments_in_their_range(rt: HostRuntime) -> Result<(), Fail> {
+    for (size, segments, slots, wanted) in [
+        ("4096", "2", "32", [1024, 2, 32]),
+        ("4096", "0000000000000000001", "32", [512, 1, 32]),
+        ("256", "64", "16", [2048, 64, 16]),
+        ("272", "3", "18", [102, 3, 18]),
+        ("2M", "64", "262128", [16_777_216, 64, 262_128]),
+        ("64M", "2", "1048576", [16_777_216, 2, 1_048_576]),
+        ("44739232", "3", "2", [16_777_212, 3, 2]),
+        ("128M", "1", "1048576", [16_777_216, 1, 1_048_576]),
+    ] {
+        let options = ["--segments", segments, "--shm-size", size, "--slots", slots];
+        let [words, segments_wanted, slots_wanted] = wanted;
+        let conf = Conf {
+            words,
+            slots: slots_wanted,
+            ttl: 0,
+            segments: segments_wanted,
+        };
+        expect(&rt, rt.alloc(), options.as_slice(), Ok(Settings { conf }))?;
+    }
+    Ok(())
+}
+
+#[test]
+fn segments_out_of_their_range(rt: HostRuntime) -> Result<(), Fail> {
+    for (size, segments, slots) in [
+        ("4096", "0", "32"),
+        ("4096", "65", "32"),
+        ("4096", "4294967297", "32"),
+        ("4096", "18446744073709551617", "32"),
+        ("4096", "000000000000000000001", "32"),
+        ("4096", "", "32"),
+        ("4096", "+2", "32"),
+        ("4096", "-1", "32"),
+        ("4096", "2 ", "32"),
+        ("4096", "0x2", "32"),
+        // Too large together, by the least that can be.
+        ("44739248", "3", "32"),
+        ("64M", "3", "32"),
+        ("128M", "2", "32"),
+        ("128M", "64", "32"),
+        // A segment is of even words, whatever their sum.
+        ("264", "2", "2"),
+        ("4104", "64", "32"),
+        ("240", "64", "2"),
+        // The slots stand in the first segment, and leave 16 words of it.
+        ("256", "2", "18"),
+        ("4096", "64", "498"),
+        ("2M", "64", "262130"),
+    ] {
+        let options = ["--shm-size", size, "--slots", slots, "--segments", segments];
         expect(&rt, rt.alloc(), options.as_slice(), Err(ConfFault::Usage))?;
     }
     Ok(())

@@ -1,13 +1,9 @@
 -- What a look-up for an integer finds, and the cache once the integer was set.
-use Rattle.std.proofs.Common.{◌≡◌, ℕ, Bool, true, false, not, ◌&&◌, cond, List, [], ◌∷◌, ◌++◌, map, Option, Some, None, refl, sym, ap, ◌∙◌, subst, inl, inr}
-use Rattle.std.specs.Prelude.{ℤ, Contains, find, option_map, if◌then◌else◌}
+use Rattle.std.proofs.Common.{◌≡◌, ℕ, Bool, true, false, not, ◌&&◌, cond, List, [], ◌∷◌, Option, Some, None, refl, sym, ap, ◌∙◌, subst}
+use Rattle.std.specs.Prelude.{ℤ, Contains, find, option_map}
 use Rattle.std.specs.Ordering.{int_eq}
-use Rattle.std.proofs.lemmas.Bool.{false≢true}
-use Rattle.std.proofs.lemmas.List.Elements.{Contains-append_left, Contains-append_right, Contains-append_cases}
-use Rattle.seg_words.specs.declared.segment.WordsIn.{Ghosts}
-use Rattle.seg_words.specs.Windows.{Aside, has, is_named}
-use Rattle.seg_words.specs.Kept.{Kept}
-use Rattle.seg_words.specs.Members.{Contains-first, Contains-later, Contains-map}
+use Rattle.seg_words.specs.Windows.{Aside, is_named}
+use Rattle.seg_words.specs.Members.{Contains-first, Contains-later}
 use Rattle.php_graph.specs.declared.kind.Kind.{Kind}
 use Rattle.php_graph.specs.declared.kind.Kind.TheVariants as kinds
 use Rattle.php_graph.specs.Graph.{kind_at}
@@ -16,14 +12,13 @@ use Rattle.apcu_model.specs.declared.request.StoreAnswer.TheVariants as answers
 use Rattle.apcu_model.specs.Cache.{Row, Cache, has_key}
 use Rattle.apcu_model.specs.Expiry.{is_hard_expired, live_row}
 use Rattle.apcu_model.specs.History.{is_scalar}
-use Rattle.apcu_model.specs.Counters.{integer_in, with_integer, with_integer_at, integer_set, Count, number_if, counted, counted_at, counted_on, is_expected, is_integer}
+use Rattle.apcu_model.specs.Counters.{integer_in, Count, number_if, counted, counted_at, counted_on, is_expected, is_integer}
 use Rattle.apcu_model.specs.Sequential.{number_reply}
 use Rattle.entry_slots.specs.Entries.{HoldsInt}
-use Rattle.entry_slots.specs.Standing.{Stands, entries}
-use Rattle.ttl_expunge.specs.Held.{AreRemoved, KeepsOpen}
+use Rattle.entry_slots.specs.Standing.{entries}
 use Rattle.cache_core.specs.declared.cache.Core.{Core}
 use Rattle.cache_core.specs.declared.scalar.Scalar.{Scalar}
-use Rattle.cache_core.specs.Caching.{cache_of, CacheStands}
+use Rattle.cache_core.specs.Caching.{cache_of}
 use Rattle.cache_core.specs.Integers.{NameNoScalar}
 use Rattle.cache_core.specs.Looking.{scalar_of}
 use Rattle.counter_entry.specs.declared.looking.Found.TheVariants.{Nothing, Other, Integer}
@@ -133,42 +128,6 @@ unnamed_at {key} {t} {c} {at} {n} old new k names same =
     ap (λ (a : Aside). is_named a.windows at) same
     ∙ subst (λ p. is_named old.windows p ≡ false) k.place (names.each k.row (live_there key t c k.row k.live) (int_scalar k.row.graph n k.int))
 
--- what stands does so after a call that only reads
-pub cache_kept : {X R : Type 0} {gh : Ghosts X R} {old new : X} (core : Core) → Kept gh old new → CacheStands gh core old → CacheStands gh core new
-cache_kept {gh = gh} {old} {new} core kept st = record {
-  stand = subst (λ ws. Stands core.slots ws (gh.aside new) (entries core.slots)) (sym kept.words) (subst (λ (a : Aside). Stands core.slots (gh.words old) a (entries core.slots)) (sym kept.aside) st.stand);
-  whole = st.whole;
-}
-
--- the rows stay
-pub same_keeps : (windows : List ℕ) (core : Core) → KeepsOpen windows (entries core.slots) (entries core.slots)
-same_keeps windows core = record { each = λ row l named. (row, l, refl, refl) }
-
-pub set_keeps : (windows key : List ℕ) (n : ℤ) (t : ℕ) (old new : Core) → cache_of new ≡ integer_set key n t (cache_of old) → KeepsOpen windows (entries old.slots) (entries new.slots)
-set_keeps windows key n t old new is = record {
-  each = λ row l named. subst (λ (c : Cache). (kept : Row) × Contains (c.rows ++ c.removed) kept × (kept.place ≡ row.place) × (kept.number ≡ row.number)) (sym is) (still row l);
-}
-  where
-    c : Cache
-    c = cache_of old
-
-    f : Row → Row
-    f = with_integer_at key n t
-
-    place : (row : Row) (b : Bool) → (if b then with_integer n t row else row).place ≡ row.place
-    place row true = refl
-    place row false = refl
-
-    number : (row : Row) (b : Bool) → (if b then with_integer n t row else row).number ≡ row.number
-    number row true = refl
-    number row false = refl
-
-    still : (row : Row) → Contains (c.rows ++ c.removed) row → (kept : Row) × Contains (map {A = Row} {B = Row} f c.rows ++ c.removed) kept × (kept.place ≡ row.place) × (kept.number ≡ row.number)
-    still row l = elim (Contains-append_cases c.rows c.removed row l) [
-      | inl k ↦ (f row, Contains-append_left (map {A = Row} {B = Row} f c.rows) c.removed (f row) (Contains-map f c.rows row k), place row (has_key key row), number row (has_key key row))
-      | inr k ↦ (row, Contains-append_right (map {A = Row} {B = Row} f c.rows) c.removed row k, refl, refl)
-    ]
-
 pub number_begun : (step : ℤ) (a : StoreAnswer) → number_if step a ≡ number_answered (begun_answer step a)
 number_begun step answers.Stored = refl
 number_begun step answers.TooLarge = refl
@@ -190,12 +149,6 @@ pub other_answer : (held key : List ℕ) (step : ℤ) (ttl t : ℕ) (c : Cache) 
 other_answer held key step ttl t c h =
     let o = other_of (live_row key t c) h in
     sym (ap (answer_at held key step ttl t c) o.1 ∙ ap (sum_answer step) o.2)
-
--- no place is refused but those of removed rows, since none is
-pub none_refused : (old new : Aside) (removed : List Row) → new ≡ old → ((b : ℕ) → has b old.refused ≡ false) → AreRemoved new removed
-none_refused old new removed same fresh = record {
-  each = λ b h. absurd (false≢true (sym (ap (λ (a : Aside). has b a.refused) same ∙ fresh b) ∙ h));
-}
 
 -- the number that counting gives is that of its answer
 pub number_told : (held key : List ℕ) (step : ℤ) (ttl t : ℕ) (c : Cache) → (counted held key step ttl t c).number ≡ number_answered (inc_answer held key step ttl t c)
@@ -219,3 +172,10 @@ same_count x y number cache = λ i. record { number = number i; cache = cache i 
 -- what is expected is the integer that was found
 pub expected_is : {key : List ℕ} {t : ℕ} {c : Cache} {at : ℕ} {n : ℤ} (expect : ℤ) → IsCounter key t c at n → is_expected expect (live_row key t c) ≡ int_eq n expect
 expected_is expect k = ap (is_expected expect) k.live ∙ ap (is_integer expect) k.int
+
+-- a counter that is new is never told as another value
+pub begun_number : (step : ℤ) (a : StoreAnswer) → begun_answer step a ≡ NotInteger → ⊥
+begun_number step answers.Stored h = cc h
+begun_number step answers.TooLarge h = cc h
+begun_number step answers.Exists h = cc h
+begun_number step answers.NoRoom h = cc h

@@ -1,14 +1,11 @@
--- What a generator's look-ups find, and what its insertions do to a segment.
-use Rattle.std.specs.Prelude.{◌≡◌, ℕ, Bool, true, false, List, [], ◌∷◌, Option, Some, None}
+-- What a generator's look-ups find, and what became of its value.
+use Rattle.std.specs.Prelude.{ℕ, List, [], ◌∷◌, Option, Some, None}
 use Rattle.std.specs.Prelude.{option_map}
-use Rattle.seg_words.specs.Windows.{Aside, has}
 use Rattle.apcu_model.specs.declared.request.StoreAnswer.{StoreAnswer}
-use Rattle.apcu_model.specs.declared.request.StoreAnswer.TheVariants as answers
 use Rattle.apcu_model.specs.Levels.{EntryLevel}
 use Rattle.apcu_model.specs.Cache.{Row, Cache}
 use Rattle.apcu_model.specs.Expiry.{live_row}
 use Rattle.apcu_model.specs.Sequential.{is_stored}
-use Rattle.ttl_expunge.specs.Held.{AreHeld, AreRemoved}
 use Rattle.counter_entry.specs.declared.answer.Fate.{Fate}
 use Rattle.counter_entry.specs.declared.answer.Fate.TheVariants.{Found, Made}
 
@@ -30,17 +27,3 @@ place_under levels t c = option_map (λ (row : Row). row.place) (row_under level
 abbrev pub fate_of : Option StoreAnswer → Fate
 fate_of None = Found
 fate_of (Some answer) = Made (is_stored answer)
-
--- room was made before this answer
-abbrev pub makes_room : StoreAnswer → Bool
-makes_room answers.NoRoom = true
-makes_room answers.Stored = true
-makes_room answers.TooLarge = false
-makes_room answers.Exists = false
-
--- The next insertion of an event may come: no place is refused as long as the removed rows were not
--- swept in it, and each of them is held once they were.
-pub record MayStoreNext (swept : Bool) (aside : Aside) (removed : List Row) : Type 0 where
-  pub fresh : swept ≡ false → (b : ℕ) → has b aside.refused ≡ false
-  pub held : swept ≡ true → AreHeld aside removed
-  pub refused : AreRemoved aside removed

@@ -1,22 +1,17 @@
 //! Values by generators: found under one of their keys, or made and stored under those that missed.
 
-ghost use Rattle.std.specs.Prelude.{◌≡◌, ℕ, ◌<◌, ◌≤◌, ◌^◌, ◌||◌, true, false, List, length, take};
-ghost use Rattle.std.specs.Prelude.{IfOk, OnOk, OnErr};
+ghost use Rattle.std.specs.Prelude.{◌≡◌, ◌<◌, ◌≤◌, ◌^◌, ◌||◌, true, false, List, length, take};
+ghost use Rattle.std.specs.Prelude.{IfOk};
 ghost use Rattle.seg_words.specs.Kept.{Kept, KeptBeside};
-ghost use Rattle.seg_words.specs.Probing.{Goes};
-ghost use Rattle.seg_words.specs.Windows.{Aside, has, held_blocks};
 ghost use Rattle.apcu_model.specs.declared.request.Request.TheVariants.{Entry};
 ghost use Rattle.apcu_model.specs.declared.request.Reply.TheVariants.{Gave};
 ghost use Rattle.apcu_model.specs.Change.{inserted};
 ghost use Rattle.apcu_model.specs.Generators.{given_by, missed_levels, looked_for, filled};
 ghost use Rattle.apcu_model.specs.Generators.{entered};
 ghost use Rattle.apcu_model.specs.Levels.{EntryLevel, most_levels};
-ghost use Rattle.apcu_model.specs.Sequential.{cache_after, reply_to};
-ghost use Rattle.entry_slots.specs.Lists.{has_place};
-ghost use Rattle.entry_slots.specs.Standing.{entries};
-ghost use Rattle.ttl_expunge.specs.Held.{AreRemoved, KeepsOpen};
 ghost use Rattle.cache_core.specs.Caching.{cache_of, CacheStands};
-ghost use Rattle.counter_entry.specs.Generating.{place_under, fate_of, makes_room, MayStoreNext};
+ghost use Rattle.cache_core.specs.Events.{MayInsert, DoesIf, IsBy, IsStep, makes_room};
+ghost use Rattle.counter_entry.specs.Generating.{place_under, fate_of};
 
 use crate::answer::Fate;
 use apcu_model::{Gen, GenKind, StoreAnswer};
@@ -51,8 +46,8 @@ struct Progress {
 /// the value is stored under the keys that missed, the innermost first, each with its own time to
 /// live and never over a live row.
 ///
-/// The value is copied before the first change: where memory is missing for it, nothing changed. No
-/// place may be refused before in this event.
+/// The value is copied before the first change: where memory is missing for it, nothing changed. It
+/// is the first change of its event.
 pub fn entry<S: Segment>(
     alloc: Global,
     core: &mut Core,
@@ -61,26 +56,11 @@ pub fn entry<S: Segment>(
     t: u64,
 ) -> Result<(Graph, Fate), AllocError>
     requires levels { length generator.now.levels ≤ most_levels }
-    requires stand { CacheStands S.WordsIn core.old seg.old }
-    requires fresh { (b : ℕ) → has b (S.aside seg.old).refused ≡ false }
-    ensures value { IfOk result (λ r. r.0 ≡ given_by generator.now t (cache_of core.old)) }
-    ensures fate { IfOk result (λ r. r.1 ≡ fate_of
-        (entered (held_blocks (S.aside seg.new)) generator.now t (cache_of core.old)).outermost) }
-    ensures reply { IfOk result (λ r. Gave r.0
-        ≡ reply_to (held_blocks (S.aside seg.new)) t (Entry generator.now) (cache_of core.old)) }
-    ensures cache { OnOk result (cache_of core.new
-        ≡ cache_after (held_blocks (S.aside seg.new)) t (Entry generator.now) (cache_of core.old)) }
-    ensures later { OnOk result ((later : Aside) → Goes (S.aside seg.new) later
-        → cache_of core.new
-        ≡ (entered (held_blocks later) generator.now t (cache_of core.old)).cache) }
-    ensures goes { Goes (S.aside seg.old) (S.aside seg.new) }
-    ensures keeps { KeepsOpen (S.aside seg.new).windows
-        (entries core.old.slots) (entries core.new.slots) }
-    ensures refused { AreRemoved (S.aside seg.new) (cache_of core.new).removed }
-    ensures stand { CacheStands S.WordsIn core.new seg.new }
-    ensures rest { S.rest seg.new ≡ S.rest seg.old }
-    ensures same { OnErr result (core.new ≡ core.old) }
-    ensures kept { OnErr result (Kept S.WordsIn seg.old seg.new) }
+    requires ready { MayInsert S.WordsIn false core.old seg.old }
+    ensures does { DoesIf S.WordsIn core.old core.new seg.old seg.new t
+        (Entry generator.now) result (λ r. Gave r.0) }
+    ensures fate { IfOk result (λ r. IsBy (S.aside seg.new) (λ held. fate_of
+        (entered held generator.now t (cache_of core.old)).outermost) r.1) }
 {
     let origin = look_through(alloc, core, seg, generator, t)?;
     note(core, seg, origin.missing, origin.at, t);
@@ -140,9 +120,7 @@ fn note<S: Segment>(core: &mut Core, seg: &mut S, missing: u32, at: Option<u32>,
     ensures cache { (levels : List EntryLevel) → at ≡ place_under levels t (cache_of core.old)
         → missing ≡ length (missed_levels levels t (cache_of core.old))
         → cache_of core.new ≡ looked_for levels t (cache_of core.old) }
-    ensures keeps { (windows : List ℕ)
-        → KeepsOpen windows (entries core.old.slots) (entries core.new.slots) }
-    ensures stand { CacheStands S.WordsIn core.new seg.new }
+    ensures step { IsStep S.WordsIn core.old core.new seg.old seg.new }
     ensures beside { KeptBeside S.WordsIn seg.old seg.new }
 {
     core.note_misses(missing);
@@ -161,18 +139,12 @@ fn fill<S: Segment>(
     t: u64,
 ) -> Progress
     requires missing { missing ≤ length generator.now.levels }
-    requires stand { CacheStands S.WordsIn core.old seg.old }
-    requires fresh { (b : ℕ) → has b (S.aside seg.old).refused ≡ false }
-    ensures later { (later : Aside) → Goes (S.aside seg.new) later
-        → filled (held_blocks later) value.now t (take missing generator.now.levels)
-        (cache_of core.old)
-        ≡ record { outermost = result.last; cache = cache_of core.new } }
-    ensures goes { Goes (S.aside seg.old) (S.aside seg.new) }
-    ensures keeps { KeepsOpen (S.aside seg.new).windows
-        (entries core.old.slots) (entries core.new.slots) }
-    ensures ready { MayStoreNext result.swept (S.aside seg.new) (cache_of core.new).removed }
-    ensures stand { CacheStands S.WordsIn core.new seg.new }
-    ensures rest { S.rest seg.new ≡ S.rest seg.old }
+    requires ready { MayInsert S.WordsIn false core.old seg.old }
+    ensures filled { IsBy (S.aside seg.new) (λ held. filled
+        held value.now t (take missing generator.now.levels) (cache_of core.old))
+        (record { outermost = result.last; cache = cache_of core.new }) }
+    ensures step { IsStep S.WordsIn core.old core.new seg.old seg.new }
+    ensures next { MayInsert S.WordsIn result.swept core.new seg.new }
 {
     if missing == 0 {
         return Progress {
@@ -207,18 +179,12 @@ fn insert<S: Segment>(
     t: u64,
 ) -> StoreAnswer
     requires short { length key.now < 2 ^ 32 }
-    requires stand { CacheStands S.WordsIn core.old seg.old }
-    requires ready { MayStoreNext swept (S.aside seg.old) (cache_of core.old).removed }
-    ensures later { (later : Aside) → Goes (S.aside seg.new) later
-        → inserted (held_blocks later) key.now value.now ttl true t (cache_of core.old)
-        ≡ record { answer = result; cache = cache_of core.new } }
-    ensures goes { Goes (S.aside seg.old) (S.aside seg.new) }
-    ensures keeps { KeepsOpen (S.aside seg.new).windows
-        (entries core.old.slots) (entries core.new.slots) }
-    ensures ready { MayStoreNext (swept || makes_room result)
-        (S.aside seg.new) (cache_of core.new).removed }
-    ensures stand { CacheStands S.WordsIn core.new seg.new }
-    ensures rest { S.rest seg.new ≡ S.rest seg.old }
+    requires ready { MayInsert S.WordsIn swept core.old seg.old }
+    ensures inserted { IsBy (S.aside seg.new)
+        (λ held. inserted held key.now value.now ttl true t (cache_of core.old))
+        (record { answer = result; cache = cache_of core.new }) }
+    ensures step { IsStep S.WordsIn core.old core.new seg.old seg.new }
+    ensures next { MayInsert S.WordsIn (swept || makes_room result) core.new seg.new }
 {
     if swept {
         core.store_next(seg, key, value, ttl, true, t)

@@ -1,11 +1,10 @@
-ghost use Rattle.std.specs.Prelude.{◌≡◌, ◌<◌, ◌^◌, length};
+ghost use Rattle.std.specs.Prelude.{◌≡◌, ◌<◌, ◌^◌, false, length};
 ghost use Rattle.seg_words.specs.Kept.{KeptBeside};
-ghost use Rattle.apcu_model.specs.Counters.{is_expected, swapped};
-ghost use Rattle.apcu_model.specs.Expiry.{live_row};
+ghost use Rattle.apcu_model.specs.declared.request.Request.TheVariants.{Cas};
+ghost use Rattle.apcu_model.specs.declared.request.Reply.TheVariants.{Flag};
 ghost use Rattle.cache_core.specs.Caching.{cache_of, CacheStands};
+ghost use Rattle.cache_core.specs.Events.{Does, IsUnchanged};
 ghost use Rattle.cache_core.specs.Integers.{NameNoScalar};
-ghost use Rattle.entry_slots.specs.Standing.{entries};
-ghost use Rattle.ttl_expunge.specs.Held.{KeepsOpen};
 
 use crate::looking::{Found, look_for};
 use cache_core::Core;
@@ -26,11 +25,9 @@ pub fn cas<S: Segment>(
     requires short { length key.now < 2 ^ 32 }
     requires stand { CacheStands S.WordsIn core.old seg.old }
     requires unnamed { NameNoScalar (S.aside seg.old).windows (cache_of core.old).rows }
-    ensures found { result ≡ is_expected expect (live_row key.now t (cache_of core.old)) }
-    ensures cache { cache_of core.new ≡ swapped key.now expect set t (cache_of core.old) }
-    ensures keeps { KeepsOpen (S.aside seg.new).windows
-        (entries core.old.slots) (entries core.new.slots) }
-    ensures stand { CacheStands S.WordsIn core.new seg.new }
+    ensures does { Does S.WordsIn core.old core.new seg.old seg.new t
+        (Cas key.now expect set) (Flag result) }
+    ensures none { result ≡ false → IsUnchanged S.WordsIn core.old core.new seg.old seg.new }
     ensures beside { KeptBeside S.WordsIn seg.old seg.new }
 {
     let Found::Integer(at, n) = look_for(core, seg, key, t) else {

@@ -102,7 +102,7 @@ all_more t conf scripts n ended texts script b text is all one = record {
 pub contains_at : {A : Type 0} (xs : List A) (k : ℕ) (x : A) → slice_get xs k ≡ Some x → Contains xs x
 contains_at xs k x h = (k, slice_get_within xs k x h, get_or_from_slice_get xs k x x h)
 
-contains_one : {A : Type 0} (x y : A) → Contains (x ∷ []) y → x ≡ y
+pub contains_one : {A : Type 0} (x y : A) → Contains (x ∷ []) y → x ≡ y
 contains_one x y (zero, lt, e) = e
 contains_one x y (suc k, lt, e) = absurd (omega (arith, lt))
 

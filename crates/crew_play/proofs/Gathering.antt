@@ -16,7 +16,7 @@ use Rattle.pin_table.specs.Lists.{AllOf, known_list}
 use Rattle.pin_table.specs.Views.{is_among}
 use Rattle.script_read.specs.declared.script.Step.{Step}
 use Rattle.script_read.specs.Play.{played, IsCompletePlay}
-use Rattle.reply_text.specs.Lines.{script_lines}
+use Rattle.reply_text.specs.Lines.{script_lines, texts_of}
 use Rattle.play_laws.specs.Own.{own_replies, wish_in, HasPlayed}
 use Rattle.play_laws.specs.Parts.{events-append}
 use Rattle.play_laws.specs.Whole.{IsPlayedOut, replies_from, told_by}
@@ -24,7 +24,7 @@ use Rattle.shared_cache.specs.declared.closed.Closed.{Closed}
 use Rattle.shared_cache.specs.Closing.{IsClosed}
 use Rattle.worker_play.specs.declared.script.PlayFault.{PlayFault}
 use Rattle.crew_play.specs.Crew.{AllEnd}
-use Rattle.crew_play.specs.Played.{texts_of, IsPlayed}
+use Rattle.crew_play.specs.Played.{IsPlayed}
 
 -- what stands at a place of a list
 get_some : {A : Type 0} (xs : List A) (k : ℕ) → k < length xs → (x : A) × (slice_get xs k ≡ Some x)

@@ -1,5 +1,6 @@
 -- How many events the workers of scripts may make.
 use Rattle.std.specs.Prelude.{ℕ, ◌+◌, List, [], ◌∷◌, map}
+use Rattle.apcu_model.specs.declared.journal.TheConstants.{MOST_EVENTS}
 use Rattle.script_read.specs.declared.script.Step.{Step}
 use Rattle.script_read.specs.Calls.{event_bound}
 
@@ -19,4 +20,4 @@ all_events slots (script ∷ scripts) = (events_in slots script + 1) + all_event
 
 -- the most of all workers together
 abbrev pub most_events : ℕ
-most_events = 4194304
+most_events = MOST_EVENTS

@@ -1,18 +1,10 @@
 -- What is left when all workers have played their scripts.
-use Rattle.std.specs.Prelude.{◌≡◌, ℕ, List, [], ◌∷◌, Some}
+use Rattle.std.specs.Prelude.{◌≡◌, ℕ, List, Some}
 use Rattle.apcu_model.specs.declared.conf.Conf.{Conf}
 use Rattle.apcu_model.specs.declared.journal.Mark.{Mark}
-use Rattle.apcu_model.specs.declared.request.Reply.{Reply}
 use Rattle.script_read.specs.declared.script.Step.{Step}
 use Rattle.script_read.specs.Play.{Play, played, IsCompletePlay}
-use Rattle.reply_text.specs.Lines.{script_lines}
-
--- for each worker the lines of its calls
-abbrev pub texts_of : Conf → List (List Step) → List (List Reply) → List (List ℕ)
-texts_of conf [] replies = []
-texts_of conf (script ∷ scripts) [] = []
-texts_of conf (script ∷ scripts) (replies ∷ others) =
-    script_lines conf script replies ∷ texts_of conf scripts others
+use Rattle.reply_text.specs.Lines.{texts_of}
 
 -- The journal can be played from its first mark to its last, and then no worker wants anything.
 -- The texts have the lines of each worker's calls, for the replies that it is given in that play:

@@ -6,11 +6,9 @@ ghost use Rattle.crew_play.specs.Budgets.{events_in, budgets_of, all_events, mos
 ghost use Rattle.crew_play.specs.declared.play.CrewFault.TheVariants.{Memory, TooMany, Pattern};
 
 use crate::play::CrewFault;
+use apcu_model::MOST_EVENTS;
 use script_read::{Script, Scripts};
 use std::alloc::Global;
-
-// The most events of all workers together.
-const MOST_EVENTS: u64 = 4_194_304;
 
 // How many events the worker of a script may make, its end included; None where they are too many.
 fn budget(script: &Script, slots: u32) -> Option<u32>

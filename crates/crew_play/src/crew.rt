@@ -10,6 +10,7 @@ ghost use Rattle.crew_play.specs.Budgets.{budgets_of};
 ghost use Rattle.crew_play.specs.Crew.{AllEnd};
 ghost use Rattle.crew_play.specs.Searching.{SomeRefusable};
 ghost use Rattle.worker_play.specs.Ends.{Ends};
+ghost use Rattle.worker_play.specs.Goes.{KnowsOwnEvents};
 ghost use Rattle.worker_play.specs.Patterns.{HasRefusable};
 ghost use Rattle.worker_play.specs.declared.script.PlayFault.TheVariants as faults;
 
@@ -40,7 +41,7 @@ fn last_worker<'a, N: TableName>(
     ensures table { result.0.table ≡ N.table }
     ensures worker { result.0.known.worker ≡ count - 1 }
     ensures no_event { result.0.known.own ≡ [] }
-    ensures none_seen { result.0.known.seen ≡ [] }
+    ensures whole { KnowsOwnEvents result.0 }
     ensures left { sum (map (λ step. event_bound N.conf.slots step.call) result.1.now)
         < result.0.known.left }
 {
@@ -113,7 +114,7 @@ pub(crate) fn play_crew<
         },
         || -> (Ended, Result<ByteOut, PlayFault>)
             requires { (conf.now ≡ N.conf) × (pass.table ≡ N.table)
-                × (pass.known.own ≡ []) × (pass.known.seen ≡ [])
+                × (pass.known.own ≡ []) × KnowsOwnEvents pass
                 × (sum (map (λ step. event_bound N.conf.slots step.call) script.now)
                 < pass.known.left) }
             ensures { Ends N.table N.conf pass.known.worker script.entry.now result.0

@@ -57,6 +57,7 @@ pub struct Played {
 // The texts, where all workers have one. Want of memory is told before a pattern, whoever had it.
 fn whole(alloc: Global, texts: Vec<Result<ByteOut, PlayFault>>) -> Result<Vec<ByteOut>, CrewFault>
     ensures all { IfOk result (λ all. map Ok all.items ≡ texts.items) }
+    ensures memory { Contains texts.items (Err faults.Memory) → result ≡ Err Memory }
     ensures pattern { IfErr result (λ e. e ≡ Pattern
         → Contains texts.items (Err faults.Pattern)) }
     ensures few { IfErr result (λ e. e ≢ TooMany) }

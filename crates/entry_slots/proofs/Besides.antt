@@ -12,9 +12,9 @@ use Rattle.entry_slots.specs.declared.slots.EntrySlots.{EntrySlots}
 use Rattle.entry_slots.specs.Lists.{is_at, has_place}
 use Rattle.entry_slots.specs.Entries.{Entries, IsWhole, blocks_of, without_rows}
 use Rattle.entry_slots.specs.Standing.{Stands, IsEntry}
-use Rattle.entry_slots.specs.Laws.{Laws}
+use Rattle.entry_slots.specs.Lower.{Laws}
 use Rattle.seg_words.specs.Members.{Contains-first, Contains-later, Contains-kept, count-cons, counted_some, any_there, any_from, none_in_nil}
-use Rattle.entry_slots.proofs.Homes.{IsHome, room, home_removed}
+use Rattle.entry_slots.proofs.Homes.{room, home_removed}
 use Rattle.entry_slots.proofs.Frames.{SameRow, entry_kept, chain_kept}
 use Rattle.entry_slots.proofs.Places.{rows_removed, count_blocks, at_itself}
 use Rattle.entry_slots.proofs.Fitting.{not_free}
@@ -97,9 +97,9 @@ module _ {e : EntrySlots} {ws : List ℕ} {aside : Aside} (s : Entries) (h : Sta
 
   pub cleared_stands : Laws → (ws1 ws' : List ℕ) (sma' : Sma) → ChangesBefore ws ws1 e.sma.from → ((slot : ℕ) → slot < e.sma.from → slice_index ws1 slot ≡ 0)
       → live_blocks ws1 e.sma.from ≡ live_blocks ws e.sma.from → live_blocks ws' e.sma.from ≡ kept_blocks places (live_blocks ws1 e.sma.from)
-      → SameBlocks ws1 ws' e.sma.from (kept_blocks places (live_blocks ws1 e.sma.from)) → sma'.from ≡ e.sma.from → sma'.to ≡ e.sma.to → IsReady sma' ws' aside
+      → SameBlocks ws1 ws' e.sma.from (kept_blocks places (live_blocks ws1 e.sma.from)) → sma'.from ≡ e.sma.from → sma'.to ≡ e.sma.to → sma'.piece ≡ e.sma.piece → IsReady sma' ws' aside
       → Stands (record e { sma = sma'; count = 0 }) ws' aside (without_rows s)
-  cleared_stands law ws1 ws' sma' before ended blocks live kept ef et ready = record {
+  cleared_stands law ws1 ws' sma' before ended blocks live kept ef et es ready = record {
     chains = λ slot lt. kept.before slot (omega (arith, lt, h.from)) ∙ ended slot (omega (arith, lt, h.from));
     removed_chain = chain_kept ws ws' e.removed s.removed (λ row c. link row c) h.removed_chain;
     rows = λ row c. absurd (none_in_nil row c);
@@ -117,6 +117,7 @@ module _ {e : EntrySlots} {ws : List ℕ} {aside : Aside} (s : Entries) (h : Sta
     good = h.good;
     from = ef ∙ h.from;
     to = et ∙ h.to;
+    piece = es ∙ h.piece;
   } where
     in_kept : (row : Row) → Contains s.removed row → Contains (kept_blocks places (live_blocks ws1 e.sma.from)) (extent_of row)
     in_kept row c =

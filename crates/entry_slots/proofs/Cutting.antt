@@ -6,6 +6,7 @@ use Rattle.std.proofs.lemmas.List.Elements.{Contains-append_left, Contains-appen
 use Rattle.std.specs.List.{Contains, filter, count_by}
 use Rattle.seg_words.specs.Windows.{Aside, is_named}
 use Rattle.seg_words.specs.Blocks.{IsTold, MayStore}
+use Rattle.apcu_model.specs.Conf.{room_of}
 use Rattle.sma_blocks.specs.Ready.{ChangesInner}
 use Rattle.apcu_model.specs.Cache.{Row, extent_of}
 use Rattle.apcu_model.specs.Walk.{is_in_slot}
@@ -14,7 +15,7 @@ use Rattle.entry_slots.specs.Lists.{is_at}
 use Rattle.entry_slots.specs.Entries.{Entries, chain_of}
 use Rattle.entry_slots.specs.Standing.{IsRowChain, Stands, IsEntry}
 use Rattle.entry_slots.specs.Links.{link_after}
-use Rattle.entry_slots.specs.Laws.{Laws}
+use Rattle.entry_slots.specs.Lower.{Laws}
 use Rattle.seg_words.specs.Members.{Contains-cases, Contains-first, Contains-later, none_in_nil, count-cons, counted_some}
 use Rattle.entry_slots.proofs.Blocks.{told_slot}
 use Rattle.entry_slots.proofs.Homes.{IsHome, room, told_at}
@@ -81,7 +82,7 @@ pub record IsLinkWord (ws windows : List ℕ) (m : ℕ) : Type 0 where
 
 pub spot_word : {e : EntrySlots} {ws : List ℕ} {aside : Aside} {s : Entries} (m : ℕ) → Stands e ws aside s → Spot e ws aside m → IsLinkWord ws aside.windows m
 spot_word {e} {ws} {aside} {s} m h (inl low) = record {
-  inside = omega (arith, h.from, h.to, h.ready.end, h.good.room);
+  inside = omega (arith, h.from, h.to, h.ready.end, room_of h.good);
   short = omega (arith, h.to, h.ready.end, h.good.words_most);
   told = told_slot e.sma ws aside m h.ready low;
   may = may_slot e.sma ws aside m h.ready low;

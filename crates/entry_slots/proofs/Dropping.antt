@@ -12,7 +12,7 @@ use Rattle.entry_slots.specs.declared.slots.EntrySlots.{EntrySlots}
 use Rattle.entry_slots.specs.Lists.{is_at, has_place, only_at, without_place}
 use Rattle.entry_slots.specs.Entries.{Entries, chain_of, removed_at, noted_row, noted_at}
 use Rattle.entry_slots.specs.Standing.{IsRowChain, IsEntry, Stands}
-use Rattle.entry_slots.specs.Laws.{Laws}
+use Rattle.entry_slots.specs.Lower.{Laws}
 use Rattle.seg_words.specs.Members.{Contains-filter, count-cons}
 use Rattle.entry_slots.proofs.Homes.{IsHome, room, home_row, home_removed, home_unlinked}
 use Rattle.entry_slots.proofs.Frames.{SameRow, SameBut, entry_kept, entry_noted, chain_kept, rows_apart}
@@ -127,6 +127,7 @@ module _ {e : EntrySlots} {ws : List ℕ} {aside : Aside} (s : Entries) (h : Sta
     good = h.good;
     from = h.from;
     to = h.to;
+    piece = h.piece;
   }
 
 -- the list after both

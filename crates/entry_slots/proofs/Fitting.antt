@@ -3,7 +3,7 @@ use Rattle.std.proofs.Common.{◌≡◌, inl, inr, ℕ, ◌+◌, ◌%◌, ◌<�
 use Rattle.std.proofs.lemmas.Bool.{cases_Bool, and_parts, and_from, false≢true, false_from_ne_true, not-true, lt-ltb}
 use Rattle.std.specs.List.{Contains, count_by, list_all, find, range_with_len}
 use Rattle.seg_words.specs.declared.extents.Extent.{Extent}
-use Rattle.seg_words.specs.Gaps.{meets, is_free, fits, first_fit}
+use Rattle.seg_words.specs.Gaps.{meets, is_free, is_whole, fits, first_fit}
 use Rattle.sma_blocks.specs.Live.{with_block}
 use Rattle.entry_slots.specs.Lists.{HaveSame}
 use Rattle.seg_words.specs.Members.{Contains-cases, Contains-first, Contains-later, count-cons, none_in_nil}
@@ -41,9 +41,9 @@ find_agree : (p q : ℕ → Bool) → ((x : ℕ) → p x ≡ q x) → (xs : List
 find_agree p q h [] = refl
 find_agree p q h (x ∷ xs) = rw (h x) (ap (λ (o : Option ℕ). cond (q x) (Some x) o) (find_agree p q h xs))
 
-pub same_fit : (from to n : ℕ) (xs ys : List Extent) → HaveSame xs ys → first_fit from to n xs ≡ first_fit from to n ys
-same_fit from to n xs ys same =
-    find_agree (fits from to n xs) (fits from to n ys) (λ a. ap (λ (b : Bool). eqb (a % 2) 0 && leb from a && leb (a + n) to && b) (same_free a n xs ys same)) (range_with_len 0 (to + 1))
+pub same_fit : (from to piece n : ℕ) (xs ys : List Extent) → HaveSame xs ys → first_fit from to piece n xs ≡ first_fit from to piece n ys
+same_fit from to piece n xs ys same =
+    find_agree (fits from to piece n xs) (fits from to piece n ys) (λ a. ap (λ (b : Bool). eqb (a % 2) 0 && leb from a && leb (a + n) to && b && is_whole piece a n) (same_free a n xs ys same)) (range_with_len 0 (to + 1))
 
 find_passes : (p : ℕ → Bool) (xs : List ℕ) (x : ℕ) → find p xs ≡ Some x → p x ≡ true
 find_passes p [] x h = cc
@@ -53,9 +53,10 @@ find_passes p (y ∷ ys) x h = elim (cases_Bool (p y)) [
 ]
 
 -- the words at the place are free
-pub fit_free : (from to n at : ℕ) (xs : List Extent) → first_fit from to n xs ≡ Some at → is_free at n xs ≡ true
-fit_free from to n at xs h =
-    (and_parts (eqb (at % 2) 0 && leb from at && leb (at + n) to) (is_free at n xs) (find_passes (fits from to n xs) (range_with_len 0 (to + 1)) at h)).1
+pub fit_free : (from to piece n at : ℕ) (xs : List Extent) → first_fit from to piece n xs ≡ Some at → is_free at n xs ≡ true
+fit_free from to piece n at xs h =
+    let all = and_parts (eqb (at % 2) 0 && leb from at && leb (at + n) to && is_free at n xs) (is_whole piece at n) (find_passes (fits from to piece n xs) (range_with_len 0 (to + 1)) at h) in
+    (and_parts (eqb (at % 2) 0 && leb from at && leb (at + n) to) (is_free at n xs) all.0).1
 
 -- a word of a block is not free
 pub not_free : (i n : ℕ) (xs : List Extent) (e : Extent) → Contains xs e → 1 ≤ n → e.place ≤ i → i < e.place + e.size → is_free i n xs ≡ false

@@ -13,7 +13,7 @@ use Rattle.value_image.specs.Image.{IsImageOf, image_of}
 use Rattle.apcu_model.specs.Cache.{Row, extent_of}
 use Rattle.entry_slots.specs.declared.slots.EntrySlots.{EntrySlots}
 use Rattle.entry_slots.specs.Standing.{IsRowChain, IsEntry}
-use Rattle.entry_slots.specs.Laws.{Laws}
+use Rattle.entry_slots.specs.Lower.{Laws}
 use Rattle.entry_slots.proofs.Runs.{words_long}
 use Rattle.seg_words.specs.Members.{Contains-first, Contains-later}
 use Rattle.entry_slots.proofs.Blocks.{Apart, live_apart}
@@ -50,11 +50,11 @@ entry_noted law ws ws' row mtime atime dtime hits h s em ea ed eh =
     let enough : 12 + words_in (length row.key) + image_length row.graph ≤ row.size = enough_is (12 + words_in (length row.key) + image_length row.graph) row.size h.whole in
     let zero : row.place + 0 ≡ row.place = omega arith in
     let klen = words_long row.key in
-    let glen = law.image_long row.graph in
+    let glen = law.images.long row.graph in
     let start : image_place ws row.place ≡ row.place + 12 + words_in (length row.key) = ap (λ n. row.place + 12 + (n + 7) / 8) h.key_length in
     let start' : image_place ws' row.place ≡ row.place + 12 + words_in (length row.key) = ap (λ n. row.place + 12 + (n + 7) / 8) (s.first 2 (omega arith) (omega arith) ∙ h.key_length) in
     let image : StandsAt ws (row.place + 12 + words_in (length row.key)) (image_of row.graph) =
-    law.run ws (row.place + 12 + words_in (length row.key)) (image_length row.graph) row.graph (subst (λ n. IsImageOf ws n (image_length row.graph) row.graph) start h.image) in
+    law.images.run ws (row.place + 12 + words_in (length row.key)) (image_length row.graph) row.graph (subst (λ n. IsImageOf ws n (image_length row.graph) row.graph) start h.image) in
     let image' : StandsAt ws' (row.place + 12 + words_in (length row.key)) (image_of row.graph) =
     run_same ws ws' (row.place + 12 + words_in (length row.key)) (image_of row.graph) s.count (λ i low high. s.later i (omega arith) (omega arith)) image in
     record {
@@ -70,7 +70,7 @@ entry_noted law ws ws' row mtime atime dtime hits h s em ea ed eh =
       number = s.later (row.place + 10) (omega arith) (omega arith) ∙ h.number;
       pin_count = s.later (row.place + 11) (omega arith) (omega arith) ∙ h.pin_count;
       key = run_same ws ws' (row.place + 12) (words_of row.key) s.count (λ i low high. s.later i (omega arith) (omega arith)) h.key;
-      image = subst (λ n. IsImageOf ws' n (image_length row.graph) row.graph) (sym start') (law.image ws' (row.place + 12 + words_in (length row.key)) row.graph h.image.graph image');
+      image = subst (λ n. IsImageOf ws' n (image_length row.graph) row.graph) (sym start') (law.images.image ws' (row.place + 12 + words_in (length row.key)) row.graph h.image.graph image');
       whole = h.whole;
       bytes = h.bytes;
       short_ttl = h.short_ttl;

@@ -10,14 +10,14 @@ use Rattle.seg_words.specs.Layout.{words_in}
 use Rattle.value_image.specs.Packed.{words_of, word_at}
 use Rattle.apcu_model.specs.Cache.{Row, has_key}
 use Rattle.entry_slots.specs.declared.slots.EntrySlots.{EntrySlots}
-use Rattle.entry_slots.specs.Laws.{Laws}
+use Rattle.entry_slots.specs.Lower.{Laws}
 use Rattle.entry_slots.proofs.Runs.{words_long, word_there}
 use Rattle.entry_slots.proofs.Homes.{IsHome}
 
 -- bytes with the same words are the same
 pub same_bytes : Laws → (a b : List ℕ) → length a ≡ length b → AreBytes a → AreBytes b → ((j : ℕ) → j < words_in (length b) → word_at a j ≡ word_at b j) → a ≡ b
 same_bytes law a b len sa sb each =
-    law.bytes a b sa sb len (same_lists (words_of a) (words_of b) (words_long a ∙ (ap words_in len ∙ sym (words_long b))) (λ k d lt.
+    law.packed.apart a b sa sb len (same_lists (words_of a) (words_of b) (words_long a ∙ (ap words_in len ∙ sym (words_long b))) (λ k d lt.
     let la = words_long a in
     let at : k < words_in (length a) = omega (arith, la, lt) in
     let too : k < words_in (length b) = subst (λ n. k < words_in n) len at in
@@ -28,7 +28,7 @@ same_bytes law a b len sa sb each =
 pub key_at : Laws → {e : EntrySlots} {ws : List ℕ} {aside : Aside} {row : Row} → IsHome e ws aside row → (at j : ℕ) → row.place ≡ at → j < words_in (length row.key) → slice_index ws (at + 12 + j) ≡ word_at row.key j
 key_at law {ws = ws} {row = row} h at j e lt =
     let len = words_long row.key in
-    ap (λ n. slice_index ws (n + 12 + j)) (sym e) ∙ (law.words ws (row.place + 12) (words_of row.key) j h.entry.key (omega (arith, len, lt)) ∙ word_there row.key j lt)
+    ap (λ n. slice_index ws (n + 12 + j)) (sym e) ∙ (law.runs.words ws (row.place + 12) (words_of row.key) j h.entry.key (omega (arith, len, lt)) ∙ word_there row.key j lt)
 
 -- the length of a row's key
 pub key_length_at : {e : EntrySlots} {ws : List ℕ} {aside : Aside} {row : Row} → IsHome e ws aside row → (at : ℕ) → row.place ≡ at → slice_index ws (at + 2) ≡ length row.key

@@ -37,3 +37,4 @@ pub mod Leaving
 pub mod Emptying
 pub mod Spotting
 pub mod Besides
+pub mod KeyCopies

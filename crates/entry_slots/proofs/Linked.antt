@@ -14,7 +14,7 @@ use Rattle.entry_slots.specs.Lists.{is_at, begins_at}
 use Rattle.entry_slots.specs.Entries.{Entries, chain_of, blocks_of, fresh_row, linked}
 use Rattle.entry_slots.specs.Standing.{IsRowChain, IsEntry, Stands}
 use Rattle.entry_slots.specs.Links.{link_after}
-use Rattle.entry_slots.specs.Laws.{Laws}
+use Rattle.entry_slots.specs.Lower.{Laws}
 use Rattle.seg_words.specs.Members.{Contains-cases, count-append, counted_some, Contains-filter}
 use Rattle.entry_slots.proofs.Homes.{IsHome, home_row, home_removed, home_unlinked}
 use Rattle.entry_slots.proofs.Places.{once, at_itself, count_blocks}
@@ -95,10 +95,11 @@ module _ {e : EntrySlots} {ws : List ℕ} {aside : Aside} (s : Entries) (h : Sta
         taken = λ b c. h.taken b (Contains-filter (λ block. not (eqb block.place at)) s.taken b c).0;
         ready = (law.blocks e.sma ws (slice_set ws m at) aside h.ready (set_change h m at spot)).ready;
         blocks = record { count = λ test. ap (count_by test) (law.blocks e.sma ws (slice_set ws m at) aside h.ready (set_change h m at spot)).blocks ∙ (h.blocks.count test ∙ linked_blocks test) };
-        apart = law.more row s.rows h.apart;
+        apart = law.rows.more row s.rows h.apart;
         number = en;
         count = ec;
         good = h.good;
         from = h.from;
         to = h.to;
+        piece = h.piece;
       }

@@ -11,7 +11,7 @@ use Rattle.apcu_model.specs.Change.{with_row}
 use Rattle.apcu_model.specs.Rows.{are_apart}
 use Rattle.apcu_model.specs.Walk.{is_in_slot, slot_of}
 use Rattle.entry_slots.specs.Entries.{Entries, chain_of}
-use Rattle.entry_slots.specs.Laws.{Laws}
+use Rattle.entry_slots.specs.Lower.{Laws}
 use Rattle.seg_words.specs.Members.{Contains-cases, Contains-first, Contains-later, none_in_nil, count-cons, count-append, counted_some}
 
 -- ---- lists
@@ -176,7 +176,7 @@ map_middle new (x ∷ front) old more nf y nm =
 pub own_slot_over : Laws → (s : Entries) (slot : ℕ) (new : Row) (front : List Row) (old : Row) (more : List Row) → are_apart s.rows ≡ true → list_any (has_key new.key) s.rows ≡ true → chain_of s slot ≡ front ++ old ∷ more → has_key new.key old ≡ true
     → filter (is_in_slot s.conf slot) (with_row new s.rows) ≡ front ++ new ∷ more
 own_slot_over law s slot new front old more apart some split y =
-    let chain : are_apart (front ++ old ∷ more) ≡ true = ap are_apart (sym split) ∙ law.picked (is_in_slot s.conf slot) s.rows apart in
+    let chain : are_apart (front ++ old ∷ more) ≡ true = ap are_apart (sym split) ∙ law.rows.picked (is_in_slot s.conf slot) s.rows apart in
     let same : old.key ≡ new.key = key_is new.key old y in
     let none = apart_split front old more chain in
     rw some (slot_replaced s slot new s.rows ∙ (ap (map (replaced new)) split

@@ -26,6 +26,7 @@ restand {e} {e'} {words} {aside} {s} h sma removed number count = record {
   good = h.good;
   from = ap (λ a. a.from) sma ∙ h.from;
   to = ap (λ a. a.to) sma ∙ h.to;
+  piece = ap (λ a. a.piece) sma ∙ h.piece;
 }
 
 -- what is at a place, of the entries that the words stand for

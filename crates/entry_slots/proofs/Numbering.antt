@@ -20,7 +20,7 @@ use Rattle.entry_slots.specs.declared.slots.EntrySlots.{EntrySlots}
 use Rattle.entry_slots.specs.Lists.{is_at}
 use Rattle.entry_slots.specs.Entries.{Entries, number_row, with_number}
 use Rattle.entry_slots.specs.Standing.{IsEntry, Stands}
-use Rattle.entry_slots.specs.Laws.{Laws}
+use Rattle.entry_slots.specs.Lower.{Laws}
 use Rattle.entry_slots.proofs.Runs.{words_long}
 use Rattle.entry_slots.proofs.Homes.{room, home_row}
 use Rattle.entry_slots.proofs.Changes.{OnlyIn, only_none, only_set}
@@ -100,8 +100,8 @@ number_entry law ws row at i t n v h graph fits e inside ei =
     let key_length : slice_index ws' (row.place + 2) ≡ length row.key = word 2 (omega arith) (omega arith) ∙ h.key_length in
     let start' : image_place ws' row.place ≡ row.place + 12 + words_in (length row.key) = ap (λ m. row.place + 12 + (m + 7) / 8) key_length in
     let old : IsImageOf ws (row.place + 12 + words_in (length row.key)) (image_length row.graph) row.graph = subst (λ m. IsImageOf ws m (image_length row.graph) row.graph) start h.image in
-    let run : StandsAt ws (row.place + 12 + words_in (length row.key)) (2 ∷ cast_unsigned w64 v ∷ []) = subst (λ r. StandsAt ws (row.place + 12 + words_in (length row.key)) r) (ap image_of graph ∙ int_words v) (law.run ws (row.place + 12 + words_in (length row.key)) (image_length row.graph) row.graph old) in
-    let tag : slice_index ws' (row.place + 12 + words_in (length row.key)) ≡ 2 = other (row.place + 12 + words_in (length row.key)) (omega arith) (omega arith) ∙ (ap (slice_index ws) (omega arith) ∙ law.words ws (row.place + 12 + words_in (length row.key)) (2 ∷ cast_unsigned w64 v ∷ []) 0 run (omega arith)) in
+    let run : StandsAt ws (row.place + 12 + words_in (length row.key)) (2 ∷ cast_unsigned w64 v ∷ []) = subst (λ r. StandsAt ws (row.place + 12 + words_in (length row.key)) r) (ap image_of graph ∙ int_words v) (law.images.run ws (row.place + 12 + words_in (length row.key)) (image_length row.graph) row.graph old) in
+    let tag : slice_index ws' (row.place + 12 + words_in (length row.key)) ≡ 2 = other (row.place + 12 + words_in (length row.key)) (omega arith) (omega arith) ∙ (ap (slice_index ws) (omega arith) ∙ law.runs.words ws (row.place + 12 + words_in (length row.key)) (2 ∷ cast_unsigned w64 v ∷ []) 0 run (omega arith)) in
     let value : slice_index ws' (row.place + 12 + words_in (length row.key) + 1) ≡ cast_unsigned w64 n =
     ap (slice_index ws') (omega arith) ∙ (get_or-set_other once (at + 6) i t 0 (omega arith) ∙ get_or-set_same ws i (cast_unsigned w64 n) 0 (omega arith)) in
     let image : StandsAt ws' (row.place + 12 + words_in (length row.key)) (image_of (kinds.Int n ∷ [])) = subst (λ r. StandsAt ws' (row.place + 12 + words_in (length row.key)) r) (sym (int_words n)) (two_words ws' (row.place + 12 + words_in (length row.key)) 2 (cast_unsigned w64 n) (omega (arith, count)) tag value) in
@@ -118,7 +118,7 @@ number_entry law ws row at i t n v h graph fits e inside ei =
       number = word 10 (omega arith) (omega arith) ∙ h.number;
       pin_count = word 11 (omega arith) (omega arith) ∙ h.pin_count;
       key = run_same ws ws' (row.place + 12) (words_of row.key) count (λ j low high. other j (omega arith) (omega arith)) h.key;
-      image = subst (λ m. IsImageOf ws' m 2 (kinds.Int n ∷ [])) (sym start') (law.image ws' (row.place + 12 + words_in (length row.key)) (kinds.Int n ∷ []) (int_graph n fits) image);
+      image = subst (λ m. IsImageOf ws' m 2 (kinds.Int n ∷ [])) (sym start') (law.images.image ws' (row.place + 12 + words_in (length row.key)) (kinds.Int n ∷ []) (int_graph n fits) image);
       whole = size;
       bytes = h.bytes;
       short_ttl = h.short_ttl;

@@ -59,6 +59,7 @@ closed_stands e ws old new s fewer h = record {
   good = h.good;
   from = h.from;
   to = h.to;
+  piece = h.piece;
 }
 
 -- a window opens
@@ -86,6 +87,7 @@ opened_stands e ws old new s at there more h =
       good = h.good;
       from = h.from;
       to = h.to;
+      piece = h.piece;
     }
 
 pub listed_probed : (e : EntrySlots) (ws : List ℕ) (aside : Aside) (s : Entries) (at : ℕ) → Stands e ws aside s → has_place at (listed s) ≡ true → (windows : List ℕ) → MayProbe ws windows at

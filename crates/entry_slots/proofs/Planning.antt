@@ -24,7 +24,7 @@ use Rattle.entry_slots.specs.Entries.{Entries, chain_of, fresh_row, linked, foun
 use Rattle.entry_slots.specs.Standing.{IsRowChain, IsEntry, Stands}
 use Rattle.entry_slots.specs.Links.{link_after, IsLinkTo, IsTarget}
 use Rattle.entry_slots.specs.Written.{head_words, entry_words}
-use Rattle.entry_slots.specs.Laws.{Laws}
+use Rattle.entry_slots.specs.Lower.{Laws}
 use Rattle.entry_slots.proofs.Runs.{words_long}
 use Rattle.seg_words.specs.Members.{Contains-cases, Contains-first, Contains-later, any_from, Contains-kept, none_in_nil}
 use Rattle.entry_slots.proofs.Blocks.{live_bounds, live_word}
@@ -106,7 +106,7 @@ module _ {e : EntrySlots} {ws : List ℕ} {aside : Aside} (s : Entries) (h : Sta
   }
 
   entry_long : Laws → (note : Note) → length (entry_words key g note) ≡ 11 + words_in (length key) + image_length g
-  entry_long law note = omega (arith, length-append (head_words key g note) (words_of key ++ image_of g), length-append (words_of key) (image_of g), words_long key, law.image_long g)
+  entry_long law note = omega (arith, length-append (head_words key g note) (words_of key ++ image_of g), length-append (words_of key) (image_of g), words_long key, law.images.long g)
 
   entry_only : Laws → (note : Note) → OnlyIn ws (written ws (at + 1) (entry_words key g note)) (at + 1) (at + block_size (length key) g)
   entry_only law note = only_wider ws (written ws (at + 1) (entry_words key g note)) (at + 1) (at + 1 + length (entry_words key g note)) (at + block_size (length key) g) (written_only law ws (at + 1) (entry_words key g note)) (let r = taken_room in omega (arith, r.2, entry_long law note))

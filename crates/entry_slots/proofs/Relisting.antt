@@ -17,7 +17,7 @@ use Rattle.entry_slots.specs.Lists.{is_at, begins_at, has_place, only_at, withou
 use Rattle.entry_slots.specs.Entries.{Entries, chain_of, moved_at, off_at, given_at, freed_at}
 use Rattle.entry_slots.specs.Standing.{IsRowChain, IsEntry, Stands}
 use Rattle.entry_slots.specs.Links.{IsRemovedLink}
-use Rattle.entry_slots.specs.Laws.{Laws}
+use Rattle.entry_slots.specs.Lower.{Laws}
 use Rattle.seg_words.specs.Members.{Contains-cases, Contains-first, Contains-later, any_there, any_from, count-append, count-cons, counted_some, none_in_nil, Contains-filter, Contains-kept}
 use Rattle.entry_slots.proofs.Homes.{IsHome, room, home_row, home_removed, home_unlinked}
 use Rattle.entry_slots.proofs.Frames.{entry_kept, chain_kept}
@@ -55,6 +55,7 @@ relisted law {e} {ws} {aside} s h ws' change entry chains first removed unlinked
   good = h.good;
   from = h.from;
   to = h.to;
+  piece = h.piece;
 }
 
 no_change : (e : EntrySlots) (ws : List ℕ) (aside : Aside) → ChangesInner e.sma ws ws aside
@@ -188,9 +189,9 @@ module _ {e : EntrySlots} {ws : List ℕ} {aside : Aside} (s : Entries) (h : Sta
 -- ---- a block is given back
 
 pub given_stands : Laws → {e : EntrySlots} {ws : List ℕ} {aside : Aside} (s : Entries) (h : Stands e ws aside s) (at : ℕ) (q : Row) → Contains s.unlinked q → q.place ≡ at → (sma' : Sma) (ws' : List ℕ)
-    → live_blocks ws' e.sma.from ≡ without_block at (live_blocks ws e.sma.from) → SameBlocks ws ws' e.sma.from (without_block at (live_blocks ws e.sma.from)) → sma'.from ≡ e.sma.from → sma'.to ≡ e.sma.to → IsReady sma' ws' aside
+    → live_blocks ws' e.sma.from ≡ without_block at (live_blocks ws e.sma.from) → SameBlocks ws ws' e.sma.from (without_block at (live_blocks ws e.sma.from)) → sma'.from ≡ e.sma.from → sma'.to ≡ e.sma.to → sma'.piece ≡ e.sma.piece → IsReady sma' ws' aside
     → Stands (record e { sma = sma' }) ws' aside (record s { unlinked = without_place at s.unlinked })
-given_stands law {e} {ws} {aside} s h at q there place sma' ws' live same ef et ready =
+given_stands law {e} {ws} {aside} s h at q there place sma' ws' live same ef et es ready =
     let blocks : List Extent = live_blocks ws e.sma.from in
     let left : List Extent = without_block at blocks in
     let stays : (row : Row) → IsHome e ws aside row → row.place ≢ at → Contains left (extent_of row) = λ row home other. Contains-kept (λ b. not (eqb b.place at)) blocks (extent_of row) home.live (not_from_false (eqb row.place at) (ne_eqb row.place at other)) in
@@ -225,6 +226,7 @@ given_stands law {e} {ws} {aside} s h at q there place sma' ws' live same ef et 
       good = h.good;
       from = ef ∙ h.from;
       to = et ∙ h.to;
+      piece = es ∙ h.piece;
     }
 
 -- ---- what the calls need

@@ -11,7 +11,7 @@ use Rattle.apcu_model.specs.Walk.{is_in_slot, slot_of}
 use Rattle.entry_slots.specs.declared.slots.EntrySlots.{EntrySlots}
 use Rattle.entry_slots.specs.Entries.{Entries, chain_of}
 use Rattle.entry_slots.specs.Standing.{IsRowChain, IsEntry, Stands}
-use Rattle.entry_slots.specs.Laws.{Laws}
+use Rattle.entry_slots.specs.Lower.{Laws}
 use Rattle.seg_words.specs.Members.{Contains-cases, Contains-first, Contains-later, none_in_nil, Contains-filter}
 use Rattle.entry_slots.proofs.Homes.{IsHome, room, home_row, home_removed, home_unlinked}
 use Rattle.entry_slots.proofs.Changes.{OnlyIn, named_same}
@@ -113,10 +113,11 @@ module _ {e : EntrySlots} {ws : List ℕ} {aside : Aside} {s : Entries} (h : Sta
         taken = h.taken;
         ready = (law.blocks e.sma ws ws' aside h.ready rewriting).ready;
         blocks = record { count = λ test. ap (count_by test) (law.blocks e.sma ws ws' aside h.ready rewriting).blocks ∙ (h.blocks.count test ∙ ap (λ es. count_by test (es ++ (map extent_of s.removed ++ (map extent_of s.unlinked ++ s.taken)))) (sym (extents_map f keeps s.rows))) };
-        apart = law.changed f s.rows keeps.key ∙ h.apart;
+        apart = law.rows.changed f s.rows keeps.key ∙ h.apart;
         number = h.number;
         count = h.count ∙ sym (length-map s.rows f);
         good = h.good;
         from = h.from;
         to = h.to;
+        piece = h.piece;
       }

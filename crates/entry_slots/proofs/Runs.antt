@@ -7,7 +7,7 @@ use Rattle.seg_words.specs.Blocks.{MayStore}
 use Rattle.seg_words.specs.Layout.{words_in}
 use Rattle.value_image.specs.Packed.{words_of, word_at}
 use Rattle.value_image.specs.Rows.{written, MayWrite}
-use Rattle.entry_slots.specs.Laws.{Laws}
+use Rattle.entry_slots.specs.Lower.{Laws}
 
 pub words_long : (bytes : List ℕ) → length (words_of bytes) ≡ words_in (length bytes)
 words_long bytes = length-map-range_with_len (word_at bytes) 0 (words_in (length bytes))
@@ -21,10 +21,10 @@ may_write_fewer row windows at n m h le = record { inside = omega (arith, h.insi
 -- behind a run that was written the rest may still be
 pub may_write_after : Laws → (row windows : List ℕ) (at n : ℕ) (run : List ℕ) (b m : ℕ) → MayWrite row windows at n → b ≡ at + length run → length run + m ≤ n → MayWrite (written row at run) windows b m
 may_write_after law row windows at n run b m h e le =
-    let same = law.long row at run in
+    let same = law.written.long row at run in
     record {
       inside = omega (arith, same, h.inside);
-      apart = λ i low high. law.stored row windows at run i (may_write_fewer row windows at n (length run) h (omega arith)) (h.apart i (omega arith) (omega arith));
+      apart = λ i low high. law.written.stored row windows at run i (may_write_fewer row windows at n (length run) h (omega arith)) (h.apart i (omega arith) (omega arith));
     }
 
 -- The same from one call to the next: a run was written, nothing else has changed.
@@ -36,7 +36,7 @@ may_write_along law row old at n run row' new b m h ew ea eb le =
 -- one run written behind another
 pub written_along : Laws → (row : List ℕ) (at : ℕ) (xs ys row' row'' : List ℕ) (b : ℕ) → row' ≡ written row at xs → row'' ≡ written row' b ys → b ≡ at + length xs → row'' ≡ written row at (xs ++ ys)
 written_along law row at xs ys row' row'' b e f eb =
-    f ∙ (ap (λ (r : List ℕ). written r b ys) e ∙ (ap (λ (k : ℕ). written (written row at xs) k ys) eb ∙ sym (law.joined row at xs ys)))
+    f ∙ (ap (λ (r : List ℕ). written r b ys) e ∙ (ap (λ (k : ℕ). written (written row at xs) k ys) eb ∙ sym (law.written.joined row at xs ys)))
 
 -- the next word of a run that is being written may be stored
 pub may_store_next : Laws → (row windows : List ℕ) (at i : ℕ) (run : List ℕ) → MayWrite row windows at (length run) → i < length run
@@ -51,12 +51,12 @@ pub written_more : Laws → (row : List ℕ) (at : ℕ) (run : List ℕ) (i x : 
 written_more law row at run i x lt e =
     let front : length (take i run) ≡ i = length-take-le i run (omega arith) in
     ap₂ (λ (k y : ℕ). slice_set (written row at (take i run)) k y) (ap (λ (k : ℕ). at + k) (sym front)) e
-    ∙ (sym (law.joined row at (take i run) (get_or run i 0 ∷ [])) ∙ ap (λ (r : List ℕ). written row at r) (sym (take_more run i 0 lt)))
+    ∙ (sym (law.written.joined row at (take i run) (get_or run i 0 ∷ [])) ∙ ap (λ (r : List ℕ). written row at r) (sym (take_more run i 0 lt)))
 
 -- what may be stored still may be, once another such word was
 pub may_store_set : Laws → (row windows : List ℕ) (j i w : ℕ) → j < length row → MayStore row windows j → MayStore row windows i → MayStore (slice_set row j w) windows i
 may_store_set law row windows j i w inside hj hi =
-    law.stored row windows j (w ∷ []) i (record {
+    law.written.stored row windows j (w ∷ []) i (record {
       inside = omega arith;
       apart = λ k low high. let e : j ≡ k = omega arith in subst (λ (n : ℕ). MayStore row windows n) e hj;
     }) hi

@@ -1,11 +1,11 @@
 -- How far the walk to the spot of a key has come.
-use Rattle.std.proofs.Common.{◌≡◌, ◌≢◌, ℕ, ◌+◌, ◌<◌, ◌≤◌, Bool, true, false, ◌||◌, List, [], ◌∷◌, ◌++◌, length, slice_index, Option, Some, None, refl, sym, ap, ◌∙◌, subst, arith, length-append}
-use Rattle.std.proofs.lemmas.Bool.{or_from, or_parts, or_left, or_right, false≢true, cases_Bool, eq-eqb}
+use Rattle.std.proofs.Common.{◌≡◌, ◌≢◌, ℕ, ◌+◌, ◌<◌, ◌≤◌, Bool, true, false, ◌||◌, List, [], ◌∷◌, ◌++◌, length, slice_index, Some, None, refl, sym, ap, ◌∙◌, subst, arith, length-append}
+use Rattle.std.proofs.lemmas.Bool.{or_from, or_parts, or_left, or_right, eq-eqb}
 use Rattle.std.proofs.lemmas.List.{append_assoc, append-nil}
 use Rattle.std.proofs.lemmas.List.Folds.{list_any-append}
 use Rattle.std.proofs.lemmas.List.Elements.{Contains-append_left, Contains-append_right}
 use Rattle.std.proofs.lemmas.List.Sums.{length-filter, count_by-le-length}
-use Rattle.std.specs.List.{list_any, find, filter, Contains}
+use Rattle.std.specs.List.{list_any, find, Contains}
 use Rattle.seg_words.specs.Windows.{Aside}
 use Rattle.apcu_model.specs.Cache.{Row, has_key}
 use Rattle.apcu_model.specs.Expiry.{is_expired}
@@ -13,13 +13,12 @@ use Rattle.apcu_model.specs.Walk.{is_in_slot, slot_of}
 use Rattle.entry_slots.specs.declared.slots.EntrySlots.{EntrySlots}
 use Rattle.entry_slots.specs.declared.spots.Spot.{Spot}
 use Rattle.entry_slots.specs.Lists.{is_at, has_place, first_place}
-use Rattle.entry_slots.specs.Entries.{Entries, chain_of, listed, IsListed, found_place, old_place}
+use Rattle.entry_slots.specs.Entries.{Entries, chain_of, listed, IsListed, found_place}
 use Rattle.entry_slots.specs.Standing.{IsRowChain, Stands}
 use Rattle.entry_slots.specs.Links.{link_after, IsLinkTo}
 use Rattle.entry_slots.specs.Spots.{IsSpot, IsSpotOf}
 use Rattle.seg_words.specs.Members.{Contains-first, Contains-filter, any_from}
-use Rattle.entry_slots.proofs.Homes.{room}
-use Rattle.entry_slots.proofs.Chains.{chain_first, home_chain}
+use Rattle.entry_slots.proofs.Chains.{chain_first}
 use Rattle.entry_slots.proofs.Walks.{find_chain, chain_places}
 use Rattle.entry_slots.proofs.Cutting.{chain_rest}
 

@@ -9,12 +9,13 @@ use Rattle.seg_words.specs.Windows.{Aside, is_named}
 use Rattle.seg_words.specs.Gaps.{first_fit}
 use Rattle.sma_blocks.specs.Live.{live_blocks, with_block, SameBlocks}
 use Rattle.sma_blocks.specs.Ready.{IsReady}
+use Rattle.apcu_model.specs.Conf.{piece_of}
 use Rattle.apcu_model.specs.Cache.{Row, extent_of}
 use Rattle.apcu_model.specs.Walk.{is_in_slot}
 use Rattle.entry_slots.specs.declared.slots.EntrySlots.{EntrySlots}
 use Rattle.entry_slots.specs.Entries.{Entries, chain_of, blocks_of, with_taken}
 use Rattle.entry_slots.specs.Standing.{Stands, IsRowChain, IsEntry}
-use Rattle.entry_slots.specs.Laws.{Laws}
+use Rattle.entry_slots.specs.Lower.{Laws}
 use Rattle.seg_words.specs.Members.{Contains-cases, Contains-filter, count-cons}
 use Rattle.entry_slots.proofs.Blocks.{live_bounds}
 use Rattle.entry_slots.proofs.Homes.{IsHome, room, home_row, home_removed, home_unlinked}
@@ -24,10 +25,12 @@ use Rattle.entry_slots.proofs.Places.{count_blocks}
 use Rattle.entry_slots.proofs.Walks.{stands_along}
 
 -- the place is the one for all blocks
-pub take_place : {e : EntrySlots} {ws : List ℕ} {aside : Aside} (s : Entries) (n : ℕ) → Stands e ws aside s → first_fit e.sma.from e.sma.to n (live_blocks ws e.sma.from) ≡ first_fit s.conf.slots s.conf.words n (blocks_of s)
+pub take_place : {e : EntrySlots} {ws : List ℕ} {aside : Aside} (s : Entries) (n : ℕ) → Stands e ws aside s → first_fit e.sma.from e.sma.to e.sma.piece n (live_blocks ws e.sma.from) ≡ first_fit s.conf.slots s.conf.words (piece_of s.conf) n (blocks_of s)
 take_place {e} {ws} s n h =
-    ap (λ from. first_fit from e.sma.to n (live_blocks ws e.sma.from)) h.from
-    ∙ (ap (λ to. first_fit s.conf.slots to n (live_blocks ws e.sma.from)) h.to ∙ same_fit s.conf.slots s.conf.words n (live_blocks ws e.sma.from) (blocks_of s) h.blocks)
+    ap (λ from. first_fit from e.sma.to e.sma.piece n (live_blocks ws e.sma.from)) h.from
+    ∙ (ap (λ to. first_fit s.conf.slots to e.sma.piece n (live_blocks ws e.sma.from)) h.to
+    ∙ (ap (λ piece. first_fit s.conf.slots s.conf.words piece n (live_blocks ws e.sma.from)) h.piece
+    ∙ same_fit s.conf.slots s.conf.words (piece_of s.conf) n (live_blocks ws e.sma.from) (blocks_of s) h.blocks))
 
 -- what was not free is as it was
 pub row_same : (e : EntrySlots) (ws ws' : List ℕ) (blocks : List Extent) (row : Row) → SameBlocks ws ws' e.sma.from blocks → Contains blocks (extent_of row) → SameRow ws ws' row
@@ -36,20 +39,20 @@ row_same e ws ws' blocks row same c = record { count = same.count; same = λ i l
 pub link_same : {e : EntrySlots} {ws : List ℕ} {aside : Aside} (ws' : List ℕ) (blocks : List Extent) (row : Row) → IsHome e ws aside row → SameBlocks ws ws' e.sma.from blocks → Contains blocks (extent_of row) → slice_index ws' (row.place + 1) ≡ slice_index ws (row.place + 1)
 link_same ws' blocks row h same c = let w = room h in same.inside (row.place + 1) (not_free (row.place + 1) 1 blocks (extent_of row) c (omega arith) (omega arith) (omega (arith, w.enough)))
 
-take_unnamed : (e : EntrySlots) (ws : List ℕ) (aside : Aside) (at n : ℕ) → IsReady e.sma ws aside → 2 ≤ n → first_fit e.sma.from e.sma.to n (live_blocks ws e.sma.from) ≡ Some at → is_named aside.windows at ≡ false
+take_unnamed : (e : EntrySlots) (ws : List ℕ) (aside : Aside) (at n : ℕ) → IsReady e.sma ws aside → 2 ≤ n → first_fit e.sma.from e.sma.to e.sma.piece n (live_blocks ws e.sma.from) ≡ Some at → is_named aside.windows at ≡ false
 take_unnamed e ws aside at n ready some fit =
     false_from_ne_true (is_named aside.windows at) (λ named.
     let block = ready.windows at named in
     let f : Extent = record { place = at; size = block.size } in
     let bounds = live_bounds e.sma ws aside f ready block.live in
-    false≢true (sym (not_free at n (live_blocks ws e.sma.from) f block.live (omega arith) (omega arith) (omega (arith, bounds.2))) ∙ fit_free e.sma.from e.sma.to n at (live_blocks ws e.sma.from) fit))
+    false≢true (sym (not_free at n (live_blocks ws e.sma.from) f block.live (omega arith) (omega arith) (omega (arith, bounds.2))) ∙ fit_free e.sma.from e.sma.to e.sma.piece n at (live_blocks ws e.sma.from) fit))
 
 pub taken_stands : Laws → {e : EntrySlots} {ws : List ℕ} {aside : Aside} (s : Entries) (at n : ℕ) (sma' : Sma) (ws' : List ℕ) → Stands e ws aside s → 2 ≤ n
-    → first_fit e.sma.from e.sma.to n (live_blocks ws e.sma.from) ≡ Some at
+    → first_fit e.sma.from e.sma.to e.sma.piece n (live_blocks ws e.sma.from) ≡ Some at
     → live_blocks ws' e.sma.from ≡ with_block (record { place = at; size = n }) (live_blocks ws e.sma.from)
     → SameBlocks ws ws' e.sma.from (live_blocks ws e.sma.from)
-    → sma'.from ≡ e.sma.from → sma'.to ≡ e.sma.to → IsReady sma' ws' aside → Stands (record e { sma = sma' }) ws' aside (with_taken at n s)
-taken_stands law {e} {ws} {aside} s at n sma' ws' h some fit live same ef et ready =
+    → sma'.from ≡ e.sma.from → sma'.to ≡ e.sma.to → sma'.piece ≡ e.sma.piece → IsReady sma' ws' aside → Stands (record e { sma = sma' }) ws' aside (with_taken at n s)
+taken_stands law {e} {ws} {aside} s at n sma' ws' h some fit live same ef et es ready =
     let blocks : List Extent = live_blocks ws e.sma.from in
     let new : Extent = record { place = at; size = n } in
     let link : (row : Row) → IsHome e ws aside row → slice_index ws' (row.place + 1) ≡ slice_index ws (row.place + 1) = λ row home. link_same ws' blocks row home same home.live in
@@ -74,23 +77,24 @@ taken_stands law {e} {ws} {aside} s at n sma' ws' h some fit live same ef et rea
       good = h.good;
       from = ef ∙ h.from;
       to = et ∙ h.to;
+      piece = es ∙ h.piece;
     }
 
 -- what a call of the allocator tells
 pub take_some : Laws → (e : EntrySlots) (ws : List ℕ) (aside : Aside) (n : ℕ) (sma' : Sma) (ws' : List ℕ) (aside' : Aside) (r : Option ℕ) → 2 ≤ n
-    → r ≡ first_fit e.sma.from e.sma.to n (live_blocks ws e.sma.from)
+    → r ≡ first_fit e.sma.from e.sma.to e.sma.piece n (live_blocks ws e.sma.from)
     → IfSome r (λ at. live_blocks ws' e.sma.from ≡ with_block (record { place = at; size = n }) (live_blocks ws e.sma.from))
-    → SameBlocks ws ws' e.sma.from (live_blocks ws e.sma.from) → sma'.from ≡ e.sma.from → sma'.to ≡ e.sma.to → aside' ≡ aside → IsReady sma' ws' aside'
+    → SameBlocks ws ws' e.sma.from (live_blocks ws e.sma.from) → sma'.from ≡ e.sma.from → sma'.to ≡ e.sma.to → sma'.piece ≡ e.sma.piece → aside' ≡ aside → IsReady sma' ws' aside'
     → IfSome r (λ at. (s : Entries) → Stands e ws aside s → Stands (record e { sma = sma' }) ws' aside' (with_taken at n s))
-take_some law e ws aside n sma' ws' aside' None some fit live same ef et ea ready = tt
-take_some law e ws aside n sma' ws' aside' (Some at) some fit live same ef et ea ready = λ s h.
+take_some law e ws aside n sma' ws' aside' None some fit live same ef et es ea ready = tt
+take_some law e ws aside n sma' ws' aside' (Some at) some fit live same ef et es ea ready = λ s h.
     subst (λ a. Stands (record e { sma = sma' }) ws' a (with_taken at n s)) (sym ea)
-    (taken_stands law s at n sma' ws' h some (sym fit) live same ef et (subst (λ a. IsReady sma' ws' a) ea ready))
+    (taken_stands law s at n sma' ws' h some (sym fit) live same ef et es (subst (λ a. IsReady sma' ws' a) ea ready))
 
 -- where nothing was taken
-pub take_none : {e : EntrySlots} {ws : List ℕ} {aside : Aside} {s : Entries} (sma' : Sma) (ws' : List ℕ) (aside' : Aside) → Stands e ws aside s → sma'.from ≡ e.sma.from → sma'.to ≡ e.sma.to → IsReady sma' ws' aside' → ws' ≡ ws → aside' ≡ aside
+pub take_none : {e : EntrySlots} {ws : List ℕ} {aside : Aside} {s : Entries} (sma' : Sma) (ws' : List ℕ) (aside' : Aside) → Stands e ws aside s → sma'.from ≡ e.sma.from → sma'.to ≡ e.sma.to → sma'.piece ≡ e.sma.piece → IsReady sma' ws' aside' → ws' ≡ ws → aside' ≡ aside
     → Stands (record e { sma = sma' }) ws' aside' s
-take_none {e} {ws} {aside} {s} sma' ws' aside' h ef et ready ew ea =
+take_none {e} {ws} {aside} {s} sma' ws' aside' h ef et es ready ew ea =
     let k = stands_along ws' aside' h ew ea in
     record {
       chains = k.chains;
@@ -107,4 +111,5 @@ take_none {e} {ws} {aside} {s} sma' ws' aside' h ef et ready ew ea =
       good = k.good;
       from = ef ∙ k.from;
       to = et ∙ k.to;
+      piece = es ∙ k.piece;
     }

@@ -10,7 +10,7 @@ use Rattle.entry_slots.specs.Lists.{is_at, has_place}
 use Rattle.entry_slots.specs.Entries.{Entries, touched_row, touched_in}
 use Rattle.entry_slots.specs.Standing.{IsEntry, Stands}
 use Rattle.entry_slots.proofs.There.{HasRowAt}
-use Rattle.entry_slots.specs.Laws.{Laws}
+use Rattle.entry_slots.specs.Lower.{Laws}
 use Rattle.seg_words.specs.Members.{any_there}
 use Rattle.entry_slots.proofs.Homes.{IsHome, room, home_row}
 use Rattle.entry_slots.proofs.Changes.{OnlyIn, only_none, only_set}

@@ -13,7 +13,7 @@ use Rattle.entry_slots.specs.Lists.{is_at, has_place, only_at, without_place}
 use Rattle.entry_slots.specs.Entries.{Entries, chain_of, blocks_of, unlinked_at}
 use Rattle.entry_slots.specs.Standing.{IsRowChain, Stands}
 use Rattle.entry_slots.specs.Links.{IsLinkTo}
-use Rattle.entry_slots.specs.Laws.{Laws}
+use Rattle.entry_slots.specs.Lower.{Laws}
 use Rattle.seg_words.specs.Members.{Contains-first, Contains-later, any_there, any_from, count-cons, count-append, counted_some, Contains-filter, Contains-kept}
 use Rattle.entry_slots.proofs.Homes.{room, home_row, home_removed, home_unlinked}
 use Rattle.entry_slots.proofs.Chains.{home_chain}
@@ -95,12 +95,13 @@ unlink_stands law {e} {ws} {aside} s h at slot m next lt there link en count ec 
       taken = h.taken;
       ready = (law.blocks e.sma ws (slice_set ws m next) aside h.ready (set_change h m next spot)).ready;
       blocks = record { count = λ test. ap (count_by test) (law.blocks e.sma ws (slice_set ws m next) aside h.ready (set_change h m next spot)).blocks ∙ (h.blocks.count test ∙ moved test) };
-      apart = law.picked (λ r. not (is_at at r)) s.rows h.apart;
+      apart = law.rows.picked (λ r. not (is_at at r)) s.rows h.apart;
       number = h.number;
       count = omega (arith, ec, h.count, fewer own.0 in_rows place);
       good = h.good;
       from = h.from;
       to = h.to;
+      piece = h.piece;
     }
   where
     moved : (test : Extent → Bool) → count_by test (blocks_of s) ≡ count_by test (blocks_of (unlinked_at at s))

@@ -25,7 +25,7 @@ use Rattle.entry_slots.specs.Lists.{is_at, begins_at}
 use Rattle.entry_slots.specs.Entries.{Entries, chain_of, blocks_of, fresh_row}
 use Rattle.entry_slots.specs.Standing.{IsRowChain, IsEntry, Stands}
 use Rattle.entry_slots.specs.Written.{head_words, entry_words}
-use Rattle.entry_slots.specs.Laws.{Laws}
+use Rattle.entry_slots.specs.Lower.{Laws}
 use Rattle.entry_slots.proofs.Runs.{words_long}
 use Rattle.seg_words.specs.Members.{counted_some, Contains-filter}
 use Rattle.entry_slots.proofs.Members.{same_there}
@@ -38,7 +38,7 @@ use Rattle.entry_slots.proofs.Places.{once, at_itself}
 
 -- only the run's words changed
 pub written_only : Laws → (ws : List ℕ) (at : ℕ) (run : List ℕ) → OnlyIn ws (written ws at run) at (at + length run)
-written_only law ws at run = record { count = law.long ws at run; same = outside ws at run }
+written_only law ws at run = record { count = law.written.long ws at run; same = outside ws at run }
   where
     outside : (ws : List ℕ) (at : ℕ) (run : List ℕ) (i : ℕ) → (i < at) ⊎ (at + length run ≤ i) → slice_index (written ws at run) i ≡ slice_index ws i
     outside ws at [] i out = refl
@@ -128,6 +128,7 @@ module _ {e : EntrySlots} {ws : List ℕ} {aside : Aside} {s : Entries} (h : Sta
     good = h.good;
     from = h.from;
     to = h.to;
+    piece = h.piece;
   }
 
 -- the words of a new entry are that entry's
@@ -136,17 +137,17 @@ pub written_entry : Laws → (ws : List ℕ) (at : ℕ) (key : List ℕ) (g : Li
 written_entry law ws at key g note graph bytes ttl size inside =
     let ws' : List ℕ = written ws (at + 1) (entry_words key g note) in
     let klen = words_long key in
-    let glen = law.image_long g in
+    let glen = law.images.long g in
     let first : List ℕ = head_words key g note in
     let tail : List ℕ = words_of key ++ image_of g in
     let long : length (entry_words key g note) ≡ 11 + words_in (length key) + image_length g = omega (arith, length-append first tail, length-append (words_of key) (image_of g)) in
-    let all : StandsAt ws' (at + 1) (first ++ tail) = law.there ws (at + 1) (entry_words key g note) (omega (arith, long)) in
-    let head : StandsAt ws' (at + 1) first = law.front ws' (at + 1) first tail all in
-    let rest : StandsAt ws' (at + 12) tail = (let e : at + 1 + length first ≡ at + 12 = omega arith in subst (λ (n : ℕ). StandsAt ws' n tail) e (law.back ws' (at + 1) first tail all)) in
-    let keys : StandsAt ws' (at + 12) (words_of key) = law.front ws' (at + 12) (words_of key) (image_of g) rest in
-    let image : StandsAt ws' (at + 12 + words_in (length key)) (image_of g) = subst (λ (n : ℕ). StandsAt ws' (at + 12 + n) (image_of g)) klen (law.back ws' (at + 12) (words_of key) (image_of g) rest) in
+    let all : StandsAt ws' (at + 1) (first ++ tail) = law.written.there ws (at + 1) (entry_words key g note) (omega (arith, long)) in
+    let head : StandsAt ws' (at + 1) first = law.runs.front ws' (at + 1) first tail all in
+    let rest : StandsAt ws' (at + 12) tail = (let e : at + 1 + length first ≡ at + 12 = omega arith in subst (λ (n : ℕ). StandsAt ws' n tail) e (law.runs.back ws' (at + 1) first tail all)) in
+    let keys : StandsAt ws' (at + 12) (words_of key) = law.runs.front ws' (at + 12) (words_of key) (image_of g) rest in
+    let image : StandsAt ws' (at + 12 + words_in (length key)) (image_of g) = subst (λ (n : ℕ). StandsAt ws' (at + 12 + n) (image_of g)) klen (law.runs.back ws' (at + 12) (words_of key) (image_of g) rest) in
     let word : (k n : ℕ) → k < 11 → n ≡ k + 1 → slice_index ws' (at + n) ≡ slice_index first k = λ k n few e.
-    ap (λ (i : ℕ). slice_index ws' i) (omega arith) ∙ law.words ws' (at + 1) first k head few in
+    ap (λ (i : ℕ). slice_index ws' i) (omega arith) ∙ law.runs.words ws' (at + 1) first k head few in
     let key_len : slice_index ws' (at + 2) ≡ length key = word 1 2 (omega arith) (omega arith) in
     let start : image_place ws' at ≡ at + 12 + words_in (length key) = ap (λ n. at + 12 + (n + 7) / 8) key_len in (
       record {
@@ -162,7 +163,7 @@ written_entry law ws at key g note graph bytes ttl size inside =
         number = word 9 10 (omega arith) (omega arith);
         pin_count = word 10 11 (omega arith) (omega arith);
         key = keys;
-        image = subst (λ n. IsImageOf ws' n (image_length g) g) (sym start) (law.image ws' (at + 12 + words_in (length key)) g graph image);
+        image = subst (λ n. IsImageOf ws' n (image_length g) g) (sym start) (law.images.image ws' (at + 12 + words_in (length key)) g graph image);
         whole = refl;
         bytes = bytes;
         short_ttl = ttl;

@@ -8,6 +8,7 @@ use Rattle.php_graph.specs.declared.kind.Kind.{Kind}
 use Rattle.php_graph.specs.declared.kind.Kind.TheVariants as kinds
 use Rattle.php_graph.specs.Graph.{kind_at}
 use Rattle.php_graph.specs.Size.{block_size}
+use Rattle.apcu_model.specs.Conf.{piece_of}
 use Rattle.apcu_model.specs.declared.conf.Conf.{Conf}
 use Rattle.apcu_model.specs.Cache.{Row, Cache, risen, has_key, extent_of}
 use Rattle.apcu_model.specs.Change.{with_row}
@@ -69,9 +70,9 @@ abbrev pub blocks_of : Entries → List Extent
 blocks_of s =
     map extent_of s.rows ++ (map extent_of s.removed ++ (map extent_of s.unlinked ++ s.taken))
 
--- the least place at which n words fit beside all blocks
+-- the least place at which n words fit beside all blocks and inside one segment
 abbrev pub place_for : ℕ → Entries → Option ℕ
-place_for n s = first_fit s.conf.slots s.conf.words n (blocks_of s)
+place_for n s = first_fit s.conf.slots s.conf.words (piece_of s.conf) n (blocks_of s)
 
 -- the block at `at` for a key and a value
 abbrev pub block_for : ℕ → List ℕ → List Kind → Extent

@@ -11,3 +11,4 @@ pub mod Sums
 pub mod Laws
 pub mod Changes
 pub mod Spots
+pub mod Lower

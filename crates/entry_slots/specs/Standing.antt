@@ -15,7 +15,7 @@ use Rattle.value_image.specs.Packed.{words_of}
 use Rattle.value_image.specs.Rows.{StandsAt}
 use Rattle.value_image.specs.Image.{IsImageOf}
 use Rattle.apcu_model.specs.Cache.{Row}
-use Rattle.apcu_model.specs.Conf.{IsGood}
+use Rattle.apcu_model.specs.Conf.{IsGood, piece_of}
 use Rattle.apcu_model.specs.Rows.{are_apart}
 use Rattle.entry_slots.specs.declared.head.TheConstants.{NEXT, TTL, CTIME, MTIME, ATIME, DTIME}
 use Rattle.entry_slots.specs.declared.head.TheConstants.{HITS, NUMBER}
@@ -81,6 +81,7 @@ pub record Stands (e : EntrySlots) (words : List ℕ) (aside : Aside) (s : Entri
   pub good : IsGood s.conf
   pub from : e.sma.from ≡ s.conf.slots
   pub to : e.sma.to ≡ s.conf.words
+  pub piece : e.sma.piece ≡ piece_of s.conf
 
 -- the entries that are kept beside the words
 abbrev pub entries : EntrySlots → Entries

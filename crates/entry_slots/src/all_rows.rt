@@ -1,20 +1,19 @@
-//! All rows at once: the shape of the slots, how many rows there are, and caches without rows.
+//! The shape of the slots, how many rows there are, and caches without rows.
 
-ghost use Rattle.std.specs.Prelude.{◌≡◌, ℕ, ◌<◌, ◌≤◌, ◌*◌, true, false, [], length, slice_index};
+ghost use Rattle.std.specs.Prelude.{◌≡◌, ℕ, ◌<◌, ◌≤◌, ◌*◌, false, length, slice_index};
 ghost use Rattle.seg_words.specs.Kept.{KeptBeside};
 ghost use Rattle.seg_words.specs.Windows.{is_named};
 ghost use Rattle.sma_blocks.specs.Ready.{ChangesBefore};
 ghost use Rattle.apcu_model.specs.Conf.{IsGood};
-ghost use Rattle.entry_slots.specs.Lists.{has_place};
-ghost use Rattle.entry_slots.specs.Entries.{IsWhole, no_entries, without_rows};
+ghost use Rattle.entry_slots.specs.Entries.{no_entries};
 ghost use Rattle.entry_slots.specs.Standing.{Stand, IsStanding, entries};
 
 use crate::slots::EntrySlots;
-use crate::standing::{Change, Standing};
+use crate::standing::Standing;
 use apcu_model::Conf;
 use max_tree::MaxRow;
 use seg_words::{Segment, WordsIn};
-use sma_blocks::{Sma, block_laws};
+use sma_blocks::Sma;
 
 impl EntrySlots {
     /// Makes a cache of this shape without rows. No window may be open.
@@ -32,7 +31,7 @@ impl EntrySlots {
     {
         end_chains(seg, conf.slots);
         EntrySlots {
-            sma: Sma::format(seg, conf.slots, gaps),
+            sma: Sma::format(seg, conf.slots, conf.piece(), gaps),
             removed: 0,
             next_number: 1,
             count: 0,
@@ -69,26 +68,6 @@ impl EntrySlots {
         ensures rows { result ≡ length (entries self.now).rows }
     {
         self.count
-    }
-
-    /// All rows leave at once, and one gap is left: no row may be removed, no block loose, and no
-    /// window may name a row's block. It takes as long as there are slots and gaps, however many
-    /// rows there are.
-    pub fn free_rows<S: Segment>(&mut self, seg: &mut S)
-        requires stand { Stand S.WordsIn self.old seg.old }
-        requires whole { IsWhole (entries self.old) }
-        requires alone { (entries self.old).removed ≡ [] }
-        requires unnamed { (at : ℕ) → has_place at (entries self.old).rows ≡ true
-            → is_named (S.aside seg.old).windows at ≡ false }
-        ensures freed { entries self.new ≡ without_rows (entries self.old) }
-        ensures stand { Stand S.WordsIn self.new seg.new }
-        ensures beside { KeptBeside S.WordsIn seg.old seg.new }
-    {
-        block_laws();
-        end_chains(seg, self.sma.from);
-        self.sma.keep(seg, &[]);
-        self.count = 0;
-        self.standing = self.standing.then(&Change::Clear);
     }
 }
 

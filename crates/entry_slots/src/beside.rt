@@ -15,9 +15,10 @@ use seg_words::Segment;
 use sma_blocks::block_laws;
 
 impl EntrySlots {
-    /// All rows leave at once, as `free_rows` does, and the blocks of the removed rows stay: `kept`
-    /// are their places, each greater than the one before. No block may be loose, and no window may
-    /// name a row's block.
+    /// All rows leave at once, and the blocks of the removed rows stay: `kept` are their places,
+    /// each greater than the one before. No block may be loose, and no window may name a row's
+    /// block. It takes as long as there are slots, gaps and removed rows, however many rows there
+    /// are.
     pub fn free_rows_beside<S: Segment>(&mut self, seg: &mut S, kept: &[u32])
         requires stand { Stand S.WordsIn self.old seg.old }
         requires whole { IsWhole (entries self.old) }

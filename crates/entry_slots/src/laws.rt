@@ -1,5 +1,6 @@
 //! What the layers above rely on beside the calls.
 
+ghost use Rattle.entry_slots.specs.Laws.{StandingLaws, WindowLaws};
 ghost use Rattle.std.specs.Prelude.{◌≡◌, ◌≢◌, ℕ, ◌<◌, ◌≤◌, ◌+◌, true, false, List, [], ◌∷◌, ◌++◌};
 ghost use Rattle.std.specs.Prelude.{length, Contains, Some};
 ghost use Rattle.seg_words.specs.declared.extents.Extent.{Extent};
@@ -18,39 +19,14 @@ ghost use Rattle.entry_slots.specs.Facts.{IsAtRow};
 /// Words stand for the same entries where windows close and the mask and the refused places change
 /// in any way, and where a window opens on the block of a row or a removed row.
 pub fn window_laws()
-    ensures closed { (e : EntrySlots) (words : List ℕ) (old new : Aside) (s : Entries)
-        → OnlyClose old new → Stands e words old s → Stands e words new s }
-    ensures opened { (e : EntrySlots) (words : List ℕ) (old new : Aside) (s : Entries) (at : ℕ)
-        → has_place at (listed s) ≡ true → OnlyOpensAt at old new
-        → Stands e words old s → Stands e words new s }
+    ensures { WindowLaws }
 {}
 
 /// No place begins two blocks, and none of a row or a removed row is 0; each of these may be
 /// probed, whatever the windows, and may be copied from. All blocks lie apart inside the words. So
 /// a walk along a chain meets each place once.
 pub fn standing_laws()
-    ensures sound { (e : EntrySlots) (words : List ℕ) (aside : Aside) (s : Entries)
-        → Stands e words aside s → IsSound s words aside.windows }
-    ensures probed { (e : EntrySlots) (words : List ℕ) (aside : Aside) (s : Entries) (at : ℕ)
-        → Stands e words aside s → has_place at (listed s) ≡ true
-        → (windows : List ℕ) → MayProbe words windows at }
-    ensures copied { (e : EntrySlots) (words : List ℕ) (aside : Aside) (s : Entries) (at : ℕ)
-        → Stands e words aside s → has_place at (listed s) ≡ true
-        → IsCopyable words aside.windows at }
-    ensures inside { (e : EntrySlots) (words : List ℕ) (aside : Aside) (s : Entries)
-        (block : Extent) → Stands e words aside s → Contains (blocks_of s) block
-        → (0 < block.place) × (block.place + block.size ≤ length words) }
-    ensures apart { (e : EntrySlots) (words : List ℕ) (aside : Aside) (s : Entries)
-        (one other : Extent) → Stands e words aside s → Contains (blocks_of s) one
-        → Contains (blocks_of s) other → LieApart one other }
-    ensures one { (e : EntrySlots) (words : List ℕ) (aside : Aside) (s : Entries) (p q : Row)
-        → Stands e words aside s → Contains (listed s) p → Contains (listed s) q
-        → p.place ≡ q.place → p ≡ q }
-    ensures empty { (e : EntrySlots) (words : List ℕ) (aside : Aside) (s : Entries) (slot : ℕ)
-        → Stands e words aside s → first_place (chain_of s slot) ≡ 0 → chain_of s slot ≡ [] }
-    ensures walked { (e : EntrySlots) (words : List ℕ) (aside : Aside) (s : Entries) (slot : ℕ)
-        (front : List Row) (row : Row) (back : List Row) → Stands e words aside s
-        → chain_of s slot ≡ front ++ row ∷ back → IsAtRow s slot front row back }
+    ensures { StandingLaws }
 {}
 
 /// A row that is unlinked and then removed or freed has left the rows, and nothing else has

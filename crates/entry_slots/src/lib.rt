@@ -3,6 +3,7 @@
 
 mod all_rows;
 mod beside;
+mod copying;
 mod head;
 mod keys;
 mod laws;

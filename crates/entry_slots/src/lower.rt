@@ -1,6 +1,6 @@
 //! What the crates below promise.
 
-ghost use Rattle.entry_slots.specs.Laws.{Laws};
+ghost use Rattle.entry_slots.specs.Lower.{Laws};
 
 use apcu_model::rows_stay_apart;
 use sma_blocks::block_laws;

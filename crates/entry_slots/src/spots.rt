@@ -6,7 +6,6 @@ ghost use Rattle.std.specs.Prelude.{length, slice_index, Contains};
 ghost use Rattle.entry_slots.specs.declared.head.TheConstants.{NEXT};
 ghost use Rattle.std.specs.List.{list_any};
 ghost use Rattle.seg_words.specs.Kept.{Kept, KeptBeside};
-ghost use Rattle.apcu_model.specs.declared.conf.Conf.{Conf};
 ghost use Rattle.apcu_model.specs.Cache.{Row};
 ghost use Rattle.apcu_model.specs.Expiry.{is_expired};
 ghost use Rattle.apcu_model.specs.Walk.{slot_of};
@@ -16,7 +15,7 @@ ghost use Rattle.entry_slots.specs.Entries.{linked, unlinked_at};
 ghost use Rattle.entry_slots.specs.Standing.{Stand, IsStanding, entries};
 ghost use Rattle.entry_slots.specs.Spots.{IsSpot, IsSpotOf};
 
-use crate::head::{ATIME, CTIME, NEXT, TTL};
+use crate::head::{ATIME, CTIME, NEXT, TTL, is_expired_by};
 use crate::lower::lower_laws;
 use crate::reading::{count_after, next_of};
 use crate::slots::EntrySlots;
@@ -37,15 +36,6 @@ pub struct Spot {
     pub at: u32,
     /// Whether a row before it in the chain was expired at the moment of the walk.
     pub stale: bool,
-}
-
-// Whether a row of which this is noted is expired; `limit` is the cache's time limit.
-fn is_over(own: u64, ctime: u64, atime: u64, limit: u32, t: u64) -> bool
-    ensures { (conf : Conf) (row : Row) → limit ≡ conf.ttl → own ≡ row.ttl → ctime ≡ row.ctime
-        → atime ≡ row.atime → result ≡ is_expired conf t row }
-{
-    (own > 0 && ctime.saturating_add(own) < t)
-        || (own == 0 && limit > 0 && atime.saturating_add(u64::from(limit)) < t)
 }
 
 // Whether one of the two is so.
@@ -76,7 +66,7 @@ impl EntrySlots {
         let own = seg.load(at + TTL);
         let ctime = seg.load(at + CTIME);
         let atime = seg.load(at + ATIME);
-        is_over(own, ctime, atime, limit, t)
+        is_expired_by(own, ctime, atime, limit, t)
     }
 
     /// Finds where the row of a key stands, by one walk along the chain of its slot as far as

@@ -192,7 +192,7 @@ fn clear<S: Segment>(
         return None;
     }
     let at = insert(&mut slots, seg, key, g, 0, 0)?;
-    slots.free_rows(seg);
+    slots.free_rows_beside(seg, &[]);
     Some((at, slots.rows(), slots.take(seg, 400)))
 }
 

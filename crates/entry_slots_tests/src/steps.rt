@@ -31,6 +31,7 @@ pub(crate) fn small() -> Conf
         words: 512,
         slots: 32,
         ttl: 0,
+        segments: 1,
     }
 }
 

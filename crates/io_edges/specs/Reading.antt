@@ -38,3 +38,7 @@ faults_after_read Failed count = one_fault_more count
 -- reads took this many bytes from the front of what was left
 abbrev pub HasTaken : Option (List ℕ) → Option (List ℕ) → ℕ → Type 0
 HasTaken old new count = (bytes : List ℕ) × (length bytes ≡ count) × (old ≡ prepend_known bytes new)
+
+-- reads took at most this many bytes
+abbrev pub HasTakenWithin : Option (List ℕ) → Option (List ℕ) → ℕ → Type 0
+HasTakenWithin old new most = (count : ℕ) × (count ≤ most) × HasTaken old new count

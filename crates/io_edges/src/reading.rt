@@ -1,9 +1,9 @@
 // A whole source, read to its end.
-ghost use Rattle.std.specs.Prelude.{◌≡◌, ◌+◌, ◌<◌, ◌≤◌, ℕ, length, IfOk, IfSome, OnOk, OnErr};
+ghost use Rattle.std.specs.Prelude.{◌≡◌, ◌+◌, ◌<◌, ◌≤◌, length, IfOk, IfSome, OnOk, OnErr};
 ghost use Rattle.std.specs.Prelude.{IsErrOf, vec_len};
 ghost use Rattle.std.specs.Io.KnownBytes.{prepend_known, IsAtEnd};
 ghost use Rattle.io_edges.specs.Faults.{Rose};
-ghost use Rattle.io_edges.specs.Reading.{HasTaken};
+ghost use Rattle.io_edges.specs.Reading.{HasTaken, HasTakenWithin};
 
 use crate::{Got, Source};
 use std::alloc::{AllocError, Global};
@@ -50,9 +50,9 @@ pub fn read_all<S: Source>(alloc: Global, input: &mut S, limit: usize) -> Result
         → S.faults input.new ≡ S.faults input.old }
     ensures never_falls { S.faults input.old ≤ S.faults input.new }
 
-    // After any error a part of what was left is gone.
-    ensures part { OnErr result ((count : ℕ) × (count ≤ limit + 1)
-        × HasTaken (S.left input.old) (S.left input.new) count) }
+    // After any other error a part of what was left is gone, and no more of it than the limit.
+    ensures part { OnErr result (¬ IsErrOf result ReadError.TooLong
+        → HasTakenWithin (S.left input.old) (S.left input.new) limit) }
 {
     let mut buffer = buffer_of(alloc, PIECE).map_err(|_| ReadError::Memory)?;
     let mut bytes = Vec::new(alloc);

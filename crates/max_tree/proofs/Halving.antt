@@ -1,39 +1,106 @@
--- Pairs of even numbers, of which one is 0, as one number each.
-use Rattle.std.proofs.Common.{◌≡◌, ◌≢◌, ◌⊎◌, inl, inr, ℕ, zero, suc, ◌+◌, ◌-◌, ◌*◌, ◌/◌, ◌%◌, ◌<◌, ◌≤◌, max, cond, Bool, List, [], ◌∷◌, length, get_or, set, Some, None, refl, sym, ap, ap₂, ◌∙◌, subst, arith}
+-- Pairs of even numbers, of which one is 0 or the first is 2, as one number each.
+use Rattle.std.proofs.Common.{◌≡◌, ◌≢◌, ◌⊎◌, inl, inr, ℕ, zero, suc, ◌+◌, ◌-◌, ◌*◌, ◌/◌, ◌%◌, ◌^◌, ◌<◌, ◌≤◌, max, cond, true, false, eqb, Bool, List, [], ◌∷◌, length, get_or, set, Some, None, refl, sym, ap, ap₂, ◌∙◌, subst, arith}
 use Rattle.std.specs.Prelude.{nat_le}
 use Rattle.std.specs.List.{position}
 use Rattle.std.proofs.lemmas.Bool.{cases_lt, cases_eq, eq-eqb, ne_eqb, leb-true, leb-false, le-leb, lt-leb}
 use Rattle.std.proofs.lemmas.List.{length-set, get_or-set_same, get_or-set_other, get_or_past}
 use Rattle.std.proofs.lemmas.List.Quantifiers.{position-Some}
-use Rattle.max_tree.specs.Halves.{half, halves_of, other_half}
+use Rattle.max_tree.specs.Halves.{half, halves_of, other_half, IsPair}
 use Rattle.max_tree.specs.Pages.{largest}
+use Rattle.max_tree.proofs.Largest.{largest_bound}
 use Rattle.max_tree.proofs.Steps.{position_found, position_none}
 use Rattle.max_tree.proofs.Paging.{position_None, IsLastBefore}
 
-pub half_is : (x w : ℕ) → x % 2 ≡ w → half x w ≡ x - w
-half_is x w same = ap (λ (b : Bool). cond b (x - w) 0) (eq-eqb (x % 2) w same)
+-- a choice that is decided
+chosen : (b : Bool) (x y : ℕ) → b ≡ true → cond b x y ≡ x
+chosen b x y e = ap (λ (t : Bool). cond t x y) e
 
-pub half_not : (x w : ℕ) → x % 2 ≢ w → half x w ≡ 0
-half_not x w other = ap (λ (b : Bool). cond b (x - w) 0) (ne_eqb (x % 2) w other)
+not_chosen : (b : Bool) (x y : ℕ) → b ≡ false → cond b x y ≡ y
+not_chosen b x y e = ap (λ (t : Bool). cond t x y) e
+
+-- what a number tells, by its code
+pub half_own : (x w : ℕ) → x % 4 ≡ w → half x w ≡ x / 4 * 2
+half_own x w same = chosen (eqb (x % 4) w) (x / 4 * 2) (cond (eqb (x % 4) 2) (cond (eqb w 0) 2 (x / 4 * 2)) 0) (eq-eqb (x % 4) w same)
+
+pub half_none : (x w : ℕ) → x % 4 ≢ w → x % 4 ≢ 2 → half x w ≡ 0
+half_none x w other alone =
+    not_chosen (eqb (x % 4) w) (x / 4 * 2) (cond (eqb (x % 4) 2) (cond (eqb w 0) 2 (x / 4 * 2)) 0) (ne_eqb (x % 4) w other)
+    ∙ not_chosen (eqb (x % 4) 2) (cond (eqb w 0) 2 (x / 4 * 2)) 0 (ne_eqb (x % 4) 2 alone)
+
+pub half_both : (x w : ℕ) → x % 4 ≢ w → x % 4 ≡ 2 → half x w ≡ cond (eqb w 0) 2 (x / 4 * 2)
+half_both x w other both =
+    not_chosen (eqb (x % 4) w) (x / 4 * 2) (cond (eqb (x % 4) 2) (cond (eqb w 0) 2 (x / 4 * 2)) 0) (ne_eqb (x % 4) w other)
+    ∙ chosen (eqb (x % 4) 2) (cond (eqb w 0) 2 (x / 4 * 2)) 0 (eq-eqb (x % 4) 2 both)
+
+-- the two numbers of a pair
+pub record Tells (x : ℕ) : Type 0 where
+  pub zero_code : x % 4 ≡ 0 → (half x 0 ≡ x / 4 * 2) × (half x 1 ≡ 0)
+  pub one_code : x % 4 ≡ 1 → (half x 0 ≡ 0) × (half x 1 ≡ x / 4 * 2)
+  pub two_code : x % 4 ≡ 2 → (half x 0 ≡ 2) × (half x 1 ≡ x / 4 * 2)
+  pub three_code : x % 4 ≡ 3 → (half x 0 ≡ 0) × (half x 1 ≡ 0)
+
+pub tells : (x : ℕ) → Tells x
+tells x = record {
+  zero_code = λ e. (half_own x 0 e, half_none x 1 (λ f. omega arith) (λ f. omega arith));
+  one_code = λ e. (half_none x 0 (λ f. omega arith) (λ f. omega arith), half_own x 1 e);
+  two_code = λ e. (half_both x 0 (λ f. omega arith) e, half_both x 1 (λ f. omega arith) e);
+  three_code = λ e. (half_none x 0 (λ f. omega arith) (λ f. omega arith), half_none x 1 (λ f. omega arith) (λ f. omega arith));
+}
+
+codes : (x : ℕ) → (x % 4 ≡ 0) ⊎ ((x % 4 ≡ 1) ⊎ ((x % 4 ≡ 2) ⊎ (x % 4 ≡ 3)))
+codes x = elim (cases_lt (x % 4) 2) [
+  | inl low ↦ elim (cases_eq (x % 4) 0) [ inl is ↦ inl is | inr other ↦ inr (inl (omega arith)) ]
+  | inr high ↦ elim (cases_eq (x % 4) 2) [ inl is ↦ inr (inr (inl is)) | inr other ↦ inr (inr (inr (omega arith))) ]
+]
+
+-- both are even and no larger than what the pair tells, or the first is 2
+pub record Halved (x : ℕ) : Type 0 where
+  pub first_even : half x 0 % 2 ≡ 0
+  pub second_even : half x 1 % 2 ≡ 0
+  pub first_small : x < 2 ^ 32 → half x 0 < 2 ^ 31
+  pub second_small : x < 2 ^ 32 → half x 1 < 2 ^ 31
+
+pub halved : (x : ℕ) → Halved x
+halved x = elim (codes x) [
+  | inl e ↦ let t = (tells x).zero_code e in record { first_even = omega (arith, t.0); second_even = omega (arith, t.1); first_small = λ s. omega (arith, t.0); second_small = λ s. omega (arith, t.1) }
+  | inr more ↦ elim more [
+    | inl e ↦ let t = (tells x).one_code e in record { first_even = omega (arith, t.0); second_even = omega (arith, t.1); first_small = λ s. omega (arith, t.0); second_small = λ s. omega (arith, t.1) }
+    | inr more ↦ elim more [
+      | inl e ↦ let t = (tells x).two_code e in record { first_even = omega (arith, t.0); second_even = omega (arith, t.1); first_small = λ s. omega (arith, t.0); second_small = λ s. omega (arith, t.1) }
+      | inr e ↦ let t = (tells x).three_code e in record { first_even = omega (arith, t.0); second_even = omega (arith, t.1); first_small = λ s. omega (arith, t.0); second_small = λ s. omega (arith, t.1) }
+    ]
+  ]
+]
+
+-- what is told of a pair in which the first number is 2 where both are there
+pub record Largest (x : ℕ) : Type 0 where
+  pub most : max (half x 0) (half x 1) ≡ x / 4 * 2
+  pub none : half x 0 ≡ 0 → half x 1 ≡ 0 → x ≡ 0
+
+pub largest_half : (x : ℕ) → IsPair x → Largest x
+largest_half x is =
+    let code = is.code in
+    let one = is.one in
+    let two = is.two in
+    elim (codes x) [
+      | inl e ↦ let t = (tells x).zero_code e in record { most = omega (arith, t.0, t.1); none = λ f g. omega (arith, t.0, t.1) }
+      | inr more ↦ elim more [
+        | inl e ↦ let t = (tells x).one_code e in record { most = omega (arith, t.0, t.1); none = λ f g. omega (arith, t.0, t.1) }
+        | inr more ↦ elim more [
+          | inl e ↦ let t = (tells x).two_code e in record { most = omega (arith, t.0, t.1); none = λ f g. omega (arith, t.0, t.1) }
+          | inr e ↦ absurd (code e)
+        ]
+      ]
+    ]
 
 pub half_zero : (w : ℕ) → half 0 w ≡ 0
-half_zero w = elim (cases_eq (0 % 2) w) [ inl same ↦ half_is 0 w same ∙ omega arith | inr other ↦ half_not 0 w other ]
+half_zero w = elim (cases_eq (0 % 4) w) [ inl same ↦ half_own 0 w same ∙ omega arith | inr other ↦ half_none 0 w other (λ e. omega arith) ]
 
-pub half_le : (x w : ℕ) → half x w ≤ x
-half_le x w = elim (cases_eq (x % 2) w) [ inl same ↦ omega (arith, half_is x w same) | inr other ↦ omega (arith, half_not x w other) ]
-
--- the one that is told
-pub half_same : (size w : ℕ) → size % 2 ≡ 0 → w < 2 → half (size + w) w ≡ size
-half_same size w even low = half_is (size + w) w (omega arith) ∙ omega arith
-
-pub half_other : (size w v : ℕ) → size % 2 ≡ 0 → w < 2 → v ≢ w → half (size + w) v ≡ 0
-half_other size w v even low other = half_not (size + w) v (λ e. other (omega arith))
-
--- where one of a pair is not 0 the other is
-pub half_alone : (x w v : ℕ) → half x w ≢ 0 → v ≢ w → half x v ≡ 0
-half_alone x w v some other = elim (cases_eq (x % 2) w) [
-  | inl same ↦ half_not x v (λ e. other (omega arith))
-  | inr none ↦ absurd (some (half_not x w none))
+-- one of the two is no larger than the larger one
+pub half_le : (x w : ℕ) → IsPair x → w < 2 → half x w ≤ x / 4 * 2
+half_le x w is low = elim (cases_eq w 0) [
+  | inl first ↦ omega (arith, ap (half x) first, (largest_half x is).most)
+  | inr other ↦ let one : w ≡ 1 = omega arith in omega (arith, ap (half x) one, (largest_half x is).most)
 ]
 
 pub halves_length : (xs : List ℕ) → length (halves_of xs) ≡ length xs + length xs
@@ -79,119 +146,102 @@ set_length xs k v = omega (arith, halves_length (set xs k v), halves_length xs, 
 pub pair_inside : (xs : List ℕ) (p : ℕ) → p < length (halves_of xs) → p / 2 < length xs
 pair_inside xs p inside = omega (arith, halves_length xs)
 
-pub is_put : (xs : List ℕ) (p size : ℕ) → p < length (halves_of xs) → size % 2 ≡ 0 → get_or (halves_of xs) (other_half p) 0 ≡ 0 → IsPut (halves_of xs) (halves_of (set xs (p / 2) (size + p % 2))) p size
-is_put xs p size inside even alone =
+-- one of a pair is set
+pub is_put : (xs : List ℕ) (p size v : ℕ) → p < length (halves_of xs) → half v (p % 2) ≡ size → half v (1 - p % 2) ≡ half (get_or xs (p / 2) 0) (1 - p % 2) → IsPut (halves_of xs) (halves_of (set xs (p / 2) v)) p size
+is_put xs p size v inside here other_is =
     let there = pair_inside xs p inside in
     record {
-      count = set_length xs (p / 2) (size + p % 2);
-      there = pair_set xs (p / 2) (size + p % 2) p there refl ∙ half_same size (p % 2) even (omega arith);
+      count = set_length xs (p / 2) v;
+      there = pair_set xs (p / 2) v p there refl ∙ here;
       others = λ i other. elim (cases_eq (i / 2) (p / 2)) [
-        | inr apart ↦ pair_other xs (p / 2) (size + p % 2) i apart
+        | inr apart ↦ pair_other xs (p / 2) v i apart
         | inl pair ↦
-            let is : i ≡ other_half p = omega arith in
-            pair_set xs (p / 2) (size + p % 2) i there pair ∙ half_other size (p % 2) (i % 2) even (omega arith) (λ e. other (omega arith))
-            ∙ sym (ap (λ (j : ℕ). get_or (halves_of xs) j 0) is ∙ alone)
+            let which : i % 2 ≡ 1 - p % 2 = omega arith in
+            pair_set xs (p / 2) v i there pair ∙ ap (half v) which ∙ other_is
+            ∙ sym (halves_at xs i ∙ ap₂ (λ (k w : ℕ). half (get_or xs k 0) w) pair which)
       ];
     }
 
-pub is_cleared : (xs : List ℕ) (p : ℕ) → p < length (halves_of xs) → get_or (halves_of xs) p 0 ≢ 0 → IsPut (halves_of xs) (halves_of (set xs (p / 2) 0)) p 0
-is_cleared xs p inside some =
-    let there = pair_inside xs p inside in
-    record {
-      count = set_length xs (p / 2) 0;
-      there = pair_set xs (p / 2) 0 p there refl ∙ half_zero (p % 2);
-      others = λ i other. elim (cases_eq (i / 2) (p / 2)) [
-        | inr apart ↦ pair_other xs (p / 2) 0 i apart
-        | inl pair ↦
-            let none : half (get_or xs (p / 2) 0) (i % 2) ≡ 0 = half_alone (get_or xs (p / 2) 0) (p % 2) (i % 2) (λ e. some (halves_at xs p ∙ e)) (λ e. other (omega arith)) in
-            pair_set xs (p / 2) 0 i there pair ∙ half_zero (i % 2) ∙ sym (halves_at xs i ∙ ap (λ (k : ℕ). half (get_or xs k 0) (i % 2)) pair ∙ none)
-      ];
-    }
+-- the other number of p's pair
+pub other_is : (xs : List ℕ) (p : ℕ) → get_or (halves_of xs) (other_half p) 0 ≡ half (get_or xs (p / 2) 0) (1 - p % 2)
+other_is xs p =
+    let place : other_half p / 2 ≡ p / 2 = omega arith in
+    let which : other_half p % 2 ≡ 1 - p % 2 = omega arith in
+    halves_at xs (other_half p) ∙ ap₂ (λ (k w : ℕ). half (get_or xs k 0) w) place which
 
 -- in one pair
-pub is_moved_in : (xs : List ℕ) (gone p size : ℕ) → p < length (halves_of xs) → gone ≢ p → gone / 2 ≡ p / 2 → size % 2 ≡ 0 → IsMoved (halves_of xs) (halves_of (set xs (p / 2) (size + p % 2))) gone p size
-is_moved_in xs gone p size inside apart pair even =
+pub is_moved_in : (xs : List ℕ) (gone p size v : ℕ) → p < length (halves_of xs) → gone ≢ p → gone / 2 ≡ p / 2 → half v (p % 2) ≡ size → half v (1 - p % 2) ≡ 0 → IsMoved (halves_of xs) (halves_of (set xs (p / 2) v)) gone p size
+is_moved_in xs gone p size v inside apart pair here other =
     let there = pair_inside xs p inside in
+    let which : gone % 2 ≡ 1 - p % 2 = omega arith in
     record {
-      count = set_length xs (p / 2) (size + p % 2);
-      there = pair_set xs (p / 2) (size + p % 2) p there refl ∙ half_same size (p % 2) even (omega arith);
-      gone_is = pair_set xs (p / 2) (size + p % 2) gone there pair ∙ half_other size (p % 2) (gone % 2) even (omega arith) (λ e. apart (omega arith));
-      others = λ i first second. pair_other xs (p / 2) (size + p % 2) i (λ e. omega arith);
+      count = set_length xs (p / 2) v;
+      there = pair_set xs (p / 2) v p there refl ∙ here;
+      gone_is = pair_set xs (p / 2) v gone there pair ∙ ap (half v) which ∙ other;
+      others = λ i first second. pair_other xs (p / 2) v i (λ e. omega arith);
     }
 
--- from one pair to another
-pub is_moved_to : (xs : List ℕ) (gone p size : ℕ) → gone < length (halves_of xs) → p < length (halves_of xs) → gone / 2 ≢ p / 2 → size % 2 ≡ 0 → get_or (halves_of xs) gone 0 ≢ 0 → (other_half p ≢ gone → get_or (halves_of xs) (other_half p) 0 ≡ 0) → IsMoved (halves_of xs) (halves_of (set (set xs (p / 2) (size + p % 2)) (gone / 2) 0)) gone p size
-is_moved_to xs gone p size from inside apart even some alone =
-    let first = is_put xs p size inside even (alone (λ e. apart (omega arith))) in
-    let later : get_or (halves_of (set xs (p / 2) (size + p % 2))) gone 0 ≡ get_or (halves_of xs) gone 0 = first.others gone (λ e. apart (ap (λ (k : ℕ). k / 2) e)) in
-    let count = first.count in
-    let second = is_cleared (set xs (p / 2) (size + p % 2)) gone (omega arith) (λ e. some (sym later ∙ e)) in
-    record {
-      count = second.count ∙ first.count;
-      there = second.others p (λ e. apart (ap (λ (k : ℕ). k / 2) (sym e))) ∙ first.there;
-      gone_is = second.there;
-      others = λ i one two. second.others i one ∙ first.others i two;
-    }
-
--- no number of the row is 1
-pub set_some : (xs : List ℕ) (k v : ℕ) → ((i : ℕ) → get_or xs i 0 ≢ 1) → v ≢ 1 → (i : ℕ) → get_or (set xs k v) i 0 ≢ 1
-set_some xs k v none not_one i one = elim (cases_lt k (length xs)) [
-  | inl inside ↦ elim (cases_eq i k) [
-    | inl same ↦ not_one (sym (get_or-set_same xs k v 0 inside) ∙ ap (λ (j : ℕ). get_or (set xs k v) j 0) (sym same) ∙ one)
-    | inr other ↦ none i (sym (get_or-set_other xs k i v 0 other) ∙ one)
-  ]
-  | inr past ↦ elim (cases_eq i k) [
-    | inr other ↦ none i (sym (get_or-set_other xs k i v 0 other) ∙ one)
-    | inl same ↦
-        let zero : get_or (set xs k v) i 0 ≡ 0 = get_or_past (set xs k v) i 0 (omega (arith, length-set xs k v)) in omega arith
+-- each number of the row tells a pair
+pub set_pairs : (xs : List ℕ) (k v : ℕ) → ((i : ℕ) → IsPair (get_or xs i 0)) → IsPair v → (i : ℕ) → IsPair (get_or (set xs k v) i 0)
+set_pairs xs k v all is i = elim (cases_eq i k) [
+  | inr other ↦ subst IsPair (sym (get_or-set_other xs k i v 0 other)) (all i)
+  | inl same ↦ elim (cases_lt k (length xs)) [
+    | inl inside ↦ subst IsPair (sym (ap (λ (j : ℕ). get_or (set xs k v) j 0) same ∙ get_or-set_same xs k v 0 inside)) is
+    | inr past ↦ subst IsPair (sym (get_or_past (set xs k v) i 0 (omega (arith, length-set xs k v)))) zero_pair
   ]
 ]
+  where
+    zero_pair : IsPair 0
+    zero_pair = record { code = λ e. omega arith; one = λ e. omega arith; two = λ e. omega arith }
 
-half_max : (x : ℕ) → max (half x 0) (half x 1) ≡ x - x % 2
-half_max x = elim (cases_eq (x % 2) 0) [
-  | inl even ↦ omega (arith, half_is x 0 even, half_not x 1 (λ e. omega arith))
-  | inr odd ↦ omega (arith, half_not x 0 odd, half_is x 1 (omega arith))
-]
+pub zero_pairs : (xs : List ℕ) → ((i : ℕ) → get_or xs i 0 ≡ 0) → (i : ℕ) → IsPair (get_or xs i 0)
+zero_pairs xs zeros i = subst IsPair (sym (zeros i)) (record { code = λ e. omega arith; one = λ e. omega arith; two = λ e. omega arith })
 
-pub largest_halves : (xs : List ℕ) → largest (halves_of xs) ≡ largest xs - largest xs % 2
-largest_halves [] = refl
-largest_halves (x ∷ xs) = omega (arith, half_max x, largest_halves xs)
+pub largest_halves : (xs : List ℕ) → ((i : ℕ) → IsPair (get_or xs i 0)) → largest (halves_of xs) ≡ largest xs / 4 * 2
+largest_halves [] all = refl
+largest_halves (x ∷ xs) all = omega (arith, (largest_half x (all 0)).most, largest_halves xs (λ i. all (suc i)))
 
--- where the first number of the row that is large enough stands, the first of the pairs' is told
-pub first_half : (xs : List ℕ) (n k : ℕ) → n % 2 ≡ 0 → 2 ≤ n → position (λ value. nat_le n value) xs ≡ Some k → k < length xs → Some (2 * k + get_or xs k 0 % 2) ≡ position (λ value. nat_le n value) (halves_of xs)
-first_half xs n k even some found inside =
-    let x = get_or xs k 0 in
-    let first = position-Some (λ value. nat_le n value) xs k 0 found in
-    let enough : n ≤ x = leb-true n _ first.1 in
-    let at = 2 * k + x % 2 in
+-- the first number of the row that is large enough
+pub first_half : (xs : List ℕ) (n k w : ℕ) → ((i : ℕ) → IsPair (get_or xs i 0)) → n % 2 ≡ 0 → 2 ≤ n → position (λ value. nat_le (2 * n) value) xs ≡ Some k → k < length xs → w < 2 → n ≤ half (get_or xs k 0) w → ((v : ℕ) → v < w → half (get_or xs k 0) v < n) → Some (2 * k + w) ≡ position (λ value. nat_le n value) (halves_of xs)
+first_half xs n k w all even some found inside low enough lower =
+    let at = 2 * k + w in
     let place : at / 2 ≡ k = omega arith in
-    let which : at % 2 ≡ x % 2 = omega arith in
-    let here : get_or (halves_of xs) at 0 ≡ x - x % 2 = halves_at xs at ∙ ap₂ (λ (j w : ℕ). half (get_or xs j 0) w) place which ∙ half_is x (x % 2) refl in
+    let which : at % 2 ≡ w = omega arith in
+    let here : get_or (halves_of xs) at 0 ≡ half (get_or xs k 0) w = halves_at xs at ∙ ap₂ (λ (j v : ℕ). half (get_or xs j 0) v) place which in
     sym (position_found (λ value. nat_le n value) (halves_of xs) at (omega (arith, halves_length xs)) (le-leb n _ (omega arith)) (λ i before. lt-leb n _ (less i before)))
   where
-    less : (i : ℕ) → i < 2 * k + get_or xs k 0 % 2 → get_or (halves_of xs) i 0 < n
+    less : (i : ℕ) → i < 2 * k + w → get_or (halves_of xs) i 0 < n
     less i before = elim (cases_lt (i / 2) k) [
       | inl earlier ↦
-          let first = position-Some (λ value. nat_le n value) xs k 0 found in
-          omega (arith, halves_at xs i, half_le (get_or xs (i / 2) 0) (i % 2), leb-false n _ (first.2 (i / 2) earlier))
+          let first = position-Some (λ value. nat_le (2 * n) value) xs k 0 found in
+          omega (arith, halves_at xs i, half_le (get_or xs (i / 2) 0) (i % 2) (all (i / 2)) (omega arith), leb-false (2 * n) _ (first.2 (i / 2) earlier))
       | inr pair ↦
           let same : i / 2 ≡ k = omega arith in
-          let none : half (get_or xs (i / 2) 0) (i % 2) ≡ 0 = ap (λ (j : ℕ). half (get_or xs j 0) (i % 2)) same ∙ half_not (get_or xs k 0) (i % 2) (λ e. omega arith) in
-          omega (arith, halves_at xs i)
+          omega (arith, halves_at xs i, ap (λ (j : ℕ). half (get_or xs j 0) (i % 2)) same, lower (i % 2) (omega arith))
     ]
 
-pub first_half_none : (xs : List ℕ) (n : ℕ) → 2 ≤ n → position (λ value. nat_le n value) xs ≡ None → position (λ value. nat_le n value) (halves_of xs) ≡ None
-first_half_none xs n some nowhere =
+-- one of the two numbers is large enough where the pair's number is
+pub pair_enough : (xs : List ℕ) (n k : ℕ) → ((i : ℕ) → IsPair (get_or xs i 0)) → position (λ value. nat_le (2 * n) value) xs ≡ Some k → n % 2 ≡ 0 → half (get_or xs k 0) 0 < n → n ≤ half (get_or xs k 0) 1
+pair_enough xs n k all found even low =
+    let x = get_or xs k 0 in
+    let first = position-Some (λ value. nat_le (2 * n) value) xs k 0 found in
+    omega (arith, leb-true (2 * n) _ first.1, (largest_half x (all k)).most)
+
+pub first_half_none : (xs : List ℕ) (n : ℕ) → ((i : ℕ) → IsPair (get_or xs i 0)) → n % 2 ≡ 0 → position (λ value. nat_le (2 * n) value) xs ≡ None → position (λ value. nat_le n value) (halves_of xs) ≡ None
+first_half_none xs n all even nowhere =
     position_none (λ value. nat_le n value) (halves_of xs) (λ i inside.
-    lt-leb n _ (omega (arith, halves_at xs i, half_le (get_or xs (i / 2) 0) (i % 2), leb-false n _ (position_None (λ value. nat_le n value) xs nowhere (i / 2) (omega (arith, halves_length xs))))))
+    lt-leb n _ (omega (arith, halves_at xs i, half_le (get_or xs (i / 2) 0) (i % 2) (all (i / 2)) (omega arith), leb-false (2 * n) _ (position_None (λ value. nat_le (2 * n) value) xs nowhere (i / 2) (omega (arith, halves_length xs))))))
+
+-- no number is as large as that
+pub none_large : (xs : List ℕ) (n : ℕ) → largest xs < n → position (λ value. nat_le n value) xs ≡ None
+none_large xs n less = position_none (λ value. nat_le n value) xs (λ i inside. lt-leb n _ (omega (arith, largest_bound xs i)))
 
 -- the first of p's own pair, where p is the second
-pub last_own : (xs : List ℕ) (p : ℕ) → p % 2 ≡ 1 → 0 < get_or xs (p / 2) 0 → get_or xs (p / 2) 0 % 2 ≡ 0 → IsLastBefore (halves_of xs) p (Some (p - 1))
-last_own xs p odd some even =
-    let x = get_or xs (p / 2) 0 in
+pub last_own : (xs : List ℕ) (p : ℕ) → p % 2 ≡ 1 → 0 < half (get_or xs (p / 2) 0) 0 → IsLastBefore (halves_of xs) p (Some (p - 1))
+last_own xs p odd some =
     let place : (p - 1) / 2 ≡ p / 2 = omega arith in
     let which : (p - 1) % 2 ≡ 0 = omega arith in
-    let here : get_or (halves_of xs) (p - 1) 0 ≡ x - 0 = halves_at xs (p - 1) ∙ ap₂ (λ (j w : ℕ). half (get_or xs j 0) w) place which ∙ half_is x 0 even in
+    let here : get_or (halves_of xs) (p - 1) 0 ≡ half (get_or xs (p / 2) 0) 0 = halves_at xs (p - 1) ∙ ap₂ (λ (j w : ℕ). half (get_or xs j 0) w) place which in
     record { found = (omega arith, λ e. omega arith); last = λ i past before. absurd (omega arith) }
 
 -- no number of p's own pair stands before it
@@ -213,72 +263,50 @@ last_none_half xs p own zeros = record {
   last = tt;
 }
 
-pub last_half : (xs : List ℕ) (p k : ℕ) → ((i : ℕ) → get_or xs i 0 ≢ 1) → NoneOwn xs p → k < p / 2 → get_or xs k 0 ≢ 0 → ((j : ℕ) → k < j → j < p / 2 → get_or xs j 0 ≡ 0) → IsLastBefore (halves_of xs) p (Some (2 * k + get_or xs k 0 % 2))
-last_half xs p k none own low some zeros =
-    let x = get_or xs k 0 in
-    let at = 2 * k + x % 2 in
+-- the last number of the last pair before p's own one that is not 0
+pub last_half : (xs : List ℕ) (p k w : ℕ) → NoneOwn xs p → k < p / 2 → w < 2 → half (get_or xs k 0) w ≢ 0 → ((v : ℕ) → w < v → v < 2 → half (get_or xs k 0) v ≡ 0) → ((j : ℕ) → k < j → j < p / 2 → get_or xs j 0 ≡ 0) → IsLastBefore (halves_of xs) p (Some (2 * k + w))
+last_half xs p k w own low which_low some later_zero zeros =
+    let at = 2 * k + w in
     let place : at / 2 ≡ k = omega arith in
-    let which : at % 2 ≡ x % 2 = omega arith in
-    let here : get_or (halves_of xs) at 0 ≡ x - x % 2 = halves_at xs at ∙ ap₂ (λ (j w : ℕ). half (get_or xs j 0) w) place which ∙ half_is x (x % 2) refl in
-    let not_one : x ≢ 1 = none k in
+    let which : at % 2 ≡ w = omega arith in
+    let here : get_or (halves_of xs) at 0 ≡ half (get_or xs k 0) w = halves_at xs at ∙ ap₂ (λ (j v : ℕ). half (get_or xs j 0) v) place which in
     record {
-      found = (omega arith, λ e. absurd (two x some not_one (sym here ∙ e)));
+      found = (omega arith, λ e. some (sym here ∙ e));
       last = λ i past before. elim (cases_lt (i / 2) (p / 2)) [
         | inr pair ↦ own_zero xs p i own before pair
         | inl earlier ↦ elim (cases_lt k (i / 2)) [
           | inl later ↦ halves_at xs i ∙ ap (λ (y : ℕ). half y (i % 2)) (zeros (i / 2) later earlier) ∙ half_zero (i % 2)
           | inr same ↦
               let pair : i / 2 ≡ k = omega arith in
-              halves_at xs i ∙ ap (λ (j : ℕ). half (get_or xs j 0) (i % 2)) pair ∙ half_not x (i % 2) (λ e. omega arith)
+              halves_at xs i ∙ ap (λ (j : ℕ). half (get_or xs j 0) (i % 2)) pair ∙ later_zero (i % 2) (omega arith) (omega arith)
         ]
       ];
     }
-  where
-    two : (x : ℕ) → x ≢ 0 → x ≢ 1 → x - x % 2 ≢ 0
-    two x some not_one e = omega arith
 
 -- the same, as clauses see the numbers
-pub put_seen : (xs xs' view : List ℕ) (p size : ℕ) → halves_of xs ≡ view → xs' ≡ set xs (p / 2) (size + p % 2) → p < length view → size % 2 ≡ 0 → get_or view (other_half p) 0 ≡ 0 → IsPut view (halves_of xs') p size
-put_seen xs xs' view p size shown are inside even alone =
-    let put = is_put xs p size (omega (arith, ap length shown)) even (ap (λ (ys : List ℕ). get_or ys (other_half p) 0) shown ∙ alone) in
+pub put_seen : (xs xs' view : List ℕ) (p size v : ℕ) → halves_of xs ≡ view → xs' ≡ set xs (p / 2) v → p < length view → half v (p % 2) ≡ size → half v (1 - p % 2) ≡ half (get_or xs (p / 2) 0) (1 - p % 2) → IsPut view (halves_of xs') p size
+put_seen xs xs' view p size v shown are inside here other =
+    let put = is_put xs p size v (omega (arith, ap length shown)) here other in
     subst (λ (ys : List ℕ). IsPut ys (halves_of xs') p size) shown (subst (λ (ys : List ℕ). IsPut (halves_of xs) (halves_of ys) p size) (sym are) put)
 
-pub cleared_seen : (xs xs' view : List ℕ) (p : ℕ) → halves_of xs ≡ view → xs' ≡ set xs (p / 2) 0 → p < length view → get_or view p 0 ≢ 0 → IsPut view (halves_of xs') p 0
-cleared_seen xs xs' view p shown are inside some =
-    let put = is_cleared xs p (omega (arith, ap length shown)) (λ e. some (sym (ap (λ (ys : List ℕ). get_or ys p 0) shown) ∙ e)) in
-    subst (λ (ys : List ℕ). IsPut ys (halves_of xs') p 0) shown (subst (λ (ys : List ℕ). IsPut (halves_of xs) (halves_of ys) p 0) (sym are) put)
-
-pub moved_in_seen : (xs xs' view : List ℕ) (gone p size : ℕ) → halves_of xs ≡ view → xs' ≡ set xs (p / 2) (size + p % 2) → p < length view → gone ≢ p → gone / 2 ≡ p / 2 → size % 2 ≡ 0 → IsMoved view (halves_of xs') gone p size
-moved_in_seen xs xs' view gone p size shown are inside apart pair even =
-    let moved = is_moved_in xs gone p size (omega (arith, ap length shown)) apart pair even in
+pub moved_in_seen : (xs xs' view : List ℕ) (gone p size v : ℕ) → halves_of xs ≡ view → xs' ≡ set xs (p / 2) v → p < length view → gone ≢ p → gone / 2 ≡ p / 2 → half v (p % 2) ≡ size → half v (1 - p % 2) ≡ half 0 (1 - p % 2) → IsMoved view (halves_of xs') gone p size
+moved_in_seen xs xs' view gone p size v shown are inside apart pair here other =
+    let moved = is_moved_in xs gone p size v (omega (arith, ap length shown)) apart pair here (other ∙ half_zero (1 - p % 2)) in
     subst (λ (ys : List ℕ). IsMoved ys (halves_of xs') gone p size) shown (subst (λ (ys : List ℕ). IsMoved (halves_of xs) (halves_of ys) gone p size) (sym are) moved)
 
-pub moved_to_seen : (xs xs' xs'' view : List ℕ) (gone p size : ℕ) → halves_of xs ≡ view → xs' ≡ set xs (p / 2) (size + p % 2) → xs'' ≡ set xs' (gone / 2) 0 → (gone < length view) × (p < length view) → gone / 2 ≢ p / 2 → size % 2 ≡ 0 → get_or view gone 0 ≢ 0 → (other_half p ≢ gone → get_or view (other_half p) 0 ≡ 0) → IsMoved view (halves_of xs'') gone p size
-moved_to_seen xs xs' xs'' view gone p size shown first second inside apart even some alone =
-    let moved = is_moved_to xs gone p size (omega (arith, ap length shown, inside.0)) (omega (arith, ap length shown, inside.1)) apart even (λ e. some (sym (ap (λ (ys : List ℕ). get_or ys gone 0) shown) ∙ e)) (λ e. ap (λ (ys : List ℕ). get_or ys (other_half p) 0) shown ∙ alone e) in
-    let are : xs'' ≡ set (set xs (p / 2) (size + p % 2)) (gone / 2) 0 = second ∙ ap (λ (ys : List ℕ). set ys (gone / 2) 0) first in
-    subst (λ (ys : List ℕ). IsMoved ys (halves_of xs'') gone p size) shown (subst (λ (ys : List ℕ). IsMoved (halves_of xs) (halves_of ys) gone p size) (sym are) moved)
-
--- the last number, as clauses see the numbers
-pub last_own_seen : (xs view : List ℕ) (p own : ℕ) → halves_of xs ≡ view → own ≡ get_or xs (p / 2) 0 → p % 2 ≡ 1 → 0 < own → own % 2 ≡ 0 → IsLastBefore view p (Some (p - 1))
-last_own_seen xs view p own shown is odd some even =
-    subst (λ (ys : List ℕ). IsLastBefore ys p (Some (p - 1))) shown (last_own xs p odd (omega arith) (ap (λ (x : ℕ). x % 2) (sym is) ∙ even))
-
-pub none_own : (xs : List ℕ) (p own : ℕ) → own ≡ get_or xs (p / 2) 0 → (p % 2 ≢ 1) ⊎ ((own ≡ 0) ⊎ (own % 2 ≢ 0)) → NoneOwn xs p
-none_own xs p own is how = record {
-  none = λ odd. elim how [
-    | inl even ↦ absurd (even odd)
-    | inr rest ↦ elim rest [
-      | inl none ↦ ap (λ (x : ℕ). half x 0) (sym is ∙ none) ∙ half_zero 0
-      | inr other ↦ half_not (get_or xs (p / 2) 0) 0 (λ e. other (ap (λ (x : ℕ). x % 2) is ∙ e))
-    ]
-  ];
-}
+pub last_own_seen : (xs view : List ℕ) (p own : ℕ) → halves_of xs ≡ view → own ≡ half (get_or xs (p / 2) 0) 0 → p % 2 ≡ 1 → 0 < own → IsLastBefore view p (Some (p - 1))
+last_own_seen xs view p own shown is odd some =
+    subst (λ (ys : List ℕ). IsLastBefore ys p (Some (p - 1))) shown (last_own xs p odd (omega arith))
 
 pub last_none_seen : (xs view : List ℕ) (p : ℕ) → halves_of xs ≡ view → NoneOwn xs p → ((k : ℕ) → k < p / 2 → get_or xs k 0 ≡ 0) → IsLastBefore view p None
 last_none_seen xs view p shown own zeros = subst (λ (ys : List ℕ). IsLastBefore ys p None) shown (last_none_half xs p own zeros)
 
-pub last_half_seen : (xs view : List ℕ) (p k x : ℕ) → halves_of xs ≡ view → ((i : ℕ) → get_or xs i 0 ≢ 1) → NoneOwn xs p → (k < p / 2) × (get_or xs k 0 ≢ 0) → ((j : ℕ) → k < j → j < p / 2 → get_or xs j 0 ≡ 0) → x ≡ get_or xs k 0 → IsLastBefore view p (Some (2 * k + x % 2))
-last_half_seen xs view p k x shown none own found zeros is =
-    subst (λ (y : ℕ). IsLastBefore view p (Some (2 * k + y % 2))) (sym is)
-    (subst (λ (ys : List ℕ). IsLastBefore ys p (Some (2 * k + get_or xs k 0 % 2))) shown (last_half xs p k none own found.0 found.1 zeros))
+pub last_second_seen : (xs view : List ℕ) (p k second : ℕ) → halves_of xs ≡ view → NoneOwn xs p → (k < p / 2) × (get_or xs k 0 ≢ 0) → ((j : ℕ) → k < j → j < p / 2 → get_or xs j 0 ≡ 0) → second ≡ half (get_or xs k 0) 1 → 0 < second → IsLastBefore view p (Some (2 * k + 1))
+last_second_seen xs view p k second shown own found zeros is some =
+    subst (λ (ys : List ℕ). IsLastBefore ys p (Some (2 * k + 1))) shown (last_half xs p k 1 own found.0 (omega arith) (λ e. omega arith) (λ v high low. absurd (omega arith)) zeros)
+
+pub last_first_seen : (xs view : List ℕ) (p k second : ℕ) → halves_of xs ≡ view → ((i : ℕ) → IsPair (get_or xs i 0)) → NoneOwn xs p → (k < p / 2) × (get_or xs k 0 ≢ 0) → ((j : ℕ) → k < j → j < p / 2 → get_or xs j 0 ≡ 0) → second ≡ half (get_or xs k 0) 1 → second ≡ 0 → IsLastBefore view p (Some (2 * k))
+last_first_seen xs view p k second shown all own found zeros is none =
+    let place : 2 * k + 0 ≡ 2 * k = omega arith in
+    subst (λ (q : ℕ). IsLastBefore view p (Some q)) place
+    (subst (λ (ys : List ℕ). IsLastBefore ys p (Some (2 * k + 0))) shown (last_half xs p k 0 own found.0 (omega arith) (λ e. found.1 ((largest_half (get_or xs k 0) (all k)).none e (sym is ∙ none))) (λ v high low. let one : v ≡ 1 = omega arith in ap (half (get_or xs k 0)) one ∙ (sym is ∙ none)) zeros))

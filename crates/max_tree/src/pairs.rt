@@ -1,15 +1,15 @@
-ghost use Rattle.std.specs.Prelude.{◌≡◌, ◌≢◌, ℕ, ◌+◌, ◌/◌, ◌%◌, ◌^◌, ◌<◌, ◌≤◌, nat_le, length};
+ghost use Rattle.std.specs.Prelude.{◌≡◌, ◌≢◌, ℕ, ◌+◌, ◌-◌, ◌/◌, ◌%◌, ◌^◌, ◌<◌, ◌≤◌, ◌==◌, nat_le};
+ghost use Rattle.std.specs.Prelude.{length, if◌then◌else◌};
 ghost use Rattle.std.specs.Prelude.{slice_index, MatchOption};
 ghost use Rattle.std.specs.List.{position};
 ghost use Rattle.max_tree.specs.Pages.{largest};
-ghost use Rattle.max_tree.specs.Halves.{other_half};
+ghost use Rattle.max_tree.specs.Halves.{half, other_half, MayStand, IsPair};
 
 use crate::row::MaxRow;
 use std::marker::Model;
 
-/// A row of even numbers, of which one of each pair is 0. A pair takes the memory of one number.
-///
-/// The pair is one number of a `MaxRow`, which is odd where it tells the second one of the pair.
+/// A row of even numbers below 2 ^ 31, of which one of each pair is 0, or the first one is 2. A
+/// pair takes the memory of one number.
 #[derive(Drop)]
 pub struct PairRow {
     row: MaxRow,
@@ -18,14 +18,14 @@ pub struct PairRow {
 // Clauses see the numbers.
 impl Model for PairRow {
     ghost use Rattle.std.specs.Prelude.{◌≡◌, ◌≢◌, ℕ, ◌<◌, ◌^◌, List, length, slice_index};
-    ghost use Rattle.max_tree.specs.Halves.{halves_of};
+    ghost use Rattle.max_tree.specs.Halves.{halves_of, IsPair};
 
     ghost Value = { List ℕ };
 
     ghost view = { λ pairs. halves_of pairs.row };
 
     ghost invariant = { λ pairs.
-        (length pairs.row < 2 ^ 32) × ((i : ℕ) → slice_index pairs.row i ≢ 1) };
+        (length pairs.row < 2 ^ 32) × ((i : ℕ) → IsPair (slice_index pairs.row i)) };
 }
 
 impl PairRow {
@@ -44,56 +44,54 @@ impl PairRow {
         requires { p < length self.now }
         ensures { result ≡ slice_index self.now p }
     {
-        let which = (p % 2) as u32;
-        let number = self.row.get(p / 2);
-        if number % 2 == which {
-            number - which
-        } else {
-            0
-        }
+        half_of(self.row.get(p / 2), (p % 2) as u32)
     }
 
-    /// Makes `size` the number at `p`, where the other number of the pair is 0.
+    /// Makes `size` the number at `p`, where the other number of the pair is 0, or the first is 2.
     pub fn put(&mut self, p: usize, size: u32)
         requires inside { p < length self.old }
-        requires size { (size % 2 ≡ 0) × (2 ≤ size) }
-        requires alone { slice_index self.old (other_half p) ≡ 0 }
+        requires size { (size % 2 ≡ 0) × (2 ≤ size) × (size < 2 ^ 31) }
+        requires beside { MayStand p size (slice_index self.old (other_half p)) }
         ensures count { length self.new ≡ length self.old }
         ensures there { slice_index self.new p ≡ size }
         ensures others { (i : ℕ) → i ≢ p → slice_index self.new i ≡ slice_index self.old i }
     {
-        self.row.set(p / 2, size + (p % 2) as u32);
+        let pair = pair_with(self.row.get(p / 2), (p % 2) as u32, size);
+        self.row.set(p / 2, pair);
     }
 
-    /// Makes the number at `p`, which is not 0, 0.
+    /// Makes the number at `p` 0.
     pub fn clear_at(&mut self, p: usize)
         requires inside { p < length self.old }
-        requires some { slice_index self.old p ≢ 0 }
         ensures count { length self.new ≡ length self.old }
         ensures gone { slice_index self.new p ≡ 0 }
         ensures others { (i : ℕ) → i ≢ p → slice_index self.new i ≡ slice_index self.old i }
     {
-        self.row.set(p / 2, 0);
+        let pair = pair_with(self.row.get(p / 2), (p % 2) as u32, 0);
+        self.row.set(p / 2, pair);
     }
 
-    /// Makes the number at `gone`, which is not 0, 0, and `size` the number at `p`.
+    /// Makes the number at `gone` 0, and `size` the number at `p`.
     pub fn move_to(&mut self, gone: usize, p: usize, size: u32)
         requires inside { (gone < length self.old) × (p < length self.old) }
         requires apart { gone ≢ p }
-        requires size { (size % 2 ≡ 0) × (2 ≤ size) }
-        requires some { slice_index self.old gone ≢ 0 }
-        requires alone { other_half p ≢ gone → slice_index self.old (other_half p) ≡ 0 }
+        requires size { (size % 2 ≡ 0) × (2 ≤ size) × (size < 2 ^ 31) }
+        requires beside { other_half p ≢ gone
+            → MayStand p size (slice_index self.old (other_half p)) }
         ensures count { length self.new ≡ length self.old }
         ensures there { slice_index self.new p ≡ size }
         ensures gone { slice_index self.new gone ≡ 0 }
         ensures others { (i : ℕ) → i ≢ gone → i ≢ p
             → slice_index self.new i ≡ slice_index self.old i }
     {
-        // The larger number first: the other one's way up then ends where the ways meet.
-        self.row.set(p / 2, size + (p % 2) as u32);
-        if gone / 2 != p / 2 {
-            self.row.set(gone / 2, 0);
+        if gone / 2 == p / 2 {
+            let pair = pair_with(0, (p % 2) as u32, size);
+            self.row.set(p / 2, pair);
+            return;
         }
+        // The larger number first: the other one's way up then ends where the ways meet.
+        self.put(p, size);
+        self.clear_at(gone);
     }
 
     /// Makes all numbers 0.
@@ -109,10 +107,18 @@ impl PairRow {
         requires { (n % 2 ≡ 0) × (2 ≤ n) }
         ensures { result ≡ position (λ value. nat_le n value) self.now }
     {
-        let Some(k) = self.row.first_at_least(n) else {
+        if self.largest() < n {
+            return None;
+        }
+        let Some(k) = self.row.first_at_least(2 * n) else {
             return None;
         };
-        Some(2 * k + (self.row.get(k) % 2) as usize)
+        let pair = self.row.get(k);
+        if half_of(pair, 0) >= n {
+            Some(2 * k)
+        } else {
+            Some(2 * k + 1)
+        }
     }
 
     /// The last place before `p` of a number that is not 0, if there is one.
@@ -123,21 +129,74 @@ impl PairRow {
         ensures last { MatchOption result (Unit {0})
             (λ q. (k : ℕ) → q < k → k < p → slice_index self.now k ≡ 0) }
     {
-        let own = self.row.get(p / 2);
-        if p % 2 == 1 && own > 0 && own % 2 == 0 {
+        if p % 2 == 1 && half_of(self.row.get(p / 2), 0) > 0 {
             return Some(p - 1);
         }
         let Some(k) = self.row.last_nonzero_before(p / 2) else {
             return None;
         };
-        Some(2 * k + (self.row.get(k) % 2) as usize)
+        if half_of(self.row.get(k), 1) > 0 {
+            Some(2 * k + 1)
+        } else {
+            Some(2 * k)
+        }
     }
 
     /// The largest number, or 0.
     pub fn largest(&self) -> u32
-        ensures { result ≡ largest self.now }
+        ensures is { result ≡ largest self.now }
+        ensures small { result < 2 ^ 31 }
     {
-        let number = self.row.largest();
-        number - number % 2
+        self.row.largest() / 4 * 2
+    }
+}
+
+// The first or the second number of a pair.
+fn half_of(pair: u32, which: u32) -> u32
+    requires { which < 2 }
+    ensures { result ≡ half pair which }
+{
+    let larger = pair / 4 * 2;
+    if pair % 4 == which {
+        return larger;
+    }
+    if pair % 4 != 2 {
+        return 0;
+    }
+    if which == 0 { 2 } else { larger }
+}
+
+// The pair of these two numbers.
+fn pair_of(first: u32, second: u32) -> u32
+    requires even { (first % 2 ≡ 0) × (second % 2 ≡ 0) }
+    requires small { (first < 2 ^ 31) × (second < 2 ^ 31) }
+    requires beside { first ≢ 0 → second ≢ 0 → first ≡ 2 }
+    ensures first { half result 0 ≡ first }
+    ensures second { half result 1 ≡ second }
+    ensures pair { IsPair result }
+{
+    if second == 0 {
+        return 2 * first;
+    }
+    if first == 0 {
+        2 * second + 1
+    } else {
+        2 * second + 2
+    }
+}
+
+// The pair with this number as the first or the second one.
+fn pair_with(pair: u32, which: u32, size: u32) -> u32
+    requires which { which < 2 }
+    requires size { (size % 2 ≡ 0) × (size < 2 ^ 31) }
+    requires beside { size ≢ 0 → MayStand which size (half pair (1 - which)) }
+    ensures there { half result which ≡ size }
+    ensures other { half result (1 - which) ≡ half pair (1 - which) }
+    ensures pair { IsPair result }
+{
+    if which == 0 {
+        pair_of(size, half_of(pair, 1))
+    } else {
+        pair_of(half_of(pair, 0), size)
     }
 }

@@ -10,20 +10,7 @@ event w t r mask = record { worker = w; t = t; request = r; mask = mask }
 
 abbrev pub is_fetch : Request → Bool
 is_fetch (request.Fetch key) = true
-is_fetch (request.Store key value ttl exclusive) = false
-is_fetch (request.Exists key) = false
-is_fetch (request.Delete key) = false
-is_fetch (request.Inc key step ttl) = false
-is_fetch (request.Cas key expect set) = false
-is_fetch (request.Entry g) = false
-is_fetch request.Clear = false
-is_fetch (request.KeyInfo key) = false
-is_fetch (request.CacheInfo limited) = false
-is_fetch (request.SmaInfo limited) = false
-is_fetch (request.Chunk search from size list fields) = false
-is_fetch (request.ChunkDelete search from size) = false
-is_fetch (request.Totals search list) = false
-is_fetch request.Retire = false
+is_fetch _ = false
 
 -- the events of the worker w, in order
 abbrev pub events_of : ℕ → List Event → List Event

@@ -9,3 +9,4 @@ pub mod Lists
 pub mod Names
 pub mod WriterRest
 pub mod ImageRest
+pub mod Laws

@@ -15,4 +15,4 @@ no_table = record {
 }
 
 abbrev pub no_conf : Conf
-no_conf = record { words = 0; slots = 0; ttl = 0 }
+no_conf = record { words = 0; slots = 0; ttl = 0; segments = 1 }

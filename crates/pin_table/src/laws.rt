@@ -1,3 +1,4 @@
+ghost use Rattle.pin_table.specs.Laws.{RuleLaws};
 ghost use Rattle.std.specs.Prelude.{◌≡◌, ℕ, ◌==◌, ◌<◌, cond, true, List, [], ◌∷◌, ◌++◌, Bool};
 ghost use mathlib.Core.Option.{some};
 ghost use lib.ListN.{get_elem?};
@@ -13,22 +14,6 @@ ghost use Rattle.pin_table.specs.Rule.{Rule};
 /// rule in all seven parts; a block is named exactly where a window has its place; it is held
 /// exactly where it is named by the window of a worker that was met; and what one more event adds
 /// to a worker's own events, and to whether its last event is a fetch.
-#[tactic(auto, using(crate::proofs::Used::of_rule_laws))]
 pub fn rule_laws()
-    ensures carried { (words : List ℕ) (views : List View) → Carried words views
-        → Rule words views }
-    ensures named { (windows : List ℕ) (v at : ℕ) → get_elem? windows v ≡ some at → 0 < at
-        → is_named windows at ≡ true }
-    ensures there { (windows : List ℕ) (at : ℕ) → is_named windows at ≡ true
-        → (0 < at) × ((v : ℕ) × (get_elem? windows v ≡ some at)) }
-    ensures held { (mask : ℕ) (windows : List ℕ) (at : ℕ) → has at (held_by mask windows) ≡ true
-        → (v : ℕ) × (bit_at mask v ≡ 1) × (get_elem? windows v ≡ some at) }
-    ensures holds { (mask : ℕ) (windows : List ℕ) (v at : ℕ) → bit_at mask v ≡ 1
-        → get_elem? windows v ≡ some at → 0 < at → has at (held_by mask windows) ≡ true }
-    ensures own { (w : ℕ) (es : List Event) (e : Event)
-        → events_of w (es ++ e ∷ [])
-        ≡ cond (e.worker == w) (events_of w es ++ e ∷ []) (events_of w es) }
-    ensures last { (w : ℕ) (es : List Event) (e : Event) (b : Bool)
-        → fetched_last w (es ++ e ∷ []) b
-        ≡ cond (e.worker == w) (is_fetch e.request) (fetched_last w es b) }
+    ensures { RuleLaws }
 {}

@@ -1,4 +1,4 @@
--- What the calls of a script print.
+-- What the calls of scripts print.
 use Rattle.std.specs.Prelude.{ℕ, ◌-◌, true, List, [], ◌∷◌, ◌++◌, length, take, map}
 use Rattle.apcu_model.specs.declared.conf.Conf.{Conf}
 use Rattle.apcu_model.specs.declared.request.Reply.{Reply}
@@ -53,3 +53,10 @@ abbrev pub script_lines : Conf → List Step → List Reply → List ℕ
 script_lines conf [] replies = []
 script_lines conf (step ∷ steps) replies =
     lines_from step.call replies (script_lines conf steps) (next_of conf step.call replies)
+
+-- for each worker the lines of its calls
+abbrev pub texts_of : Conf → List (List Step) → List (List Reply) → List (List ℕ)
+texts_of conf [] replies = []
+texts_of conf (script ∷ scripts) [] = []
+texts_of conf (script ∷ scripts) (replies ∷ others) =
+    script_lines conf script replies ∷ texts_of conf scripts others

@@ -1,5 +1,5 @@
 -- What a reader of scripts answers, beside what reading gives.
-use Rattle.std.specs.Prelude.{◌≡◌, ℕ, ◌+◌, ◌≤◌, List, length, codes, Result, Ok, Err}
+use Rattle.std.specs.Prelude.{◌≡◌, ℕ, ◌+◌, ◌≤◌, List, length, map, codes, Result, Ok, Err}
 use Rattle.notation.specs.declared.fault.Reason.{Reason}
 use Rattle.notation.specs.declared.fault.Fault.{Fault}
 use Rattle.script_read.specs.declared.fault.Stop.{Stop}
@@ -9,6 +9,7 @@ use Rattle.script_read.specs.declared.fault.ScriptFault.TheVariants as faults
 use Rattle.script_read.specs.declared.effect.Effect.{Effect}
 use Rattle.script_read.specs.declared.effect.Effect.TheVariants.{Sets, Calls}
 use Rattle.script_read.specs.declared.keyword.Keyword.{Keyword}
+use Rattle.script_read.specs.declared.keyword.Row.{Row}
 use Rattle.script_read.specs.declared.keyword.Keyword.TheVariants as keywords
 use Rattle.script_read.specs.declared.script.Step.{Step}
 use Rattle.notation.specs.declared.fault.Reason.TheVariants as reasons
@@ -59,6 +60,10 @@ form_named keywords.Iterate = form_of (codes "APCUIterator")
 form_named keywords.IterateDelete = form_of (codes "APCUIterator_delete")
 form_named keywords.IterateTotals = form_of (codes "APCUIterator_totals")
 form_named keywords.Unknown = Refuse reasons.Line
+
+-- the code's words, with what follows each
+abbrev pub forms_of : List Row → List (List ℕ × Form)
+forms_of rows = map (λ row. (row.text.now, form_named row.word)) rows
 
 -- what a line does is in range: the moment that it sets, or its call's arguments
 abbrev pub IsInRange : Effect → Type 0

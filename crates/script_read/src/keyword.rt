@@ -1,7 +1,7 @@
 ghost use Rattle.std.specs.Prelude.{◌≡◌};
 ghost use Rattle.std.specs.Str.{bytes_eq};
-ghost use Rattle.script_read.specs.Table.{form_of};
-ghost use Rattle.script_read.specs.Gives.{form_named};
+ghost use Rattle.script_read.specs.Table.{form_in, form_of};
+ghost use Rattle.script_read.specs.Gives.{form_named, forms_of};
 
 /// What a line begins with.
 #[derive(Clone, Copy)]
@@ -28,51 +28,107 @@ pub(crate) enum Keyword {
     Unknown,
 }
 
+// A row of the words.
+struct Row {
+    text: &'static [u8],
+    word: Keyword,
+}
+
+// The words.
+const WORDS: [Row; 18] = [
+    Row {
+        text: b"time",
+        word: Keyword::Time,
+    },
+    Row {
+        text: b"apcu_store",
+        word: Keyword::Store,
+    },
+    Row {
+        text: b"apcu_add",
+        word: Keyword::Add,
+    },
+    Row {
+        text: b"apcu_fetch",
+        word: Keyword::Fetch,
+    },
+    Row {
+        text: b"apcu_exists",
+        word: Keyword::Exists,
+    },
+    Row {
+        text: b"apcu_delete",
+        word: Keyword::Delete,
+    },
+    Row {
+        text: b"apcu_inc",
+        word: Keyword::Inc,
+    },
+    Row {
+        text: b"apcu_dec",
+        word: Keyword::Dec,
+    },
+    Row {
+        text: b"apcu_cas",
+        word: Keyword::Cas,
+    },
+    Row {
+        text: b"apcu_entry",
+        word: Keyword::Entry,
+    },
+    Row {
+        text: b"apcu_clear_cache",
+        word: Keyword::Clear,
+    },
+    Row {
+        text: b"apcu_enabled",
+        word: Keyword::Enabled,
+    },
+    Row {
+        text: b"apcu_key_info",
+        word: Keyword::KeyInfo,
+    },
+    Row {
+        text: b"apcu_cache_info",
+        word: Keyword::CacheInfo,
+    },
+    Row {
+        text: b"apcu_sma_info",
+        word: Keyword::SmaInfo,
+    },
+    Row {
+        text: b"APCUIterator",
+        word: Keyword::Iterate,
+    },
+    Row {
+        text: b"APCUIterator_delete",
+        word: Keyword::IterateDelete,
+    },
+    Row {
+        text: b"APCUIterator_totals",
+        word: Keyword::IterateTotals,
+    },
+];
+
 impl Keyword {
     // The word that this text is; what may follow it is what may follow the text.
     pub fn of(text: &[u8]) -> Keyword
         ensures { form_of text.now ≡ form_named result }
     {
-        if is_word(text, b"time") {
-            Keyword::Time
-        } else if is_word(text, b"apcu_store") {
-            Keyword::Store
-        } else if is_word(text, b"apcu_add") {
-            Keyword::Add
-        } else if is_word(text, b"apcu_fetch") {
-            Keyword::Fetch
-        } else if is_word(text, b"apcu_exists") {
-            Keyword::Exists
-        } else if is_word(text, b"apcu_delete") {
-            Keyword::Delete
-        } else if is_word(text, b"apcu_inc") {
-            Keyword::Inc
-        } else if is_word(text, b"apcu_dec") {
-            Keyword::Dec
-        } else if is_word(text, b"apcu_cas") {
-            Keyword::Cas
-        } else if is_word(text, b"apcu_entry") {
-            Keyword::Entry
-        } else if is_word(text, b"apcu_clear_cache") {
-            Keyword::Clear
-        } else if is_word(text, b"apcu_enabled") {
-            Keyword::Enabled
-        } else if is_word(text, b"apcu_key_info") {
-            Keyword::KeyInfo
-        } else if is_word(text, b"apcu_cache_info") {
-            Keyword::CacheInfo
-        } else if is_word(text, b"apcu_sma_info") {
-            Keyword::SmaInfo
-        } else if is_word(text, b"APCUIterator") {
-            Keyword::Iterate
-        } else if is_word(text, b"APCUIterator_delete") {
-            Keyword::IterateDelete
-        } else if is_word(text, b"APCUIterator_totals") {
-            Keyword::IterateTotals
-        } else {
-            Keyword::Unknown
+        word_in(&WORDS, text)
+    }
+}
+
+// The word by the first row that has this text.
+fn word_in(rows: &[Row], text: &[u8]) -> Keyword
+    ensures { form_in (forms_of rows.now) text.now ≡ form_named result }
+{
+    for row in rows {
+        if is_word(text, row.text) {
+            return row.word;
         }
     }
+    Keyword::Unknown
 }
 
 pub(crate) fn is_word(text: &[u8], word: &[u8]) -> bool

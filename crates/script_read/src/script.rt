@@ -82,15 +82,6 @@ impl Script {
     {
         &self.steps[i as usize]
     }
-
-    /// The steps. It takes no memory.
-    pub fn into_steps(self) -> Vec<Step>
-        ensures steps { result.items ≡ self }
-        ensures moments { AllByRecursion IsInTime result.items }
-        ensures ranges { AllByRecursion IsRanged result.items }
-    {
-        self.steps
-    }
 }
 
 /// The scripts of all workers, that of worker 0 first. Contracts see the list of their lists of

@@ -121,6 +121,8 @@ fn arguments_at_fault(rt: HostRuntime) {
         (b"worker\ntime i:1000000000000;\n", 12, Reason::Argument),
         (b"worker\ntime s:1:\"1\";\n", 12, Reason::Argument),
         (b"worker\napcu_fetch\n", 17, Reason::Argument),
+        (b"worker\napcu_fetch \n", 18, Reason::Tag),
+        (b"worker\napcu_store s:1:\"a\"; \n", 27, Reason::Tag),
         (b"worker\napcu_fetch i:1;\n", 18, Reason::Argument),
         (
             b"worker\napcu_exists a:1:{i:0;i:1;}\n",

@@ -1,5 +1,5 @@
 use play_laws::{histories_are_plays, one_event_own};
-use walk_laws::{steps_of_walks, walks_give_once, walks_in_histories};
+use walk_laws::{calls_are_walks, steps_of_walks, walks_give_once, walks_in_histories};
 
 #[test]
 fn states_its_laws() {
@@ -8,4 +8,5 @@ fn states_its_laws() {
     walks_give_once();
     steps_of_walks();
     walks_in_histories();
+    calls_are_walks();
 }

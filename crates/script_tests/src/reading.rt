@@ -148,7 +148,7 @@ fn no_scripts(rt: HostRuntime) -> Result<(), Fail> {
     assert!(rt; none.pop().is_none());
     let mut one = read_scripts(rt.alloc(), b"worker\n")?;
     match one.pop() {
-        Some(script) => assert_eq!(rt; script.into_steps().len(), 0),
+        Some(script) => assert_eq!(rt; script.len(), 0),
         None => assert!(rt; false),
     }
     Ok(())

@@ -58,7 +58,7 @@ held_alike laws m d p old numbered run tied x = any_has x (held_by d.mask d.wind
   where
     there : has x (held_by d.mask d.windows) ≡ true → has x (held_places m d.mask) ≡ true
     there h =
-        let t = laws.held d.mask d.windows x h in
+        let t = laws.rule.held d.mask d.windows x h in
         let k = run.order.masked t.0 t.1 in
         let pos : 0 < x = subst (λ y. 0 < y) (same_there d.windows t.0 k.0 x k.1 t.2) k.2 in
         let o = from_before d p old run t.0 x t.2 pos in
@@ -80,7 +80,7 @@ held_alike laws m d p old numbered run tied x = any_has x (held_by d.mask d.wind
         let r = tied w.0.0 k.0 o.1 k.2 in
         let n : r.row.number ≡ a.0.number = cc (r.window, numbered.one w.0 w.1) ∙ eqb-true w.0.1 a.0.number parts.1 in
         let place : k.0 ≡ x = sym r.place ∙ (numbered.numbers r.row a.0 r.there f.0 n ∙ a.2) in
-        subst (λ y. has y (held_by d.mask d.windows) ≡ true) place (laws.holds d.mask d.windows w.0.0 k.0 bit k.1 k.2)
+        subst (λ y. has y (held_by d.mask d.windows) ≡ true) place (laws.rule.holds d.mask d.windows w.0.0 k.0 bit k.1 k.2)
       where
         any_row : (rows : List Row) → has x (map {A = Row} {B = ℕ} (λ row. row.place) rows) ≡ true → (row : Row) × Contains rows row × (row.place ≡ x)
         any_row rows q = let t = any_there (λ (row : Row). row.place == x) rows (mapped x rows ∙ q) in (t.0, t.1, eqb-true t.0.place x t.2)

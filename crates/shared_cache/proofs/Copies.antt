@@ -1,5 +1,6 @@
 -- The event of a fetch that pins a block, an event that did not take place, and the start.
 use Rattle.std.proofs.Common.{◌≡◌, ℕ, zero, suc, ◌+◌, ◌<◌, ◌≤◌, true, List, [], ◌∷◌, ◌++◌, length, Some, None, refl, ap, sym, ◌∙◌, subst, sum, slice_set, replicate, arith}
+use Rattle.apcu_model.specs.declared.journal.TheConstants.{MOST_EVENTS}
 use mathlib.Core.Option.{some, some-injective, some-ne-none}
 use lib.ListN.{get_elem?}
 use Rattle.atomic_table.specs.Seated.{TableId}
@@ -25,6 +26,7 @@ use Rattle.pin_table.specs.Values.{Writing, Bearer, Copier}
 use Rattle.pin_table.specs.Events.{event}
 use Rattle.pin_table.specs.Lists.{fresh_desk}
 use Rattle.pin_table.specs.Views.{with_hand, with_event, known_after, rested, copied, pinning_at, reader_after, in_hand, aside_of}
+use Rattle.value_image.specs.Laws.{ImagesAreRuns}
 use Rattle.shared_cache.specs.Laws.{LockLaws}
 use Rattle.shared_cache.specs.Tied.{AreTied}
 use Rattle.shared_cache.specs.Settled.{Settled}
@@ -33,13 +35,13 @@ use Rattle.shared_cache.proofs.Windows.{Running, set_other, from_before, named_s
 use Rattle.shared_cache.proofs.Ends.{Ends}
 use Rattle.shared_cache.proofs.Ends as all_ends
 use Rattle.shared_cache.proofs.Working.{Works, worker, table, book, run, cache_in, reply_is, core_closed}
-use Rattle.shared_cache.proofs.Fetches.{IsHit, hit_of, IsUsed, used_in, core_opened, Images, found_image, tied_opened}
+use Rattle.shared_cache.proofs.Fetches.{IsHit, hit_of, IsUsed, used_in, core_opened, found_image, tied_opened}
 
 -- One event of the pass p, from the seat s0 to the seat s1: a fetch that found a value in the block at `at`, from
 -- which k copies.
 pub record Copies (t : TableId) (conf : Conf) (budgets : List ℕ) (s0 s1 : Writing) (w0 w : Writer) (c0 c1 : Core) (p : Bearer) (k : Copier) (time : ℕ) (key : List ℕ) (at : ℕ) (j0 j1 : Marks) : Type 0 where
   pub works : Works t conf budgets s0 w0 w c0 p j0
-  pub images : Images
+  pub images : ImagesAreRuns
   pub seat : s1.table ≡ w.seat.now.table
   pub desk : s1.desk ≡ copied (pinning_at w.seat.now.desk at) (event w.worker time (request.Fetch key) w.seat.now.desk.mask)
   pub given : k.table ≡ w.seat.now.table
@@ -119,6 +121,7 @@ module _ (t : TableId) (conf : Conf) (budgets : List ℕ) (s0 s1 : Writing) (w0 
     graph = found.row.graph;
     follows = all_ends.follows t conf budgets s0 s1 w.seat.now.desk c0 c1 p (bearer_of k) time (request.Fetch key) j0 j1 ends (reply.Found found.row.graph)
         (reply_is t conf budgets s0 w0 w c0 p j0 h.works time (request.Fetch key) (reply.Found found.row.graph) (sym (ap found_in found.live)));
+    whole = found.whole;
     image = subst (λ (r : Reader). Rattle.value_image.specs.Image.IsImageOf r.content 0 (length r.content) found.row.graph) (sym h.copy)
         (found_image h.images c1 d.words (aside_of d) at found.row.graph use_of h.stands);
   }
@@ -152,7 +155,7 @@ zero_there (suc n) (suc v) at h = zero_there n v at h
 
 -- a cache without an event, whose workers were all made
 pub fresh_settled : LockLaws → (t : TableId) (conf : Conf) (budgets : List ℕ) (s : Writing) (core : Core) (j : Marks) (words : List ℕ) → s.table ≡ t → s.desk ≡ fresh_desk words budgets
-    → CoreStands core words nothing_aside → cache_of core ≡ empty_cache conf → j.marks ≡ [] → j.room ≡ sum budgets → sum budgets ≤ 4194304
+    → CoreStands core words nothing_aside → cache_of core ≡ empty_cache conf → j.marks ≡ [] → j.room ≡ sum budgets → sum budgets ≤ MOST_EVENTS
     → Settled t conf budgets s core j
 fresh_settled laws t conf budgets s core j words table desk st cache empty room few = record {
   table = table;
@@ -175,4 +178,4 @@ fresh_settled laws t conf budgets s core j words table desk st cache empty room 
     closed at zero_is pos = omega (arith, zero_is, pos)
 
     none : (at : ℕ) → is_named (replicate (length budgets) 0) at ≡ true → is_named [] at ≡ true
-    none at named = let k = laws.there (replicate (length budgets) 0) at named in absurd (closed at (zero_there (length budgets) k.1.0 at k.1.1) k.0)
+    none at named = let k = laws.rule.there (replicate (length budgets) 0) at named in absurd (closed at (zero_there (length budgets) k.1.0 at k.1.1) k.0)

@@ -1,5 +1,6 @@
 -- An event keeps what is under the lock, and is told by the pass.
 use Rattle.std.proofs.Common.{◌≡◌, ℕ, suc, ◌+◌, ◌^◌, ◌<◌, ◌≤◌, ◌==◌, ◌&&◌, true, List, [], ◌∷◌, ◌++◌, length, Some, refl, ap, sym, ◌∙◌, subst, arith, sum, length-append, cond}
+use Rattle.apcu_model.specs.declared.journal.TheConstants.{MOST_EVENTS}
 use Rattle.std.proofs.lemmas.Bool.{eq-eqb}
 use mathlib.Core.List.{IsPrefix}
 use Rattle.atomic_table.specs.Seated.{TableId}
@@ -34,7 +35,7 @@ module _ (t : TableId) (conf : Conf) (budgets : List ℕ) (s : Writing) (c : Cor
   journal_long = ap length ok.journal_is ∙ length_marks s.desk.book.history
 
   -- and no longer than all budgets
-  pub short_history : length s.desk.book.history ≤ 4194304
+  pub short_history : length s.desk.book.history ≤ MOST_EVENTS
   short_history = omega (arith, journal_long, ok.enough, ok.limited)
 
   -- where a worker may make an event, there is room for its mark
@@ -75,7 +76,7 @@ module _ (t : TableId) (conf : Conf) (budgets : List ℕ) (s0 s1 : Writing) (d :
   history = ap (λ (b : Book). b.history) h.after ∙ ap (λ (b : Book). b.history ++ e ∷ []) h.book
 
   next : stage_of conf s1.desk.book.history ≡ after_event m e
-  next = ap (stage_of conf) history ∙ h.laws.after (start_of conf) s0.desk.book.history e
+  next = ap (stage_of conf) history ∙ h.laws.more.after (start_of conf) s0.desk.book.history e
 
   seats : length d.book.budgets ≡ length budgets
   seats = ap (λ (b : Book). length b.budgets) h.book ∙ ap length h.settled.budgets_are
@@ -84,7 +85,7 @@ module _ (t : TableId) (conf : Conf) (budgets : List ℕ) (s0 s1 : Writing) (d :
   legal = legal_mask (length budgets) m d p.known s0.desk.windows h.run h.settled.tied seats h.small
 
   all : all_legal (length budgets) (start_of conf) (s0.desk.book.history ++ e ∷ []) ≡ true
-  all = h.laws.legal (length budgets) (start_of conf) s0.desk.book.history e
+  all = h.laws.more.legal (length budgets) (start_of conf) s0.desk.book.history e
       ∙ (ap (λ b. b && is_legal_mask (length budgets) p.known.worker m d.mask) h.settled.legal ∙ legal)
 
   pub settles : Settled t conf budgets s1 c1 j1
@@ -97,9 +98,9 @@ module _ (t : TableId) (conf : Conf) (budgets : List ℕ) (s0 s1 : Writing) (d :
     stands = h.stands;
     cache = h.cache ∙ ap (λ (n : Stage). n.cache) (sym next);
     legal = ap (all_legal (length budgets) (start_of conf)) history ∙ all;
-    shallow = ap are_shallow history ∙ (h.laws.shallow s0.desk.book.history e ∙ (ap (λ b. b && is_shallow r) h.settled.shallow ∙ h.flat));
+    shallow = ap are_shallow history ∙ (h.laws.more.shallow s0.desk.book.history e ∙ (ap (λ b. b && is_shallow r) h.settled.shallow ∙ h.flat));
     tied = subst (λ (n : Stage). AreTied n s1.desk.windows) (sym next) h.tied;
-    journal_is = h.marks ∙ (ap (λ l. l ++ mark_of e ∷ []) h.settled.journal_is ∙ (sym (h.laws.marks s0.desk.book.history e) ∙ ap marks_of (sym history)));
+    journal_is = h.marks ∙ (ap (λ l. l ++ mark_of e ∷ []) h.settled.journal_is ∙ (sym (h.laws.more.marks s0.desk.book.history e) ∙ ap marks_of (sym history)));
     enough = let l = ap length h.marks in omega (arith, l, length-append j0.marks (mark_of e ∷ []), h.room, h.settled.enough);
     limited = h.settled.limited;
   }
@@ -122,7 +123,7 @@ module _ (t : TableId) (conf : Conf) (budgets : List ℕ) (s0 s1 : Writing) (d :
         seen = saw ∙ ap (λ l. l ++ e ∷ []) (sym hist);
         all_own = ap (λ v. events_of v q.known.seen) w
             ∙ (ap (events_of p.known.worker) saw
-            ∙ (h.laws.own p.known.worker s0.desk.book.history e
+            ∙ (h.laws.rule.own p.known.worker s0.desk.book.history e
             ∙ (ap (λ b. cond b (events_of p.known.worker s0.desk.book.history ++ e ∷ []) (events_of p.known.worker s0.desk.book.history)) mine
             ∙ (ap (λ l. l ++ e ∷ []) h.own ∙ sym made))));
         legal = ap (all_legal (length budgets) (start_of conf)) saw ∙ all;

@@ -16,7 +16,6 @@ use Rattle.php_graph.specs.declared.kind.Kind.TheVariants as kinds
 use Rattle.php_graph.specs.Graph.{IsGraph, end_of, child_end}
 use Rattle.php_graph.specs.Size.{image_length}
 use Rattle.value_image.specs.Image.{IsImageOf, image_of}
-use Rattle.value_image.specs.Rows.{StandsAt}
 use Rattle.apcu_model.specs.declared.request.Request.TheVariants as request
 use Rattle.apcu_model.specs.declared.request.Reply.TheVariants as reply
 use Rattle.apcu_model.specs.Cache.{Row, Cache, has_key}
@@ -26,15 +25,20 @@ use Rattle.apcu_model.specs.History.{Stage, window_of, is_scalar, opened, opened
 use Rattle.entry_slots.specs.Lists.{is_at, has_place}
 use Rattle.entry_slots.specs.Entries.{listed}
 use Rattle.entry_slots.specs.Standing.{IsEntry, entries}
-use Rattle.ttl_expunge.specs.Held.{KeepsOpen}
 use Rattle.cache_core.specs.declared.cache.Core.{Core}
 use Rattle.cache_core.specs.declared.scalar.Scalar.{Scalar}
 use Rattle.cache_core.specs.declared.scalar.Scalar.TheVariants as scalars
 use Rattle.cache_core.specs.declared.scalar.Look.TheVariants as look
+use Rattle.apcu_model.specs.declared.request.Reply.{Reply}
+use Rattle.pin_table.specs.contracts.writer.WriterWordsIn.TheImpl.{ghosts}
+use Rattle.pin_table.specs.declared.writer.Writer.{Writer}
+use Rattle.cache_core.specs.Events.{Does}
+use Rattle.cache_core.proofs.Events.{by_now}
 use Rattle.cache_core.specs.Caching.{cache_of, CoreStands}
 use Rattle.cache_core.specs.Looking.{scalar_kind, scalar_of, look_at, look_of}
 use Rattle.pin_table.specs.Pins.{MayPin, content_of}
 use Rattle.pin_table.specs.Events.{event}
+use Rattle.value_image.specs.Laws.{ImagesAreRuns}
 use Rattle.shared_cache.specs.Laws.{LockLaws}
 use Rattle.shared_cache.specs.Pinned.{graph_of}
 use Rattle.shared_cache.specs.Tied.{IsTied, AreTied}
@@ -156,14 +160,9 @@ still key t (Some r) c row l = elim (Contains-append_cases c.rows c.removed row 
   | inr k ↦ record { kept = row; there = Contains-append_right (looked_up key t (Some r) c).rows c.removed row k; place = refl; number = refl }
 ]
 
--- a look-up drops no row
-pub look_keeps : (windows key : List ℕ) (t : ℕ) (c0 c1 : Core) → cache_of c1 ≡ looked_up key t (live_row key t (cache_of c0)) (cache_of c0)
-    → KeepsOpen windows (entries c0.slots) (entries c1.slots)
-look_keeps windows key t c0 c1 is = record {
-  each = λ row l named.
-      let s : Stays (cache_of c1) row = subst (λ (x : Cache). Stays x row) (sym is) (still key t (live_row key t (cache_of c0)) (cache_of c0) row l) in
-      (s.kept, s.there, s.place, s.number);
-}
+-- the cache as the look-up leaves it
+pub looked : {c0 c1 : Core} {w0 w : Writer} {t : ℕ} {key : List ℕ} {y : Reply} → Does ghosts c0 c1 w0 w t (request.Fetch key) y → cache_of c1 ≡ looked_up key t (live_row key t (cache_of c0)) (cache_of c0)
+looked {c0} {t = t} {key} does = by_now (λ held. looked_up key t (live_row key t (cache_of c0)) (cache_of c0)) does.cache
 
 -- the row as the look-up left it, in the entries
 pub record IsUsed (c : Core) (at : ℕ) (graph : List Kind) : Type 0 where
@@ -191,24 +190,18 @@ used_in key t at c0 c1 h is =
 -- its block may be pinned
 pub may_pin : LockLaws → (c : Core) (words : List ℕ) (aside : Aside) (at : ℕ) (graph : List Kind) → IsUsed c at graph → CoreStands c words aside → MayPin words aside.windows at
 may_pin laws c words aside at graph u st =
-    let k = laws.copied c.slots words aside (entries c.slots) at st.stand u.in_rows in
+    let k = laws.standing.copied c.slots words aside (entries c.slots) at st.stand u.in_rows in
     record { positive = k.positive; count = λ n. k.zero_count; inside = k.inside; apart = k.clear }
 
 -- and a window may open on it
 pub core_opened : LockLaws → (c : Core) (words : List ℕ) (old new : Aside) (w at : ℕ) (graph : List Kind) → IsUsed c at graph → new.windows ≡ slice_set old.windows w at
     → CoreStands c words old → CoreStands c words new
-core_opened laws c words old new w at graph u is st = record { stand = laws.opened c.slots words old new (entries c.slots) at u.in_rows more st.stand; whole = st.whole }
+core_opened laws c words old new w at graph u is st = record { stand = laws.windows.opened c.slots words old new (entries c.slots) at u.in_rows more st.stand; whole = st.whole }
   where
     more : (x : ℕ) → is_named new.windows x ≡ true → (x ≡ at) ⊎ (is_named old.windows x ≡ true)
     more x n =
-        let k = laws.there (slice_set old.windows w at) x (subst (λ l. is_named l x ≡ true) is n) in
-        ⊎_elim (λ (q : (k.1.0 ≡ w) × (at ≡ x)). inl (sym q.1)) (λ (q : (k.1.0 ≢ w) × (get_elem? old.windows k.1.0 ≡ some x)). inr (laws.named old.windows k.1.0 x q.1 k.0)) (at_set old.windows w k.1.0 at x k.1.1)
-
--- what the cited laws of images say
-pub record Images : Type 0 where
-  pub run : (row : List ℕ) (at len : ℕ) (g : List Kind) → IsImageOf row at len g → StandsAt row at (image_of g)
-  pub image : (row : List ℕ) (at : ℕ) (g : List Kind) → IsGraph g → StandsAt row at (image_of g) → IsImageOf row at (image_length g) g
-  pub long : (g : List Kind) → length (image_of g) ≡ image_length g
+        let k = laws.rule.there (slice_set old.windows w at) x (subst (λ l. is_named l x ≡ true) is n) in
+        ⊎_elim (λ (q : (k.1.0 ≡ w) × (at ≡ x)). inl (sym q.1)) (λ (q : (k.1.0 ≢ w) × (get_elem? old.windows k.1.0 ≡ some x)). inr (laws.rule.named old.windows k.1.0 x q.1 k.0)) (at_set old.windows w k.1.0 at x k.1.1)
 
 take_all : (l : List ℕ) (n : ℕ) → n ≡ length l → take n l ≡ l
 take_all [] zero e = refl
@@ -217,14 +210,14 @@ take_all (x ∷ xs) zero e = absurd (omega (arith, e))
 take_all (x ∷ xs) (suc n) e = ap (λ t. x ∷ t) (take_all xs n (omega (arith, e)))
 
 -- the words of a pinned block's image are an image from place 0 on
-content_image : Images → (ws : List ℕ) (at len : ℕ) (g : List Kind) → IsImageOf ws (image_place ws at) len g → slice_index ws (at + 3) ≡ len → IsImageOf (content_of ws at) 0 (length (content_of ws at)) g
+content_image : ImagesAreRuns → (ws : List ℕ) (at len : ℕ) (g : List Kind) → IsImageOf ws (image_place ws at) len g → slice_index ws (at + 3) ≡ len → IsImageOf (content_of ws at) 0 (length (content_of ws at)) g
 content_image laws ws at len g im size =
     let long : len ≡ length (image_of g) = im.length_is ∙ sym (laws.long g) in
     let is : content_of ws at ≡ image_of g = ap (λ n. take n (drop (image_place ws at) ws)) (size ∙ long) ∙ laws.run ws (image_place ws at) len g im in
     let whole : IsImageOf (image_of g) 0 (image_length g) g = laws.image (image_of g) 0 g im.graph (take_all (image_of g) (length (image_of g)) refl) in
     subst (λ (l : List ℕ). IsImageOf l 0 (length l) g) (sym is) (subst (λ n. IsImageOf (image_of g) 0 n g) (sym (laws.long g)) whole)
 
-pub found_image : Images → (c : Core) (words : List ℕ) (aside : Aside) (at : ℕ) (graph : List Kind) → IsUsed c at graph → CoreStands c words aside
+pub found_image : ImagesAreRuns → (c : Core) (words : List ℕ) (aside : Aside) (at : ℕ) (graph : List Kind) → IsUsed c at graph → CoreStands c words aside
     → IsImageOf (content_of words at) 0 (length (content_of words at)) graph
 found_image laws c words aside at graph u st =
     let entry : IsEntry words u.row = st.stand.rows u.row u.there in

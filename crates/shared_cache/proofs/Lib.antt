@@ -1,4 +1,3 @@
-pub mod Shapes
 pub mod Windows
 pub mod Alike
 pub mod Ends

@@ -1,43 +1,41 @@
 -- How a turn begins and ends.
-use Rattle.std.proofs.Common.{◌≡◌, ℕ, ◌+◌, ◌≤◌, ◌<◌, true, List, length, sum, Some, ap, sym, ◌∙◌, subst}
-use Rattle.std.specs.Prelude.{Result, Ok, Err, IfOk, OnOk, OnErr}
+use Rattle.std.proofs.Common.{◌≡◌, ℕ, ◌+◌, ◌≤◌, ◌<◌, List, length, sum, Some, ap, sym, ◌∙◌, subst}
+use Rattle.std.specs.Prelude.{Result, Ok, Err, IfOk}
 use mathlib.Core.List.{IsPrefix}
 use Rattle.atomic_table.specs.Seated.{TableId}
-use Rattle.seg_words.specs.Windows.{held_by}
+use Rattle.seg_words.specs.Windows.{Aside, held_by}
 use Rattle.apcu_model.specs.declared.conf.Conf.{Conf}
 use Rattle.apcu_model.specs.declared.event.Event.{Event}
 use Rattle.php_graph.specs.declared.kind.Kind.{Kind}
-use Rattle.apcu_model.specs.declared.request.Request.{Request}
 use Rattle.apcu_model.specs.declared.request.Request.TheVariants as request
 use Rattle.apcu_model.specs.declared.request.Reply.TheVariants as reply
 use Rattle.apcu_model.specs.Levels.{Generator}
 use Rattle.apcu_model.specs.Generators.{Filling, entered}
 use Rattle.apcu_model.specs.Cache.{Cache}
-use Rattle.apcu_model.specs.History.{stage_of, held_places, is_shallow}
+use Rattle.apcu_model.specs.History.{stage_of, held_places}
 use Rattle.apcu_model.specs.Journal.{Marks}
-use Rattle.apcu_model.specs.Sequential.{cache_after}
-use Rattle.entry_slots.specs.Standing.{entries}
-use Rattle.ttl_expunge.specs.Held.{KeepsOpen}
 use Rattle.cache_core.specs.declared.cache.Core.{Core}
-use Rattle.cache_core.specs.Caching.{cache_of, CoreStands}
+use Rattle.cache_core.specs.Caching.{cache_of}
+use Rattle.cache_core.specs.Events.{MayDrop, IsBy}
+use Rattle.cache_core.proofs.Events.{by_now, may_insert}
 use Rattle.counter_entry.specs.declared.answer.Fate.{Fate}
 use Rattle.counter_entry.specs.Generating.{fate_of}
 use Rattle.pin_table.specs.declared.views.Known.{Known}
 use Rattle.pin_table.specs.declared.views.Book.{Book}
 use Rattle.pin_table.specs.declared.views.Desk.{Desk}
+use Rattle.pin_table.specs.contracts.writer.WriterWordsIn.TheImpl.{ghosts}
 use Rattle.pin_table.specs.declared.writer.Writer.{Writer}
 use Rattle.pin_table.specs.Values.{Writing, Bearer}
 use Rattle.pin_table.specs.Events.{events_of}
-use Rattle.pin_table.specs.Views.{with_hand, in_hand, aside_of}
+use Rattle.pin_table.specs.Views.{with_hand, in_hand}
 use Rattle.pin_table.specs.WriterRest.{beside}
 use Rattle.shared_cache.specs.Laws.{LockLaws}
 use Rattle.shared_cache.specs.Settled.{Settled}
 use Rattle.shared_cache.specs.Follows.{FollowsEntry}
-use Rattle.shared_cache.specs.Turns.{Taken, WritesOn, AtWork, Does, DoesIf, FollowsAt}
-use Rattle.shared_cache.proofs.Working.{Took, begun_stands, none_refused, kept_stands, kept_open, writes_on}
+use Rattle.shared_cache.specs.Turns.{Taken, WritesOn, AtWork, FollowsAt}
+use Rattle.shared_cache.proofs.Working.{Took, begun_stands, none_refused, writes_on}
 use Rattle.shared_cache.proofs.Unnamed.{none_scalar}
 use Rattle.shared_cache.proofs.Ends.{room_left}
-use Rattle.shared_cache.proofs.Shapes.{same_shape}
 
 -- what is known of the writer that took a pass
 pub taken : LockLaws → (t : TableId) (conf : Conf) (budgets : List ℕ) (s : Writing) (c : Core) (j : Marks) (p : Bearer) (w : Writer)
@@ -56,9 +54,8 @@ taken laws t conf budgets s c j p w settled pass left took events_left seen own 
   seen = seen;
   own = own;
   within = within;
-  stands = begun_stands laws t s p w c took settled.stands;
-  shape = ap (λ (x : Cache). x.conf) settled.cache ∙ same_shape conf s.desk.book.history;
-  fresh = none_refused t s p w took;
+  ready = may_insert (begun_stands laws t s p w c took settled.stands) (none_refused t s p w took);
+  shape = ap (λ (x : Cache). x.conf) settled.cache ∙ laws.keep.conf_in conf s.desk.book.history;
   unnamed = none_scalar laws t conf budgets s c j settled p w took;
 }
 
@@ -108,29 +105,9 @@ later_turn turn on = record {
   };
 }
 
--- words and windows have not changed, and the request changes nothing
-pub keeps_all : {t : TableId} {conf : Conf} {budgets : List ℕ} {s : Writing} {c : Core} {j : Marks} {p : Bearer} {first : Writer} {desk : Desk} {time : ℕ} {r : Request} → Taken t conf budgets s c j p first
-    → desk.words ≡ first.seat.now.desk.words → aside_of desk ≡ aside_of first.seat.now.desk
-    → is_shallow r ≡ true → cache_of c ≡ cache_after (held_by desk.mask desk.windows) time r (cache_of c) → Does desk c c time r
-keeps_all {c} {first} {desk} took words aside shallow nothing = record {
-  shallow = shallow;
-  cache = nothing;
-  keeps = kept_open desk.windows (entries c.slots);
-  stands = kept_stands c first.seat.now.desk.words desk.words (aside_of first.seat.now.desk) (aside_of desk) words aside took.stands;
-}
-
--- so it is of a call that may find no memory
-pub keeps_if : {t : TableId} {conf : Conf} {budgets : List ℕ} {s : Writing} {c d : Core} {j : Marks} {p : Bearer} {first : Writer} {desk : Desk} {time : ℕ} {r : Request} {A E : Type 0} {answer : Result A E}
-    → Taken t conf budgets s c j p first → d ≡ c → desk.words ≡ first.seat.now.desk.words → aside_of desk ≡ aside_of first.seat.now.desk
-    → is_shallow r ≡ true → cache_of c ≡ cache_after (held_by desk.mask desk.windows) time r (cache_of c) → DoesIf first.seat.now.desk desk c d time r answer
-keeps_if {c} {d} {first} {desk} {time} {r} {answer} took same words aside shallow nothing = go answer
-  where
-    does : Does desk c d time r
-    does = subst (λ (x : Core). Does desk c x time r) (sym same) (keeps_all took words aside shallow nothing)
-
-    go : {A E : Type 0} (answer : Result A E) → DoesIf first.seat.now.desk desk c d time r answer
-    go (Ok a) = record { done = does; same = tt; words = tt; aside = tt }
-    go (Err e) = record { done = tt; same = same; words = words; aside = aside }
+-- rows may be dropped
+abbrev pub drops_first : {t : TableId} {conf : Conf} {budgets : List ℕ} {s : Writing} {c : Core} {j : Marks} {p : Bearer} {w : Writer} → Taken t conf budgets s c j p w → MayDrop ghosts c w
+drops_first took = record { stand = took.ready.stand; refused = took.ready.refused }
 
 -- the event of a generator
 pub entry_of : (t : TableId) (conf : Conf) (budgets : List ℕ) (s : Writing) (c : Core) (j : Marks) (p q : Bearer) (first : Writer) → Taken t conf budgets s c j p first
@@ -141,7 +118,7 @@ entry_of t conf budgets s c j p q first took time g value fate mask windows at i
     let m : Cache = (stage_of conf s.desk.book.history).cache in
     let there : ℕ → List Event → Filling = λ n h. entered (held_places (stage_of conf h) n) g time (stage_of conf h).cache in
     let entering : entered (held_by mask windows) g time (cache_of c) ≡ there mask s.desk.book.history =
-    ap (entered (held_by mask windows) g time) took.settled.cache ∙ took.laws.entered (held_by mask windows) (held_places (stage_of conf s.desk.book.history) mask) at.held g time m in
+    ap (entered (held_by mask windows) g time) took.settled.cache ∙ took.laws.alike.entered (held_by mask windows) (held_places (stage_of conf s.desk.book.history) mask) at.held g time m in
     record {
       follows = at.follows;
       fate_is = is ∙ (ap (λ (f : Filling). fate_of f.outermost) entering
@@ -151,16 +128,9 @@ entry_of t conf budgets s c j p q first took time g value fate mask windows at i
 
 -- and so it is of each answer
 pub entries_of : (t : TableId) (conf : Conf) (budgets : List ℕ) (s : Writing) (c : Core) (j : Marks) (p q : Bearer) (first : Writer) → Taken t conf budgets s c j p first
-    → (time : ℕ) (g : Generator) (mask : ℕ) (windows : List ℕ) {E : Type 0} (answer : Result (List Kind × Fate) E)
-    → IfOk answer (λ v. FollowsAt conf (length budgets) p q time (request.Entry g) (reply.Gave v.0) s.desk.book.history mask windows)
-    → IfOk answer (λ v. v.1 ≡ fate_of (entered (held_by mask windows) g time (cache_of c)).outermost) → IfOk answer (λ v. FollowsEntry conf (length budgets) p q time g v.0 v.1)
-entries_of t conf budgets s c j p q first took time g mask windows (Ok v) at is = entry_of t conf budgets s c j p q first took time g v.0 v.1 mask windows at is
-entries_of t conf budgets s c j p q first took time g mask windows (Err e) at is = tt
-
--- a request that changes something, and for whose answer there may be no memory
-pub changes_if : {before desk : Desk} {c d : Core} {time : ℕ} {r : Request} {A E : Type 0} (answer : Result A E) → is_shallow r ≡ true
-    → OnOk answer (cache_of d ≡ cache_after (held_by desk.mask desk.windows) time r (cache_of c)) → KeepsOpen desk.windows (entries c.slots) (entries d.slots)
-    → CoreStands d desk.words (aside_of desk) → OnErr answer (d ≡ c) → OnErr answer (desk.words ≡ before.words) → OnErr answer (aside_of desk ≡ aside_of before)
-    → DoesIf before desk c d time r answer
-changes_if (Ok a) shallow cache keeps stands same words aside = record { done = record { shallow = shallow; cache = cache; keeps = keeps; stands = stands }; same = tt; words = tt; aside = tt }
-changes_if (Err e) shallow cache keeps stands same words aside = record { done = tt; same = same; words = words; aside = aside }
+    → (time : ℕ) (g : Generator) (aside : Aside) {E : Type 0} (answer : Result (List Kind × Fate) E)
+    → IfOk answer (λ v. FollowsAt conf (length budgets) p q time (request.Entry g) (reply.Gave v.0) s.desk.book.history aside.mask aside.windows)
+    → IfOk answer (λ v. IsBy aside (λ held. fate_of (entered held g time (cache_of c)).outermost) v.1) → IfOk answer (λ v. FollowsEntry conf (length budgets) p q time g v.0 v.1)
+entries_of t conf budgets s c j p q first took time g aside (Ok v) at is =
+    entry_of t conf budgets s c j p q first took time g v.0 v.1 aside.mask aside.windows at (by_now (λ held. fate_of (entered held g time (cache_of c)).outermost) is)
+entries_of t conf budgets s c j p q first took time g aside (Err e) at is = tt

@@ -47,7 +47,7 @@ module _ (laws : LockLaws) (t : TableId) (conf : Conf) (budgets : List ℕ) (s :
       let tie = ok.tied v row.place named pos in
       let listed : Contains ((cache_of c).rows ++ (cache_of c).removed) row = Contains-append_left (cache_of c).rows (cache_of c).removed row l in
       let there : Contains ((cache_of c).rows ++ (cache_of c).removed) tie.row = subst (λ (x : Cache). Contains (x.rows ++ x.removed) tie.row) (sym ok.cache) tie.there in
-      let same : tie.row ≡ row = laws.one c.slots s.desk.words (aside_of s.desk) (entries c.slots) tie.row row ok.stands.stand there listed tie.place in
+      let same : tie.row ≡ row = laws.standing.one c.slots s.desk.words (aside_of s.desk) (entries c.slots) tie.row row ok.stands.stand there listed tie.place in
       let w = window_there v tie.row.number m.windows tie.window in
       (laws.numbered conf s.desk.book.history (short_history t conf budgets s c j ok) ok.shallow).whole w.0 row w.1
       (subst (λ (x : Cache). Contains (x.rows ++ x.removed) row) ok.cache listed) (ap (λ (r : Row). r.number) (sym same) ∙ sym w.2)
@@ -59,6 +59,6 @@ module _ (laws : LockLaws) (t : TableId) (conf : Conf) (budgets : List ℕ) (s :
       each : (row : Row) → Contains (cache_of c).rows row → is_scalar row.graph ≡ true → is_named w.seat.now.desk.windows row.place ≡ false
       each row l scalar = false_from_ne_true (is_named w.seat.now.desk.windows row.place) (λ (named : is_named w.seat.now.desk.windows row.place ≡ true).
           let n : is_named (slice_set s.desk.windows p.known.worker 0) row.place ≡ true = ap (λ (x : Desk). is_named x.windows row.place) (sym took.desk) ∙ named in
-          let k = laws.there (slice_set s.desk.windows p.known.worker 0) row.place n in
+          let k = laws.rule.there (slice_set s.desk.windows p.known.worker 0) row.place n in
           let o = set_other s.desk.windows p.known.worker k.1.0 row.place k.1.1 k.0 in
           false≢true (sym (not_scalar row k.1.0 l o.1 k.0) ∙ scalar))

@@ -39,7 +39,7 @@ set_other ws w j at h pos = ⊎_elim (λ (t : (j ≡ w) × (0 ≡ at)). absurd (
 
 -- where a window is closed, only named blocks are named
 pub named_set : LockLaws → (ws : List ℕ) (w at : ℕ) → is_named (set ws w 0) at ≡ true → is_named ws at ≡ true
-named_set laws ws w at h = let t = laws.there (set ws w 0) at h in laws.named ws t.1.0 at (set_other ws w t.1.0 at t.1.1 t.0).1 t.0
+named_set laws ws w at h = let t = laws.rule.there (set ws w 0) at h in laws.rule.named ws t.1.0 at (set_other ws w t.1.0 at t.1.1 t.0).1 t.0
 
 -- an event as it ends: the desk d, on which nothing was opened since the pass p was taken, and the
 -- windows before that
@@ -120,7 +120,7 @@ pub tied_after : LockLaws → (m : Stage) (e : Event) (d : Desk) (p : Known) (ol
 tied_after laws m e d p old run tied same keeps v at h pos =
     let o = from_before d p old run v at h pos in
     let t = tied v at o.1 pos in
-    let named : is_named d.windows t.row.place ≡ true = ap (is_named d.windows) t.place ∙ laws.named d.windows v at h pos in
+    let named : is_named d.windows t.row.place ≡ true = ap (is_named d.windows) t.place ∙ laws.rule.named d.windows v at h pos in
     let k = keeps.each t.row t.there named in
     record {
       row = k.0;

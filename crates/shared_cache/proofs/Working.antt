@@ -1,20 +1,17 @@
 -- An event under way.
-use Rattle.std.proofs.Common.{◌≡◌, ℕ, ◌^◌, ◌<◌, ◌≤◌, true, false, List, Some, refl, ap, sym, ◌∙◌, subst}
+use Rattle.std.proofs.Common.{◌≡◌, ℕ, ◌^◌, ◌<◌, ◌≤◌, true, false, List, Some, ap, sym, ◌∙◌, subst}
 use mathlib.Core.List.{IsPrefix}
 use Rattle.atomic_table.specs.Seated.{TableId}
-use Rattle.std.proofs.lemmas.Bool.{false≢true}
 use Rattle.seg_words.specs.Windows.{Aside, has, is_named, held_by}
 use Rattle.apcu_model.specs.declared.conf.Conf.{Conf}
 use Rattle.apcu_model.specs.declared.request.Request.{Request}
 use Rattle.apcu_model.specs.declared.request.Reply.{Reply}
-use Rattle.apcu_model.specs.Cache.{Row, Cache}
+use Rattle.apcu_model.specs.Cache.{Cache}
 use Rattle.apcu_model.specs.Change.{AreAlike}
 use Rattle.apcu_model.specs.History.{stage_of, held_places, reply_in, after_event}
 use Rattle.apcu_model.specs.Journal.{Marks}
 use Rattle.apcu_model.specs.Sequential.{cache_after, reply_to}
-use Rattle.entry_slots.specs.Entries.{Entries}
 use Rattle.entry_slots.specs.Standing.{entries}
-use Rattle.ttl_expunge.specs.Held.{AreRemoved, KeepsOpen}
 use Rattle.cache_core.specs.declared.cache.Core.{Core}
 use Rattle.cache_core.specs.Caching.{cache_of, CoreStands}
 use Rattle.pin_table.specs.declared.views.Book.{Book}
@@ -28,7 +25,7 @@ use Rattle.pin_table.specs.Views.{with_hand, taken_in, aside_of}
 use Rattle.pin_table.specs.WriterRest.{beside}
 use Rattle.shared_cache.specs.Laws.{LockLaws}
 use Rattle.shared_cache.specs.Settled.{Settled}
-use Rattle.shared_cache.specs.Turns.{WritesOn}
+use Rattle.shared_cache.specs.Turns.{WritesOn, AtWork}
 use Rattle.shared_cache.proofs.Windows.{Running, named_set}
 use Rattle.shared_cache.proofs.Alike.{held_alike}
 use Rattle.shared_cache.proofs.Ends.{short_history}
@@ -36,7 +33,7 @@ use Rattle.shared_cache.proofs.Ends.{short_history}
 -- words stand for the same cache where windows close and the mask and refused places change
 pub core_closed : LockLaws → (c : Core) (words : List ℕ) (old new : Aside) → ((at : ℕ) → is_named new.windows at ≡ true → is_named old.windows at ≡ true)
     → CoreStands c words old → CoreStands c words new
-core_closed laws c words old new fewer st = record { stand = laws.closed c.slots words old new (entries c.slots) fewer st.stand; whole = st.whole }
+core_closed laws c words old new fewer st = record { stand = laws.windows.closed c.slots words old new (entries c.slots) fewer st.stand; whole = st.whole }
 
 -- What is known of the writer w that took the pass p.
 pub record Took (t : TableId) (s : Writing) (p : Bearer) (w : Writer) : Type 0 where
@@ -53,16 +50,6 @@ begun_stands laws t s p w c took st = subst (λ (x : Desk). CoreStands c x.words
 -- nothing is refused as the event begins
 pub none_refused : (t : TableId) (s : Writing) (p : Bearer) (w : Writer) → Took t s p w → (b : ℕ) → has b (aside_of w.seat.now.desk).refused ≡ false
 none_refused t s p w took b = ap (λ (x : Desk). has b (aside_of x).refused) took.desk
-
-pub none_removed : (t : TableId) (s : Writing) (p : Bearer) (w : Writer) (removed : List Row) → Took t s p w → AreRemoved (aside_of w.seat.now.desk) removed
-none_removed t s p w removed took = record { each = λ b h. absurd (false≢true (sym (none_refused t s p w took b) ∙ h)) }
-
--- a call that changed no word left them standing
-pub kept_stands : (c : Core) (old new : List ℕ) (before after : Aside) → new ≡ old → after ≡ before → CoreStands c old before → CoreStands c new after
-kept_stands c old new before after words aside st = subst (λ ws. CoreStands c ws after) (sym words) (subst (CoreStands c old) (sym aside) st)
-
-pub kept_open : (windows : List ℕ) (s : Entries) → KeepsOpen windows s s
-kept_open windows s = record { each = λ row there named. (row, there, refl, refl) }
 
 -- a call of the core leaves what is beside the words
 pub writes_on : {first w : Writer} → beside w ≡ beside first → WritesOn first w
@@ -86,6 +73,22 @@ pub record Works (t : TableId) (conf : Conf) (budgets : List ℕ) (s0 : Writing)
   pub seen : IsPrefix p.known.seen s0.desk.book.history
   pub own : events_of p.known.worker s0.desk.book.history ≡ p.known.own
   pub some_left : 1 ≤ p.known.left
+
+-- and so it is of a turn
+abbrev pub works_of : {t : TableId} {conf : Conf} {budgets : List ℕ} {j : Marks} {w : Writer} (turn : AtWork t conf budgets j w) → (copying : List ℕ) × DeskInOrder w.seat.now.desk copying
+    → w.seat.now.desk.mask < 2 ^ 64 → Works t conf budgets turn.seat turn.first w turn.core turn.pass j
+works_of turn order small = record {
+  laws = turn.taken.laws;
+  settled = turn.taken.settled;
+  pass = turn.taken.pass;
+  took = record { table = turn.taken.table; desk = turn.taken.desk; worker = turn.taken.worker };
+  writes_on = turn.writes_on;
+  order = order;
+  small = small;
+  seen = turn.taken.seen;
+  own = turn.taken.own;
+  some_left = turn.taken.left;
+}
 
 module _ (t : TableId) (conf : Conf) (budgets : List ℕ) (s0 : Writing) (w0 w : Writer) (c0 : Core) (p : Bearer) (j0 : Marks)
     (h : Works t conf budgets s0 w0 w c0 p j0) where
@@ -115,11 +118,11 @@ module _ (t : TableId) (conf : Conf) (budgets : List ℕ) (s0 : Writing) (w0 w :
       → c ≡ (after_event (stage_of conf s0.desk.book.history) (event p.known.worker time r w.seat.now.desk.mask)).cache
   cache_in time r c is = is
       ∙ (ap (cache_after (held_by w.seat.now.desk.mask w.seat.now.desk.windows) time r) h.settled.cache
-      ∙ h.laws.cache (held_by w.seat.now.desk.mask w.seat.now.desk.windows) (held_places (stage_of conf s0.desk.book.history) w.seat.now.desk.mask) alike time r (stage_of conf s0.desk.book.history).cache)
+      ∙ h.laws.alike.cache (held_by w.seat.now.desk.mask w.seat.now.desk.windows) (held_places (stage_of conf s0.desk.book.history) w.seat.now.desk.mask) alike time r (stage_of conf s0.desk.book.history).cache)
 
   -- and the reply
   pub reply_is : (time : ℕ) (r : Request) (y : Reply) → y ≡ reply_to (held_by w.seat.now.desk.mask w.seat.now.desk.windows) time r (cache_of c0)
       → y ≡ reply_in (stage_of conf s0.desk.book.history) (event p.known.worker time r w.seat.now.desk.mask)
   reply_is time r y is = is
       ∙ (ap (reply_to (held_by w.seat.now.desk.mask w.seat.now.desk.windows) time r) h.settled.cache
-      ∙ h.laws.reply (held_by w.seat.now.desk.mask w.seat.now.desk.windows) (held_places (stage_of conf s0.desk.book.history) w.seat.now.desk.mask) alike time r (stage_of conf s0.desk.book.history).cache)
+      ∙ h.laws.alike.reply (held_by w.seat.now.desk.mask w.seat.now.desk.windows) (held_places (stage_of conf s0.desk.book.history) w.seat.now.desk.mask) alike time r (stage_of conf s0.desk.book.history).cache)

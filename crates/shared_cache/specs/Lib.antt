@@ -1,6 +1,7 @@
 pub mod Laws
 pub mod Tied
 pub mod Settled
+pub mod Asking
 pub mod Follows
 pub mod Turns
 pub mod Pinned

@@ -2,6 +2,7 @@
 use Rattle.std.specs.Prelude.{◌≡◌, ℕ, ◌<◌, ◌≤◌, List, [], length, sum, slice_index}
 use Rattle.atomic_table.specs.Seated.{TableId}
 use Rattle.apcu_model.specs.declared.conf.Conf.{Conf}
+use Rattle.apcu_model.specs.declared.journal.TheConstants.{MOST_EVENTS}
 use Rattle.apcu_model.specs.Conf.{IsGood}
 use Rattle.apcu_model.specs.Journal.{Marks}
 use Rattle.cache_core.specs.declared.cache.Core.{Core}
@@ -18,7 +19,7 @@ pub record Opened : Type 0 where
 -- each worker may make an event, and all together no more than the journal can hold
 pub record AreBudgets (budgets : List ℕ) : Type 0 where
   pub each : (w : ℕ) → w < length budgets → 0 < slice_index budgets w
-  pub limited : sum budgets ≤ 4194304
+  pub limited : sum budgets ≤ MOST_EVENTS
 
 -- a cache of this shape can be opened for workers with these budgets
 pub record MayOpen (conf : Conf) (budgets : List ℕ) : Type 0 where

@@ -1,11 +1,12 @@
 -- A fetch.
-use Rattle.std.specs.Prelude.{ℕ, List, [], ◌∷◌, length}
+use Rattle.std.specs.Prelude.{◌≡◌, ℕ, false, List, [], ◌∷◌, length}
 use Rattle.php_graph.specs.declared.kind.Kind.{Kind}
 use Rattle.php_graph.specs.declared.kind.Kind.TheVariants as kinds
 use Rattle.value_image.specs.Image.{IsImageOf}
 use Rattle.apcu_model.specs.declared.conf.Conf.{Conf}
 use Rattle.apcu_model.specs.declared.request.Request.TheVariants as request
 use Rattle.apcu_model.specs.declared.request.Reply.TheVariants as reply
+use Rattle.apcu_model.specs.History.{is_scalar}
 use Rattle.cache_core.specs.declared.scalar.Scalar.{Scalar}
 use Rattle.cache_core.specs.declared.scalar.Scalar.TheVariants as scalars
 use Rattle.pin_table.specs.Values.{Bearer, Copier}
@@ -17,12 +18,13 @@ use Rattle.shared_cache.specs.Follows.{Follows}
 abbrev pub bearer_of : Copier → Bearer
 bearer_of k = record { table = k.table; known = k.copy.known }
 
--- A value was found that is copied outside the lock: the words of the copy are its image, from
--- place 0 on.
+-- A value was found that is copied outside the lock: it is no Null, no truth value and no integer,
+-- and the words of the copy are its image, from place 0 on.
 pub record FollowsFound (conf : Conf) (workers : ℕ) (p : Bearer) (k : Copier) (t : ℕ)
     (key : List ℕ) : Type 0 where
   pub graph : List Kind
   pub follows : Follows conf workers p (bearer_of k) t (request.Fetch key) (reply.Found graph)
+  pub whole : is_scalar graph ≡ false
   pub image : IsImageOf k.copy.content 0 (length k.copy.content) graph
 
 -- the value that is answered at once

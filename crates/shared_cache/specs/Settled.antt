@@ -1,5 +1,6 @@
 -- What holds of the value under the lock while no one has it.
 use Rattle.std.specs.Prelude.{◌≡◌, ℕ, ◌+◌, ◌≤◌, true, List, None, length, sum}
+use Rattle.apcu_model.specs.declared.journal.TheConstants.{MOST_EVENTS}
 use Rattle.atomic_table.specs.Seated.{TableId}
 use Rattle.apcu_model.specs.declared.conf.Conf.{Conf}
 use Rattle.apcu_model.specs.History.{start_of, stage_of, all_legal, are_shallow, marks_of}
@@ -31,4 +32,4 @@ pub record Settled (t : TableId) (conf : Conf) (budgets : List ℕ)
   -- fourth: the journal is the history's marks, and has room for what is left of the budgets
   pub journal_is : journal.marks ≡ marks_of s.desk.book.history
   pub enough : length journal.marks + journal.room ≡ sum budgets
-  pub limited : sum budgets ≤ 4194304
+  pub limited : sum budgets ≤ MOST_EVENTS

@@ -1,23 +1,20 @@
 -- A worker's turn under the lock, from the moment its pass is taken to the end of its event.
-use Rattle.std.specs.Prelude.{◌≡◌, ℕ, ◌+◌, ◌≤◌, true, false, List, ◌++◌, length, sum}
-use Rattle.std.specs.Prelude.{Result, OnOk, OnErr}
+use Rattle.std.specs.Prelude.{◌≡◌, ℕ, ◌+◌, ◌≤◌, false, List, ◌++◌, length, sum}
 use mathlib.Core.List.{IsPrefix}
 use Rattle.atomic_table.specs.Seated.{TableId}
-use Rattle.seg_words.specs.Windows.{has, held_by}
+use Rattle.seg_words.specs.Windows.{held_by}
 use Rattle.apcu_model.specs.declared.conf.Conf.{Conf}
 use Rattle.apcu_model.specs.declared.event.Event.{Event}
 use Rattle.apcu_model.specs.declared.request.Request.{Request}
 use Rattle.apcu_model.specs.declared.request.Reply.{Reply}
 use Rattle.apcu_model.specs.Change.{AreAlike}
-use Rattle.apcu_model.specs.History.{stage_of, held_places, is_shallow}
+use Rattle.apcu_model.specs.History.{stage_of, held_places}
 use Rattle.apcu_model.specs.Journal.{Marks}
-use Rattle.apcu_model.specs.Sequential.{cache_after}
-use Rattle.entry_slots.specs.Standing.{entries}
-use Rattle.ttl_expunge.specs.Held.{KeepsOpen}
 use Rattle.cache_core.specs.declared.cache.Core.{Core}
-use Rattle.cache_core.specs.Caching.{cache_of, CoreStands}
+use Rattle.cache_core.specs.Caching.{cache_of}
+use Rattle.cache_core.specs.Events.{MayInsert}
 use Rattle.cache_core.specs.Integers.{NameNoScalar}
-use Rattle.pin_table.specs.declared.views.Desk.{Desk}
+use Rattle.pin_table.specs.contracts.writer.WriterWordsIn.TheImpl.{ghosts}
 use Rattle.pin_table.specs.declared.writer.Writer.{Writer}
 use Rattle.pin_table.specs.Values.{Writing, Bearer}
 use Rattle.pin_table.specs.Events.{events_of}
@@ -26,8 +23,8 @@ use Rattle.shared_cache.specs.Laws.{LockLaws}
 use Rattle.shared_cache.specs.Settled.{Settled}
 use Rattle.shared_cache.specs.Follows.{Follows}
 
--- The writer w has taken the pass p. Before that the seat s, the core c and the journal j agreed;
--- the words still stand for the cache, and nothing was probed yet.
+-- The writer w has taken the pass p. Before that the seat s, the core c and the journal j agreed.
+-- The words still stand for the cache, and any call of it may come.
 pub record Taken (t : TableId) (conf : Conf) (budgets : List ℕ) (s : Writing) (c : Core)
     (j : Marks) (p : Bearer) (w : Writer) : Type 0 where
   pub laws : LockLaws
@@ -41,9 +38,8 @@ pub record Taken (t : TableId) (conf : Conf) (budgets : List ℕ) (s : Writing) 
   pub seen : IsPrefix p.known.seen s.desk.book.history
   pub own : events_of p.known.worker s.desk.book.history ≡ p.known.own
   pub within : length s.desk.book.history + p.known.left ≤ sum s.desk.book.budgets
-  pub stands : CoreStands c w.seat.now.desk.words (aside_of w.seat.now.desk)
+  pub ready : MayInsert ghosts false c w
   pub shape : (cache_of c).conf ≡ conf
-  pub fresh : (b : ℕ) → has b (aside_of w.seat.now.desk).refused ≡ false
   pub unnamed : NameNoScalar (aside_of w.seat.now.desk).windows (cache_of c).rows
 
 -- Since the writer was as first, only the words, and what the event met, have changed.
@@ -64,24 +60,6 @@ pub record AtWork (t : TableId) (conf : Conf) (budgets : List ℕ) (j : Marks) (
   pub first : Writer
   pub taken : Taken t conf budgets seat core j pass first
   pub writes_on : WritesOn first w
-
--- What the request did to the core, which was c and is d: the words on the desk stand for what the
--- cache of one thread then has, and the rows under open windows are still there.
-pub record Does (desk : Desk) (c d : Core) (time : ℕ) (r : Request) : Type 0 where
-  pub shallow : is_shallow r ≡ true
-  pub cache : cache_of d
-      ≡ cache_after (held_by desk.mask desk.windows) time r (cache_of c)
-  pub keeps : KeepsOpen desk.windows (entries c.slots) (entries d.slots)
-  pub stands : CoreStands d desk.words (aside_of desk)
-
--- The same of a request for whose answer there may be no memory: then nothing has changed since the
--- desk was as before.
-pub record DoesIf {A E : Type 0} (before desk : Desk) (c d : Core) (time : ℕ) (r : Request)
-    (answer : Result A E) : Type 0 where
-  pub done : OnOk answer (Does desk c d time r)
-  pub same : OnErr answer (d ≡ c)
-  pub words : OnErr answer (desk.words ≡ before.words)
-  pub aside : OnErr answer (aside_of desk ≡ aside_of before)
 
 -- The pass q is p after one event more, as `Follows` has it, which stands behind this history and
 -- has met the workers of this mask. What they hold there is what their windows name.

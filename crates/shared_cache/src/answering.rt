@@ -6,6 +6,7 @@ ghost use Rattle.apcu_model.specs.declared.request.Request.TheVariants as reques
 ghost use Rattle.apcu_model.specs.declared.request.Reply.TheVariants as reply;
 ghost use Rattle.apcu_model.specs.Levels.{most_levels};
 ghost use Rattle.apcu_model.specs.Sequential.{info_reply};
+ghost use Rattle.shared_cache.specs.Asking.{MayAsk};
 ghost use Rattle.shared_cache.specs.Follows.{Follows, FollowsEntry};
 
 use crate::cabinet::Cabinet;
@@ -30,8 +31,7 @@ impl<N: TableName> Cabinet<N> {
         t: u64,
     ) -> (Pass, Result<(Graph, Fate), AllocError>)
         requires table { table.now ≡ N.table }
-        requires pass { pass.table ≡ N.table }
-        requires left { 1 ≤ pass.known.left }
+        requires pass { MayAsk N.table 1 pass }
         requires levels { length generator.now.levels ≤ most_levels }
         ensures given { IfOk result.1 (λ v. FollowsEntry N.conf (length N.budgets) pass result.0 t
             generator.now v.0 v.1) }
@@ -52,8 +52,7 @@ impl<N: TableName> Cabinet<N> {
         t: u64,
     ) -> (Pass, Result<Option<Graph>, AllocError>)
         requires table { table.now ≡ N.table }
-        requires pass { pass.table ≡ N.table }
-        requires left { 1 ≤ pass.known.left }
+        requires pass { MayAsk N.table 1 pass }
         requires short { length key.now < 2 ^ 32 }
         ensures told { IfOk result.1 (λ info. Follows N.conf (length N.budgets) pass result.0 t
             (request.KeyInfo key.now) (info_reply info)) }
@@ -73,8 +72,7 @@ impl<N: TableName> Cabinet<N> {
         limited: bool,
     ) -> (Pass, Result<Graph, AllocError>)
         requires table { table.now ≡ N.table }
-        requires pass { pass.table ≡ N.table }
-        requires left { 1 ≤ pass.known.left }
+        requires pass { MayAsk N.table 1 pass }
         ensures told { IfOk result.1 (λ info. Follows N.conf (length N.budgets) pass result.0 0
             (request.CacheInfo limited) (reply.Info info)) }
         ensures same { OnErr result.1 (result.0 ≡ pass) }
@@ -93,8 +91,7 @@ impl<N: TableName> Cabinet<N> {
         limited: bool,
     ) -> (Pass, Result<Graph, AllocError>)
         requires table { table.now ≡ N.table }
-        requires pass { pass.table ≡ N.table }
-        requires left { 1 ≤ pass.known.left }
+        requires pass { MayAsk N.table 1 pass }
         ensures told { IfOk result.1 (λ info. Follows N.conf (length N.budgets) pass result.0 0
             (request.SmaInfo limited) (reply.Info info)) }
         ensures same { OnErr result.1 (result.0 ≡ pass) }
@@ -118,8 +115,7 @@ impl<N: TableName> Cabinet<N> {
         t: u64,
     ) -> (Pass, Result<Chunk, AllocError>)
         requires table { table.now ≡ N.table }
-        requires pass { pass.table ≡ N.table }
-        requires left { 1 ≤ pass.known.left }
+        requires pass { MayAsk N.table 1 pass }
         requires from { from ≤ N.conf.slots }
         requires size { 1 ≤ size }
         ensures told { IfOk result.1 (λ chunk. Follows N.conf (length N.budgets) pass result.0 t
@@ -152,8 +148,7 @@ impl<N: TableName> Cabinet<N> {
         t: u64,
     ) -> (Pass, Result<u32, AllocError>)
         requires table { table.now ≡ N.table }
-        requires pass { pass.table ≡ N.table }
-        requires left { 1 ≤ pass.known.left }
+        requires pass { MayAsk N.table 1 pass }
         requires from { from ≤ N.conf.slots }
         requires size { 1 ≤ size }
         ensures deleted { IfOk result.1 (λ next. Follows N.conf (length N.budgets) pass result.0 t
@@ -178,8 +173,7 @@ impl<N: TableName> Cabinet<N> {
         t: u64,
     ) -> (Pass, Result<(u64, u64, u64), AllocError>)
         requires table { table.now ≡ N.table }
-        requires pass { pass.table ≡ N.table }
-        requires left { 1 ≤ pass.known.left }
+        requires pass { MayAsk N.table 1 pass }
         ensures told { IfOk result.1 (λ r. Follows N.conf (length N.budgets) pass result.0 t
             (request.Totals search.old list) (reply.Totals r.0 r.1 r.2)) }
         ensures same { OnErr result.1 (result.0 ≡ pass) }

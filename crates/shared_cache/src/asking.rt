@@ -5,9 +5,10 @@ ghost use Rattle.apcu_model.specs.declared.request.Request.TheVariants as reques
 ghost use Rattle.apcu_model.specs.declared.request.Reply.TheVariants as reply;
 ghost use Rattle.apcu_model.specs.Levels.{most_levels};
 ghost use Rattle.apcu_model.specs.Sequential.{info_reply};
+ghost use Rattle.shared_cache.specs.Asking.{MayAsk};
 ghost use Rattle.shared_cache.specs.Follows.{Follows, FollowsEntry};
 
-use crate::shared::Shared;
+use crate::shared::{Shared, locked};
 use apcu_iter::Search;
 use apcu_model::{Chunk, Fields, Gen, List};
 use counter_entry::Fate;
@@ -34,16 +35,13 @@ impl<N: TableName> Shared<N> {
         generator: &Gen,
         t: u64,
     ) -> (Pass, Result<(Graph, Fate), AllocError>)
-        requires table { pass.table ≡ N.table }
-        requires left { 2 ≤ pass.known.left }
+        requires pass { MayAsk N.table 2 pass }
         requires levels { length generator.now.levels ≤ most_levels }
         ensures given { IfOk result.1 (λ v. FollowsEntry N.conf (length N.budgets) pass result.0 t
             generator.now v.0 v.1) }
         ensures same { OnErr result.1 (result.0 ≡ pass) }
     {
-        self.lock
-            .lock(rt)
-            .entry(&self.table, alloc, pass, generator, t)
+        locked(&self.lock, rt).entry(&self.table, alloc, pass, generator, t)
     }
 
     /// Tells of the row that a look-up of the key finds at the moment `t`, in seconds: its hits,
@@ -59,16 +57,13 @@ impl<N: TableName> Shared<N> {
         key: &[u8],
         t: u64,
     ) -> (Pass, Result<Option<Graph>, AllocError>)
-        requires table { pass.table ≡ N.table }
-        requires left { 2 ≤ pass.known.left }
+        requires pass { MayAsk N.table 2 pass }
         requires short { length key.now < 2 ^ 32 }
         ensures told { IfOk result.1 (λ info. Follows N.conf (length N.budgets) pass result.0 t
             (request.KeyInfo key.now) (info_reply info)) }
         ensures same { OnErr result.1 (result.0 ≡ pass) }
     {
-        self.lock
-            .lock(rt)
-            .key_info(&self.table, alloc, pass, key, t)
+        locked(&self.lock, rt).key_info(&self.table, alloc, pass, key, t)
     }
 
     /// Tells of the cache: its slots, its limit, what was counted, how many rows there are and
@@ -84,15 +79,12 @@ impl<N: TableName> Shared<N> {
         pass: Pass,
         limited: bool,
     ) -> (Pass, Result<Graph, AllocError>)
-        requires table { pass.table ≡ N.table }
-        requires left { 2 ≤ pass.known.left }
+        requires pass { MayAsk N.table 2 pass }
         ensures told { IfOk result.1 (λ info. Follows N.conf (length N.budgets) pass result.0 0
             (request.CacheInfo limited) (reply.Info info)) }
         ensures same { OnErr result.1 (result.0 ≡ pass) }
     {
-        self.lock
-            .lock(rt)
-            .cache_info(&self.table, alloc, pass, limited)
+        locked(&self.lock, rt).cache_info(&self.table, alloc, pass, limited)
     }
 
     /// Tells of the memory that the rows share: its bytes, how many are free, and unless it is
@@ -107,15 +99,12 @@ impl<N: TableName> Shared<N> {
         pass: Pass,
         limited: bool,
     ) -> (Pass, Result<Graph, AllocError>)
-        requires table { pass.table ≡ N.table }
-        requires left { 2 ≤ pass.known.left }
+        requires pass { MayAsk N.table 2 pass }
         ensures told { IfOk result.1 (λ info. Follows N.conf (length N.budgets) pass result.0 0
             (request.SmaInfo limited) (reply.Info info)) }
         ensures same { OnErr result.1 (result.0 ≡ pass) }
     {
-        self.lock
-            .lock(rt)
-            .sma_info(&self.table, alloc, pass, limited)
+        locked(&self.lock, rt).sma_info(&self.table, alloc, pass, limited)
     }
 
     /// One step of an iterator at the moment `t`, in seconds: the rows of a list whose keys the
@@ -137,8 +126,7 @@ impl<N: TableName> Shared<N> {
         fields: Fields,
         t: u64,
     ) -> (Pass, Result<Chunk, AllocError>)
-        requires table { pass.table ≡ N.table }
-        requires left { 2 ≤ pass.known.left }
+        requires pass { MayAsk N.table 2 pass }
         requires from { from ≤ N.conf.slots }
         requires size { 1 ≤ size }
         ensures told { IfOk result.1 (λ chunk. Follows N.conf (length N.budgets) pass result.0 t
@@ -146,7 +134,7 @@ impl<N: TableName> Shared<N> {
         ensures same { OnErr result.1 (result.0 ≡ pass) }
         ensures search { search.new ≡ search.old }
     {
-        self.lock.lock(rt).chunk(
+        locked(&self.lock, rt).chunk(
             &self.table,
             alloc,
             pass,
@@ -176,8 +164,7 @@ impl<N: TableName> Shared<N> {
         size: u32,
         t: u64,
     ) -> (Pass, Result<u32, AllocError>)
-        requires table { pass.table ≡ N.table }
-        requires left { 2 ≤ pass.known.left }
+        requires pass { MayAsk N.table 2 pass }
         requires from { from ≤ N.conf.slots }
         requires size { 1 ≤ size }
         ensures deleted { IfOk result.1 (λ next. Follows N.conf (length N.budgets) pass result.0 t
@@ -185,9 +172,7 @@ impl<N: TableName> Shared<N> {
         ensures same { OnErr result.1 (result.0 ≡ pass) }
         ensures search { search.new ≡ search.old }
     {
-        self.lock
-            .lock(rt)
-            .chunk_delete(&self.table, alloc, pass, search, from, size, t)
+        locked(&self.lock, rt).chunk_delete(&self.table, alloc, pass, search, from, size, t)
     }
 
     /// Of how many rows of a list the search finds the keys at the moment `t`, in seconds, how
@@ -205,16 +190,13 @@ impl<N: TableName> Shared<N> {
         list: List,
         t: u64,
     ) -> (Pass, Result<(u64, u64, u64), AllocError>)
-        requires table { pass.table ≡ N.table }
-        requires left { 2 ≤ pass.known.left }
+        requires pass { MayAsk N.table 2 pass }
         ensures told { IfOk result.1 (λ r. Follows N.conf (length N.budgets) pass result.0 t
             (request.Totals search.old list) (reply.Totals r.0 r.1 r.2)) }
         ensures same { OnErr result.1 (result.0 ≡ pass) }
         ensures search { search.new ≡ search.old }
     {
         let _ = alloc;
-        self.lock
-            .lock(rt)
-            .totals(&self.table, pass, search, list, t)
+        locked(&self.lock, rt).totals(&self.table, pass, search, list, t)
     }
 }

@@ -1,10 +1,11 @@
 //! What stands behind the lock.
 
-ghost use Rattle.std.specs.Prelude.{◌≡◌, ℕ, ◌<◌, ◌≤◌, ◌^◌, true, length};
+ghost use Rattle.std.specs.Prelude.{◌≡◌, ℕ, ◌<◌, ◌^◌, true, length};
 ghost use Rattle.apcu_model.specs.declared.request.Request.TheVariants as request;
 ghost use Rattle.apcu_model.specs.declared.request.Reply.TheVariants as reply;
 ghost use Rattle.apcu_model.specs.Sequential.{is_stored};
 ghost use Rattle.counter_entry.specs.Numbers.{reply_of};
+ghost use Rattle.shared_cache.specs.Asking.{MayAsk};
 ghost use Rattle.shared_cache.specs.Settled.{Settled};
 ghost use Rattle.shared_cache.specs.Follows.{Follows};
 ghost use Rattle.shared_cache.specs.Pinned.{IsFetched};
@@ -80,8 +81,7 @@ impl<N: TableName> Cabinet<N> {
         t: u64,
     ) -> (Pass, bool)
         requires table { table.now ≡ N.table }
-        requires pass { pass.table ≡ N.table }
-        requires left { 1 ≤ pass.known.left }
+        requires pass { MayAsk N.table 1 pass }
         requires short { length key.now < 2 ^ 32 }
         ensures { Follows N.conf (length N.budgets) pass result.0 t
             (request.Exists key.now) (reply.Flag result.1) }
@@ -100,8 +100,7 @@ impl<N: TableName> Cabinet<N> {
         t: u64,
     ) -> (Pass, bool)
         requires table { table.now ≡ N.table }
-        requires pass { pass.table ≡ N.table }
-        requires left { 1 ≤ pass.known.left }
+        requires pass { MayAsk N.table 1 pass }
         requires short { length key.now < 2 ^ 32 }
         ensures { Follows N.conf (length N.budgets) pass result.0 t
             (request.Delete key.now) (reply.Flag result.1) }
@@ -114,8 +113,7 @@ impl<N: TableName> Cabinet<N> {
     // Drops all rows, and forgets all that was counted.
     pub(crate) fn clear(&mut self, table: &PinTable, pass: Pass, t: u64) -> Pass
         requires table { table.now ≡ N.table }
-        requires pass { pass.table ≡ N.table }
-        requires left { 1 ≤ pass.known.left }
+        requires pass { MayAsk N.table 1 pass }
         ensures { Follows N.conf (length N.budgets) pass result t request.Clear (reply.Flag true) }
     {
         let mut w = begin::<N>(table, &mut self.seat, pass);
@@ -136,8 +134,7 @@ impl<N: TableName> Cabinet<N> {
         t: u64,
     ) -> (Pass, bool)
         requires table { table.now ≡ N.table }
-        requires pass { pass.table ≡ N.table }
-        requires left { 1 ≤ pass.known.left }
+        requires pass { MayAsk N.table 1 pass }
         requires short { length key.now < 2 ^ 32 }
         ensures { Follows N.conf (length N.budgets) pass result.0 t
             (request.Store key.now value.now ttl exclusive) (reply.Flag result.1) }
@@ -166,8 +163,7 @@ impl<N: TableName> Cabinet<N> {
         t: u64,
     ) -> (Pass, IncAnswer)
         requires table { table.now ≡ N.table }
-        requires pass { pass.table ≡ N.table }
-        requires left { 1 ≤ pass.known.left }
+        requires pass { MayAsk N.table 1 pass }
         requires short { length key.now < 2 ^ 32 }
         ensures { Follows N.conf (length N.budgets) pass result.0 t
             (request.Inc key.now step ttl) (reply_of result.1) }
@@ -190,8 +186,7 @@ impl<N: TableName> Cabinet<N> {
         t: u64,
     ) -> (Pass, bool)
         requires table { table.now ≡ N.table }
-        requires pass { pass.table ≡ N.table }
-        requires left { 1 ≤ pass.known.left }
+        requires pass { MayAsk N.table 1 pass }
         requires short { length key.now < 2 ^ 32 }
         ensures { Follows N.conf (length N.budgets) pass result.0 t
             (request.Cas key.now expect set) (reply.Flag result.1) }
@@ -205,43 +200,42 @@ impl<N: TableName> Cabinet<N> {
     // A worker's last event.
     pub(crate) fn retire(&mut self, table: &PinTable, pass: Pass) -> Ended
         requires table { table.now ≡ N.table }
-        requires pass { pass.table ≡ N.table }
-        requires left { 1 ≤ pass.known.left }
+        requires pass { MayAsk N.table 1 pass }
         ensures { Follows N.conf (length N.budgets) pass result 0 request.Retire reply.Ended }
     {
-        lower_laws();
-        let last = table.writer(&mut self.seat, pass);
-        note(&mut self.journal, &last);
-        last.give_ended()
+        let w = begin::<N>(table, &mut self.seat, pass);
+        note(&mut self.journal, &w);
+        w.give_ended()
     }
 
     // Fetches the value of a key, and pins its block where it is copied outside the lock.
     pub(crate) fn pin(&mut self, table: &PinTable, pass: Pass, key: &[u8], t: u64) -> Pinned
         requires table { table.now ≡ N.table }
-        requires pass { pass.table ≡ N.table }
-        requires left { 1 ≤ pass.known.left }
+        requires pass { MayAsk N.table 1 pass }
         requires short { length key.now < 2 ^ 32 }
         ensures { IsFetched N.conf (length N.budgets) pass t key.now result }
     {
-        lower_laws();
-        let mut w = table.writer(&mut self.seat, pass);
         images_are_runs();
+        let mut w = begin::<N>(table, &mut self.seat, pass);
         let look = self.core.look(&mut w, key, t);
-        note(&mut self.journal, &w);
         let ask = Ask::Fetch(key);
         match look {
-            Look::Miss => Pinned::Miss(w.give_pass(ask, t)),
-            Look::Scalar(scalar) => Pinned::Scalar(w.give_pass(ask, t), scalar),
-            Look::Hit(at) => Pinned::Hit(w.give_copying(ask, t, at)),
+            Look::Miss => Pinned::Miss(end::<N>(&mut self.journal, w, ask, t)),
+            Look::Scalar(scalar) => {
+                Pinned::Scalar(end::<N>(&mut self.journal, w, ask, t), scalar)
+            }
+            Look::Hit(at) => {
+                note(&mut self.journal, &w);
+                Pinned::Hit(w.give_copying(ask, t, at))
+            }
         }
     }
 
     // The pass sees all events so far, those of the ended worker among them.
     pub(crate) fn learn(&mut self, table: &PinTable, pass: Pass, ended: Ended) -> (Pass, Ended)
         requires table { table.now ≡ N.table }
-        requires pass { pass.table ≡ N.table }
+        requires pass { MayAsk N.table 1 pass }
         requires other { ended.table ≡ N.table }
-        requires left { 1 ≤ pass.known.left }
         ensures learns { Learns N.conf (length N.budgets) pass result.0 ended }
         ensures same { result.1 ≡ ended }
     {

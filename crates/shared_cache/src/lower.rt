@@ -2,7 +2,7 @@
 
 ghost use Rattle.shared_cache.specs.Laws.{LockLaws};
 
-use apcu_model::{held_alike, numbered, one_event_more};
+use apcu_model::{events_keep, held_alike, numbered, one_event_more};
 use entry_slots::{standing_laws, window_laws};
 use pin_table::rule_laws;
 
@@ -16,4 +16,5 @@ pub(crate) fn lower_laws()
     one_event_more();
     held_alike();
     numbered();
+    events_keep();
 }

@@ -8,7 +8,7 @@ ghost use Rattle.shared_cache.specs.declared.opening.OpenFault.TheVariants.{BadC
 use crate::cabinet::Cabinet;
 use crate::lower::lower_laws;
 use crate::shared::Shared;
-use apcu_model::{Conf, Journal};
+use apcu_model::{Conf, Journal, MOST_EVENTS};
 use cache_core::Core;
 use max_tree::MaxRow;
 use pin_table::{EndedList, Passes, PinTable, TableName, WriterSeat};
@@ -17,9 +17,6 @@ use std::alloc::{AllocError, Global};
 use std::marker::Model;
 use std::sync::Wait;
 
-// The most events that the workers of one cache may make, all together.
-const MOST_EVENTS: u64 = 4_194_304;
-
 // The most workers.
 const MOST_WORKERS: usize = 64;
 
@@ -27,7 +24,7 @@ const MOST_WORKERS: usize = 64;
 #[derive(Clone, Copy, Debug, PartialEq, Eq)]
 pub enum OpenFault {
     /// The shape is none that a cache can have; or there are more than 64 budgets, one is 0, or
-    /// their sum is above 4,194,304.
+    /// their sum is above `MOST_EVENTS`, which is 4,194,304.
     BadConf,
     /// There was not enough memory.
     Memory,

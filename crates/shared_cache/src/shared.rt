@@ -1,12 +1,13 @@
 //! The cache that workers share, and how it is opened.
 
-ghost use Rattle.std.specs.Prelude.{◌≡◌, ℕ, ◌<◌, ◌≤◌, ◌^◌, true, List, length, IfOk};
+ghost use Rattle.std.specs.Prelude.{◌≡◌, ℕ, ◌<◌, ◌^◌, true, List, length, IfOk};
 ghost use Rattle.php_graph.specs.declared.kind.Kind.{Kind};
 ghost use Rattle.value_image.specs.Image.{IsImageOf};
 ghost use Rattle.apcu_model.specs.declared.request.Request.TheVariants as request;
 ghost use Rattle.apcu_model.specs.declared.request.Reply.TheVariants as reply;
 ghost use Rattle.apcu_model.specs.Sequential.{number_reply};
 ghost use Rattle.counter_entry.specs.Numbers.{reply_of};
+ghost use Rattle.shared_cache.specs.Asking.{MayAsk};
 ghost use Rattle.shared_cache.specs.Follows.{Follows};
 ghost use Rattle.shared_cache.specs.Pinned.{IsFetched};
 ghost use Rattle.shared_cache.specs.Learned.{Learns};
@@ -21,8 +22,9 @@ use counter_entry::IncAnswer;
 use php_graph::Graph;
 use pin_table::{Copying, Ended, EndedList, Image, Pass, PinTable, TableName};
 use std::alloc::{AllocError, Global};
+use std::hint::spin_loop;
 use std::marker::Model;
-use std::sync::{Mutex, Wait};
+use std::sync::{Mutex, MutexGuard, Wait};
 use value_image::unpersist;
 
 /// A cache that many workers share. Its table, its shape and its budgets are those of its name.
@@ -61,6 +63,36 @@ impl<N: TableName> Model for Shared<N> {
     ghost invariant = { λ s. s.table ≡ N.table };
 }
 
+// How often the lock is tried before its queue is joined.
+const TRIES: u32 = 100;
+
+// The most turns between two tries.
+const LONGEST_GAP: u32 = 512;
+
+// Lets so many turns go by.
+fn idle(turns: u32) {
+    for _ in 0..turns {
+        spin_loop();
+    }
+}
+
+// Takes the lock. It is tried with longer and longer gaps first: a thread that has just had it, and
+// has what it guards in its processor's cache, then mostly goes on, and nobody sleeps.
+pub(crate) fn locked<'a, N: TableName, R: Wait>(
+    lock: &'a Mutex<Cabinet<N>>,
+    rt: &R,
+) -> MutexGuard<'a, Cabinet<N>> {
+    let mut gap = 1u32;
+    for _ in 0..TRIES {
+        if let Some(guard) = lock.try_lock() {
+            return guard;
+        }
+        idle(gap);
+        gap = gap.saturating_mul(2).min(LONGEST_GAP);
+    }
+    lock.lock(rt)
+}
+
 // What the counter is now, if it counted.
 fn number_of(answer: IncAnswer) -> Option<i64>
     ensures { number_reply result ≡ reply_of answer }
@@ -94,47 +126,41 @@ impl<N: TableName> Shared<N> {
         exclusive: bool,
         t: u64,
     ) -> (Pass, bool)
-        requires table { pass.table ≡ N.table }
-        requires left { 2 ≤ pass.known.left }
+        requires pass { MayAsk N.table 2 pass }
         requires short { length key.now < 2 ^ 32 }
         ensures { Follows N.conf (length N.budgets) pass result.0 t
             (request.Store key.now value.now ttl exclusive) (reply.Flag result.1) }
     {
-        self.lock
-            .lock(rt)
-            .store(&self.table, pass, key, value, ttl, exclusive, t)
+        locked(&self.lock, rt).store(&self.table, pass, key, value, ttl, exclusive, t)
     }
 
     /// Whether a look-up of the key finds a row at the moment `t`, in seconds. Nothing is counted.
     pub fn exists<R: Wait>(&self, rt: &R, pass: Pass, key: &[u8], t: u64) -> (Pass, bool)
-        requires table { pass.table ≡ N.table }
-        requires left { 2 ≤ pass.known.left }
+        requires pass { MayAsk N.table 2 pass }
         requires short { length key.now < 2 ^ 32 }
         ensures { Follows N.conf (length N.budgets) pass result.0 t
             (request.Exists key.now) (reply.Flag result.1) }
     {
-        self.lock.lock(rt).exists(&self.table, pass, key, t)
+        locked(&self.lock, rt).exists(&self.table, pass, key, t)
     }
 
     /// Deletes the row that a look-up of the key finds at the moment `t`, in seconds; whether it
     /// finds one.
     pub fn delete<R: Wait>(&self, rt: &R, pass: Pass, key: &[u8], t: u64) -> (Pass, bool)
-        requires table { pass.table ≡ N.table }
-        requires left { 2 ≤ pass.known.left }
+        requires pass { MayAsk N.table 2 pass }
         requires short { length key.now < 2 ^ 32 }
         ensures { Follows N.conf (length N.budgets) pass result.0 t
             (request.Delete key.now) (reply.Flag result.1) }
     {
-        self.lock.lock(rt).delete(&self.table, pass, key, t)
+        locked(&self.lock, rt).delete(&self.table, pass, key, t)
     }
 
     /// Drops all rows at the moment `t`, in seconds, and forgets all that was counted.
     pub fn clear<R: Wait>(&self, rt: &R, pass: Pass, t: u64) -> Pass
-        requires table { pass.table ≡ N.table }
-        requires left { 2 ≤ pass.known.left }
+        requires pass { MayAsk N.table 2 pass }
         ensures { Follows N.conf (length N.budgets) pass result t request.Clear (reply.Flag true) }
     {
-        self.lock.lock(rt).clear(&self.table, pass, t)
+        locked(&self.lock, rt).clear(&self.table, pass, t)
     }
 
     /// Counts by the step at the moment `t`, in seconds: the integer of the row that a look-up of
@@ -150,16 +176,20 @@ impl<N: TableName> Shared<N> {
         ttl: u32,
         t: u64,
     ) -> (Pass, Option<i64>)
-        requires table { pass.table ≡ N.table }
-        requires left { 2 ≤ pass.known.left }
+        requires pass { MayAsk N.table 2 pass }
         requires short { length key.now < 2 ^ 32 }
         ensures { Follows N.conf (length N.budgets) pass result.0 t
             (request.Inc key.now step ttl) (number_reply result.1) }
     {
-        let (pass, answer) = self
-            .lock
-            .lock(rt)
-            .inc(&self.table, self.alloc, pass, key, step, ttl, t);
+        let (pass, answer) = locked(&self.lock, rt).inc(
+            &self.table,
+            self.alloc,
+            pass,
+            key,
+            step,
+            ttl,
+            t,
+        );
         (pass, number_of(answer))
     }
 
@@ -174,27 +204,23 @@ impl<N: TableName> Shared<N> {
         set: i64,
         t: u64,
     ) -> (Pass, bool)
-        requires table { pass.table ≡ N.table }
-        requires left { 2 ≤ pass.known.left }
+        requires pass { MayAsk N.table 2 pass }
         requires short { length key.now < 2 ^ 32 }
         ensures { Follows N.conf (length N.budgets) pass result.0 t
             (request.Cas key.now expect set) (reply.Flag result.1) }
     {
-        self.lock
-            .lock(rt)
-            .cas(&self.table, pass, key, expect, set, t)
+        locked(&self.lock, rt).cas(&self.table, pass, key, expect, set, t)
     }
 
     /// Fetches the value of a key at the moment `t`, in seconds. Null, a truth value or an integer
     /// is answered at once; any other value stays in its block until `copy_out` has copied it. It
     /// takes no memory.
     pub fn pin<R: Wait>(&self, rt: &R, pass: Pass, key: &[u8], t: u64) -> Pinned
-        requires table { pass.table ≡ N.table }
-        requires left { 2 ≤ pass.known.left }
+        requires pass { MayAsk N.table 2 pass }
         requires short { length key.now < 2 ^ 32 }
         ensures { IsFetched N.conf (length N.budgets) pass t key.now result }
     {
-        self.lock.lock(rt).pin(&self.table, pass, key, t)
+        locked(&self.lock, rt).pin(&self.table, pass, key, t)
     }
 
     /// Copies the value that a fetch found, and gives its block free. It waits for nobody, and is
@@ -223,23 +249,21 @@ impl<N: TableName> Shared<N> {
 
     /// Ends a worker: its last event, at the moment 0.
     pub fn retire<R: Wait>(&self, rt: &R, pass: Pass) -> Ended
-        requires table { pass.table ≡ N.table }
-        requires left { 1 ≤ pass.known.left }
+        requires pass { MayAsk N.table 1 pass }
         ensures { Follows N.conf (length N.budgets) pass result 0 request.Retire reply.Ended }
     {
-        self.lock.lock(rt).retire(&self.table, pass)
+        locked(&self.lock, rt).retire(&self.table, pass)
     }
 
     /// Has a worker see all events so far, those of a worker that has ended among them. It is no
     /// event, and the ended one comes back as it was.
     pub fn learn<R: Wait>(&self, rt: &R, pass: Pass, ended: Ended) -> (Pass, Ended)
-        requires table { pass.table ≡ N.table }
+        requires pass { MayAsk N.table 1 pass }
         requires other { ended.table ≡ N.table }
-        requires left { 1 ≤ pass.known.left }
         ensures learns { Learns N.conf (length N.budgets) pass result.0 ended }
         ensures same { result.1 ≡ ended }
     {
-        self.lock.lock(rt).learn(&self.table, pass, ended)
+        locked(&self.lock, rt).learn(&self.table, pass, ended)
     }
 
     /// Gives the journal and the counts, once every worker has ended. It waits for nobody and takes

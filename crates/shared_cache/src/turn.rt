@@ -1,21 +1,23 @@
 //! A worker's turn under the lock: how its event begins, and how it ends.
 
-ghost use Rattle.std.specs.Prelude.{◌≡◌, ℕ, ◌≤◌, length, None, IfOk, OnErr};
-ghost use Rattle.seg_words.specs.Windows.{held_by};
+ghost use Rattle.std.specs.Prelude.{◌≡◌, true, length, None, IfOk, OnErr};
 ghost use Rattle.apcu_model.specs.declared.request.Reply.{Reply};
 ghost use Rattle.apcu_model.specs.Asking.{asked};
+ghost use Rattle.apcu_model.specs.History.{is_shallow};
 ghost use Rattle.apcu_model.specs.Journal.{Marks};
-ghost use Rattle.apcu_model.specs.Sequential.{reply_to};
 ghost use Rattle.cache_core.specs.declared.cache.Core.{Core};
-ghost use Rattle.cache_core.specs.Caching.{cache_of};
+ghost use Rattle.cache_core.specs.Events.{Does, DoesIf};
+ghost use Rattle.pin_table.specs.declared.writer.Writer.{Writer};
+ghost use Rattle.shared_cache.specs.Asking.{MayAsk};
 ghost use Rattle.shared_cache.specs.Follows.{Follows};
 ghost use Rattle.shared_cache.specs.Settled.{Settled};
-ghost use Rattle.shared_cache.specs.Turns.{Taken, AtWork, Does, DoesIf, FollowsAt};
+ghost use Rattle.shared_cache.specs.Turns.{Taken, AtWork, FollowsAt};
 
 use crate::lower::lower_laws;
 use crate::noting::note;
 use apcu_model::{Ask, Journal};
 use pin_table::{Pass, PinTable, TableName, Writer, WriterSeat};
+use seg_words::WordsIn;
 use std::alloc::AllocError;
 
 // Takes the pass, and its worker's event begins. The cores and journals that agree with the seat
@@ -28,8 +30,7 @@ pub(crate) fn begin<'a, N: TableName>(
     requires table { table.now ≡ N.table }
     requires seat { seat.old.table ≡ N.table }
     requires hand { seat.old.desk.book.hand ≡ None }
-    requires pass { pass.table ≡ N.table }
-    requires left { 1 ≤ pass.known.left }
+    requires pass { MayAsk N.table 1 pass }
     ensures same_reference { result.seat.ghost_name ≡ seat.entry.ghost_name }
     ensures taken { (core : Core) (journal : Marks)
         → Settled N.table N.conf N.budgets seat.old core journal
@@ -39,19 +40,24 @@ pub(crate) fn begin<'a, N: TableName>(
     table.writer(seat, pass)
 }
 
-// Notes the event and ends it.
-pub(crate) fn end<N: TableName>(journal: &mut Journal, w: Writer<'_>, ask: Ask<'_>, t: u64) -> Pass
-    requires { AtWork N.table N.conf N.budgets journal.old w }
+// Notes the event and ends it. It is the one that a call left on the writer's desk.
+pub(crate) fn end<'a, N: TableName>(
+    journal: &mut Journal,
+    w: Writer<'a>,
+    ask: Ask<'_>,
+    t: u64,
+) -> Pass
+    requires turn { AtWork N.table N.conf N.budgets journal.old w }
+    requires shallow { is_shallow (asked ask) ≡ true }
     ensures table { w.exit.1.0.now.table ≡ w.entry.seat.now.table }
     ensures words { w.exit.1.0.now.desk.words ≡ w.entry.seat.now.desk.words }
     ensures settled { (turn : AtWork N.table N.conf N.budgets journal.old w.entry) (core : Core)
-        → Does w.entry.seat.now.desk turn.core core t (asked ask.entry)
+        (left : Writer) (y : Reply) → left.seat.now.desk ≡ w.entry.seat.now.desk
+        → Does ⟦<Writer<'a> as WordsIn>⟧ turn.core core turn.first left t (asked ask.entry) y
         → Settled N.table N.conf N.budgets w.exit.1.0.now core journal.new }
     ensures follows { (turn : AtWork N.table N.conf N.budgets journal.old w.entry) (core : Core)
-        (y : Reply) → Does w.entry.seat.now.desk turn.core core t (asked ask.entry)
-        → y ≡ reply_to
-        (held_by w.entry.seat.now.desk.mask w.entry.seat.now.desk.windows) t (asked ask.entry)
-        (cache_of turn.core)
+        (left : Writer) (y : Reply) → left.seat.now.desk ≡ w.entry.seat.now.desk
+        → Does ⟦<Writer<'a> as WordsIn>⟧ turn.core core turn.first left t (asked ask.entry) y
         → FollowsAt N.conf (length N.budgets) turn.pass result t (asked ask.entry) y
         turn.seat.desk.book.history w.entry.seat.now.desk.mask
         w.entry.seat.now.desk.windows }
@@ -64,34 +70,27 @@ pub(crate) fn end<N: TableName>(journal: &mut Journal, w: Writer<'_>, ask: Ask<'
 // Ends the turn of a call that takes memory. With its answer the event is noted; without memory for
 // it there was none, and the pass comes back as it was. What each answer is as a reply, the caller
 // says.
-pub(crate) fn told<N: TableName, A>(
+pub(crate) fn told<'a, N: TableName, A>(
     journal: &mut Journal,
-    w: Writer<'_>,
+    w: Writer<'a>,
     ask: Ask<'_>,
     t: u64,
     answer: Result<A, AllocError>,
 ) -> (Pass, Result<A, AllocError>)
-    requires { AtWork N.table N.conf N.budgets journal.old w }
+    requires turn { AtWork N.table N.conf N.budgets journal.old w }
+    requires shallow { is_shallow (asked ask) ≡ true }
     ensures settled { (turn : AtWork N.table N.conf N.budgets journal.old w.entry) (core : Core)
-        → DoesIf turn.first.seat.now.desk w.entry.seat.now.desk turn.core core t
-        (asked ask.entry) answer
+        (reply : _ → Reply) → DoesIf ⟦<Writer<'a> as WordsIn>⟧ turn.core core turn.first w.entry t
+        (asked ask.entry) answer reply
         → Settled N.table N.conf N.budgets w.exit.1.0.now core journal.new }
     ensures told { (turn : AtWork N.table N.conf N.budgets journal.old w.entry) (core : Core)
-        (reply : _ → Reply)
-        → DoesIf turn.first.seat.now.desk w.entry.seat.now.desk turn.core core t
-        (asked ask.entry) answer
-        → IfOk answer (λ a. reply a ≡ reply_to
-        (held_by w.entry.seat.now.desk.mask w.entry.seat.now.desk.windows) t (asked ask.entry)
-        (cache_of turn.core))
+        (reply : _ → Reply) → DoesIf ⟦<Writer<'a> as WordsIn>⟧ turn.core core turn.first w.entry t
+        (asked ask.entry) answer reply
         → IfOk result.1 (λ a. Follows N.conf (length N.budgets) turn.pass result.0 t
         (asked ask.entry) (reply a)) }
     ensures place { (turn : AtWork N.table N.conf N.budgets journal.old w.entry) (core : Core)
-        (reply : _ → Reply)
-        → DoesIf turn.first.seat.now.desk w.entry.seat.now.desk turn.core core t
-        (asked ask.entry) answer
-        → IfOk answer (λ a. reply a ≡ reply_to
-        (held_by w.entry.seat.now.desk.mask w.entry.seat.now.desk.windows) t (asked ask.entry)
-        (cache_of turn.core))
+        (reply : _ → Reply) → DoesIf ⟦<Writer<'a> as WordsIn>⟧ turn.core core turn.first w.entry t
+        (asked ask.entry) answer reply
         → IfOk answer (λ a. FollowsAt N.conf (length N.budgets) turn.pass result.0 t
         (asked ask.entry) (reply a) turn.seat.desk.book.history w.entry.seat.now.desk.mask
         w.entry.seat.now.desk.windows) }

@@ -23,6 +23,7 @@ pub(crate) const CONF: Conf = Conf {
     words: 512,
     slots: 32,
     ttl: 0,
+    segments: 1,
 };
 
 // A string of this many bytes `z`.
@@ -50,6 +51,7 @@ fn opens_or_not(rt: HostRuntime) -> Result<(), Fail> {
         words: 511,
         slots: 8,
         ttl: 0,
+        segments: 1,
     };
     let bad = Some(OpenFault::BadConf);
     assert_eq!(rt; fault(&rt, rt.alloc(), &odd, &[1]), bad);

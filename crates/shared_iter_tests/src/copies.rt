@@ -17,6 +17,7 @@ pub(crate) const CONF: Conf = Conf {
     words: 64,
     slots: 32,
     ttl: 0,
+    segments: 1,
 };
 
 pub(crate) fn array(alloc: Global) -> Option<Graph> {

@@ -6,7 +6,7 @@ use Rattle.seg_words.specs.declared.extents.Extent.{Extent}
 use Rattle.seg_words.specs.Windows.{Aside}
 use Rattle.seg_words.specs.Gaps.{free_runs}
 use Rattle.sma_blocks.specs.declared.sma.Sma.{Sma}
-use Rattle.sma_blocks.specs.Pieces.{Piece, pieces, Fill}
+use Rattle.sma_blocks.specs.Tiles.{Tile, tiles, Fill}
 use Rattle.sma_blocks.specs.Live.{gaps, live_blocks}
 use Rattle.sma_blocks.specs.Index.{here, size_at}
 use Rattle.sma_blocks.specs.Chain.{AreLinked}
@@ -14,21 +14,21 @@ use Rattle.sma_blocks.specs.Ready.{IsReady}
 use Rattle.sma_blocks.specs.Walk.{link_before}
 use Rattle.sma_blocks.proofs.Spans.{span_of, filled_of}
 use Rattle.sma_blocks.proofs.Filling.{Fill-le}
-use Rattle.sma_blocks.proofs.Lives.{piece_extent}
+use Rattle.sma_blocks.proofs.Lives.{tile_extent}
 use Rattle.sma_blocks.proofs.Telling.{free_runs_of}
 use Rattle.sma_blocks.proofs.Finding.{here_other, here_live, here_gap, size_outside, size_odd}
 use Rattle.sma_blocks.proofs.Before.{size_within}
 use Rattle.sma_blocks.proofs.Relinking.{IsLastTold}
 
-abbrev past : ℕ → List Piece → Option Extent
+abbrev past : ℕ → List Tile → Option Extent
 past at ps = find (λ (run : Extent). nat_le at run.place) (gaps ps)
 
 -- the first gap at or past a place begins at v, or there is none and v is 0
-abbrev IsFirst : List Piece → ℕ → ℕ → Type 0
+abbrev IsFirst : List Tile → ℕ → ℕ → Type 0
 IsFirst ps at v = ((past at ps ≡ None) × (v ≡ 0)) ⊎ ((past at ps ≡ Some (record { place = v; size = size_at ps v })) × (at ≤ v) × (1 ≤ size_at ps v))
 
--- a piece in front that is no such gap
-first_behind : (p : Piece) (ps : List Piece) (at v : ℕ) → past at (p ∷ ps) ≡ past at ps → (1 ≤ size_at ps v → here p v ≡ 0) → IsFirst ps at v → IsFirst (p ∷ ps) at v
+-- a tile in front that is no such gap
+first_behind : (p : Tile) (ps : List Tile) (at v : ℕ) → past at (p ∷ ps) ≡ past at ps → (1 ≤ size_at ps v → here p v ≡ 0) → IsFirst ps at v → IsFirst (p ∷ ps) at v
 first_behind p ps at v same none h = elim h [
   | inl nothing ↦ inl (same ∙ nothing.0, nothing.1)
   | inr found ↦
@@ -36,13 +36,13 @@ first_behind p ps at v same none h = elim h [
       inr (same ∙ found.0 ∙ ap (λ (n : ℕ). Some (record { place = v; size = n })) (sym size), found.1, omega (arith, found.2))
 ]
 
-past_live : (at : ℕ) (p : Piece) (ps : List Piece) → p.live ≡ true → past at (p ∷ ps) ≡ past at ps
-past_live at p ps live = ap (λ (k : Bool). find (λ (run : Extent). nat_le at run.place) (cond k (gaps ps) (piece_extent p ∷ gaps ps))) live
+past_live : (at : ℕ) (p : Tile) (ps : List Tile) → p.live ≡ true → past at (p ∷ ps) ≡ past at ps
+past_live at p ps live = ap (λ (k : Bool). find (λ (run : Extent). nat_le at run.place) (cond k (gaps ps) (tile_extent p ∷ gaps ps))) live
 
-past_gap : (at : ℕ) (p : Piece) (ps : List Piece) → p.live ≡ false → past at (p ∷ ps) ≡ cond (leb at p.place) (Some (piece_extent p)) (past at ps)
-past_gap at p ps gap = ap (λ (k : Bool). find (λ (run : Extent). nat_le at run.place) (cond k (gaps ps) (piece_extent p ∷ gaps ps))) gap
+past_gap : (at : ℕ) (p : Tile) (ps : List Tile) → p.live ≡ false → past at (p ∷ ps) ≡ cond (leb at p.place) (Some (tile_extent p)) (past at ps)
+past_gap at p ps gap = ap (λ (k : Bool). find (λ (run : Extent). nat_le at run.place) (cond k (gaps ps) (tile_extent p ∷ gaps ps))) gap
 
-first_here : (ws : List ℕ) (a : ℕ) (ps : List Piece) (b f at : ℕ) → Fill ws a ps b → AreLinked ws f ps 0 → ((q : ℕ) → q < at → size_at ps q ≡ 0) → IsFirst ps at f
+first_here : (ws : List ℕ) (a : ℕ) (ps : List Tile) (b f at : ℕ) → Fill ws a ps b → AreLinked ws f ps 0 → ((q : ℕ) → q < at → size_at ps q ≡ 0) → IsFirst ps at f
 first_here ws a [] b f at h k none = inl (refl, k)
 first_here ws a (p ∷ ps) b f at h k none =
     let wide = h.0.enough in
@@ -59,11 +59,11 @@ first_here ws a (p ∷ ps) b f at h k none =
             | inr high ↦ high
             | inl under ↦ absurd (omega (arith, none p.place under, here_gap p p.place refl gap))
           ] in
-          let found : past at (p ∷ ps) ≡ Some (piece_extent p) = past_gap at p ps gap ∙ ap (λ (t : Bool). cond t (Some (piece_extent p)) (past at ps)) (le-leb at p.place low) in
+          let found : past at (p ∷ ps) ≡ Some (tile_extent p) = past_gap at p ps gap ∙ ap (λ (t : Bool). cond t (Some (tile_extent p)) (past at ps)) (le-leb at p.place low) in
           inr (found ∙ ap₂ (λ (x n : ℕ). Some (record { place = x; size = n })) (sym place) (sym size), omega arith, omega arith)
     ]
 
-first_after : (ws : List ℕ) (a : ℕ) (ps : List Piece) (b f at g : ℕ) → Fill ws a ps b → AreLinked ws f ps 0 → size_at ps g ≢ 0 → g < at → ((q : ℕ) → g < q → q < at → size_at ps q ≡ 0) → IsFirst ps at (slice_index ws (g + 1))
+first_after : (ws : List ℕ) (a : ℕ) (ps : List Tile) (b f at g : ℕ) → Fill ws a ps b → AreLinked ws f ps 0 → size_at ps g ≢ 0 → g < at → ((q : ℕ) → g < q → q < at → size_at ps q ≡ 0) → IsFirst ps at (slice_index ws (g + 1))
 first_after ws a [] b f at g h k some before none = absurd (some refl)
 first_after ws a (p ∷ ps) b f at g h k some before none =
     let wide = h.0.enough in
@@ -82,10 +82,10 @@ first_after ws a (p ∷ ps) b f at g h k some before none =
             | inr other ↦
                 let s : size_at ps g ≢ 0 = λ e. some (omega (arith, here_other p g other)) in
                 let far : a + p.size ≤ g = inner s in
-                let skip : past at (p ∷ ps) ≡ past at ps = past_gap at p ps gap ∙ ap (λ (t : Bool). cond t (Some (piece_extent p)) (past at ps)) (lt-leb at p.place (omega (arith, h.0.place))) in
+                let skip : past at (p ∷ ps) ≡ past at ps = past_gap at p ps gap ∙ ap (λ (t : Bool). cond t (Some (tile_extent p)) (past at ps)) (lt-leb at p.place (omega (arith, h.0.place))) in
                 first_behind p ps at v skip (λ big. here_other p v (λ e. omega (arith, h.0.place, size_outside ws (a + p.size) ps b v h.1 (inl (omega (arith, h.0.place)))))) (first_after ws (a + p.size) ps b (slice_index ws (p.place + 1)) at g h.1 j.1 s before (λ q low high. omega (arith, here_other p q (λ e. omega (arith, h.0.place)), none q low high)))
             | inl same ↦
-                let skip : past at (p ∷ ps) ≡ past at ps = past_gap at p ps gap ∙ ap (λ (t : Bool). cond t (Some (piece_extent p)) (past at ps)) (lt-leb at p.place (omega arith)) in
+                let skip : past at (p ∷ ps) ≡ past at ps = past_gap at p ps gap ∙ ap (λ (t : Bool). cond t (Some (tile_extent p)) (past at ps)) (lt-leb at p.place (omega arith)) in
                 let link : AreLinked ws v ps 0 = subst (λ (x : ℕ). AreLinked ws (slice_index ws (x + 1)) ps 0) same j.1 in
                 let zeros : (q : ℕ) → q < at → size_at ps q ≡ 0 = λ q low. elim (cases_lt g q) [
                   | inl over ↦ omega (arith, here_other p q (λ e. omega arith), none q over low)
@@ -96,16 +96,16 @@ first_after ws a (p ∷ ps) b f at g h k some before none =
     ]
 
 -- where a gap begins at or past the place there is a first one
-past_some : (ps : List Piece) (at v : ℕ) → size_at ps v ≢ 0 → at ≤ v → past at ps ≢ None
+past_some : (ps : List Tile) (at v : ℕ) → size_at ps v ≢ 0 → at ≤ v → past at ps ≢ None
 past_some [] at v some low e = some refl
 past_some (p ∷ ps) at v some low e = elim (cases_Bool p.live) [
   | inl live ↦ past_some ps at v (λ z. some (omega (arith, here_live p v live))) low (sym (past_live at p ps live) ∙ e)
   | inr gap ↦ elim (cases_lt p.place at) [
     | inl under ↦
-        let skip : past at (p ∷ ps) ≡ past at ps = past_gap at p ps gap ∙ ap (λ (t : Bool). cond t (Some (piece_extent p)) (past at ps)) (lt-leb at p.place under) in
+        let skip : past at (p ∷ ps) ≡ past at ps = past_gap at p ps gap ∙ ap (λ (t : Bool). cond t (Some (tile_extent p)) (past at ps)) (lt-leb at p.place under) in
         past_some ps at v (λ z. some (omega (arith, here_other p v (λ q. omega arith)))) low (sym skip ∙ e)
     | inr high ↦
-        let found : past at (p ∷ ps) ≡ Some (piece_extent p) = past_gap at p ps gap ∙ ap (λ (t : Bool). cond t (Some (piece_extent p)) (past at ps)) (le-leb at p.place high) in cc
+        let found : past at (p ∷ ps) ≡ Some (tile_extent p) = past_gap at p ps gap ∙ ap (λ (t : Bool). cond t (Some (tile_extent p)) (past at ps)) (le-leb at p.place high) in cc
   ]
 ]
 
@@ -114,8 +114,8 @@ pair_of run = (run.place, run.size)
 
 -- what the look-up answers
 module _ {sma : Sma} {ws : List ℕ} {aside : Aside} (ready : IsReady sma ws aside) (at index v : ℕ) (before : Option ℕ) (half : index ≡ at / 2 + at % 2) (told : IsLastTold sma.sizes index before) (link : v ≡ link_before ws sma.head before) where
-  abbrev all : List Piece
-  all = pieces ws sma.from
+  abbrev all : List Tile
+  all = tiles ws sma.from
 
   even : sma.from % 2 ≡ 0
   even = ready.formatted.even
@@ -139,10 +139,10 @@ module _ {sma : Sma} {ws : List ℕ} {aside : Aside} (ready : IsReady sma ws asi
           let low = t.0.0 in
           first_after ws sma.from all (length ws) sma.head at (2 * q) ready.formatted.full ready.linked some (omega arith) (λ r over under. zero_at r (λ e. t.1 (r / 2) (omega arith) (omega arith)))
 
-  runs : free_runs sma.from sma.to (live_blocks ws sma.from) ≡ gaps all
+  runs : free_runs sma.from sma.to sma.piece (live_blocks ws sma.from) ≡ gaps all
   runs = free_runs_of (span_of sma) ws aside (filled_of ready)
 
-  answer : (r : Option Extent) → past at all ≡ r → option_map pair_of r ≡ option_map pair_of (find (λ (run : Extent). nat_le at run.place) (free_runs sma.from sma.to (live_blocks ws sma.from)))
+  answer : (r : Option Extent) → past at all ≡ r → option_map pair_of r ≡ option_map pair_of (find (λ (run : Extent). nat_le at run.place) (free_runs sma.from sma.to sma.piece (live_blocks ws sma.from)))
   answer r is = ap (option_map pair_of) (sym is ∙ ap (find (λ (run : Extent). nat_le at run.place)) (sym runs))
 
   pub ask_small : at + 2 ≤ length ws → (v ≤ length ws) × (v / 2 < length sma.sizes)
@@ -156,7 +156,7 @@ module _ {sma : Sma} {ws : List ℕ} {aside : Aside} (ready : IsReady sma ws asi
         ]
       ]
 
-  pub ask_before : v < at → None ≡ option_map pair_of (find (λ (run : Extent). nat_le at run.place) (free_runs sma.from sma.to (live_blocks ws sma.from)))
+  pub ask_before : v < at → None ≡ option_map pair_of (find (λ (run : Extent). nat_le at run.place) (free_runs sma.from sma.to sma.piece (live_blocks ws sma.from)))
   ask_before low = elim first [
     | inl nothing ↦ answer None nothing.0
     | inr found ↦ absurd (omega (arith, found.1))
@@ -170,13 +170,13 @@ module _ {sma : Sma} {ws : List ℕ} {aside : Aside} (ready : IsReady sma ws asi
         is ∙ ready.indexed.told (v / 2) ∙ ap (λ (x : ℕ). size_at all x) place
   ]
 
-  pub ask_none : (size : ℕ) → size ≡ get_or sma.sizes (v / 2) 0 → size ≡ 0 → None ≡ option_map pair_of (find (λ (run : Extent). nat_le at run.place) (free_runs sma.from sma.to (live_blocks ws sma.from)))
+  pub ask_none : (size : ℕ) → size ≡ get_or sma.sizes (v / 2) 0 → size ≡ 0 → None ≡ option_map pair_of (find (λ (run : Extent). nat_le at run.place) (free_runs sma.from sma.to sma.piece (live_blocks ws sma.from)))
   ask_none size is zero = elim first [
     | inl nothing ↦ answer None nothing.0
     | inr found ↦ absurd (omega (arith, size_is size is found.2, found.2))
   ]
 
-  pub ask_some : (size : ℕ) → size ≡ get_or sma.sizes (v / 2) 0 → size ≢ 0 → at ≤ v → Some (v, size) ≡ option_map pair_of (find (λ (run : Extent). nat_le at run.place) (free_runs sma.from sma.to (live_blocks ws sma.from)))
+  pub ask_some : (size : ℕ) → size ≡ get_or sma.sizes (v / 2) 0 → size ≢ 0 → at ≤ v → Some (v, size) ≡ option_map pair_of (find (λ (run : Extent). nat_le at run.place) (free_runs sma.from sma.to sma.piece (live_blocks ws sma.from)))
   ask_some size is some low = elim first [
     | inl nothing ↦
         let zero : v ≡ 0 = nothing.1 in
@@ -188,7 +188,7 @@ module _ {sma : Sma} {ws : List ℕ} {aside : Aside} (ready : IsReady sma ws asi
   ]
 
 -- no gap begins in the last two words
-past_end : (ws : List ℕ) (a : ℕ) (ps : List Piece) (b at : ℕ) → Fill ws a ps b → b ≤ at + 1 → past at ps ≡ None
+past_end : (ws : List ℕ) (a : ℕ) (ps : List Tile) (b at : ℕ) → Fill ws a ps b → b ≤ at + 1 → past at ps ≡ None
 past_end ws a [] b at h near = refl
 past_end ws a (p ∷ ps) b at h near =
     let wide = h.0.enough in
@@ -197,9 +197,9 @@ past_end ws a (p ∷ ps) b at h near =
     elim (cases_Bool p.live) [
       | inl live ↦ past_live at p ps live ∙ rest
       | inr gap ↦
-          past_gap at p ps gap ∙ ap (λ (t : Bool). cond t (Some (piece_extent p)) (past at ps)) (lt-leb at p.place (omega (arith, h.0.place))) ∙ rest
+          past_gap at p ps gap ∙ ap (λ (t : Bool). cond t (Some (tile_extent p)) (past at ps)) (lt-leb at p.place (omega (arith, h.0.place))) ∙ rest
     ]
 
-pub ask_end : {sma : Sma} {ws : List ℕ} {aside : Aside} (ready : IsReady sma ws aside) (at : ℕ) → length ws ≤ at + 1 → None ≡ option_map pair_of (find (λ (run : Extent). nat_le at run.place) (free_runs sma.from sma.to (live_blocks ws sma.from)))
+pub ask_end : {sma : Sma} {ws : List ℕ} {aside : Aside} (ready : IsReady sma ws aside) (at : ℕ) → length ws ≤ at + 1 → None ≡ option_map pair_of (find (λ (run : Extent). nat_le at run.place) (free_runs sma.from sma.to sma.piece (live_blocks ws sma.from)))
 ask_end {sma} {ws} {aside} ready at near =
-    ap (option_map pair_of) (sym (past_end ws sma.from (pieces ws sma.from) (length ws) at ready.formatted.full near) ∙ ap (find (λ (run : Extent). nat_le at run.place)) (sym (free_runs_of (span_of sma) ws aside (filled_of ready))))
+    ap (option_map pair_of) (sym (past_end ws sma.from (tiles ws sma.from) (length ws) at ready.formatted.full near) ∙ ap (find (λ (run : Extent). nat_le at run.place)) (sym (free_runs_of (span_of sma) ws aside (filled_of ready))))

@@ -3,12 +3,12 @@ use Rattle.std.proofs.Common.{◌≡◌, ◌≢◌, inl, inr, ℕ, ◌+◌, ◌-
 use Rattle.std.proofs.lemmas.Bool.{cases_lt}
 use Rattle.std.specs.Prelude.{nat_le}
 use Rattle.std.specs.List.{position}
-use Rattle.max_tree.specs.Halves.{other_half}
+use Rattle.max_tree.specs.Halves.{other_half, MayStand}
 use Rattle.seg_words.specs.Windows.{Aside}
 use Rattle.seg_words.specs.Blocks.{MayStore}
 use Rattle.seg_words.specs.Gaps.{fits}
 use Rattle.sma_blocks.specs.declared.sma.Sma.{Sma}
-use Rattle.sma_blocks.specs.Pieces.{pieces}
+use Rattle.sma_blocks.specs.Tiles.{tiles}
 use Rattle.sma_blocks.specs.Live.{lives, gap_words, live_blocks, with_block, SameBlocks}
 use Rattle.sma_blocks.specs.Index.{size_at, IsIndexed, IsShort}
 use Rattle.sma_blocks.specs.Chain.{AreLinked}
@@ -19,7 +19,7 @@ use Rattle.sma_blocks.proofs.Places.{FitParts}
 use Rattle.sma_blocks.proofs.Taking.{Room, take_ready, take_more, take_same, cut_first}
 use Rattle.sma_blocks.proofs.Finding.{take_found}
 use Rattle.sma_blocks.proofs.Relinking.{IsLastTold, Relinked, relinked, relinked_same, relinked_at, link_inside, link_apart}
-use Rattle.sma_blocks.proofs.Cutting.{inside, size_even, index_inside, rest_inside, rest_alone, take_indexed, take_counted, next_small, take_linked}
+use Rattle.sma_blocks.proofs.Cutting.{inside, size_even, index_inside, rest_inside, rest_stands, take_indexed, take_counted, next_small, take_linked}
 use Rattle.sma_blocks.proofs.Readying.{ready_by}
 
 -- a word that is right already is the same after a store
@@ -33,24 +33,25 @@ may_store_seen ws ws' one two i words aside h =
     subst (λ (a : Aside). MayStore ws' a.windows i) (sym aside) (subst (λ (xs : List ℕ). MayStore xs one.windows i) (sym words) h)
 
 -- an allocator with these fields
-pub same_sma : (s' : Sma) (words : List ℕ) (aside : Aside) (a b c d : ℕ) (e : List ℕ) → s'.from ≡ a → s'.to ≡ b → s'.head ≡ c → s'.free ≡ d → s'.sizes ≡ e → IsReady (record { from = a; to = b; head = c; free = d; sizes = e }) words aside → IsReady s' words aside
-same_sma s' words aside a b c d e ea eb ec ed ee h =
-    let h1 = subst (λ (x : ℕ). IsReady (record { from = x; to = b; head = c; free = d; sizes = e }) words aside) (sym ea) h in
-    let h2 = subst (λ (x : ℕ). IsReady (record { from = s'.from; to = x; head = c; free = d; sizes = e }) words aside) (sym eb) h1 in
-    let h3 = subst (λ (x : ℕ). IsReady (record { from = s'.from; to = s'.to; head = x; free = d; sizes = e }) words aside) (sym ec) h2 in
-    let h4 = subst (λ (x : ℕ). IsReady (record { from = s'.from; to = s'.to; head = s'.head; free = x; sizes = e }) words aside) (sym ed) h3 in
-    subst (λ (x : List ℕ). IsReady (record { from = s'.from; to = s'.to; head = s'.head; free = s'.free; sizes = x }) words aside) (sym ee) h4
+pub same_sma : (s' : Sma) (words : List ℕ) (aside : Aside) (a b p c d : ℕ) (e : List ℕ) → s'.from ≡ a → s'.to ≡ b → s'.piece ≡ p → s'.head ≡ c → s'.free ≡ d → s'.sizes ≡ e → IsReady (record { from = a; to = b; piece = p; head = c; free = d; sizes = e }) words aside → IsReady s' words aside
+same_sma s' words aside a b p c d e ea eb ep ec ed ee h =
+    let h1 = subst (λ (x : ℕ). IsReady (record { from = x; to = b; piece = p; head = c; free = d; sizes = e }) words aside) (sym ea) h in
+    let h2 = subst (λ (x : ℕ). IsReady (record { from = s'.from; to = x; piece = p; head = c; free = d; sizes = e }) words aside) (sym eb) h1 in
+    let hp = subst (λ (x : ℕ). IsReady (record { from = s'.from; to = s'.to; piece = x; head = c; free = d; sizes = e }) words aside) (sym ep) h2 in
+    let h3 = subst (λ (x : ℕ). IsReady (record { from = s'.from; to = s'.to; piece = s'.piece; head = x; free = d; sizes = e }) words aside) (sym ec) hp in
+    let h4 = subst (λ (x : ℕ). IsReady (record { from = s'.from; to = s'.to; piece = s'.piece; head = s'.head; free = x; sizes = e }) words aside) (sym ed) h3 in
+    subst (λ (x : List ℕ). IsReady (record { from = s'.from; to = s'.to; piece = s'.piece; head = s'.head; free = s'.free; sizes = x }) words aside) (sym ee) h4
 
 -- what is known where the index found a number
 pub record Seen (sma : Sma) (ws : List ℕ) (aside : Aside) (n index size : ℕ) : Type 0 where
   pub room : Room (span_of sma) ws aside (2 * index) size n
-  pub none : (b : ℕ) → b < 2 * index → fits sma.from sma.to n (live_blocks ws sma.from) b ≡ false
+  pub none : (b : ℕ) → b < 2 * index → fits sma.from sma.to sma.piece n (live_blocks ws sma.from) b ≡ false
   pub inside_is : 2 * index + size ≤ length ws
   pub even : size % 2 ≡ 0
   pub there : index < length sma.sizes
   pub rest_there : n < size → index + n / 2 < length sma.sizes
   pub some : get_or sma.sizes index 0 ≢ 0
-  pub alone : n < size → other_half (index + n / 2) ≢ index → get_or sma.sizes (other_half (index + n / 2)) 0 ≡ 0
+  pub stands : n < size → other_half (index + n / 2) ≢ index → MayStand (index + n / 2) (size - n) (get_or sma.sizes (other_half (index + n / 2)) 0)
   pub next : slice_index ws (2 * index + 1) ≤ length ws
   pub left : n ≤ sma.free
 
@@ -68,7 +69,7 @@ seen parts sma ws aside n index size found ready first is even some same =
       there = index_inside room sma.sizes index ready.indexed twice;
       rest_there = rest_inside room sma.sizes index ready.indexed twice;
       some = λ e. omega arith;
-      alone = rest_alone room sma.sizes index ready.indexed twice;
+      stands = rest_stands room sma.sizes index ready.indexed twice;
       next = next_small room sma.sizes index ready.indexed twice sma.head ready.linked;
       left = (take_counted room sma.sizes index ready.indexed twice sma.free ready.counted).0;
     }
@@ -88,7 +89,7 @@ last_short old new index size n (Some q) short l =
       λ k past under. short.others k (λ e. omega arith) (λ lt e. omega arith) ∙ l.1 k past under,
     )
 
-pub indexed_along : (one two : List ℕ) (from : ℕ) (numbers : List ℕ) → length two ≡ length one → pieces two from ≡ pieces one from → IsIndexed one from numbers → IsIndexed two from numbers
+pub indexed_along : (one two : List ℕ) (from : ℕ) (numbers : List ℕ) → length two ≡ length one → tiles two from ≡ tiles one from → IsIndexed one from numbers → IsIndexed two from numbers
 indexed_along one two from numbers count same h =
     let room = h.room in
     record { room = omega (arith, count); told = λ i. h.told i ∙ ap (λ ps. size_at ps (i + i)) (sym same) }
@@ -129,10 +130,10 @@ module _ {sma : Sma} {ws : List ℕ} {aside : Aside} {n index size : ℕ} (ready
     pub done_same : SameBlocks ws after sma.from (live_blocks ws sma.from)
     done_same = relinked_same ws mid sma.from sma.sizes index v before (live_blocks ws sma.from) ready.formatted ready.indexed last (λ i t. t) (take_same s.room)
 
-    pub done_ready : (sma' : Sma) → sma'.from ≡ sma.from → sma'.to ≡ sma.to → sma'.head ≡ relinked_head sma.head before v → sma'.free ≡ sma.free - n → sma'.sizes ≡ new → (n < size → v ≡ 2 * index + n) → (size ≤ n → v ≡ slice_index ws (2 * index + 1)) → IsReady sma' after aside
-    done_ready sma' from to head free sizes cut whole =
+    pub done_ready : (sma' : Sma) → sma'.from ≡ sma.from → sma'.to ≡ sma.to → sma'.piece ≡ sma.piece → sma'.head ≡ relinked_head sma.head before v → sma'.free ≡ sma.free - n → sma'.sizes ≡ new → (n < size → v ≡ 2 * index + n) → (size ≤ n → v ≡ slice_index ws (2 * index + 1)) → IsReady sma' after aside
+    done_ready sma' from to piece head free sizes cut whole =
         let linked = take_linked s.room sma.sizes index ready.indexed twice sma.head ready.linked before v last cut whole in
         let counted = (take_counted s.room sma.sizes index ready.indexed twice sma.free ready.counted).1 in
         let indexed : IsIndexed after sma.from new = indexed_along mid after sma.from new moved.count moved.same mid_indexed in
-        let made : IsReady (record { from = sma.from; to = sma.to; head = relinked_head sma.head before v; free = sma.free - n; sizes = new }) after aside = ready_by (record { from = sma.from; to = sma.to; head = relinked_head sma.head before v; free = sma.free - n; sizes = new }) after aside moved.filled indexed (subst (λ ps. AreLinked after (relinked_head sma.head before v) ps 0) (sym moved.same) linked) (counted ∙ ap gap_words (sym moved.same)) in
-        same_sma sma' after aside sma.from sma.to (relinked_head sma.head before v) (sma.free - n) new from to head free sizes made
+        let made : IsReady (record { from = sma.from; to = sma.to; piece = sma.piece; head = relinked_head sma.head before v; free = sma.free - n; sizes = new }) after aside = ready_by (record { from = sma.from; to = sma.to; piece = sma.piece; head = relinked_head sma.head before v; free = sma.free - n; sizes = new }) after aside ready.short ready.even moved.filled indexed (subst (λ ps. AreLinked after (relinked_head sma.head before v) ps 0) (sym moved.same) linked) (counted ∙ ap gap_words (sym moved.same)) in
+        same_sma sma' after aside sma.from sma.to sma.piece (relinked_head sma.head before v) (sma.free - n) new from to piece head free sizes made

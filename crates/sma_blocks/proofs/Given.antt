@@ -7,7 +7,7 @@ use Rattle.seg_words.specs.Windows.{Aside}
 use Rattle.seg_words.specs.Blocks.{MayStore}
 use Rattle.seg_words.specs.Gaps.{is_free, meets}
 use Rattle.sma_blocks.specs.declared.sma.Sma.{Sma}
-use Rattle.sma_blocks.specs.Pieces.{pieces}
+use Rattle.sma_blocks.specs.Tiles.{tiles}
 use Rattle.sma_blocks.specs.Live.{lives, gap_words, live_blocks, without_block, SameBlocks}
 use Rattle.sma_blocks.specs.Index.{IsIndexed, IsJoined}
 use Rattle.sma_blocks.specs.Chain.{AreLinked}
@@ -66,7 +66,7 @@ merged_one : {sma : Sma} {ws : List ℕ} {aside : Aside} {at size first last : �
 merged_one {sma} {ws} {aside} {at} {size} {first} {last} ready h q next g =
     let whole = gap_fill ws sma.from (q + q) (get_or sma.sizes q 0) g in
     let wide = whole.0.enough in
-    let end : q + q + get_or sma.sizes q 0 ≤ length ws = Fill-le ws (q + q + get_or sma.sizes q 0) (pieces ws (q + q + get_or sma.sizes q 0)) (length ws) whole.1 in
+    let end : q + q + get_or sma.sizes q 0 ≤ length ws = Fill-le ws (q + q + get_or sma.sizes q 0) (tiles ws (q + q + get_or sma.sizes q 0)) (length ws) whole.1 in
     let o = around_order h in
     let i = 2 * q + 1 in
     let old : MayStore ws aside.windows i = gap_apart (filled_of ready) g i (omega arith) (omega arith) in
@@ -112,8 +112,8 @@ module _ {sma : Sma} {ws : List ℕ} {aside : Aside} {at size first last : ℕ} 
   ]
 
   pub gives : (sma' : Sma) (ws' : List ℕ) → (at + size < last → next ≡ slice_index ws ((at + size) + 1)) → (last ≤ at + size → first < at → next ≡ slice_index ws (first + 1)) → (last ≤ at + size → at ≤ first → next ≡ link_before ws sma.head before)
-      → sma'.from ≡ sma.from → sma'.to ≡ sma.to → sma'.free ≡ sma.free + size → sma'.sizes ≡ new → Ends sma ws before at first last next sma'.head ws' → Gives sma sma' ws ws' aside at
-  gives sma' ws' after touching alone from to free sizes ends =
+      → sma'.from ≡ sma.from → sma'.to ≡ sma.to → sma'.piece ≡ sma.piece → sma'.free ≡ sma.free + size → sma'.sizes ≡ new → Ends sma ws before at first last next sma'.head ws' → Gives sma sma' ws ws' aside at
+  gives sma' ws' after touching alone from to piece free sizes ends =
       let p = parts h sma.sizes ready.indexed next sma.head ready.linked in
       let is = is_next p after touching alone in
       let counted = (give_counted h sma.sizes ready.indexed next sma.free ready.counted).0 in
@@ -125,21 +125,21 @@ module _ {sma : Sma} {ws : List ℕ} {aside : Aside} {at size first last : ℕ} 
             let moved = relinked (span_of sma) mid aside new (at / 2) at before (give_ready h next) mid_indexed (told_new same) in
             let indexed = indexed_along mid end sma.from new moved.count moved.same mid_indexed in
             let linked = linked_apart h sma.sizes ready.indexed next sma.head p before is same told in
-            let made : IsReady (record { from = sma.from; to = sma.to; head = relinked_head sma.head before at; free = sma.free + size; sizes = new }) end aside = ready_by (record { from = sma.from; to = sma.to; head = relinked_head sma.head before at; free = sma.free + size; sizes = new }) end aside moved.filled indexed (subst (λ ps. AreLinked end (relinked_head sma.head before at) ps 0) (sym moved.same) linked) (counted ∙ ap gap_words (sym moved.same)) in
+            let made : IsReady (record { from = sma.from; to = sma.to; piece = sma.piece; head = relinked_head sma.head before at; free = sma.free + size; sizes = new }) end aside = ready_by (record { from = sma.from; to = sma.to; piece = sma.piece; head = relinked_head sma.head before at; free = sma.free + size; sizes = new }) end aside ready.short ready.even moved.filled indexed (subst (λ ps. AreLinked end (relinked_head sma.head before at) ps 0) (sym moved.same) linked) (counted ∙ ap gap_words (sym moved.same)) in
             let done : Gives sma sma' ws end aside at = record {
               blocks = ap lives moved.same ∙ give_less h next;
               same = relinked_same ws mid sma.from sma.sizes (at / 2) at before (without_block at (live_blocks ws sma.from)) ready.formatted ready.indexed told (λ i taken. part_taken at i (live_blocks ws sma.from) taken) (give_same h next);
-              ready = same_sma sma' end aside sma.from sma.to (relinked_head sma.head before at) (sma.free + size) new from to e.1 free sizes made;
+              ready = same_sma sma' end aside sma.from sma.to sma.piece (relinked_head sma.head before at) (sma.free + size) new from to piece e.1 free sizes made;
             } in
             subst (λ (xs : List ℕ). Gives sma sma' ws xs aside at) (sym e.0) done
         | inr other ↦
             let e = ends.touching other in
             let linked = linked_touching h sma.sizes ready.indexed next sma.head p is (less first at o.0 other) in
-            let made : IsReady (record { from = sma.from; to = sma.to; head = sma.head; free = sma.free + size; sizes = new }) mid aside = ready_by (record { from = sma.from; to = sma.to; head = sma.head; free = sma.free + size; sizes = new }) mid aside (give_ready h next) mid_indexed linked counted in
+            let made : IsReady (record { from = sma.from; to = sma.to; piece = sma.piece; head = sma.head; free = sma.free + size; sizes = new }) mid aside = ready_by (record { from = sma.from; to = sma.to; piece = sma.piece; head = sma.head; free = sma.free + size; sizes = new }) mid aside ready.short ready.even (give_ready h next) mid_indexed linked counted in
             let done : Gives sma sma' ws mid aside at = record {
               blocks = give_less h next;
               same = give_same h next;
-              ready = same_sma sma' mid aside sma.from sma.to sma.head (sma.free + size) new from to e.1 free sizes made;
+              ready = same_sma sma' mid aside sma.from sma.to sma.piece sma.head (sma.free + size) new from to piece e.1 free sizes made;
             } in
             subst (λ (xs : List ℕ). Gives sma sma' ws xs aside at) (sym e.0) done
       ]

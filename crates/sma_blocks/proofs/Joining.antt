@@ -1,96 +1,69 @@
 -- The index, the chain and the count after a block was given.
 use Rattle.std.proofs.Common.{◌≡◌, ◌≢◌, ◌⊎◌, inl, inr, ℕ, ◌+◌, ◌-◌, ◌/◌, ◌%◌, ◌<◌, ◌≤◌, Bool, true, false, cond, List, [], ◌∷◌, ◌++◌, length, get_or, slice_index, Option, MatchBool, refl, sym, ap, ◌∙◌, subst, arith}
-use Rattle.std.proofs.lemmas.Bool.{cases_lt, cases_eq, false≢true}
-use Rattle.max_tree.specs.Halves.{other_half}
+use Rattle.std.proofs.lemmas.Bool.{cases_lt, cases_eq}
+use Rattle.max_tree.specs.Halves.{other_half, MayStand}
 use Rattle.seg_words.specs.Windows.{Aside}
-use Rattle.sma_blocks.specs.Pieces.{Piece, pieces, Fill, gaps_touch, IsFormatted}
-use Rattle.sma_blocks.specs.Live.{lives, gap_words, live_blocks}
+use Rattle.sma_blocks.specs.Tiles.{Tile, tiles, Fill}
+use Rattle.sma_blocks.specs.Live.{lives, gap_words}
 use Rattle.sma_blocks.specs.Index.{here, size_at, IsIndexed, IsJoined}
 use Rattle.sma_blocks.specs.Chain.{AreLinked}
-use Rattle.sma_blocks.specs.Walk.{ends_in_gap, merged_words, link_before, relinked_words, relinked_head}
+use Rattle.sma_blocks.specs.Walk.{merged_words, link_before, relinked_words, relinked_head}
 use Rattle.sma_blocks.proofs.Spans.{Span}
-use Rattle.sma_blocks.proofs.Filling.{Fill-le, Fill-same, Fill-append, pieces-filled}
+use Rattle.sma_blocks.proofs.Filling.{Fill-le, Fill-same, Fill-append, tiles-filled}
 use Rattle.sma_blocks.proofs.Places.{Fill-even}
-use Rattle.sma_blocks.proofs.Lives.{piece_extent}
+use Rattle.sma_blocks.proofs.Lives.{tile_extent}
 use Rattle.sma_blocks.proofs.Storing.{merged_count, merged_link, merged_other}
-use Rattle.sma_blocks.proofs.Changes.{change_pieces, change_full}
-use Rattle.sma_blocks.proofs.Merging.{merged_front, merged_back, merged_after, merged_gap, merged_live, live_after_gap}
-use Rattle.sma_blocks.proofs.Giving.{Around, block, gap, around_fill, around_pieces, around_order, give_change, give_merged}
+use Rattle.sma_blocks.proofs.Changes.{change_tiles, change_full}
+use Rattle.sma_blocks.proofs.Giving.{Around, block, gap, around_fill, around_tiles, around_order, give_change}
 use Rattle.sma_blocks.proofs.Finding.{here_other, here_live, here_gap, size_at-append, size_outside}
-use Rattle.sma_blocks.proofs.Counting.{gap_words-append, gap_words-free, gap_words-le, lone_half}
+use Rattle.sma_blocks.proofs.Counting.{gap_words-append, gap_words-free, gap_words-le, pair_stands}
 use Rattle.sma_blocks.proofs.Linking.{link_split, link_join, link_between}
 use Rattle.sma_blocks.proofs.Relinking.{IsLastTold, IsLastOf, last_of, relinked_at, relinked_chain, link_is}
 use Rattle.sma_blocks.proofs.Cutting.{size_at-three}
 
-pub free_head : (p : Piece) (ps : List Piece) → lives (p ∷ ps) ≡ [] → (p.live ≡ false) × (lives ps ≡ [])
+pub free_head : (p : Tile) (ps : List Tile) → lives (p ∷ ps) ≡ [] → (p.live ≡ false) × (lives ps ≡ [])
 free_head p ps h = go p.live h
   where
-    go : (kind : Bool) → cond kind (piece_extent p ∷ lives ps) (lives ps) ≡ [] → (kind ≡ false) × (lives ps ≡ [])
+    go : (kind : Bool) → cond kind (tile_extent p ∷ lives ps) (lives ps) ≡ [] → (kind ≡ false) × (lives ps ≡ [])
     go true e = cc
     go false e = (refl, e)
 
 -- gaps side by side that do not touch are one at most
-pub lone : (ws : List ℕ) (a : ℕ) (ps : List Piece) (b q : ℕ) → Fill ws a ps b → lives ps ≡ [] → gaps_touch false ps ≡ false → q ≢ a → size_at ps q ≡ 0
-lone ws a [] b q h free touch other = refl
-lone ws a (p ∷ []) b q h free touch other =
+pub lone : (ws : List ℕ) (a : ℕ) (ps : List Tile) (b q : ℕ) → Fill ws a ps b → length ps ≤ 1 → q ≢ a → size_at ps q ≡ 0
+lone ws a [] b q h one other = refl
+lone ws a (p ∷ []) b q h one other =
     let place = h.0.place in omega (arith, here_other p q (λ e. other (omega arith)))
-lone ws a (p ∷ r ∷ ps) b q h free touch other =
-    let first = free_head p (r ∷ ps) free in
-    let second = free_head r ps first.1 in
-    let apart = merged_gap false p (r ∷ ps) first.0 touch in
-    absurd (false≢true (sym second.0 ∙ live_after_gap r ps apart.1))
+lone ws a (p ∷ r ∷ ps) b q h one other = absurd (omega arith)
 
 -- words that are one gap
-pub one_gap : (ws : List ℕ) (a : ℕ) (ps : List Piece) (b q : ℕ) → Fill ws a ps b → lives ps ≡ [] → gaps_touch false ps ≡ false → a < b → q ≡ a → size_at ps q ≡ b - a
-one_gap ws a [] b q h free touch some is = absurd (omega (arith, h))
-one_gap ws a (p ∷ []) b q h free touch some is =
+pub one_gap : (ws : List ℕ) (a : ℕ) (ps : List Tile) (b q : ℕ) → Fill ws a ps b → lives ps ≡ [] → length ps ≤ 1 → a < b → q ≡ a → size_at ps q ≡ b - a
+one_gap ws a [] b q h free one some is = absurd (omega (arith, h))
+one_gap ws a (p ∷ []) b q h free one some is =
     let place = h.0.place in
     let first = free_head p [] free in
     let end : a + p.size ≡ b = h.1 in
     omega (arith, here_gap p q (place ∙ sym is) first.0)
-one_gap ws a (p ∷ r ∷ ps) b q h free touch some is =
-    let first = free_head p (r ∷ ps) free in
-    let second = free_head r ps first.1 in
-    let apart = merged_gap false p (r ∷ ps) first.0 touch in
-    absurd (false≢true (sym second.0 ∙ live_after_gap r ps apart.1))
+one_gap ws a (p ∷ r ∷ ps) b q h free one some is = absurd (omega arith)
 
 -- the chain over words that are one gap
-pub lone_link : (ws : List ℕ) (a : ℕ) (ps : List Piece) (b f t : ℕ) → Fill ws a ps b → lives ps ≡ [] → gaps_touch false ps ≡ false → AreLinked ws f ps t → a < b → (f ≡ a) × (slice_index ws (a + 1) ≡ t)
-lone_link ws a [] b f t h free touch k some = absurd (omega (arith, h))
-lone_link ws a (p ∷ []) b f t h free touch k some =
+pub lone_link : (ws : List ℕ) (a : ℕ) (ps : List Tile) (b f t : ℕ) → Fill ws a ps b → lives ps ≡ [] → length ps ≤ 1 → AreLinked ws f ps t → a < b → (f ≡ a) × (slice_index ws (a + 1) ≡ t)
+lone_link ws a [] b f t h free one k some = absurd (omega (arith, h))
+lone_link ws a (p ∷ []) b f t h free one k some =
     let first = free_head p [] free in
     let place = h.0.place in
     let j : (f ≡ p.place) × (slice_index ws (p.place + 1) ≡ t) = subst (λ (kind : Bool). MatchBool kind (f ≡ t) ((f ≡ p.place) × (slice_index ws (p.place + 1) ≡ t))) first.0 k in
     (j.0 ∙ place, ap (λ (x : ℕ). slice_index ws (x + 1)) (sym place) ∙ j.1)
-lone_link ws a (p ∷ r ∷ ps) b f t h free touch k some =
-    let first = free_head p (r ∷ ps) free in
-    let second = free_head r ps first.1 in
-    let apart = merged_gap false p (r ∷ ps) first.0 touch in
-    absurd (false≢true (sym second.0 ∙ live_after_gap r ps apart.1))
+lone_link ws a (p ∷ r ∷ ps) b f t h free one k some = absurd (omega arith)
 
 -- and over no words
-pub empty_link : (ws : List ℕ) (a : ℕ) (ps : List Piece) (b f t : ℕ) → Fill ws a ps b → AreLinked ws f ps t → b ≤ a → f ≡ t
+pub empty_link : (ws : List ℕ) (a : ℕ) (ps : List Tile) (b f t : ℕ) → Fill ws a ps b → AreLinked ws f ps t → b ≤ a → f ≡ t
 empty_link ws a [] b f t h k none = k
 empty_link ws a (p ∷ ps) b f t h k none = absurd (omega (arith, Fill-le ws (a + p.size) ps b h.1, h.0.enough))
 
--- the index of words without a live block
-pub format_indexed : (ws : List ℕ) (from : ℕ) (old new : List ℕ) → IsFormatted ws from → live_blocks ws from ≡ [] → from + 2 ≤ length ws → length ws ≤ length new + length new → ((i : ℕ) → get_or old i 0 ≡ 0) → get_or new (from / 2) 0 ≡ length ws - from → ((i : ℕ) → i ≢ from / 2 → get_or new i 0 ≡ get_or old i 0) → IsIndexed ws from new
-format_indexed ws from old new formatted empty room enough zeros there others =
-    let even = formatted.even in
-    record {
-      room = enough;
-      told = λ i. elim (cases_eq i (from / 2)) [
-        | inl is ↦
-            ap (λ (k : ℕ). get_or new k 0) is ∙ there ∙ sym (one_gap ws from (pieces ws from) (length ws) (i + i) formatted.full empty formatted.merged (omega arith) (omega arith))
-        | inr apart ↦
-            others i apart ∙ zeros i ∙ sym (lone ws from (pieces ws from) (length ws) (i + i) formatted.full empty formatted.merged (λ e. apart (omega arith)))
-      ];
-    }
-
 module _ {span : Span} {ws : List ℕ} {aside : Aside} {at size first last : ℕ} (h : Around span ws aside at size first last) (numbers : List ℕ) (indexed : IsIndexed ws span.from numbers) (next : ℕ) where
-  old_at : (q : ℕ) → size_at (pieces ws span.from) q ≡ size_at h.before.front q + size_at h.before.tail q + size_at h.after.tail q + size_at h.after.rest q
+  old_at : (q : ℕ) → size_at (tiles ws span.from) q ≡ size_at h.before.front q + size_at h.before.tail q + size_at h.after.tail q + size_at h.after.rest q
   old_at q =
-      ap (λ ps. size_at ps q) (around_pieces h) ∙ omega (
+      ap (λ ps. size_at ps q) (around_tiles h) ∙ omega (
         arith,
         size_at-append h.before.front (h.before.tail ++ (block at size ∷ (h.after.tail ++ h.after.rest))) q,
         size_at-append h.before.tail (block at size ∷ (h.after.tail ++ h.after.rest)) q,
@@ -98,9 +71,9 @@ module _ {span : Span} {ws : List ℕ} {aside : Aside} {at size first last : ℕ
         here_live (block at size) q refl,
       )
 
-  new_at : (q : ℕ) → size_at (pieces (merged_words ws first last next) span.from) q ≡ size_at h.before.front q + here (gap first last) q + size_at h.after.rest q
+  new_at : (q : ℕ) → size_at (tiles (merged_words ws first last next) span.from) q ≡ size_at h.before.front q + here (gap first last) q + size_at h.after.rest q
   new_at q =
-      ap (λ ps. size_at ps q) (change_pieces (give_change h next)) ∙ omega (arith, size_at-three h.before.front (gap first last ∷ []) h.after.rest q)
+      ap (λ ps. size_at ps q) (change_tiles (give_change h next)) ∙ omega (arith, size_at-three h.before.front (gap first last ∷ []) h.after.rest q)
 
   order : (first ≤ at) × (at + size ≤ last) × (last ≤ length ws) × (2 ≤ size)
   order = around_order h
@@ -126,26 +99,12 @@ module _ {span : Span} {ws : List ℕ} {aside : Aside} {at size first last : ℕ
   pub last_even : last % 2 ≡ 0
   last_even = Fill-even ws (at + size) h.after.tail last h.after.between end_even
 
-  whole : gaps_touch false (h.before.front ++ (h.before.tail ++ (block at size ∷ (h.after.tail ++ h.after.rest)))) ≡ false
-  whole = sym (ap (gaps_touch false) (around_pieces h)) ∙ h.ready.formatted.merged
-
-  behind : gaps_touch false (h.before.tail ++ (block at size ∷ (h.after.tail ++ h.after.rest))) ≡ false
-  behind =
-      merged_after (ends_in_gap false h.before.front) (h.before.tail ++ (block at size ∷ (h.after.tail ++ h.after.rest))) (merged_back h.before.front (h.before.tail ++ (block at size ∷ (h.after.tail ++ h.after.rest))) whole)
-
-  tail_merged : gaps_touch false h.before.tail ≡ false
-  tail_merged = merged_front h.before.tail (block at size ∷ (h.after.tail ++ h.after.rest)) behind
-
-  after_merged : gaps_touch false h.after.tail ≡ false
-  after_merged =
-      merged_front h.after.tail h.after.rest (merged_live (ends_in_gap false h.before.tail) (block at size) (h.after.tail ++ h.after.rest) refl (merged_back h.before.tail (block at size ∷ (h.after.tail ++ h.after.rest)) behind))
-
   tail_at : (q : ℕ) → q ≢ first → size_at h.before.tail q ≡ 0
-  tail_at q other = lone ws first h.before.tail at q h.before.between h.before.free tail_merged other
+  tail_at q other = lone ws first h.before.tail at q h.before.between h.before.one other
 
   after_at : (q : ℕ) → (at + size < last → q ≢ at + size) → size_at h.after.tail q ≡ 0
   after_at q other = elim (cases_lt (at + size) last) [
-    | inl lt ↦ lone ws (at + size) h.after.tail last q h.after.between h.after.free after_merged (other lt)
+    | inl lt ↦ lone ws (at + size) h.after.tail last q h.after.between h.after.one (other lt)
     | inr ge ↦ elim (cases_lt q (at + size)) [
       | inl low ↦ size_outside ws (at + size) h.after.tail last q h.after.between (inl low)
       | inr high ↦ size_outside ws (at + size) h.after.tail last q h.after.between (inr (omega arith))
@@ -171,12 +130,12 @@ module _ {span : Span} {ws : List ℕ} {aside : Aside} {at size first last : ℕ
       let even = end_even in
       let q = at + size in
       let place : (at + size) / 2 + (at + size) / 2 ≡ at + size = omega arith in
-      let told : get_or numbers ((at + size) / 2) 0 ≡ size_at (pieces ws span.from) q = indexed.told ((at + size) / 2) ∙ ap (λ (x : ℕ). size_at (pieces ws span.from) x) place in
-      let gap_size : size_at h.after.tail q ≡ last - (at + size) = one_gap ws (at + size) h.after.tail last q h.after.between h.after.free after_merged lt refl in
+      let told : get_or numbers ((at + size) / 2) 0 ≡ size_at (tiles ws span.from) q = indexed.told ((at + size) / 2) ∙ ap (λ (x : ℕ). size_at (tiles ws span.from) x) place in
+      let gap_size : size_at h.after.tail q ≡ last - (at + size) = one_gap ws (at + size) h.after.tail last q h.after.between h.after.free h.after.one lt refl in
       omega (arith, old_at q)
 
   -- at the new gap
-  new_first : (i : ℕ) → i ≡ first / 2 → size_at (pieces (merged_words ws first last next) span.from) (i + i) ≡ last - first
+  new_first : (i : ℕ) → i ≡ first / 2 → size_at (tiles (merged_words ws first last next) span.from) (i + i) ≡ last - first
   new_first i is =
       let even = first_even in
       let o = order in
@@ -184,29 +143,31 @@ module _ {span : Span} {ws : List ℕ} {aside : Aside} {at size first last : ℕ
       omega (arith, new_at (i + i), front_at (i + i) (omega arith), rest_at (i + i) (omega (arith, o.0, o.1, o.3)), here_gap (gap first last) (i + i) (sym place) refl)
 
   -- at another place where the sizes stay
-  new_same : (i : ℕ) → i ≢ first / 2 → (at + size < last → i ≢ (at + size) / 2) → get_or numbers i 0 ≡ size_at (pieces (merged_words ws first last next) span.from) (i + i)
+  new_same : (i : ℕ) → i ≢ first / 2 → (at + size < last → i ≢ (at + size) / 2) → get_or numbers i 0 ≡ size_at (tiles (merged_words ws first last next) span.from) (i + i)
   new_same i other apart =
       let even = first_even in
       let end = end_even in
       let told = indexed.told i in
       omega (arith, old_at (i + i), new_at (i + i), tail_at (i + i) (λ e. other (omega arith)), after_at (i + i) (λ lt e. apart lt (omega arith)), here_other (gap first last) (i + i) (λ e. other (omega arith)))
 
-  new_gone : at + size < last → (i : ℕ) → i ≡ (at + size) / 2 → size_at (pieces (merged_words ws first last next) span.from) (i + i) ≡ 0
+  new_gone : at + size < last → (i : ℕ) → i ≡ (at + size) / 2 → size_at (tiles (merged_words ws first last next) span.from) (i + i) ≡ 0
   new_gone lt i is =
       let o = order in
       let even = end_even in
       omega (arith, new_at (i + i), front_at (i + i) (omega (arith, o.0)), rest_at (i + i) (omega arith), here_other (gap first last) (i + i) (λ e. omega (arith, o.0, o.3)))
 
   -- the other number of the pair in which the new gap begins
-  pub first_alone : (at + size < last → other_half (first / 2) ≢ (at + size) / 2) → get_or numbers (other_half (first / 2)) 0 ≡ 0
-  first_alone other =
+  pub first_stands : (at + size < last → other_half (first / 2) ≢ (at + size) / 2) → MayStand (first / 2) (last - first) (get_or numbers (other_half (first / 2)) 0)
+  first_stands other =
       let i = first / 2 in
       let o = order in
       let new = merged_words ws first last next in
-      let some : size_at (pieces new span.from) (i + i) ≢ 0 = λ e. (let r = new_first i refl in omega (arith, o.0, o.1, o.3)) in
-      let all = change_pieces (give_change h next) in
-      let full : Fill new span.from (pieces new span.from) (length new) = subst (λ ps. Fill new span.from ps (length new)) (sym all) (change_full (give_change h next)) in
-      new_same (other_half i) (λ e. omega arith) other ∙ lone_half new span.from (pieces new span.from) (length new) i full (ap (gaps_touch false) all ∙ give_merged h) some
+      let some : size_at (tiles new span.from) (i + i) ≢ 0 = λ e. (let r = new_first i refl in omega (arith, o.0, o.1, o.3)) in
+      let all = change_tiles (give_change h next) in
+      let full : Fill new span.from (tiles new span.from) (length new) = subst (λ ps. Fill new span.from ps (length new)) (sym all) (change_full (give_change h next)) in
+      let same : size_at (tiles new span.from) (other_half i + other_half i) ≡ get_or numbers (other_half i) 0 = sym (new_same (other_half i) (λ e. omega arith) other) in
+      subst (λ (x : ℕ). MayStand i x (get_or numbers (other_half i) 0)) (new_first i refl)
+      (subst (λ (x : ℕ). MayStand i (size_at (tiles new span.from) (i + i)) x) same (pair_stands new span.from (tiles new span.from) (length new) i full some))
 
   pub give_indexed : (new : List ℕ) → IsJoined numbers new first (at + size) last → IsIndexed (merged_words ws first last next) span.from new
   give_indexed new joined =
@@ -229,22 +190,22 @@ module _ {span : Span} {ws : List ℕ} {aside : Aside} {at size first last : ℕ
         ];
       }
 
-  pub give_counted : (free : ℕ) → free ≡ gap_words (pieces ws span.from) → (free + size ≡ gap_words (pieces (merged_words ws first last next) span.from)) × (free + size ≤ length ws)
+  pub give_counted : (free : ℕ) → free ≡ gap_words (tiles ws span.from) → (free + size ≡ gap_words (tiles (merged_words ws first last next) span.from)) × (free + size ≤ length ws)
   give_counted free counted =
       let o = order in
-      let old : gap_words (pieces ws span.from) ≡ gap_words h.before.front + (gap_words h.before.tail + gap_words (h.after.tail ++ h.after.rest)) = ap gap_words (around_pieces h) ∙ gap_words-append h.before.front (h.before.tail ++ (block at size ∷ (h.after.tail ++ h.after.rest))) ∙ ap (λ (x : ℕ). gap_words h.before.front + x) (gap_words-append h.before.tail (block at size ∷ (h.after.tail ++ h.after.rest))) in
-      let all = change_pieces (give_change h next) in
-      let new : gap_words (pieces (merged_words ws first last next) span.from) ≡ gap_words h.before.front + ((last - first) + gap_words h.after.rest) = ap gap_words all ∙ gap_words-append h.before.front (gap first last ∷ h.after.rest) in
-      let same : free + size ≡ gap_words (pieces (merged_words ws first last next) span.from) = omega (arith, gap_words-append h.after.tail h.after.rest, gap_words-free ws first h.before.tail at h.before.between h.before.free, gap_words-free ws (at + size) h.after.tail last h.after.between h.after.free, o.0, o.1) in
+      let old : gap_words (tiles ws span.from) ≡ gap_words h.before.front + (gap_words h.before.tail + gap_words (h.after.tail ++ h.after.rest)) = ap gap_words (around_tiles h) ∙ gap_words-append h.before.front (h.before.tail ++ (block at size ∷ (h.after.tail ++ h.after.rest))) ∙ ap (λ (x : ℕ). gap_words h.before.front + x) (gap_words-append h.before.tail (block at size ∷ (h.after.tail ++ h.after.rest))) in
+      let all = change_tiles (give_change h next) in
+      let new : gap_words (tiles (merged_words ws first last next) span.from) ≡ gap_words h.before.front + ((last - first) + gap_words h.after.rest) = ap gap_words all ∙ gap_words-append h.before.front (gap first last ∷ h.after.rest) in
+      let same : free + size ≡ gap_words (tiles (merged_words ws first last next) span.from) = omega (arith, gap_words-append h.after.tail h.after.rest, gap_words-free ws first h.before.tail at h.before.between h.before.free, gap_words-free ws (at + size) h.after.tail last h.after.between h.after.free, o.0, o.1) in
       let words = merged_words ws first last next in
-      let full : Fill words span.from (pieces words span.from) (length words) = subst (λ ps. Fill words span.from ps (length words)) (sym all) (change_full (give_change h next)) in
-      (same, omega (arith, gap_words-le words span.from (pieces words span.from) (length words) full, merged_count ws first last next))
+      let full : Fill words span.from (tiles words span.from) (length words) = subst (λ ps. Fill words span.from ps (length words)) (sym all) (change_full (give_change h next)) in
+      (same, omega (arith, gap_words-le words span.from (tiles words span.from) (length words) full, merged_count ws first last next))
 
   -- the last gap before the block, where the gap that is made begins with it
   pub give_last : (before : Option ℕ) → first ≡ at → IsLastTold numbers (at / 2) before → IsLastOf h.before.front before
   give_last before is told =
       let low : Fill ws span.from h.before.front at = subst (λ (x : ℕ). Fill ws span.from h.before.front x) is h.before.before in
-      last_of ws span.from h.before.front at (pieces ws at) numbers before h.ready.formatted.even low h.before.after (pieces-filled ws span.from (h.before.front ++ pieces ws at) (Fill-append ws span.from h.before.front at (pieces ws at) (length ws) low h.before.after)) indexed told
+      last_of ws span.from h.before.front at (tiles ws at) numbers before h.ready.formatted.even low h.before.after (tiles-filled ws span.from (h.before.front ++ tiles ws at) (Fill-append ws span.from h.before.front at (tiles ws at) (length ws) low h.before.after)) indexed told
 
   -- the chain in its parts
   pub record Parts (head : ℕ) : Type 0 where
@@ -256,9 +217,9 @@ module _ {span : Span} {ws : List ℕ} {aside : Aside} {at size first last : ℕ
     pub after : AreLinked ws two h.after.tail three
     pub rest : AreLinked ws three h.after.rest 0
 
-  pub parts : (head : ℕ) → AreLinked ws head (pieces ws span.from) 0 → Parts head
+  pub parts : (head : ℕ) → AreLinked ws head (tiles ws span.from) 0 → Parts head
   parts head linked =
-      let all : AreLinked ws head (h.before.front ++ (h.before.tail ++ (block at size ∷ (h.after.tail ++ h.after.rest)))) 0 = subst (λ ps. AreLinked ws head ps 0) (around_pieces h) linked in
+      let all : AreLinked ws head (h.before.front ++ (h.before.tail ++ (block at size ∷ (h.after.tail ++ h.after.rest)))) 0 = subst (λ ps. AreLinked ws head ps 0) (around_tiles h) linked in
       let s = link_split ws head h.before.front (h.before.tail ++ (block at size ∷ (h.after.tail ++ h.after.rest))) 0 all in
       let t = link_split ws s.middle h.before.tail (block at size ∷ (h.after.tail ++ h.after.rest)) 0 s.two in
       let u = link_split ws t.middle h.after.tail h.after.rest 0 t.two in
@@ -267,11 +228,11 @@ module _ {span : Span} {ws : List ℕ} {aside : Aside} {at size first last : ℕ
   -- what the next gap's place is read from
   pub next_after : (head : ℕ) (p : Parts head) → at + size < last → slice_index ws ((at + size) + 1) ≡ p.three
   next_after head p lt =
-      (lone_link ws (at + size) h.after.tail last p.two p.three h.after.between h.after.free after_merged p.after lt).1
+      (lone_link ws (at + size) h.after.tail last p.two p.three h.after.between h.after.free h.after.one p.after lt).1
 
   pub next_before : (head : ℕ) (p : Parts head) → last ≤ at + size → first < at → slice_index ws (first + 1) ≡ p.three
   next_before head p ge lt =
-      (lone_link ws first h.before.tail at p.one p.two h.before.between h.before.free tail_merged p.tail lt).1 ∙ empty_link ws (at + size) h.after.tail last p.two p.three h.after.between p.after ge
+      (lone_link ws first h.before.tail at p.one p.two h.before.between h.before.free h.before.one p.tail lt).1 ∙ empty_link ws (at + size) h.after.tail last p.two p.three h.after.between p.after ge
 
   pub next_alone : (head : ℕ) (p : Parts head) (before : Option ℕ) → last ≤ at + size → first ≡ at → IsLastTold numbers (at / 2) before → link_before ws head before ≡ p.three
   next_alone head p before ge is told =
@@ -283,19 +244,19 @@ module _ {span : Span} {ws : List ℕ} {aside : Aside} {at size first last : ℕ
       merged_other ws first last next i (λ e. elim out [ inl l ↦ omega arith | inr r ↦ omega (arith, o.0, o.1, o.3) ]) (λ e. elim out [ inl l ↦ omega arith | inr r ↦ omega (arith, o.0, o.1, o.3) ])
 
   -- the chain where the gap before touches
-  pub linked_touching : (head : ℕ) (p : Parts head) → next ≡ p.three → first < at → AreLinked (merged_words ws first last next) head (pieces (merged_words ws first last next) span.from) 0
+  pub linked_touching : (head : ℕ) (p : Parts head) → next ≡ p.three → first < at → AreLinked (merged_words ws first last next) head (tiles (merged_words ws first last next) span.from) 0
   linked_touching head p is lt =
       let o = order in
       let new = merged_words ws first last next in
-      let touch : p.one ≡ first = (lone_link ws first h.before.tail at p.one p.two h.before.between h.before.free tail_merged p.tail lt).0 in
+      let touch : p.one ≡ first = (lone_link ws first h.before.tail at p.one p.two h.before.between h.before.free h.before.one p.tail lt).0 in
       let front : AreLinked new head h.before.front first = link_between ws new span.from h.before.front first head first h.before.before (λ i low high. same_out i (inl high)) (subst (λ (x : ℕ). AreLinked ws head h.before.front x) touch p.front) in
       let rest : AreLinked new next h.after.rest 0 = link_between ws new last h.after.rest (length ws) next 0 h.after.after (λ i low high. same_out i (inr low)) (subst (λ (x : ℕ). AreLinked ws x h.after.rest 0) (sym is) p.rest) in
       let word : slice_index new (first + 1) ≡ next = merged_link ws first last next (omega (arith, o.0, o.1, o.2, o.3)) in
       let middle : AreLinked new first (gap first last ∷ h.after.rest) 0 = (refl, subst (λ (x : ℕ). AreLinked new x h.after.rest 0) (sym word) rest) in
-      subst (λ ps. AreLinked new head ps 0) (sym (change_pieces (give_change h next))) (link_join new head h.before.front first (gap first last ∷ h.after.rest) 0 front middle)
+      subst (λ ps. AreLinked new head ps 0) (sym (change_tiles (give_change h next))) (link_join new head h.before.front first (gap first last ∷ h.after.rest) 0 front middle)
 
   -- and where it does not
-  pub linked_apart : (head : ℕ) (p : Parts head) (before : Option ℕ) → next ≡ p.three → first ≡ at → IsLastTold numbers (at / 2) before → AreLinked (relinked_words (merged_words ws first last next) before at) (relinked_head head before at) (pieces (merged_words ws first last next) span.from) 0
+  pub linked_apart : (head : ℕ) (p : Parts head) (before : Option ℕ) → next ≡ p.three → first ≡ at → IsLastTold numbers (at / 2) before → AreLinked (relinked_words (merged_words ws first last next) before at) (relinked_head head before at) (tiles (merged_words ws first last next) span.from) 0
   linked_apart head p before is here_is told =
       let o = order in
       let even = at_even in
@@ -308,4 +269,4 @@ module _ {span : Span} {ws : List ℕ} {aside : Aside} {at size first last : ℕ
       let rest : AreLinked new next h.after.rest 0 = link_between ws new last h.after.rest (length ws) next 0 h.after.after (λ i from to. later i (omega (arith, o.0, o.1)) ∙ same_out i (inr from)) (subst (λ (x : ℕ). AreLinked ws x h.after.rest 0) (sym is) p.rest) in
       let word : slice_index new (first + 1) ≡ next = later (first + 1) (omega arith) ∙ merged_link ws first last next (omega (arith, o.0, o.1, o.2, o.3)) in
       let middle : AreLinked new at (gap first last ∷ h.after.rest) 0 = (sym here_is, subst (λ (x : ℕ). AreLinked new x h.after.rest 0) (sym word) rest) in
-      subst (λ ps. AreLinked new (relinked_head head before at) ps 0) (sym (change_pieces (give_change h next))) (link_join new (relinked_head head before at) h.before.front at (gap first last ∷ h.after.rest) 0 front middle)
+      subst (λ ps. AreLinked new (relinked_head head before at) ps 0) (sym (change_tiles (give_change h next))) (link_join new (relinked_head head before at) h.before.front at (gap first last ∷ h.after.rest) 0 front middle)

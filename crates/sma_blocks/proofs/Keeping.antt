@@ -1,32 +1,31 @@
 -- Gaps laid between the blocks that are kept, from the last one on.
-use Rattle.std.proofs.Common.{◌≡◌, ◌⊎◌, inl, inr, ℕ, zero, suc, ◌+◌, ◌-◌, ◌/◌, ◌%◌, ◌<◌, ◌≤◌, Bool, true, false, eqb, leb, ◌&&◌, ◌||◌, cond, List, [], ◌∷◌, length, get_or, slice_index, refl, sym, ap, ◌∙◌, subst, arith}
+use Rattle.std.proofs.Common.{◌≡◌, ◌⊎◌, inl, inr, ℕ, zero, suc, ◌+◌, ◌%◌, ◌<◌, ◌≤◌, Bool, true, false, eqb, leb, ◌&&◌, ◌||◌, cond, List, [], ◌∷◌, length, get_or, slice_index, refl, sym, ap, ◌∙◌, subst, arith}
 use Rattle.std.specs.List.{Contains, filter}
 use Rattle.std.proofs.lemmas.Bool.{cases_lt, cases_eq, cases_Bool, and_left, and_right, and_from, le-leb, lt-leb, eq-eqb, eqb-true, or_left, or_right, false≢true}
-use Rattle.max_tree.specs.Halves.{other_half}
 use Rattle.seg_words.specs.declared.extents.Extent.{Extent}
 use Rattle.seg_words.specs.Windows.{Aside, has, is_named}
 use Rattle.seg_words.specs.Blocks.{IsTold, MayStore}
 use Rattle.seg_words.specs.Gaps.{is_free, meets}
 use Rattle.sma_blocks.specs.declared.sma.Sma.{Sma}
-use Rattle.sma_blocks.specs.Pieces.{Piece, pieces, Fill, gaps_touch}
+use Rattle.sma_blocks.specs.Tiles.{Tile, tiles, Fill, gaps_touch, are_whole}
 use Rattle.sma_blocks.specs.Live.{lives, gap_words, live_blocks, IsLive, kept_blocks, SameBlocks}
-use Rattle.sma_blocks.specs.Index.{size_at, IsIndexed, IsJoined}
+use Rattle.seg_words.specs.Gaps.{is_whole}
+use Rattle.sma_blocks.specs.Index.{size_at, IsIndexed}
+use Rattle.sma_blocks.specs.Laid.{IsLaid}
+use Rattle.sma_blocks.proofs.Wholes.{whole_cons, lives_whole}
+use Rattle.sma_blocks.proofs.Laying.{laid_nothing}
+use Rattle.sma_blocks.proofs.Done.{same_sma}
 use Rattle.sma_blocks.specs.Chain.{AreLinked}
 use Rattle.sma_blocks.specs.Ready.{NameLive, AreBlocks, IsReady}
 use Rattle.sma_blocks.specs.Order.{lives_stand, ready_blocks}
-use Rattle.sma_blocks.specs.Walk.{merged_words}
 use Rattle.sma_blocks.proofs.Spans.{IsFilled, span_of}
-use Rattle.sma_blocks.proofs.Filling.{Fill-le, pieces-end, pieces-filled, edge_start}
-use Rattle.sma_blocks.proofs.Lives.{piece_extent, lives_between, meets_apart}
+use Rattle.sma_blocks.proofs.Filling.{tiles-end, tiles-filled, edge_start}
+use Rattle.sma_blocks.proofs.Lives.{tile_extent, lives_between, meets_apart}
 use Rattle.seg_words.specs.Members.{Contains-cases, Contains-first, Contains-later, Contains-filter, Contains-kept, filter_alike, filter_none}
-use Rattle.sma_blocks.proofs.Merging.{merged_after, live_after_gap}
+use Rattle.sma_blocks.proofs.Merging.{merged_block}
 use Rattle.sma_blocks.proofs.Naming.{Between, names_same, may_store, told_at_edge, ready_from}
 use Rattle.sma_blocks.proofs.Stored.{lives_apart}
-use Rattle.sma_blocks.proofs.Storing.{merged_count, merged_first, merged_link, merged_other}
-use Rattle.sma_blocks.proofs.Changes.{Change, change_full, change_pieces}
-use Rattle.sma_blocks.proofs.Finding.{here_other, here_live, here_gap, size_outside}
-use Rattle.sma_blocks.proofs.Counting.{gap_words-le}
-use Rattle.sma_blocks.proofs.Linking.{link_between}
+use Rattle.sma_blocks.proofs.Finding.{here_live}
 use Rattle.sma_blocks.proofs.Before.{edge_of_live}
 use Rattle.sma_blocks.proofs.Readying.{ready_by}
 
@@ -66,12 +65,12 @@ blocks_low ws low (e ∷ es) high f h c = elim (Contains-cases e es f c) [
       let r = blocks_low ws (e.place + e.size) es high f h.3 later in (omega (arith, h.0, r.0), r.1, r.2)
 ]
 
-lives_even : (ws : List ℕ) (a : ℕ) (ps : List Piece) (b : ℕ) (e : Extent) → Fill ws a ps b → a % 2 ≡ 0 → Contains (lives ps) e → (e.place % 2 ≡ 0) × (e.size % 2 ≡ 0)
+lives_even : (ws : List ℕ) (a : ℕ) (ps : List Tile) (b : ℕ) (e : Extent) → Fill ws a ps b → a % 2 ≡ 0 → Contains (lives ps) e → (e.place % 2 ≡ 0) × (e.size % 2 ≡ 0)
 lives_even ws a [] b e h even c = absurd (omega (arith, c.1))
 lives_even ws a (p ∷ ps) b e h even c = go p.live c (λ d. lives_even ws (a + p.size) ps b e h.1 (omega (arith, h.0.even)) d)
   where
-    go : (kind : Bool) → Contains (cond kind (piece_extent p ∷ lives ps) (lives ps)) e → (Contains (lives ps) e → (e.place % 2 ≡ 0) × (e.size % 2 ≡ 0)) → (e.place % 2 ≡ 0) × (e.size % 2 ≡ 0)
-    go true d rest = elim (Contains-cases (piece_extent p) (lives ps) e d) [
+    go : (kind : Bool) → Contains (cond kind (tile_extent p ∷ lives ps) (lives ps)) e → (Contains (lives ps) e → (e.place % 2 ≡ 0) × (e.size % 2 ≡ 0)) → (e.place % 2 ≡ 0) × (e.size % 2 ≡ 0)
+    go true d rest = elim (Contains-cases (tile_extent p) (lives ps) e d) [
       | inl same ↦
           let place : p.place ≡ e.place = ap (λ (x : Extent). x.place) same in
           let size : p.size ≡ e.size = ap (λ (x : Extent). x.size) same in
@@ -130,126 +129,67 @@ past_same old places from first end between lt ordered = filter_alike (λ (b : E
 ])
 
 -- what a loop over the blocks from the last on has laid: all from `end` on
-pub record Laid (old new : List ℕ) (aside : Aside) (places : List ℕ) (from end : ℕ) (sizes : List ℕ) (head free : ℕ) (after_gap : Bool) : Type 0 where
+pub record Laid (piece : ℕ) (old new : List ℕ) (aside : Aside) (places : List ℕ) (from end : ℕ) (sizes : List ℕ) (head free : ℕ) (after_gap : Bool) : Type 0 where
   pub count : length new ≡ length old
   pub before : (j : ℕ) → j < end → slice_index new j ≡ slice_index old j
   pub inside : (j : ℕ) → is_free j 1 (kept_blocks places (live_blocks old from)) ≡ false → slice_index new j ≡ slice_index old j
   pub names : NameLive new aside.windows (kept_blocks places (live_blocks old from))
-  pub full : Fill new end (pieces new end) (length new)
-  pub merged : gaps_touch after_gap (pieces new end) ≡ false
-  pub blocks : lives (pieces new end) ≡ past_end places end (live_blocks old from)
-  pub linked : AreLinked new head (pieces new end) 0
-  pub told : (i : ℕ) → get_or sizes i 0 ≡ size_at (pieces new end) (i + i)
-  pub counted : free ≡ gap_words (pieces new end)
+  pub blocks : lives (tiles new end) ≡ past_end places end (live_blocks old from)
+  pub laid : IsLaid piece new end sizes head free after_gap
 
--- where a live block begins no gap does
-first_live : (ws : List ℕ) (a : ℕ) (ps : List Piece) (b : ℕ) → Fill ws a ps b → gaps_touch true ps ≡ false → size_at ps a ≡ 0
-first_live ws a [] b h merged = refl
-first_live ws a (p ∷ ps) b h merged =
-    let live : p.live ≡ true = live_after_gap p ps merged in
-    omega (arith, here_live p a live, size_outside ws (a + p.size) ps b a h.1 (inl (omega (arith, h.0.enough))))
+outside : (es : List Extent) (low high j : ℕ) → Between es low high → is_free j 1 es ≡ false → (j < low) ⊎ (high ≤ j)
+outside es low high j between taken = elim (cases_lt j low) [
+  | inl l ↦ inl l
+  | inr from_low ↦ elim (cases_lt j high) [
+    | inr r ↦ inr r
+    | inl under ↦ absurd (false≢true (sym taken ∙ between_free es low high j between from_low under))
+  ]
+]
 
-module _ {old new : List ℕ} {aside : Aside} {places : List ℕ} {from end : ℕ} {sizes : List ℕ} {head free : ℕ} where
-  -- what a gap in front asks
-  pub lay_alone : (h : Laid old new aside places from end sizes head free true) (first : ℕ) → first % 2 ≡ 0 → end % 2 ≡ 0 → first < end → get_or sizes (other_half (first / 2)) 0 ≡ 0
-  lay_alone h first even_first even_end lt =
-      let q = other_half (first / 2) + other_half (first / 2) in
-      h.told (other_half (first / 2)) ∙ elim (cases_lt q end) [
-        | inl low ↦ size_outside new end (pieces new end) (length new) q h.full (inl low)
-        | inr high ↦
-            let same : q ≡ end = omega arith in
-            ap (λ (x : ℕ). size_at (pieces new end) x) same ∙ first_live new end (pieces new end) (length new) h.full h.merged
-      ]
-
-  pub lay_count : (h : Laid old new aside places from end sizes head free true) → free + end ≤ length new
-  lay_count h = omega (arith, h.counted, gap_words-le new end (pieces new end) (length new) h.full)
-
-  pub lay_apart : (h : Laid old new aside places from end sizes head free true) (first : ℕ) → Between (kept_blocks places (live_blocks old from)) first end → (i : ℕ) → first ≤ i → i < end → MayStore new aside.windows i
+module _ {piece : ℕ} {old new : List ℕ} {aside : Aside} {places : List ℕ} {from end : ℕ} {sizes : List ℕ} {head free : ℕ} where
+  pub lay_apart : (h : Laid piece old new aside places from end sizes head free true) (first : ℕ) → Between (kept_blocks places (live_blocks old from)) first end → (i : ℕ) → first ≤ i → i < end → MayStore new aside.windows i
   lay_apart h first out i low high = may_store new aside.windows (kept_blocks places (live_blocks old from)) first end i h.names out low high
 
-  -- a gap is laid in front
-  pub laid_gap : (h : Laid old new aside places from end sizes head free true) (first : ℕ) (sizes' : List ℕ) → first % 2 ≡ 0 → end % 2 ≡ 0 → first < end → Between (kept_blocks places (live_blocks old from)) first end → AreBlocks old from (live_blocks old from) (length old) → IsJoined sizes sizes' first end end
-      → Laid old (merged_words new first end head) aside places from first sizes' first (free + (end - first)) false
-  laid_gap h first sizes' even_first even_end lt out ordered joined =
-      let new' = merged_words new first end head in
+  -- gaps are laid in front
+  pub laid_after : (h : Laid piece old new aside places from end sizes head free true) (first : ℕ) (new' sizes' : List ℕ) (head' free' : ℕ) → first ≤ end → IsLaid piece new' first sizes' head' free' false → lives (tiles new' first) ≡ lives (tiles new end)
+      → ((i : ℕ) → (i < first) ⊎ (end ≤ i) → slice_index new' i ≡ slice_index new i) → length new' ≡ length new → Between (kept_blocks places (live_blocks old from)) first end → AreBlocks old from (live_blocks old from) (length old)
+      → Laid piece old new' aside places from first sizes' head' free' false
+  laid_after h first new' sizes' head' free' le laid blocks same count out ordered =
       let kept = kept_blocks places (live_blocks old from) in
-      let most : end ≤ length new = Fill-le new end (pieces new end) (length new) h.full in
-      let gap : Piece = record { place = first; size = end - first; live = false } in
-      let same : (i : ℕ) → (i < first) ⊎ (end ≤ i) → slice_index new' i ≡ slice_index new i = λ i o. merged_other new first end head i (λ e. elim o [ inl l ↦ omega arith | inr r ↦ omega arith ]) (λ e. elim o [ inl l ↦ omega arith | inr r ↦ omega arith ]) in
-      let change : Change new new' first first end [] (gap ∷ []) (pieces new end) = record {
-        before = refl;
-        middle = (record { place = refl; word = merged_first new first end head (omega arith); even = omega arith; enough = omega arith }, omega arith);
-        after = h.full;
-        same = same;
-        count = merged_count new first end head;
-      } in
-      let all : pieces new' first ≡ gap ∷ pieces new end = change_pieces change in
-      let words : (j : ℕ) → is_free j 1 kept ≡ false → slice_index new' j ≡ slice_index new j = λ j taken. same j (outside kept first end j out taken) in
-      let link : slice_index new' (first + 1) ≡ head = merged_link new first end head (omega arith) in
-      let rest : AreLinked new' head (pieces new end) 0 = link_between new new' end (pieces new end) (length new) head 0 h.full (λ i low high. same i (inr low)) h.linked in
-      let chain : AreLinked new' first (gap ∷ pieces new end) 0 = (refl, subst (λ (x : ℕ). AreLinked new' x (pieces new end) 0) (sym link) rest) in
       record {
-        count = merged_count new first end head ∙ h.count;
+        count = count ∙ h.count;
         before = λ j low. same j (inl low) ∙ h.before j (omega arith);
-        inside = λ j taken. words j taken ∙ h.inside j taken;
+        inside = λ j taken. same j (outside kept first end j out taken) ∙ h.inside j taken;
         names = names_same new new' aside.windows kept first end h.names out same;
-        full = subst (λ (ps : List Piece). Fill new' first ps (length new')) (sym all) (change_full change);
-        merged = ap (gaps_touch false) all ∙ h.merged;
-        blocks = ap lives all ∙ h.blocks ∙ sym (past_same old places from first end out lt ordered);
-        linked = subst (λ (ps : List Piece). AreLinked new' first ps 0) (sym all) chain;
-        told = λ i. elim (cases_eq i (first / 2)) [
-          | inl is ↦
-              let place : i + i ≡ first = omega arith in
-              ap (λ (k : ℕ). get_or sizes' k 0) is ∙ joined.there ∙ sym (ap (λ (ps : List Piece). size_at ps (i + i)) all ∙ omega (arith, here_gap gap (i + i) (sym place) refl, size_outside new end (pieces new end) (length new) (i + i) h.full (inl (omega arith))))
-          | inr other ↦
-              joined.others i other (λ no_end e. omega arith) ∙ h.told i ∙ sym (ap (λ (ps : List Piece). size_at ps (i + i)) all ∙ omega (arith, here_other gap (i + i) (λ e. other (omega arith))))
+        blocks = blocks ∙ h.blocks ∙ elim (cases_lt first end) [
+          | inl lt ↦ sym (past_same old places from first end out lt ordered)
+          | inr ge ↦ ap (λ (x : ℕ). past_end places x (live_blocks old from)) (omega arith)
         ];
-        counted = sym (ap gap_words all ∙ omega (arith, h.counted));
+        laid = laid;
       }
-    where
-      outside : (es : List Extent) (low high j : ℕ) → Between es low high → is_free j 1 es ≡ false → (j < low) ⊎ (high ≤ j)
-      outside es low high j between taken = elim (cases_lt j low) [
-        | inl l ↦ inl l
-        | inr from_low ↦ elim (cases_lt j high) [
-          | inr r ↦ inr r
-          | inl under ↦ absurd (false≢true (sym taken ∙ between_free es low high j between from_low under))
-        ]
-      ]
-
-  pub laid_none : (h : Laid old new aside places from end sizes head free true) (first : ℕ) → first ≡ end → Laid old new aside places from first sizes head free false
-  laid_none h first is =
-      subst (λ (x : ℕ). Laid old new aside places from x sizes head free false) (sym is) (record {
-        count = h.count;
-        before = h.before;
-        inside = h.inside;
-        names = h.names;
-        full = h.full;
-        merged = merged_after true (pieces new end) h.merged;
-        blocks = h.blocks;
-        linked = h.linked;
-        told = h.told;
-        counted = h.counted;
-      })
 
 -- the block in front is kept
-pub laid_block : {old new : List ℕ} {aside : Aside} {places : List ℕ} {from mid : ℕ} {sizes : List ℕ} {head free : ℕ} (h : Laid old new aside places from mid sizes head free false) (at size : ℕ) → mid ≡ at + size → AreBlocks old from (live_blocks old from) (length old) → Contains (live_blocks old from) (record { place = at; size = size }) → has at places ≡ true → size % 2 ≡ 0 → Laid old new aside places from at sizes head free true
-laid_block {old} {new} {aside} {places} {from} {mid} {sizes} {head} {free} h at size is ordered live kept even =
+pub laid_block : {piece : ℕ} {old new : List ℕ} {aside : Aside} {places : List ℕ} {from mid : ℕ} {sizes : List ℕ} {head free : ℕ} (h : Laid piece old new aside places from mid sizes head free false) (at size : ℕ) → mid ≡ at + size → AreBlocks old from (live_blocks old from) (length old) → Contains (live_blocks old from) (record { place = at; size = size }) → has at places ≡ true → size % 2 ≡ 0 → is_whole piece at size ≡ true → Laid piece old new aside places from at sizes head free true
+laid_block {piece} {old} {new} {aside} {places} {from} {mid} {sizes} {head} {free} h at size is ordered live kept even whole =
     let b = blocks_low old from (live_blocks old from) (length old) (record { place = at; size = size }) ordered live in
-    let block : Piece = record { place = at; size = size; live = true } in
+    let block : Tile = record { place = at; size = size; live = true } in
     let word : slice_index new at ≡ size + 0 = h.before at (omega (arith, b.1)) ∙ b.2 ∙ omega arith in
-    let fill : Fill new at (block ∷ pieces new mid) (length new) = (record { place = refl; word = word; even = even; enough = b.1 }, subst (λ (x : ℕ). Fill new x (pieces new mid) (length new)) is h.full) in
-    let all : pieces new at ≡ block ∷ pieces new mid = pieces-filled new at (block ∷ pieces new mid) fill in
+    let fill : Fill new at (block ∷ tiles new mid) (length new) = (record { place = refl; word = word; even = even; enough = b.1 }, subst (λ (x : ℕ). Fill new x (tiles new mid) (length new)) is h.laid.full) in
+    let all : tiles new at ≡ block ∷ tiles new mid = tiles-filled new at (block ∷ tiles new mid) fill in
     record {
       count = h.count;
       before = λ j low. h.before j (omega arith);
       inside = h.inside;
       names = h.names;
-      full = subst (λ (ps : List Piece). Fill new at ps (length new)) (sym all) fill;
-      merged = ap (gaps_touch true) all ∙ h.merged;
       blocks = ap lives all ∙ ap (λ (es : List Extent). record { place = at; size = size } ∷ es) (h.blocks ∙ ap (λ (x : ℕ). past_end places x (live_blocks old from)) is) ∙ sym (past_step old from (live_blocks old from) (length old) places at size ordered live kept);
-      linked = subst (λ (ps : List Piece). AreLinked new head ps 0) (sym all) h.linked;
-      told = λ i. h.told i ∙ sym (ap (λ (ps : List Piece). size_at ps (i + i)) all ∙ omega (arith, here_live block (i + i) refl));
-      counted = h.counted ∙ sym (ap gap_words all);
+      laid = record {
+        full = subst (λ (ps : List Tile). Fill new at ps (length new)) (sym all) fill;
+        merged = ap (gaps_touch piece true) all ∙ merged_block piece true block (tiles new mid) refl h.laid.merged;
+        whole = ap (are_whole piece) all ∙ whole_cons piece block (tiles new mid) whole h.laid.whole;
+        linked = subst (λ (ps : List Tile). AreLinked new head ps 0) (sym all) h.laid.linked;
+        told = λ i. h.laid.told i ∙ sym (ap (λ (ps : List Tile). size_at ps (i + i)) all ∙ omega (arith, here_live block (i + i) refl));
+        counted = h.laid.counted ∙ sym (ap gap_words all);
+      };
     }
 
 -- how the places that are left lie before `end`, and the others not
@@ -258,9 +198,9 @@ pub record Spread (places : List ℕ) (blocks : List Extent) (i end : ℕ) : Typ
   pub upper : (k : ℕ) → i ≤ k → k < length places → end ≤ get_or places k 0
 
 -- before the loop
-pub laid_start : (sma : Sma) (ws : List ℕ) (aside : Aside) (places sizes : List ℕ) → IsReady sma ws aside → ((at : ℕ) → is_named aside.windows at ≡ true → has at places ≡ true) → ((i : ℕ) → get_or sizes i 0 ≡ 0) → Laid ws ws aside places sma.from sma.to sizes 0 0 true
+pub laid_start : (sma : Sma) (ws : List ℕ) (aside : Aside) (places sizes : List ℕ) → IsReady sma ws aside → ((at : ℕ) → is_named aside.windows at ≡ true → has at places ≡ true) → ((i : ℕ) → get_or sizes i 0 ≡ 0) → Laid sma.piece ws ws aside places sma.from sma.to sizes 0 0 true
 laid_start sma ws aside places sizes ready named zeros =
-    let none : pieces ws sma.to ≡ [] = pieces-end ws sma.to (omega (arith, ready.end)) in
+    let none : tiles ws sma.to ≡ [] = tiles-end ws sma.to (omega (arith, ready.end)) in
     record {
       count = refl;
       before = λ j low. refl;
@@ -268,19 +208,15 @@ laid_start sma ws aside places sizes ready named zeros =
       names = λ at is.
           let held = ready.windows at is in
           record { size = held.size; live = Contains-kept (λ (b : Extent). has b.place places) (live_blocks ws sma.from) (record { place = at; size = held.size }) held.live (named at is); inside = held.inside };
-      full = subst (λ (ps : List Piece). Fill ws sma.to ps (length ws)) (sym none) ready.end;
-      merged = ap (gaps_touch true) none;
       blocks = ap lives none ∙ sym (filter_none (λ (b : Extent). has b.place places && leb sma.to b.place) (live_blocks ws sma.from) (λ e c.
-          let b = lives_between ws sma.from (pieces ws sma.from) (length ws) e ready.formatted.full c in
+          let b = lives_between ws sma.from (tiles ws sma.from) (length ws) e ready.formatted.full c in
           and_right (has e.place places) (leb sma.to e.place) (lt-leb sma.to e.place (omega (arith, b.1, b.2, ready.end)))));
-      linked = subst (λ (ps : List Piece). AreLinked ws 0 ps 0) (sym none) refl;
-      told = λ i. zeros i ∙ sym (ap (λ (ps : List Piece). size_at ps (i + i)) none);
-      counted = sym (ap gap_words none);
+      laid = laid_nothing sma.piece ws sma.to sizes ready.end zeros;
     }
 
 pub spread_start : (sma : Sma) (ws : List ℕ) (aside : Aside) (places : List ℕ) → IsReady sma ws aside → Spread places (live_blocks ws sma.from) (length places) sma.to
 spread_start sma ws aside places ready = record {
-  lower = λ k size low c. (let b = lives_between ws sma.from (pieces ws sma.from) (length ws) (record { place = get_or places k 0; size = size }) ready.formatted.full c in omega (arith, b.1, ready.end));
+  lower = λ k size low c. (let b = lives_between ws sma.from (tiles ws sma.from) (length ws) (record { place = get_or places k 0; size = size }) ready.formatted.full c in omega (arith, b.1, ready.end));
   upper = λ k high inside. absurd (omega arith);
 }
 
@@ -291,6 +227,7 @@ pub record Next (sma : Sma) (ws : List ℕ) (places : List ℕ) (i end at : ℕ)
   pub word : slice_index ws at ≡ size
   pub even_at : at % 2 ≡ 0
   pub even_size : size % 2 ≡ 0
+  pub whole : is_whole sma.piece at size ≡ true
   pub low : sma.from ≤ at
   pub wide : 2 ≤ size
   pub fits : at + size ≤ end
@@ -305,8 +242,8 @@ next_block sma ws aside places i end at ready lives_all up inside is spread =
     let size : ℕ = there.0 in
     let live : Contains (live_blocks ws sma.from) (record { place = at; size = size }) = subst (λ (x : ℕ). Contains (live_blocks ws sma.from) (record { place = x; size = size })) (sym is) there.1 in
     let full = ready.formatted.full in
-    let b = lives_between ws sma.from (pieces ws sma.from) (length ws) (record { place = at; size = size }) full live in
-    let e = lives_even ws sma.from (pieces ws sma.from) (length ws) (record { place = at; size = size }) full ready.formatted.even live in
+    let b = lives_between ws sma.from (tiles ws sma.from) (length ws) (record { place = at; size = size }) full live in
+    let e = lives_even ws sma.from (tiles ws sma.from) (length ws) (record { place = at; size = size }) full ready.formatted.even live in
     let o = blocks_low ws sma.from (live_blocks ws sma.from) sma.to (record { place = at; size = size }) (ready_blocks ready) live in
     let fits : at + size ≤ end = omega (arith, spread.lower i size (omega arith) there.1) in
     record {
@@ -315,6 +252,7 @@ next_block sma ws aside places i end at ready lives_all up inside is spread =
       word = o.2;
       even_at = e.0;
       even_size = e.1;
+      whole = lives_whole sma.piece (tiles ws sma.from) (record { place = at; size = size }) ready.formatted.whole live;
       low = b.0;
       wide = b.2;
       fits = fits;
@@ -322,7 +260,7 @@ next_block sma ws aside places i end at ready lives_all up inside is spread =
       between = λ f c.
           let f_live = Contains-filter (λ (b : Extent). has b.place places) (live_blocks ws sma.from) f c in
           let k = has_index f.place places f_live.1 in
-          let f_bounds = lives_between ws sma.from (pieces ws sma.from) (length ws) f full f_live.0 in
+          let f_bounds = lives_between ws sma.from (tiles ws sma.from) (length ws) f full f_live.0 in
           elim (cases_lt i k.0) [
             | inl past ↦ inr (omega (arith, spread.upper k.0 (omega arith) k.1, k.2))
             | inr early ↦
@@ -330,7 +268,7 @@ next_block sma ws aside places i end at ready lives_all up inside is spread =
                   | inl same ↦ omega (arith, ap (λ (n : ℕ). get_or places n 0) same, k.2)
                   | inr other ↦ omega (arith, rises places up i k.0 (omega arith) inside, k.2)
                 ] in
-                elim (lives_apart ws sma.from (pieces ws sma.from) (length ws) f (record { place = at; size = size }) full f_live.0 live) [
+                elim (lives_apart ws sma.from (tiles ws sma.from) (length ws) f (record { place = at; size = size }) full f_live.0 live) [
                   | inl same ↦
                       inl (omega (arith, ap (λ (x : Extent). x.place) same, ap (λ (x : Extent). x.size) same))
                   | inr apart ↦ elim apart [
@@ -342,7 +280,7 @@ next_block sma ws aside places i end at ready lives_all up inside is spread =
       spread = record {
         lower = λ k s low c.
             let below : get_or places k 0 < at = omega (arith, rises places up i k low inside) in
-            elim (lives_apart ws sma.from (pieces ws sma.from) (length ws) (record { place = get_or places k 0; size = s }) (record { place = at; size = size }) full c live) [
+            elim (lives_apart ws sma.from (tiles ws sma.from) (length ws) (record { place = get_or places k 0; size = s }) (record { place = at; size = size }) full c live) [
               | inl same ↦ absurd (omega (arith, ap (λ (x : Extent). x.place) same))
               | inr apart ↦ elim apart [
                 | inl before ↦ before
@@ -370,56 +308,30 @@ pub record Keeps (sma sma' : Sma) (old new : List ℕ) (aside : Aside) (places :
   pub others : SameBlocks old new sma.from (kept_blocks places (live_blocks old sma.from))
   pub ready : IsReady sma' new aside
 
-pub keeps : (sma sma' : Sma) (old new : List ℕ) (aside : Aside) (places : List ℕ) → IsReady sma old aside → sma'.from ≡ sma.from → sma'.to ≡ sma.to → length sma'.sizes ≡ length sma.sizes → Laid old new aside places sma.from sma.from sma'.sizes sma'.head sma'.free false → Keeps sma sma' old new aside places
-keeps sma sma' old new aside places ready from to count h =
+pub keeps : (sma sma' : Sma) (old new : List ℕ) (aside : Aside) (places : List ℕ) → IsReady sma old aside → sma'.from ≡ sma.from → sma'.to ≡ sma.to → sma'.piece ≡ sma.piece → length sma'.sizes ≡ length sma.sizes → Laid sma.piece old new aside places sma.from sma.from sma'.sizes sma'.head sma'.free false → Keeps sma sma' old new aside places
+keeps sma sma' old new aside places ready from to piece count h =
     let all : past_end places sma.from (live_blocks old sma.from) ≡ kept_blocks places (live_blocks old sma.from) = filter_alike (λ (b : Extent). has b.place places && leb sma.from b.place) (λ (b : Extent). has b.place places) (live_blocks old sma.from) (λ e c.
-    let b = lives_between old sma.from (pieces old sma.from) (length old) e ready.formatted.full c in
+    let b = lives_between old sma.from (tiles old sma.from) (length old) e ready.formatted.full c in
     whole (has e.place places) (leb sma.from e.place) (le-leb sma.from e.place b.0)) in
     let left = h.blocks ∙ all in
     let room = ready.indexed.room in
-    let filled : IsFilled (span_of sma) new aside = ready_from (span_of sma) new aside (ready.end ∙ sym h.count) (record { even = ready.formatted.even; full = h.full; merged = h.merged }) (subst (λ (es : List Extent). NameLive new aside.windows es) (sym left) h.names) in
-    let here : IsIndexed new sma.from sma'.sizes = record { room = omega (arith, h.count); told = h.told } in
-    let made : IsReady (record { from = sma.from; to = sma.to; head = sma'.head; free = sma'.free; sizes = sma'.sizes }) new aside = ready_by (record { from = sma.from; to = sma.to; head = sma'.head; free = sma'.free; sizes = sma'.sizes }) new aside filled here h.linked h.counted in
+    let filled : IsFilled (span_of sma) new aside = ready_from (span_of sma) new aside (ready.end ∙ sym h.count) (record { even = ready.formatted.even; full = h.laid.full; merged = h.laid.merged; whole = h.laid.whole }) (subst (λ (es : List Extent). NameLive new aside.windows es) (sym left) h.names) in
+    let here : IsIndexed new sma.from sma'.sizes = record { room = omega (arith, h.count); told = h.laid.told } in
+    let made : IsReady (record { from = sma.from; to = sma.to; piece = sma.piece; head = sma'.head; free = sma'.free; sizes = sma'.sizes }) new aside = ready_by (record { from = sma.from; to = sma.to; piece = sma.piece; head = sma'.head; free = sma'.free; sizes = sma'.sizes }) new aside ready.short ready.even filled here h.laid.linked h.laid.counted in
     record {
       left = left;
       others = record { count = h.count; before = h.before; inside = h.inside };
-      ready = subst (λ (x : ℕ). IsReady (record { from = sma'.from; to = x; head = sma'.head; free = sma'.free; sizes = sma'.sizes }) new aside) (sym to)
-          (subst (λ (x : ℕ). IsReady (record { from = x; to = sma.to; head = sma'.head; free = sma'.free; sizes = sma'.sizes }) new aside) (sym from) made);
+      ready = same_sma sma' new aside sma.from sma.to sma.piece sma'.head sma'.free sma'.sizes from to piece refl refl refl made;
     }
   where
     whole : (x y : Bool) → y ≡ true → (x && y) ≡ x
     whole true y e = e
     whole false y e = refl
 
--- the words before a place and the gap in front of the others, if there is one
-pub laid_after : {old new : List ℕ} {aside : Aside} {places : List ℕ} {from end : ℕ} {sizes : List ℕ} {head free : ℕ} (h : Laid old new aside places from end sizes head free true) (first : ℕ) (new' sizes' : List ℕ) (head' free' : ℕ) → first ≤ end
-    → (first < end → new' ≡ merged_words new first end head) → (first < end → IsJoined sizes sizes' first end end) → (first < end → (head' ≡ first) × (free' ≡ free + (end - first)))
-    → (end ≤ first → (new' ≡ new) × (sizes' ≡ sizes) × (head' ≡ head) × (free' ≡ free))
-    → first % 2 ≡ 0 → end % 2 ≡ 0 → Between (kept_blocks places (live_blocks old from)) first end → AreBlocks old from (live_blocks old from) (length old)
-    → Laid old new' aside places from first sizes' head' free' false
-laid_after {old} {new} {aside} {places} {from} {end} {sizes} {head} {free} h first new' sizes' head' free' le words joined both none even_first even_end out ordered = elim (cases_lt first end) [
-  | inl lt ↦
-      let made = laid_gap h first sizes' even_first even_end lt out ordered (joined lt) in
-      let b = both lt in
-      subst (λ (x : ℕ). Laid old new' aside places from first sizes' head' x false) (sym b.1)
-      (subst (λ (x : ℕ). Laid old new' aside places from first sizes' x (free + (end - first)) false) (sym b.0)
-      (subst (λ (xs : List ℕ). Laid old xs aside places from first sizes' first (free + (end - first)) false) (sym (words lt)) made))
-  | inr ge ↦
-      let n = none ge in
-      let made = laid_none h first (omega arith) in
-      subst (λ (x : ℕ). Laid old new' aside places from first sizes' head' x false) (sym n.3)
-      (subst (λ (x : ℕ). Laid old new' aside places from first sizes' x free false) (sym n.2)
-      (subst (λ (xs : List ℕ). Laid old new' aside places from first xs head free false) (sym n.1)
-      (subst (λ (xs : List ℕ). Laid old xs aside places from first sizes head free false) (sym n.0) made)))
-]
-
-pub sizes_count : (sizes sizes' : List ℕ) (first end : ℕ) → (first < end → IsJoined sizes sizes' first end end) → (end ≤ first → sizes' ≡ sizes) → length sizes' ≡ length sizes
-sizes_count sizes sizes' first end joined none = elim (cases_lt first end) [ inl lt ↦ (joined lt).count | inr ge ↦ ap length (none ge) ]
-
 -- the first word of a live block is told
 pub told_live : {sma : Sma} {ws : List ℕ} {aside : Aside} (ready : IsReady sma ws aside) (at size : ℕ) → Contains (live_blocks ws sma.from) (record { place = at; size = size }) → IsTold aside.windows at
 told_live {sma} {ws} {aside} ready at size live =
-    told_at_edge ws aside.windows sma.from at ready.windows (edge_of_live ws sma.from at size (pieces ws sma.from) sma.from (edge_start ws sma.from ready.formatted.full) refl live)
+    told_at_edge ws aside.windows sma.from at ready.windows (edge_of_live ws sma.from at size (tiles ws sma.from) sma.from (edge_start ws sma.from ready.formatted.full) refl live)
 
 pub in_order : {sma : Sma} {ws : List ℕ} {aside : Aside} → IsReady sma ws aside → AreBlocks ws sma.from (live_blocks ws sma.from) (length ws)
-in_order {sma} {ws} {aside} ready = lives_stand ws sma.from (pieces ws sma.from) (length ws) ready.formatted.full
+in_order {sma} {ws} {aside} ready = lives_stand ws sma.from (tiles ws sma.from) (length ws) ready.formatted.full

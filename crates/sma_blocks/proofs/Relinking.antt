@@ -6,7 +6,7 @@ use Rattle.seg_words.specs.declared.extents.Extent.{Extent}
 use Rattle.seg_words.specs.Windows.{Aside}
 use Rattle.seg_words.specs.Blocks.{IsTold, MayStore}
 use Rattle.seg_words.specs.Gaps.{is_free}
-use Rattle.sma_blocks.specs.Pieces.{Piece, pieces, Fill, gaps_touch, IsFormatted}
+use Rattle.sma_blocks.specs.Tiles.{Tile, tiles, Fill, gaps_touch, are_whole, IsFormatted}
 use Rattle.sma_blocks.specs.Live.{lives, live_blocks, SameBlocks}
 use Rattle.sma_blocks.specs.Ready.{NameLive}
 use Rattle.sma_blocks.specs.Index.{size_at, IsIndexed}
@@ -17,7 +17,7 @@ use Rattle.sma_blocks.proofs.Filling.{Fill-le, edge_whole}
 use Rattle.sma_blocks.proofs.Lives.{free_outside, is_free-append}
 use Rattle.sma_blocks.proofs.Naming.{between, may_store, told_from, ready_from}
 use Rattle.sma_blocks.proofs.Places.{blocks_at, Fill-even}
-use Rattle.sma_blocks.proofs.Changes.{Change, change_full, change_pieces, change_names}
+use Rattle.sma_blocks.proofs.Changes.{Change, change_full, change_tiles, change_names}
 use Rattle.sma_blocks.proofs.Finding.{GapAt, gap_told, here_other, size_at-append, size_outside, size_odd}
 use Rattle.sma_blocks.proofs.Linking.{IsLastGap, link_none, none_link, last_link, link_set}
 
@@ -26,11 +26,11 @@ abbrev pub IsLastTold : List ℕ → ℕ → Option ℕ → Type 0
 IsLastTold numbers index before =
     MatchOption before ((k : ℕ) → k < index → get_or numbers k 0 ≡ 0) (λ q. (q < index) × (get_or numbers q 0 ≢ 0)) × MatchOption before (Unit {0}) (λ q. (k : ℕ) → q < k → k < index → get_or numbers k 0 ≡ 0)
 
--- the last gap of the pieces, if there is one, begins at the word 2 q
-abbrev pub IsLastOf : List Piece → Option ℕ → Type 0
+-- the last gap of the tiles, if there is one, begins at the word 2 q
+abbrev pub IsLastOf : List Tile → Option ℕ → Type 0
 IsLastOf ps before = MatchOption before ((q : ℕ) → size_at ps q ≡ 0) (λ q. IsLastGap ps (2 * q))
 
-pub last_of : (ws : List ℕ) (from : ℕ) (ps : List Piece) (at : ℕ) (others : List Piece) (numbers : List ℕ) (before : Option ℕ) → from % 2 ≡ 0 → Fill ws from ps at → Fill ws at others (length ws) → pieces ws from ≡ ps ++ others → IsIndexed ws from numbers → IsLastTold numbers (at / 2) before → IsLastOf ps before
+pub last_of : (ws : List ℕ) (from : ℕ) (ps : List Tile) (at : ℕ) (others : List Tile) (numbers : List ℕ) (before : Option ℕ) → from % 2 ≡ 0 → Fill ws from ps at → Fill ws at others (length ws) → tiles ws from ≡ ps ++ others → IsIndexed ws from numbers → IsLastTold numbers (at / 2) before → IsLastOf ps before
 last_of ws from ps at others numbers before even h k all indexed last = go before last
   where
     at_even : at % 2 ≡ 0
@@ -39,7 +39,7 @@ last_of ws from ps at others numbers before even h k all indexed last = go befor
     size : (q : ℕ) → q < at / 2 → size_at ps (q + q) ≡ get_or numbers q 0
     size q low =
         let none : size_at others (q + q) ≡ 0 = size_outside ws at others (length ws) (q + q) k (inl (omega arith)) in
-        let whole : size_at (pieces ws from) (q + q) ≡ size_at ps (q + q) + size_at others (q + q) = ap (λ xs. size_at xs (q + q)) all ∙ size_at-append ps others (q + q) in
+        let whole : size_at (tiles ws from) (q + q) ≡ size_at ps (q + q) + size_at others (q + q) = ap (λ xs. size_at xs (q + q)) all ∙ size_at-append ps others (q + q) in
         omega (arith, indexed.told q)
 
     zero_at : (r : ℕ) → (r % 2 ≡ 0 → r < at → get_or numbers (r / 2) 0 ≡ 0) → size_at ps r ≡ 0
@@ -64,10 +64,10 @@ last_of ws from ps at others numbers before even h k all indexed last = go befor
         }
 
 -- the words of a gap
-pub gap_fill : (ws : List ℕ) (from at size : ℕ) (g : GapAt ws from at size) → Fill ws at (record { place = at; size = size; live = false } ∷ pieces ws (at + size)) (length ws)
+pub gap_fill : (ws : List ℕ) (from at size : ℕ) (g : GapAt ws from at size) → Fill ws at (record { place = at; size = size; live = false } ∷ tiles ws (at + size)) (length ws)
 gap_fill ws from at size g = subst (λ ps. Fill ws at ps (length ws)) g.is g.edge.after
 
-pub gap_blocks : (ws : List ℕ) (from at size : ℕ) (g : GapAt ws from at size) → live_blocks ws from ≡ lives g.edge.passed ++ lives (pieces ws (at + size))
+pub gap_blocks : (ws : List ℕ) (from at size : ℕ) (g : GapAt ws from at size) → live_blocks ws from ≡ lives g.edge.passed ++ lives (tiles ws (at + size))
 gap_blocks ws from at size g = blocks_at ws from at g.edge ∙ ap (λ ps. lives g.edge.passed ++ lives ps) g.is
 
 -- they are in no live block
@@ -75,18 +75,18 @@ pub gap_free : (ws : List ℕ) (from at size i : ℕ) (g : GapAt ws from at size
 gap_free ws from at size i g low high =
     let filled = gap_fill ws from at size g in
     let left : is_free i 1 (lives g.edge.passed) ≡ true = free_outside ws from g.edge.passed at i 1 g.edge.before (inr low) in
-    let right : is_free i 1 (lives (pieces ws (at + size))) ≡ true = free_outside ws (at + size) (pieces ws (at + size)) (length ws) i 1 filled.1 (inl (omega arith)) in
+    let right : is_free i 1 (lives (tiles ws (at + size))) ≡ true = free_outside ws (at + size) (tiles ws (at + size)) (length ws) i 1 filled.1 (inl (omega arith)) in
     let start : from ≤ at = Fill-le ws from g.edge.passed at g.edge.before in
-    (ap (is_free i 1) (gap_blocks ws from at size g) ∙ is_free-append i 1 (lives g.edge.passed) (lives (pieces ws (at + size))) ∙ and_from (is_free i 1 (lives g.edge.passed)) (is_free i 1 (lives (pieces ws (at + size)))) left right, omega arith)
+    (ap (is_free i 1) (gap_blocks ws from at size g) ∙ is_free-append i 1 (lives g.edge.passed) (lives (tiles ws (at + size))) ∙ and_from (is_free i 1 (lives g.edge.passed)) (is_free i 1 (lives (tiles ws (at + size)))) left right, omega arith)
 
-gap_names : {span : Span} {ws : List ℕ} {aside : Aside} {at size : ℕ} (filled : IsFilled span ws aside) (g : GapAt ws span.from at size) → NameLive ws aside.windows (lives g.edge.passed ++ lives (pieces ws (at + size)))
+gap_names : {span : Span} {ws : List ℕ} {aside : Aside} {at size : ℕ} (filled : IsFilled span ws aside) (g : GapAt ws span.from at size) → NameLive ws aside.windows (lives g.edge.passed ++ lives (tiles ws (at + size)))
 gap_names {span} {ws} {aside} {at} {size} filled g = subst (λ es. NameLive ws aside.windows es) (gap_blocks ws span.from at size g) filled.windows
 
 -- they may be stored, and are told
 pub gap_apart : {span : Span} {ws : List ℕ} {aside : Aside} {at size : ℕ} (filled : IsFilled span ws aside) (g : GapAt ws span.from at size) (i : ℕ) → at ≤ i → i < at + size → MayStore ws aside.windows i
 gap_apart {span} {ws} {aside} {at} {size} filled g i low high =
-    may_store ws aside.windows (lives g.edge.passed ++ lives (pieces ws (at + size))) at (at + size) i (gap_names filled g)
-    (between ws span.from g.edge.passed at (at + size) (pieces ws (at + size)) (length ws) g.edge.before (gap_fill ws span.from at size g).1) low high
+    may_store ws aside.windows (lives g.edge.passed ++ lives (tiles ws (at + size))) at (at + size) i (gap_names filled g)
+    (between ws span.from g.edge.passed at (at + size) (tiles ws (at + size)) (length ws) g.edge.before (gap_fill ws span.from at size g).1) low high
 
 pub told_apart : (ws windows : List ℕ) (i : ℕ) → MayStore ws windows i → IsTold windows i
 told_apart ws windows i may = told_from windows i (λ x named. (may x named).pin_count)
@@ -94,7 +94,7 @@ told_apart ws windows i may = told_from windows i (λ x named. (may x named).pin
 -- the words after the link of a gap was set
 pub record Relinked (span : Span) (old new : List ℕ) (aside : Aside) : Type 0 where
   pub count : length new ≡ length old
-  pub same : pieces new span.from ≡ pieces old span.from
+  pub same : tiles new span.from ≡ tiles old span.from
   pub filled : IsFilled span new aside
 
 relinked_one : (span : Span) (ws : List ℕ) (aside : Aside) (at size v i : ℕ) → IsFilled span ws aside → GapAt ws span.from at size → i ≡ at + 1 → Relinked span ws (slice_set ws i v) aside
@@ -102,23 +102,23 @@ relinked_one span ws aside at size v i filled g place =
     let new = slice_set ws i v in
     let whole = gap_fill ws span.from at size g in
     let wide : 2 ≤ size = whole.0.enough in
-    let gap : Piece = record { place = at; size = size; live = false } in
+    let gap : Tile = record { place = at; size = size; live = false } in
     let first : slice_index new at ≡ slice_index ws at = get_or-set_other ws i at v 0 (λ e. omega arith) in
-    let change : Change ws new span.from at (at + size) g.edge.passed (gap ∷ []) (pieces ws (at + size)) = record {
+    let change : Change ws new span.from at (at + size) g.edge.passed (gap ∷ []) (tiles ws (at + size)) = record {
       before = g.edge.before;
       middle = (record { place = refl; word = first ∙ whole.0.word; even = whole.0.even; enough = wide }, refl);
       after = whole.1;
       same = λ j out. get_or-set_other ws i j v 0 (λ e. elim out [ inl l ↦ omega arith | inr r ↦ omega arith ]);
       count = length-set ws i v;
     } in
-    let all : pieces new span.from ≡ pieces ws span.from = change_pieces change ∙ sym (edge_whole ws span.from at g.edge ∙ ap (λ ps. g.edge.passed ++ ps) g.is) in
+    let all : tiles new span.from ≡ tiles ws span.from = change_tiles change ∙ sym (edge_whole ws span.from at g.edge ∙ ap (λ ps. g.edge.passed ++ ps) g.is) in
     let count : length new ≡ length ws = length-set ws i v in
-    let full : Fill new span.from (pieces new span.from) (length new) = subst (λ ps. Fill new span.from ps (length new)) (sym (change_pieces change)) (change_full change) in
+    let full : Fill new span.from (tiles new span.from) (length new) = subst (λ ps. Fill new span.from ps (length new)) (sym (change_tiles change)) (change_full change) in
     record {
       count = count;
       same = all;
       filled = ready_from span new aside (filled.end ∙ sym count)
-          (record { even = filled.formatted.even; full = full; merged = ap (gaps_touch false) all ∙ filled.formatted.merged })
+          (record { even = filled.formatted.even; full = full; merged = ap (gaps_touch span.piece false) all ∙ filled.formatted.merged; whole = ap (are_whole span.piece) all ∙ filled.formatted.whole })
           (subst (λ es. NameLive new aside.windows es) (sym (gap_blocks ws span.from at size g) ∙ sym (ap lives all)) (change_names aside.windows change (gap_names filled g)));
     }
 
@@ -135,7 +135,7 @@ link_inside span ws aside numbers index (Some q) filled indexed last =
     let g = gap_told ws span.from numbers q filled.formatted indexed last.0.1 in
     let whole = gap_fill ws span.from (q + q) (get_or numbers q 0) g in
     let wide = whole.0.enough in
-    omega (arith, Fill-le ws (q + q + get_or numbers q 0) (pieces ws (q + q + get_or numbers q 0)) (length ws) whole.1)
+    omega (arith, Fill-le ws (q + q + get_or numbers q 0) (tiles ws (q + q + get_or numbers q 0)) (length ws) whole.1)
 
 pub link_apart : (span : Span) (ws : List ℕ) (aside : Aside) (numbers : List ℕ) (index : ℕ) (before : Option ℕ) → IsFilled span ws aside → IsIndexed ws span.from numbers → IsLastTold numbers index before → MatchOption before (Unit {0}) (λ q. MayStore ws aside.windows (2 * q + 1))
 link_apart span ws aside numbers index None filled indexed last = tt
@@ -150,9 +150,9 @@ link_told span ws aside numbers index (Some q) filled indexed last =
     told_apart ws aside.windows (2 * q + 1) (link_apart span ws aside numbers index (Some q) filled indexed last)
 
 -- the words of the blocks stay
-pub relinked_same : (ws mid : List ℕ) (from : ℕ) (numbers : List ℕ) (index v : ℕ) (before : Option ℕ) (blocks : List Extent) → IsFormatted ws from → IsIndexed ws from numbers → IsLastTold numbers index before → ((i : ℕ) → is_free i 1 blocks ≡ false → is_free i 1 (live_blocks ws from) ≡ false) → SameBlocks ws mid from blocks → SameBlocks ws (relinked_words mid before v) from blocks
-relinked_same ws mid from numbers index v None blocks formatted indexed last fewer h = h
-relinked_same ws mid from numbers index v (Some q) blocks formatted indexed last fewer h =
+pub relinked_same : (ws mid : List ℕ) (from : ℕ) (numbers : List ℕ) (index v : ℕ) (before : Option ℕ) (blocks : List Extent) {s : ℕ} → IsFormatted ws from s → IsIndexed ws from numbers → IsLastTold numbers index before → ((i : ℕ) → is_free i 1 blocks ≡ false → is_free i 1 (live_blocks ws from) ≡ false) → SameBlocks ws mid from blocks → SameBlocks ws (relinked_words mid before v) from blocks
+relinked_same ws mid from numbers index v None blocks {s} formatted indexed last fewer h = h
+relinked_same ws mid from numbers index v (Some q) blocks {s} formatted indexed last fewer h =
     let g = gap_told ws from numbers q formatted indexed last.0.1 in
     let wide = (gap_fill ws from (q + q) (get_or numbers q 0) g).0.enough in
     let free = gap_free ws from (q + q) (get_or numbers q 0) (2 * q + 1) g (omega arith) (omega arith) in
@@ -170,7 +170,7 @@ relinked_at mid index v i (Some q) numbers last past =
     get_or-set_other mid (2 * q + 1) i v 0 (λ e. omega arith)
 
 -- the chain up to the place
-pub relinked_chain : (ws : List ℕ) (from : ℕ) (ps : List Piece) (at head m v : ℕ) (before : Option ℕ) → Fill ws from ps at → at ≤ length ws → IsLastOf ps before → AreLinked ws head ps m → AreLinked (relinked_words ws before v) (relinked_head head before v) ps v
+pub relinked_chain : (ws : List ℕ) (from : ℕ) (ps : List Tile) (at head m v : ℕ) (before : Option ℕ) → Fill ws from ps at → at ≤ length ws → IsLastOf ps before → AreLinked ws head ps m → AreLinked (relinked_words ws before v) (relinked_head head before v) ps v
 relinked_chain ws from ps at head m v None h end last k = none_link ws ws from ps at v h last
 relinked_chain ws from ps at head m v (Some q) h end last k =
     let inside : 2 * q + 1 < length ws = elim (cases_lt (2 * q) at) [
@@ -179,7 +179,7 @@ relinked_chain ws from ps at head m v (Some q) h end last k =
     ] in
     link_set ws (slice_set ws (2 * q + 1) v) from ps at head m (2 * q) v h last (get_or-set_same ws (2 * q + 1) v 0 inside) (λ i other. get_or-set_other ws (2 * q + 1) i v 0 other) k
   where
-    gap_room : (ws : List ℕ) (a : ℕ) (ps : List Piece) (b q : ℕ) → Fill ws a ps b → size_at ps q ≢ 0 → b ≤ length ws → q + 1 < length ws
+    gap_room : (ws : List ℕ) (a : ℕ) (ps : List Tile) (b q : ℕ) → Fill ws a ps b → size_at ps q ≢ 0 → b ≤ length ws → q + 1 < length ws
     gap_room ws a [] b q h some end = absurd (some refl)
     gap_room ws a (p ∷ ps) b q h some end = elim (cases_eq p.place q) [
       | inl same ↦
@@ -189,6 +189,6 @@ relinked_chain ws from ps at head m v (Some q) h end last k =
     ]
 
 -- the link that is read is what the chain up to the place ends in
-pub link_is : (ws : List ℕ) (from : ℕ) (ps : List Piece) (at head m : ℕ) (before : Option ℕ) → Fill ws from ps at → IsLastOf ps before → AreLinked ws head ps m → link_before ws head before ≡ m
+pub link_is : (ws : List ℕ) (from : ℕ) (ps : List Tile) (at head m : ℕ) (before : Option ℕ) → Fill ws from ps at → IsLastOf ps before → AreLinked ws head ps m → link_before ws head before ≡ m
 link_is ws from ps at head m None h last k = link_none ws from ps at head m h last k
 link_is ws from ps at head m (Some q) h last k = last_link ws from ps at head m (2 * q) h last k

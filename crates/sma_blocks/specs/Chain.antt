@@ -1,7 +1,7 @@
 -- The chain of gaps: the second word of each is the place of the next one.
 use Rattle.std.specs.Prelude.{◌≡◌, ℕ, ◌+◌, MatchBool, List, [], ◌∷◌, slice_index}
 use Rattle.seg_words.specs.declared.extents.Extent.{Extent}
-use Rattle.sma_blocks.specs.Pieces.{Piece}
+use Rattle.sma_blocks.specs.Tiles.{Tile}
 
 -- The places from `first` on by the second word of each, up to 0, are the places of these runs, and
 -- the first word of each is its size plus 1.
@@ -11,9 +11,9 @@ IsChain words first (run ∷ runs) =
     (first ≡ run.place) × (slice_index words run.place ≡ run.size + 1)
     × IsChain words (slice_index words (run.place + 1)) runs
 
--- the gaps among the pieces are linked from `first` on, and the last one's second word is `last`
-abbrev pub AreLinked : List ℕ → ℕ → List Piece → ℕ → Type 0
+-- the gaps among the tiles are linked from `first` on, and the last one's second word is `last`
+abbrev pub AreLinked : List ℕ → ℕ → List Tile → ℕ → Type 0
 AreLinked words first [] last = first ≡ last
-AreLinked words first (piece ∷ rest) last =
-    MatchBool piece.live (AreLinked words first rest last)
-    ((first ≡ piece.place) × AreLinked words (slice_index words (piece.place + 1)) rest last)
+AreLinked words first (tile ∷ rest) last =
+    MatchBool tile.live (AreLinked words first rest last)
+    ((first ≡ tile.place) × AreLinked words (slice_index words (tile.place + 1)) rest last)

@@ -1,22 +1,22 @@
 -- What the index of gaps says of the words.
 use Rattle.std.specs.Prelude.{◌≡◌, ◌≢◌, ℕ, ◌+◌, ◌-◌, ◌/◌, ◌<◌, ◌≤◌, ◌==◌, ◌&&◌, not, if◌then◌else◌}
 use Rattle.std.specs.Prelude.{List, [], ◌∷◌, length, slice_index}
-use Rattle.sma_blocks.specs.Pieces.{Piece, pieces}
+use Rattle.sma_blocks.specs.Tiles.{Tile, tiles}
 
--- the size of this piece, if it is a gap that begins at the place
-abbrev pub here : Piece → ℕ → ℕ
-here piece place = if (piece.place == place) && not piece.live then piece.size else 0
+-- the size of this tile, if it is a gap that begins at the place
+abbrev pub here : Tile → ℕ → ℕ
+here tile place = if (tile.place == place) && not tile.live then tile.size else 0
 
--- the size of the gap among the pieces that begins at a place, or 0
-abbrev pub size_at : List Piece → ℕ → ℕ
+-- the size of the gap among the tiles that begins at a place, or 0
+abbrev pub size_at : List Tile → ℕ → ℕ
 size_at [] place = 0
-size_at (piece ∷ rest) place = here piece place + size_at rest place
+size_at (tile ∷ rest) place = here tile place + size_at rest place
 
 -- The i-th number is the size of the gap that begins at the word 2 i, or 0; there is one for every
 -- two words.
 pub record IsIndexed (words : List ℕ) (from : ℕ) (numbers : List ℕ) : Type 0 where
   pub room : length words ≤ length numbers + length numbers
-  pub told : (i : ℕ) → slice_index numbers i ≡ size_at (pieces words from) (i + i)
+  pub told : (i : ℕ) → slice_index numbers i ≡ size_at (tiles words from) (i + i)
 
 -- the numbers after n words were cut from the gap that begins at the word 2 `index`
 pub record IsShort (old new : List ℕ) (index size n : ℕ) : Type 0 where

@@ -5,12 +5,12 @@ use Rattle.std.proofs.Common.{slice_index, refl, sym, ap, ◌∙◌, subst, arit
 use Rattle.seg_words.specs.declared.extents.Extent.{Extent}
 use Rattle.seg_words.specs.Windows.{Aside}
 use Rattle.sma_blocks.specs.declared.sma.Sma.{Sma}
-use Rattle.sma_blocks.specs.Pieces.{Piece, pieces, Fill}
+use Rattle.sma_blocks.specs.Tiles.{Tile, tiles, Fill}
 use Rattle.sma_blocks.specs.Live.{lives, live_blocks}
 use Rattle.sma_blocks.specs.Ready.{NameLive, AreBlocks, IsReady}
 
-abbrev piece_extent : Piece → Extent
-piece_extent p = record { place = p.place; size = p.size }
+abbrev tile_extent : Tile → Extent
+tile_extent p = record { place = p.place; size = p.size }
 
 -- the live blocks stand one behind the other
 blocks_from : (ws : List ℕ) (low from : ℕ) (es : List Extent) (high : ℕ) → low ≤ from
@@ -18,13 +18,13 @@ blocks_from : (ws : List ℕ) (low from : ℕ) (es : List Extent) (high : ℕ) �
 blocks_from ws low from [] high le h = omega (arith, h)
 blocks_from ws low from (e ∷ es) high le h = (omega (arith, h.0), h.1, h.2, h.3)
 
-pub lives_stand : (ws : List ℕ) (a : ℕ) (ps : List Piece) (b : ℕ) → Fill ws a ps b
+pub lives_stand : (ws : List ℕ) (a : ℕ) (ps : List Tile) (b : ℕ) → Fill ws a ps b
     → AreBlocks ws a (lives ps) b
 lives_stand ws a [] b h = omega (arith, h)
 lives_stand ws a (p ∷ ps) b h = go p.live refl (lives_stand ws (a + p.size) ps b h.1)
   where
     go : (live : Bool) → p.live ≡ live → AreBlocks ws (a + p.size) (lives ps) b
-        → AreBlocks ws a (cond live (piece_extent p ∷ lives ps) (lives ps)) b
+        → AreBlocks ws a (cond live (tile_extent p ∷ lives ps) (lives ps)) b
     go true is rest =
         let none : cond {A = ℕ} p.live 0 1 ≡ 0 = ap (λ (v : Bool). cond {A = ℕ} v 0 1) is in
         let there = ap (slice_index ws) h.0.place in
@@ -39,7 +39,7 @@ pub ready_blocks : {sma : Sma} {words : List ℕ} {aside : Aside} → IsReady sm
     → AreBlocks words sma.from (live_blocks words sma.from) sma.to
 ready_blocks {sma} {words} {aside} ready =
     let full = ready.formatted.full in
-    let stand = lives_stand words sma.from (pieces words sma.from) (length words) full in
+    let stand = lives_stand words sma.from (tiles words sma.from) (length words) full in
     let blocks = live_blocks words sma.from in
     subst (λ (n : ℕ). AreBlocks words sma.from blocks n) (sym ready.end) stand
 
@@ -48,6 +48,8 @@ pub ready_renamed : {sma : Sma} {words : List ℕ} {old new : Aside} → IsReady
 ready_renamed h names =
     record {
       end = h.end;
+      short = h.short;
+      even = h.even;
       formatted = h.formatted;
       windows = names;
       indexed = h.indexed;

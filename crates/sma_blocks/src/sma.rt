@@ -7,17 +7,18 @@ ghost use Rattle.seg_words.specs.Windows.{has, is_named};
 ghost use Rattle.seg_words.specs.Blocks.{IsTold, MayStore};
 ghost use Rattle.seg_words.specs.Gaps.{first_fit, free_runs};
 ghost use Rattle.sma_blocks.specs.Live.{IsLive, SameBlocks, live_blocks, with_block, without_block};
-ghost use Rattle.sma_blocks.specs.Live.{kept_blocks, largest_of};
-ghost use Rattle.sma_blocks.specs.Pieces.{pieces};
+ghost use Rattle.sma_blocks.specs.Live.{kept_blocks, largest_of, lives};
+ghost use Rattle.sma_blocks.specs.Tiles.{tiles};
+ghost use Rattle.sma_blocks.specs.Laid.{IsLaid};
 ghost use Rattle.sma_blocks.specs.Chain.{IsChain};
 ghost use Rattle.sma_blocks.specs.Ready.{IsReady};
 ghost use Rattle.sma_blocks.specs.Walk.{IsEdge, IsFreeBefore, IsFreeAfter, merged_words};
-ghost use Rattle.max_tree.specs.Halves.{other_half};
+ghost use Rattle.max_tree.specs.Halves.{other_half, MayStand};
 ghost use Rattle.sma_blocks.specs.Index.{IsShort, IsJoined};
 
 use crate::stores::{cut, link_new, link_of, merge, next_of, relink, rest_of};
 use max_tree::{MaxRow, PairRow};
-use seg_words::{Segment, fit_laws};
+use seg_words::{Segment, begins_segment, fit_laws, segment_of};
 
 // What begins at a place: a live block or a gap.
 #[derive(Clone, Copy)]
@@ -36,6 +37,8 @@ pub struct Sma {
     pub from: u32,
     /// The end of the last one, which is the number of words.
     pub to: u32,
+    /// The number of words of a segment: no block and no gap crosses a multiple of it.
+    pub piece: u32,
     // The place of the first gap, or 0.
     head: u32,
     // How many words all gaps have.
@@ -49,6 +52,7 @@ impl Drop for Sma {
         let Sma {
             from: _,
             to: _,
+            piece: _,
             head: _,
             free: _,
             sizes: _,
@@ -57,42 +61,47 @@ impl Drop for Sma {
 }
 
 impl Sma {
-    /// Makes one gap of all words from `from` on. No window may be open.
+    /// Makes one gap of each segment of `piece` words, of the first from `from` on. No window may
+    /// be open.
     ///
     /// `gaps` is the memory of the index: zeros, one for every four words.
-    pub fn format<S: Segment>(seg: &mut S, from: u32, gaps: MaxRow) -> Sma
+    pub fn format<S: Segment>(seg: &mut S, from: u32, piece: u32, gaps: MaxRow) -> Sma
         requires even { (from % 2 ≡ 0) × (length (S.words seg.old) % 2 ≡ 0) }
+        requires even_piece { piece % 2 ≡ 0 }
+        requires short { length (S.words seg.old) < 2 ^ 31 }
         requires room { from + 2 ≤ length (S.words seg.old) }
         requires closed { (at : ℕ) → is_named (S.aside seg.old).windows at ≡ false }
         requires enough { length (S.words seg.old) ≤ 4 * length gaps }
         requires zeros { (i : ℕ) → slice_index gaps i ≡ 0 }
         ensures from { result.from ≡ from }
+        ensures piece { result.piece ≡ piece }
         ensures ready { IsReady result (S.words seg.new) (S.aside seg.new) }
         ensures empty { live_blocks (S.words seg.new) from ≡ [] }
-        ensures chain { IsChain (S.words seg.new) result.head (free_runs from result.to []) }
+        ensures chain { IsChain (S.words seg.new) result.head
+            (free_runs from result.to result.piece []) }
         ensures before { SameBlocks (S.words seg.old) (S.words seg.new) from [] }
         ensures beside { KeptBeside S.WordsIn seg.old seg.new }
     {
         let to = seg.len();
-        merge(seg, from, to, 0);
-        let mut sizes = PairRow::new(gaps);
-        sizes.put(from as usize / 2, to - from);
-        Sma {
+        let mut sma = Sma {
             from,
             to,
-            head: from,
-            free: to - from,
-            sizes,
-        }
+            piece: piece,
+            head: 0,
+            free: 0,
+            sizes: PairRow::new(gaps),
+        };
+        sma.lay(seg, from, to);
+        sma
     }
 
-    /// Makes a live block of `n` words at the least place where they fit beside all live blocks;
-    /// `None` exactly where they fit nowhere, and then nothing changed.
+    /// Makes a live block of `n` words at the least place where they fit beside all live blocks and
+    /// inside one segment; `None` exactly where they fit nowhere, and then nothing changed.
     pub fn take<S: Segment>(&mut self, seg: &mut S, n: u32) -> Option<u32>
         requires size { (n % 2 ≡ 0) × (2 ≤ n) }
         requires ready { IsReady self.old (S.words seg.old) (S.aside seg.old) }
-        ensures place { result ≡ first_fit self.old.from self.old.to n (live_blocks
-            (S.words seg.old) self.old.from) }
+        ensures place { result ≡ first_fit self.old.from self.old.to self.old.piece n
+            (live_blocks (S.words seg.old) self.old.from) }
         ensures taken { IfSome result (λ at. live_blocks (S.words seg.new) self.old.from
             ≡ with_block (record { place = at; size = n }) (live_blocks
             (S.words seg.old) self.old.from)) }
@@ -103,9 +112,11 @@ impl Sma {
         ensures same { IfNone result (self.new ≡ self.old) }
         ensures from { self.new.from ≡ self.old.from }
         ensures to { self.new.to ≡ self.old.to }
+        ensures piece { self.new.piece ≡ self.old.piece }
         ensures ready { IsReady self.new (S.words seg.new) (S.aside seg.new) }
         ensures chain { IsChain (S.words seg.new) self.new.head
-            (free_runs self.new.from self.new.to (live_blocks (S.words seg.new) self.new.from)) }
+            (free_runs self.new.from self.new.to self.new.piece (live_blocks
+            (S.words seg.new) self.new.from)) }
         ensures beside { KeptBeside S.WordsIn seg.old seg.new }
     {
         fit_laws();
@@ -123,8 +134,9 @@ impl Sma {
         Some(at)
     }
 
-    /// Makes the block at `at` live no more, and one gap of it and the gaps beside it. No window
-    /// may name the block.
+    /// Makes the block at `at` live no more, and one gap of it and the gaps beside it in its
+    /// segment.
+    /// No window may name the block.
     pub fn give<S: Segment>(&mut self, seg: &mut S, at: u32)
         requires live { IsLive (live_blocks (S.words seg.old) self.old.from) at }
         requires unnamed { is_named (S.aside seg.old).windows at ≡ false }
@@ -135,9 +147,11 @@ impl Sma {
             (without_block at (live_blocks (S.words seg.old) self.old.from)) }
         ensures from { self.new.from ≡ self.old.from }
         ensures to { self.new.to ≡ self.old.to }
+        ensures piece { self.new.piece ≡ self.old.piece }
         ensures ready { IsReady self.new (S.words seg.new) (S.aside seg.new) }
         ensures chain { IsChain (S.words seg.new) self.new.head
-            (free_runs self.new.from self.new.to (live_blocks (S.words seg.new) self.new.from)) }
+            (free_runs self.new.from self.new.to self.new.piece (live_blocks
+            (S.words seg.new) self.new.from)) }
         ensures beside { KeptBeside S.WordsIn seg.old seg.new }
     {
         // The words of the block first: they are the farthest from the processor, and come while
@@ -170,9 +184,11 @@ impl Sma {
             (kept_blocks places.now (live_blocks (S.words seg.old) self.old.from)) }
         ensures from { self.new.from ≡ self.old.from }
         ensures to { self.new.to ≡ self.old.to }
+        ensures piece { self.new.piece ≡ self.old.piece }
         ensures ready { IsReady self.new (S.words seg.new) (S.aside seg.new) }
         ensures chain { IsChain (S.words seg.new) self.new.head
-            (free_runs self.new.from self.new.to (live_blocks (S.words seg.new) self.new.from)) }
+            (free_runs self.new.from self.new.to self.new.piece (live_blocks
+            (S.words seg.new) self.new.from)) }
         ensures beside { KeptBeside S.WordsIn seg.old seg.new }
     {
         self.sizes.clear();
@@ -195,7 +211,7 @@ impl Sma {
     pub fn free_words<S: Segment>(&self, seg: &mut S) -> u32
         requires { IsReady self.now (S.words seg.old) (S.aside seg.old) }
         ensures value { result ≡ sum_by (λ run. run.size) (free_runs self.now.from self.now.to
-            (live_blocks (S.words seg.old) self.now.from)) }
+            self.now.piece (live_blocks (S.words seg.old) self.now.from)) }
         ensures kept { Kept S.WordsIn seg.old seg.new }
     {
         self.free
@@ -204,8 +220,8 @@ impl Sma {
     /// The size of the largest gap, in words; 0 where there is none.
     pub fn largest<S: Segment>(&self, seg: &mut S) -> u32
         requires { IsReady self.now (S.words seg.old) (S.aside seg.old) }
-        ensures value { result ≡ largest_of (free_runs self.now.from self.now.to (live_blocks
-            (S.words seg.old) self.now.from)) }
+        ensures value { result ≡ largest_of (free_runs self.now.from self.now.to self.now.piece
+            (live_blocks (S.words seg.old) self.now.from)) }
         ensures kept { Kept S.WordsIn seg.old seg.new }
     {
         self.sizes.largest()
@@ -223,8 +239,8 @@ impl Sma {
     pub fn gap_from<S: Segment>(&self, seg: &mut S, at: u32) -> Option<(u32, u32)>
         requires { IsReady self.now (S.words seg.old) (S.aside seg.old) }
         ensures value { result ≡ option_map (λ run. (run.place, run.size)) (find
-            (λ run. nat_le at run.place) (free_runs self.now.from self.now.to (live_blocks
-            (S.words seg.old) self.now.from))) }
+            (λ run. nat_le at run.place) (free_runs self.now.from self.now.to self.now.piece
+            (live_blocks (S.words seg.old) self.now.from))) }
         ensures kept { Kept S.WordsIn seg.old seg.new }
     {
         if self.to <= at || self.to - at < 2 {
@@ -240,32 +256,63 @@ impl Sma {
         if size == 0 { None } else { Some((place, size)) }
     }
 
-    // Makes a gap of the words from `first` up to `last`, if there are any, in front of all other
-    // gaps.
+    // Makes gaps of the words from `first` up to `last`, one in each segment, in front of all other
+    // gaps. No gap begins at `last`.
     fn lay<S: Segment>(&mut self, seg: &mut S, first: u32, last: u32)
+        requires laid { IsLaid self.old.piece (S.words seg.old) last self.old.sizes
+            self.old.head self.old.free true }
+        requires even { (first % 2 ≡ 0) × (last % 2 ≡ 0) × (self.old.piece % 2 ≡ 0) }
+        requires apart { (i : ℕ) → first ≤ i → i < last → MayStore (S.words seg.old)
+            (S.aside seg.old).windows i }
+        requires index { length (S.words seg.old) ≤ length self.old.sizes
+            + length self.old.sizes }
+        requires short { length (S.words seg.old) < 2 ^ 31 }
+        requires order { first ≤ last }
+        ensures laid { IsLaid self.old.piece (S.words seg.new) first self.new.sizes
+            self.new.head self.new.free false }
+        ensures lives { lives (tiles (S.words seg.new) first)
+            ≡ lives (tiles (S.words seg.old) last) }
+        ensures same { (i : ℕ) → (i < first) ⊎ (last ≤ i) → slice_index (S.words seg.new) i
+            ≡ slice_index (S.words seg.old) i }
+        ensures length { length (S.words seg.new) ≡ length (S.words seg.old) }
+        ensures count { length self.new.sizes ≡ length self.old.sizes }
+        ensures from { self.new.from ≡ self.old.from }
+        ensures to { self.new.to ≡ self.old.to }
+        ensures piece { self.new.piece ≡ self.old.piece }
+        ensures beside { KeptBeside S.WordsIn seg.old seg.new }
+    {
+        let mut end = last;
+        while first < end {
+            let own = segment_of(self.piece, end - 1);
+            let begin = own.max(first);
+            self.lay_one(seg, begin, end);
+            end = begin;
+        }
+    }
+
+    // Makes a gap of the words from `first` up to `last` in front of all other gaps.
+    fn lay_one<S: Segment>(&mut self, seg: &mut S, first: u32, last: u32)
         requires inside { last ≤ length (S.words seg.old) }
         requires even { (first % 2 ≡ 0) × (last % 2 ≡ 0) }
         requires apart { (i : ℕ) → first ≤ i → i < last → MayStore (S.words seg.old)
             (S.aside seg.old).windows i }
-        requires index { first < last → first / 2 < length self.old.sizes }
-        requires alone { first < last → slice_index self.old.sizes (other_half (first / 2)) ≡ 0 }
-        requires count { self.old.free + (last - first) < 2 ^ 32 }
-        ensures words { first < last → S.words seg.new ≡ merged_words
-            (S.words seg.old) first last self.old.head }
-        ensures sizes { first < last → IsJoined self.old.sizes self.new.sizes first last last }
-        ensures head { first < last → (self.new.head ≡ first) × (self.new.free ≡ self.old.free +
-            (last - first)) }
-        ensures none { last ≤ first → (S.words seg.new ≡ S.words seg.old) × (self.new ≡ self.old) }
+        requires some { first < last }
+        requires index { first / 2 < length self.old.sizes }
+        requires stand { MayStand (first / 2) (last - first) (slice_index self.old.sizes
+            (other_half (first / 2))) }
+        requires count { (self.old.free + (last - first) < 2 ^ 32) × (last < 2 ^ 31) }
+        ensures words { S.words seg.new ≡ merged_words (S.words seg.old) first last self.old.head }
+        ensures sizes { IsJoined self.old.sizes self.new.sizes first last last }
+        ensures head { (self.new.head ≡ first) × (self.new.free ≡ self.old.free + (last - first)) }
         ensures from { self.new.from ≡ self.old.from }
         ensures to { self.new.to ≡ self.old.to }
+        ensures piece { self.new.piece ≡ self.old.piece }
         ensures beside { KeptBeside S.WordsIn seg.old seg.new }
     {
-        if first < last {
-            merge(seg, first, last, u64::from(self.head));
-            self.sizes.put(first as usize / 2, last - first);
-            self.free += last - first;
-            self.head = first;
-        }
+        merge(seg, first, last, u64::from(self.head));
+        self.sizes.put(first as usize / 2, last - first);
+        self.free += last - first;
+        self.head = first;
     }
 
     // The place from which on the words right before the live block at `at` are free, where
@@ -277,12 +324,15 @@ impl Sma {
             ≡ 0) (λ q. (q < at / 2) × (slice_index self.now.sizes q ≢ 0)) }
         requires last { MatchOption before (Unit {0}) (λ q. (k : ℕ) → q < k → k < at / 2
             → slice_index self.now.sizes k ≡ 0) }
-        ensures free { IsFreeBefore (S.words seg.now) self.now.from result at }
+        ensures free { IsFreeBefore (S.words seg.now) self.now.from self.now.piece result at }
         ensures place { MatchOption before (result ≡ at) (λ q. (result ≡ at) ⊎ (result ≡ 2 * q)) }
     {
         let Some(index) = before else {
             return at;
         };
+        if begins_segment(self.piece, at) {
+            return at;
+        }
         let first = 2 * index as u32;
         if first + self.sizes.get(index) == at {
             return first;
@@ -294,23 +344,26 @@ impl Sma {
     fn free_after<S: Segment>(&self, seg: &S, end: u32) -> u32
         requires ready { IsReady self.now (S.words seg.now) (S.aside seg.now) }
         requires edge { IsEdge (S.words seg.now) self.now.from end }
-        requires inside { end ≤ self.now.to }
-        ensures free { IsFreeAfter (S.words seg.now) end result }
+        requires inside { (0 < end) × (end ≤ self.now.to) }
+        ensures free { IsFreeAfter (S.words seg.now) self.now.piece end result }
         ensures within { result ≤ self.now.to }
     {
         if end < self.to {
+            if begins_segment(self.piece, end) {
+                return end;
+            }
             return end + self.sizes.get(end as usize / 2);
         }
         end
     }
 
-    // The piece that begins at `at`.
+    // The tile that begins at `at`.
     fn part_at<S: Segment>(&self, seg: &mut S, at: u32) -> Part
         requires ready { IsReady self.now (S.words seg.old) (S.aside seg.old) }
         requires edge { IsEdge (S.words seg.old) self.now.from at }
         requires inside { at < self.now.to }
-        ensures is { pieces (S.words seg.old) at
-            ≡ record { place = at; size = result.size; live = not result.is_gap } ∷ pieces
+        ensures is { tiles (S.words seg.old) at
+            ≡ record { place = at; size = result.size; live = not result.is_gap } ∷ tiles
             (S.words seg.old) (at + result.size) }
         ensures edge { IsEdge (S.words seg.old) self.now.from (at + result.size) }
         ensures size { (2 ≤ result.size) × (result.size % 2 ≡ 0) ×
@@ -329,10 +382,10 @@ impl Sma {
 fn shorten(sizes: &mut PairRow, index: usize, size: u32, n: u32)
     requires inside { (index < length sizes.old) × (n < size → index + n / 2 < length sizes.old) }
     requires short { index + n / 2 < 2 ^ 32 }
-    requires even { (size % 2 ≡ 0) × (n % 2 ≡ 0) × (2 ≤ n) }
+    requires even { (size % 2 ≡ 0) × (n % 2 ≡ 0) × (2 ≤ n) × (size < 2 ^ 31) }
     requires some { slice_index sizes.old index ≢ 0 }
-    requires alone { n < size → other_half (index + n / 2) ≢ index → slice_index sizes.old
-        (other_half (index + n / 2)) ≡ 0 }
+    requires beside { n < size → other_half (index + n / 2) ≢ index → MayStand
+        (index + n / 2) (size - n) (slice_index sizes.old (other_half (index + n / 2))) }
     ensures { IsShort sizes.old sizes.new index size n }
 {
     if n < size {
@@ -347,10 +400,10 @@ fn shorten(sizes: &mut PairRow, index: usize, size: u32, n: u32)
 fn join(sizes: &mut PairRow, first: u32, end: u32, last: u32)
     requires inside { (first / 2 < length sizes.old) × (end < last → end / 2 < length sizes.old) }
     requires order { (first + 2 ≤ end) × (end ≤ last) }
-    requires even { (first % 2 ≡ 0) × (end % 2 ≡ 0) × (last % 2 ≡ 0) }
+    requires even { (first % 2 ≡ 0) × (end % 2 ≡ 0) × (last % 2 ≡ 0) × (last < 2 ^ 31) }
     requires some { end < last → slice_index sizes.old (end / 2) ≢ 0 }
-    requires alone { (end < last → other_half (first / 2) ≢ end / 2) → slice_index sizes.old
-        (other_half (first / 2)) ≡ 0 }
+    requires beside { (end < last → other_half (first / 2) ≢ end / 2) → MayStand
+        (first / 2) (last - first) (slice_index sizes.old (other_half (first / 2))) }
     ensures { IsJoined sizes.old sizes.new first end last }
 {
     if end < last {

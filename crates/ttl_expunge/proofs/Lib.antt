@@ -2,6 +2,7 @@ pub mod Rows
 pub mod Asides
 pub mod Sweeping
 pub mod Dropping
+pub mod Steps
 pub mod Chaining
 pub mod Ordering
 pub mod Expired

@@ -7,6 +7,7 @@ use Rattle.std.proofs.lemmas.Bool.{true≢false}
 use Rattle.seg_words.specs.Probing.{Goes, goes_on}
 use Rattle.seg_words.specs.Gaps.{first_fit}
 use Rattle.seg_words.specs.Windows.{Aside, held_blocks}
+use Rattle.apcu_model.specs.Conf.{piece_of}
 use Rattle.apcu_model.specs.Cache.{Row, Cache, extent_of, gap_of}
 use Rattle.apcu_model.specs.Change.{is_held, dropped, swept, expired_dropped, expunged, has_gap, with_room, is_expunged}
 use Rattle.apcu_model.specs.Expiry.{is_expired}
@@ -27,10 +28,10 @@ map_both f [] ys = refl
 map_both f (x ∷ xs) ys = ap (λ l. f x ∷ l) (map_both f xs ys)
 
 -- where no block is loose, the place of `take` is the cache's gap
-pub gap_is : (s : Entries) (c : Cache) (n : ℕ) → s ≡ entries_of c → first_fit s.conf.slots s.conf.words n (blocks_of s) ≡ gap_of c n
+pub gap_is : (s : Entries) (c : Cache) (n : ℕ) → s ≡ entries_of c → first_fit s.conf.slots s.conf.words (piece_of s.conf) n (blocks_of s) ≡ gap_of c n
 gap_is s c n e =
-    ap (λ (x : Entries). first_fit x.conf.slots x.conf.words n (blocks_of x)) e
-    ∙ ap (first_fit c.conf.slots c.conf.words n) (ap (λ l. map extent_of c.rows ++ l) (append-nil (map extent_of c.removed)) ∙ sym (map_both extent_of c.rows c.removed))
+    ap (λ (x : Entries). first_fit x.conf.slots x.conf.words (piece_of x.conf) n (blocks_of x)) e
+    ∙ ap (first_fit c.conf.slots c.conf.words (piece_of c.conf) n) (ap (λ l. map extent_of c.rows ++ l) (append-nil (map extent_of c.removed)) ∙ sym (map_both extent_of c.rows c.removed))
 
 -- what was swept or dropped is so by the blocks that are held later
 pub swept_later : {s s' : Entries} {before after : Aside} (c : Cache) → Sweeps s s' before after → s ≡ entries_of c → (later : Aside) → Goes after later → s' ≡ entries_of (swept (held_blocks later) c)
@@ -109,7 +110,7 @@ block_conf : (r : Option ℕ) (n : ℕ) (s s' : Entries) → s' ≡ with_found r
 block_conf None n s s' e = ap (λ (x : Entries). x.conf) e
 block_conf (Some at) n s s' e = ap (λ (x : Entries). x.conf) e
 
-pub makes : {s0 s1 s2 : Entries} {a0 a1 a2 : Aside} {n t : ℕ} (r : Option ℕ) (full : Bool) → s2 ≡ with_found r n s1 → r ≡ first_fit s1.conf.slots s1.conf.words n (blocks_of s1)
+pub makes : {s0 s1 s2 : Entries} {a0 a1 a2 : Aside} {n t : ℕ} (r : Option ℕ) (full : Bool) → s2 ≡ with_found r n s1 → r ≡ first_fit s1.conf.slots s1.conf.words (piece_of s1.conf) n (blocks_of s1)
     → ((c : Cache) (later : Aside) → s0 ≡ entries_of c → Goes a1 later → IsRoom s1 n t full c (held_blocks later))
     → s1.conf ≡ s0.conf → Goes a0 a1 → KeepsOpen a1.windows s0 s1 → AreRemoved a1 s1.removed → AreHeld a1 s1.removed → a2 ≡ a1 → MakesRoom s0 s2 a0 a2 n t r full
 makes {s0} {s1} {s2} {a0} {a1} {a2} {n} {t} r full took place cache conf goes keeps refused held same = subst (λ (a : Aside). MakesRoom s0 s2 a0 a n t r full) (sym same) (record {
@@ -124,11 +125,11 @@ makes {s0} {s1} {s2} {a0} {a1} {a2} {n} {t} r full took place cache conf goes ke
   held = subst (λ (x : Entries). AreHeld a1 x.removed) (sym took) (block_held a1 r n s1 held);
 })
 
-gap_there : (s : Entries) (c : Cache) (n : ℕ) (r : Option ℕ) (b : Bool) → s ≡ entries_of c → r ≡ first_fit s.conf.slots s.conf.words n (blocks_of s) → is_some r ≡ b → has_gap n c ≡ b
+gap_there : (s : Entries) (c : Cache) (n : ℕ) (r : Option ℕ) (b : Bool) → s ≡ entries_of c → r ≡ first_fit s.conf.slots s.conf.words (piece_of s.conf) n (blocks_of s) → is_some r ≡ b → has_gap n c ≡ b
 gap_there s c n r b e place is = ap is_some (sym (gap_is s c n e)) ∙ (ap is_some (sym place) ∙ is)
 
 -- the removed rows were enough
-pub room_swept : {s0 s1 : Entries} {a0 a1 : Aside} {n t : ℕ} (r : Option ℕ) → Sweeps s0 s1 a0 a1 → r ≡ first_fit s1.conf.slots s1.conf.words n (blocks_of s1) → is_some r ≡ true
+pub room_swept : {s0 s1 : Entries} {a0 a1 : Aside} {n t : ℕ} (r : Option ℕ) → Sweeps s0 s1 a0 a1 → r ≡ first_fit s1.conf.slots s1.conf.words (piece_of s1.conf) n (blocks_of s1) → is_some r ≡ true
     → (c : Cache) (later : Aside) → s0 ≡ entries_of c → Goes a1 later → IsRoom s1 n t false c (held_blocks later)
 room_swept {s0} {s1} {a0} {a1} {n} {t} r sweeps place some c later e on =
     let held = held_blocks later in
@@ -142,9 +143,9 @@ room_swept {s0} {s1} {a0} {a1} {n} {t} r sweeps place some c later e on =
     }
 
 -- the expired ones were
-pub room_expired : {s0 s1 s2 : Entries} {a0 a1 a2 : Aside} {n t : ℕ} {words windows : List ℕ} (r r' : Option ℕ) → Sweeps s0 s1 a0 a1 → r ≡ first_fit s1.conf.slots s1.conf.words n (blocks_of s1) → is_some r ≡ false
+pub room_expired : {s0 s1 s2 : Entries} {a0 a1 a2 : Aside} {n t : ℕ} {words windows : List ℕ} (r r' : Option ℕ) → Sweeps s0 s1 a0 a1 → r ≡ first_fit s1.conf.slots s1.conf.words (piece_of s1.conf) n (blocks_of s1) → is_some r ≡ false
     → Drops s1 s2 a1 a2 t (if nat_lt 0 s1.conf.ttl then in_slot_order s1.conf (filter (is_expired s1.conf t) s1.rows) else []) → IsSound s1 words windows
-    → r' ≡ first_fit s2.conf.slots s2.conf.words n (blocks_of s2) → is_some r' ≡ true
+    → r' ≡ first_fit s2.conf.slots s2.conf.words (piece_of s2.conf) n (blocks_of s2) → is_some r' ≡ true
     → (c : Cache) (later : Aside) → s0 ≡ entries_of c → Goes a2 later → IsRoom s2 n t false c (held_blocks later)
 room_expired {s0} {s1} {s2} {a0} {a1} {a2} {n} {t} r r' sweeps place nothing drops sound place' some c later e on =
     let held = held_blocks later in
@@ -161,9 +162,9 @@ room_expired {s0} {s1} {s2} {a0} {a1} {a2} {n} {t} r r' sweeps place nothing dro
     }
 
 -- all rows went
-pub room_full : {s0 s1 s2 s3 : Entries} {a0 a1 a2 a3 : Aside} {n t : ℕ} {words windows words' windows' : List ℕ} (r r' : Option ℕ) → Sweeps s0 s1 a0 a1 → r ≡ first_fit s1.conf.slots s1.conf.words n (blocks_of s1) → is_some r ≡ false
+pub room_full : {s0 s1 s2 s3 : Entries} {a0 a1 a2 a3 : Aside} {n t : ℕ} {words windows words' windows' : List ℕ} (r r' : Option ℕ) → Sweeps s0 s1 a0 a1 → r ≡ first_fit s1.conf.slots s1.conf.words (piece_of s1.conf) n (blocks_of s1) → is_some r ≡ false
     → Drops s1 s2 a1 a2 t (if nat_lt 0 s1.conf.ttl then in_slot_order s1.conf (filter (is_expired s1.conf t) s1.rows) else []) → IsSound s1 words windows
-    → r' ≡ first_fit s2.conf.slots s2.conf.words n (blocks_of s2) → is_some r' ≡ false
+    → r' ≡ first_fit s2.conf.slots s2.conf.words (piece_of s2.conf) n (blocks_of s2) → is_some r' ≡ false
     → Drops s2 s3 a2 a3 t (in_slot_order s2.conf s2.rows) → IsSound s2 words' windows'
     → (c : Cache) (later : Aside) → s0 ≡ entries_of c → Goes a3 later → IsRoom s3 n t true c (held_blocks later)
 room_full {s0} {s1} {s2} {s3} {a0} {a1} {a2} {a3} {n} {t} r r' sweeps place nothing drops sound place' neither all sound' c later e on =

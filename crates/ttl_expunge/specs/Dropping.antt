@@ -1,8 +1,8 @@
 -- How rows leave the entries.
-use Rattle.std.specs.Prelude.{ℕ, Bool, not, nat_lt, if◌then◌else◌, List, [], ◌++◌, map, filter}
+use Rattle.std.specs.Prelude.{ℕ, Bool, not, nat_lt, if◌then◌else◌, List, [], filter}
 use Rattle.seg_words.specs.Windows.{has}
 use Rattle.apcu_model.specs.Cache.{Row}
-use Rattle.apcu_model.specs.Change.{is_held}
+use Rattle.apcu_model.specs.Change.{is_held, leaving, removed_with}
 use Rattle.apcu_model.specs.Expiry.{is_expired}
 use Rattle.apcu_model.specs.Walk.{in_slot_order}
 use Rattle.entry_slots.specs.Lists.{has_place}
@@ -25,17 +25,14 @@ left_of gone rows = filter (λ row. not (has_place row.place gone)) rows
 abbrev pub dropped_rows : List ℕ → ℕ → List Row → Entries → Entries
 dropped_rows held t gone s = record s {
   rows = left_of gone s.rows;
-  removed = s.removed
-      ++ map {A = Row} (λ row. record row { dtime = t }) (filter (is_held held) gone);
+  removed = removed_with held t gone s.removed;
 }
 
 -- the rows that pass leave the rows, as `dropped` of a cache says
 abbrev pub dropped_in : List ℕ → ℕ → (Row → Bool) → Entries → Entries
 dropped_in held t pass s = record s {
   rows = filter (λ row. not (pass row)) s.rows;
-  removed = s.removed
-      ++ map {A = Row} (λ row. record row { dtime = t })
-      (filter (is_held held) (in_slot_order s.conf (filter pass s.rows)));
+  removed = removed_with held t (leaving s.conf pass s.rows) s.removed;
 }
 
 -- all rows, in the order in which they are dropped
@@ -44,7 +41,7 @@ all_rows s = in_slot_order s.conf s.rows
 
 -- the expired ones of them
 abbrev pub expired_rows : ℕ → Entries → List Row
-expired_rows t s = in_slot_order s.conf (filter (is_expired s.conf t) s.rows)
+expired_rows t s = leaving s.conf (is_expired s.conf t) s.rows
 
 -- the expired ones of one slot
 abbrev pub expired_in : ℕ → ℕ → Entries → List Row

@@ -4,3 +4,5 @@ pub mod Held
 pub mod Decided
 pub mod Which
 pub mod Room
+pub mod Laws
+pub mod Steps

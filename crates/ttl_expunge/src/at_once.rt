@@ -7,8 +7,8 @@ ghost use Rattle.entry_slots.specs.Lists.{has_place, only_at};
 ghost use Rattle.entry_slots.specs.Entries.{IsWhole, chain_of, without_rows};
 ghost use Rattle.ttl_expunge.specs.Dropping.{all_rows};
 ghost use Rattle.ttl_expunge.specs.Lists.{row_places};
-ghost use Rattle.ttl_expunge.specs.Held.{AreRemoved, Drops, Moves};
 ghost use Rattle.entry_slots.specs.Standing.{Stand, entries};
+ghost use Rattle.ttl_expunge.specs.Steps.{MayDropRows, DropsRows, MovesRows};
 
 use crate::chains::expunge_all;
 use crate::expunge::is_let_go;
@@ -17,13 +17,10 @@ use seg_words::{Segment, WordsIn};
 
 // Moves the row at `at` to the removed ones, if somebody still copies from its block.
 fn move_if_held<S: Segment>(slots: &mut EntrySlots, seg: &mut S, at: u32, t: u64)
-    requires stand { Stand S.WordsIn slots.old seg.old }
+    requires ready { MayDropRows S.WordsIn slots.old seg.old }
     requires there { has_place at (entries slots.old).rows ≡ true }
-    requires refused { AreRemoved (S.aside seg.old) (entries slots.old).removed }
-    ensures moves { Moves (entries slots.old) (entries slots.new)
-        (S.aside seg.old) (S.aside seg.new) t (only_at at (entries slots.old).rows) }
-    ensures stand { Stand S.WordsIn slots.new seg.new }
-    ensures rest { S.rest seg.new ≡ S.rest seg.old }
+    ensures { MovesRows S.WordsIn slots.old slots.new seg.old seg.new t
+        (only_at at (entries slots.old).rows) }
 {
     standing_laws();
     let is_free = is_let_go(slots, seg, at);
@@ -35,13 +32,10 @@ fn move_if_held<S: Segment>(slots: &mut EntrySlots, seg: &mut S, at: u32, t: u64
 
 // So for each row of one slot.
 fn move_held_in<S: Segment>(slots: &mut EntrySlots, seg: &mut S, slot: u32, t: u64)
-    requires stand { Stand S.WordsIn slots.old seg.old }
+    requires ready { MayDropRows S.WordsIn slots.old seg.old }
     requires slot { slot < (entries slots.old).conf.slots }
-    requires refused { AreRemoved (S.aside seg.old) (entries slots.old).removed }
-    ensures moves { Moves (entries slots.old) (entries slots.new)
-        (S.aside seg.old) (S.aside seg.new) t (chain_of (entries slots.old) slot) }
-    ensures stand { Stand S.WordsIn slots.new seg.new }
-    ensures rest { S.rest seg.new ≡ S.rest seg.old }
+    ensures { MovesRows S.WordsIn slots.old slots.new seg.old seg.new t
+        (chain_of (entries slots.old) slot) }
 {
     standing_laws();
     let mut at = slots.first_in(seg, slot);
@@ -54,12 +48,9 @@ fn move_held_in<S: Segment>(slots: &mut EntrySlots, seg: &mut S, slot: u32, t: u
 
 // So for each row.
 fn move_held<S: Segment>(slots: &mut EntrySlots, seg: &mut S, t: u64)
-    requires stand { Stand S.WordsIn slots.old seg.old }
-    requires refused { AreRemoved (S.aside seg.old) (entries slots.old).removed }
-    ensures moves { Moves (entries slots.old) (entries slots.new)
-        (S.aside seg.old) (S.aside seg.new) t (all_rows (entries slots.old)) }
-    ensures stand { Stand S.WordsIn slots.new seg.new }
-    ensures rest { S.rest seg.new ≡ S.rest seg.old }
+    requires ready { MayDropRows S.WordsIn slots.old seg.old }
+    ensures { MovesRows S.WordsIn slots.old slots.new seg.old seg.new t
+        (all_rows (entries slots.old)) }
 {
     standing_laws();
     let end = slots.slots();
@@ -113,13 +104,10 @@ fn free_beside<S: Segment>(slots: &mut EntrySlots, seg: &mut S, places: &mut [u3
 /// copies are moved one by one; all other words are made gaps in one step. Where more than 64 rows
 /// are removed then, as it is only where nobody swept them, the rows go one after the other.
 pub fn expunge_at_once<S: Segment>(slots: &mut EntrySlots, seg: &mut S, t: u64)
-    requires stand { Stand S.WordsIn slots.old seg.old }
+    requires ready { MayDropRows S.WordsIn slots.old seg.old }
     requires whole { IsWhole (entries slots.old) }
-    requires refused { AreRemoved (S.aside seg.old) (entries slots.old).removed }
-    ensures drops { Drops (entries slots.old) (entries slots.new)
-        (S.aside seg.old) (S.aside seg.new) t (all_rows (entries slots.old)) }
-    ensures stand { Stand S.WordsIn slots.new seg.new }
-    ensures rest { S.rest seg.new ≡ S.rest seg.old }
+    ensures { DropsRows S.WordsIn slots.old slots.new seg.old seg.new t
+        (all_rows (entries slots.old)) }
 {
     standing_laws();
     move_held(slots, seg, t);

@@ -1,12 +1,12 @@
-ghost use Rattle.std.specs.Prelude.{◌≡◌, ℕ, ◌<◌, true, filter};
+ghost use Rattle.std.specs.Prelude.{◌≡◌, ◌<◌, true, filter};
 ghost use Rattle.apcu_model.specs.Cache.{Row};
 ghost use Rattle.apcu_model.specs.Walk.{in_slot_order};
 ghost use Rattle.entry_slots.specs.Lists.{has_place, only_at};
 ghost use Rattle.entry_slots.specs.Entries.{chain_of};
 ghost use Rattle.ttl_expunge.specs.Dropping.{all_rows, expired_rows, expired_in};
-ghost use Rattle.ttl_expunge.specs.Held.{AreRemoved, Drops};
 ghost use Rattle.ttl_expunge.specs.Which.{is_to_drop};
-ghost use Rattle.entry_slots.specs.Standing.{Stand, entries};
+ghost use Rattle.entry_slots.specs.Standing.{entries};
+ghost use Rattle.ttl_expunge.specs.Steps.{MayDropRows, DropsRows};
 
 use crate::expunge::drop_row;
 use entry_slots::{EntrySlots, Head, standing_laws};
@@ -28,23 +28,16 @@ fn is_dropped(which: Which, head: Head, t: u64) -> bool
 {
     match which {
         Which::All => true,
-        Which::Expired(ttl) => {
-            (head.ttl > 0 && head.ctime.saturating_add(u64::from(head.ttl)) < t)
-                || (head.ttl == 0 && ttl > 0 && head.atime.saturating_add(u64::from(ttl)) < t)
-        }
+        Which::Expired(limit) => head.is_expired(limit, t),
     }
 }
 
 // Drops the row at `at`, if it is such a one.
 fn drop_if<S: Segment>(slots: &mut EntrySlots, seg: &mut S, at: u32, which: Which, t: u64)
-    requires stand { Stand S.WordsIn slots.old seg.old }
+    requires ready { MayDropRows S.WordsIn slots.old seg.old }
     requires there { has_place at (entries slots.old).rows ≡ true }
-    requires refused { AreRemoved (S.aside seg.old) (entries slots.old).removed }
-    ensures drops { Drops (entries slots.old) (entries slots.new)
-        (S.aside seg.old) (S.aside seg.new) t
+    ensures { DropsRows S.WordsIn slots.old slots.new seg.old seg.new t
         (filter (is_to_drop which t) (only_at at (entries slots.old).rows)) }
-    ensures stand { Stand S.WordsIn slots.new seg.new }
-    ensures rest { S.rest seg.new ≡ S.rest seg.old }
 {
     standing_laws();
     let head = slots.head(seg, at);
@@ -55,14 +48,10 @@ fn drop_if<S: Segment>(slots: &mut EntrySlots, seg: &mut S, at: u32, which: Whic
 
 // Drops such rows of one slot.
 fn drop_chain<S: Segment>(slots: &mut EntrySlots, seg: &mut S, slot: u32, which: Which, t: u64)
-    requires stand { Stand S.WordsIn slots.old seg.old }
+    requires ready { MayDropRows S.WordsIn slots.old seg.old }
     requires slot { slot < (entries slots.old).conf.slots }
-    requires refused { AreRemoved (S.aside seg.old) (entries slots.old).removed }
-    ensures drops { Drops (entries slots.old) (entries slots.new)
-        (S.aside seg.old) (S.aside seg.new) t
+    ensures { DropsRows S.WordsIn slots.old slots.new seg.old seg.new t
         (filter (is_to_drop which t) (chain_of (entries slots.old) slot)) }
-    ensures stand { Stand S.WordsIn slots.new seg.new }
-    ensures rest { S.rest seg.new ≡ S.rest seg.old }
 {
     standing_laws();
     let mut at = slots.first_in(seg, slot);
@@ -75,13 +64,10 @@ fn drop_chain<S: Segment>(slots: &mut EntrySlots, seg: &mut S, slot: u32, which:
 
 // Drops such rows of all slots.
 fn drop_all<S: Segment>(slots: &mut EntrySlots, seg: &mut S, which: Which, t: u64)
-    requires stand { Stand S.WordsIn slots.old seg.old }
-    requires refused { AreRemoved (S.aside seg.old) (entries slots.old).removed }
-    ensures drops { Drops (entries slots.old) (entries slots.new)
-        (S.aside seg.old) (S.aside seg.new) t (in_slot_order (entries slots.old).conf
+    requires ready { MayDropRows S.WordsIn slots.old seg.old }
+    ensures { DropsRows S.WordsIn slots.old slots.new seg.old seg.new t
+        (in_slot_order (entries slots.old).conf
         (filter (is_to_drop which t) (entries slots.old).rows)) }
-    ensures stand { Stand S.WordsIn slots.new seg.new }
-    ensures rest { S.rest seg.new ≡ S.rest seg.old }
 {
     standing_laws();
     let end = slots.slots();
@@ -92,39 +78,30 @@ fn drop_all<S: Segment>(slots: &mut EntrySlots, seg: &mut S, which: Which, t: u6
 
 /// Drops the expired rows of one slot; `ttl` is the cache's time limit.
 pub fn sweep_chain<S: Segment>(slots: &mut EntrySlots, seg: &mut S, slot: u32, ttl: u32, t: u64)
-    requires stand { Stand S.WordsIn slots.old seg.old }
+    requires ready { MayDropRows S.WordsIn slots.old seg.old }
     requires slot { slot < (entries slots.old).conf.slots }
     requires limit { ttl ≡ (entries slots.old).conf.ttl }
-    requires refused { AreRemoved (S.aside seg.old) (entries slots.old).removed }
-    ensures drops { Drops (entries slots.old) (entries slots.new)
-        (S.aside seg.old) (S.aside seg.new) t (expired_in t slot (entries slots.old)) }
-    ensures stand { Stand S.WordsIn slots.new seg.new }
-    ensures rest { S.rest seg.new ≡ S.rest seg.old }
+    ensures { DropsRows S.WordsIn slots.old slots.new seg.old seg.new t
+        (expired_in t slot (entries slots.old)) }
 {
     drop_chain(slots, seg, slot, Which::Expired(ttl), t);
 }
 
 /// Drops all expired rows, by slot and by their place in the chain.
 pub fn expunge_expired<S: Segment>(slots: &mut EntrySlots, seg: &mut S, ttl: u32, t: u64)
-    requires stand { Stand S.WordsIn slots.old seg.old }
+    requires ready { MayDropRows S.WordsIn slots.old seg.old }
     requires limit { ttl ≡ (entries slots.old).conf.ttl }
-    requires refused { AreRemoved (S.aside seg.old) (entries slots.old).removed }
-    ensures drops { Drops (entries slots.old) (entries slots.new)
-        (S.aside seg.old) (S.aside seg.new) t (expired_rows t (entries slots.old)) }
-    ensures stand { Stand S.WordsIn slots.new seg.new }
-    ensures rest { S.rest seg.new ≡ S.rest seg.old }
+    ensures { DropsRows S.WordsIn slots.old slots.new seg.old seg.new t
+        (expired_rows t (entries slots.old)) }
 {
     drop_all(slots, seg, Which::Expired(ttl), t);
 }
 
 /// Drops all rows, by slot and by their place in the chain.
 pub fn expunge_all<S: Segment>(slots: &mut EntrySlots, seg: &mut S, t: u64)
-    requires stand { Stand S.WordsIn slots.old seg.old }
-    requires refused { AreRemoved (S.aside seg.old) (entries slots.old).removed }
-    ensures drops { Drops (entries slots.old) (entries slots.new)
-        (S.aside seg.old) (S.aside seg.new) t (all_rows (entries slots.old)) }
-    ensures stand { Stand S.WordsIn slots.new seg.new }
-    ensures rest { S.rest seg.new ≡ S.rest seg.old }
+    requires ready { MayDropRows S.WordsIn slots.old seg.old }
+    ensures { DropsRows S.WordsIn slots.old slots.new seg.old seg.new t
+        (all_rows (entries slots.old)) }
 {
     drop_all(slots, seg, Which::All, t);
 }

@@ -1,11 +1,11 @@
-ghost use Rattle.std.specs.Prelude.{◌≡◌, ℕ, true, false, not};
-ghost use Rattle.seg_words.specs.Probing.{Met};
+ghost use Rattle.std.specs.Prelude.{◌≡◌, true, false, not};
 ghost use Rattle.seg_words.specs.Windows.{has, held_blocks};
 ghost use Rattle.entry_slots.specs.Lists.{has_place, only_at};
 ghost use Rattle.entry_slots.specs.Entries.{listed};
-ghost use Rattle.ttl_expunge.specs.Held.{AreRemoved, Sweeps, Drops};
 ghost use Rattle.ttl_expunge.specs.Dropping.{swept_at};
 ghost use Rattle.entry_slots.specs.Standing.{Stand, entries};
+ghost use Rattle.ttl_expunge.specs.Steps.{MayDropRows, MaySweepRows};
+ghost use Rattle.ttl_expunge.specs.Steps.{ProbesBlock, SweepsRows, DropsRows};
 
 use entry_slots::{EntrySlots, standing_laws, window_laws};
 use seg_words::{Segment, probe_laws};
@@ -18,9 +18,7 @@ pub fn is_let_go<S: Segment>(slots: &EntrySlots, seg: &mut S, at: u32) -> bool
     requires there { has_place at (listed (entries slots.now)) ≡ true }
     requires fresh { has at (S.aside seg.old).refused ≡ false }
     ensures free { result ≡ not (has at (held_blocks (S.aside seg.new))) }
-    ensures stand { Stand S.WordsIn slots.now seg.new }
-    ensures met { Met (S.aside seg.old) (S.aside seg.new) at }
-    ensures rest { S.rest seg.new ≡ S.rest seg.old }
+    ensures probes { ProbesBlock S.WordsIn slots.now seg.old seg.new at }
 {
     probe_laws();
     standing_laws();
@@ -35,9 +33,7 @@ fn sweep_at<S: Segment>(slots: &mut EntrySlots, seg: &mut S, at: u32)
     requires fresh { has at (S.aside seg.old).refused ≡ false }
     ensures swept { entries slots.new
         ≡ swept_at (held_blocks (S.aside seg.new)) at (entries slots.old) }
-    ensures stand { Stand S.WordsIn slots.new seg.new }
-    ensures met { Met (S.aside seg.old) (S.aside seg.new) at }
-    ensures rest { S.rest seg.new ≡ S.rest seg.old }
+    ensures probes { ProbesBlock S.WordsIn slots.new seg.old seg.new at }
 {
     if is_let_go(slots, seg, at) {
         slots.free(seg, at);
@@ -46,12 +42,8 @@ fn sweep_at<S: Segment>(slots: &mut EntrySlots, seg: &mut S, at: u32)
 
 /// Frees each removed row that nobody copies from any more. The others keep their order.
 pub fn sweep_removed<S: Segment>(slots: &mut EntrySlots, seg: &mut S)
-    requires stand { Stand S.WordsIn slots.old seg.old }
-    requires fresh { (b : ℕ) → has b (S.aside seg.old).refused ≡ false }
-    ensures sweeps { Sweeps (entries slots.old) (entries slots.new)
-        (S.aside seg.old) (S.aside seg.new) }
-    ensures stand { Stand S.WordsIn slots.new seg.new }
-    ensures rest { S.rest seg.new ≡ S.rest seg.old }
+    requires ready { MaySweepRows S.WordsIn slots.old seg.old }
+    ensures { SweepsRows S.WordsIn slots.old slots.new seg.old seg.new }
 {
     standing_laws();
     let mut at = slots.first_removed();
@@ -65,13 +57,10 @@ pub fn sweep_removed<S: Segment>(slots: &mut EntrySlots, seg: &mut S)
 /// Drops the row at `at`: it is the last of the removed rows where somebody still copies from its
 /// block, and else it is gone.
 pub fn drop_row<S: Segment>(slots: &mut EntrySlots, seg: &mut S, at: u32, t: u64)
-    requires stand { Stand S.WordsIn slots.old seg.old }
+    requires ready { MayDropRows S.WordsIn slots.old seg.old }
     requires there { has_place at (entries slots.old).rows ≡ true }
-    requires refused { AreRemoved (S.aside seg.old) (entries slots.old).removed }
-    ensures drops { Drops (entries slots.old) (entries slots.new)
-        (S.aside seg.old) (S.aside seg.new) t (only_at at (entries slots.old).rows) }
-    ensures stand { Stand S.WordsIn slots.new seg.new }
-    ensures rest { S.rest seg.new ≡ S.rest seg.old }
+    ensures { DropsRows S.WordsIn slots.old slots.new seg.old seg.new t
+        (only_at at (entries slots.old).rows) }
 {
     standing_laws();
     let is_free = is_let_go(slots, seg, at);

@@ -1,10 +1,9 @@
-ghost use Rattle.std.specs.Prelude.{◌≡◌, ℕ, ◌%◌, ◌≤◌, false};
-ghost use Rattle.seg_words.specs.Windows.{has};
+ghost use Rattle.std.specs.Prelude.{◌≡◌, ◌%◌, ◌≤◌};
 ghost use Rattle.ttl_expunge.specs.Dropping.{spent_rows};
-ghost use Rattle.ttl_expunge.specs.Held.{AreRemoved, AreHeld, Drops};
-ghost use Rattle.ttl_expunge.specs.Room.{MakesRoom};
+ghost use Rattle.ttl_expunge.specs.Held.{AreHeld};
 ghost use Rattle.entry_slots.specs.Entries.{IsWhole};
-ghost use Rattle.entry_slots.specs.Standing.{Stand, entries};
+ghost use Rattle.entry_slots.specs.Standing.{entries};
+ghost use Rattle.ttl_expunge.specs.Steps.{MayDropRows, MaySweepRows, DropsRows, MakesRoomIn};
 
 use crate::at_once::expunge_at_once;
 use crate::chains::expunge_expired;
@@ -14,13 +13,10 @@ use seg_words::Segment;
 
 // Drops the expired rows, where the cache has a time limit.
 fn drop_expired<S: Segment>(slots: &mut EntrySlots, seg: &mut S, ttl: u32, t: u64)
-    requires stand { Stand S.WordsIn slots.old seg.old }
+    requires ready { MayDropRows S.WordsIn slots.old seg.old }
     requires limit { ttl ≡ (entries slots.old).conf.ttl }
-    requires refused { AreRemoved (S.aside seg.old) (entries slots.old).removed }
-    ensures drops { Drops (entries slots.old) (entries slots.new)
-        (S.aside seg.old) (S.aside seg.new) t (spent_rows t (entries slots.old)) }
-    ensures stand { Stand S.WordsIn slots.new seg.new }
-    ensures rest { S.rest seg.new ≡ S.rest seg.old }
+    ensures { DropsRows S.WordsIn slots.old slots.new seg.old seg.new t
+        (spent_rows t (entries slots.old)) }
 {
     if ttl > 0 {
         expunge_expired(slots, seg, ttl, t);
@@ -38,14 +34,11 @@ pub fn make_room<S: Segment>(
     t: u64,
 ) -> (Option<u32>, bool)
     requires size { (n % 2 ≡ 0) × (2 ≤ n) }
-    requires stand { Stand S.WordsIn slots.old seg.old }
+    requires ready { MaySweepRows S.WordsIn slots.old seg.old }
     requires limit { ttl ≡ (entries slots.old).conf.ttl }
     requires whole { IsWhole (entries slots.old) }
-    requires fresh { (b : ℕ) → has b (S.aside seg.old).refused ≡ false }
-    ensures made { MakesRoom (entries slots.old) (entries slots.new)
-        (S.aside seg.old) (S.aside seg.new) n t result.0 result.1 }
-    ensures stand { Stand S.WordsIn slots.new seg.new }
-    ensures rest { S.rest seg.new ≡ S.rest seg.old }
+    ensures { MakesRoomIn S.WordsIn slots.old slots.new seg.old seg.new
+        n t result.0 result.1 }
 {
     sweep_removed(slots, seg);
     make_room_next(slots, seg, n, ttl, t)
@@ -61,15 +54,12 @@ pub fn make_room_next<S: Segment>(
     t: u64,
 ) -> (Option<u32>, bool)
     requires size { (n % 2 ≡ 0) × (2 ≤ n) }
-    requires stand { Stand S.WordsIn slots.old seg.old }
+    requires ready { MayDropRows S.WordsIn slots.old seg.old }
     requires limit { ttl ≡ (entries slots.old).conf.ttl }
     requires whole { IsWhole (entries slots.old) }
     requires held { AreHeld (S.aside seg.old) (entries slots.old).removed }
-    requires refused { AreRemoved (S.aside seg.old) (entries slots.old).removed }
-    ensures made { MakesRoom (entries slots.old) (entries slots.new)
-        (S.aside seg.old) (S.aside seg.new) n t result.0 result.1 }
-    ensures stand { Stand S.WordsIn slots.new seg.new }
-    ensures rest { S.rest seg.new ≡ S.rest seg.old }
+    ensures { MakesRoomIn S.WordsIn slots.old slots.new seg.old seg.new
+        n t result.0 result.1 }
 {
     standing_laws();
     let swept = slots.take(seg, n);

@@ -4,9 +4,9 @@ ghost use Rattle.std.specs.Prelude.{◌≡◌, ◌<◌, ◌^◌, ℕ, true, leng
 ghost use Rattle.apcu_model.specs.Walk.{slot_of};
 ghost use Rattle.entry_slots.specs.Lists.{has_place, only_at};
 ghost use Rattle.entry_slots.specs.Spots.{IsSpot, IsSpotOf};
-ghost use Rattle.entry_slots.specs.Standing.{Stand, entries};
+ghost use Rattle.entry_slots.specs.Standing.{entries};
 ghost use Rattle.ttl_expunge.specs.Dropping.{expired_in};
-ghost use Rattle.ttl_expunge.specs.Held.{AreRemoved, Drops};
+ghost use Rattle.ttl_expunge.specs.Steps.{MayDropRows, DropsRows};
 
 use crate::chains::sweep_chain;
 use crate::expunge::is_let_go;
@@ -23,16 +23,13 @@ pub fn seek_swept<S: Segment>(
     limit: u32,
     t: u64,
 ) -> Spot
-    requires stand { Stand S.WordsIn slots.old seg.old }
+    requires ready { MayDropRows S.WordsIn slots.old seg.old }
     requires short { length key.now < 2 ^ 32 }
     requires slot { slot ≡ slot_of (entries slots.old).conf key.now }
     requires limit { limit ≡ (entries slots.old).conf.ttl }
-    requires refused { AreRemoved (S.aside seg.old) (entries slots.old).removed }
-    ensures drops { Drops (entries slots.old) (entries slots.new)
-        (S.aside seg.old) (S.aside seg.new) t (expired_in t slot (entries slots.old)) }
+    ensures swept { DropsRows S.WordsIn slots.old slots.new seg.old seg.new t
+        (expired_in t slot (entries slots.old)) }
     ensures spot { IsSpotOf (entries slots.new) key.now t result }
-    ensures stand { Stand S.WordsIn slots.new seg.new }
-    ensures rest { S.rest seg.new ≡ S.rest seg.old }
 {
     standing_laws();
     let spot = slots.seek(seg, key, slot, limit, t);
@@ -45,14 +42,11 @@ pub fn seek_swept<S: Segment>(
 
 /// Drops the row at the spot, as `drop_row` does, and walks no chain.
 pub fn drop_row_at<S: Segment>(slots: &mut EntrySlots, seg: &mut S, spot: Spot, t: u64)
-    requires stand { Stand S.WordsIn slots.old seg.old }
+    requires ready { MayDropRows S.WordsIn slots.old seg.old }
     requires spot { (now : ℕ) × IsSpot (entries slots.old) now spot }
     requires there { has_place spot.at (entries slots.old).rows ≡ true }
-    requires refused { AreRemoved (S.aside seg.old) (entries slots.old).removed }
-    ensures drops { Drops (entries slots.old) (entries slots.new)
-        (S.aside seg.old) (S.aside seg.new) t (only_at spot.at (entries slots.old).rows) }
-    ensures stand { Stand S.WordsIn slots.new seg.new }
-    ensures rest { S.rest seg.new ≡ S.rest seg.old }
+    ensures { DropsRows S.WordsIn slots.old slots.new seg.old seg.new t
+        (only_at spot.at (entries slots.old).rows) }
 {
     standing_laws();
     let is_free = is_let_go(slots, seg, spot.at);

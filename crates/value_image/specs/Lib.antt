@@ -3,3 +3,4 @@ pub mod Rows
 pub mod Places
 pub mod Image
 pub mod Reading
+pub mod Laws

@@ -11,33 +11,38 @@ use Rattle.apcu_model.specs.declared.searching.List.TheVariants.{Active}
 use Rattle.apcu_model.specs.declared.searching.Fields.{Fields}
 use Rattle.apcu_model.specs.Chunks.{chunk_of}
 use Rattle.apcu_model.specs.History.{Stage, stage_of, held_places, reply_in, after_event}
+use Rattle.apcu_model.specs.Laws.{EventsKeep}
+use Rattle.apcu_model.specs.Rows.{are_apart}
 use Rattle.apcu_model.specs.Sequential.{reply_to}
 use Rattle.walk_laws.specs.Exchanges.{Exchange, IsWalk, answered_chunks, answered_keys, answers_in, chunks_in, next_in, own_exchanges, requests_in, steps_in, exchange_at, exchanges_of, walk_requests}
 use Rattle.walk_laws.specs.Walks.{AreSteps, walk_chunks, chunk_keys, times_given, is_whole, has_item}
-use Rattle.walk_laws.proofs.Staying.{Sound, StaysApart, sound_after, sound_stage}
 use Rattle.walk_laws.proofs.Walking as walking
 
 -- ---- the steps
 
-steps_from : StaysApart → (conf : Conf) (w : ℕ) (m : Stage) (es : List Event) → Sound conf m.cache → AreSteps conf (steps_in (own_exchanges w m es))
-steps_from law conf w m [] s = tt
-steps_from law conf w m (e ∷ es) s = go (e.worker == w) (steps_from law conf w (after_event m e) es (sound_after law conf m e s))
+steps_from : EventsKeep → (conf : Conf) (w : ℕ) (m : Stage) (es : List Event) → m.cache.conf ≡ conf → are_apart m.cache.rows ≡ true → AreSteps conf (steps_in (own_exchanges w m es))
+steps_from law conf w m [] shape apart = tt
+steps_from law conf w m (e ∷ es) shape apart =
+    go (e.worker == w) (steps_from law conf w (after_event m e) es (law.conf held e.t e.request m.cache ∙ shape) (law.apart held e.t e.request m.cache apart))
   where
+    held : List ℕ
+    held = held_places m e.mask
+
     go : (b : Bool) → AreSteps conf (steps_in (own_exchanges w (after_event m e) es))
         → AreSteps conf (steps_in (cond b (exchange_at m e ∷ own_exchanges w (after_event m e) es) (own_exchanges w (after_event m e) es)))
-    go true later = (s.shape, s.apart, later)
+    go true later = (shape, apart, later)
     go false later = later
 
-pub steps_are : StaysApart → (conf : Conf) (before events : List Event) (w : ℕ) → AreSteps conf (steps_in (exchanges_of conf before events w))
-steps_are law conf before events w = steps_from law conf w (stage_of conf before) events (sound_stage law conf before)
+pub steps_are : EventsKeep → (conf : Conf) (before events : List Event) (w : ℕ) → AreSteps conf (steps_in (exchanges_of conf before events w))
+steps_are law conf before events w = steps_from law conf w (stage_of conf before) events (law.conf_in conf before) (law.apart_in conf before)
 
 -- ---- the answers
 
-abbrev asks : Option Pattern → ℕ → Fields → ℕ → List Exchange → Type 0
+abbrev pub asks : Option Pattern → ℕ → Fields → ℕ → List Exchange → Type 0
 asks wanted size fields from own = requests_in own ≡ walk_requests wanted size fields from (answers_in own)
 
 -- the answer to a step
-answer_is : (wanted : Option Pattern) (size : ℕ) (fields : Fields) (from : ℕ) (m : Stage) (e : Event) → e.request ≡ requests.Chunk wanted from size Active fields
+pub answer_is : (wanted : Option Pattern) (size : ℕ) (fields : Fields) (from : ℕ) (m : Stage) (e : Event) → e.request ≡ requests.Chunk wanted from size Active fields
     → reply_in m e ≡ replies.Chunk (chunk_of wanted from size Active fields e.t m.cache)
 answer_is wanted size fields from m e asked = ap (λ r. reply_to (held_places m e.mask) e.t r m.cache) asked
 
@@ -66,13 +71,13 @@ pub given : (wanted : Option Pattern) (size : ℕ) (fields : Fields) (conf : Con
     → answered_chunks (exchanges_of conf before events w) ≡ walk_chunks wanted size fields 0 (steps_in (exchanges_of conf before events w))
 given wanted size fields conf before events w asked = given_from wanted size fields 0 w (stage_of conf before) events asked
 
-pub once : StaysApart → (wanted : Option Pattern) (size : ℕ) (fields : Fields) (conf : Conf) (before events : List Event) (w : ℕ) (key : List ℕ)
+pub once : EventsKeep → (wanted : Option Pattern) (size : ℕ) (fields : Fields) (conf : Conf) (before events : List Event) (w : ℕ) (key : List ℕ)
     → IsWalk wanted size fields (exchanges_of conf before events w) → times_given key (answered_keys (exchanges_of conf before events w)) ≤ 1
 once law wanted size fields conf before events w key asked =
     subst (λ (chunks : List Chunk). times_given key (flat_map chunk_keys chunks) ≤ 1) (sym (given wanted size fields conf before events w asked))
     (walking.once wanted size fields conf (steps_in (exchanges_of conf before events w)) key (steps_are law conf before events w))
 
-pub all : StaysApart → (wanted : Option Pattern) (size : ℕ) (fields : Fields) (conf : Conf) (before events : List Event) (w : ℕ) (key : List ℕ) → 1 ≤ conf.slots
+pub all : EventsKeep → (wanted : Option Pattern) (size : ℕ) (fields : Fields) (conf : Conf) (before events : List Event) (w : ℕ) (key : List ℕ) → 1 ≤ conf.slots
     → IsWalk wanted size fields (exchanges_of conf before events w) → is_whole conf.slots (answered_chunks (exchanges_of conf before events w)) ≡ true
     → list_all (has_item wanted key) (steps_in (exchanges_of conf before events w)) ≡ true → times_given key (answered_keys (exchanges_of conf before events w)) ≡ 1
 all law wanted size fields conf before events w key some asked whole there =

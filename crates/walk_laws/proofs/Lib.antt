@@ -1,5 +1,5 @@
 mod Answered
+mod Asked
 mod Counting
-mod Staying
 mod Steps
 mod Walking

@@ -1,4 +1,5 @@
 ghost use Rattle.std.specs.Prelude.{◌≡◌, ℕ, ◌<◌, ◌≤◌, List, length, Contains, IsTrue, Option};
+ghost use Rattle.std.specs.Prelude.{None};
 ghost use Rattle.std.specs.List.{list_all};
 ghost use Rattle.apcu_model.specs.declared.conf.Conf.{Conf};
 ghost use Rattle.apcu_model.specs.declared.searching.Pattern.{Pattern};
@@ -11,12 +12,14 @@ ghost use Rattle.apcu_model.specs.Chunks.{chunk_of};
 ghost use Rattle.apcu_model.specs.History.{stage_of};
 ghost use Rattle.apcu_model.specs.Rows.{are_apart};
 ghost use Rattle.apcu_model.specs.Walk.{slot_of};
+ghost use Rattle.script_read.specs.declared.call.Call.TheVariants.{Walk};
+ghost use Rattle.walk_laws.specs.Calls.{IsAskedIn, replies_in, wanted_by};
 ghost use Rattle.walk_laws.specs.Exchanges.{IsWalk, answered_chunks, answered_keys, exchanges_of};
 ghost use Rattle.walk_laws.specs.Exchanges.{steps_in};
 ghost use Rattle.walk_laws.specs.Walks.{WalkStep, AreSteps, walk_chunks, walk_keys, times_given};
 ghost use Rattle.walk_laws.specs.Walks.{is_under_way, is_whole, has_item};
 
-use apcu_model::rows_stay_apart;
+use apcu_model::events_keep;
 
 /// What the steps of an iterator over the active rows give together, whatever is done to the cache
 /// between them: no key twice, however far the walk has come; and once it has come to the end,
@@ -84,5 +87,23 @@ pub fn walks_in_histories()
         → IsTrue (list_all (has_item wanted key) (steps_in own))
         → times_given key (answered_keys own) ≡ 1 }
 {
-    rows_stay_apart();
+    events_keep();
+}
+
+/// What a worker's call of an iterator over the active rows asks is such a walk: the events of a
+/// worker in which it asks in turn what the call wants after its own replies. Where the call wants
+/// nothing more, and each step was to give at least one item, the walk has come to the end.
+pub fn calls_are_walks()
+    ensures walk { (conf : Conf) (t : ℕ) (wanted : Option Pattern) (fields : Fields) (size : ℕ)
+        (before events : List Event) (w : ℕ)
+        → IsAskedIn conf t (Walk wanted fields size Active) before events w
+        → IsWalk wanted size fields (exchanges_of conf before events w) }
+    ensures whole { (conf : Conf) (t : ℕ) (wanted : Option Pattern) (fields : Fields) (size : ℕ)
+        (before events : List Event) (w : ℕ) → 1 ≤ size → 1 ≤ conf.slots
+        → IsAskedIn conf t (Walk wanted fields size Active) before events w
+        → wanted_by conf t (Walk wanted fields size Active) (replies_in conf before events w)
+        ≡ None
+        → IsTrue (is_whole conf.slots (answered_chunks (exchanges_of conf before events w))) }
+{
+    events_keep();
 }

@@ -3,4 +3,4 @@
 
 mod laws;
 
-pub use laws::{steps_of_walks, walks_give_once, walks_in_histories};
+pub use laws::{calls_are_walks, steps_of_walks, walks_give_once, walks_in_histories};

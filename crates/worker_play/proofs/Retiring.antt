@@ -1,5 +1,5 @@
 -- Workers that end.
-use Rattle.std.proofs.Common.{◌≡◌, ℕ, ◌<◌, ◌≤◌, List, [], ◌∷◌, ◌++◌, map, Some, refl, sym, ap, subst, ◌∙◌, arith}
+use Rattle.std.proofs.Common.{◌≡◌, ℕ, ◌+◌, ◌<◌, ◌≤◌, List, [], ◌∷◌, ◌++◌, map, Some, refl, sym, ap, subst, ◌∙◌, arith}
 use Rattle.std.specs.Prelude.{sum, Result, Ok, Err, IfOk, IfSome}
 use Rattle.std.specs.Result.{result_ok}
 use Rattle.apcu_model.specs.declared.conf.Conf.{Conf}
@@ -13,7 +13,7 @@ use Rattle.script_read.specs.Play.{Wish, wanted}
 use Rattle.reply_text.specs.Lines.{script_lines}
 use Rattle.play_laws.specs.Own.{own_replies, wish_in, HasPlayed}
 use Rattle.shared_cache.specs.Follows.{Follows}
-use Rattle.worker_play.specs.Goes.{wish, GoesOn, Reaches, Tells}
+use Rattle.worker_play.specs.Goes.{wish, KnowsOwnEvents, GoesOn, Reaches, Tells}
 use Rattle.worker_play.specs.Ends.{PlaysOut, Asked}
 use Rattle.worker_play.specs.Turns.{turns_of}
 use Rattle.worker_play.proofs.Going.{OwnLaws, more, one}
@@ -23,9 +23,13 @@ use Rattle.worker_play.proofs.Turns.{script_few, in_turn_one, in_turn_more, in_t
 pub one_left : (conf : Conf) (workers : ℕ) (p q : Bearer) (script : List Step) → Reaches conf workers p q (turns_of conf script) → sum (map (λ (s : Step). event_bound conf.slots s.call) script) < p.known.left → 1 ≤ q.known.left
 one_left conf workers p q script r enough = omega (arith, enough, r.goes.left, script_few conf script r.made r.replies r.in_turn)
 
--- who has seen nothing was answered nothing
-pub unanswered : (conf : Conf) (p : Bearer) → p.known.seen ≡ [] → own_replies conf p.known.worker p.known.seen ≡ []
-unanswered conf p seen = ap (own_replies conf p.known.worker) seen
+-- no more was taken than all calls may make
+pub few_taken : (conf : Conf) (workers : ℕ) (p q : Bearer) (script : List Step) → Reaches conf workers p q (turns_of conf script) → p.known.left ≤ q.known.left + sum (map (λ (s : Step). event_bound conf.slots s.call) script)
+few_taken conf workers p q script r = omega (arith, r.goes.left, script_few conf script r.made r.replies r.in_turn)
+
+-- who has made no event was answered nothing
+pub unanswered : OwnLaws → (conf : Conf) (p : Bearer) → p.known.own ≡ [] → KnowsOwnEvents p → own_replies conf p.known.worker p.known.seen ≡ []
+unanswered laws conf p none whole = laws.others conf p.known.worker [] p.known.seen (whole ∙ none)
 
 -- a worker that asked nothing before has made these events, and then its end
 record EndsAfter (conf : Conf) (q : Bearer) (ws : List Wish) (rs : List Reply) : Type 0 where

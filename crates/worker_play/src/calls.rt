@@ -8,6 +8,7 @@ ghost use Rattle.script_read.specs.Calls.{HasRanges, event_bound};
 ghost use Rattle.script_read.specs.Play.{next_of};
 ghost use Rattle.reply_text.specs.Replies.{unstored_text, found_text, there_text, undeleted_text};
 ghost use Rattle.reply_text.specs.Lines.{call_text};
+ghost use Rattle.shared_cache.specs.Asking.{MayAsk};
 ghost use Rattle.worker_play.specs.Goes.{KnowsOwnEvents, Reaches, Tells};
 ghost use Rattle.worker_play.specs.Groups.{IsFlagged, IsInforming, IsSearching};
 ghost use Rattle.worker_play.specs.Patterns.{call_pattern};
@@ -138,9 +139,8 @@ fn play_flagged<N: TableName, R: Wait>(
     t: u64,
     out: &mut ByteOut,
 ) -> (Pass, Result<(), AllocError>)
-    requires table { pass.table ≡ N.table }
+    requires pass { MayAsk N.table 2 pass }
     requires whole { KnowsOwnEvents pass }
-    requires left { 2 ≤ pass.known.left }
     requires flagged { IsFlagged call.now }
     ensures reaches { Reaches N.conf (length N.budgets) pass result.0
         (turns_at t (next_of N.conf call.now)) }
@@ -175,6 +175,7 @@ fn play_flagged<N: TableName, R: Wait>(
 }
 
 // Plays a call that asks what is noted of a key, of the cache or of its segment, and prints that.
+#[inline(never)]
 fn play_told<N: TableName, R: Wait>(
     rt: &R,
     alloc: Global,
@@ -184,9 +185,8 @@ fn play_told<N: TableName, R: Wait>(
     t: u64,
     out: &mut ByteOut,
 ) -> (Pass, Result<(), AllocError>)
-    requires table { pass.table ≡ N.table }
+    requires pass { MayAsk N.table 2 pass }
     requires whole { KnowsOwnEvents pass }
-    requires left { 2 ≤ pass.known.left }
     requires informs { IsInforming call.now }
     ensures reaches { Reaches N.conf (length N.budgets) pass result.0
         (turns_at t (next_of N.conf call.now)) }
@@ -222,6 +222,7 @@ fn play_told<N: TableName, R: Wait>(
 
 // Plays a call of an iterator, and prints what it answers. `number` is that of the call in its
 // script, and `search` is one for its pattern.
+#[inline(never)]
 fn play_searching<N: TableName, G: Gate, R: Wait>(
     rt: &R,
     alloc: Global,
@@ -277,6 +278,7 @@ fn play_searching<N: TableName, G: Gate, R: Wait>(
 }
 
 // Stores all pairs in their order, and prints the keys that were not stored.
+#[inline(never)]
 fn store_all<N: TableName, R: Wait>(
     rt: &R,
     alloc: Global,
@@ -311,6 +313,7 @@ fn store_all<N: TableName, R: Wait>(
 
 // Fetches all keys in their order, each value before the next key, and prints those that were
 // found.
+#[inline(never)]
 fn fetch_all<N: TableName, G: Gate, R: Wait>(
     rt: &R,
     alloc: Global,
@@ -345,6 +348,7 @@ fn fetch_all<N: TableName, G: Gate, R: Wait>(
 }
 
 // Looks for all keys in their order, and prints those that are there.
+#[inline(never)]
 fn look_for_all<N: TableName, R: Wait>(
     rt: &R,
     alloc: Global,
@@ -376,6 +380,7 @@ fn look_for_all<N: TableName, R: Wait>(
 }
 
 // Deletes all keys in their order, and prints those that were not deleted.
+#[inline(never)]
 fn delete_all<N: TableName, R: Wait>(
     rt: &R,
     alloc: Global,

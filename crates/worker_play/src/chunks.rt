@@ -3,6 +3,7 @@
 ghost use Rattle.std.specs.Prelude.{◌≡◌, ◌≤◌, ◌<◌, [], ◌∷◌, length, IfOk, OnErr};
 ghost use Rattle.apcu_model.specs.declared.request.Request.TheVariants as request;
 ghost use Rattle.apcu_model.specs.declared.request.Reply.TheVariants as reply;
+ghost use Rattle.shared_cache.specs.Asking.{MayAsk};
 ghost use Rattle.worker_play.specs.Goes.{wish, KnowsOwnEvents, GoesOn};
 
 use apcu_iter::Search;
@@ -30,9 +31,8 @@ pub(crate) fn chunk<N: TableName, G: Gate, R: Wait>(
     fields: Fields,
     t: u64,
 ) -> (Pass, Result<Chunk, AllocError>)
-    requires table { pass.table ≡ N.table }
+    requires pass { MayAsk N.table 2 pass }
     requires whole { KnowsOwnEvents pass }
-    requires left { 2 ≤ pass.known.left }
     requires from { from ≤ N.conf.slots }
     requires size { 0 < size }
     ensures told { IfOk result.1 (λ chunk. GoesOn N.conf (length N.budgets) pass result.0
@@ -63,9 +63,8 @@ pub(crate) fn chunk_delete<N: TableName, G: Gate, R: Wait>(
     size: u32,
     t: u64,
 ) -> (Pass, Result<u32, AllocError>)
-    requires table { pass.table ≡ N.table }
+    requires pass { MayAsk N.table 2 pass }
     requires whole { KnowsOwnEvents pass }
-    requires left { 2 ≤ pass.known.left }
     requires from { from ≤ N.conf.slots }
     requires size { 0 < size }
     ensures deleted { IfOk result.1 (λ next. GoesOn N.conf (length N.budgets) pass result.0
@@ -92,9 +91,8 @@ pub(crate) fn totals<N: TableName, R: Wait>(
     list: List,
     t: u64,
 ) -> (Pass, Result<(u64, u64, u64), AllocError>)
-    requires table { pass.table ≡ N.table }
+    requires pass { MayAsk N.table 2 pass }
     requires whole { KnowsOwnEvents pass }
-    requires left { 2 ≤ pass.known.left }
     ensures told { IfOk result.1 (λ r. GoesOn N.conf (length N.budgets) pass result.0
         (wish t (request.Totals search.old list) ∷ []) (reply.Totals r.0 r.1 r.2 ∷ [])) }
     ensures same { OnErr result.1 (result.0 ≡ pass) }

@@ -4,6 +4,7 @@ ghost use Rattle.std.specs.Prelude.{◌≡◌, ◌<◌, [], map, sum, IfErr};
 ghost use Rattle.std.specs.Result.{result_ok};
 ghost use Rattle.script_read.specs.Calls.{event_bound};
 ghost use Rattle.worker_play.specs.Ends.{Ends};
+ghost use Rattle.worker_play.specs.Goes.{KnowsOwnEvents};
 ghost use Rattle.worker_play.specs.Patterns.{HasRefusable};
 ghost use Rattle.worker_play.specs.declared.script.PlayFault.TheVariants.{Pattern};
 
@@ -22,7 +23,8 @@ use std::sync::Wait;
 /// Plays a worker's script as `play_script` does, and ends the worker, whether or not it came to
 /// the script's end. What its calls print is handed out where it did.
 ///
-/// The pass has made and seen no event, and may make one more than all calls of the script may.
+/// The pass has made no event, whatever it has seen, and may make one more than all calls of the
+/// script may.
 pub fn play_out<N: TableName, M: Maker + Sync, G: Gate, R: Wait>(
     rt: &R,
     alloc: Global,
@@ -36,7 +38,7 @@ pub fn play_out<N: TableName, M: Maker + Sync, G: Gate, R: Wait>(
     requires conf { conf.now ≡ N.conf }
     requires table { pass.table ≡ N.table }
     requires no_event { pass.known.own ≡ [] }
-    requires none_seen { pass.known.seen ≡ [] }
+    requires whole { KnowsOwnEvents pass }
     requires left { sum (map (λ step. event_bound conf.now.slots step.call) script.now)
         < pass.known.left }
     ensures ends { Ends N.table N.conf pass.known.worker script.now result.0

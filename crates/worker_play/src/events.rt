@@ -8,6 +8,7 @@ ghost use Rattle.apcu_model.specs.declared.request.Reply.TheVariants.{Flag, Foun
 ghost use Rattle.apcu_model.specs.Levels.{most_levels};
 ghost use Rattle.apcu_model.specs.Sequential.{info_reply, number_reply};
 ghost use Rattle.reply_text.specs.Replies.{fetched};
+ghost use Rattle.shared_cache.specs.Asking.{MayAsk};
 ghost use Rattle.worker_play.specs.Goes.{wish, KnowsOwnEvents, GoesOn};
 
 use crate::scalar::graph_of_scalar;
@@ -31,9 +32,8 @@ pub(crate) fn store<N: TableName, R: Wait>(
     exclusive: bool,
     t: u64,
 ) -> (Pass, bool)
-    requires table { pass.table ≡ N.table }
+    requires pass { MayAsk N.table 2 pass }
     requires whole { KnowsOwnEvents pass }
-    requires left { 2 ≤ pass.known.left }
     ensures { GoesOn N.conf (length N.budgets) pass result.0
         (wish t (request.Store key.now value.now ttl exclusive) ∷ []) (Flag result.1 ∷ []) }
 {
@@ -49,9 +49,8 @@ pub(crate) fn exists<N: TableName, R: Wait>(
     key: &Bytes,
     t: u64,
 ) -> (Pass, bool)
-    requires table { pass.table ≡ N.table }
+    requires pass { MayAsk N.table 2 pass }
     requires whole { KnowsOwnEvents pass }
-    requires left { 2 ≤ pass.known.left }
     ensures { GoesOn N.conf (length N.budgets) pass result.0
         (wish t (request.Exists key.now) ∷ []) (Flag result.1 ∷ []) }
 {
@@ -67,9 +66,8 @@ pub(crate) fn delete<N: TableName, R: Wait>(
     key: &Bytes,
     t: u64,
 ) -> (Pass, bool)
-    requires table { pass.table ≡ N.table }
+    requires pass { MayAsk N.table 2 pass }
     requires whole { KnowsOwnEvents pass }
-    requires left { 2 ≤ pass.known.left }
     ensures { GoesOn N.conf (length N.budgets) pass result.0
         (wish t (request.Delete key.now) ∷ []) (Flag result.1 ∷ []) }
 {
@@ -87,9 +85,8 @@ pub(crate) fn inc<N: TableName, R: Wait>(
     ttl: u32,
     t: u64,
 ) -> (Pass, Option<i64>)
-    requires table { pass.table ≡ N.table }
+    requires pass { MayAsk N.table 2 pass }
     requires whole { KnowsOwnEvents pass }
-    requires left { 2 ≤ pass.known.left }
     ensures { GoesOn N.conf (length N.budgets) pass result.0
         (wish t (request.Inc key.now step ttl) ∷ []) (number_reply result.1 ∷ []) }
 {
@@ -107,9 +104,8 @@ pub(crate) fn cas<N: TableName, R: Wait>(
     set: i64,
     t: u64,
 ) -> (Pass, bool)
-    requires table { pass.table ≡ N.table }
+    requires pass { MayAsk N.table 2 pass }
     requires whole { KnowsOwnEvents pass }
-    requires left { 2 ≤ pass.known.left }
     ensures { GoesOn N.conf (length N.budgets) pass result.0
         (wish t (request.Cas key.now expect set) ∷ []) (Flag result.1 ∷ []) }
 {
@@ -126,9 +122,8 @@ pub(crate) fn entry<N: TableName, R: Wait>(
     generator: &Gen,
     t: u64,
 ) -> (Pass, Result<Graph, AllocError>)
-    requires table { pass.table ≡ N.table }
+    requires pass { MayAsk N.table 2 pass }
     requires whole { KnowsOwnEvents pass }
-    requires left { 2 ≤ pass.known.left }
     requires entry { 0 < length generator.now.levels }
     requires levels { length generator.now.levels ≤ most_levels }
     ensures given { IfOk result.1 (λ value. GoesOn N.conf (length N.budgets) pass result.0
@@ -152,9 +147,8 @@ pub(crate) fn key_info<N: TableName, R: Wait>(
     key: &Bytes,
     t: u64,
 ) -> (Pass, Result<Option<Graph>, AllocError>)
-    requires table { pass.table ≡ N.table }
+    requires pass { MayAsk N.table 2 pass }
     requires whole { KnowsOwnEvents pass }
-    requires left { 2 ≤ pass.known.left }
     ensures told { IfOk result.1 (λ info. GoesOn N.conf (length N.budgets) pass result.0
         (wish t (request.KeyInfo key.now) ∷ []) (info_reply info ∷ [])) }
     ensures same { OnErr result.1 (result.0 ≡ pass) }
@@ -171,9 +165,8 @@ pub(crate) fn cache_info<N: TableName, R: Wait>(
     pass: Pass,
     limited: bool,
 ) -> (Pass, Result<Graph, AllocError>)
-    requires table { pass.table ≡ N.table }
+    requires pass { MayAsk N.table 2 pass }
     requires whole { KnowsOwnEvents pass }
-    requires left { 2 ≤ pass.known.left }
     ensures told { IfOk result.1 (λ info. GoesOn N.conf (length N.budgets) pass result.0
         (wish 0 (request.CacheInfo limited) ∷ []) (Info info ∷ [])) }
     ensures same { OnErr result.1 (result.0 ≡ pass) }
@@ -190,9 +183,8 @@ pub(crate) fn sma_info<N: TableName, R: Wait>(
     pass: Pass,
     limited: bool,
 ) -> (Pass, Result<Graph, AllocError>)
-    requires table { pass.table ≡ N.table }
+    requires pass { MayAsk N.table 2 pass }
     requires whole { KnowsOwnEvents pass }
-    requires left { 2 ≤ pass.known.left }
     ensures told { IfOk result.1 (λ info. GoesOn N.conf (length N.budgets) pass result.0
         (wish 0 (request.SmaInfo limited) ∷ []) (Info info ∷ [])) }
     ensures same { OnErr result.1 (result.0 ≡ pass) }
@@ -203,9 +195,8 @@ pub(crate) fn sma_info<N: TableName, R: Wait>(
 
 // Drops all rows.
 pub(crate) fn clear<N: TableName, R: Wait>(rt: &R, shared: &Shared<N>, pass: Pass, t: u64) -> Pass
-    requires table { pass.table ≡ N.table }
+    requires pass { MayAsk N.table 2 pass }
     requires whole { KnowsOwnEvents pass }
-    requires left { 2 ≤ pass.known.left }
     ensures { GoesOn N.conf (length N.budgets) pass result
         (wish t request.Clear ∷ []) (Flag true ∷ []) }
 {
@@ -225,9 +216,8 @@ pub(crate) fn fetch<N: TableName, G: Gate, R: Wait>(
     key: &Bytes,
     t: u64,
 ) -> (Pass, Result<Option<Graph>, AllocError>)
-    requires table { pass.table ≡ N.table }
+    requires pass { MayAsk N.table 2 pass }
     requires whole { KnowsOwnEvents pass }
-    requires left { 2 ≤ pass.known.left }
     ensures { (y : Reply) × GoesOn N.conf (length N.budgets) pass result.0
         (wish t (request.Fetch key.now) ∷ []) (y ∷ [])
         × IfOk result.1 (λ found. fetched found ≡ y) }

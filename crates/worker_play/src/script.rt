@@ -1,6 +1,6 @@
 //! A worker's script.
 
-ghost use Rattle.std.specs.Prelude.{◌≡◌, ℕ, ◌<◌, ◌++◌, List, [], length, map, sum};
+ghost use Rattle.std.specs.Prelude.{◌≡◌, ℕ, ◌+◌, ◌<◌, ◌≤◌, ◌++◌, List, [], length, map, sum};
 ghost use Rattle.std.specs.Prelude.{IfOk, IfErr, OnOk};
 ghost use Rattle.script_read.specs.Calls.{HasRanges, event_bound};
 ghost use Rattle.script_read.specs.Grammar.{ends_line};
@@ -158,7 +158,8 @@ fn play_steps<N: TableName, M: Maker, G: Gate, R: Wait>(
 /// A search for a call's pattern is made by `maker`, once, before the call asks anything.
 ///
 /// The pass has made no event, and may make one more than all calls of the script may. It comes
-/// back with the events that are left. Its worker has asked in turn what the calls want after its
+/// back with the events that are left, which are at most as many fewer as all calls may make. Its
+/// worker has asked in turn what the calls want after its
 /// replies, and those are the ones of one thread at the events' places in what the pass has seen.
 ///
 /// Without memory the worker stops, and also where a pattern of its script is none or is refused:
@@ -176,13 +177,15 @@ pub fn play_script<N: TableName, M: Maker + Sync, G: Gate, R: Wait>(
     requires conf { conf.now ≡ N.conf }
     requires table { pass.table ≡ N.table }
     requires no_event { pass.known.own ≡ [] }
-    requires none_seen { KnowsOwnEvents pass }
+    requires whole { KnowsOwnEvents pass }
     requires left { sum (map (λ step. event_bound conf.now.slots step.call) script.now)
         < pass.known.left }
     ensures reaches { Reaches N.conf (length N.budgets) pass result.0
         (turns_of N.conf script.now) }
     ensures lines { IfOk result.1 (λ out. Tells N.conf (length N.budgets) pass result.0
         (turns_of N.conf script.now) (script_lines conf.now script.now) out) }
+    ensures left { pass.known.left ≤ result.0.known.left
+        + sum (map (λ step. event_bound conf.now.slots step.call) script.now) }
     ensures pattern { IfErr result.1 (λ fault. fault ≡ Pattern
         → HasRefusable (M.may_refuse maker.now) script.now) }
 {

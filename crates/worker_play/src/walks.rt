@@ -9,6 +9,7 @@ ghost use Rattle.apcu_model.specs.declared.searching.List.TheVariants.{Active, D
 ghost use Rattle.script_read.specs.Play.{slot_after};
 ghost use Rattle.reply_text.specs.Replies.{flag_text};
 ghost use Rattle.reply_text.specs.Items.{walk_text};
+ghost use Rattle.shared_cache.specs.Asking.{MayAsk};
 ghost use Rattle.worker_play.specs.Goes.{KnowsOwnEvents, Reaches, Tells};
 ghost use Rattle.worker_play.specs.Turns.{asks_at, steps_at};
 
@@ -110,9 +111,8 @@ pub(crate) fn walk_deleted<N: TableName, G: Gate, R: Wait>(
     t: u64,
     out: &mut ByteOut,
 ) -> (Pass, Result<(), AllocError>)
-    requires table { pass.table ≡ N.table }
+    requires pass { MayAsk N.table 2 pass }
     requires whole { KnowsOwnEvents pass }
-    requires left { 2 ≤ pass.known.left }
     requires size { 0 < size }
     ensures reaches { Reaches N.conf (length N.budgets) pass result.0
         (asks_at t (request.Chunk search.old 0 size Deleted fields ∷ [])) }

@@ -21,6 +21,7 @@ pub(crate) const CONF: Conf = Conf {
     words: 512,
     slots: 32,
     ttl: 0,
+    segments: 1,
 };
 
 // The script that a text spells.
@@ -69,7 +70,7 @@ pub(crate) fn plays<N: TableName, M: Maker + Sync, G: Gate, R: Wait>(
     requires conf { conf.now ≡ N.conf }
     requires table { pass.table ≡ N.table }
     requires no_event { pass.known.own ≡ [] }
-    requires none_seen { KnowsOwnEvents pass }
+    requires whole { KnowsOwnEvents pass }
     ensures table { IfSome result (λ r. r.0.table ≡ N.table) }
     ensures worker { IfSome result (λ r. r.0.known.worker ≡ pass.known.worker) }
     ensures left { IfSome result (λ r. 1 ≤ r.0.known.left) }
@@ -77,9 +78,5 @@ pub(crate) fn plays<N: TableName, M: Maker + Sync, G: Gate, R: Wait>(
     if !may_play(script, conf.slots, pass.left()) {
         return None;
     }
-    let (pass, printed) = play_script(rt, alloc, conf, shared, pass, script, maker, gate);
-    if pass.left() == 0 {
-        return None;
-    }
-    Some((pass, printed))
+    Some(play_script(rt, alloc, conf, shared, pass, script, maker, gate))
 }

@@ -10,17 +10,17 @@ use Rattle.apcu_iter.proofs.chains.list_removed.Goals as goal
 
 pub add_item-requires-clause-there : goal.add_item-requires-clause-there
 add_item-requires-clause-there g c =
-    (removed_here c.lower_laws.ensures.sound c.args.slots.now (g.S.WordsIn.words c.args.seg.now) (g.S.WordsIn.aside c.args.seg.now) (entries c.args.slots.now) c.loop-passed._passed c.loop-passed.at c.requires.stand c.loop-passed.invariant.at c.if-at-eq0.false).in_listed
+    (removed_here c.standing_laws.ensures.sound c.args.slots.now (g.S.WordsIn.words c.args.seg.now) (g.S.WordsIn.aside c.args.seg.now) (entries c.args.slots.now) c.loop-passed._passed c.loop-passed.at c.requires.stand c.loop-passed.invariant.at c.if-at-eq0.false).in_listed
 
 pub after-at-requires-clause-there : goal.after-at-requires-clause-there
 after-at-requires-clause-there g c =
-    (removed_here c.lower_laws.ensures.sound c.args.slots.now (g.S.WordsIn.words c.args.seg.now) (g.S.WordsIn.aside c.args.seg.now) (entries c.args.slots.now) c.loop-passed._passed c.loop-passed.at c.requires.stand c.loop-passed.invariant.at c.if-at-eq0.false).in_listed
+    (removed_here c.standing_laws.ensures.sound c.args.slots.now (g.S.WordsIn.words c.args.seg.now) (g.S.WordsIn.aside c.args.seg.now) (entries c.args.slots.now) c.loop-passed._passed c.loop-passed.at c.requires.stand c.loop-passed.invariant.at c.if-at-eq0.false).in_listed
 
 pub loop-passed-preserved : goal.loop-passed-preserved
 loop-passed-preserved g c =
     let s = entries c.args.slots.now in
     let i = c.loop-passed.invariant in
-    let here = removed_here c.lower_laws.ensures.sound c.args.slots.now (g.S.WordsIn.words c.args.seg.now) (g.S.WordsIn.aside c.args.seg.now) s c.loop-passed._passed c.loop-passed.at c.requires.stand i.at c.if-at-eq0.false in
+    let here = removed_here c.standing_laws.ensures.sound c.args.slots.now (g.S.WordsIn.words c.args.seg.now) (g.S.WordsIn.aside c.args.seg.now) s c.loop-passed._passed c.loop-passed.at c.requires.stand i.at c.if-at-eq0.false in
     let row = c.in_ok-add_item.ensures in
     let next = c.after-at.ensures in
     let f : List Row → List ItemRow = chosen_items c.args.test.now c.args.fields in
@@ -36,7 +36,7 @@ pub returns-then-at-eq0-clause-items : goal.returns-then-at-eq0-clause-items
 returns-then-at-eq0-clause-items g c =
     let s = entries c.args.slots.now in
     let i = c.loop-passed.invariant in
-    let none = removed_end c.lower_laws.ensures.sound c.args.slots.now (g.S.WordsIn.words c.args.seg.now) (g.S.WordsIn.aside c.args.seg.now) s c.loop-passed._passed c.requires.stand (sym c.if-at-eq0.true ∙ i.at) in
+    let none = removed_end c.standing_laws.ensures.sound c.args.slots.now (g.S.WordsIn.words c.args.seg.now) (g.S.WordsIn.aside c.args.seg.now) s c.loop-passed._passed c.requires.stand (sym c.if-at-eq0.true ∙ i.at) in
     goes_out (chosen_items c.args.test.now c.args.fields) refl (drop c.loop-passed._passed s.removed) c.loop-passed.items.items _ none i.items
 
 pub returns-clause-items : goal.returns-clause-items

@@ -1,8 +1,7 @@
-use Rattle.std.proofs.Common.{◌≡◌, ◌∙◌, ap}
+use Rattle.std.proofs.Common.{◌≡◌, ◌∙◌}
 use Rattle.std.proofs.lemmas.Result.{IfOk-weaker}
 use Rattle.apcu_model.specs.declared.items.Chunk.{Chunk}
 use Rattle.apcu_model.specs.declared.searching.List.TheVariants.{Active, Deleted}
-use Rattle.apcu_model.specs.declared.request.Reply.TheVariants as replies
 use Rattle.apcu_model.specs.Chunks.{chunk_of}
 use Rattle.entry_slots.specs.Standing.{entries}
 use Rattle.cache_core.specs.Caching.{cache_of}
@@ -20,12 +19,6 @@ returns-in-Active-clause-chunk g c =
     (λ (x : Chunk). x ≡ chunk_of c.args.search.now c.args.from c.args.size c.args.list c.args.fields c.args.t (cache_of core))
     (λ x is. is ∙ told) c.active_chunk.ensures.chunk
 
-pub returns-in-Active-clause-reply : goal.returns-in-Active-clause-reply
-returns-in-Active-clause-reply g c =
-    let all = chunk_of c.args.search.now c.args.from c.args.size c.args.list c.args.fields c.args.t (cache_of c.args.core.now) in
-    IfOk-weaker c.active_chunk.result (λ (x : Chunk). x ≡ all) (λ (x : Chunk). replies.Chunk x ≡ replies.Chunk all)
-    (λ x is. ap replies.Chunk is) (returns-in-Active-clause-chunk g c)
-
 pub returns-clause-chunk : goal.returns-clause-chunk
 returns-clause-chunk g c =
     let core = c.args.core.now in
@@ -35,9 +28,3 @@ returns-clause-chunk g c =
     (λ (x : Chunk). x ≡ chunk_of test.pattern 0 0 Deleted c.args.fields 0 (uncounted (entries c.slots-slots.result.now)))
     (λ (x : Chunk). x ≡ chunk_of c.args.search.now c.args.from c.args.size c.args.list c.args.fields c.args.t (cache_of core))
     (λ x is. is ∙ told) c.removed_chunk.ensures.chunk
-
-pub returns-clause-reply : goal.returns-clause-reply
-returns-clause-reply g c =
-    let all = chunk_of c.args.search.now c.args.from c.args.size c.args.list c.args.fields c.args.t (cache_of c.args.core.now) in
-    IfOk-weaker c.removed_chunk.result (λ (x : Chunk). x ≡ all) (λ (x : Chunk). replies.Chunk x ≡ replies.Chunk all)
-    (λ x is. ap replies.Chunk is) (returns-clause-chunk g c)

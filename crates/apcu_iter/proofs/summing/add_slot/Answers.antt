@@ -12,11 +12,11 @@ use Rattle.apcu_iter.proofs.summing.add_slot.Goals as goal
 
 pub add_row-requires-clause-there : goal.add_row-requires-clause-there
 add_row-requires-clause-there g c =
-    (chain_here c.lower_laws.ensures.walked c.args.slots.now (g.S.WordsIn.words c.args.seg.now) (g.S.WordsIn.aside c.args.seg.now) (entries c.args.slots.now) c.args.slot c.loop-passed._passed c.loop-passed.at c.requires.stand c.loop-passed.invariant.at c.if-at-eq0.false).in_listed
+    (chain_here c.standing_laws.ensures.walked c.args.slots.now (g.S.WordsIn.words c.args.seg.now) (g.S.WordsIn.aside c.args.seg.now) (entries c.args.slots.now) c.args.slot c.loop-passed._passed c.loop-passed.at c.requires.stand c.loop-passed.invariant.at c.if-at-eq0.false).in_listed
 
 pub after-at-requires-clause-there : goal.after-at-requires-clause-there
 after-at-requires-clause-there g c =
-    (chain_here c.lower_laws.ensures.walked c.args.slots.now (g.S.WordsIn.words c.args.seg.now) (g.S.WordsIn.aside c.args.seg.now) (entries c.args.slots.now) c.args.slot c.loop-passed._passed c.loop-passed.at c.requires.stand c.loop-passed.invariant.at c.if-at-eq0.false).in_listed
+    (chain_here c.standing_laws.ensures.walked c.args.slots.now (g.S.WordsIn.words c.args.seg.now) (g.S.WordsIn.aside c.args.seg.now) (entries c.args.slots.now) c.args.slot c.loop-passed._passed c.loop-passed.at c.requires.stand c.loop-passed.invariant.at c.if-at-eq0.false).in_listed
 
 pub loop-passed-init : goal.loop-passed-init
 loop-passed-init g c =
@@ -33,7 +33,7 @@ pub loop-passed-preserved : goal.loop-passed-preserved
 loop-passed-preserved g c =
     let s = entries c.args.slots.now in
     let i = c.loop-passed.invariant in
-    let here = chain_here c.lower_laws.ensures.walked c.args.slots.now (g.S.WordsIn.words c.args.seg.now) (g.S.WordsIn.aside c.args.seg.now) s c.args.slot c.loop-passed._passed c.loop-passed.at c.requires.stand i.at c.if-at-eq0.false in
+    let here = chain_here c.standing_laws.ensures.walked c.args.slots.now (g.S.WordsIn.words c.args.seg.now) (g.S.WordsIn.aside c.args.seg.now) s c.args.slot c.loop-passed._passed c.loop-passed.at c.requires.stand i.at c.if-at-eq0.false in
     let row = c.in_ok-sums.ensures in
     let next = c.after-at.ensures in
     let old = c.loop-passed.sums in
@@ -51,7 +51,7 @@ pub returns-then-at-eq0-clause-sums : goal.returns-then-at-eq0-clause-sums
 returns-then-at-eq0-clause-sums g c =
     let s = entries c.args.slots.now in
     let i = c.loop-passed.invariant in
-    let none = chain_end c.lower_laws.ensures.sound c.args.slots.now (g.S.WordsIn.words c.args.seg.now) (g.S.WordsIn.aside c.args.seg.now) s c.args.slot c.loop-passed._passed c.requires.stand (sym c.if-at-eq0.true ∙ i.at) in
+    let none = chain_end c.standing_laws.ensures.sound c.args.slots.now (g.S.WordsIn.words c.args.seg.now) (g.S.WordsIn.aside c.args.seg.now) s c.args.slot c.loop-passed._passed c.requires.stand (sym c.if-at-eq0.true ∙ i.at) in
     adds_out c.args.test.now (drop c.loop-passed._passed (chain_of s c.args.slot)) c.loop-passed.sums _ i.small none i.sums
 
 pub returns-clause-sums : goal.returns-clause-sums

@@ -20,6 +20,3 @@ returns-clause-totals g c =
     let same = subst (λ (e : EntrySlots). AreFew (entries e).conf.words (entries e).rows (entries e).removed) (sym c.slots-slots.ensures.value) few in
     let are = totals_are (entries c.slots-slots.result.now) c.in_ok-test.test c.args.list c.in_ok-sums.sums same c.in_ok-sums.ensures.sums in
     totals_told core c.slots-slots.result.now c.in_ok-test.test c.args.search.now c.args.list c.args.t c.in_ok-sums.sums c.slots-slots.ensures.value c.in_ok-test.ensures are
-
-pub returns-clause-reply : goal.returns-clause-reply
-returns-clause-reply g c = returns-clause-totals g c

@@ -9,7 +9,7 @@ loop-i-preserved c =
     let i = c.loop-i.invariant in
     let low : c.loop-i.i < c.args.conf.words = omega (arith, c.loop-i-test.true, c.saturating_sub-i-end.ensures) in
     record {
-      gaps = c.in_ok-free.ensures.gaps ∙ run_goes_on_below c.args.extents.now c.args.conf.words c.loop-i.i _ low i.gaps;
+      gaps = c.in_ok-free.ensures.gaps ∙ run_goes_on_below c.piece-piece.result c.args.extents.now c.args.conf.words c.loop-i.i _ low i.gaps;
       free = c.in_ok-free.ensures.free;
       few = omega (arith, i.few, c.in_ok-free.ensures.few);
     }

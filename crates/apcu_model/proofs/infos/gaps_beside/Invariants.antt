@@ -7,7 +7,7 @@ use Rattle.apcu_model.proofs.infos.gaps_beside.Given as goal
 
 abbrev pub invariant-loop-i : goal.invariant-loop-i
 invariant-loop-i l = record {
-  gaps : reverse l.gaps.items ≡ runs_of (filter (λ word. is_free word 1 l.extents) (range_with_len (l.conf.words - l.i) l.i));
+  gaps : reverse l.gaps.items ≡ runs_of l.piece (filter (λ word. is_free word 1 l.extents) (range_with_len (l.conf.words - l.i) l.i));
   free : l.free ≡ sum_by (λ (gap : Extent). gap.size) l.gaps.items;
   few : l.free ≤ l.i;
 }

@@ -1,5 +1,6 @@
 use Rattle.std.proofs.Common.{sym, subst, ◌∙◌}
 use Rattle.apcu_play.specs.Run.{WasRead}
+use Rattle.apcu_play.proofs.Taken.{was_taken}
 use Rattle.apcu_play.proofs.running.answer.Goals as goal
 
 pub returns-clause-script : goal.returns-clause-script
@@ -10,26 +11,26 @@ returns-clause-script g c = λ is. record {
   first = c.ending_of.ensures.script c.deref.result.now c.in-Err-read_scripts.ensures.read is;
 }
 
-pub returns-in-Ok-play-clause-script : goal.returns-in-Ok-play-clause-script
-returns-in-Ok-play-clause-script g c = tt
+pub returns-in-Ok-played-clause-script : goal.returns-in-Ok-played-clause-script
+returns-in-Ok-played-clause-script g c = tt
 
-pub returns-in-Ok-play-clause-too_many : goal.returns-in-Ok-play-clause-too_many
-returns-in-Ok-play-clause-too_many g c = tt
+pub returns-in-Ok-played-clause-too_many : goal.returns-in-Ok-played-clause-too_many
+returns-in-Ok-played-clause-too_many g c = tt
 
-pub returns-in-Ok-play-clause-pattern : goal.returns-in-Ok-play-clause-pattern
-returns-in-Ok-play-clause-pattern g c = tt
+pub returns-in-Ok-played-clause-pattern : goal.returns-in-Ok-played-clause-pattern
+returns-in-Ok-played-clause-pattern g c = tt
 
-pub returns-in-Ok-play-clause-too_long : goal.returns-in-Ok-play-clause-too_long
-returns-in-Ok-play-clause-too_long g c = tt
+pub returns-in-Ok-played-clause-too_long : goal.returns-in-Ok-played-clause-too_long
+returns-in-Ok-played-clause-too_long g c = tt
 
-pub returns-in-Ok-play-clause-longer : goal.returns-in-Ok-play-clause-longer
-returns-in-Ok-play-clause-longer g c = tt
+pub returns-in-Ok-played-clause-longer : goal.returns-in-Ok-played-clause-longer
+returns-in-Ok-played-clause-longer g c = tt
 
-pub returns-in-Ok-play-clause-fault : goal.returns-in-Ok-play-clause-fault
-returns-in-Ok-play-clause-fault g c = tt
+pub returns-in-Ok-played-clause-fault : goal.returns-in-Ok-played-clause-fault
+returns-in-Ok-played-clause-fault g c = tt
 
-pub returns-in-Ok-play-clause-others : goal.returns-in-Ok-play-clause-others
-returns-in-Ok-play-clause-others g c = tt
+pub returns-in-Ok-played-clause-others : goal.returns-in-Ok-played-clause-others
+returns-in-Ok-played-clause-others g c = tt
 
 pub returns-in-Err-TooMany-clause-answer : goal.returns-in-Err-TooMany-clause-answer
 returns-in-Err-TooMany-clause-answer g c = tt
@@ -102,3 +103,21 @@ returns-in-Err-clause-answer g c = tt
 
 pub returns-clause-answer : goal.returns-clause-answer
 returns-clause-answer g c = tt
+
+pub returns-in-Ok-played-clause-within : goal.returns-in-Ok-played-clause-within
+returns-in-Ok-played-clause-within g c = tt
+
+pub returns-in-Err-TooMany-clause-within : goal.returns-in-Err-TooMany-clause-within
+returns-in-Err-TooMany-clause-within g c = λ _. was_taken _ _ _ c.in-Ok.ensures.read
+
+pub returns-in-Err-Pattern-clause-within : goal.returns-in-Err-Pattern-clause-within
+returns-in-Err-Pattern-clause-within g c = λ _. was_taken _ _ _ c.in-Ok.ensures.read
+
+pub returns-in-Ok-read_scripts-clause-within : goal.returns-in-Ok-read_scripts-clause-within
+returns-in-Ok-read_scripts-clause-within g c = λ _. was_taken _ _ _ c.in-Ok.ensures.read
+
+pub returns-clause-within : goal.returns-clause-within
+returns-clause-within g c = λ _. was_taken _ _ _ c.in-Ok.ensures.read
+
+pub returns-in-Err-clause-within : goal.returns-in-Err-clause-within
+returns-in-Err-clause-within g c = λ other. c.in-Err.ensures.within (λ is. other (cc (c.of.ensures, is)))

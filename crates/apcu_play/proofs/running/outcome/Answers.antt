@@ -1,6 +1,7 @@
 use Rattle.std.proofs.Common.{arith}
 use Rattle.std.proofs.lemmas.Grind.{common_steps}
-use Rattle.conf_read.specs.Options.{conf_of}
+use Rattle.conf_read.specs.Options.{settings_of}
+use Rattle.apcu_play.proofs.Taken.{none_taken}
 use Rattle.apcu_play.proofs.Unmet.{unmet}
 use Rattle.apcu_play.proofs.running.outcome.Goals as goal
 
@@ -12,13 +13,16 @@ returns-in-Ok-clause-cut g c = grind (arith, common_steps)
 
 -- where no memory was found for the words, it is not known what they call for
 pub returns-in-Err-Memory-clause-replayed : goal.returns-in-Err-Memory-clause-replayed
-returns-in-Err-Memory-clause-replayed g c = unmet _ (conf_of c.args.words.now) (λ is. cc)
+returns-in-Err-Memory-clause-replayed g c = unmet _ (settings_of c.args.words.now) (λ is. cc)
 
 pub returns-in-Err-Memory-clause-too_many : goal.returns-in-Err-Memory-clause-too_many
-returns-in-Err-Memory-clause-too_many g c = unmet _ (conf_of c.args.words.now) (λ is. cc)
+returns-in-Err-Memory-clause-too_many g c = unmet _ (settings_of c.args.words.now) (λ is. cc)
 
 pub returns-in-Err-Memory-clause-cut : goal.returns-in-Err-Memory-clause-cut
-returns-in-Err-Memory-clause-cut g c = unmet _ (conf_of c.args.words.now) (λ is. cc)
+returns-in-Err-Memory-clause-cut g c = unmet _ (settings_of c.args.words.now) (λ is. cc)
 
 pub returns-in-Err-Memory-clause-pattern : goal.returns-in-Err-Memory-clause-pattern
-returns-in-Err-Memory-clause-pattern g c = unmet _ (conf_of c.args.words.now) (λ is. cc)
+returns-in-Err-Memory-clause-pattern g c = unmet _ (settings_of c.args.words.now) (λ is. cc)
+
+pub returns-in-Err-Memory-clause-within : goal.returns-in-Err-Memory-clause-within
+returns-in-Err-Memory-clause-within g c = λ _. none_taken _ _

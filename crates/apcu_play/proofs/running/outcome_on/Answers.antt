@@ -1,4 +1,5 @@
 use Rattle.std.proofs.Common.{sym, ◌∙◌}
+use Rattle.apcu_play.proofs.Taken.{was_taken}
 use Rattle.apcu_play.proofs.running.outcome_on.Goals as goal
 
 pub returns-then-print-clause-no_usage : goal.returns-then-print-clause-no_usage
@@ -57,3 +58,9 @@ returns-in-Ok-clause-read_fault g c = λ h. absurd (cc (sym c.of-else-print.ensu
 
 pub returns-in-Ok-clause-unchanged : goal.returns-in-Ok-clause-unchanged
 returns-in-Ok-clause-unchanged g c = λ _ h. absurd (h c.of-else-print.ensures)
+
+pub returns-then-print-clause-within : goal.returns-then-print-clause-within
+returns-then-print-clause-within g c = λ _. was_taken _ _ _ c.in-Ok.ensures.answer.read
+
+pub returns-in-Ok-clause-within : goal.returns-in-Ok-clause-within
+returns-in-Ok-clause-within g c = λ _. was_taken _ _ _ c.in-Ok.ensures.answer.read

@@ -1,5 +1,5 @@
 use Rattle.std.proofs.Common.{rules}
-use Rattle.conf_read.specs.Options.{conf_of}
+use Rattle.conf_read.specs.Options.{settings_of}
 use Rattle.apcu_play.proofs.Whole.{completes_if, told_refusal}
 use Rattle.apcu_play.proofs.running.run.Goals as goal
 
@@ -7,7 +7,7 @@ pub returns-clause-complete : goal.returns-clause-complete
 returns-clause-complete g c =
     search (
       rules,
-      completes_if c.readings_are_scripts.ensures.one (g.M.Maker.may_refuse c.args.maker.now) (conf_of c.args.words.now) (g.S.Source.left c.args.input.now) (g.S.Source.left c.outcome-ending.new.input)
+      completes_if c.readings_are_scripts.ensures.one (g.M.Maker.may_refuse c.args.maker.now) (settings_of c.args.words.now) (g.S.Source.left c.args.input.now) (g.S.Source.left c.outcome-ending.new.input)
           (g.K.Sink.held c.args.out.now) (g.K.Sink.held c.outcome-ending.new.out) (g.S.Source.faults c.args.input.now) (g.S.Source.faults c.outcome-ending.new.input)
           (g.K.Sink.faults c.args.out.now) (g.K.Sink.faults c.outcome-ending.new.out) c.outcome-ending.result.status
           c.outcome-ending.ensures.replayed

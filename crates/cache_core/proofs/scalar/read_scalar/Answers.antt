@@ -16,7 +16,7 @@ load-tag-requires g c =
     let image = c.requires.image.1 in
     let graph = c.requires.image.0 in
     let at = c.args.at in
-    (first_from row at c.args._len graph (λ run i. c.runs_stand.ensures.words row at run i) (c.images_are_runs.ensures.length graph) (c.images_are_runs.ensures.run row at c.args._len graph image) image).inside
+    (first_from row at c.args._len graph (λ run i. c.runs_stand.ensures.words row at run i) (c.images_are_runs.ensures.long graph) (c.images_are_runs.ensures.run row at c.args._len graph image) image).inside
 
 pub overflow_add-at : goal.overflow_add-at
 overflow_add-at g c =
@@ -24,7 +24,7 @@ overflow_add-at g c =
     let image = c.requires.image.1 in
     let graph = c.requires.image.0 in
     let at = c.args.at in
-    let f = first_from row at c.args._len graph (λ run i. c.runs_stand.ensures.words row at run i) (c.images_are_runs.ensures.length graph) (c.images_are_runs.ensures.run row at c.args._len graph image) image in
+    let f = first_from row at c.args._len graph (λ run i. c.runs_stand.ensures.words row at run i) (c.images_are_runs.ensures.long graph) (c.images_are_runs.ensures.run row at c.args._len graph image) image in
     let tag : c.load-tag.result ≡ slice_index row at = c.load-tag.ensures.word (c.requires.told at (omega arith) (omega (arith, f.some))) in
     let n = int_kind f (ap (λ w. w % 8) (sym tag) ∙ c.if-code-ne-INT.false) in
     omega (arith, (f.next n.0 n.1).1, g.met.W.WordsIn.short c.args.from.now)
@@ -35,7 +35,7 @@ load-number-requires g c =
     let image = c.requires.image.1 in
     let graph = c.requires.image.0 in
     let at = c.args.at in
-    let f = first_from row at c.args._len graph (λ run i. c.runs_stand.ensures.words row at run i) (c.images_are_runs.ensures.length graph) (c.images_are_runs.ensures.run row at c.args._len graph image) image in
+    let f = first_from row at c.args._len graph (λ run i. c.runs_stand.ensures.words row at run i) (c.images_are_runs.ensures.long graph) (c.images_are_runs.ensures.run row at c.args._len graph image) image in
     let tag : c.load-tag.result ≡ slice_index row at = c.load-tag.ensures.word (c.requires.told at (omega arith) (omega (arith, f.some))) in
     let n = int_kind f (ap (λ w. w % 8) (sym tag) ∙ c.if-code-ne-INT.false) in
     subst (λ ws. at + 1 < length ws) (sym c.load-tag.ensures.words) (f.next n.0 n.1).1
@@ -44,7 +44,7 @@ pub returns-then-code-eq-NULL-clause-scalar : goal.returns-then-code-eq-NULL-cla
 returns-then-code-eq-NULL-clause-scalar g c = λ graph image.
     let row = g.W.WordsIn.words c.args.from.now in
     let at = c.args.at in
-    let f = first_from row at c.args._len graph (λ run i. c.runs_stand.ensures.words row at run i) (c.images_are_runs.ensures.length graph) (c.images_are_runs.ensures.run row at c.args._len graph image) image in
+    let f = first_from row at c.args._len graph (λ run i. c.runs_stand.ensures.words row at run i) (c.images_are_runs.ensures.long graph) (c.images_are_runs.ensures.run row at c.args._len graph image) image in
     let tag : c.load-tag.result ≡ slice_index row at = c.load-tag.ensures.word (c.requires.told at (omega arith) (omega (arith, f.some))) in
     null_is f (ap (λ w. w % 8) (sym tag) ∙ c.if-code-eq-NULL.true)
 
@@ -52,7 +52,7 @@ pub returns-then-code-eq-BOOL-clause-scalar : goal.returns-then-code-eq-BOOL-cla
 returns-then-code-eq-BOOL-clause-scalar g c = λ graph image.
     let row = g.W.WordsIn.words c.args.from.now in
     let at = c.args.at in
-    let f = first_from row at c.args._len graph (λ run i. c.runs_stand.ensures.words row at run i) (c.images_are_runs.ensures.length graph) (c.images_are_runs.ensures.run row at c.args._len graph image) image in
+    let f = first_from row at c.args._len graph (λ run i. c.runs_stand.ensures.words row at run i) (c.images_are_runs.ensures.long graph) (c.images_are_runs.ensures.run row at c.args._len graph image) image in
     let tag : c.load-tag.result ≡ slice_index row at = c.load-tag.ensures.word (c.requires.told at (omega arith) (omega (arith, f.some))) in
     bool_is _ f (ap (λ w. w % 8) (sym tag) ∙ c.if-code-eq-BOOL.true)
     (λ is same. false≢true (sym (not-true _ is) ∙ eq-eqb c.load-tag.result 1 (tag ∙ same)))
@@ -62,7 +62,7 @@ pub returns-clause-scalar : goal.returns-clause-scalar
 returns-clause-scalar g c = λ graph image.
     let row = g.W.WordsIn.words c.args.from.now in
     let at = c.args.at in
-    let f = first_from row at c.args._len graph (λ run i. c.runs_stand.ensures.words row at run i) (c.images_are_runs.ensures.length graph) (c.images_are_runs.ensures.run row at c.args._len graph image) image in
+    let f = first_from row at c.args._len graph (λ run i. c.runs_stand.ensures.words row at run i) (c.images_are_runs.ensures.long graph) (c.images_are_runs.ensures.run row at c.args._len graph image) image in
     let tag : c.load-tag.result ≡ slice_index row at = c.load-tag.ensures.word (c.requires.told at (omega arith) (omega (arith, f.some))) in
     let n = int_kind f (ap (λ w. w % 8) (sym tag) ∙ c.if-code-ne-INT.false) in
     let next = f.next n.0 n.1 in
@@ -76,6 +76,6 @@ pub returns-then-code-ne-INT-clause-scalar : goal.returns-then-code-ne-INT-claus
 returns-then-code-ne-INT-clause-scalar g c = λ graph image.
     let row = g.W.WordsIn.words c.args.from.now in
     let at = c.args.at in
-    let f = first_from row at c.args._len graph (λ run i. c.runs_stand.ensures.words row at run i) (c.images_are_runs.ensures.length graph) (c.images_are_runs.ensures.run row at c.args._len graph image) image in
+    let f = first_from row at c.args._len graph (λ run i. c.runs_stand.ensures.words row at run i) (c.images_are_runs.ensures.long graph) (c.images_are_runs.ensures.run row at c.args._len graph image) image in
     let tag : c.load-tag.result ≡ slice_index row at = c.load-tag.ensures.word (c.requires.told at (omega arith) (omega (arith, f.some))) in
     other_is f (λ e. c.if-code-eq-NULL.false (ap (λ w. w % 8) tag ∙ e)) (λ e. c.if-code-eq-BOOL.false (ap (λ w. w % 8) tag ∙ e)) (λ e. c.if-code-ne-INT.true (ap (λ w. w % 8) tag ∙ e))

@@ -4,7 +4,6 @@ use Rattle.std.specs.Prelude.{Bool, sum_by}
 use Rattle.std.proofs.lemmas.Result.{IfOk-weaker}
 use Rattle.php_graph.specs.declared.graph.Graph.{Graph}
 use Rattle.apcu_model.specs.declared.conf.Conf.{Conf}
-use Rattle.apcu_model.specs.declared.request.Reply.TheVariants.{Info}
 use Rattle.apcu_model.specs.Cache.{Row}
 use Rattle.apcu_model.specs.Infos.{told_array, told_counts, told_rows, cache_info_of, listed_of, number_kind, word_bytes}
 use Rattle.apcu_model.specs.Walk.{in_slot_order}
@@ -25,11 +24,6 @@ returns-then-limited-clause-info g c =
     ∙ ap (λ (b : Bool). cache_info_of b all) (sym c.if-limited.true) in
     IfOk-weaker c.tell_counts.result (λ (x : Graph). x ≡ told_array (told_counts c.conf-conf.result.now c.counts-counts.result c.words_of-words.result) 1) (λ (x : Graph). x ≡ cache_info_of c.args.limited all) (λ x is. is ∙ told) c.tell_counts.ensures
 
-pub returns-then-limited-clause-reply : goal.returns-then-limited-clause-reply
-returns-then-limited-clause-reply g c = λ t.
-    let all = cache_of c.args.core.now in
-    IfOk-weaker c.tell_counts.result (λ (x : Graph). x ≡ cache_info_of c.args.limited all) (λ (x : Graph). Info x ≡ Info (cache_info_of c.args.limited all)) (λ x is. ap Info is) (returns-then-limited-clause-info g c)
-
 pub returns-clause-info : goal.returns-clause-info
 returns-clause-info g c =
     let core = c.args.core.now in
@@ -42,11 +36,6 @@ returns-clause-info g c =
     let told = whole_told all c.conf-conf.result.now c.counts-counts.result c.words_of-words.result c.in_ok-rows.rows.items c.in_ok-removed.removed.items c.conf-conf.ensures c.counts-counts.ensures words rows removed
     ∙ ap (λ (b : Bool). cache_info_of b all) (sym c.if-limited.false) in
     IfOk-weaker c.tell_cache.result (λ (x : Graph). x ≡ told_array (told_counts c.conf-conf.result.now c.counts-counts.result c.words_of-words.result ++ told_rows c.in_ok-rows.rows.items c.in_ok-removed.removed.items) 1) (λ (x : Graph). x ≡ cache_info_of c.args.limited all) (λ x is. is ∙ told) c.tell_cache.ensures
-
-pub returns-clause-reply : goal.returns-clause-reply
-returns-clause-reply g c = λ t.
-    let all = cache_of c.args.core.now in
-    IfOk-weaker c.tell_cache.result (λ (x : Graph). x ≡ cache_info_of c.args.limited all) (λ (x : Graph). Info x ≡ Info (cache_info_of c.args.limited all)) (λ x is. ap Info is) (returns-clause-info g c)
 
 pub conf-conf-requires : goal.conf-conf-requires
 conf-conf-requires g c = grind (arith, common_steps)
@@ -63,26 +52,11 @@ words_of-words-requires g c = grind (arith, common_steps)
 pub tell_counts-requires : goal.tell_counts-requires
 tell_counts-requires g c = grind (arith, common_steps)
 
-pub returns-then-limited-clause-same : goal.returns-then-limited-clause-same
-returns-then-limited-clause-same g c = grind (arith, common_steps)
-
-pub returns-then-limited-clause-kept : goal.returns-then-limited-clause-kept
-returns-then-limited-clause-kept g c = grind (arith, common_steps)
-
 pub list_rows-requires : goal.list_rows-requires
 list_rows-requires g c = grind (arith, common_steps)
 
 pub returns-in_err-rows-clause-info : goal.returns-in_err-rows-clause-info
 returns-in_err-rows-clause-info g c = grind (arith, common_steps)
-
-pub returns-in_err-rows-clause-reply : goal.returns-in_err-rows-clause-reply
-returns-in_err-rows-clause-reply g c = grind (arith, common_steps)
-
-pub returns-in_err-rows-clause-same : goal.returns-in_err-rows-clause-same
-returns-in_err-rows-clause-same g c = grind (arith, common_steps)
-
-pub returns-in_err-rows-clause-kept : goal.returns-in_err-rows-clause-kept
-returns-in_err-rows-clause-kept g c = grind (arith, common_steps)
 
 pub list_removed-requires : goal.list_removed-requires
 list_removed-requires g c = grind (arith, common_steps)
@@ -90,20 +64,5 @@ list_removed-requires g c = grind (arith, common_steps)
 pub returns-in_err-removed-clause-info : goal.returns-in_err-removed-clause-info
 returns-in_err-removed-clause-info g c = grind (arith, common_steps)
 
-pub returns-in_err-removed-clause-reply : goal.returns-in_err-removed-clause-reply
-returns-in_err-removed-clause-reply g c = grind (arith, common_steps)
-
-pub returns-in_err-removed-clause-same : goal.returns-in_err-removed-clause-same
-returns-in_err-removed-clause-same g c = grind (arith, common_steps)
-
-pub returns-in_err-removed-clause-kept : goal.returns-in_err-removed-clause-kept
-returns-in_err-removed-clause-kept g c = grind (arith, common_steps)
-
 pub tell_cache-requires : goal.tell_cache-requires
 tell_cache-requires g c = grind (arith, common_steps)
-
-pub returns-clause-same : goal.returns-clause-same
-returns-clause-same g c = grind (arith, common_steps)
-
-pub returns-clause-kept : goal.returns-clause-kept
-returns-clause-kept g c = grind (arith, common_steps)

@@ -1,5 +1,5 @@
 use Rattle.std.proofs.Common.{◌∙◌}
-use Rattle.cache_info.proofs.KeyBytes.{heads_alike}
+use Rattle.cache_info.proofs.Noted.{heads_alike}
 use Rattle.cache_info.proofs.entry.noted_at.Goals as goal
 
 pub returns-clause-noted : goal.returns-clause-noted

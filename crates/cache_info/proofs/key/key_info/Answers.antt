@@ -3,7 +3,6 @@ use Rattle.std.specs.Prelude.{option_map}
 use Rattle.apcu_model.specs.declared.noted.Noted.{Noted}
 use Rattle.apcu_model.specs.Cache.{Row}
 use Rattle.apcu_model.specs.Infos.{told_notes, noted_of}
-use Rattle.apcu_model.specs.Sequential.{info_reply}
 use Rattle.entry_slots.specs.declared.slots.EntrySlots.{EntrySlots}
 use Rattle.entry_slots.specs.Lists.{has_place}
 use Rattle.entry_slots.specs.Entries.{IsListed, listed}
@@ -26,6 +25,3 @@ returns-clause-info g c =
     let member = subst (λ (e : EntrySlots). IsListed (entries e) c.in-Some.at here.row) (sym c.slots.ensures.value) (record { there = here.there; place = here.place }) in
     ap Some (c.in_ok-tell_key.ensures ∙ ap (λ (n : Noted). told_notes n 1) (c.noted_at-row.ensures.noted here.row member))
     ∙ sym (ap (option_map (λ (row : Row). told_notes (noted_of row) 1)) here.live)
-
-pub returns-clause-reply : goal.returns-clause-reply
-returns-clause-reply g c = ap info_reply (returns-clause-info g c)

@@ -9,11 +9,11 @@ use Rattle.cache_info.proofs.rows.list_removed.Goals as goal
 
 pub listed_at-requires-clause-there : goal.listed_at-requires-clause-there
 listed_at-requires-clause-there g c =
-    (removed_here c.lower_laws.ensures.sound c.args.slots.now (g.S.WordsIn.words c.args.seg.now) (g.S.WordsIn.aside c.args.seg.now) (entries c.args.slots.now) (length c.loop-at.list.items) c.loop-at.at c.requires.stand c.loop-at.invariant.at c.loop-at-test.true).in_listed
+    (removed_here c.standing_laws.ensures.sound c.args.slots.now (g.S.WordsIn.words c.args.seg.now) (g.S.WordsIn.aside c.args.seg.now) (entries c.args.slots.now) (length c.loop-at.list.items) c.loop-at.at c.requires.stand c.loop-at.invariant.at c.loop-at-test.true).in_listed
 
 pub after-at-requires-clause-there : goal.after-at-requires-clause-there
 after-at-requires-clause-there g c =
-    (removed_here c.lower_laws.ensures.sound c.args.slots.now (g.S.WordsIn.words c.args.seg.now) (g.S.WordsIn.aside c.args.seg.now) (entries c.args.slots.now) (length c.loop-at.list.items) c.loop-at.at c.requires.stand c.loop-at.invariant.at c.loop-at-test.true).in_listed
+    (removed_here c.standing_laws.ensures.sound c.args.slots.now (g.S.WordsIn.words c.args.seg.now) (g.S.WordsIn.aside c.args.seg.now) (entries c.args.slots.now) (length c.loop-at.list.items) c.loop-at.at c.requires.stand c.loop-at.invariant.at c.loop-at-test.true).in_listed
 
 pub loop-at-preserved : goal.loop-at-preserved
 loop-at-preserved g c =
@@ -21,7 +21,7 @@ loop-at-preserved g c =
     let i = c.loop-at.invariant in
     let old = c.loop-at.list.items in
     let new = c.push.new.self.items in
-    let here = removed_here c.lower_laws.ensures.sound c.args.slots.now (g.S.WordsIn.words c.args.seg.now) (g.S.WordsIn.aside c.args.seg.now) s (length old) c.loop-at.at c.requires.stand i.at c.loop-at-test.true in
+    let here = removed_here c.standing_laws.ensures.sound c.args.slots.now (g.S.WordsIn.words c.args.seg.now) (g.S.WordsIn.aside c.args.seg.now) s (length old) c.loop-at.at c.requires.stand i.at c.loop-at-test.true in
     let n : length new ≡ length old + 1 = omega (arith, ap length c.in_ok-push.ensures.items, length-append old (c.in_ok-listed_at.field-0 ∷ [])) in
     let told = c.in_ok-listed_at.ensures.row here.left.row here.member in
     let next = c.after-at.ensures in
@@ -37,11 +37,11 @@ returns-clause-rows g c =
     let s = entries c.args.slots.now in
     let i = c.loop-at.invariant in
     let old = c.loop-at.list.items in
-    let none = removed_end c.lower_laws.ensures.sound c.args.slots.now (g.S.WordsIn.words c.args.seg.now) (g.S.WordsIn.aside c.args.seg.now) s (length old) c.requires.stand (sym c.loop-at-test.false ∙ i.at) in
+    let none = removed_end c.standing_laws.ensures.sound c.args.slots.now (g.S.WordsIn.words c.args.seg.now) (g.S.WordsIn.aside c.args.seg.now) s (length old) c.requires.stand (sym c.loop-at-test.false ∙ i.at) in
     sym (append-nil old) ∙ sym (ap (λ l. old ++ map listed_of l) none) ∙ i.rows
 
-pub lower_laws-requires : goal.lower_laws-requires
-lower_laws-requires g c = grind (arith, common_steps)
+pub standing_laws-requires : goal.standing_laws-requires
+standing_laws-requires g c = grind (arith, common_steps)
 
 pub first_removed-at-requires : goal.first_removed-at-requires
 first_removed-at-requires g c = grind (arith, common_steps)

@@ -12,9 +12,9 @@ loop-place-init g c =
     let from = c.args.sma.now.from in
     let to = c.args.sma.now.to in
     let blocks = live_blocks (g.S.WordsIn.words c.args.seg.now) from in
-    let runs = free_runs from to blocks in
+    let runs = free_runs from to c.args.sma.now.piece blocks in
     record {
-      gaps = ap (λ l. l ++ left_from 0 runs) c.new-list.ensures.items ∙ all_left 0 from (from + (to - from)) runs (omega arith) (gaps_behind from to blocks);
+      gaps = ap (λ l. l ++ left_from 0 runs) c.new-list.ensures.items ∙ all_left 0 from (from + (to - from)) runs (omega arith) (gaps_behind from to c.args.sma.now.piece blocks);
       low = omega arith;
       kept = record { words = refl; aside = refl; rest = refl };
     }
@@ -23,30 +23,30 @@ pub overflow_add-from : goal.overflow_add-from
 overflow_add-from g c =
     let from = c.args.sma.now.from in
     let to = c.args.sma.now.to in
-    let runs = free_runs from to (live_blocks (g.S.WordsIn.words c.args.seg.now) from) in
+    let runs = free_runs from to c.args.sma.now.piece (live_blocks (g.S.WordsIn.words c.args.seg.now) from) in
     let i = c.loop-place.invariant in
-    let told = sym c.in-Some.is ∙ c.gap_from.ensures.value ∙ ap (λ w. option_map pair_of (find (λ run. nat_le c.loop-place.from run.place) (free_runs from to (live_blocks w from)))) i.kept.words in
-    let next = gap_found c.loop-place.from from (from + (to - from)) runs (gaps_behind from to (live_blocks (g.S.WordsIn.words c.args.seg.now) from)) (record { place = c.in-Some.place; size = c.in-Some.size }) told in
+    let told = sym c.in-Some.is ∙ c.gap_from.ensures.value ∙ ap (λ w. option_map pair_of (find (λ run. nat_le c.loop-place.from run.place) (free_runs from to c.args.sma.now.piece (live_blocks w from)))) i.kept.words in
+    let next = gap_found c.loop-place.from from (from + (to - from)) runs (gaps_behind from to c.args.sma.now.piece (live_blocks (g.S.WordsIn.words c.args.seg.now) from)) (record { place = c.in-Some.place; size = c.in-Some.size }) told in
     omega (arith, next.end)
 
 pub loop-place-smaller : goal.loop-place-smaller
 loop-place-smaller g c =
     let from = c.args.sma.now.from in
     let to = c.args.sma.now.to in
-    let runs = free_runs from to (live_blocks (g.S.WordsIn.words c.args.seg.now) from) in
+    let runs = free_runs from to c.args.sma.now.piece (live_blocks (g.S.WordsIn.words c.args.seg.now) from) in
     let i = c.loop-place.invariant in
-    let told = sym c.in-Some.is ∙ c.gap_from.ensures.value ∙ ap (λ w. option_map pair_of (find (λ run. nat_le c.loop-place.from run.place) (free_runs from to (live_blocks w from)))) i.kept.words in
-    let next = gap_found c.loop-place.from from (from + (to - from)) runs (gaps_behind from to (live_blocks (g.S.WordsIn.words c.args.seg.now) from)) (record { place = c.in-Some.place; size = c.in-Some.size }) told in
+    let told = sym c.in-Some.is ∙ c.gap_from.ensures.value ∙ ap (λ w. option_map pair_of (find (λ run. nat_le c.loop-place.from run.place) (free_runs from to c.args.sma.now.piece (live_blocks w from)))) i.kept.words in
+    let next = gap_found c.loop-place.from from (from + (to - from)) runs (gaps_behind from to c.args.sma.now.piece (live_blocks (g.S.WordsIn.words c.args.seg.now) from)) (record { place = c.in-Some.place; size = c.in-Some.size }) told in
     omega (arith, next.up, next.some, next.end)
 
 pub loop-place-preserved : goal.loop-place-preserved
 loop-place-preserved g c =
     let from = c.args.sma.now.from in
     let to = c.args.sma.now.to in
-    let runs = free_runs from to (live_blocks (g.S.WordsIn.words c.args.seg.now) from) in
+    let runs = free_runs from to c.args.sma.now.piece (live_blocks (g.S.WordsIn.words c.args.seg.now) from) in
     let i = c.loop-place.invariant in
-    let told = sym c.in-Some.is ∙ c.gap_from.ensures.value ∙ ap (λ w. option_map pair_of (find (λ run. nat_le c.loop-place.from run.place) (free_runs from to (live_blocks w from)))) i.kept.words in
-    let next = gap_found c.loop-place.from from (from + (to - from)) runs (gaps_behind from to (live_blocks (g.S.WordsIn.words c.args.seg.now) from)) (record { place = c.in-Some.place; size = c.in-Some.size }) told in
+    let told = sym c.in-Some.is ∙ c.gap_from.ensures.value ∙ ap (λ w. option_map pair_of (find (λ run. nat_le c.loop-place.from run.place) (free_runs from to c.args.sma.now.piece (live_blocks w from)))) i.kept.words in
+    let next = gap_found c.loop-place.from from (from + (to - from)) runs (gaps_behind from to c.args.sma.now.piece (live_blocks (g.S.WordsIn.words c.args.seg.now) from)) (record { place = c.in-Some.place; size = c.in-Some.size }) told in
     let gap : Extent = record { place = c.in-Some.place; size = c.in-Some.size } in
     let rest = left_from (c.in-Some.place + c.in-Some.size) runs in
     let old = c.loop-place.list.items in
@@ -61,9 +61,9 @@ pub returns-clause-gaps : goal.returns-clause-gaps
 returns-clause-gaps g c =
     let from = c.args.sma.now.from in
     let to = c.args.sma.now.to in
-    let runs = free_runs from to (live_blocks (g.S.WordsIn.words c.args.seg.now) from) in
+    let runs = free_runs from to c.args.sma.now.piece (live_blocks (g.S.WordsIn.words c.args.seg.now) from) in
     let i = c.loop-place.invariant in
     let old = c.loop-place.list.items in
-    let told = sym c.in_default.is ∙ c.gap_from.ensures.value ∙ ap (λ w. option_map pair_of (find (λ run. nat_le c.loop-place.from run.place) (free_runs from to (live_blocks w from)))) i.kept.words in
+    let told = sym c.in_default.is ∙ c.gap_from.ensures.value ∙ ap (λ w. option_map pair_of (find (λ run. nat_le c.loop-place.from run.place) (free_runs from to c.args.sma.now.piece (live_blocks w from)))) i.kept.words in
     let none = gap_none c.loop-place.from runs told in
     sym (append-nil old) ∙ sym (ap (λ l. old ++ l) none) ∙ i.gaps

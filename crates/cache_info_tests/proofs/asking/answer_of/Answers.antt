@@ -1,9 +1,8 @@
-use Rattle.std.proofs.Common.{sym, ◌∙◌}
-use Rattle.std.proofs.lemmas.Bool.{false≢true}
+use Rattle.cache_core.proofs.Events.{may_drop}
 use Rattle.cache_info_tests.proofs.asking.answer_of.Goals as goal
 
-pub delete-requires-clause-refused : goal.delete-requires-clause-refused
-delete-requires-clause-refused g c = record { each = λ b named. absurd (false≢true (sym (c.requires.fresh b) ∙ named)) }
+pub delete-requires-clause-ready : goal.delete-requires-clause-ready
+delete-requires-clause-ready g c = may_drop c.requires.stand c.requires.fresh
 
-pub clear-requires-clause-refused : goal.clear-requires-clause-refused
-clear-requires-clause-refused g c = record { each = λ b named. absurd (false≢true (sym (c.requires.fresh b) ∙ named)) }
+pub clear-requires : goal.clear-requires
+clear-requires g c = may_drop c.requires.stand c.requires.fresh

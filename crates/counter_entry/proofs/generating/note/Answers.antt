@@ -6,10 +6,8 @@ use Rattle.entry_slots.specs.declared.slots.EntrySlots.{EntrySlots}
 use Rattle.entry_slots.specs.Having.{place_there}
 use Rattle.entry_slots.specs.Lists.{has_place}
 use Rattle.entry_slots.specs.Standing.{entries}
-use Rattle.ttl_expunge.specs.Held.{KeepsOpen}
 use Rattle.cache_core.specs.Caching.{cache_of}
-use Rattle.counter_entry.proofs.Finding.{live_there, same_keeps}
-use Rattle.counter_entry.proofs.Inserting.{looked_keeps}
+use Rattle.counter_entry.proofs.Finding.{live_there}
 use Rattle.counter_entry.proofs.Levels.{placed_is, none_placed, row_is, none_is}
 use Rattle.counter_entry.proofs.generating.note.Goals as goal
 
@@ -34,16 +32,3 @@ pub returns-in_default-clause-cache : goal.returns-in_default-clause-cache
 returns-in_default-clause-cache g c = λ levels at_is missing_is.
     let old = cache_of c.args.core.now in
     c.note_misses.ensures.cache ∙ sym (none_is levels c.args.t old (none_placed levels c.args.t old (sym c.in_default.is ∙ at_is)) 0 c.args.missing (omega (arith, missing_is)))
-
-pub returns-in-Some-clause-keeps : goal.returns-in-Some-clause-keeps
-returns-in-Some-clause-keeps g c = λ windows.
-    let old = cache_of c.args.core.now in
-    let p = placed_is c.requires.there.0 c.args.t old c.in-Some.at (sym c.in-Some.is ∙ c.requires.there.1) in
-    let u = row_is c.requires.there.0 c.args.t old p.row p.first in
-    let live : live_row u.key c.args.t (cache_of c.note_misses.new.self) ≡ Some p.row = ap (λ (x : Cache). live_row u.key c.args.t x) c.note_misses.ensures.cache ∙ u.live in
-    subst (λ (s : EntrySlots). KeepsOpen windows (entries s) (entries c.note_hit.new.self.slots)) c.note_misses.ensures.slots
-    (looked_keeps windows u.key c.args.t (Some p.row) c.note_misses.new.self c.note_hit.new.self (c.note_hit.ensures.cache u.key c.args.t p.row live p.place))
-
-pub returns-in_default-clause-keeps : goal.returns-in_default-clause-keeps
-returns-in_default-clause-keeps g c = λ windows.
-    subst (λ (s : EntrySlots). KeepsOpen windows (entries c.args.core.now.slots) (entries s)) (sym c.note_misses.ensures.slots) (same_keeps windows c.args.core.now)

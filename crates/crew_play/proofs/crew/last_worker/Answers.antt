@@ -1,5 +1,6 @@
-use Rattle.std.proofs.Common.{◌-◌, ap, sym, ◌∙◌}
+use Rattle.std.proofs.Common.{◌-◌, refl, ap, sym, subst, ◌∙◌}
 use Rattle.pin_table.specs.Values.{Bearer}
+use Rattle.worker_play.specs.Goes.{KnowsOwnEvents}
 use Rattle.crew_play.proofs.Crews.{fresh_last, enough_left}
 use Rattle.crew_play.proofs.crew.last_worker.Goals as goal
 
@@ -19,9 +20,9 @@ pub returns-clause-no_event : goal.returns-clause-no_event
 returns-clause-no_event g c =
     ap (λ (b : Bearer). b.known.own) (fresh_last g.N.TableName.table g.N.TableName.budgets c.args.count c.pop.new.self c.in-Some.pass c.requires.some (sym c.requires.passes ∙ c.in-Some.ensures.some)).1
 
-pub returns-clause-none_seen : goal.returns-clause-none_seen
-returns-clause-none_seen g c =
-    ap (λ (b : Bearer). b.known.seen) (fresh_last g.N.TableName.table g.N.TableName.budgets c.args.count c.pop.new.self c.in-Some.pass c.requires.some (sym c.requires.passes ∙ c.in-Some.ensures.some)).1
+pub returns-clause-whole : goal.returns-clause-whole
+returns-clause-whole g c =
+    subst KnowsOwnEvents (sym (fresh_last g.N.TableName.table g.N.TableName.budgets c.args.count c.pop.new.self c.in-Some.pass c.requires.some (sym c.requires.passes ∙ c.in-Some.ensures.some)).1) refl
 
 pub returns-clause-left : goal.returns-clause-left
 returns-clause-left g c =

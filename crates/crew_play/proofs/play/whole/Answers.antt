@@ -2,8 +2,8 @@ use Rattle.std.proofs.Common.{◌≡◌, ◌∷◌, [], length, ap, ◌∙◌, a
 use Rattle.std.specs.Prelude.{Ok, Err, List, ℕ, Result}
 use Rattle.std.specs.Vec.Iter.{into_iter_items}
 use Rattle.worker_play.specs.declared.script.PlayFault.{PlayFault}
-use Rattle.worker_play.specs.declared.script.PlayFault.TheVariants.{Pattern}
-use Rattle.crew_play.proofs.Texts.{items_taken, behind_first, first_there}
+use Rattle.worker_play.specs.declared.script.PlayFault.TheVariants.{Memory, Pattern}
+use Rattle.crew_play.proofs.Texts.{items_taken, behind_first, first_there, not_first}
 use Rattle.crew_play.proofs.play.whole.Goals as goal
 
 pub loop-text-preserved-in-Ok : goal.loop-text-preserved-in-Ok
@@ -20,6 +20,7 @@ loop-text-preserved-in-Ok c =
       count = omega (arith, i.count, ap length step, ap length c.push_reserved.ensures.items, length-append c.loop-text.all.items (text ∷ []));
       room = omega (arith, i.room, c.push_reserved.ensures.capacity);
       behind = behind_first texts next rest (Ok text) i.behind step;
+      ahead = λ there. not_first next rest (Ok text) (Err Memory) (λ e. cc e) step (i.ahead there);
       seen = i.seen;
     }
 
@@ -35,5 +36,6 @@ loop-text-preserved c =
       count = omega (arith, i.count, ap length step);
       room = i.room;
       behind = behind_first texts next rest (Err Pattern) i.behind step;
+      ahead = λ there. not_first next rest (Err Pattern) (Err Memory) (λ e. cc e) step (i.ahead there);
       seen = λ told. first_there texts next rest (Err Pattern) i.behind step;
     }

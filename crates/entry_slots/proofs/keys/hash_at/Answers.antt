@@ -5,7 +5,7 @@ use Rattle.php_graph.specs.Numbers.{hash_step, hash_of}
 use Rattle.seg_words.specs.Layout.{words_in}
 use Rattle.value_image.specs.Packed.{words_of, word_at}
 use Rattle.entry_slots.specs.Written.{IsEntryKey}
-use Rattle.entry_slots.specs.Laws.{Laws}
+use Rattle.entry_slots.specs.Lower.{Laws}
 use Rattle.entry_slots.proofs.Runs.{words_long, word_there}
 use Rattle.entry_slots.proofs.Digits.{key_byte, hash_more}
 use Rattle.entry_slots.proofs.keys.hash_at.Goals as goal
@@ -17,7 +17,7 @@ key_word_at : Laws → (ws : List ℕ) (at len : ℕ) (key : List ℕ) (i : ℕ)
 key_word_at law ws at len key i h lt =
     let n = words_long key in
     let few : i / 8 < words_in (length key) = subst (λ (k : ℕ). i / 8 < words_in k) (sym h.count) (word_in i len lt) in
-    law.words ws at (words_of key) (i / 8) h.stands (omega (arith, n)) ∙ word_there key (i / 8) few
+    law.runs.words ws at (words_of key) (i / 8) h.stands (omega (arith, n)) ∙ word_there key (i / 8) few
 
 pub word_of_byte-word-requires-clause-inside : goal.word_of_byte-word-requires-clause-inside
 word_of_byte-word-requires-clause-inside g c = let lt = word_in c.loop-i.i c.args.len c.loop-i-test.true in rw c.loop-i.invariant.kept.words (omega (arith, c.requires.inside, lt))

@@ -10,9 +10,7 @@ returns-in-Took-clause-one_more g c =
     λ _. taken_more _ c.read.new.into _ _ _ _ _ c.in-Took.ensures.took.1 sum c.turns.invariant.given c.in-Took.ensures.bytes
 
 pub returns-in-Took-clause-part : goal.returns-in-Took-clause-part
-returns-in-Took-clause-part g c =
-    let sum : length c.turns.bytes.items + c.in-Took.count ≡ c.args.limit + 1 = grind (arith, common_steps, c.in-Took.ensures.took) in
-    (c.args.limit + 1, omega arith, taken_more _ c.read.new.into _ _ _ _ _ c.in-Took.ensures.took.1 sum c.turns.invariant.given c.in-Took.ensures.bytes)
+returns-in-Took-clause-part g c = λ other. absurd (other refl)
 
 pub turns-preserved : goal.turns-preserved
 turns-preserved g c =
@@ -27,11 +25,11 @@ turns-preserved g c =
 pub returns-in_err-map_err-in-Took-2-clause-part : goal.returns-in_err-map_err-in-Took-2-clause-part
 returns-in_err-map_err-in-Took-2-clause-part g c =
     let p = err_from_is_err_and c.from_residual-in_err-map_err-in-Took-2.result c.from_residual-in_err-map_err-in-Took-2.ensures.1 in
-    rw p.1 (
+    rw p.1 (λ _. (
       length c.turns.bytes.items + c.in-Took-2.count,
       grind (arith, common_steps),
       taken_more _ c.read.new.into _ _ _ _ _ c.in-Took-2.ensures.took.1 refl c.turns.invariant.given c.in-Took-2.ensures.bytes,
-    )
+    ))
 
 pub returns-in_err-buffer-clause-all : goal.returns-in_err-buffer-clause-all
 returns-in_err-buffer-clause-all g c = rw (err_from_is_err_and c.from_residual.result c.from_residual.ensures.1).1 tt
@@ -61,7 +59,7 @@ pub returns-in_err-buffer-clause-never_falls : goal.returns-in_err-buffer-clause
 returns-in_err-buffer-clause-never_falls g c = omega arith
 
 pub returns-in_err-buffer-clause-part : goal.returns-in_err-buffer-clause-part
-returns-in_err-buffer-clause-part g c = rw (err_from_is_err_and c.from_residual.result c.from_residual.ensures.1).1 (0, omega arith, ([], refl, sym (nothing_before _)))
+returns-in_err-buffer-clause-part g c = rw (err_from_is_err_and c.from_residual.result c.from_residual.ensures.1).1 (λ _. (0, omega arith, ([], refl, sym (nothing_before _))))
 
 pub turns-init : goal.turns-init
 turns-init g c = grind (arith, common_steps)
@@ -194,4 +192,4 @@ returns-in-Failed-clause-never_falls g c = rw (sym c.turns.invariant.faults) c.i
 
 pub returns-in-Failed-clause-part : goal.returns-in-Failed-clause-part
 returns-in-Failed-clause-part g c =
-    (length c.turns.bytes.items, omega (arith, c.turns.invariant.within), (c.turns.bytes.items, refl, read_before _ _ _ _ c.turns.invariant.given c.in-Failed.ensures.bytes))
+    λ _. (length c.turns.bytes.items, omega (arith, c.turns.invariant.within), (c.turns.bytes.items, refl, read_before _ _ _ _ c.turns.invariant.given c.in-Failed.ensures.bytes))

@@ -1,4 +1,5 @@
 use Rattle.std.proofs.Common.{◌≡◌, ◌∙◌, ◌≤◌, ℕ, List, length, sum, sym, ap, subst}
+use Rattle.apcu_model.specs.declared.journal.TheConstants.{MOST_EVENTS}
 use Rattle.apcu_model.specs.Cache.{Cache, empty_cache}
 use Rattle.pin_table.specs.declared.views.Desk.{Desk}
 use Rattle.pin_table.specs.Lists.{fresh, fresh_desk}
@@ -19,7 +20,7 @@ invariant_of-result c =
           (c.format-core.ensures.made ∙ ap empty_cache (sym conf))
           c.in_ok-journal.ensures.0
           (c.in_ok-journal.ensures.1 ∙ (c.requires.events ∙ ap sum (sym budgets)))
-          (subst (λ (l : List ℕ). sum l ≤ 4194304) (sym budgets) c.requires.may.budgets_are.limited);
+          (subst (λ (l : List ℕ). sum l ≤ MOST_EVENTS) (sym budgets) c.requires.may.budgets_are.limited);
       no_event = ap (λ (x : Desk). x.book.history) desk;
       passes_are = c.in_ok-table.ensures.passes ∙ ap (λ (l : List ℕ). fresh c.in_ok-table.table l (length l)) (sym budgets);
       none_ended = c.in_ok-table.ensures.ended;

@@ -6,8 +6,8 @@ use Rattle.shared_cache.proofs.Undone.{settles, same_pass}
 use Rattle.shared_cache.proofs.turn.told.Goals as goal
 use Rattle.shared_cache.proofs.turn.told.Goals.{in-Ok, in-Err}
 
-pub end-requires : goal.end-requires
-end-requires g c = later_turn c.requires (record { worker = refl; left = refl; table = refl; book = refl; begun = refl })
+pub end-requires-clause-turn : goal.end-requires-clause-turn
+end-requires-clause-turn g c = later_turn c.requires.turn (record { worker = refl; left = refl; table = refl; book = refl; begun = refl })
 
 pub invariant_of-w-2 : goal.invariant_of-w-2
 invariant_of-w-2 g c =
@@ -27,27 +27,28 @@ invariant_of-w-2 g c =
     ]
 
 pub returns-clause-settled : goal.returns-clause-settled
-returns-clause-settled g c = λ turn core does.
+returns-clause-settled g c = λ turn core reply does.
     elim c.match-answer.branch [
-      | in-Ok w ↦ rw (w.seat-is, w.journal-is) (w.end.ensures.settled (later_turn turn (record { worker = refl; left = refl; table = refl; book = refl; begun = refl })) core
+      | in-Ok w ↦ rw (w.seat-is, w.journal-is) (w.end.ensures.settled (later_turn turn (record { worker = refl; left = refl; table = refl; book = refl; begun = refl })) core c.args.w (reply w.in-Ok.answer) refl
           (IfOk-at_ok _ w.in-Ok.is does.done))
-      | in-Err w ↦ rw (w.seat-is, w.journal-is) (settles _ _ _ _ _ turn _ core (IfErr-at_err _ w.in-Err.is does.same) (IfErr-at_err _ w.in-Err.is does.words)
-          (IfErr-at_err _ w.in-Err.is does.aside) w.give_back.ensures.table w.give_back.ensures.desk)
+      | in-Err w ↦
+          let same = IfErr-at_err _ w.in-Err.is does.same in
+          rw (w.seat-is, w.journal-is) (settles _ _ _ _ _ turn _ core same.core same.kept.words same.kept.aside w.give_back.ensures.table w.give_back.ensures.desk)
     ]
 
 pub returns-clause-told : goal.returns-clause-told
-returns-clause-told g c = λ turn core reply does replies.
+returns-clause-told g c = λ turn core reply does.
     elim c.match-answer.branch [
-      | in-Ok w ↦ rw w.result-is ((w.end.ensures.follows (later_turn turn (record { worker = refl; left = refl; table = refl; book = refl; begun = refl })) core (reply w.in-Ok.answer)
-          (IfOk-at_ok _ w.in-Ok.is does.done) (IfOk-at_ok _ w.in-Ok.is replies)).follows)
+      | in-Ok w ↦ rw w.result-is ((w.end.ensures.follows (later_turn turn (record { worker = refl; left = refl; table = refl; book = refl; begun = refl })) core c.args.w (reply w.in-Ok.answer) refl
+          (IfOk-at_ok _ w.in-Ok.is does.done)).follows)
       | in-Err w ↦ rw w.result-is tt
     ]
 
 pub returns-clause-place : goal.returns-clause-place
-returns-clause-place g c = λ turn core reply does replies.
+returns-clause-place g c = λ turn core reply does.
     elim c.match-answer.branch [
-      | in-Ok w ↦ rw (w.result-is, w.in-Ok.is) (w.end.ensures.follows (later_turn turn (record { worker = refl; left = refl; table = refl; book = refl; begun = refl })) core (reply w.in-Ok.answer)
-          (IfOk-at_ok _ w.in-Ok.is does.done) (IfOk-at_ok _ w.in-Ok.is replies))
+      | in-Ok w ↦ rw (w.result-is, w.in-Ok.is) (w.end.ensures.follows (later_turn turn (record { worker = refl; left = refl; table = refl; book = refl; begun = refl })) core c.args.w (reply w.in-Ok.answer) refl
+          (IfOk-at_ok _ w.in-Ok.is does.done))
       | in-Err w ↦ rw w.in-Err.is tt
     ]
 

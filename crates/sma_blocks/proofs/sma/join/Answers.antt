@@ -5,9 +5,6 @@ use Rattle.sma_blocks.proofs.sma.join.Goals as goal
 pub put-requires-clause-inside : goal.put-requires-clause-inside
 put-requires-clause-inside c = grind (arith, common_steps)
 
-pub put-requires-clause-alone : goal.put-requires-clause-alone
-put-requires-clause-alone c = grind (arith, common_steps)
-
 pub returns-else-end-last : goal.returns-else-end-last
 returns-else-end-last c = grind (arith, common_steps)
 

@@ -10,9 +10,9 @@ pub loop-slot-init : goal.loop-slot-init
 loop-slot-init g c =
     let s = entries c.args.slots.now in
     record {
-      passing = passing_starts c.args.t s (g.S.WordsIn.aside c.args.seg.now) (g.S.WordsIn.aside c.args.seg.now) refl c.requires.refused;
+      passing = passing_starts c.args.t s (g.S.WordsIn.aside c.args.seg.now) (g.S.WordsIn.aside c.args.seg.now) refl c.requires.ready.refused;
       within = omega arith;
-      stand = c.requires.stand;
+      stand = c.requires.ready.stand;
       rest = refl;
     }
 
@@ -20,9 +20,8 @@ pub move_held_in-requires : goal.move_held_in-requires
 move_held_in-requires g c =
     let same = ap (λ (x : Entries). x.conf.slots) c.loop-slot.invariant.passing.moves.drops.dropped in
     record {
-      stand = c.loop-slot.invariant.stand;
+      ready = record { stand = c.loop-slot.invariant.stand; refused = c.loop-slot.invariant.passing.moves.drops.refused };
       slot = omega (arith, same, c.slots-end.ensures.slots);
-      refused = c.loop-slot.invariant.passing.moves.drops.refused;
     }
 
 pub loop-slot-preserved : goal.loop-slot-preserved
@@ -35,8 +34,12 @@ loop-slot-preserved g c =
       rest = c.move_held_in.ensures.rest ∙ c.loop-slot.invariant.rest;
     }
 
-pub returns-clause-moves : goal.returns-clause-moves
-returns-clause-moves g c =
+pub returns : goal.returns
+returns g c =
     let s = entries c.args.slots.now in
     let all : c.loop-slot.slot ≡ s.conf.slots = omega (arith, c.slots-end.ensures.slots, c.loop-slot.invariant.within) in
-    subst (λ (k : ℕ). Moves s (entries c.loop-slot.slots) (g.S.WordsIn.aside c.args.seg.now) (g.S.WordsIn.aside c.loop-slot.seg) c.args.t (flat_map (chain_of s) (range_with_len 0 k))) all c.loop-slot.invariant.passing.moves
+    record {
+      moves = subst (λ (k : ℕ). Moves s (entries c.loop-slot.slots) (g.S.WordsIn.aside c.args.seg.now) (g.S.WordsIn.aside c.loop-slot.seg) c.args.t (flat_map (chain_of s) (range_with_len 0 k))) all c.loop-slot.invariant.passing.moves;
+      stand = c.loop-slot.invariant.stand;
+      rest = c.loop-slot.invariant.rest;
+    }

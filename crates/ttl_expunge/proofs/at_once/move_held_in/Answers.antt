@@ -1,11 +1,10 @@
 use Rattle.std.proofs.Common.{◌<◌, sym, ap, ◌∙◌, subst}
 use Rattle.std.proofs.lemmas.Bool.{or_left}
-use Rattle.seg_words.specs.Windows.{Aside}
-use Rattle.entry_slots.specs.Lists.{is_at, has_place, only_at}
+use Rattle.entry_slots.specs.Lists.{is_at, has_place}
 use Rattle.entry_slots.specs.Entries.{Entries}
-use Rattle.ttl_expunge.specs.Held.{Moves, AreRemoved}
 use Rattle.std.proofs.lemmas.List.Folds.{list_any-append}
 use Rattle.ttl_expunge.proofs.Asides.{stand_kept}
+use Rattle.ttl_expunge.proofs.Steps.{may_kept, moves_kept}
 use Rattle.ttl_expunge.proofs.Moving.{moving_starts, moving_next, moving_on, moving_falls, moving_ends}
 use Rattle.entry_slots.specs.Standing.{entries}
 use Rattle.ttl_expunge.proofs.at_once.move_held_in.Goals as goal
@@ -15,8 +14,8 @@ loop-at-init g c =
     let s = entries c.args.slots.now in
     let kept = c.first_in-at.ensures.kept in
     record {
-      moving = moving_starts c.args.t s (g.S.WordsIn.aside c.args.seg.now) (g.S.WordsIn.aside c.first_in-at.new.seg) c.args.slot c.first_in-at.result kept.aside c.first_in-at.ensures.first c.requires.refused;
-      stand = stand_kept c.args.slots.now kept c.requires.stand;
+      moving = moving_starts c.args.t s (g.S.WordsIn.aside c.args.seg.now) (g.S.WordsIn.aside c.first_in-at.new.seg) c.args.slot c.first_in-at.result kept.aside c.first_in-at.ensures.first c.requires.ready.refused;
+      stand = stand_kept c.args.slots.now kept c.requires.ready.stand;
       rest = kept.rest;
     }
 
@@ -32,9 +31,8 @@ move_if_held-requires g c =
     let sound = c.standing_laws.ensures.sound c.loop-at.slots (g.S.WordsIn.words c.loop-at.seg) (g.S.WordsIn.aside c.loop-at.seg) (entries c.loop-at.slots) c.loop-at.invariant.stand in
     let n = moving_next c.loop-at.invariant.moving sound c.loop-at-test.true in
     record {
-      stand = stand_kept c.loop-at.slots c.after-next.ensures.kept c.loop-at.invariant.stand;
+      ready = may_kept c.loop-at.slots c.after-next.ensures.kept (record { stand = c.loop-at.invariant.stand; refused = c.loop-at.invariant.moving.moves.drops.refused });
       there = n.listed;
-      refused = subst (λ (a : Aside). AreRemoved a (entries c.loop-at.slots).removed) (sym c.after-next.ensures.kept.aside) c.loop-at.invariant.moving.moves.drops.refused;
     }
 
 pub loop-at-preserved : goal.loop-at-preserved
@@ -42,8 +40,7 @@ loop-at-preserved g c =
     let s = entries c.loop-at.slots in
     let sound = c.standing_laws.ensures.sound c.loop-at.slots (g.S.WordsIn.words c.loop-at.seg) (g.S.WordsIn.aside c.loop-at.seg) (entries c.loop-at.slots) c.loop-at.invariant.stand in
     let n = moving_next c.loop-at.invariant.moving sound c.loop-at-test.true in
-    let drops : Moves s (entries c.move_if_held.new.slots) (g.S.WordsIn.aside c.loop-at.seg) (g.S.WordsIn.aside c.move_if_held.new.seg) c.args.t (only_at c.loop-at.at s.rows) =
-    subst (λ (a : Aside). Moves s (entries c.move_if_held.new.slots) a (g.S.WordsIn.aside c.move_if_held.new.seg) c.args.t (only_at c.loop-at.at s.rows)) c.after-next.ensures.kept.aside c.move_if_held.ensures.moves in
+    let drops = (moves_kept c.after-next.ensures.kept c.move_if_held.ensures).moves in
     let slot : c.args.slot < s.conf.slots = subst (λ k. c.args.slot < k) (sym (ap (λ (x : Entries). x.conf.slots) c.loop-at.invariant.moving.moves.drops.dropped)) c.requires.slot in
     record {
       moving = moving_on c.loop-at.invariant.moving n drops (c.after-next.ensures.row c.args.slot slot n.there);
@@ -57,12 +54,15 @@ loop-at-smaller g c =
     let sound = c.standing_laws.ensures.sound c.loop-at.slots (g.S.WordsIn.words c.loop-at.seg) (g.S.WordsIn.aside c.loop-at.seg) (entries c.loop-at.slots) c.loop-at.invariant.stand in
     let sound' = c.standing_laws.ensures.sound c.move_if_held.new.slots (g.S.WordsIn.words c.move_if_held.new.seg) (g.S.WordsIn.aside c.move_if_held.new.seg) (entries c.move_if_held.new.slots) c.move_if_held.ensures.stand in
     let n = moving_next c.loop-at.invariant.moving sound c.loop-at-test.true in
-    let drops : Moves s (entries c.move_if_held.new.slots) (g.S.WordsIn.aside c.loop-at.seg) (g.S.WordsIn.aside c.move_if_held.new.seg) c.args.t (only_at c.loop-at.at s.rows) =
-    subst (λ (a : Aside). Moves s (entries c.move_if_held.new.slots) a (g.S.WordsIn.aside c.move_if_held.new.seg) c.args.t (only_at c.loop-at.at s.rows)) c.after-next.ensures.kept.aside c.move_if_held.ensures.moves in
+    let drops = (moves_kept c.after-next.ensures.kept c.move_if_held.ensures).moves in
     let slot : c.args.slot < s.conf.slots = subst (λ k. c.args.slot < k) (sym (ap (λ (x : Entries). x.conf.slots) c.loop-at.invariant.moving.moves.drops.dropped)) c.requires.slot in
     moving_falls c.loop-at.invariant.moving n drops (c.after-next.ensures.row c.args.slot slot n.there) sound'
 
-pub returns-clause-moves : goal.returns-clause-moves
-returns-clause-moves g c =
+pub returns : goal.returns
+returns g c =
     let sound = c.standing_laws.ensures.sound c.loop-at.slots (g.S.WordsIn.words c.loop-at.seg) (g.S.WordsIn.aside c.loop-at.seg) (entries c.loop-at.slots) c.loop-at.invariant.stand in
-    moving_ends c.loop-at.invariant.moving sound c.loop-at-test.false
+    record {
+      moves = moving_ends c.loop-at.invariant.moving sound c.loop-at-test.false;
+      stand = c.loop-at.invariant.stand;
+      rest = c.loop-at.invariant.rest;
+    }

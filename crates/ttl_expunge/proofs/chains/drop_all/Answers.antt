@@ -9,11 +9,14 @@ pub loop-slot-init : goal.loop-slot-init
 loop-slot-init g c =
     let s = entries c.args.slots.now in
     record {
-      expunging = expunging_starts (is_to_drop c.args.which c.args.t) c.args.t s (g.S.WordsIn.aside c.args.seg.now) (g.S.WordsIn.aside c.args.seg.now) refl c.requires.refused;
+      expunging = expunging_starts (is_to_drop c.args.which c.args.t) c.args.t s (g.S.WordsIn.aside c.args.seg.now) (g.S.WordsIn.aside c.args.seg.now) refl c.requires.ready.refused;
       within = omega arith;
-      stand = c.requires.stand;
+      stand = c.requires.ready.stand;
       rest = refl;
     }
+
+pub drop_chain-requires-clause-ready : goal.drop_chain-requires-clause-ready
+drop_chain-requires-clause-ready g c = record { stand = c.loop-slot.invariant.stand; refused = c.loop-slot.invariant.expunging.drops.refused }
 
 pub drop_chain-requires-clause-slot : goal.drop_chain-requires-clause-slot
 drop_chain-requires-clause-slot g c =
@@ -30,5 +33,9 @@ loop-slot-preserved g c =
       rest = c.drop_chain.ensures.rest ∙ c.loop-slot.invariant.rest;
     }
 
-pub returns-clause-drops : goal.returns-clause-drops
-returns-clause-drops g c = expunging_ends c.loop-slot.invariant.expunging (omega (arith, c.slots-end.ensures.slots, c.loop-slot.invariant.within))
+pub returns : goal.returns
+returns g c = record {
+  drops = expunging_ends c.loop-slot.invariant.expunging (omega (arith, c.slots-end.ensures.slots, c.loop-slot.invariant.within));
+  stand = c.loop-slot.invariant.stand;
+  rest = c.loop-slot.invariant.rest;
+}

@@ -1,12 +1,11 @@
-use Rattle.std.proofs.Common.{◌<◌, sym, ap, ◌∙◌, subst, filter}
+use Rattle.std.proofs.Common.{◌<◌, sym, ap, ◌∙◌, subst}
 use Rattle.std.proofs.lemmas.Bool.{or_left}
-use Rattle.seg_words.specs.Windows.{Aside}
-use Rattle.entry_slots.specs.Lists.{is_at, has_place, only_at}
+use Rattle.entry_slots.specs.Lists.{is_at, has_place}
 use Rattle.entry_slots.specs.Entries.{Entries}
-use Rattle.ttl_expunge.specs.Held.{Drops, AreRemoved}
 use Rattle.ttl_expunge.specs.Which.{is_to_drop}
 use Rattle.std.proofs.lemmas.List.Folds.{list_any-append}
 use Rattle.ttl_expunge.proofs.Asides.{stand_kept}
+use Rattle.ttl_expunge.proofs.Steps.{may_kept, drops_kept}
 use Rattle.ttl_expunge.proofs.Chaining.{chaining_starts, next_is, chaining_on, chaining_falls, chaining_ends}
 use Rattle.entry_slots.specs.Standing.{entries}
 use Rattle.ttl_expunge.proofs.chains.drop_chain.Goals as goal
@@ -16,8 +15,8 @@ loop-at-init g c =
     let s = entries c.args.slots.now in
     let kept = c.first_in-at.ensures.kept in
     record {
-      chaining = chaining_starts (is_to_drop c.args.which c.args.t) c.args.t s (g.S.WordsIn.aside c.args.seg.now) (g.S.WordsIn.aside c.first_in-at.new.seg) c.args.slot c.first_in-at.result kept.aside c.first_in-at.ensures.first c.requires.refused;
-      stand = stand_kept c.args.slots.now kept c.requires.stand;
+      chaining = chaining_starts (is_to_drop c.args.which c.args.t) c.args.t s (g.S.WordsIn.aside c.args.seg.now) (g.S.WordsIn.aside c.first_in-at.new.seg) c.args.slot c.first_in-at.result kept.aside c.first_in-at.ensures.first c.requires.ready.refused;
+      stand = stand_kept c.args.slots.now kept c.requires.ready.stand;
       rest = kept.rest;
     }
 
@@ -33,9 +32,8 @@ drop_if-requires g c =
     let sound = c.standing_laws.ensures.sound c.loop-at.slots (g.S.WordsIn.words c.loop-at.seg) (g.S.WordsIn.aside c.loop-at.seg) (entries c.loop-at.slots) c.loop-at.invariant.stand in
     let n = next_is c.loop-at.invariant.chaining sound c.loop-at-test.true in
     record {
-      stand = stand_kept c.loop-at.slots c.after-next.ensures.kept c.loop-at.invariant.stand;
+      ready = may_kept c.loop-at.slots c.after-next.ensures.kept (record { stand = c.loop-at.invariant.stand; refused = c.loop-at.invariant.chaining.drops.refused });
       there = n.listed;
-      refused = subst (λ (a : Aside). AreRemoved a (entries c.loop-at.slots).removed) (sym c.after-next.ensures.kept.aside) c.loop-at.invariant.chaining.drops.refused;
     }
 
 pub loop-at-preserved : goal.loop-at-preserved
@@ -43,8 +41,7 @@ loop-at-preserved g c =
     let s = entries c.loop-at.slots in
     let sound = c.standing_laws.ensures.sound c.loop-at.slots (g.S.WordsIn.words c.loop-at.seg) (g.S.WordsIn.aside c.loop-at.seg) (entries c.loop-at.slots) c.loop-at.invariant.stand in
     let n = next_is c.loop-at.invariant.chaining sound c.loop-at-test.true in
-    let drops : Drops s (entries c.drop_if.new.slots) (g.S.WordsIn.aside c.loop-at.seg) (g.S.WordsIn.aside c.drop_if.new.seg) c.args.t (filter (is_to_drop c.args.which c.args.t) (only_at c.loop-at.at s.rows)) =
-    subst (λ (a : Aside). Drops s (entries c.drop_if.new.slots) a (g.S.WordsIn.aside c.drop_if.new.seg) c.args.t (filter (is_to_drop c.args.which c.args.t) (only_at c.loop-at.at s.rows))) c.after-next.ensures.kept.aside c.drop_if.ensures.drops in
+    let drops = (drops_kept c.after-next.ensures.kept c.drop_if.ensures).drops in
     let slot : c.args.slot < s.conf.slots = subst (λ k. c.args.slot < k) (sym (ap (λ (x : Entries). x.conf.slots) c.loop-at.invariant.chaining.drops.dropped)) c.requires.slot in
     record {
       chaining = chaining_on c.loop-at.invariant.chaining n drops (c.after-next.ensures.row c.args.slot slot n.there);
@@ -58,12 +55,15 @@ loop-at-smaller g c =
     let sound = c.standing_laws.ensures.sound c.loop-at.slots (g.S.WordsIn.words c.loop-at.seg) (g.S.WordsIn.aside c.loop-at.seg) (entries c.loop-at.slots) c.loop-at.invariant.stand in
     let sound' = c.standing_laws.ensures.sound c.drop_if.new.slots (g.S.WordsIn.words c.drop_if.new.seg) (g.S.WordsIn.aside c.drop_if.new.seg) (entries c.drop_if.new.slots) c.drop_if.ensures.stand in
     let n = next_is c.loop-at.invariant.chaining sound c.loop-at-test.true in
-    let drops : Drops s (entries c.drop_if.new.slots) (g.S.WordsIn.aside c.loop-at.seg) (g.S.WordsIn.aside c.drop_if.new.seg) c.args.t (filter (is_to_drop c.args.which c.args.t) (only_at c.loop-at.at s.rows)) =
-    subst (λ (a : Aside). Drops s (entries c.drop_if.new.slots) a (g.S.WordsIn.aside c.drop_if.new.seg) c.args.t (filter (is_to_drop c.args.which c.args.t) (only_at c.loop-at.at s.rows))) c.after-next.ensures.kept.aside c.drop_if.ensures.drops in
+    let drops = (drops_kept c.after-next.ensures.kept c.drop_if.ensures).drops in
     let slot : c.args.slot < s.conf.slots = subst (λ k. c.args.slot < k) (sym (ap (λ (x : Entries). x.conf.slots) c.loop-at.invariant.chaining.drops.dropped)) c.requires.slot in
     chaining_falls c.loop-at.invariant.chaining n drops (c.after-next.ensures.row c.args.slot slot n.there) sound'
 
-pub returns-clause-drops : goal.returns-clause-drops
-returns-clause-drops g c =
+pub returns : goal.returns
+returns g c =
     let sound = c.standing_laws.ensures.sound c.loop-at.slots (g.S.WordsIn.words c.loop-at.seg) (g.S.WordsIn.aside c.loop-at.seg) (entries c.loop-at.slots) c.loop-at.invariant.stand in
-    chaining_ends c.loop-at.invariant.chaining sound c.loop-at-test.false
+    record {
+      drops = chaining_ends c.loop-at.invariant.chaining sound c.loop-at-test.false;
+      stand = c.loop-at.invariant.stand;
+      rest = c.loop-at.invariant.rest;
+    }

@@ -19,7 +19,7 @@ free-requires-clause-there g c =
     list_any-append (is_at c.args.at) s.unlinked s.removed ∙ or_right (has_place c.args.at s.unlinked) (has_place c.args.at s.removed) c.requires.there
 
 pub free-requires-clause-unnamed : goal.free-requires-clause-unnamed
-free-requires-clause-unnamed g c = c.is_let_go.ensures.met.decided ∙ not-true (has c.args.at (held_blocks (g.S.WordsIn.aside c.is_let_go.new.seg))) (sym c.is_let_go.ensures.free ∙ c.if-is_let_go.true)
+free-requires-clause-unnamed g c = c.is_let_go.ensures.probes.met.decided ∙ not-true (has c.args.at (held_blocks (g.S.WordsIn.aside c.is_let_go.new.seg))) (sym c.is_let_go.ensures.free ∙ c.if-is_let_go.true)
 
 pub returns-then-is_let_go-clause-swept : goal.returns-then-is_let_go-clause-swept
 returns-then-is_let_go-clause-swept g c =
@@ -27,8 +27,12 @@ returns-then-is_let_go-clause-swept g c =
     let free : has c.args.at (held_blocks (g.S.WordsIn.aside c.is_let_go.new.seg)) ≡ false = not-true (has c.args.at (held_blocks (g.S.WordsIn.aside c.is_let_go.new.seg))) (sym c.is_let_go.ensures.free ∙ c.if-is_let_go.true) in
     c.free.ensures.freed ∙ ap (λ b. cond b s (freed_at c.args.at s)) (sym (ap (λ (a : Aside). has c.args.at (held_blocks a)) c.free.ensures.beside.aside ∙ free))
 
-pub returns-then-is_let_go-clause-met : goal.returns-then-is_let_go-clause-met
-returns-then-is_let_go-clause-met g c = subst (λ a. Met (g.S.WordsIn.aside c.args.seg.now) a c.args.at) (sym c.free.ensures.beside.aside) c.is_let_go.ensures.met
+pub returns-then-is_let_go-clause-probes : goal.returns-then-is_let_go-clause-probes
+returns-then-is_let_go-clause-probes g c = record {
+  met = subst (λ a. Met (g.S.WordsIn.aside c.args.seg.now) a c.args.at) (sym c.free.ensures.beside.aside) c.is_let_go.ensures.probes.met;
+  stand = c.free.ensures.stand;
+  rest = c.free.ensures.beside.rest ∙ c.is_let_go.ensures.probes.rest;
+}
 
 pub returns-else-is_let_go-clause-swept : goal.returns-else-is_let_go-clause-swept
 returns-else-is_let_go-clause-swept g c =

@@ -14,8 +14,8 @@ loop-at-init g c =
     let s = entries c.args.slots.now in
     let a = g.S.WordsIn.aside c.args.seg.now in
     record {
-      sweeping = sweeping_starts s a c.first_removed-at.result c.first_removed-at.ensures.first c.requires.fresh;
-      stand = c.requires.stand;
+      sweeping = sweeping_starts s a c.first_removed-at.result c.first_removed-at.ensures.first c.requires.ready.fresh;
+      stand = c.requires.ready.stand;
       rest = refl;
     }
 
@@ -40,19 +40,19 @@ pub loop-at-preserved : goal.loop-at-preserved
 loop-at-preserved g c =
     let sound = c.standing_laws.ensures.sound c.loop-at.slots (g.S.WordsIn.words c.loop-at.seg) (g.S.WordsIn.aside c.loop-at.seg) (entries c.loop-at.slots) c.loop-at.invariant.stand in
     let t = turn c.loop-at.invariant.sweeping sound c.loop-at-test.true in
-    let met : Met (g.S.WordsIn.aside c.loop-at.seg) (g.S.WordsIn.aside c.sweep_at.new.seg) c.loop-at.at = subst (λ (a : Aside). Met a (g.S.WordsIn.aside c.sweep_at.new.seg) c.loop-at.at) c.after-next.ensures.kept.aside c.sweep_at.ensures.met in
+    let met : Met (g.S.WordsIn.aside c.loop-at.seg) (g.S.WordsIn.aside c.sweep_at.new.seg) c.loop-at.at = subst (λ (a : Aside). Met a (g.S.WordsIn.aside c.sweep_at.new.seg) c.loop-at.at) c.after-next.ensures.kept.aside c.sweep_at.ensures.probes.met in
     record {
       sweeping = sweeping_on c.loop-at.invariant.sweeping sound c.loop-at-test.true c.sweep_at.ensures.swept met (c.after-next.ensures.removed t.there);
-      stand = c.sweep_at.ensures.stand;
-      rest = c.sweep_at.ensures.rest ∙ (c.after-next.ensures.kept.rest ∙ c.loop-at.invariant.rest);
+      stand = c.sweep_at.ensures.probes.stand;
+      rest = c.sweep_at.ensures.probes.rest ∙ (c.after-next.ensures.kept.rest ∙ c.loop-at.invariant.rest);
     }
 
 pub loop-at-smaller : goal.loop-at-smaller
 loop-at-smaller g c =
     let sound = c.standing_laws.ensures.sound c.loop-at.slots (g.S.WordsIn.words c.loop-at.seg) (g.S.WordsIn.aside c.loop-at.seg) (entries c.loop-at.slots) c.loop-at.invariant.stand in
-    let sound' = c.standing_laws.ensures.sound c.sweep_at.new.slots (g.S.WordsIn.words c.sweep_at.new.seg) (g.S.WordsIn.aside c.sweep_at.new.seg) (entries c.sweep_at.new.slots) c.sweep_at.ensures.stand in
+    let sound' = c.standing_laws.ensures.sound c.sweep_at.new.slots (g.S.WordsIn.words c.sweep_at.new.seg) (g.S.WordsIn.aside c.sweep_at.new.seg) (entries c.sweep_at.new.slots) c.sweep_at.ensures.probes.stand in
     let t = turn c.loop-at.invariant.sweeping sound c.loop-at-test.true in
-    let met : Met (g.S.WordsIn.aside c.loop-at.seg) (g.S.WordsIn.aside c.sweep_at.new.seg) c.loop-at.at = subst (λ (a : Aside). Met a (g.S.WordsIn.aside c.sweep_at.new.seg) c.loop-at.at) c.after-next.ensures.kept.aside c.sweep_at.ensures.met in
+    let met : Met (g.S.WordsIn.aside c.loop-at.seg) (g.S.WordsIn.aside c.sweep_at.new.seg) c.loop-at.at = subst (λ (a : Aside). Met a (g.S.WordsIn.aside c.sweep_at.new.seg) c.loop-at.at) c.after-next.ensures.kept.aside c.sweep_at.ensures.probes.met in
     sweeping_falls c.loop-at.invariant.sweeping sound c.loop-at-test.true c.sweep_at.ensures.swept met (c.after-next.ensures.removed t.there) sound'
 
 pub returns : goal.returns

@@ -10,8 +10,8 @@ loop-at-init g c =
     let s = entries c.args.slots.now in
     let aside = g.S.WordsIn.aside c.args.seg.now in
     record {
-      drops = λ gone are. drops_none s aside aside c.args.t refl c.requires.refused;
-      stand = c.requires.stand;
+      drops = λ gone are. drops_none s aside aside c.args.t refl c.requires.ready.refused;
+      stand = c.requires.ready.stand;
       rest = refl;
     }
 
@@ -22,8 +22,8 @@ drop_row-requires-clause-there g c =
     let sound = c.standing_laws.ensures.sound c.loop-at.slots (g.S.WordsIn.words c.loop-at.seg) (g.S.WordsIn.aside c.loop-at.seg) (entries c.loop-at.slots) i.stand in
     (left_at r.0 c.loop-at.at-index (slice_index c.args.places.now c.loop-at.at-index) r.1 sound (i.drops r.0 r.1) c.loop-at-test.true refl).there
 
-pub drop_row-requires-clause-refused : goal.drop_row-requires-clause-refused
-drop_row-requires-clause-refused g c = (c.loop-at.invariant.drops c.requires.rows.0 c.requires.rows.1).refused
+pub drop_row-requires-clause-ready : goal.drop_row-requires-clause-ready
+drop_row-requires-clause-ready g c = record { stand = c.loop-at.invariant.stand; refused = (c.loop-at.invariant.drops c.requires.rows.0 c.requires.rows.1).refused }
 
 pub loop-at-preserved : goal.loop-at-preserved
 loop-at-preserved g c =
@@ -37,6 +37,9 @@ loop-at-preserved g c =
       rest = c.drop_row.ensures.rest ∙ i.rest;
     }
 
-pub returns-clause-drops : goal.returns-clause-drops
-returns-clause-drops g c = λ gone are.
-    dropped_all gone c.loop-at.at-index are (omega (arith, c.loop-at-test.false)) (c.loop-at.invariant.drops gone are)
+pub returns : goal.returns
+returns g c = λ gone are. record {
+  drops = dropped_all gone c.loop-at.at-index are (omega (arith, c.loop-at-test.false)) (c.loop-at.invariant.drops gone are);
+  stand = c.loop-at.invariant.stand;
+  rest = c.loop-at.invariant.rest;
+}

@@ -15,7 +15,14 @@ pub make_room_next-requires-clause-held : goal.make_room_next-requires-clause-he
 make_room_next-requires-clause-held g c =
     sweeps_held (entries c.args.slots.now) (entries c.sweep_removed.new.slots) (g.S.WordsIn.aside c.args.seg.now) (g.S.WordsIn.aside c.sweep_removed.new.seg) c.sweep_removed.ensures.sweeps
 
-pub returns-clause-made : goal.returns-clause-made
-returns-clause-made g c =
+pub make_room_next-requires-clause-ready : goal.make_room_next-requires-clause-ready
+make_room_next-requires-clause-ready g c = record { stand = c.sweep_removed.ensures.stand; refused = c.sweep_removed.ensures.sweeps.refused }
+
+pub returns : goal.returns
+returns g c =
     let sweeps = c.sweep_removed.ensures.sweeps in
-    room_on sweeps (sweeps_open (entries c.args.slots.now) (entries c.sweep_removed.new.slots) (g.S.WordsIn.aside c.args.seg.now) (g.S.WordsIn.aside c.sweep_removed.new.seg) sweeps) c.make_room_next.ensures.made
+    record {
+      made = room_on sweeps (sweeps_open (entries c.args.slots.now) (entries c.sweep_removed.new.slots) (g.S.WordsIn.aside c.args.seg.now) (g.S.WordsIn.aside c.sweep_removed.new.seg) sweeps) c.make_room_next.ensures.made;
+      stand = c.make_room_next.ensures.stand;
+      rest = c.make_room_next.ensures.rest ∙ c.sweep_removed.ensures.rest;
+    }

@@ -22,20 +22,24 @@ expunge_at_once-requires-clause-whole g c =
       ap (λ (x : Entries). x.taken) last ∙ (ap (λ (x : Entries). x.taken) drops.dropped ∙ (ap (λ (x : Entries). x.taken) first ∙ c.requires.whole.1)),
     )
 
-pub returns-then-is_some-clause-made : goal.returns-then-is_some-clause-made
-returns-then-is_some-clause-made g c =
+pub returns-then-is_some : goal.returns-then-is_some
+returns-then-is_some g c =
     let s0 = entries c.args.slots.now in
     let s1 = entries c.args.slots.now in
     let a0 = g.S.WordsIn.aside c.args.seg.now in
     let a1 = g.S.WordsIn.aside c.args.seg.now in
     let r = c.take-swept.result in
     let e = c.take-swept.ensures in
-    let sweeps = nothing_swept s0 a0 c.requires.held c.requires.refused in
-    makes r false (took r c.args.n s1 (entries c.take-swept.new.self) e.taken e.none) e.place
-    (room_swept r sweeps e.place (sym c.is_some.ensures ∙ c.if-is_some.true)) (ap (λ (x : Entries). x.conf) sweeps.swept) sweeps.goes (sweeps_open s0 s1 a0 a1 sweeps) sweeps.refused (sweeps_held s0 s1 a0 a1 sweeps) e.beside.aside
+    let sweeps = nothing_swept s0 a0 c.requires.held c.requires.ready.refused in
+    record {
+      made = makes r false (took r c.args.n s1 (entries c.take-swept.new.self) e.taken e.none) e.place
+          (room_swept r sweeps e.place (sym c.is_some.ensures ∙ c.if-is_some.true)) (ap (λ (x : Entries). x.conf) sweeps.swept) sweeps.goes (sweeps_open s0 s1 a0 a1 sweeps) sweeps.refused (sweeps_held s0 s1 a0 a1 sweeps) e.beside.aside;
+      stand = c.take-swept.ensures.stand;
+      rest = c.take-swept.ensures.beside.rest;
+    }
 
-pub returns-then-is_some-2-clause-made : goal.returns-then-is_some-2-clause-made
-returns-then-is_some-2-clause-made g c =
+pub returns-then-is_some-2 : goal.returns-then-is_some-2
+returns-then-is_some-2 g c =
     let s0 = entries c.args.slots.now in
     let s1 = entries c.args.slots.now in
     let s2 = entries c.drop_expired.new.slots in
@@ -47,18 +51,22 @@ returns-then-is_some-2-clause-made g c =
     let e = c.take-swept.ensures in
     let e' = c.take-unexpired.ensures in
     let nothing : is_some r ≡ false = sym c.is_some.ensures ∙ c.if-is_some.false in
-    let sweeps = nothing_swept s0 a0 c.requires.held c.requires.refused in
-    let sound = c.standing_laws.ensures.sound c.args.slots.now (g.S.WordsIn.words c.args.seg.now) a1 (entries c.args.slots.now) c.requires.stand in
+    let sweeps = nothing_swept s0 a0 c.requires.held c.requires.ready.refused in
+    let sound = c.standing_laws.ensures.sound c.args.slots.now (g.S.WordsIn.words c.args.seg.now) a1 (entries c.args.slots.now) c.requires.ready.stand in
     let drops : Drops s1 s2 a1 a2 c.args.t (expired_rows_of c.args.t s1) =
     drops_from (expired_rows_of c.args.t) (unchanged r s1 (entries c.take-swept.new.self) nothing e.none) e.beside.aside c.drop_expired.ensures.drops in
-    makes r' false (took r' c.args.n s2 (entries c.take-unexpired.new.self) e'.taken e'.none) e'.place
-    (room_expired r r' sweeps e.place nothing drops sound e'.place (sym c.is_some-2.ensures ∙ c.if-is_some-2.true))
-    (ap (λ (x : Entries). x.conf) drops.dropped ∙ ap (λ (x : Entries). x.conf) sweeps.swept)
-    (goes_on a0 a1 a2 sweeps.goes drops.goes)
-    (open_on s0 s1 s2 a1 a2 drops.goes (sweeps_open s0 s1 a0 a1 sweeps) (expired_open s1 s2 a1 a2 c.args.t sound drops)) drops.refused (drops_held s1 s2 a1 a2 c.args.t (expired_rows_of c.args.t s1) drops (sweeps_held s0 s1 a0 a1 sweeps)) e'.beside.aside
+    record {
+      made = makes r' false (took r' c.args.n s2 (entries c.take-unexpired.new.self) e'.taken e'.none) e'.place
+          (room_expired r r' sweeps e.place nothing drops sound e'.place (sym c.is_some-2.ensures ∙ c.if-is_some-2.true))
+          (ap (λ (x : Entries). x.conf) drops.dropped ∙ ap (λ (x : Entries). x.conf) sweeps.swept)
+          (goes_on a0 a1 a2 sweeps.goes drops.goes)
+          (open_on s0 s1 s2 a1 a2 drops.goes (sweeps_open s0 s1 a0 a1 sweeps) (expired_open s1 s2 a1 a2 c.args.t sound drops)) drops.refused (drops_held s1 s2 a1 a2 c.args.t (expired_rows_of c.args.t s1) drops (sweeps_held s0 s1 a0 a1 sweeps)) e'.beside.aside;
+      stand = c.take-unexpired.ensures.stand;
+      rest = c.take-unexpired.ensures.beside.rest ∙ (c.drop_expired.ensures.rest ∙ c.take-swept.ensures.beside.rest);
+    }
 
-pub returns-clause-made : goal.returns-clause-made
-returns-clause-made g c =
+pub returns : goal.returns
+returns g c =
     let s0 = entries c.args.slots.now in
     let s1 = entries c.args.slots.now in
     let s2 = entries c.drop_expired.new.slots in
@@ -74,17 +82,21 @@ returns-clause-made g c =
     let f = c.take.ensures in
     let nothing : is_some r ≡ false = sym c.is_some.ensures ∙ c.if-is_some.false in
     let neither : is_some r' ≡ false = sym c.is_some-2.ensures ∙ c.if-is_some-2.false in
-    let sweeps = nothing_swept s0 a0 c.requires.held c.requires.refused in
-    let sound = c.standing_laws.ensures.sound c.args.slots.now (g.S.WordsIn.words c.args.seg.now) a1 (entries c.args.slots.now) c.requires.stand in
+    let sweeps = nothing_swept s0 a0 c.requires.held c.requires.ready.refused in
+    let sound = c.standing_laws.ensures.sound c.args.slots.now (g.S.WordsIn.words c.args.seg.now) a1 (entries c.args.slots.now) c.requires.ready.stand in
     let sound' = c.standing_laws.ensures.sound c.drop_expired.new.slots (g.S.WordsIn.words c.drop_expired.new.seg) a2 (entries c.drop_expired.new.slots) c.drop_expired.ensures.stand in
     let drops : Drops s1 s2 a1 a2 c.args.t (expired_rows_of c.args.t s1) =
     drops_from (expired_rows_of c.args.t) (unchanged r s1 (entries c.take-swept.new.self) nothing e.none) e.beside.aside c.drop_expired.ensures.drops in
     let all : Drops s2 s3 a2 a3 c.args.t (all_rows_of s2) =
     drops_from all_rows_of (unchanged r' s2 (entries c.take-unexpired.new.self) neither e'.none) e'.beside.aside c.expunge_at_once.ensures.drops in
     let keeps = open_on s0 s1 s2 a1 a2 drops.goes (sweeps_open s0 s1 a0 a1 sweeps) (expired_open s1 s2 a1 a2 c.args.t sound drops) in
-    makes c.take.result true (took c.take.result c.args.n s3 (entries c.take.new.self) f.taken f.none) f.place
-    (room_full r r' sweeps e.place nothing drops sound e'.place neither all sound')
-    (ap (λ (x : Entries). x.conf) all.dropped ∙ (ap (λ (x : Entries). x.conf) drops.dropped ∙ ap (λ (x : Entries). x.conf) sweeps.swept))
-    (goes_on a0 a2 a3 (goes_on a0 a1 a2 sweeps.goes drops.goes) all.goes)
-    (open_on s0 s2 s3 a2 a3 all.goes keeps (drops_open s2 s3 a2 a3 c.args.t (all_rows_of s2) sound' (order_from s2.conf s2.rows) all)) all.refused
-    (drops_held s2 s3 a2 a3 c.args.t (all_rows_of s2) all (drops_held s1 s2 a1 a2 c.args.t (expired_rows_of c.args.t s1) drops (sweeps_held s0 s1 a0 a1 sweeps))) f.beside.aside
+    record {
+      made = makes c.take.result true (took c.take.result c.args.n s3 (entries c.take.new.self) f.taken f.none) f.place
+          (room_full r r' sweeps e.place nothing drops sound e'.place neither all sound')
+          (ap (λ (x : Entries). x.conf) all.dropped ∙ (ap (λ (x : Entries). x.conf) drops.dropped ∙ ap (λ (x : Entries). x.conf) sweeps.swept))
+          (goes_on a0 a2 a3 (goes_on a0 a1 a2 sweeps.goes drops.goes) all.goes)
+          (open_on s0 s2 s3 a2 a3 all.goes keeps (drops_open s2 s3 a2 a3 c.args.t (all_rows_of s2) sound' (order_from s2.conf s2.rows) all)) all.refused
+          (drops_held s2 s3 a2 a3 c.args.t (all_rows_of s2) all (drops_held s1 s2 a1 a2 c.args.t (expired_rows_of c.args.t s1) drops (sweeps_held s0 s1 a0 a1 sweeps))) f.beside.aside;
+      stand = c.take.ensures.stand;
+      rest = c.take.ensures.beside.rest ∙ (c.expunge_at_once.ensures.rest ∙ (c.take-unexpired.ensures.beside.rest ∙ (c.drop_expired.ensures.rest ∙ c.take-swept.ensures.beside.rest)));
+    }

@@ -3,7 +3,7 @@ use Rattle.value_image.proofs.laws.runs_are_written.Goals as goal
 
 pub returns : goal.returns
 returns c = record {
-  length = length-written;
+  long = length-written;
   cut = written-is;
   there = stands-written;
   before = written-before;

@@ -15,10 +15,13 @@ loop-key-init g c = record {
   midway = undone_begins _ _ _ _ _ _ (ap (λ (l : List _). map (λ key. key.now) l) c.new-kept.ensures.items) c.requires.whole;
 }
 
-pub delete-next-requires-clause-left : goal.delete-next-requires-clause-left
-delete-next-requires-clause-left g c =
+pub delete-next-requires-clause-pass : goal.delete-next-requires-clause-pass
+delete-next-requires-clause-pass g c =
     let all : List (List ℕ) = c.args.keys.now in
-    two_left (drop c.loop-key.key-index all) c.key-item.result (drop (c.loop-key.key-index + 1) all) _ (drop_item all c.loop-key.key-index c.key-item.result c.loop-key-test.true c.key-item.is) c.loop-key.invariant.left
+    record {
+      table = c.loop-key.invariant.table;
+      left = two_left (drop c.loop-key.key-index all) c.key-item.result (drop (c.loop-key.key-index + 1) all) _ (drop_item all c.loop-key.key-index c.key-item.result c.loop-key-test.true c.key-item.is) c.loop-key.invariant.left;
+    }
 
 pub returns-in-Err-clause-reaches : goal.returns-in-Err-clause-reaches
 returns-in-Err-clause-reaches g c =

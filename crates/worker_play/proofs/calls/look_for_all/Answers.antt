@@ -16,10 +16,13 @@ loop-key-init g c = record {
   midway = noted_begins _ _ _ _ _ _ _ c.new-there.ensures c.requires.whole;
 }
 
-pub exists-next-requires-clause-left : goal.exists-next-requires-clause-left
-exists-next-requires-clause-left g c =
+pub exists-next-requires-clause-pass : goal.exists-next-requires-clause-pass
+exists-next-requires-clause-pass g c =
     let keys : List (List ℕ) = c.args.keys.now in
-    two_left (drop c.loop-key.key-index keys) c.key-item.result (drop (c.loop-key.key-index + 1) keys) _ (drop_item keys c.loop-key.key-index c.key-item.result c.loop-key-test.true c.key-item.is) c.loop-key.invariant.left
+    record {
+      table = c.loop-key.invariant.table;
+      left = two_left (drop c.loop-key.key-index keys) c.key-item.result (drop (c.loop-key.key-index + 1) keys) _ (drop_item keys c.loop-key.key-index c.key-item.result c.loop-key-test.true c.key-item.is) c.loop-key.invariant.left;
+    }
 
 pub returns-in-Err-clause-reaches : goal.returns-in-Err-clause-reaches
 returns-in-Err-clause-reaches g c =

@@ -8,9 +8,6 @@ use Rattle.worker_play.proofs.calls.play_call.Goals as goal
 
 -- ---- what the calls ask for
 
-pub play_flagged-requires-clause-table : goal.play_flagged-requires-clause-table
-play_flagged-requires-clause-table g c = c.requires.table
-
 pub play_flagged-requires-clause-whole : goal.play_flagged-requires-clause-whole
 play_flagged-requires-clause-whole g c = c.requires.whole
 
@@ -19,9 +16,6 @@ store_all-requires-clause-table g c = c.requires.table
 
 pub store_all-requires-clause-whole : goal.store_all-requires-clause-whole
 store_all-requires-clause-whole g c = c.requires.whole
-
-pub fetch-pass-requires-clause-table : goal.fetch-pass-requires-clause-table
-fetch-pass-requires-clause-table g c = c.requires.table
 
 pub fetch-pass-requires-clause-whole : goal.fetch-pass-requires-clause-whole
 fetch-pass-requires-clause-whole g c = c.requires.whole
@@ -44,26 +38,14 @@ delete_all-requires-clause-table g c = c.requires.table
 pub delete_all-requires-clause-whole : goal.delete_all-requires-clause-whole
 delete_all-requires-clause-whole g c = c.requires.whole
 
-pub inc-pass-requires-clause-table : goal.inc-pass-requires-clause-table
-inc-pass-requires-clause-table g c = c.requires.table
-
 pub inc-pass-requires-clause-whole : goal.inc-pass-requires-clause-whole
 inc-pass-requires-clause-whole g c = c.requires.whole
-
-pub entry-pass-requires-clause-table : goal.entry-pass-requires-clause-table
-entry-pass-requires-clause-table g c = c.requires.table
 
 pub entry-pass-requires-clause-whole : goal.entry-pass-requires-clause-whole
 entry-pass-requires-clause-whole g c = c.requires.whole
 
-pub clear-pass-requires-clause-table : goal.clear-pass-requires-clause-table
-clear-pass-requires-clause-table g c = c.requires.table
-
 pub clear-pass-requires-clause-whole : goal.clear-pass-requires-clause-whole
 clear-pass-requires-clause-whole g c = c.requires.whole
-
-pub play_told-requires-clause-table : goal.play_told-requires-clause-table
-play_told-requires-clause-table g c = c.requires.table
 
 pub play_told-requires-clause-whole : goal.play_told-requires-clause-whole
 play_told-requires-clause-whole g c = c.requires.whole

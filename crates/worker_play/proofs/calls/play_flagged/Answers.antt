@@ -4,41 +4,29 @@ use Rattle.worker_play.proofs.Going.{on_ok}
 use Rattle.worker_play.proofs.Forms.{told_once}
 use Rattle.worker_play.proofs.calls.play_flagged.Goals as goal
 
-pub store-pass-requires-clause-table : goal.store-pass-requires-clause-table
-store-pass-requires-clause-table g c = c.requires.table
+pub store-pass-requires-clause-pass : goal.store-pass-requires-clause-pass
+store-pass-requires-clause-pass g c = c.requires.pass
 
 pub store-pass-requires-clause-whole : goal.store-pass-requires-clause-whole
 store-pass-requires-clause-whole g c = c.requires.whole
 
-pub store-pass-requires-clause-left : goal.store-pass-requires-clause-left
-store-pass-requires-clause-left g c = c.requires.left
-
-pub exists-pass-requires-clause-table : goal.exists-pass-requires-clause-table
-exists-pass-requires-clause-table g c = c.requires.table
+pub exists-pass-requires-clause-pass : goal.exists-pass-requires-clause-pass
+exists-pass-requires-clause-pass g c = c.requires.pass
 
 pub exists-pass-requires-clause-whole : goal.exists-pass-requires-clause-whole
 exists-pass-requires-clause-whole g c = c.requires.whole
 
-pub exists-pass-requires-clause-left : goal.exists-pass-requires-clause-left
-exists-pass-requires-clause-left g c = c.requires.left
-
-pub delete-pass-requires-clause-table : goal.delete-pass-requires-clause-table
-delete-pass-requires-clause-table g c = c.requires.table
+pub delete-pass-requires-clause-pass : goal.delete-pass-requires-clause-pass
+delete-pass-requires-clause-pass g c = c.requires.pass
 
 pub delete-pass-requires-clause-whole : goal.delete-pass-requires-clause-whole
 delete-pass-requires-clause-whole g c = c.requires.whole
 
-pub delete-pass-requires-clause-left : goal.delete-pass-requires-clause-left
-delete-pass-requires-clause-left g c = c.requires.left
-
-pub cas-pass-requires-clause-table : goal.cas-pass-requires-clause-table
-cas-pass-requires-clause-table g c = c.requires.table
+pub cas-pass-requires-clause-pass : goal.cas-pass-requires-clause-pass
+cas-pass-requires-clause-pass g c = c.requires.pass
 
 pub cas-pass-requires-clause-whole : goal.cas-pass-requires-clause-whole
 cas-pass-requires-clause-whole g c = c.requires.whole
-
-pub cas-pass-requires-clause-left : goal.cas-pass-requires-clause-left
-cas-pass-requires-clause-left g c = c.requires.left
 
 pub returns-in-StoreOne-clause-line : goal.returns-in-StoreOne-clause-line
 returns-in-StoreOne-clause-line g c = on_ok c.write_flag.result (λ e. told_once _ _ _ _ _ _ _ _ _ _ _ c.in-StoreOne.is c.store-pass.ensures refl refl e) c.write_flag.ensures

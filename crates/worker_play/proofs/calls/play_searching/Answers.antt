@@ -21,9 +21,6 @@ walk_active-requires-clause-table g c = c.requires.table
 pub walk_active-requires-clause-whole : goal.walk_active-requires-clause-whole
 walk_active-requires-clause-whole g c = c.requires.whole
 
-pub walk_deleted-requires-clause-table : goal.walk_deleted-requires-clause-table
-walk_deleted-requires-clause-table g c = c.requires.table
-
 pub walk_deleted-requires-clause-whole : goal.walk_deleted-requires-clause-whole
 walk_deleted-requires-clause-whole g c = c.requires.whole
 
@@ -32,9 +29,6 @@ delete_found-requires-clause-table g c = c.requires.table
 
 pub delete_found-requires-clause-whole : goal.delete_found-requires-clause-whole
 delete_found-requires-clause-whole g c = c.requires.whole
-
-pub totals-pass-requires-clause-table : goal.totals-pass-requires-clause-table
-totals-pass-requires-clause-table g c = c.requires.table
 
 pub totals-pass-requires-clause-whole : goal.totals-pass-requires-clause-whole
 totals-pass-requires-clause-whole g c = c.requires.whole

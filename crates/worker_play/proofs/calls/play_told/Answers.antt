@@ -3,32 +3,23 @@ use Rattle.worker_play.proofs.Going.{nothing_made, on_ok, of_if_ok}
 use Rattle.worker_play.proofs.Forms.{told_once}
 use Rattle.worker_play.proofs.calls.play_told.Goals as goal
 
-pub key_info-pass-requires-clause-table : goal.key_info-pass-requires-clause-table
-key_info-pass-requires-clause-table g c = c.requires.table
+pub key_info-pass-requires-clause-pass : goal.key_info-pass-requires-clause-pass
+key_info-pass-requires-clause-pass g c = c.requires.pass
 
 pub key_info-pass-requires-clause-whole : goal.key_info-pass-requires-clause-whole
 key_info-pass-requires-clause-whole g c = c.requires.whole
 
-pub key_info-pass-requires-clause-left : goal.key_info-pass-requires-clause-left
-key_info-pass-requires-clause-left g c = c.requires.left
-
-pub cache_info-pass-requires-clause-table : goal.cache_info-pass-requires-clause-table
-cache_info-pass-requires-clause-table g c = c.requires.table
+pub cache_info-pass-requires-clause-pass : goal.cache_info-pass-requires-clause-pass
+cache_info-pass-requires-clause-pass g c = c.requires.pass
 
 pub cache_info-pass-requires-clause-whole : goal.cache_info-pass-requires-clause-whole
 cache_info-pass-requires-clause-whole g c = c.requires.whole
 
-pub cache_info-pass-requires-clause-left : goal.cache_info-pass-requires-clause-left
-cache_info-pass-requires-clause-left g c = c.requires.left
-
-pub sma_info-pass-requires-clause-table : goal.sma_info-pass-requires-clause-table
-sma_info-pass-requires-clause-table g c = c.requires.table
+pub sma_info-pass-requires-clause-pass : goal.sma_info-pass-requires-clause-pass
+sma_info-pass-requires-clause-pass g c = c.requires.pass
 
 pub sma_info-pass-requires-clause-whole : goal.sma_info-pass-requires-clause-whole
 sma_info-pass-requires-clause-whole g c = c.requires.whole
-
-pub sma_info-pass-requires-clause-left : goal.sma_info-pass-requires-clause-left
-sma_info-pass-requires-clause-left g c = c.requires.left
 
 pub returns-in-Ok-clause-line : goal.returns-in-Ok-clause-line
 returns-in-Ok-clause-line g c = on_ok c.write_info.result (λ e. told_once _ _ _ _ _ _ _ _ _ _ _ c.in-KeyInfo.is (of_if_ok _ c.key_info-pass.result.1 c.in-Ok.info c.in-Ok.is c.key_info-pass.ensures.told) refl refl e) c.write_info.ensures

@@ -17,10 +17,13 @@ loop-pair-init g c = record {
   midway = undone_begins _ _ _ _ _ _ (ap (λ (l : List _). map (λ key. key.now) l) c.new-refused.ensures.items) c.requires.whole;
 }
 
-pub store-next-requires-clause-left : goal.store-next-requires-clause-left
-store-next-requires-clause-left g c =
+pub store-next-requires-clause-pass : goal.store-next-requires-clause-pass
+store-next-requires-clause-pass g c =
     let all : List (List ℕ × List Kind) = c.args.pairs.now in
-    two_left (drop c.loop-pair.pair-index all) c.pair-item.result (drop (c.loop-pair.pair-index + 1) all) _ (drop_item all c.loop-pair.pair-index c.pair-item.result c.loop-pair-test.true c.pair-item.is) c.loop-pair.invariant.left
+    record {
+      table = c.loop-pair.invariant.table;
+      left = two_left (drop c.loop-pair.pair-index all) c.pair-item.result (drop (c.loop-pair.pair-index + 1) all) _ (drop_item all c.loop-pair.pair-index c.pair-item.result c.loop-pair-test.true c.pair-item.is) c.loop-pair.invariant.left;
+    }
 
 pub returns-in-Err-clause-reaches : goal.returns-in-Err-clause-reaches
 returns-in-Err-clause-reaches g c =

@@ -10,17 +10,22 @@ use Rattle.worker_play.proofs.Going.{OwnLaws}
 use Rattle.worker_play.proofs.Retiring.{one_left, unanswered, plays_out_if, has_asked}
 use Rattle.worker_play.proofs.ending.play_out.Goals as goal
 
-pub retire-ended-requires-clause-left : goal.retire-ended-requires-clause-left
-retire-ended-requires-clause-left g c =
+pub retire-ended-requires : goal.retire-ended-requires
+retire-ended-requires g c =
     let enough = subst (λ (f : Conf). sum (map (λ (s : Step). event_bound f.slots s.call) c.args.script.now) < c.args.pass.known.left) c.requires.conf c.requires.left in
-    one_left g.N.TableName.conf (length g.N.TableName.budgets) c.args.pass c.play_script-pass.result.0 c.args.script.now c.play_script-pass.ensures.reaches enough
+    record {
+      pass = record {
+        table = c.play_script-pass.ensures.reaches.goes.table ∙ c.requires.table;
+        left = one_left g.N.TableName.conf (length g.N.TableName.budgets) c.args.pass c.play_script-pass.result.0 c.args.script.now c.play_script-pass.ensures.reaches enough;
+      };
+    }
 
 pub returns-clause-ends : goal.returns-clause-ends
 returns-clause-ends g c =
     let r = c.play_script-pass.ensures.reaches.goes in
     let f = c.retire-ended.ensures in
-    let none = unanswered g.N.TableName.conf c.args.pass c.requires.none_seen in
     let laws : OwnLaws = record { more = c.one_event_own.ensures.more; others = c.one_event_own.ensures.others } in
+    let none = unanswered laws g.N.TableName.conf c.args.pass c.requires.no_event c.requires.whole in
     record {
       table = f.table ∙ (r.table ∙ c.requires.table);
       worker = f.worker ∙ r.worker;

@@ -22,13 +22,13 @@ head-head-requires-clause-there g c =
     list_any-append (is_at c.in-Some.at) s.rows s.removed
     ∙ or_left (has_place c.in-Some.at s.rows) (has_place c.in-Some.at s.removed) (old_is c.args.key.now c.in-Some.at sound (sym c.in-Some.is ∙ c.find.ensures.row)).listed
 
-pub returns-then-is_over-clause-none : goal.returns-then-is_over-clause-none
-returns-then-is_over-clause-none g c =
+pub returns-then-is_hard_expired-clause-none : goal.returns-then-is_hard_expired-clause-none
+returns-then-is_hard_expired-clause-none g c =
     let s = entries c.args.self.now.slots in
     let sound = c.standing_laws.ensures.sound c.args.self.now.slots (g.S.WordsIn.words c.args.seg.now) (g.S.WordsIn.aside c.args.seg.now) s c.requires.stand.stand in
     let o = old_is c.args.key.now c.in-Some.at sound (sym c.in-Some.is ∙ c.find.ensures.row) in
     let h = c.head-head.ensures.head o.row (record { there = Contains-append_left s.rows s.removed o.row o.there; place = o.place }) in
-    let over : is_hard_expired c.args.t o.row ≡ true = sym (c.is_over.ensures o.row h.ttl h.ctime) ∙ c.if-is_over.true in
+    let over : is_hard_expired c.args.t o.row ≡ true = sym (c.is_hard_expired.ensures o.row h.ttl h.ctime) ∙ c.if-is_hard_expired.true in
     live_as c.args.key.now c.args.t s.rows o.row sound.apart o.found ∙ ap (λ b. cond (not b) (Some o.row) None) over
 
 pub returns-clause-found : goal.returns-clause-found
@@ -37,7 +37,7 @@ returns-clause-found g c =
     let sound = c.standing_laws.ensures.sound c.args.self.now.slots (g.S.WordsIn.words c.args.seg.now) (g.S.WordsIn.aside c.args.seg.now) s c.requires.stand.stand in
     let o = old_is c.args.key.now c.in-Some.at sound (sym c.in-Some.is ∙ c.find.ensures.row) in
     let h = c.head-head.ensures.head o.row (record { there = Contains-append_left s.rows s.removed o.row o.there; place = o.place }) in
-    let over : is_hard_expired c.args.t o.row ≡ false = sym (c.is_over.ensures o.row h.ttl h.ctime) ∙ c.if-is_over.false in
+    let over : is_hard_expired c.args.t o.row ≡ false = sym (c.is_hard_expired.ensures o.row h.ttl h.ctime) ∙ c.if-is_hard_expired.false in
     record {
       row = o.row;
       live = live_as c.args.key.now c.args.t s.rows o.row sound.apart o.found ∙ ap (λ b. cond (not b) (Some o.row) None) over;

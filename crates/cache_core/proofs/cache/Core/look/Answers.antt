@@ -7,10 +7,12 @@ use Rattle.entry_slots.specs.Lists.{has_place}
 use Rattle.entry_slots.specs.Standing.{entries}
 use Rattle.cache_core.specs.declared.cache.Core.{Core}
 use Rattle.cache_core.specs.declared.tally.Tally.{Tally}
-use Rattle.cache_core.specs.Caching.{cache_of}
+use Rattle.cache_core.specs.Caching.{cache_of, CacheStands}
 use Rattle.cache_core.specs.Looking.{look_at, look_of, scalar_of}
 use Rattle.cache_core.proofs.Standing.{stand_kept}
 use Rattle.entry_slots.specs.Having.{place_there}
+use Rattle.entry_slots.specs.Entries.{Entries}
+use Rattle.cache_core.proofs.Events.{quiet, same_open, beside_then, touched_open}
 use Rattle.cache_core.proofs.Live.{old_found}
 use Rattle.cache_core.proofs.Keyed.{core_touched}
 use Rattle.cache_core.proofs.cache.Core.look.Goals as goal
@@ -18,14 +20,17 @@ use Rattle.cache_core.proofs.cache.Core.look.Goals as goal
 pub returns-in_default-clause-look : goal.returns-in_default-clause-look
 returns-in_default-clause-look g c = ap look_of (sym c.in_default.ensures.none)
 
-pub returns-in_default-clause-cache : goal.returns-in_default-clause-cache
-returns-in_default-clause-cache g c =
+pub returns-in_default-clause-does : goal.returns-in_default-clause-does
+returns-in_default-clause-does g c =
     let core = c.args.self.now in
-    ap (λ (tally : Tally). let x : Core = record core { tally = tally } in cache_of x) c.after_miss-self.ensures
-    ∙ ap (λ r. looked_up c.args.key.now c.args.t r (cache_of core)) (sym c.in_default.ensures.none)
-
-pub returns-in_default-clause-stand : goal.returns-in_default-clause-stand
-returns-in_default-clause-stand g c = record { stand = stand_kept c.args.self.now.slots c.find_live.ensures.kept c.requires.stand.stand; whole = c.requires.stand.whole }
+    let new : Core = record core { tally = c.after_miss-self.result } in
+    let kept = c.find_live.ensures.kept in
+    let stands : CacheStands g.S.WordsIn new c.find_live.new.seg = record { stand = stand_kept core.slots kept c.requires.stand.stand; whole = c.requires.stand.whole } in
+    record {
+      reply = λ later on. refl;
+      cache = λ later on. ap (λ (tally : Tally). let x : Core = record core { tally = tally } in cache_of x) c.after_miss-self.ensures ∙ ap (λ r. looked_up c.args.key.now c.args.t r (cache_of core)) (sym c.in_default.ensures.none);
+      step = quiet (record { aside = kept.aside; rest = kept.rest }) (same_open (g.S.WordsIn.aside c.find_live.new.seg).windows (entries core.slots)) refl stands;
+    }
 
 pub read_scalar-scalar-requires-clause-image : goal.read_scalar-scalar-requires-clause-image
 read_scalar-scalar-requires-clause-image g c =
@@ -54,21 +59,20 @@ returns-clause-look g c =
     ∙ (ap (look_at c.in-Some.at) (c.read_scalar-scalar.ensures.scalar f.row.graph image)
     ∙ (ap (λ n. look_at n (scalar_of f.row.graph)) (sym f.place) ∙ ap look_of (sym f.live)))
 
-pub returns-clause-cache : goal.returns-clause-cache
-returns-clause-cache g c =
-    let core = c.args.self.now in
-    let new : Core = record core { slots = c.touch.new.self; tally = c.after_hit-self.result } in
-    let f = c.in-Some.ensures.found in
-    let sound = c.standing_laws.ensures.sound core.slots (g.S.WordsIn.words c.args.seg.now) (g.S.WordsIn.aside c.args.seg.now) (entries core.slots) c.requires.stand.stand in
-    (core_touched core new c.args.key.now c.args.t c.in-Some.at f.row c.requires.stand.whole (old_found f refl sound) sound c.touch.ensures.touched refl c.after_hit-self.ensures f.live).0
+pub returns-clause-beside : goal.returns-clause-beside
+returns-clause-beside g c = beside_then c.find_live.ensures.kept (beside_then c.read_scalar-scalar.ensures.kept c.touch.ensures.beside)
 
-pub returns-clause-stand : goal.returns-clause-stand
-returns-clause-stand g c =
+pub returns-clause-does : goal.returns-clause-does
+returns-clause-does g c =
     let core = c.args.self.now in
     let new : Core = record core { slots = c.touch.new.self; tally = c.after_hit-self.result } in
     let f = c.in-Some.ensures.found in
+    let touched = c.touch.ensures.touched in
     let sound = c.standing_laws.ensures.sound core.slots (g.S.WordsIn.words c.args.seg.now) (g.S.WordsIn.aside c.args.seg.now) (entries core.slots) c.requires.stand.stand in
+    let made = core_touched core new c.args.key.now c.args.t c.in-Some.at f.row c.requires.stand.whole (old_found f refl sound) sound touched refl c.after_hit-self.ensures f.live in
     record {
-      stand = c.touch.ensures.stand;
-      whole = (core_touched core new c.args.key.now c.args.t c.in-Some.at f.row c.requires.stand.whole (old_found f refl sound) sound c.touch.ensures.touched refl c.after_hit-self.ensures f.live).1;
+      reply = λ later on. refl;
+      cache = λ later on. made.0;
+      step = quiet (returns-clause-beside g c) (touched_open (g.S.WordsIn.aside c.touch.new.seg).windows (entries core.slots) (entries new.slots) c.in-Some.at c.args.t touched) (ap (λ (x : Entries). x.removed) touched)
+          (record { stand = c.touch.ensures.stand; whole = made.1 });
     }

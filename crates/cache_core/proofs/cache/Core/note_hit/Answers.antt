@@ -1,6 +1,8 @@
-use Rattle.std.proofs.Common.{refl, ◌∙◌}
+use Rattle.std.proofs.Common.{refl, ap, ◌∙◌}
 use Rattle.entry_slots.specs.Standing.{entries}
 use Rattle.cache_core.specs.declared.cache.Core.{Core}
+use Rattle.entry_slots.specs.Entries.{Entries}
+use Rattle.cache_core.proofs.Events.{quiet, touched_open}
 use Rattle.cache_core.proofs.Live.{old_live}
 use Rattle.cache_core.proofs.Keyed.{core_used, used_keyed}
 use Rattle.cache_core.proofs.cache.Core.note_hit.Goals as goal
@@ -13,8 +15,10 @@ returns-clause-cache g c = λ key seen row live place.
     (core_used core new c.args.at c.args.t c.requires.stand.whole c.touch.ensures.touched refl c.after_hit-self.ensures).0
     ∙ used_keyed core key c.args.at c.args.t row (old_live key seen c.args.at row sound live place) sound
 
-pub returns-clause-stand : goal.returns-clause-stand
-returns-clause-stand g c =
+pub returns-clause-step : goal.returns-clause-step
+returns-clause-step g c =
     let core = c.args.self.now in
     let new : Core = record core { slots = c.touch.new.self; tally = c.after_hit-self.result } in
-    record { stand = c.touch.ensures.stand; whole = (core_used core new c.args.at c.args.t c.requires.stand.whole c.touch.ensures.touched refl c.after_hit-self.ensures).1 }
+    let touched = c.touch.ensures.touched in
+    quiet c.touch.ensures.beside (touched_open (g.S.WordsIn.aside c.touch.new.seg).windows (entries core.slots) (entries new.slots) c.args.at c.args.t touched) (ap (λ (x : Entries). x.removed) touched)
+    (record { stand = c.touch.ensures.stand; whole = (core_used core new c.args.at c.args.t c.requires.stand.whole touched refl c.after_hit-self.ensures).1 })

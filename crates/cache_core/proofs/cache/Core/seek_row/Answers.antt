@@ -33,14 +33,14 @@ head-head-requires-clause-there g c =
     list_any-append (is_at at) s.rows s.removed
     ∙ or_left (has_place at s.rows) (has_place at s.removed) (old_is c.args.key.now at sound (spot_some s c.args.key.now at c.seek-spot.ensures.spot.old_is c.if-spot-eq0.false)).listed
 
-pub returns-then-is_over-clause-none : goal.returns-then-is_over-clause-none
-returns-then-is_over-clause-none g c =
+pub returns-then-is_hard_expired-clause-none : goal.returns-then-is_hard_expired-clause-none
+returns-then-is_hard_expired-clause-none g c =
     let s = entries c.args.self.now.slots in
     let sound = c.standing_laws.ensures.sound c.args.self.now.slots (g.S.WordsIn.words c.args.seg.now) (g.S.WordsIn.aside c.args.seg.now) s c.requires.stand.stand in
     let at = c.seek-spot.result.at in
     let o = old_is c.args.key.now at sound (spot_some s c.args.key.now at c.seek-spot.ensures.spot.old_is c.if-spot-eq0.false) in
     let h = c.head-head.ensures.head o.row (record { there = Contains-append_left s.rows s.removed o.row o.there; place = o.place }) in
-    let over : is_hard_expired c.args.t o.row ≡ true = sym (c.is_over.ensures o.row h.ttl h.ctime) ∙ c.if-is_over.true in
+    let over : is_hard_expired c.args.t o.row ≡ true = sym (c.is_hard_expired.ensures o.row h.ttl h.ctime) ∙ c.if-is_hard_expired.true in
     live_as c.args.key.now c.args.t s.rows o.row sound.apart o.found ∙ ap (λ b. cond (not b) (Some o.row) None) over
 
 pub returns-clause-found : goal.returns-clause-found
@@ -50,7 +50,7 @@ returns-clause-found g c =
     let at = c.seek-spot.result.at in
     let o = old_is c.args.key.now at sound (spot_some s c.args.key.now at c.seek-spot.ensures.spot.old_is c.if-spot-eq0.false) in
     let h = c.head-head.ensures.head o.row (record { there = Contains-append_left s.rows s.removed o.row o.there; place = o.place }) in
-    let over : is_hard_expired c.args.t o.row ≡ false = sym (c.is_over.ensures o.row h.ttl h.ctime) ∙ c.if-is_over.false in
+    let over : is_hard_expired c.args.t o.row ≡ false = sym (c.is_hard_expired.ensures o.row h.ttl h.ctime) ∙ c.if-is_hard_expired.false in
     record {
       row = o.row;
       live = live_as c.args.key.now c.args.t s.rows o.row sound.apart o.found ∙ ap (λ b. cond (not b) (Some o.row) None) over;
@@ -81,17 +81,14 @@ returns-then-spot-eq0-clause-kept g c = grind (arith, common_steps)
 pub head-head-requires-clause-stand : goal.head-head-requires-clause-stand
 head-head-requires-clause-stand g c = grind (arith, common_steps)
 
-pub is_over-requires : goal.is_over-requires
-is_over-requires g c = grind (arith, common_steps)
+pub returns-then-is_hard_expired-clause-spot : goal.returns-then-is_hard_expired-clause-spot
+returns-then-is_hard_expired-clause-spot g c = grind (arith, common_steps)
 
-pub returns-then-is_over-clause-spot : goal.returns-then-is_over-clause-spot
-returns-then-is_over-clause-spot g c = grind (arith, common_steps)
+pub returns-then-is_hard_expired-clause-found : goal.returns-then-is_hard_expired-clause-found
+returns-then-is_hard_expired-clause-found g c = grind (arith, common_steps)
 
-pub returns-then-is_over-clause-found : goal.returns-then-is_over-clause-found
-returns-then-is_over-clause-found g c = grind (arith, common_steps)
-
-pub returns-then-is_over-clause-kept : goal.returns-then-is_over-clause-kept
-returns-then-is_over-clause-kept g c = grind (arith, common_steps)
+pub returns-then-is_hard_expired-clause-kept : goal.returns-then-is_hard_expired-clause-kept
+returns-then-is_hard_expired-clause-kept g c = grind (arith, common_steps)
 
 pub returns-clause-spot : goal.returns-clause-spot
 returns-clause-spot g c = grind (arith, common_steps)

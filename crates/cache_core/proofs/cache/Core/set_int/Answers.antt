@@ -4,6 +4,8 @@ use Rattle.apcu_model.specs.Counters.{integer_set}
 use Rattle.entry_slots.specs.Standing.{entries}
 use Rattle.cache_core.specs.declared.cache.Core.{Core}
 use Rattle.cache_core.specs.Caching.{cache_of}
+use Rattle.entry_slots.specs.Entries.{Entries}
+use Rattle.cache_core.proofs.Events.{quiet, numbered_open}
 use Rattle.cache_core.proofs.Live.{old_live}
 use Rattle.cache_core.proofs.Keyed.{core_numbered, numbered_keyed}
 use Rattle.cache_core.proofs.cache.Core.set_int.Goals as goal
@@ -17,8 +19,10 @@ returns-clause-cache g c = λ key seen row live place.
     ∙ (numbered_keyed core key c.args.at _ c.args.t (old_live key seen c.args.at row sound live place) sound
     ∙ ap (λ z. integer_set key z c.args.t (cache_of core)) (to_z-of_z w64 c.args.n c.ranges.n))
 
-pub returns-clause-stand : goal.returns-clause-stand
-returns-clause-stand g c =
+pub returns-clause-step : goal.returns-clause-step
+returns-clause-step g c =
     let core = c.args.self.now in
     let new : Core = record core { slots = c.set_int.new.self } in
-    record { stand = c.set_int.ensures.stand; whole = (core_numbered core new c.args.at _ c.args.t c.requires.stand.whole c.set_int.ensures.set refl refl).1 }
+    let set = c.set_int.ensures.set in
+    quiet c.set_int.ensures.beside (numbered_open (g.S.WordsIn.aside c.set_int.new.seg).windows (entries core.slots) (entries new.slots) c.args.at _ c.args.t set) (ap (λ (x : Entries). x.removed) set)
+    (record { stand = c.set_int.ensures.stand; whole = (core_numbered core new c.args.at _ c.args.t c.requires.stand.whole set refl refl).1 })

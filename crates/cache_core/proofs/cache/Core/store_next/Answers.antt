@@ -1,35 +1,45 @@
 use Rattle.std.proofs.Common.{refl, sym, ap, ◌∙◌}
+use Rattle.std.proofs.lemmas.Bool.{false≢true}
 use Rattle.seg_words.specs.Windows.{held_blocks}
-use Rattle.seg_words.specs.Probing.{goes_nowhere}
-use Rattle.apcu_model.specs.Change.{Insertion}
 use Rattle.apcu_model.specs.Walk.{slot_of}
 use Rattle.entry_slots.specs.Entries.{Entries}
+use Rattle.cache_core.specs.Caching.{cache_of}
+use Rattle.cache_core.proofs.Events.{insert_kept, still, steps}
+use Rattle.cache_core.proofs.Inserting.{IsInserted, answers, does_store, refused}
 use Rattle.cache_core.proofs.cache.Core.store_next.Goals as goal
 
 pub seek_new-requires-clause-slot : goal.seek_new-requires-clause-slot
-seek_new-requires-clause-slot g c = c.slot_of_key-slot.ensures.slot ∙ ap (λ (x : Entries). slot_of x.conf c.args.key.now) c.requires.stand.whole
+seek_new-requires-clause-slot g c = c.slot_of_key-slot.ensures.slot ∙ ap (λ (x : Entries). slot_of x.conf c.args.key.now) c.requires.ready.stand.whole
 
 pub add-requires-clause-slot : goal.add-requires-clause-slot
-add-requires-clause-slot g c = c.slot_of_key-slot.ensures.slot ∙ ap (λ (x : Entries). slot_of x.conf c.args.key.now) c.requires.stand.whole
+add-requires-clause-slot g c = c.slot_of_key-slot.ensures.slot ∙ ap (λ (x : Entries). slot_of x.conf c.args.key.now) c.requires.ready.stand.whole
 
-pub returns-in-Err-clause-answer : goal.returns-in-Err-clause-answer
-returns-in-Err-clause-answer g c = ap (λ (i : Insertion). i.answer) (sym (c.in-Err.ensures.refused (held_blocks (g.S.WordsIn.aside c.seek_new.new.seg)) c.args.ttl))
+pub add-requires-clause-ready : goal.add-requires-clause-ready
+add-requires-clause-ready g c = insert_kept c.args.self.now c.seek_new.ensures.kept c.requires.ready
 
-pub returns-in-Err-clause-cache : goal.returns-in-Err-clause-cache
-returns-in-Err-clause-cache g c = ap (λ (i : Insertion). i.cache) (sym (c.in-Err.ensures.refused (held_blocks (g.S.WordsIn.aside c.seek_new.new.seg)) c.args.ttl))
+pub returns-in-Err : goal.returns-in-Err
+returns-in-Err g c =
+    let core = c.args.self.now in
+    let a = c.in-Err.answer in
+    let aside = g.S.WordsIn.aside c.seek_new.new.seg in
+    let is = refused c.args.key.now c.args.g.now c.args.ttl c.args.exclusive c.args.t aside (cache_of core) a c.in-Err.ensures.refused in
+    record {
+      answer = answers c.args.key.now c.args.g.now c.args.ttl c.args.exclusive c.args.t aside (cache_of core) a (cache_of core) is;
+      does = does_store c.args.key.now c.args.g.now c.args.ttl c.args.exclusive c.args.t is (still core c.seek_new.ensures.kept c.requires.ready.stand);
+      early = λ early. record { core = refl; kept = c.seek_new.ensures.kept };
+      next = insert_kept core c.seek_new.ensures.kept c.requires.ready;
+    }
 
-pub returns-in-Err-clause-later : goal.returns-in-Err-clause-later
-returns-in-Err-clause-later g c = λ later on. c.in-Err.ensures.refused (held_blocks later) c.args.ttl
-
-pub returns-in-Ok-clause-later : goal.returns-in-Ok-clause-later
-returns-in-Ok-clause-later g c = λ later on. c.in-Ok.ensures.added (held_blocks later) c.args.ttl ∙ c.add.ensures.later later on
-
-pub returns-in-Ok-clause-answer : goal.returns-in-Ok-clause-answer
-returns-in-Ok-clause-answer g c =
-    let now = g.S.WordsIn.aside c.add.new.seg in
-    ap (λ (i : Insertion). i.answer) (sym (returns-in-Ok-clause-later g c now (goes_nowhere now now refl)))
-
-pub returns-in-Ok-clause-cache : goal.returns-in-Ok-clause-cache
-returns-in-Ok-clause-cache g c =
-    let now = g.S.WordsIn.aside c.add.new.seg in
-    ap (λ (i : Insertion). i.cache) (sym (returns-in-Ok-clause-later g c now (goes_nowhere now now refl)))
+pub returns-in-Ok : goal.returns-in-Ok
+returns-in-Ok g c =
+    let core = c.args.self.now in
+    let old = cache_of core in
+    let aside = g.S.WordsIn.aside c.add.new.seg in
+    let is : IsInserted aside c.args.key.now c.args.g.now c.args.ttl c.args.exclusive c.args.t old c.add.result (cache_of c.add.new.self) = λ later on.
+    c.add.ensures.added later on ∙ sym (c.in-Ok.ensures.added (held_blocks later) c.args.ttl) in
+    record {
+      answer = answers c.args.key.now c.args.g.now c.args.ttl c.args.exclusive c.args.t aside old c.add.result (cache_of c.add.new.self) is;
+      does = does_store c.args.key.now c.args.g.now c.args.ttl c.args.exclusive c.args.t is (steps (still core c.seek_new.ensures.kept c.requires.ready.stand) c.add.ensures.step);
+      early = λ early. absurd (false≢true (sym early ∙ c.add.ensures.room));
+      next = c.add.ensures.next;
+    }

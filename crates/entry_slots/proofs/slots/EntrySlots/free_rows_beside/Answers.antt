@@ -1,6 +1,7 @@
-use Rattle.std.proofs.Common.{◌≡◌, ℕ, List, sym, ap, ◌∙◌, arith, refl, subst}
-use Rattle.seg_words.specs.Windows.{Aside, has, is_named}
-use Rattle.sma_blocks.specs.Live.{live_blocks, IsLive, kept_blocks}
+use Rattle.std.proofs.Common.{◌≡◌, ℕ, List, sym, ◌∙◌, arith, refl, subst}
+use Rattle.seg_words.specs.Windows.{Aside, is_named}
+use Rattle.apcu_model.specs.Conf.{room_of}
+use Rattle.sma_blocks.specs.Live.{IsLive}
 use Rattle.sma_blocks.specs.Ready.{IsReady}
 use Rattle.entry_slots.specs.declared.slots.EntrySlots.{EntrySlots}
 use Rattle.entry_slots.specs.Entries.{Entries}
@@ -10,7 +11,7 @@ use Rattle.entry_slots.proofs.Now.{restand}
 use Rattle.entry_slots.proofs.slots.EntrySlots.free_rows_beside.Goals as goal
 
 pub end_all-requires-clause-inside : goal.end_all-requires-clause-inside
-end_all-requires-clause-inside g c = let h = c.requires.stand in omega (arith, h.from, h.to, h.ready.end, h.good.room)
+end_all-requires-clause-inside g c = let h = c.requires.stand in omega (arith, h.from, h.to, h.ready.end, room_of h.good)
 
 pub end_all-requires-clause-ready : goal.end_all-requires-clause-ready
 end_all-requires-clause-ready g c = c.requires.stand.ready
@@ -51,7 +52,7 @@ returns-clause-stand g c =
     let same : aside ≡ first = c.keep.ensures.beside.aside ∙ c.end_all.ensures.beside.aside in
     let stays = c.block_laws.ensures.before old.sma (g.S.WordsIn.words c.args.seg.now) ws1 first h.ready c.end_all.ensures.others in
     let e' : EntrySlots = record old { sma = c.keep.new.self; count = 0; standing = c.then-self.result } in
-    let done = cleared_stands s h c.requires.whole c.args.kept.now c.requires.kept c.lower_laws.ensures ws1 ws c.keep.new.self c.end_all.ensures.others c.end_all.ensures.ended stays.blocks c.keep.ensures.left c.keep.ensures.others c.keep.ensures.from c.keep.ensures.to
+    let done = cleared_stands s h c.requires.whole c.args.kept.now c.requires.kept c.lower_laws.ensures ws1 ws c.keep.new.self c.end_all.ensures.others c.end_all.ensures.ended stays.blocks c.keep.ensures.left c.keep.ensures.others c.keep.ensures.from c.keep.ensures.to c.keep.ensures.piece
     (subst (λ (a : Aside). IsReady c.keep.new.self ws a) same c.keep.ensures.ready) in
     subst (λ x. Stands e' ws aside x) (sym c.then-self.ensures)
     (subst (λ (a : Aside). Stands e' ws a (Rattle.entry_slots.specs.Entries.without_rows s)) (sym same) (restand {e' = e'} done refl refl refl refl))

@@ -1,4 +1,4 @@
-use Rattle.std.proofs.Common.{◌≡◌, ℕ, ◌+◌, List, sym, ap, ◌∙◌, refl, arith, length, slice_index}
+use Rattle.std.proofs.Common.{ℕ, ◌+◌, List, sym, ap, ◌∙◌, refl, arith, slice_index}
 use Rattle.entry_slots.specs.Standing.{entries}
 use Rattle.entry_slots.proofs.Homes.{row_there, room, told_at}
 use Rattle.entry_slots.proofs.There.{HasEntryAt}

@@ -1,5 +1,5 @@
-use Rattle.std.proofs.Common.{◌≡◌, ℕ, ◌+◌, List, sym, ap, ◌∙◌, arith, length, slice_index}
-use Rattle.seg_words.specs.Windows.{Aside}
+use Rattle.std.proofs.Common.{ℕ, ◌+◌, List, sym, ap, ◌∙◌, arith, length, slice_index, ◌||◌}
+use Rattle.apcu_model.specs.Expiry.{is_hard_expired, is_unused}
 use Rattle.entry_slots.specs.Standing.{entries}
 use Rattle.entry_slots.proofs.Homes.{row_there, room, told_at, home_listed}
 use Rattle.entry_slots.proofs.Blocks.{read_along}
@@ -36,10 +36,11 @@ returns-clause-stale g c = λ row is.
     let words2 = c.load-ctime.ensures.words ∙ words1 in
     let aside2 = c.load-ctime.ensures.aside ∙ aside1 in
     let atime = read_along ws (g.S.WordsIn.words c.load-ctime.new.self) (g.S.WordsIn.aside c.args.seg.now) (g.S.WordsIn.aside c.load-ctime.new.self) (at + 7) c.load-atime.result words2 aside2 (told_at home at 7 is.place (omega arith) (omega arith)) c.load-atime.ensures.word in
-    c.is_over.ensures (entries c.args.self.now).conf row c.requires.limit
+    c.is_expired_by.ensures row
     (own ∙ (ap (λ (n : ℕ). slice_index ws (n + 4)) (sym is.place) ∙ home.entry.ttl))
     (ctime ∙ (ap (λ (n : ℕ). slice_index ws (n + 5)) (sym is.place) ∙ home.entry.ctime))
     (atime ∙ (ap (λ (n : ℕ). slice_index ws (n + 7)) (sym is.place) ∙ home.entry.atime))
+    ∙ ap (λ (limit : ℕ). is_hard_expired c.args.t row || is_unused limit c.args.t row) c.requires.limit
 
 pub returns-clause-kept : goal.returns-clause-kept
 returns-clause-kept g c = record {

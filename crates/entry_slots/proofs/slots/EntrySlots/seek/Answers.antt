@@ -1,6 +1,5 @@
-use Rattle.std.proofs.Common.{◌≡◌, ℕ, ◌+◌, ◌<◌, ◌≤◌, ◌%◌, List, sym, ap, ◌∙◌, subst, refl, arith, length, slice_index}
+use Rattle.std.proofs.Common.{◌≡◌, ℕ, ◌+◌, ◌<◌, ◌≤◌, ◌%◌, List, sym, ap, ◌∙◌, subst, refl, arith, slice_index}
 use Rattle.php_graph.specs.Numbers.{hash_of}
-use Rattle.apcu_model.specs.Walk.{slot_of}
 use Rattle.entry_slots.specs.Standing.{entries}
 use Rattle.entry_slots.proofs.Homes.{row_there, room, told_at, home_listed}
 use Rattle.entry_slots.proofs.There.{HasEntryAt}

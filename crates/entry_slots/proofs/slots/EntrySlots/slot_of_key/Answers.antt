@@ -1,4 +1,4 @@
-use Rattle.std.proofs.Common.{◌≡◌, ℕ, ◌%◌, ap, ◌∙◌, arith}
+use Rattle.std.proofs.Common.{◌%◌, ap, ◌∙◌, arith}
 use Rattle.entry_slots.specs.Standing.{entries}
 use Rattle.entry_slots.proofs.Chains.{slot_small}
 use Rattle.entry_slots.proofs.slots.EntrySlots.slot_of_key.Goals as goal

@@ -1,5 +1,4 @@
-use Rattle.std.proofs.Common.{◌≡◌, ◌≢◌, inr, ℕ, ◌+◌, ◌-◌, List, sym, ap, ◌∙◌, arith, length, slice_index, slice_set, subst, refl, true}
-use Rattle.entry_slots.specs.Entries.{Entries}
+use Rattle.std.proofs.Common.{◌≡◌, ◌≢◌, inr, ℕ, ◌-◌, List, sym, ap, ◌∙◌, arith, length, slice_set, subst, refl}
 use Rattle.entry_slots.proofs.Homes.{room, home_row}
 use Rattle.entry_slots.specs.Standing.{Stands, entries}
 use Rattle.entry_slots.proofs.Now.{restand}

@@ -1,18 +1,22 @@
-use Rattle.std.proofs.Common.{length, ap, arith}
-use Rattle.max_tree.proofs.Halving.{pair_inside, cleared_seen}
+use Rattle.std.proofs.Common.{ℕ, ◌-◌, ◌%◌, length, ap, ◌∙◌, arith}
+use Rattle.max_tree.specs.Halves.{half}
+use Rattle.max_tree.proofs.Halving.{pair_inside, put_seen}
 use Rattle.max_tree.proofs.pairs.PairRow.clear_at.Goals as goal
+
+pub get-requires : goal.get-requires
+get-requires c = pair_inside c.self.inside.row c.args.p (omega (arith, ap length c.self.view_is, c.requires.inside))
 
 pub set-requires : goal.set-requires
 set-requires c = pair_inside c.self.inside.row c.args.p (omega (arith, ap length c.self.view_is, c.requires.inside))
 
 pub returns-clause-count : goal.returns-clause-count
 returns-clause-count c =
-    (cleared_seen c.self.inside.row c.set.new.self c.args.self.now c.args.p c.self.view_is c.set.ensures c.requires.inside c.requires.some).count
+    (put_seen c.self.inside.row c.set.new.self c.args.self.now c.args.p 0 c.pair_with-pair.result c.self.view_is c.set.ensures c.requires.inside c.pair_with-pair.ensures.there (c.pair_with-pair.ensures.other ∙ ap (λ (x : ℕ). half x (1 - c.args.p % 2)) c.get.ensures)).count
 
 pub returns-clause-gone : goal.returns-clause-gone
 returns-clause-gone c =
-    (cleared_seen c.self.inside.row c.set.new.self c.args.self.now c.args.p c.self.view_is c.set.ensures c.requires.inside c.requires.some).there
+    (put_seen c.self.inside.row c.set.new.self c.args.self.now c.args.p 0 c.pair_with-pair.result c.self.view_is c.set.ensures c.requires.inside c.pair_with-pair.ensures.there (c.pair_with-pair.ensures.other ∙ ap (λ (x : ℕ). half x (1 - c.args.p % 2)) c.get.ensures)).there
 
 pub returns-clause-others : goal.returns-clause-others
 returns-clause-others c =
-    (cleared_seen c.self.inside.row c.set.new.self c.args.self.now c.args.p c.self.view_is c.set.ensures c.requires.inside c.requires.some).others
+    (put_seen c.self.inside.row c.set.new.self c.args.self.now c.args.p 0 c.pair_with-pair.result c.self.view_is c.set.ensures c.requires.inside c.pair_with-pair.ensures.there (c.pair_with-pair.ensures.other ∙ ap (λ (x : ℕ). half x (1 - c.args.p % 2)) c.get.ensures)).others

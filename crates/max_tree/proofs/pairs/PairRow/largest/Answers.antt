@@ -3,5 +3,5 @@ use Rattle.max_tree.specs.Pages.{largest}
 use Rattle.max_tree.proofs.Halving.{largest_halves}
 use Rattle.max_tree.proofs.pairs.PairRow.largest.Goals as goal
 
-pub returns : goal.returns
-returns c = omega (arith, c.largest-number.ensures, largest_halves c.self.inside.row, ap largest c.self.view_is)
+pub returns-clause-is : goal.returns-clause-is
+returns-clause-is c = omega (arith, c.largest.ensures, largest_halves c.self.inside.row c.self.invariant.1, ap largest c.self.view_is)

@@ -6,27 +6,19 @@ use Rattle.shared_cache.specs.Follows.{Follows}
 use Rattle.shared_cache.proofs.Turning.{turn_of}
 use Rattle.shared_cache.proofs.cabinet.Cabinet.inc.Goals as goal
 
-pub inc-answer-requires-clause-stand : goal.inc-answer-requires-clause-stand
-inc-answer-requires-clause-stand g c =
-    let k = c.begin-w.ensures.taken _ _ c.self.invariant in
-    record { stand = k.stands.stand; whole = k.stands.whole }
-
-pub inc-answer-requires-clause-fresh : goal.inc-answer-requires-clause-fresh
-inc-answer-requires-clause-fresh g c = let k = c.begin-w.ensures.taken _ _ c.self.invariant in k.fresh
+pub inc-answer-requires-clause-ready : goal.inc-answer-requires-clause-ready
+inc-answer-requires-clause-ready g c = (c.begin-w.ensures.taken _ _ c.self.invariant).ready
 
 pub inc-answer-requires-clause-unnamed : goal.inc-answer-requires-clause-unnamed
-inc-answer-requires-clause-unnamed g c = let k = c.begin-w.ensures.taken _ _ c.self.invariant in k.unnamed
+inc-answer-requires-clause-unnamed g c = (c.begin-w.ensures.taken _ _ c.self.invariant).unnamed
 
-pub end-requires : goal.end-requires
-end-requires g c = turn_of (c.begin-w.ensures.taken _ _ c.self.invariant) c.inc-answer.ensures.rest
+pub end-requires-clause-turn : goal.end-requires-clause-turn
+end-requires-clause-turn g c = turn_of (c.begin-w.ensures.taken _ _ c.self.invariant) c.inc-answer.ensures.does.step.rest
 
 pub invariant_of-self : goal.invariant_of-self
-invariant_of-self g c = c.end.ensures.settled (turn_of (c.begin-w.ensures.taken _ _ c.self.invariant) c.inc-answer.ensures.rest) _
-    (record { shallow = refl; cache = c.inc-answer.ensures.cache; keeps = c.inc-answer.ensures.keeps; stands = record { stand = c.inc-answer.ensures.stand.stand; whole = c.inc-answer.ensures.stand.whole } })
+invariant_of-self g c = c.end.ensures.settled (turn_of (c.begin-w.ensures.taken _ _ c.self.invariant) c.inc-answer.ensures.does.step.rest) _ _ _ refl c.inc-answer.ensures.does
 
 pub returns : goal.returns
 returns g c =
     subst (λ n. Follows g.N.TableName.conf (length g.N.TableName.budgets) c.args.pass c.end.result c.args.t (request.Inc c.args.key.now n c.args.ttl) (reply_of c.inc-answer.result)) (to_z-of_z w64 c.args.step c.ranges.step)
-    (c.end.ensures.follows (turn_of (c.begin-w.ensures.taken _ _ c.self.invariant) c.inc-answer.ensures.rest) _ _
-    (record { shallow = refl; cache = c.inc-answer.ensures.cache; keeps = c.inc-answer.ensures.keeps; stands = record { stand = c.inc-answer.ensures.stand.stand; whole = c.inc-answer.ensures.stand.whole } })
-    c.inc-answer.ensures.reply).follows
+    (c.end.ensures.follows (turn_of (c.begin-w.ensures.taken _ _ c.self.invariant) c.inc-answer.ensures.does.step.rest) _ _ _ refl c.inc-answer.ensures.does).follows

@@ -32,7 +32,7 @@ returns-clause-learns g c =
     let own : c.give_seen.result.known.own ≡ c.args.pass.known.own = ap (λ (x : Known). x.own) k in
     let who : c.give_seen.result.known.worker ≡ c.args.pass.known.worker = ap (λ (x : Known). x.worker) k in
     record {
-      table = c.give_seen.ensures.pass ∙ (table g c ∙ sym c.requires.pass);
+      table = c.give_seen.ensures.pass ∙ (table g c ∙ sym c.requires.pass.table);
       worker = who;
       left = ap (λ (x : Known). x.left) k;
       own = own;

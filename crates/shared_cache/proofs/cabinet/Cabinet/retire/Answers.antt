@@ -1,49 +1,40 @@
-use Rattle.std.proofs.Common.{◌∙◌, refl}
+use Rattle.std.proofs.Common.{refl}
 use Rattle.apcu_model.specs.declared.request.Request.TheVariants as request
-use Rattle.shared_cache.proofs.Passes.{Passes}
-use Rattle.shared_cache.proofs.Working.{Took, begun_stands, writes_on}
-use Rattle.shared_cache.proofs.Passes as passes
-use Rattle.shared_cache.proofs.Ends.{room_left}
+use Rattle.apcu_model.specs.declared.request.Reply.TheVariants as reply
+use Rattle.cache_core.specs.Events.{Does}
+use Rattle.cache_core.proofs.Events.{does_nothing}
+use Rattle.pin_table.specs.contracts.writer.WriterWordsIn.TheImpl.{ghosts}
+use Rattle.shared_cache.proofs.Turning.{turn_of, hand, worker_is, left_is, some_left, roomy}
+use Rattle.shared_cache.proofs.Passes.{Passes, settles, follows_at}
 use Rattle.shared_cache.proofs.cabinet.Cabinet.retire.Goals as goal
 use Rattle.shared_cache.proofs.cabinet.Cabinet.retire.Given as given
 
 pub note-requires : goal.note-requires
-note-requires g c = record { room = room_left _ _ _ _ _ _ c.self.invariant c.args.pass.known.left c.requires.left c.writer-last.ensures.room }
+note-requires g c = record { room = roomy _ _ _ _ _ (turn_of {w = c.begin-w.result} (c.begin-w.ensures.taken _ _ c.self.invariant) refl) }
 
-passed : (g : given.Over) (c : goal.After-give_ended g) → Passes g.N.TableName.table g.N.TableName.conf g.N.TableName.budgets c.self.inside.seat c.give_ended.new.self.1.0 c.writer-last.result c.writer-last.result c.self.inside.core c.self.inside.core c.args.pass c.give_ended.result 0 request.Retire c.self.inside.journal c.note.new.journal
-passed g c =
-    let took : Took g.N.TableName.table c.self.inside.seat c.args.pass c.writer-last.result = record {
-      table = c.writer-last.result.same_table ∙ (c.writer-last.ensures.table ∙ c.requires.table);
-      desk = c.writer-last.ensures.desk;
-      worker = c.writer-last.ensures.worker;
-    } in
-    record {
-      works = record {
-        laws = c.lower_laws.ensures;
-        settled = c.self.invariant;
-        pass = c.requires.pass;
-        took = took;
-        writes_on = writes_on refl;
-        order = c.give_ended.ensures.order;
-        small = c.note.ensures.small;
-        seen = c.writer-last.ensures.seen;
-        own = c.writer-last.ensures.own;
-        some_left = c.requires.left;
-      };
-      seat = c.give_ended.ensures.table;
-      desk = c.give_ended.ensures.desk;
-      given = c.give_ended.ensures.ended;
-      known = c.give_ended.ensures.known;
-      keeps = record { each = λ row there named. (row, there, refl, refl) };
-      stands = begun_stands c.lower_laws.ensures _ _ _ _ c.self.inside.core took c.self.invariant.stands;
-      cache = refl;
-      marks = c.note.ensures.marks;
-      room = c.note.ensures.room;
-      flat = refl;
-    }
+pub give_ended-requires : goal.give_ended-requires
+give_ended-requires g c =
+    let turn = turn_of {w = c.begin-w.result} (c.begin-w.ensures.taken _ _ c.self.invariant) refl in
+    record { hand = hand _ _ _ _ _ turn; worker = worker_is _ _ _ _ _ turn; left = left_is _ _ _ _ _ turn; budget = some_left _ _ _ _ _ turn }
+
+passes : (g : given.Over) (c : goal.After-give_ended g) → Passes c.begin-w.result c.give_ended.new.self.1.0 c.give_ended.result 0 request.Retire c.self.inside.journal c.note.new.journal
+passes g c = record {
+  order = c.give_ended.ensures.order;
+  small = c.note.ensures.small;
+  seat = c.give_ended.ensures.table;
+  desk = c.give_ended.ensures.desk;
+  given = c.give_ended.ensures.ended;
+  known = c.give_ended.ensures.known;
+  marks = c.note.ensures.marks;
+  room = c.note.ensures.room;
+  flat = refl;
+}
+
+does : (g : given.Over) (c : goal.After-give_ended g) → Does ghosts c.self.inside.core c.self.inside.core c.begin-w.result c.begin-w.result 0 request.Retire reply.Ended
+does g c = does_nothing (record { core = refl; kept = record { words = refl; aside = refl; rest = refl } }) (c.begin-w.ensures.taken _ _ c.self.invariant).ready.stand (λ held. refl) (λ held. refl)
 
 pub invariant_of-self : goal.invariant_of-self
-invariant_of-self g c = passes.settles _ _ _ _ _ _ _ _ _ _ _ _ _ _ _ (passed g c)
+invariant_of-self g c = settles (turn_of {w = c.begin-w.result} (c.begin-w.ensures.taken _ _ c.self.invariant) refl) (passes g c) refl (does g c)
 
 pub returns : goal.returns
-returns g c = passes.follows _ _ _ _ _ _ _ _ _ _ _ _ _ _ _ (passed g c) _ refl
+returns g c = (follows_at (turn_of {w = c.begin-w.result} (c.begin-w.ensures.taken _ _ c.self.invariant) refl) (passes g c) refl (does g c)).follows

@@ -1,25 +1,21 @@
-use Rattle.std.proofs.Common.{◌∙◌, ap, refl}
+use Rattle.std.proofs.Common.{subst, sym, refl}
+use Rattle.apcu_model.specs.declared.request.Request.TheVariants as request
 use Rattle.apcu_model.specs.declared.request.Reply.TheVariants as reply
-use Rattle.apcu_model.specs.Sequential.{is_stored}
+use Rattle.shared_cache.specs.Follows.{Follows}
+use Rattle.std.proofs.Common.{length}
 use Rattle.shared_cache.proofs.Turning.{turn_of}
 use Rattle.shared_cache.proofs.cabinet.Cabinet.store.Goals as goal
 
-pub store-answer-requires-clause-stand : goal.store-answer-requires-clause-stand
-store-answer-requires-clause-stand g c =
-    let k = c.begin-w.ensures.taken _ _ c.self.invariant in
-    record { stand = k.stands.stand; whole = k.stands.whole }
+pub store-answer-requires-clause-ready : goal.store-answer-requires-clause-ready
+store-answer-requires-clause-ready g c = (c.begin-w.ensures.taken _ _ c.self.invariant).ready
 
-pub store-answer-requires-clause-fresh : goal.store-answer-requires-clause-fresh
-store-answer-requires-clause-fresh g c = let k = c.begin-w.ensures.taken _ _ c.self.invariant in k.fresh
-
-pub end-requires : goal.end-requires
-end-requires g c = turn_of (c.begin-w.ensures.taken _ _ c.self.invariant) c.store-answer.ensures.rest
+pub end-requires-clause-turn : goal.end-requires-clause-turn
+end-requires-clause-turn g c = turn_of (c.begin-w.ensures.taken _ _ c.self.invariant) c.store-answer.ensures.does.step.rest
 
 pub invariant_of-self : goal.invariant_of-self
-invariant_of-self g c = c.end.ensures.settled (turn_of (c.begin-w.ensures.taken _ _ c.self.invariant) c.store-answer.ensures.rest) _
-    (record { shallow = refl; cache = c.store-answer.ensures.cache; keeps = c.store-answer.ensures.keeps; stands = record { stand = c.store-answer.ensures.stand.stand; whole = c.store-answer.ensures.stand.whole } })
+invariant_of-self g c = c.end.ensures.settled (turn_of (c.begin-w.ensures.taken _ _ c.self.invariant) c.store-answer.ensures.does.step.rest) _ _ _ refl c.store-answer.ensures.does
 
 pub returns : goal.returns
-returns g c = (c.end.ensures.follows (turn_of (c.begin-w.ensures.taken _ _ c.self.invariant) c.store-answer.ensures.rest) _ _
-    (record { shallow = refl; cache = c.store-answer.ensures.cache; keeps = c.store-answer.ensures.keeps; stands = record { stand = c.store-answer.ensures.stand.stand; whole = c.store-answer.ensures.stand.whole } })
-    (ap reply.Flag (c.was_stored.ensures ∙ ap is_stored c.store-answer.ensures.answer))).follows
+returns g c =
+    subst (λ b. Follows g.N.TableName.conf (length g.N.TableName.budgets) c.args.pass c.end.result c.args.t (request.Store c.args.key.now c.args.value.now c.args.ttl c.args.exclusive) (reply.Flag b)) (sym c.was_stored.ensures)
+    (c.end.ensures.follows (turn_of (c.begin-w.ensures.taken _ _ c.self.invariant) c.store-answer.ensures.does.step.rest) _ _ _ refl c.store-answer.ensures.does).follows

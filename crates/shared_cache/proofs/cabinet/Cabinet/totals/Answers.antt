@@ -1,38 +1,36 @@
-use Rattle.std.proofs.Common.{◌≡◌, length, Option, refl, sym, ◌∙◌, subst}
+use Rattle.std.proofs.Common.{◌≡◌, ℕ, length, Option, refl, sym, ◌∙◌, subst}
 use Rattle.std.specs.Prelude.{IfOk}
-use Rattle.seg_words.specs.Windows.{held_by}
 use Rattle.apcu_model.specs.declared.request.Request.TheVariants as request
 use Rattle.apcu_model.specs.declared.request.Reply.TheVariants as reply
 use Rattle.apcu_model.specs.declared.searching.Pattern.{Pattern}
-use Rattle.apcu_model.specs.Sequential.{reply_to}
-use Rattle.cache_core.specs.Caching.{cache_of}
+use Rattle.cache_core.specs.Events.{DoesIf}
+use Rattle.cache_core.proofs.Events.{tells_as}
+use Rattle.pin_table.specs.contracts.writer.WriterWordsIn.TheImpl.{ghosts}
 use Rattle.shared_cache.specs.Follows.{Follows}
-use Rattle.shared_cache.proofs.Turning.{turn_of, keeps_if}
+use Rattle.shared_cache.proofs.Turning.{turn_of}
 use Rattle.shared_cache.proofs.cabinet.Cabinet.totals.Goals as goal
+use Rattle.shared_cache.proofs.cabinet.Cabinet.totals.Given as given
 
 pub totals-answer-requires : goal.totals-answer-requires
-totals-answer-requires g c =
-    let k = c.begin-w.ensures.taken _ _ c.self.invariant in
-    record { stand = record { stand = k.stands.stand; whole = k.stands.whole } }
+totals-answer-requires g c = record { stand = (c.begin-w.ensures.taken _ _ c.self.invariant).ready.stand }
 
-pub told-requires : goal.told-requires
-told-requires g c = turn_of (c.begin-w.ensures.taken _ _ c.self.invariant) c.totals-answer.ensures.kept.rest
+pub told-requires-clause-turn : goal.told-requires-clause-turn
+told-requires-clause-turn g c = turn_of (c.begin-w.ensures.taken _ _ c.self.invariant) (c.totals-answer.ensures.same.kept.rest)
+
+does : (g : given.Over) (c : goal.After-told g) (s : Option Pattern) → s ≡ c.args.search.now
+    → DoesIf ghosts c.self.inside.core c.totals-answer.new.core c.begin-w.result c.totals-answer.new.seg c.args.t (request.Totals s c.args.list) c.totals-answer.result (λ (r : ℕ × ℕ × ℕ). reply.Totals r.0 r.1 r.2)
+does g c s e =
+    subst (λ (s : Option Pattern). DoesIf ghosts c.self.inside.core c.totals-answer.new.core c.begin-w.result c.totals-answer.new.seg c.args.t (request.Totals s c.args.list) c.totals-answer.result (λ (r : ℕ × ℕ × ℕ). reply.Totals r.0 r.1 r.2)) (sym e)
+    (tells_as c.totals-answer.result (λ (r : ℕ × ℕ × ℕ). reply.Totals r.0 r.1 r.2) _ c.totals-answer.ensures.totals c.totals-answer.ensures.same (c.begin-w.ensures.taken _ _ c.self.invariant).ready.stand (λ held. refl) (λ held. refl))
 
 pub invariant_of-self : goal.invariant_of-self
-invariant_of-self g c =
-    let k = c.begin-w.ensures.taken _ _ c.self.invariant in
-    c.told.ensures.settled (turn_of k c.totals-answer.ensures.kept.rest) _
-    (keeps_if k c.totals-answer.ensures.same c.totals-answer.ensures.kept.words c.totals-answer.ensures.kept.aside refl refl)
+invariant_of-self g c = c.told.ensures.settled (turn_of (c.begin-w.ensures.taken _ _ c.self.invariant) (c.totals-answer.ensures.same.kept.rest)) _ (λ (r : ℕ × ℕ × ℕ). reply.Totals r.0 r.1 r.2) (does g c _ (c.pattern-search.ensures ∙ c.totals-answer.ensures.search))
 
 pub returns-clause-told : goal.returns-clause-told
 returns-clause-told g c =
-    let k = c.begin-w.ensures.taken _ _ c.self.invariant in
     let e = c.pattern-search.ensures ∙ c.totals-answer.ensures.search in
-    let d = c.totals-answer.new.seg.seat.now.desk in
-    subst (λ (s : Option Pattern). IfOk c.told.result.1 (λ a. Follows g.N.TableName.conf (length g.N.TableName.budgets) c.args.pass c.told.result.0 c.args.t (request.Totals s c.args.list) (reply.Totals a.0 a.1 a.2))) e
-    (c.told.ensures.told (turn_of k c.totals-answer.ensures.kept.rest) _ (λ r. reply.Totals r.0 r.1 r.2)
-    (keeps_if k c.totals-answer.ensures.same c.totals-answer.ensures.kept.words c.totals-answer.ensures.kept.aside refl refl)
-    (subst (λ (s : Option Pattern). IfOk c.totals-answer.result (λ a. reply.Totals a.0 a.1 a.2 ≡ reply_to (held_by d.mask d.windows) c.args.t (request.Totals s c.args.list) (cache_of c.self.inside.core))) (sym e) c.totals-answer.ensures.reply))
+    subst (λ (s : Option Pattern). IfOk c.told.result.1 (λ a. Follows g.N.TableName.conf (length g.N.TableName.budgets) c.args.pass c.told.result.0 c.args.t (request.Totals s c.args.list) ((λ (r : ℕ × ℕ × ℕ). reply.Totals r.0 r.1 r.2) a))) e
+    (c.told.ensures.told (turn_of (c.begin-w.ensures.taken _ _ c.self.invariant) (c.totals-answer.ensures.same.kept.rest)) _ (λ (r : ℕ × ℕ × ℕ). reply.Totals r.0 r.1 r.2) (does g c _ e))
 
 pub returns-clause-same : goal.returns-clause-same
-returns-clause-same g c = c.told.ensures.same (turn_of (c.begin-w.ensures.taken _ _ c.self.invariant) c.totals-answer.ensures.kept.rest)
+returns-clause-same g c = c.told.ensures.same (turn_of (c.begin-w.ensures.taken _ _ c.self.invariant) (c.totals-answer.ensures.same.kept.rest))

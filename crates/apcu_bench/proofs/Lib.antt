@@ -1,0 +1,4 @@
+pub mod Blocks
+pub mod Listing
+pub mod Told
+pub mod Used

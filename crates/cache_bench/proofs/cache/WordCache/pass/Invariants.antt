@@ -1,5 +1,0 @@
-use Rattle.std.proofs.Common.{length, ◌-◌}
-use Rattle.cache_bench.proofs.cache.WordCache.pass.Given as goal
-
-abbrev pub decreases-loop-from : goal.decreases-loop-from
-decreases-loop-from l = length l.numbers - l.from

@@ -1,7 +1,0 @@
-use Rattle.std.proofs.Common.{List}
-use Rattle.seg_words.specs.declared.extents.Extent.{Extent}
-use Rattle.sma_bench.specs.Listed.{AreLive}
-use Rattle.sma_bench.proofs.fill.every_so_many.Given as goal
-
-abbrev pub invariant-loop-i : goal.invariant-loop-i
-invariant-loop-i l = (blocks : List Extent) → AreLive blocks l.places → AreLive blocks l.some.items

@@ -1,0 +1,5 @@
+use Rattle.walk_laws.proofs.Asked as lemmas
+use Rattle.walk_laws.proofs.laws.calls_are_walks.Goals as goal
+
+pub returns : goal.returns
+returns c = record { walk = lemmas.walk; whole = lemmas.whole c.events_keep.ensures }
