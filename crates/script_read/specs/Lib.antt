@@ -1,4 +1,5 @@
 pub mod Calls
+pub mod Clock
 pub mod Leaving
 pub mod Arguments
 pub mod GenParts
@@ -8,4 +9,6 @@ pub mod Reading
 pub mod Ties
 pub mod Growing
 pub mod Gives
+pub mod Budgets
+pub mod Patterns
 pub mod Play
