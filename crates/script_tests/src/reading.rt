@@ -184,7 +184,6 @@ fn scripts_are_made(rt: HostRuntime) -> Result<(), Fail> {
     let key = Bytes::of(rt.alloc(), b"k")?;
     script.push(Step {
         t: 5,
-        start: 3,
         call: Call::FetchOne(key),
     })?;
     assert_eq!(rt; script.len(), 1);
