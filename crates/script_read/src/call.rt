@@ -129,22 +129,7 @@ impl Call {
             Call::Walk { search, .. }
             | Call::WalkDelete { search, .. }
             | Call::Totals { search, .. } => search.as_ref(),
-            Call::StoreOne { .. }
-            | Call::StoreMany { .. }
-            | Call::FetchOne(_)
-            | Call::FetchMany(_)
-            | Call::ExistsOne(_)
-            | Call::ExistsMany(_)
-            | Call::DeleteOne(_)
-            | Call::DeleteMany(_)
-            | Call::Inc { .. }
-            | Call::Cas { .. }
-            | Call::Entry(_)
-            | Call::Clear
-            | Call::Enabled
-            | Call::KeyInfo(_)
-            | Call::CacheInfo(_)
-            | Call::SmaInfo(_) => None,
+            _ => None,
         }
     }
 }
