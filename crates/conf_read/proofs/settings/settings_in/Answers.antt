@@ -7,5 +7,5 @@ returns-clause-good c =
     let words = c.in_ok-words.ensures.within in
     let count = c.in_ok-segments.ensures.within in
     let chains = c.in_ok-slots.ensures.within in
-    good_by c.in_ok-words.words c.in_ok-segments.segments c.in_ok-slots.slots c.in_ok-ttl.ttl words.0 words.1 count.0 count.1 chains.0 chains.1
+    good_by c.in_ok-words.field-0 c.in_ok-segments.field-0 c.in_ok-slots.field-0 c.in_ok-ttl.field-0 words.0 words.1 count.0 count.1 chains.0 chains.1
     (sym c.in_order.ensures ∙ c.if-not-in_order.false)
