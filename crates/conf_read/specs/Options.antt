@@ -78,21 +78,26 @@ abbrev pub cache_with : ℕ → ℕ → ℕ → ℕ → Conf
 cache_with words count chains seconds =
     record { words = count * words; slots = chains; ttl = seconds; segments = count }
 
--- 0 is the second of the call
-abbrev pub clock_of : ℕ → Clock
-clock_of number = if number == 0 then Line else Request
-
--- what clap's rows ask for: nothing where a value is out of its form or range, or two do not agree
-abbrev pub settings_in : List Row → Option Settings
-settings_in rows = do
+-- the cache's shape: nothing where a value is out of its form or range, or two do not agree
+abbrev pub conf_in : List Row → Option Conf
+conf_in rows = do
   words ← told shm_size rows
   count ← told segments rows
   chains ← told slots rows
   seconds ← told ttl rows
+  if is_in_order words count chains then Some (cache_with words count chains seconds) else None
+
+-- 0 is the second of the call
+abbrev pub clock_of : ℕ → Clock
+clock_of number = if number == 0 then Line else Request
+
+-- what clap's rows ask for: nothing where they ask for no shape, or another value is out of its
+-- form or range
+abbrev pub settings_in : List Row → Option Settings
+settings_in rows = do
+  shape ← conf_in rows
   start ← told use_request_time rows
-  if is_in_order words count chains
-      then Some (record { conf = cache_with words count chains seconds; clock = clock_of start })
-      else None
+  Some (record { conf = shape; clock = clock_of start })
 
 -- the program's words as texts
 abbrev pub as_texts : {Z : Type 0} → List (String Z) → List Text

@@ -1,7 +1,7 @@
 ghost use Rattle.std.specs.Prelude.{◌≡◌, ◌≤◌, None, Some, IfOk, IfSome, IsErrOf};
 ghost use Rattle.apcu_model.specs.Conf.{IsGood};
 ghost use Rattle.clap.specs.Words.{found_of, rows_of};
-ghost use Rattle.conf_read.specs.Options.{clock_of, is_in_order, settings_in, settings_of};
+ghost use Rattle.conf_read.specs.Options.{clock_of, conf_in, is_in_order, settings_in, settings_of};
 
 use crate::command::matches_of;
 use crate::fault::ConfFault;
@@ -40,27 +40,34 @@ fn clock_of(number: u64) -> Clock
     }
 }
 
-// What clap found, as settings.
-fn settings_in(matches: &ArgMatches<'_>) -> Option<Settings>
-    ensures is { result ≡ settings_in (rows_of (found_of matches.now)) }
-    ensures good { IfSome result (λ s. IsGood s.conf) }
+// The cache's shape by what clap found.
+fn conf_in(matches: &ArgMatches<'_>) -> Option<Conf>
+    ensures is { result ≡ conf_in (rows_of (found_of matches.now)) }
+    ensures good { IfSome result (λ conf. IsGood conf) }
 {
     let words = told(matches, SHM_SIZE)? as u32;
     let segments = told(matches, SEGMENTS)? as u32;
     let slots = told(matches, SLOTS)? as u32;
     let ttl = told(matches, TTL)? as u32;
-    let clock = clock_of(told(matches, USE_REQUEST_TIME)?);
     if !in_order(words, segments, slots) {
         return None;
     }
+    Some(Conf {
+        words: segments * words,
+        slots,
+        ttl,
+        segments,
+    })
+}
+
+// What clap found, as settings.
+fn settings_in(matches: &ArgMatches<'_>) -> Option<Settings>
+    ensures is { result ≡ settings_in (rows_of (found_of matches.now)) }
+    ensures good { IfSome result (λ s. IsGood s.conf) }
+{
     Some(Settings {
-        conf: Conf {
-            words: segments * words,
-            slots,
-            ttl,
-            segments,
-        },
-        clock,
+        conf: conf_in(matches)?,
+        clock: clock_of(told(matches, USE_REQUEST_TIME)?),
     })
 }
 

@@ -1,6 +1,6 @@
 use Rattle.std.proofs.Common.{sym, ◌∙◌}
 use Rattle.conf_read.proofs.Shapes.{good_by}
-use Rattle.conf_read.proofs.settings.settings_in.Goals as goal
+use Rattle.conf_read.proofs.settings.conf_in.Goals as goal
 
 pub returns-clause-good : goal.returns-clause-good
 returns-clause-good c =
