@@ -29,17 +29,6 @@ fn in_order(words: u32, segments: u32, slots: u32) -> bool
         && u64::from(segments) * u64::from(words) <= u64::from(MOST_WORDS)
 }
 
-// What a call's moment is by this number.
-fn clock_of(number: u64) -> Clock
-    ensures { result ≡ clock_of number }
-{
-    if number == 0 {
-        Clock::Line
-    } else {
-        Clock::Request
-    }
-}
-
 // The cache's shape by what clap found.
 fn conf_in(matches: &ArgMatches<'_>) -> Option<Conf>
     ensures is { result ≡ conf_in (rows_of (found_of matches.now)) }
@@ -58,6 +47,17 @@ fn conf_in(matches: &ArgMatches<'_>) -> Option<Conf>
         ttl,
         segments,
     })
+}
+
+// What a call's moment is by this number.
+fn clock_of(number: u64) -> Clock
+    ensures { result ≡ clock_of number }
+{
+    if number == 0 {
+        Clock::Line
+    } else {
+        Clock::Request
+    }
 }
 
 // What clap found, as settings.
