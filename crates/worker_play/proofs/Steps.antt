@@ -14,7 +14,7 @@ use Rattle.reply_text.specs.Lines.{call_text, before, lines_from, script_lines}
 use Rattle.worker_play.specs.Goes.{Reaches, Tells}
 use Rattle.worker_play.specs.Turns.{Turn, Over, turns_at, turns_of}
 use Rattle.worker_play.proofs.Going.{Midway, goes_on, more_asked, ends}
-use Rattle.worker_play.proofs.Turns.{call_few, in_turn_first, is_over, turns_step}
+use Rattle.worker_play.proofs.Turns.{call_few, events_step, in_turn_first, is_over, turns_step}
 
 own_before : (own later : List Reply) → before later (own ++ later) ≡ own
 own_before own later =
@@ -55,12 +55,13 @@ step_breaks conf workers p o q turns step steps told to_tell m r = more_asked co
 
 -- enough events are left for the next step
 pub left_now : (conf : Conf) (step : Step) (steps : List Step) (n : ℕ) → events_in conf.slots (step ∷ steps) < n → event_bound conf.slots step.call < n
-left_now conf step steps n enough = omega (arith, enough)
+left_now conf step steps n enough = omega (arith, enough, events_step conf.slots step steps)
 
 -- and for those after it
 pub left_after : (conf : Conf) (workers : ℕ) (o q : Bearer) (t : ℕ) (step : Step) (steps : List Step) → Reaches conf workers o q (turns_at t (next_of conf step.call)) → events_in conf.slots (step ∷ steps) < o.known.left
     → events_in conf.slots steps < q.known.left
-left_after conf workers o q t step steps r enough = omega (arith, r.goes.left, enough, call_few conf t step.call r.made r.replies r.in_turn)
+left_after conf workers o q t step steps r enough =
+    omega (arith, r.goes.left, enough, call_few conf t step.call r.made r.replies r.in_turn, events_step conf.slots step steps)
 
 -- all steps were met
 pub steps_end : (conf : Conf) (workers : ℕ) (p q : Bearer) (turns : List Reply → Turn) (told : List Reply → List ℕ) (out : List ℕ) → Midway conf workers p q turns (turns_of conf []) told (λ later. out ++ script_lines conf [] later) → Tells conf workers p q turns told out

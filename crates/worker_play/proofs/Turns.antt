@@ -107,13 +107,17 @@ call_few conf t call ws rs a =
 
 -- ---- the calls of a script
 
+-- the events of a script, those of its first call apart
+pub events_step : (slots : ℕ) (step : Step) (steps : List Step) → events_in slots (step ∷ steps) ≡ event_bound slots step.call + events_in slots steps
+events_step slots step steps = refl
+
 steps_few : (conf : Conf) (script : List Step) (replies : List Reply) (w : Wish) → turns_of conf script replies ≡ Takes w → length replies < events_in conf.slots script
 steps_few conf [] replies w e = absurd (cc (e))
 steps_few conf (step ∷ steps) replies w e = elim (asks_or_leaves (next_of conf step.call replies)) [
-  | inl (request, asks) ↦ omega (arith, asks_few conf step.call replies request asks)
+  | inl (request, asks) ↦ omega (arith, asks_few conf step.call replies request asks, events_step conf.slots step steps)
   | inr (others, leaves) ↦
       let later : turns_of conf steps others ≡ Takes w = sym (ap (λ (n : Next). then_turns (turns_of conf steps) (turn_at step.t n)) leaves) ∙ e in
-      omega (arith, takes_few conf step.call replies others leaves, steps_few conf steps others w later)
+      omega (arith, takes_few conf step.call replies others leaves, steps_few conf steps others w later, events_step conf.slots step steps)
 ]
 
 pub script_few : (conf : Conf) (script : List Step) (ws : List Wish) (rs : List Reply) → AreInTurn (wanted_in (turns_of conf script)) ws rs → length ws ≤ events_in conf.slots script
