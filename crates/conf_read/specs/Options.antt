@@ -33,7 +33,7 @@ segments = record { name = codes "segments"; default = Some 1; read = number_fro
 abbrev pub slots : ProgramOption
 slots = record { name = codes "slots"; default = Some 4096; read = number_from 2 1048576 }
 
--- in seconds; none: no row grows old
+-- in seconds; 0: no row grows old
 abbrev pub ttl : ProgramOption
 ttl = record { name = codes "ttl"; default = Some 0; read = number_from 0 4294967295 }
 

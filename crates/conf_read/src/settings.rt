@@ -74,8 +74,8 @@ fn settings_in(matches: &ArgMatches<'_>) -> Option<Settings>
 /// What the program's words ask for, its name first: `--shm-size SIZE` is PHP's `apc.shm_size`, the
 /// size of each segment (32M where it is left out), `--segments N` PHP's `apc.shm_segments` (1),
 /// `--slots N` the number of hash chains (4096), `--ttl N` PHP's `apc.ttl` in seconds (0), and
-/// `--use-request-time B` PHP's `apc.use_request_time` (0): whether a call's moment is the second of
-/// the call (0) or its request's start (1). The options stand in any order, each at most once.
+/// `--use-request-time B` PHP's `apc.use_request_time` (0): whether a call's moment is the second
+/// of the call (0) or its request's start (1). The options stand in any order, each at most once.
 ///
 /// A size is one to ten digits and at most one of `K M G k m g` behind them, times 1024, 1024^2 or
 /// 1024^3; it is a multiple of 16 bytes from 256 to 134,217,728. The other numbers are one to
