@@ -1,7 +1,6 @@
-use Rattle.std.proofs.Common.{◌≡◌, ℕ, ◌+◌, ◌*◌, ◌<◌, Some, get_or, ap, sym, ◌∙◌, rules, arith}
+use Rattle.std.proofs.Common.{ap, sym, ◌∙◌, rules, arith}
 use Rattle.std.specs.Prelude.{nat_le}
 use Rattle.std.specs.List.{position}
-use Rattle.max_tree.specs.Halves.{half}
 use Rattle.max_tree.proofs.Halving.{first_both, first_pair, first_half_none, none_large}
 use Rattle.max_tree.proofs.pairs.PairRow.first_at_least.Goals as goal
 

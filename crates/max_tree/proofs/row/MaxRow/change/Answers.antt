@@ -1,5 +1,4 @@
-use Rattle.std.proofs.Common.{◌≡◌, ◌<◌, ◌/◌, ap, ◌∙◌, length, get_or, set, sym, subst, rules, arith}
-use Rattle.std.proofs.lemmas.List.{get_or_default}
+use Rattle.std.proofs.Common.{◌≡◌, ◌/◌, ap, ◌∙◌, get_or, set, sym, subst, rules, arith}
 use Rattle.max_tree.specs.Pages.{IsPaged, largest, page}
 use Rattle.max_tree.specs.declared.row.TheConstants.{PAGE}
 use Rattle.max_tree.proofs.Paging.{set_paged}
