@@ -1,5 +1,5 @@
 -- Pairs of even numbers, of which one is 0 or the first is 2, as one number each.
-use Rattle.std.proofs.Common.{◌≡◌, ◌≢◌, ◌⊎◌, inl, inr, ℕ, zero, suc, ◌+◌, ◌-◌, ◌*◌, ◌/◌, ◌%◌, ◌^◌, ◌<◌, ◌≤◌, max, cond, true, false, eqb, Bool, List, [], ◌∷◌, length, get_or, set, Some, None, refl, sym, ap, ap₂, ◌∙◌, subst, arith}
+use Rattle.std.proofs.Common.{◌≡◌, ◌≢◌, ◌⊎◌, inl, inr, ℕ, zero, suc, ◌+◌, ◌-◌, ◌*◌, ◌/◌, ◌%◌, ◌^◌, ◌<◌, ◌≤◌, max, min, cond, true, false, eqb, Bool, List, [], ◌∷◌, length, get_or, set, Some, None, refl, sym, ap, ap₂, ◌∙◌, subst, arith}
 use Rattle.std.specs.Prelude.{nat_le}
 use Rattle.std.specs.List.{position}
 use Rattle.std.proofs.lemmas.Bool.{cases_lt, cases_eq, eq-eqb, ne_eqb, leb-true, leb-false, le-leb, lt-leb}
@@ -220,12 +220,39 @@ first_half xs n k w all even some found inside low enough lower =
           omega (arith, halves_at xs i, ap (λ (j : ℕ). half (get_or xs j 0) (i % 2)) same, lower (i % 2) (omega arith))
     ]
 
--- one of the two numbers is large enough where the pair's number is
-pub pair_enough : (xs : List ℕ) (n k : ℕ) → ((i : ℕ) → IsPair (get_or xs i 0)) → position (λ value. nat_le (2 * n) value) xs ≡ Some k → n % 2 ≡ 0 → half (get_or xs k 0) 0 < n → n ≤ half (get_or xs k 0) 1
-pair_enough xs n k all found even low =
+-- the first number that is large enough in a pair that is: not the first one of both where n is past 2
+pub first_pair : (xs view : List ℕ) (n k pair code : ℕ) → halves_of xs ≡ view → ((i : ℕ) → IsPair (get_or xs i 0)) → n % 2 ≡ 0 → 2 ≤ n → position (λ value. nat_le (2 * n) value) xs ≡ Some k → k < length xs → pair ≡ get_or xs k 0 → code ≡ min (pair % 4) 1 → (pair % 4 ≡ 2 → n ≢ 2) → Some (2 * k + code) ≡ position (λ value. nat_le n value) view
+first_pair xs view n k pair code shown all even some found inside is code_is both =
     let x = get_or xs k 0 in
-    let first = position-Some (λ value. nat_le (2 * n) value) xs k 0 found in
-    omega (arith, leb-true (2 * n) _ first.1, (largest_half x (all k)).most)
+    let enough : 2 * n ≤ x = leb-true (2 * n) x (position-Some (λ value. nat_le (2 * n) value) xs k 0 found).1 in
+    elim (codes x) [
+      | inl c ↦
+          let zero_is : code ≡ 0 = omega (arith, is, code_is) in
+          let there : n ≤ half x 0 = omega (arith, ((tells x).zero_code c).0) in
+          ap (λ (w : ℕ). Some (2 * k + w)) zero_is ∙ first_half xs n k 0 all even some found inside (omega arith) there (λ v low. absurd (omega arith)) ∙ ap (position (λ value. nat_le n value)) shown
+      | inr more ↦ elim more [
+        | inl c ↦
+            let one_is : code ≡ 1 = omega (arith, is, code_is) in
+            let there : n ≤ half x 1 = omega (arith, ((tells x).one_code c).1) in
+            ap (λ (w : ℕ). Some (2 * k + w)) one_is ∙ first_half xs n k 1 all even some found inside (omega arith) there (λ v low. let none : v ≡ 0 = omega arith in omega (arith, ap (half x) none, ((tells x).one_code c).0)) ∙ ap (position (λ value. nat_le n value)) shown
+        | inr more ↦ elim more [
+          | inl c ↦
+              let one_is : code ≡ 1 = omega (arith, is, code_is) in
+              let past : n ≢ 2 = both (ap (λ (y : ℕ). y % 4) is ∙ c) in
+              let there : n ≤ half x 1 = omega (arith, ((tells x).two_code c).1) in
+              ap (λ (w : ℕ). Some (2 * k + w)) one_is ∙ first_half xs n k 1 all even some found inside (omega arith) there (λ v low. let none : v ≡ 0 = omega arith in omega (arith, ap (half x) none, ((tells x).two_code c).0)) ∙ ap (position (λ value. nat_le n value)) shown
+          | inr c ↦ absurd ((all k).code c)
+        ]
+      ]
+    ]
+
+-- where both are there and n is 2 it is the first one
+pub first_both : (xs view : List ℕ) (n k pair : ℕ) → halves_of xs ≡ view → ((i : ℕ) → IsPair (get_or xs i 0)) → position (λ value. nat_le (2 * n) value) xs ≡ Some k → k < length xs → pair ≡ get_or xs k 0 → pair % 4 ≡ 2 → n ≡ 2 → Some (2 * k) ≡ position (λ value. nat_le n value) view
+first_both xs view n k pair shown all found inside is both two =
+    let x = get_or xs k 0 in
+    let place : Some (2 * k) ≡ Some (2 * k + 0) = ap Some (omega arith) in
+    let first : half x 0 ≡ 2 = ((tells x).two_code (ap (λ (y : ℕ). y % 4) (sym is) ∙ both)).0 in
+    place ∙ first_half xs n k 0 all (omega arith) (omega arith) found inside (omega arith) (omega arith) (λ v low. absurd (omega arith)) ∙ ap (position (λ value. nat_le n value)) shown
 
 pub first_half_none : (xs : List ℕ) (n : ℕ) → ((i : ℕ) → IsPair (get_or xs i 0)) → n % 2 ≡ 0 → position (λ value. nat_le (2 * n) value) xs ≡ None → position (λ value. nat_le n value) (halves_of xs) ≡ None
 first_half_none xs n all even nowhere =
@@ -289,9 +316,9 @@ put_seen xs xs' view p size v shown are inside here other =
     let put = is_put xs p size v (omega (arith, ap length shown)) here other in
     subst (λ (ys : List ℕ). IsPut ys (halves_of xs') p size) shown (subst (λ (ys : List ℕ). IsPut (halves_of xs) (halves_of ys) p size) (sym are) put)
 
-pub moved_in_seen : (xs xs' view : List ℕ) (gone p size v : ℕ) → halves_of xs ≡ view → xs' ≡ set xs (p / 2) v → p < length view → gone ≢ p → gone / 2 ≡ p / 2 → half v (p % 2) ≡ size → half v (1 - p % 2) ≡ half 0 (1 - p % 2) → IsMoved view (halves_of xs') gone p size
+pub moved_in_seen : (xs xs' view : List ℕ) (gone p size v : ℕ) → halves_of xs ≡ view → xs' ≡ set xs (p / 2) v → p < length view → gone ≢ p → gone / 2 ≡ p / 2 → half v (p % 2) ≡ size → half v (1 - p % 2) ≡ 0 → IsMoved view (halves_of xs') gone p size
 moved_in_seen xs xs' view gone p size v shown are inside apart pair here other =
-    let moved = is_moved_in xs gone p size v (omega (arith, ap length shown)) apart pair here (other ∙ half_zero (1 - p % 2)) in
+    let moved = is_moved_in xs gone p size v (omega (arith, ap length shown)) apart pair here other in
     subst (λ (ys : List ℕ). IsMoved ys (halves_of xs') gone p size) shown (subst (λ (ys : List ℕ). IsMoved (halves_of xs) (halves_of ys) gone p size) (sym are) moved)
 
 pub last_own_seen : (xs view : List ℕ) (p own : ℕ) → halves_of xs ≡ view → own ≡ half (get_or xs (p / 2) 0) 0 → p % 2 ≡ 1 → 0 < own → IsLastBefore view p (Some (p - 1))
@@ -301,12 +328,32 @@ last_own_seen xs view p own shown is odd some =
 pub last_none_seen : (xs view : List ℕ) (p : ℕ) → halves_of xs ≡ view → NoneOwn xs p → ((k : ℕ) → k < p / 2 → get_or xs k 0 ≡ 0) → IsLastBefore view p None
 last_none_seen xs view p shown own zeros = subst (λ (ys : List ℕ). IsLastBefore ys p None) shown (last_none_half xs p own zeros)
 
-pub last_second_seen : (xs view : List ℕ) (p k second : ℕ) → halves_of xs ≡ view → NoneOwn xs p → (k < p / 2) × (get_or xs k 0 ≢ 0) → ((j : ℕ) → k < j → j < p / 2 → get_or xs j 0 ≡ 0) → second ≡ half (get_or xs k 0) 1 → 0 < second → IsLastBefore view p (Some (2 * k + 1))
-last_second_seen xs view p k second shown own found zeros is some =
-    subst (λ (ys : List ℕ). IsLastBefore ys p (Some (2 * k + 1))) shown (last_half xs p k 1 own found.0 (omega arith) (λ e. omega arith) (λ v high low. absurd (omega arith)) zeros)
+-- a pair that is not 0 has a second number unless its code is 0
+second_there : (x : ℕ) → IsPair x → x ≢ 0 → x % 4 ≢ 0 → half x 1 ≢ 0
+second_there x is some other e =
+    let one = is.one in
+    let two = is.two in
+    elim (codes x) [
+      | inl c ↦ other c
+      | inr more ↦ elim more [
+        | inl c ↦ omega (arith, ((tells x).one_code c).1)
+        | inr more ↦ elim more [
+          | inl c ↦ omega (arith, ((tells x).two_code c).1)
+          | inr c ↦ is.code c
+        ]
+      ]
+    ]
 
-pub last_first_seen : (xs view : List ℕ) (p k second : ℕ) → halves_of xs ≡ view → ((i : ℕ) → IsPair (get_or xs i 0)) → NoneOwn xs p → (k < p / 2) × (get_or xs k 0 ≢ 0) → ((j : ℕ) → k < j → j < p / 2 → get_or xs j 0 ≡ 0) → second ≡ half (get_or xs k 0) 1 → second ≡ 0 → IsLastBefore view p (Some (2 * k))
-last_first_seen xs view p k second shown all own found zeros is none =
-    let place : 2 * k + 0 ≡ 2 * k = omega arith in
-    subst (λ (q : ℕ). IsLastBefore view p (Some q)) place
-    (subst (λ (ys : List ℕ). IsLastBefore ys p (Some (2 * k + 0))) shown (last_half xs p k 0 own found.0 (omega arith) (λ e. found.1 ((largest_half (get_or xs k 0) (all k)).none e (sym is ∙ none))) (λ v high low. let one : v ≡ 1 = omega arith in ap (half (get_or xs k 0)) one ∙ (sym is ∙ none)) zeros))
+-- the last pair before p's own one that is not 0: its second number is the last, where it is there
+pub last_pair_seen : (xs view : List ℕ) (p k pair code : ℕ) → halves_of xs ≡ view → ((i : ℕ) → IsPair (get_or xs i 0)) → NoneOwn xs p → (k < p / 2) × (get_or xs k 0 ≢ 0) → ((j : ℕ) → k < j → j < p / 2 → get_or xs j 0 ≡ 0) → pair ≡ get_or xs k 0 → code ≡ min (pair % 4) 1 → IsLastBefore view p (Some (2 * k + code))
+last_pair_seen xs view p k pair code shown all own found zeros is code_is =
+    subst (λ (ys : List ℕ). IsLastBefore ys p (Some (2 * k + code))) shown (elim (cases_eq (get_or xs k 0 % 4) 0) [
+      | inl first ↦
+          let none : code ≡ 0 = omega (arith, is, code_is) in
+          subst (λ (w : ℕ). IsLastBefore (halves_of xs) p (Some (2 * k + w))) (sym none)
+          (last_half xs p k 0 own found.0 (omega arith) (λ e. found.1 ((largest_half (get_or xs k 0) (all k)).none e ((tells (get_or xs k 0)).zero_code first).1)) (λ v high low. let one : v ≡ 1 = omega arith in ap (half (get_or xs k 0)) one ∙ ((tells (get_or xs k 0)).zero_code first).1) zeros)
+      | inr other ↦
+          let one : code ≡ 1 = omega (arith, is, code_is) in
+          subst (λ (w : ℕ). IsLastBefore (halves_of xs) p (Some (2 * k + w))) (sym one)
+          (last_half xs p k 1 own found.0 (omega arith) (second_there (get_or xs k 0) (all k) found.1 other) (λ v high low. absurd (omega arith)) zeros)
+    ])

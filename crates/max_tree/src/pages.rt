@@ -27,14 +27,14 @@ pub fn top_of(numbers: &[u32], k: usize) -> u32
     largest_of(&numbers[start..start + left.min(PAGE)])
 }
 
-// The largest number of the page of `p`, where `top` was it before the number at `p` was written in
+// The largest number of the page of `p`, where `top` was it before `value` was written at `p` in
 // place of `old`. Only where `old` was the top does it look at the page.
-pub fn top_after(numbers: &[u32], p: usize, old: u32, top: u32) -> u32
+pub fn top_after(numbers: &[u32], p: usize, old: u32, value: u32, top: u32) -> u32
     requires inside { p < length numbers.now }
+    requires value { value ≡ slice_index numbers.now p }
     requires before { top ≡ largest (page (slice_set numbers.now p old) (p / PAGE)) }
     ensures { result ≡ largest (page numbers.now (p / PAGE)) }
 {
-    let value = numbers[p];
     if value >= top {
         value
     } else if old < top {

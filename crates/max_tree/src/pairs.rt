@@ -1,5 +1,5 @@
 ghost use Rattle.std.specs.Prelude.{◌≡◌, ◌≢◌, ℕ, ◌+◌, ◌-◌, ◌/◌, ◌%◌, ◌^◌, ◌<◌, ◌≤◌, ◌==◌, nat_le};
-ghost use Rattle.std.specs.Prelude.{length, if◌then◌else◌};
+ghost use Rattle.std.specs.Prelude.{length, min, if◌then◌else◌};
 ghost use Rattle.std.specs.Prelude.{slice_index, MatchOption};
 ghost use Rattle.std.specs.List.{position};
 ghost use Rattle.max_tree.specs.Pages.{largest};
@@ -56,8 +56,9 @@ impl PairRow {
         ensures there { slice_index self.new p ≡ size }
         ensures others { (i : ℕ) → i ≢ p → slice_index self.new i ≡ slice_index self.old i }
     {
-        let pair = pair_with(self.row.get(p / 2), (p % 2) as u32, size);
-        self.row.set(p / 2, pair);
+        let own = self.row.get(p / 2);
+        let pair = pair_with(own, (p % 2) as u32, size);
+        self.row.change(p / 2, own, pair);
     }
 
     /// Makes the number at `p` 0.
@@ -67,8 +68,9 @@ impl PairRow {
         ensures gone { slice_index self.new p ≡ 0 }
         ensures others { (i : ℕ) → i ≢ p → slice_index self.new i ≡ slice_index self.old i }
     {
-        let pair = pair_with(self.row.get(p / 2), (p % 2) as u32, 0);
-        self.row.set(p / 2, pair);
+        let own = self.row.get(p / 2);
+        let pair = pair_with(own, (p % 2) as u32, 0);
+        self.row.change(p / 2, own, pair);
     }
 
     /// Makes the number at `gone` 0, and `size` the number at `p`.
@@ -85,8 +87,7 @@ impl PairRow {
             → slice_index self.new i ≡ slice_index self.old i }
     {
         if gone / 2 == p / 2 {
-            let pair = pair_with(0, (p % 2) as u32, size);
-            self.row.set(p / 2, pair);
+            self.row.set(p / 2, alone((p % 2) as u32, size));
             return;
         }
         // The larger number first: the other one's way up then ends where the ways meet.
@@ -114,11 +115,10 @@ impl PairRow {
             return None;
         };
         let pair = self.row.get(k);
-        if half_of(pair, 0) >= n {
-            Some(2 * k)
-        } else {
-            Some(2 * k + 1)
+        if pair % 4 == 2 && n == 2 {
+            return Some(2 * k);
         }
+        Some(2 * k + second_or_first(pair))
     }
 
     /// The last place before `p` of a number that is not 0, if there is one.
@@ -135,11 +135,7 @@ impl PairRow {
         let Some(k) = self.row.last_nonzero_before(p / 2) else {
             return None;
         };
-        if half_of(self.row.get(k), 1) > 0 {
-            Some(2 * k + 1)
-        } else {
-            Some(2 * k)
-        }
+        Some(2 * k + second_or_first(self.row.get(k)))
     }
 
     /// The largest number, or 0.
@@ -149,6 +145,14 @@ impl PairRow {
     {
         self.row.largest() / 4 * 2
     }
+}
+
+// Which number of a pair is the second one, or where that is 0 the first one. The processor need
+// not guess it.
+fn second_or_first(pair: u32) -> usize
+    ensures { result ≡ min (pair % 4) 1 }
+{
+    (pair % 4).min(1) as usize
 }
 
 // The first or the second number of a pair.
@@ -185,6 +189,17 @@ fn pair_of(first: u32, second: u32) -> u32
     }
 }
 
+// The pair of this number, as the first or the second one, and of 0.
+fn alone(which: u32, size: u32) -> u32
+    requires which { which < 2 }
+    requires size { (size % 2 ≡ 0) × (size < 2 ^ 31) }
+    ensures there { half result which ≡ size }
+    ensures other { half result (1 - which) ≡ 0 }
+    ensures pair { IsPair result }
+{
+    if size == 0 { 0 } else { 2 * size + which }
+}
+
 // The pair with this number as the first or the second one.
 fn pair_with(pair: u32, which: u32, size: u32) -> u32
     requires which { which < 2 }
@@ -194,6 +209,10 @@ fn pair_with(pair: u32, which: u32, size: u32) -> u32
     ensures other { half result (1 - which) ≡ half pair (1 - which) }
     ensures pair { IsPair result }
 {
+    // Seldom is the other number there, so the processor guesses this right.
+    if (pair == 0) | (pair % 4 == which) {
+        return alone(which, size);
+    }
     if which == 0 {
         pair_of(size, half_of(pair, 1))
     } else {

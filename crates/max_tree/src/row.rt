@@ -78,9 +78,18 @@ impl MaxRow {
         ensures { self.new ≡ slice_set self.old p value }
     {
         let old = self.numbers[p];
+        self.change(p, old, value);
+    }
+
+    // Makes `value` the number at `p`, which is `old`: who has read it need not read it again.
+    pub(crate) fn change(&mut self, p: usize, old: u32, value: u32)
+        requires inside { p < length self.old }
+        requires old { old ≡ slice_index self.old p }
+        ensures { self.new ≡ slice_set self.old p value }
+    {
         self.numbers[p] = value;
         let top = self.tops.get(p / PAGE);
-        let new = pages::top_after(self.numbers.as_slice(), p, old, top);
+        let new = pages::top_after(self.numbers.as_slice(), p, old, value, top);
         if new != top {
             self.tops.set(p / PAGE, new);
         }

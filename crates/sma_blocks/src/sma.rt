@@ -330,11 +330,12 @@ impl Sma {
         let Some(index) = before else {
             return at;
         };
-        if begins_segment(self.piece, at) {
-            return at;
-        }
         let first = 2 * index as u32;
         if first + self.sizes.get(index) == at {
+            // The border takes a division, so it is asked for last.
+            if begins_segment(self.piece, at) {
+                return at;
+            }
             return first;
         }
         at
@@ -349,10 +350,14 @@ impl Sma {
         ensures within { result ≤ self.now.to }
     {
         if end < self.to {
+            let size = self.sizes.get(end as usize / 2);
+            if size == 0 {
+                return end;
+            }
             if begins_segment(self.piece, end) {
                 return end;
             }
-            return end + self.sizes.get(end as usize / 2);
+            return end + size;
         }
         end
     }

@@ -1,10 +1,10 @@
-use Rattle.std.proofs.Common.{get_or, refl, arith}
+use Rattle.std.proofs.Common.{arith}
 use Rattle.max_tree.proofs.Topping.{top_new, top_stays}
 use Rattle.max_tree.proofs.pages.top_after.Goals as goal
 
 pub returns-then-value-top : goal.returns-then-value-top
 returns-then-value-top c =
-    top_new c.args.numbers.now c.args.p c.args.old c.args.top (get_or c.args.numbers.now c.args.p 0) refl c.requires.before c.if-value-top.true
+    top_new c.args.numbers.now c.args.p c.args.old c.args.top c.args.value c.requires.value c.requires.before c.if-value-top.true
 
 pub returns-then-old-top : goal.returns-then-old-top
 returns-then-old-top c =

@@ -1,8 +1,8 @@
 use Rattle.std.proofs.Common.{length, ap, arith, ◌∙◌, ℕ}
 use Rattle.max_tree.specs.Halves.{half}
-use Rattle.max_tree.proofs.Halving.{NoneOwn, pair_inside, last_own_seen, last_none_seen, last_first_seen, last_second_seen}
+use Rattle.max_tree.proofs.Halving.{NoneOwn, pair_inside, last_own_seen, last_none_seen, last_pair_seen}
 use Rattle.max_tree.proofs.pairs.PairRow.last_nonzero_before.Goals as goal
-use Rattle.max_tree.proofs.pairs.PairRow.last_nonzero_before.Goals.{else-p-eq1-via-then-p-eq1+else-half_of-gt0, else-p-eq1-via-else-p-eq1}
+use Rattle.max_tree.proofs.pairs.PairRow.last_nonzero_before.Goals.{Joined-else-p-eq1, else-p-eq1-via-then-p-eq1+else-half_of-gt0, else-p-eq1-via-else-p-eq1}
 
 pub get-requires : goal.get-requires
 get-requires c = pair_inside c.self.inside.row c.args.p (omega (arith, ap length c.self.view_is, c.requires))
@@ -14,52 +14,22 @@ pub returns-then-half_of-gt0-clause-found : goal.returns-then-half_of-gt0-clause
 returns-then-half_of-gt0-clause-found c =
     (last_own_seen c.self.inside.row c.args.self.now c.args.p c.half_of.result c.self.view_is (c.half_of.ensures ∙ ap (λ (x : ℕ). half x 0) c.get.ensures) c.if-p-eq1.true c.if-half_of-gt0.true).found
 
+own_none : (c : Joined-else-p-eq1) → NoneOwn c.self.inside.row c.args.p
+own_none c = record {
+  none = λ odd. elim c.else-p-eq1.branch [
+    | else-p-eq1-via-then-p-eq1+else-half_of-gt0 w ↦ omega (arith, w.if-half_of-gt0.false, w.half_of.ensures, ap (λ (x : ℕ). half x 0) w.get.ensures)
+    | else-p-eq1-via-else-p-eq1 w ↦ absurd (w.if-p-eq1.false odd)
+  ];
+}
+
 pub returns-in_default-clause-found : goal.returns-in_default-clause-found
 returns-in_default-clause-found c =
-    let own : NoneOwn c.self.inside.row c.args.p = record {
-      none = λ odd. elim c.else-p-eq1.branch [
-        | else-p-eq1-via-then-p-eq1+else-half_of-gt0 w ↦ omega (arith, w.if-half_of-gt0.false, w.half_of.ensures, ap (λ (x : ℕ). half x 0) w.get.ensures)
-        | else-p-eq1-via-else-p-eq1 w ↦ absurd (w.if-p-eq1.false odd)
-      ];
-    } in
-    (last_none_seen c.self.inside.row c.args.self.now c.args.p c.self.view_is own c.in_default.ensures.found).found
+    (last_none_seen c.self.inside.row c.args.self.now c.args.p c.self.view_is (own_none c.before.before) c.in_default.ensures.found).found
 
-pub returns-then-half_of-gt0-2-clause-found : goal.returns-then-half_of-gt0-2-clause-found
-returns-then-half_of-gt0-2-clause-found c =
-    let own : NoneOwn c.self.inside.row c.args.p = record {
-      none = λ odd. elim c.else-p-eq1.branch [
-        | else-p-eq1-via-then-p-eq1+else-half_of-gt0 w ↦ omega (arith, w.if-half_of-gt0.false, w.half_of.ensures, ap (λ (x : ℕ). half x 0) w.get.ensures)
-        | else-p-eq1-via-else-p-eq1 w ↦ absurd (w.if-p-eq1.false odd)
-      ];
-    } in
-    (last_second_seen c.self.inside.row c.args.self.now c.args.p c.in-Some.k c.half_of-2.result c.self.view_is own c.in-Some.ensures.found c.in-Some.ensures.last (c.half_of-2.ensures ∙ ap (λ (x : ℕ). half x 1) c.get-2.ensures) c.if-half_of-gt0-2.true).found
+pub returns-clause-found : goal.returns-clause-found
+returns-clause-found c =
+    (last_pair_seen c.self.inside.row c.args.self.now c.args.p c.in-Some.k c.get-2.result c.second_or_first.result c.self.view_is c.self.invariant.1 (own_none c.before.before.before.before) c.in-Some.ensures.found c.in-Some.ensures.last c.get-2.ensures c.second_or_first.ensures).found
 
-pub returns-else-half_of-gt0-2-clause-found : goal.returns-else-half_of-gt0-2-clause-found
-returns-else-half_of-gt0-2-clause-found c =
-    let own : NoneOwn c.self.inside.row c.args.p = record {
-      none = λ odd. elim c.else-p-eq1.branch [
-        | else-p-eq1-via-then-p-eq1+else-half_of-gt0 w ↦ omega (arith, w.if-half_of-gt0.false, w.half_of.ensures, ap (λ (x : ℕ). half x 0) w.get.ensures)
-        | else-p-eq1-via-else-p-eq1 w ↦ absurd (w.if-p-eq1.false odd)
-      ];
-    } in
-    (last_first_seen c.self.inside.row c.args.self.now c.args.p c.in-Some.k c.half_of-2.result c.self.view_is c.self.invariant.1 own c.in-Some.ensures.found c.in-Some.ensures.last (c.half_of-2.ensures ∙ ap (λ (x : ℕ). half x 1) c.get-2.ensures) (omega (arith, c.if-half_of-gt0-2.false))).found
-
-pub returns-then-half_of-gt0-2-clause-last : goal.returns-then-half_of-gt0-2-clause-last
-returns-then-half_of-gt0-2-clause-last c =
-    let own : NoneOwn c.self.inside.row c.args.p = record {
-      none = λ odd. elim c.else-p-eq1.branch [
-        | else-p-eq1-via-then-p-eq1+else-half_of-gt0 w ↦ omega (arith, w.if-half_of-gt0.false, w.half_of.ensures, ap (λ (x : ℕ). half x 0) w.get.ensures)
-        | else-p-eq1-via-else-p-eq1 w ↦ absurd (w.if-p-eq1.false odd)
-      ];
-    } in
-    (last_second_seen c.self.inside.row c.args.self.now c.args.p c.in-Some.k c.half_of-2.result c.self.view_is own c.in-Some.ensures.found c.in-Some.ensures.last (c.half_of-2.ensures ∙ ap (λ (x : ℕ). half x 1) c.get-2.ensures) c.if-half_of-gt0-2.true).last
-
-pub returns-else-half_of-gt0-2-clause-last : goal.returns-else-half_of-gt0-2-clause-last
-returns-else-half_of-gt0-2-clause-last c =
-    let own : NoneOwn c.self.inside.row c.args.p = record {
-      none = λ odd. elim c.else-p-eq1.branch [
-        | else-p-eq1-via-then-p-eq1+else-half_of-gt0 w ↦ omega (arith, w.if-half_of-gt0.false, w.half_of.ensures, ap (λ (x : ℕ). half x 0) w.get.ensures)
-        | else-p-eq1-via-else-p-eq1 w ↦ absurd (w.if-p-eq1.false odd)
-      ];
-    } in
-    (last_first_seen c.self.inside.row c.args.self.now c.args.p c.in-Some.k c.half_of-2.result c.self.view_is c.self.invariant.1 own c.in-Some.ensures.found c.in-Some.ensures.last (c.half_of-2.ensures ∙ ap (λ (x : ℕ). half x 1) c.get-2.ensures) (omega (arith, c.if-half_of-gt0-2.false))).last
+pub returns-clause-last : goal.returns-clause-last
+returns-clause-last c =
+    (last_pair_seen c.self.inside.row c.args.self.now c.args.p c.in-Some.k c.get-2.result c.second_or_first.result c.self.view_is c.self.invariant.1 (own_none c.before.before.before.before) c.in-Some.ensures.found c.in-Some.ensures.last c.get-2.ensures c.second_or_first.ensures).last

@@ -1,17 +1,15 @@
-use Rattle.std.proofs.Common.{◌≡◌, ◌<◌, ◌/◌, ap, ◌∙◌, length, get_or, set, sym, subst, rules, arith}
-use Rattle.std.proofs.lemmas.List.{get_or_default}
+use Rattle.std.proofs.Common.{◌≡◌, ◌/◌, ap, ◌∙◌, get_or, set, sym, subst, rules, arith}
 use Rattle.max_tree.specs.Pages.{IsPaged, largest, page}
 use Rattle.max_tree.specs.declared.row.TheConstants.{PAGE}
 use Rattle.max_tree.proofs.Paging.{set_paged}
 use Rattle.max_tree.proofs.Topping.{top_before, stays_paged}
-use Rattle.max_tree.proofs.row.MaxRow.set.Goals as goal
+use Rattle.max_tree.proofs.row.MaxRow.change.Goals as goal
 
 pub top_after-new-requires-clause-before : goal.top_after-new-requires-clause-before
 top_after-new-requires-clause-before c =
     let xs = c.self.inside.numbers.items in
     let seen : c.as_slice.result.now ≡ set xs c.args.p c.args.value = c.as_slice.ensures.value in
-    let inside : c.args.p < length xs = search rules in
-    let old : c.index-old.result.now ≡ get_or xs c.args.p 0 = c.index-old.ensures ∙ get_or_default xs c.args.p c.index-old.result.now 0 inside in
+    let old : c.args.old ≡ get_or xs c.args.p 0 = c.requires.old ∙ ap (λ ys. get_or ys c.args.p 0) (sym c.self.view_is) in
     c.get-top.ensures ∙ top_before xs c.self.inside.tops c.args.p c.args.value c.self.invariant ∙ ap (λ ys. largest (page (set ys c.args.p (get_or xs c.args.p 0)) (c.args.p / PAGE))) (sym seen) ∙ ap (λ n. largest (page (set c.as_slice.result.now c.args.p n) (c.args.p / PAGE))) (sym old)
 
 pub invariant_of-self : goal.invariant_of-self
