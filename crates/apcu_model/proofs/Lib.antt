@@ -7,6 +7,7 @@ pub mod Ordering
 pub mod Held
 pub mod Histories
 pub mod Numbering
+pub mod Windows
 pub mod Origins
 mod Tellings
 mod Laying

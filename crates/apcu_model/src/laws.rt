@@ -1,5 +1,5 @@
 ghost use Rattle.apcu_model.specs.Laws.{CountLaws, EventsKeep, HeldAlike, OneEventMore};
-ghost use Rattle.apcu_model.specs.Laws.{RowsStayApart};
+ghost use Rattle.apcu_model.specs.Laws.{RowsKeepNumbers, RowsStayApart};
 ghost use Rattle.std.specs.Prelude.{◌≡◌, ◌↔◌, ◌<◌, ◌≤◌, ◌&&◌, ℕ, Bool, true, false, List, [], ◌∷◌};
 ghost use Rattle.std.specs.Prelude.{◌++◌, length, map, filter, Contains, IsTrue};
 ghost use Rattle.apcu_model.specs.declared.conf.Conf.{Conf};
@@ -60,6 +60,15 @@ pub fn held_alike()
 pub fn numbered()
     ensures { (conf : Conf) (history : List Event) → length history ≤ MOST_EVENTS
         → are_shallow history ≡ true → IsNumbered (stage_of conf history) }
+{}
+
+/// In a history of at most `MOST_EVENTS` events, each of at most eight insertions: rows and removed
+/// rows have numbers below the next one. A number that is gone never comes back: after more events
+/// each row with a number that was given before them was there then, with its key. And a number
+/// stands for one row: two rows of one number, in the same cache or in a later one, have one key and
+/// one place.
+pub fn rows_keep_numbers()
+    ensures { RowsKeepNumbers }
 {}
 
 /// What comes of one event more.
