@@ -3,7 +3,6 @@ pub mod Apart
 pub mod Counting
 pub mod OneKey
 pub mod Scalars
-pub mod Ordering
 pub mod Held
 pub mod Histories
 pub mod Numbering

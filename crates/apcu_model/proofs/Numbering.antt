@@ -1,7 +1,7 @@
 -- The numbers of rows are all different, and one that is gone never comes back.
 use Rattle.std.proofs.Common.{◌≡◌, ℕ, ◌+◌, ◌-◌, ◌*◌, ◌^◌, ◌<◌, ◌≤◌, ◌&&◌, ◌⊎◌, inl, inr, Bool, true, not, if◌then◌else◌, List, [], ◌∷◌, ◌++◌, length, map, filter, Option, Some, None, refl, ap, sym, ◌∙◌, subst, arith, false}
 use Rattle.std.specs.Prelude.{ℤ, Contains, nat_lt, is_some}
-use Rattle.std.specs.List.{list_any}
+use Rattle.std.specs.List.{list_any, range_with_len}
 use Rattle.std.proofs.lemmas.Bool.{and_parts, leb-true}
 use Rattle.std.proofs.lemmas.List.Elements.{Contains-append_left, Contains-append_right, Contains-append_cases}
 use Rattle.php_graph.specs.declared.kind.Kind.{Kind}
@@ -12,26 +12,27 @@ use Rattle.apcu_model.specs.declared.conf.Conf.{Conf}
 use Rattle.apcu_model.specs.declared.event.Event.{Event}
 use Rattle.apcu_model.specs.declared.journal.TheConstants.{MOST_EVENTS}
 use Rattle.apcu_model.specs.declared.request.Request.{Request}
+use Rattle.apcu_model.specs.declared.searching.Pattern.{Pattern}
 use Rattle.apcu_model.specs.declared.request.Request.TheVariants as request
 use Rattle.apcu_model.specs.declared.request.StoreAnswer.TheVariants as answers
 use Rattle.apcu_model.specs.Cache.{Row, Cache, risen, has_key, gap_of}
-use Rattle.apcu_model.specs.Expiry.{is_expired, is_hard_expired, live_row}
+use Rattle.apcu_model.specs.Expiry.{is_expired, live_row}
 use Rattle.apcu_model.specs.Walk.{is_in_slot, slot_of}
-use Rattle.apcu_model.specs.Change.{dropped, deleted, cleared, with_room, with_row, placed, put_in, inserted}
+use Rattle.apcu_model.specs.Change.{dropped, expired_in, is_among, left_of, deleted, cleared, with_room, with_row, placed, put_in, inserted}
 use Rattle.apcu_model.specs.Counters.{integer_in, with_integer, with_integer_at, integer_set, sum_of, counted_on, counted_at, is_integer, is_expected, swapped}
 use Rattle.apcu_model.specs.Rows.{are_apart, touched_at}
 use Rattle.apcu_model.specs.Levels.{EntryLevel, most_levels}
 use Rattle.apcu_model.specs.Lookups.{looked_up, touched}
 use Rattle.apcu_model.specs.Generators.{filled, given_by, missed_levels, looked_for}
-use Rattle.apcu_model.specs.Chunks.{is_in_chunk, chunk_dropped}
+use Rattle.apcu_model.specs.Chunks.{chunk_dropped, chunk_end, chunk_rows, is_item, items_between, slot_items}
 use Rattle.apcu_model.specs.Sequential.{cache_after}
-use Rattle.apcu_model.specs.History.{Stage, start_of, is_scalar, is_shallow, are_shallow, opened, opened_at, held_places, after_event, after_events, IsNumbered, stage_of}
+use Rattle.apcu_model.specs.History.{Stage, start_of, is_scalar, is_shallow, are_shallow, held_places, after_event, after_events, stage_of}
 use Rattle.apcu_model.proofs.Apart.{are_apart-filter, are_apart-map, are_apart-with_row, touched_key}
 use Rattle.apcu_model.proofs.Scalars.{set_key}
-use Rattle.apcu_model.proofs.OneKey.{found_there, one_of_key}
+use Rattle.apcu_model.proofs.OneKey.{one_of_key}
 use Rattle.apcu_model.specs.Numbers.{AreBelow, IsIn, IsStill, KeepsNumbers}
 use Rattle.apcu_model.proofs.Origins.{Sub, Was, still, still_on, still_back, sub_map, sub_refl, sub_trans, sub_if, sub_dropped, sub_deleted, sub_cleared, sub_room}
-use Rattle.seg_words.specs.Members.{Contains-cases, Contains-filter, none_in_nil, map_there}
+use Rattle.seg_words.specs.Members.{Contains-cases, Contains-filter, none_in_nil, map_there, flat_there}
 
 pub record Numbers (c : Cache) : Type 0 where
   pub below : AreBelow c
@@ -71,17 +72,18 @@ new_row key graph ttl t n c place = record { key = key; graph = graph; ttl = ttl
 placed_cases : (held key : List ℕ) (graph : List Kind) (ttl t n : ℕ) (c : Cache) (place : ℕ) (r : Row) → IsIn (placed held key graph ttl t n c place) r
     → IsStill (new_row key graph ttl t n c place) r ⊎ Was c r
 placed_cases held key graph ttl t n c place r h =
-    let pass : Row → Bool = λ row. is_in_slot c.conf (slot_of c.conf key) row && is_expired c.conf t row in
-    let f : Cache = dropped held t pass c in
+    let slot = slot_of c.conf key in
+    let f : Cache = dropped held t (expired_in c.conf t slot c.rows) c in
+    let old = filter (has_key key) f.rows in
     let new = new_row key graph ttl t n c place in
-    let s1 = sub_dropped held t pass c in
-    let s2 = sub_trans c f (dropped held t (has_key key) f) s1 (sub_dropped held t (has_key key) f) in
-    elim (Contains-append_cases (with_row new f.rows) (dropped held t (has_key key) f).removed r h) [
+    let s1 = sub_dropped held t (expired_in c.conf t slot c.rows) c (λ row h. (Contains-filter (is_in_slot c.conf slot) c.rows row (Contains-filter (is_expired c.conf t) (filter (is_in_slot c.conf slot) c.rows) row h).0).0) in
+    let s2 = sub_trans c f (dropped held t old f) s1 (sub_dropped held t old f (λ row h. (Contains-filter (has_key key) f.rows row h).0)) in
+    elim (Contains-append_cases (with_row new f.rows) (dropped held t old f).removed r h) [
       | inl l ↦ elim (with_there new f.rows r l) [
         | inl e ↦ inl (subst (IsStill new) e (still new))
         | inr m ↦ inr (s1.from r (Contains-append_left f.rows f.removed r m))
       ]
-      | inr l ↦ inr (s2.from r (Contains-append_right (dropped held t (has_key key) f).rows (dropped held t (has_key key) f).removed r l))
+      | inr l ↦ inr (s2.from r (Contains-append_right (dropped held t old f).rows (dropped held t old f).removed r l))
     ]
 
 numbers_placed : (held key : List ℕ) (graph : List Kind) (ttl t n : ℕ) (c : Cache) (place : ℕ) → Numbers c → c.next_number < 2 ^ 64 - 1 → Numbers (placed held key graph ttl t n c place)
@@ -119,8 +121,8 @@ numbers_placed held key graph ttl t n c place num small = record { below = below
 
     keys : are_apart (placed held key graph ttl t n c place).rows ≡ true
     keys =
-        let pass : Row → Bool = λ row. is_in_slot c.conf (slot_of c.conf key) row && is_expired c.conf t row in
-        are_apart-with_row new (filter (λ row. not (pass row)) c.rows) (are_apart-filter (λ row. not (pass row)) c.rows num.keys)
+        let gone = expired_in c.conf t (slot_of c.conf key) c.rows in
+        are_apart-with_row new (left_of gone c.rows) (are_apart-filter (λ row. not (is_among gone row)) c.rows num.keys)
 
 -- the cache after at most so many insertions
 pub record Grown (most : ℕ) (c c' : Cache) : Type 0 where
@@ -276,6 +278,12 @@ grown_entered held value t levels c num small few =
     grown_most (0 + length missed) 8 c (filled held value t missed looked).cache (omega (arith, few, less))
     (grown_on 0 (length missed) c looked (filled held value t missed looked).cache first rest)
 
+-- the rows of an iterator's step are there
+chunk_there : (wanted : Option Pattern) (t : ℕ) (c : Cache) (from upto : ℕ) (row : Row) → Contains (items_between wanted t c from upto) row → Contains c.rows row
+chunk_there wanted t c from upto row h =
+    let k = flat_there (slot_items wanted t c) (range_with_len from (upto - from)) row h in
+    (Contains-filter (is_in_slot c.conf k.0) c.rows row (Contains-filter (is_item wanted t) (filter (is_in_slot c.conf k.0) c.rows) row k.1).0).0
+
 -- at most eight insertions are made in one event
 pub grown_after : (held : List ℕ) (t : ℕ) (r : Request) (c : Cache) → Numbers c → c.next_number + 8 < 2 ^ 64 → is_shallow r ≡ true → Grown 8 c (cache_after held t r c)
 grown_after held t r c num small shallow = go r shallow
@@ -302,7 +310,7 @@ grown_after held t r c num small shallow = go r shallow
     go (request.CacheInfo limited) few = same c (sub_refl c)
     go (request.SmaInfo limited) few = same c (sub_refl c)
     go (request.Chunk wanted from size list fields) few = same c (sub_refl c)
-    go (request.ChunkDelete wanted from size) few = same (chunk_dropped held wanted from size t c) (sub_dropped held t (is_in_chunk wanted t c from size) c)
+    go (request.ChunkDelete wanted from size) few = same (chunk_dropped held wanted from size t c) (sub_dropped held t (chunk_rows wanted t c from size) c (λ row h. chunk_there wanted t c from (chunk_end wanted t c from size) row h))
     go (request.Totals wanted list) few = same c (sub_refl c)
     go request.Retire few = same c (sub_refl c)
 

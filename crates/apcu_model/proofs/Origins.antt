@@ -1,16 +1,15 @@
 -- The rows of a cache after a change stood in it before, and are still the same.
-use Rattle.std.proofs.Common.{◌≡◌, ℕ, inl, inr, Bool, true, false, not, if◌then◌else◌, List, ◌++◌, map, filter, refl, sym, ap, ◌∙◌, subst}
+use Rattle.std.proofs.Common.{◌≡◌, ℕ, inl, inr, Bool, true, false, not, if◌then◌else◌, List, [], ◌++◌, map, filter, refl, sym, ◌∙◌, subst}
 use Rattle.std.specs.Prelude.{Contains, nat_lt, is_some}
-use Rattle.std.specs.List.{range_with_len}
 use Rattle.std.proofs.lemmas.List.Elements.{Contains-append_left, Contains-append_right, Contains-append_cases}
 use Rattle.apcu_model.specs.Cache.{Row, Cache, has_key}
 use Rattle.apcu_model.specs.Expiry.{is_expired, live_row}
-use Rattle.apcu_model.specs.Facts.{dated, order_from}
-use Rattle.apcu_model.specs.Change.{is_held, dropped, leaving, swept, expired_dropped, expunged, deleted, cleared, has_gap, with_room}
+use Rattle.apcu_model.specs.Facts.{dated, leaving_from}
+use Rattle.apcu_model.specs.Change.{is_among, is_held, dropped, leaving, spent, swept, expired_dropped, expunged, deleted, cleared, has_gap, with_room}
 use Rattle.apcu_model.specs.Rows.{are_apart}
 use Rattle.apcu_model.specs.Numbers.{IsIn, IsStill}
 use Rattle.apcu_model.proofs.Apart.{are_apart-filter}
-use Rattle.seg_words.specs.Members.{Contains-filter, map_there}
+use Rattle.seg_words.specs.Members.{Contains-filter, map_there, none_in_nil}
 
 pub still : (row : Row) → IsStill row row
 still row = record { number = refl; key = refl; place = refl; size = refl; ttl = refl; ctime = refl; scalar = refl }
@@ -76,23 +75,19 @@ pub sub_if : (b : Bool) (c x y : Cache) → Sub c x → Sub c y → Sub c (if b 
 sub_if true c x y f g = f
 sub_if false c x y f g = g
 
-pub sub_dropped : (held : List ℕ) (t : ℕ) (pass : Row → Bool) (c : Cache) → Sub c (dropped held t pass c)
-sub_dropped held t pass c = record { from = from; next = refl; keys = are_apart-filter (λ row. not (pass row)) c.rows }
+pub sub_dropped : (held : List ℕ) (t : ℕ) (gone : List Row) (c : Cache) → ((row : Row) → Contains gone row → Contains c.rows row) → Sub c (dropped held t gone c)
+sub_dropped held t some c inside = record { from = from; next = refl; keys = are_apart-filter (λ row. not (is_among some row)) c.rows }
   where
-    some : List Row
-    some = leaving c.conf pass c.rows
-
     gone : (r : Row) → Contains (dated t (filter (is_held held) some)) r → Was c r
     gone r h =
         let date : Row → Row = λ row. record row { dtime = t } in
         let x = map_there date (filter (is_held held) some) r h in
         let k = Contains-filter (is_held held) some x.0 x.1 in
-        let there = (Contains-filter pass c.rows x.0 (order_from c.conf (filter pass c.rows) x.0 k.0)).0 in
-        (x.0, Contains-append_left c.rows c.removed x.0 there, subst (IsStill x.0) x.2 (record { number = refl; key = refl; place = refl; size = refl; ttl = refl; ctime = refl; scalar = refl }))
+        (x.0, Contains-append_left c.rows c.removed x.0 (inside x.0 k.0), subst (IsStill x.0) x.2 (record { number = refl; key = refl; place = refl; size = refl; ttl = refl; ctime = refl; scalar = refl }))
 
-    from : (r : Row) → IsIn (dropped held t pass c) r → Was c r
-    from r h = elim (Contains-append_cases (dropped held t pass c).rows (dropped held t pass c).removed r h) [
-      | inl l ↦ was_row c r (Contains-filter (λ (row : Row). not (pass row)) c.rows r l).0
+    from : (r : Row) → IsIn (dropped held t some c) r → Was c r
+    from r h = elim (Contains-append_cases (dropped held t some c).rows (dropped held t some c).removed r h) [
+      | inl l ↦ was_row c r (Contains-filter (λ (row : Row). not (is_among some row)) c.rows r l).0
       | inr l ↦ elim (Contains-append_cases c.removed (dated t (filter (is_held held) some)) r l) [
         | inl m ↦ was_removed c r m
         | inr m ↦ gone r m
@@ -110,16 +105,22 @@ sub_swept held c = record {
 }
 
 pub sub_expired : (held : List ℕ) (t : ℕ) (c : Cache) → Sub c (expired_dropped held t c)
-sub_expired held t c = sub_if (nat_lt 0 c.conf.ttl) c (dropped held t (is_expired c.conf t) c) c (sub_dropped held t (is_expired c.conf t) c) (sub_refl c)
+sub_expired held t c = sub_dropped held t (spent c.conf t c.rows) c (go (nat_lt 0 c.conf.ttl))
+  where
+    go : (b : Bool) (row : Row) → Contains (if b then leaving c.conf (filter (is_expired c.conf t) c.rows) else []) row → Contains c.rows row
+    go true row h = (Contains-filter (is_expired c.conf t) c.rows row (leaving_from c.conf (filter (is_expired c.conf t) c.rows) row h)).0
+    go false row h = absurd (none_in_nil row h)
 
 pub sub_expunged : (held : List ℕ) (t : ℕ) (c : Cache) → Sub c (expunged held t c)
-sub_expunged held t c = let d = sub_dropped held t (λ row. true) c in record { from = d.from; next = d.next; keys = d.keys }
+sub_expunged held t c = let d = sub_dropped held t (leaving c.conf c.rows) c (leaving_from c.conf c.rows) in record { from = d.from; next = d.next; keys = d.keys }
 
 pub sub_deleted : (held key : List ℕ) (t : ℕ) (c : Cache) → Sub c (deleted held key t c)
-sub_deleted held key t c = sub_if (is_some (live_row key t c)) c (dropped held t (has_key key) c) c (sub_dropped held t (has_key key) c) (sub_refl c)
+sub_deleted held key t c =
+    let gone = filter (has_key key) c.rows in
+    sub_if (is_some (live_row key t c)) c (dropped held t gone c) c (sub_dropped held t gone c (λ row h. (Contains-filter (has_key key) c.rows row h).0)) (sub_refl c)
 
 pub sub_cleared : (held : List ℕ) (t : ℕ) (c : Cache) → Sub c (cleared held t c)
-sub_cleared held t c = let d = sub_dropped held t (λ row. true) c in record { from = d.from; next = d.next; keys = d.keys }
+sub_cleared held t c = let d = sub_dropped held t (leaving c.conf c.rows) c (leaving_from c.conf c.rows) in record { from = d.from; next = d.next; keys = d.keys }
 
 pub sub_room : (held : List ℕ) (n t : ℕ) (c : Cache) → Sub c (with_room held n t c)
 sub_room held n t c =

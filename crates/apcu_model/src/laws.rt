@@ -16,7 +16,6 @@ ghost use Rattle.apcu_model.specs.History.{mark_of, marks_of, stage_of};
 ghost use Rattle.apcu_model.specs.Levels.{Generator};
 ghost use Rattle.apcu_model.specs.Rows.{are_apart};
 ghost use Rattle.apcu_model.specs.Sequential.{cache_after, reply_to};
-ghost use Rattle.apcu_model.specs.Walk.{in_slot_order, slot_of};
 
 /// With a single worker nobody else copies a value: 0 is the mask of each of its events, and
 /// no block is held in them. The mask 0 is legal in every event, whoever works.
@@ -40,13 +39,6 @@ pub fn events_keep()
 /// What making room does to the counts: they stay, or are forgotten where all rows had to go.
 pub fn count_laws()
     ensures { CountLaws }
-{}
-
-/// Rows of one hash chain are visited in their own order.
-pub fn order_single()
-    ensures { (conf : Conf) (rows : List Row) (slot : ℕ) → slot < conf.slots
-        → ((row : Row) → Contains rows row → slot_of conf row.key ≡ slot)
-        → in_slot_order conf rows ≡ rows }
 {}
 
 /// Of the list of held places only its members count, not their order or how often they stand

@@ -36,7 +36,7 @@ pub use items::{Chunk, ItemRow, Items};
 pub use journal::{Journal, MOST_EVENTS, Mark};
 pub use keys::Keys;
 pub use laws::{
-    count_laws, events_keep, held_alike, numbered, one_event_more, order_single, rows_keep_numbers,
+    count_laws, events_keep, held_alike, numbered, one_event_more, rows_keep_numbers,
     rows_stay_apart, works_alone,
 };
 pub use noted::{ListedRow, Noted};

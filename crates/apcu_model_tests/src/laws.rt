@@ -1,6 +1,6 @@
 use apcu_model::{
-    count_laws, events_keep, held_alike, numbered, one_event_more, order_single,
-    rows_keep_numbers, rows_stay_apart, works_alone,
+    count_laws, events_keep, held_alike, numbered, one_event_more, rows_keep_numbers,
+    rows_stay_apart, works_alone,
 };
 
 #[test]
@@ -9,7 +9,6 @@ fn states_its_laws() {
     rows_stay_apart();
     events_keep();
     count_laws();
-    order_single();
     held_alike();
     numbered();
     rows_keep_numbers();
