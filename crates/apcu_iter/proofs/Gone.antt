@@ -8,7 +8,7 @@ use Rattle.seg_words.specs.Probing.{Goes}
 use Rattle.seg_words.specs.Windows.{Aside, held_blocks}
 use Rattle.apcu_model.specs.declared.searching.Pattern.{Pattern}
 use Rattle.apcu_model.specs.Cache.{Row, Cache}
-use Rattle.apcu_model.specs.Chunks.{chunk_dropped, chunk_end, chunk_rows, is_in_chunk, is_item}
+use Rattle.apcu_model.specs.Chunks.{chunk_dropped, chunk_end, chunk_rows, is_item}
 use Rattle.apcu_model.specs.Facts.{order_from}
 use Rattle.apcu_model.specs.Walk.{in_slot_order}
 use Rattle.entry_slots.specs.declared.slots.EntrySlots.{EntrySlots}
@@ -17,7 +17,7 @@ use Rattle.entry_slots.specs.Entries.{Entries, entries_of}
 use Rattle.entry_slots.specs.Facts.{IsSound}
 use Rattle.entry_slots.specs.Standing.{Stands, entries}
 use Rattle.entry_slots.specs.Sums.{all_slots}
-use Rattle.ttl_expunge.specs.Dropping.{dropped_in}
+use Rattle.ttl_expunge.specs.Dropping.{dropped_rows}
 use Rattle.ttl_expunge.specs.Held.{Drops}
 use Rattle.ttl_expunge.specs.Lists.{row_places, AreRowsAt}
 use Rattle.cache_core.specs.declared.cache.Core.{Core}
@@ -27,7 +27,7 @@ use Rattle.apcu_iter.specs.Choosing.{uncounted}
 use Rattle.ttl_expunge.specs.Laws.{DropLaws}
 use Rattle.entry_slots.specs.Laws.{StandingLaws}
 use Rattle.apcu_iter.proofs.Fewness.{some_of}
-use Rattle.apcu_iter.proofs.Slots.{between_is}
+use Rattle.apcu_iter.proofs.Slots.{between_is, is_between}
 
 -- ---- which rows they are
 
@@ -51,10 +51,15 @@ pub end_within : (wanted : Option Pattern) (t : ℕ) (c : Cache) (from size : �
 end_within wanted t c from size low =
     found_within _ (c.conf.slots - from) from c.conf.slots (omega (arith, low))
 
+-- the row is one of the step
+abbrev pub is_in_step : Option Pattern → ℕ → Entries → ℕ → ℕ → Row → Bool
+is_in_step wanted t s from size =
+    is_between (is_item wanted t) s.conf from (chunk_end wanted t (uncounted s) from size)
+
 -- by slot and place they are the rows of the step
 pub chunk_ordered : (wanted : Option Pattern) (t : ℕ) (s : Entries) (from size : ℕ)
     → from ≤ s.conf.slots → chunk_rows wanted t (uncounted s) from size
-    ≡ in_slot_order s.conf (filter (is_in_chunk wanted t (uncounted s) from size) s.rows)
+    ≡ in_slot_order s.conf (filter (is_in_step wanted t s from size) s.rows)
 chunk_ordered wanted t s from size low =
     let end = end_within wanted t (uncounted s) from size low in
     between_is (is_item wanted t) s.conf from (chunk_end wanted t (uncounted s) from size) s.rows
@@ -66,7 +71,7 @@ pub rows_of_chunk : {s : Entries} {words windows : List ℕ} (wanted : Option Pa
     → places ≡ row_places (chunk_rows wanted t (uncounted s) from size)
     → AreRowsAt s.rows places (chunk_rows wanted t (uncounted s) from size)
 rows_of_chunk {s} wanted t from size places sound low are =
-    let pass = is_in_chunk wanted t (uncounted s) from size in
+    let pass = is_in_step wanted t s from size in
     let ordered = chunk_ordered wanted t s from size low in
     record {
       places_are = sym are;
@@ -108,20 +113,14 @@ drops_of_core core slots {new} {before} {start} {after} {t} {gone} {all} value s
     (subst (λ (e : EntrySlots). Drops (entries e) new before after t gone) value drops))
 
 pub core_dropped : DropLaws → (old : Core) (slots : EntrySlots) {before after : Aside}
-    {words windows : List ℕ} (wanted : Option Pattern) (from size t : ℕ)
-    → entries old.slots ≡ entries_of (cache_of old) → IsSound (entries old.slots) words windows
-    → from ≤ (entries old.slots).conf.slots
+    (wanted : Option Pattern) (from size t : ℕ) → entries old.slots ≡ entries_of (cache_of old)
     → Drops (entries old.slots) (entries slots) before after t (chunk_rows wanted t (uncounted (entries old.slots)) from size)
     → (later : Aside) → Goes after later
     → entries slots ≡ entries_of (chunk_dropped (held_blocks later) wanted from size t (cache_of old))
-core_dropped laws old slots {before} {after} {words} {windows} wanted from size t whole sound low drops later on =
+core_dropped laws old slots {before} {after} wanted from size t whole drops later on =
     let s = entries old.slots in
-    let held = held_blocks later in
-    let pass = is_in_chunk wanted t (uncounted s) from size in
-    let ordered = subst (λ l. Drops s (entries slots) before after t l) (chunk_ordered wanted t s from size low) drops in
-    laws.later s (entries slots) before after later t (in_slot_order s.conf (filter pass s.rows)) ordered on
-    ∙ (laws.order s words windows held t pass sound
-    ∙ ap (λ (x : Entries). dropped_in held t (is_in_chunk wanted t (uncounted x) from size) x) whole)
+    laws.later s (entries slots) before after later t (chunk_rows wanted t (uncounted s) from size) drops on
+    ∙ ap (λ (x : Entries). dropped_rows (held_blocks later) t (chunk_rows wanted t (uncounted x) from size) x) whole
 
 -- what a core is whose entries are those of that cache
 pub record IsDropped (core : Core) (gone : Cache) : Type 0 where

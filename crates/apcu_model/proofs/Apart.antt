@@ -1,16 +1,19 @@
 -- No two rows with one key, and nothing that is held.
-use Rattle.std.proofs.Common.{◌≡◌, ℕ, zero, suc, ◌<◌, Bool, true, false, cond, not, ◌&&◌, List, [], ◌∷◌, ◌++◌, length, get_or, set, map, filter, refl, sym, ap, ◌∙◌, subst, arith}
-use Rattle.std.specs.List.{list_any}
-use Rattle.std.proofs.lemmas.Bool.{and_parts, and_from, not-true, not_from_false, false≢true, false_from_ne_true, or_parts, or_from}
+use Rattle.std.proofs.Common.{◌≡◌, ℕ, zero, suc, ◌<◌, ◌≤◌, inl, inr, ap₂, Bool, true, false, cond, not, ◌&&◌, List, [], ◌∷◌, ◌++◌, length, get_or, set, map, filter, refl, sym, ap, ◌∙◌, subst, arith}
+use Rattle.std.specs.List.{Contains, list_any}
+use Rattle.std.proofs.lemmas.Bool.{cases_Bool, and_parts, and_from, not-true, not_from_false, false≢true, false_from_ne_true, or_parts, or_from}
 use Rattle.std.proofs.lemmas.List.Folds.{list_any-append, list_any_at}
 use Rattle.std.proofs.lemmas.Slice.Eq.{bytes_eq-Decides}
 use Rattle.apcu_model.specs.declared.state.State.{State}
 use Rattle.php_graph.specs.declared.kind.Kind.{Kind}
 use Rattle.apcu_model.specs.Cache.{Row, Cache, risen, has_key}
-use Rattle.apcu_model.specs.Change.{is_held, dropped, with_row, placed}
+use Rattle.apcu_model.specs.Change.{expired_in, is_among, is_held, dropped, leaving, left_of, with_row, placed}
+use Rattle.apcu_model.specs.Facts.{among_from, among_there, leaving_from, leaving_there, one_by_key}
 use Rattle.apcu_model.specs.Expiry.{is_expired}
 use Rattle.apcu_model.specs.Lookups.{touched}
-use Rattle.apcu_model.specs.Walk.{is_in_slot, slot_of, in_slot_order}
+use Rattle.apcu_model.specs.Walk.{is_in_slot, slot_of}
+use Rattle.apcu_model.specs.declared.conf.Conf.{Conf}
+use Rattle.seg_words.specs.Members.{Contains-filter, Contains-kept, filter_alike, filter_none, filter_then}
 use Rattle.apcu_model.specs.Rows.{are_apart, touched_at, cache_in}
 
 -- nobody holds anything
@@ -18,19 +21,41 @@ pub none_held : (rows : List Row) → filter (is_held []) rows ≡ []
 none_held [] = refl
 none_held (row ∷ rows) = none_held rows
 
--- no row is left
-pub none_left : (rows : List Row) → filter (λ row. false) rows ≡ []
-none_left [] = refl
-none_left (row ∷ rows) = none_left rows
+-- the rows that are left where those that pass have gone
+pub left_is : (pass : Row → Bool) (gone rows : List Row) → are_apart rows ≡ true → ((row : Row) → Contains gone row → Contains rows row × (pass row ≡ true)) → ((row : Row) → Contains rows row → pass row ≡ true → Contains gone row)
+    → left_of gone rows ≡ filter (λ row. not (pass row)) rows
+left_is pass gone rows apart from there =
+    filter_alike (λ (row : Row). not (is_among gone row)) (λ (row : Row). not (pass row)) rows
+    (λ row c. ap not (elim (cases_Bool (pass row)) [
+      | inl is ↦ among_there gone row (there row c is) ∙ sym is
+      | inr isnt ↦ false_from_ne_true (is_among gone row) (λ h.
+          let r = among_from gone row h in
+          let f = from r.0 r.1 in
+          false≢true (sym isnt ∙ (ap pass (sym (one_by_key rows r.0 row apart f.0 c r.2)) ∙ f.1))) ∙ sym isnt
+    ]))
 
-pub dropped_in : (t : ℕ) (pass : Row → Bool) (c : Cache) → dropped [] t pass (record c { removed = [] }) ≡ record c { rows = filter (λ row. not (pass row)) c.rows; removed = [] }
-dropped_in t pass c =
-    ap
-    (λ (removed : List Row). let d : Cache = record c { rows = filter (λ row. not (pass row)) c.rows; removed = removed } in d)
-    (ap (map {A = Row} {B = Row} (λ row. record row { dtime = t })) (none_held (in_slot_order c.conf (filter pass c.rows))))
+pub left_passing : (pass : Row → Bool) (rows : List Row) → are_apart rows ≡ true → left_of (filter pass rows) rows ≡ filter (λ row. not (pass row)) rows
+left_passing pass rows apart = left_is pass (filter pass rows) rows apart (Contains-filter pass rows) (Contains-kept pass rows)
 
-pub dropped_of : (t : ℕ) (pass : Row → Bool) (s : State) → dropped [] t pass (cache_in s) ≡ record (cache_in s) { rows = filter (λ row. not (pass row)) s.rows.items }
-dropped_of t pass s = dropped_in t pass (cache_in s)
+pub left_in_order : (conf : Conf) (pass : Row → Bool) (rows : List Row) → are_apart rows ≡ true → 2 ≤ conf.slots → left_of (leaving conf (filter pass rows)) rows ≡ filter (λ row. not (pass row)) rows
+left_in_order conf pass rows apart good =
+    left_is pass (leaving conf (filter pass rows)) rows apart
+    (λ row c. Contains-filter pass rows row (leaving_from conf (filter pass rows) row c))
+    (λ row c is. leaving_there conf (filter pass rows) row good (Contains-kept pass rows row c is))
+
+-- no row is left where all have gone
+pub left_none : (conf : Conf) (rows : List Row) → 2 ≤ conf.slots → left_of (leaving conf rows) rows ≡ []
+left_none conf rows good = filter_none (λ (row : Row). not (is_among (leaving conf rows) row)) rows (λ row c. ap not (among_there (leaving conf rows) row (leaving_there conf rows row good c)))
+
+pub dropped_in : (t : ℕ) (gone left : List Row) (c : Cache) → left_of gone c.rows ≡ left → dropped [] t gone (record c { removed = [] }) ≡ record c { rows = left; removed = [] }
+dropped_in t gone left c are =
+    ap₂
+    (λ (rows removed : List Row). let d : Cache = record c { rows = rows; removed = removed } in d)
+    are
+    (ap (map {A = Row} {B = Row} (λ row. record row { dtime = t })) (none_held gone))
+
+pub dropped_of : (t : ℕ) (gone left : List Row) (s : State) → left_of gone s.rows.items ≡ left → dropped [] t gone (cache_in s) ≡ record (cache_in s) { rows = left }
+dropped_of t gone left s are = dropped_in t gone left (cache_in s) are
 
 -- the rows that are left where expired rows of a slot are dropped
 abbrev pub fresh_rows : State → ℕ → ℕ → List Row
@@ -51,16 +76,24 @@ new_row s key graph ttl t n place = record {
   number = s.next_number;
 }
 
-pub placed_of : (key : List ℕ) (graph : List Kind) (ttl t n place : ℕ) (s : State) → placed [] key graph ttl t n (cache_in s) place ≡ record (cache_in s) { rows = with_row (new_row s key graph ttl t n place) (fresh_rows s (slot_of s.conf key) t); next_number = risen s.next_number; inserts = risen s.inserts }
-placed_of key graph ttl t n place s =
+-- they are those that are left where the expired ones of the slot have gone
+left_fresh : (slot t : ℕ) (s : State) → are_apart s.rows.items ≡ true → left_of (expired_in s.conf t slot s.rows.items) s.rows.items ≡ fresh_rows s slot t
+left_fresh slot t s apart =
+    let pass : Row → Bool = λ row. is_in_slot s.conf slot row && is_expired s.conf t row in
+    ap (λ gone. left_of gone s.rows.items) (filter_then (is_in_slot s.conf slot) (is_expired s.conf t) s.rows.items) ∙ left_passing pass s.rows.items apart
+
+pub placed_of : (key : List ℕ) (graph : List Kind) (ttl t n place : ℕ) (s : State) → are_apart s.rows.items ≡ true → placed [] key graph ttl t n (cache_in s) place ≡ record (cache_in s) { rows = with_row (new_row s key graph ttl t n place) (fresh_rows s (slot_of s.conf key) t); next_number = risen s.next_number; inserts = risen s.inserts }
+placed_of key graph ttl t n place s apart =
     let new = new_row s key graph ttl t n place in
-    let fresh = fresh_rows s (slot_of s.conf key) t in
+    let slot = slot_of s.conf key in
+    let fresh = fresh_rows s slot t in
+    let old = filter (has_key key) fresh in
     ap
-    (λ (f : Cache). let c : Cache = record (dropped [] t (has_key key) f) { rows = with_row new f.rows; next_number = risen s.next_number; inserts = risen s.inserts } in c)
-    (dropped_of t (λ row. is_in_slot s.conf (slot_of s.conf key) row && is_expired s.conf t row) s)
+    (λ (f : Cache). let c : Cache = record (dropped [] t (filter (has_key key) f.rows) f) { rows = with_row new f.rows; next_number = risen s.next_number; inserts = risen s.inserts } in c)
+    (dropped_of t (expired_in s.conf t slot s.rows.items) fresh s (left_fresh slot t s apart))
     ∙ ap
     (λ (d : Cache). let c : Cache = record d { rows = with_row new fresh; next_number = risen s.next_number; inserts = risen s.inserts } in c)
-    (dropped_in t (has_key key) (record (cache_in s) { rows = fresh }))
+    (dropped_in t old (left_of old fresh) (record (cache_in s) { rows = fresh }) refl)
 
 pub key_is : (key : List ℕ) (row : Row) → has_key key row ≡ true → row.key ≡ key
 key_is key row h = (bytes_eq-Decides row.key key).0 h

@@ -1,17 +1,12 @@
 -- The counts where room is made.
 use Rattle.std.proofs.Common.{◌≡◌, ℕ, Bool, true, false, not, ◌&&◌, List, refl, sym, ap, ◌∙◌}
-use Rattle.std.specs.Prelude.{nat_lt, if◌then◌else◌}
+use Rattle.std.specs.Prelude.{if◌then◌else◌}
 use Rattle.std.proofs.lemmas.Bool.{false≢true}
 use Rattle.apcu_model.specs.Cache.{Cache, risen}
-use Rattle.apcu_model.specs.Change.{KeepsCounts, ForgetsCounts, dropped, swept, expired_dropped, expunged, has_gap, is_expunged, with_room}
-use Rattle.apcu_model.specs.Expiry.{is_expired}
+use Rattle.apcu_model.specs.Change.{KeepsCounts, ForgetsCounts, swept, expired_dropped, expunged, has_gap, is_expunged, with_room}
 
 second_keeps : (held : List ℕ) (t : ℕ) (c : Cache) → KeepsCounts c (expired_dropped held t c)
-second_keeps held t c = go (nat_lt 0 c.conf.ttl)
-  where
-    go : (b : Bool) → KeepsCounts c (if b then dropped held t (is_expired c.conf t) c else c)
-    go true = record { hits = refl; misses = refl; inserts = refl; expunges = refl }
-    go false = record { hits = refl; misses = refl; inserts = refl; expunges = refl }
+second_keeps held t c = record { hits = refl; misses = refl; inserts = refl; expunges = refl }
 
 module _ (held : List ℕ) (t : ℕ) (c first second : Cache) (one : KeepsCounts c first) (two : KeepsCounts first second) where
   pub keeps_by : (a b : Bool) → (not a && not b) ≡ false → KeepsCounts c (if a then first else if b then second else expunged held t second)

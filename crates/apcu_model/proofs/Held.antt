@@ -1,5 +1,5 @@
 -- Of the list of held places only its members count.
-use Rattle.std.proofs.Common.{◌≡◌, ℕ, ◌&&◌, Bool, true, not, if◌then◌else◌, List, ◌++◌, length, map, filter, Option, Some, None, refl, ap, ◌∙◌, ◌∷◌, []}
+use Rattle.std.proofs.Common.{◌≡◌, ℕ, ◌&&◌, Bool, true, if◌then◌else◌, List, ◌++◌, length, map, filter, Option, Some, None, refl, ap, ◌∙◌, ◌∷◌, []}
 use Rattle.std.specs.Prelude.{ℤ, false, nat_lt, is_some}
 use Rattle.php_graph.specs.declared.kind.Kind.{Kind}
 use Rattle.php_graph.specs.declared.kind.Kind.TheVariants as kinds
@@ -10,11 +10,11 @@ use Rattle.apcu_model.specs.declared.request.Request.TheVariants as request
 use Rattle.apcu_model.specs.declared.request.Reply.TheVariants.{Flag}
 use Rattle.apcu_model.specs.declared.request.StoreAnswer.TheVariants.{TooLarge, Exists, Stored}
 use Rattle.apcu_model.specs.Cache.{Row, Cache, risen, has_key, gap_of}
-use Rattle.apcu_model.specs.Expiry.{is_expired, live_row}
-use Rattle.apcu_model.specs.Walk.{is_in_slot, in_slot_order, slot_of}
-use Rattle.apcu_model.specs.Change.{Insertion, AreAlike, is_held, dropped, swept, expired_dropped, expunged, deleted, cleared, has_gap, with_room, with_row, placed, put_in, inserted}
+use Rattle.apcu_model.specs.Expiry.{live_row}
+use Rattle.apcu_model.specs.Walk.{slot_of}
+use Rattle.apcu_model.specs.Change.{Insertion, AreAlike, expired_in, is_held, leaving, left_of, spent, dropped, swept, expired_dropped, expunged, deleted, cleared, has_gap, with_room, with_row, placed, put_in, inserted}
 use Rattle.apcu_model.specs.Counters.{Count, begun, counted_at}
-use Rattle.apcu_model.specs.Chunks.{is_in_chunk}
+use Rattle.apcu_model.specs.Chunks.{chunk_rows}
 use Rattle.apcu_model.specs.Levels.{EntryLevel, Generator}
 use Rattle.apcu_model.specs.Generators.{Filling, filling_of, filled, given_by, missed_levels, looked_for, entered}
 use Rattle.apcu_model.specs.Sequential.{cache_after, reply_to, is_stored, number_reply}
@@ -23,26 +23,26 @@ module _ (held other : List ℕ) (same : AreAlike held other) where
   rows_alike : is_held held ≡ is_held other
   rows_alike = λ i (row : Row). same row.place i
 
-  dropped_alike : (t : ℕ) (pass : Row → Bool) (c : Cache) → dropped held t pass c ≡ dropped other t pass c
-  dropped_alike t pass c = ap (λ (f : Row → Bool). let x : Cache = record c {
-    rows = filter (λ row. not (pass row)) c.rows;
-    removed = c.removed ++ map {A = Row} {B = Row} (λ row. record row { dtime = t }) (filter f (in_slot_order c.conf (filter pass c.rows)));
+  dropped_alike : (t : ℕ) (gone : List Row) (c : Cache) → dropped held t gone c ≡ dropped other t gone c
+  dropped_alike t gone c = ap (λ (f : Row → Bool). let x : Cache = record c {
+    rows = left_of gone c.rows;
+    removed = c.removed ++ map {A = Row} {B = Row} (λ row. record row { dtime = t }) (filter f gone);
   } in x) rows_alike
 
   swept_alike : (c : Cache) → swept held c ≡ swept other c
   swept_alike c = ap (λ (f : Row → Bool). let x : Cache = record c { removed = filter f c.removed } in x) rows_alike
 
   expired_alike : (t : ℕ) (c : Cache) → expired_dropped held t c ≡ expired_dropped other t c
-  expired_alike t c = ap (λ (x : Cache). if nat_lt 0 c.conf.ttl then x else c) (dropped_alike t (is_expired c.conf t) c)
+  expired_alike t c = dropped_alike t (spent c.conf t c.rows) c
 
   expunged_alike : (t : ℕ) (c : Cache) → expunged held t c ≡ expunged other t c
-  expunged_alike t c = ap (λ (x : Cache). let y : Cache = record x { hits = 0; misses = 0; inserts = 0; expunges = risen c.expunges } in y) (dropped_alike t (λ row. true) c)
+  expunged_alike t c = ap (λ (x : Cache). let y : Cache = record x { hits = 0; misses = 0; inserts = 0; expunges = risen c.expunges } in y) (dropped_alike t (leaving c.conf c.rows) c)
 
   deleted_alike : (key : List ℕ) (t : ℕ) (c : Cache) → deleted held key t c ≡ deleted other key t c
-  deleted_alike key t c = ap (λ (x : Cache). if is_some (live_row key t c) then x else c) (dropped_alike t (has_key key) c)
+  deleted_alike key t c = ap (λ (x : Cache). if is_some (live_row key t c) then x else c) (dropped_alike t (filter (has_key key) c.rows) c)
 
   cleared_alike : (t : ℕ) (c : Cache) → cleared held t c ≡ cleared other t c
-  cleared_alike t c = ap (λ (x : Cache). let y : Cache = record x { hits = 0; misses = 0; inserts = 0; expunges = 0 } in y) (dropped_alike t (λ row. true) c)
+  cleared_alike t c = ap (λ (x : Cache). let y : Cache = record x { hits = 0; misses = 0; inserts = 0; expunges = 0 } in y) (dropped_alike t (leaving c.conf c.rows) c)
 
   room_alike : (n t : ℕ) (c : Cache) → with_room held n t c ≡ with_room other n t c
   room_alike n t c =
@@ -52,10 +52,11 @@ module _ (held other : List ℕ) (same : AreAlike held other) where
 
   placed_alike : (key : List ℕ) (graph : List Kind) (ttl t n : ℕ) (c : Cache) (place : ℕ) → placed held key graph ttl t n c place ≡ placed other key graph ttl t n c place
   placed_alike key graph ttl t n c place =
-      let pass : Row → Bool = λ row. is_in_slot c.conf (slot_of c.conf key) row && is_expired c.conf t row in
+      let gone = expired_in c.conf t (slot_of c.conf key) c.rows in
+      let fresh = dropped other t gone c in
       let new : Row = record { key = key; graph = graph; ttl = ttl; ctime = t; mtime = t; atime = t; dtime = 0; hits = 0; place = place; size = n; number = c.next_number } in
-      ap (λ (fresh : Cache). let x : Cache = record (dropped held t (has_key key) fresh) { rows = with_row new fresh.rows; next_number = risen c.next_number; inserts = risen c.inserts } in x) (dropped_alike t pass c)
-      ∙ ap (λ (y : Cache). let x : Cache = record y { rows = with_row new (dropped other t pass c).rows; next_number = risen c.next_number; inserts = risen c.inserts } in x) (dropped_alike t (has_key key) (dropped other t pass c))
+      ap (λ (fresh : Cache). let x : Cache = record (dropped held t (filter (has_key key) fresh.rows) fresh) { rows = with_row new fresh.rows; next_number = risen c.next_number; inserts = risen c.inserts } in x) (dropped_alike t gone c)
+      ∙ ap (λ (y : Cache). let x : Cache = record y { rows = with_row new fresh.rows; next_number = risen c.next_number; inserts = risen c.inserts } in x) (dropped_alike t (filter (has_key key) fresh.rows) fresh)
 
   put_alike : (key : List ℕ) (graph : List Kind) (ttl t n : ℕ) (c : Cache) (place : Option ℕ) → put_in held key graph ttl t n c place ≡ put_in other key graph ttl t n c place
   put_alike key graph ttl t n c None = refl
@@ -93,7 +94,7 @@ module _ (held other : List ℕ) (same : AreAlike held other) where
   cache_alike t (request.CacheInfo limited) c = refl
   cache_alike t (request.SmaInfo limited) c = refl
   cache_alike t (request.Chunk wanted from size list fields) c = refl
-  cache_alike t (request.ChunkDelete wanted from size) c = dropped_alike t (is_in_chunk wanted t c from size) c
+  cache_alike t (request.ChunkDelete wanted from size) c = dropped_alike t (chunk_rows wanted t c from size) c
   cache_alike t (request.Totals wanted list) c = refl
   cache_alike t request.Retire c = refl
 

@@ -3,10 +3,10 @@ pub mod Apart
 pub mod Counting
 pub mod OneKey
 pub mod Scalars
-pub mod Ordering
 pub mod Held
 pub mod Histories
 pub mod Numbering
+pub mod Windows
 pub mod Origins
 mod Tellings
 mod Laying

@@ -11,17 +11,17 @@ use Rattle.apcu_model.specs.declared.request.Request.{Request}
 use Rattle.apcu_model.specs.declared.request.Request.TheVariants as request
 use Rattle.apcu_model.specs.declared.request.StoreAnswer.TheVariants as answers
 use Rattle.apcu_model.specs.Cache.{Row, Cache, has_key, gap_of}
-use Rattle.apcu_model.specs.Change.{dropped, swept, expired_dropped, expunged, cleared, has_gap, with_room, with_row, put_in, inserted}
-use Rattle.apcu_model.specs.Chunks.{is_in_chunk}
+use Rattle.apcu_model.specs.Change.{dropped, expired_in, is_among, leaving, spent, swept, expired_dropped, expunged, cleared, has_gap, with_room, with_row, put_in, inserted}
+use Rattle.apcu_model.specs.Chunks.{chunk_rows}
 use Rattle.apcu_model.specs.Counters.{integer_in, with_integer_at, integer_set, with_integer, sum_of, counted_on, counted_at, is_expected}
-use Rattle.apcu_model.specs.Expiry.{is_expired, live_row}
+use Rattle.apcu_model.specs.Expiry.{live_row}
 use Rattle.apcu_model.specs.Generators.{filled, given_by, missed_levels, looked_for}
 use Rattle.apcu_model.specs.History.{Stage, start_of, stage_of, held_places, after_event, after_events}
 use Rattle.apcu_model.specs.Levels.{EntryLevel}
 use Rattle.apcu_model.specs.Lookups.{looked_up, touched}
 use Rattle.apcu_model.specs.Rows.{are_apart, touched_at}
 use Rattle.apcu_model.specs.Sequential.{cache_after}
-use Rattle.apcu_model.specs.Walk.{is_in_slot, slot_of}
+use Rattle.apcu_model.specs.Walk.{slot_of}
 use Rattle.apcu_model.proofs.Apart.{are_apart-filter, are_apart-map, are_apart-with_row, touched_key}
 use Rattle.apcu_model.proofs.Scalars.{set_key}
 
@@ -41,17 +41,17 @@ either false c x y f g = g
 
 -- ---- rows leave
 
-kept_dropped : (held : List ℕ) (t : ℕ) (pass : Row → Bool) (c : Cache) → Keeps c (dropped held t pass c)
-kept_dropped held t pass c = record { shape = refl; apart = are_apart-filter (λ row. not (pass row)) c.rows }
+kept_dropped : (held : List ℕ) (t : ℕ) (gone : List Row) (c : Cache) → Keeps c (dropped held t gone c)
+kept_dropped held t gone c = record { shape = refl; apart = are_apart-filter (λ row. not (is_among gone row)) c.rows }
 
 kept_expired : (held : List ℕ) (t : ℕ) (c : Cache) → Keeps c (expired_dropped held t c)
-kept_expired held t c = either (nat_lt 0 c.conf.ttl) c (dropped held t (is_expired c.conf t) c) c (kept_dropped held t (is_expired c.conf t) c) (same c)
+kept_expired held t c = kept_dropped held t (spent c.conf t c.rows) c
 
 kept_expunged : (held : List ℕ) (t : ℕ) (c : Cache) → Keeps c (expunged held t c)
-kept_expunged held t c = let d = kept_dropped held t (λ row. true) c in record { shape = d.shape; apart = d.apart }
+kept_expunged held t c = let d = kept_dropped held t (leaving c.conf c.rows) c in record { shape = d.shape; apart = d.apart }
 
 kept_cleared : (held : List ℕ) (t : ℕ) (c : Cache) → Keeps c (cleared held t c)
-kept_cleared held t c = let d = kept_dropped held t (λ row. true) c in record { shape = d.shape; apart = d.apart }
+kept_cleared held t c = let d = kept_dropped held t (leaving c.conf c.rows) c in record { shape = d.shape; apart = d.apart }
 
 kept_room : (held : List ℕ) (n t : ℕ) (c : Cache) → Keeps c (with_room held n t c)
 kept_room held n t c =
@@ -67,9 +67,10 @@ kept_room held n t c =
 kept_put : (held key : List ℕ) (graph : List Kind) (ttl t n : ℕ) (c : Cache) (place : Option ℕ) → Keeps c (put_in held key graph ttl t n c place).cache
 kept_put held key graph ttl t n c None = same c
 kept_put held key graph ttl t n c (Some place) =
-    let fresh = dropped held t (λ row. is_in_slot c.conf (slot_of c.conf key) row && is_expired c.conf t row) c in
+    let gone = expired_in c.conf t (slot_of c.conf key) c.rows in
+    let fresh = dropped held t gone c in
     let new : Row = record { key = key; graph = graph; ttl = ttl; ctime = t; mtime = t; atime = t; dtime = 0; hits = 0; place = place; size = n; number = c.next_number } in
-    let f = kept_dropped held t (λ row. is_in_slot c.conf (slot_of c.conf key) row && is_expired c.conf t row) c in
+    let f = kept_dropped held t gone c in
     record { shape = refl; apart = λ a. are_apart-with_row new fresh.rows (f.apart a) }
 
 kept_inserted : (held key : List ℕ) (graph : List Kind) (ttl : ℕ) (exclusive : Bool) (t : ℕ) (c : Cache) → Keeps c (inserted held key graph ttl exclusive t c).cache
@@ -123,7 +124,9 @@ pub kept_after : (held : List ℕ) (t : ℕ) (r : Request) (c : Cache) → Keeps
 kept_after held t (request.Store key graph ttl exclusive) c = kept_inserted held key graph ttl exclusive t c
 kept_after held t (request.Fetch key) c = kept_looked key t (live_row key t c) c
 kept_after held t (request.Exists key) c = same c
-kept_after held t (request.Delete key) c = either (is_some (live_row key t c)) c (dropped held t (has_key key) c) c (kept_dropped held t (has_key key) c) (same c)
+kept_after held t (request.Delete key) c =
+    let gone = filter (has_key key) c.rows in
+    either (is_some (live_row key t c)) c (dropped held t gone c) c (kept_dropped held t gone c) (same c)
 kept_after held t (request.Inc key step ttl) c = kept_counted held key step ttl t c (live_row key t c)
 kept_after held t (request.Cas key expect set) c = either (is_expected expect (live_row key t c)) c (integer_set key set t c) c (kept_set key set t c) (same c)
 kept_after held t (request.Entry g) c =
@@ -135,7 +138,7 @@ kept_after held t (request.KeyInfo key) c = same c
 kept_after held t (request.CacheInfo limited) c = same c
 kept_after held t (request.SmaInfo limited) c = same c
 kept_after held t (request.Chunk wanted from size list fields) c = same c
-kept_after held t (request.ChunkDelete wanted from size) c = kept_dropped held t (is_in_chunk wanted t c from size) c
+kept_after held t (request.ChunkDelete wanted from size) c = kept_dropped held t (chunk_rows wanted t c from size) c
 kept_after held t (request.Totals wanted list) c = same c
 kept_after held t request.Retire c = same c
 

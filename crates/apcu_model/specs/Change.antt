@@ -1,6 +1,6 @@
 -- How rows leave a cache, how room is made, and how a row comes in. `held` is the list of the
 -- places of blocks that somebody copies: a row that is held keeps its block when it is dropped.
-use Rattle.std.specs.Prelude.{◌≡◌, ℕ, ◌==◌, ◌&&◌, not, nat_lt, Bool, true, if◌then◌else◌, List}
+use Rattle.std.specs.Prelude.{◌≡◌, ℕ, ◌==◌, ◌&&◌, not, nat_lt, Bool, if◌then◌else◌, List}
 use Rattle.std.specs.Prelude.{[], ◌∷◌, ◌++◌, length, map, filter, Option, Some, None, is_some}
 use Rattle.std.specs.List.{list_any}
 use Rattle.php_graph.specs.declared.kind.Kind.{Kind}
@@ -22,34 +22,46 @@ abbrev pub AreAlike : List ℕ → List ℕ → Type 0
 AreAlike held other =
     (at : ℕ) → list_any (λ place. place == at) held ≡ list_any (λ place. place == at) other
 
--- which rows go, and in which order: those that pass, by slot and place
-abbrev pub leaving : Conf → (Row → Bool) → List Row → List Row
-leaving conf pass rows = in_slot_order conf (filter pass rows)
+-- the order in which rows go: by slot and place
+unfoldable pub leaving : Conf → List Row → List Row
+leaving conf rows = in_slot_order conf rows
+
+-- a row of the same key is one of these
+unfoldable pub is_among : List Row → Row → Bool
+is_among gone row = list_any (has_key row.key) gone
+
+-- the rows that are left when these have gone
+abbrev pub left_of : List Row → List Row → List Row
+left_of gone rows = filter (λ row. not (is_among gone row)) rows
 
 -- the removed rows when these have gone: those of them that are held come last, with the time
 abbrev pub removed_with : List ℕ → ℕ → List Row → List Row → List Row
 removed_with held t gone removed =
     removed ++ map {A = Row} (λ row. record row { dtime = t }) (filter (is_held held) gone)
 
--- The rows that pass leave the rows. Those of them that are held become removed rows; the others
--- are gone, and so are their blocks.
-abbrev pub dropped : List ℕ → ℕ → (Row → Bool) → Cache → Cache
-dropped held t pass c = record c {
-  rows = filter (λ row. not (pass row)) c.rows;
-  removed = removed_with held t (leaving c.conf pass c.rows) c.removed;
+-- These rows leave the rows, one after the other. Those of them that are held become removed rows;
+-- the others are gone, and so are their blocks.
+abbrev pub dropped : List ℕ → ℕ → List Row → Cache → Cache
+dropped held t gone c = record c {
+  rows = left_of gone c.rows;
+  removed = removed_with held t gone c.removed;
 }
 
 -- the removed rows that nobody copies any more are gone
 abbrev pub swept : List ℕ → Cache → Cache
 swept held c = record c { removed = filter (is_held held) c.removed }
 
--- all expired rows are dropped, where the cache has a time limit. No count changes
+-- which rows go where room is wanted: all expired ones, where the cache has a time limit
+abbrev pub spent : Conf → ℕ → List Row → List Row
+spent conf t rows = if nat_lt 0 conf.ttl then leaving conf (filter (is_expired conf t) rows) else []
+
+-- they are dropped, and no count changes
 abbrev pub expired_dropped : List ℕ → ℕ → Cache → Cache
-expired_dropped held t c = if nat_lt 0 c.conf.ttl then dropped held t (is_expired c.conf t) c else c
+expired_dropped held t c = dropped held t (spent c.conf t c.rows) c
 
 -- all rows are dropped, and what was counted since the last time is forgotten
 abbrev pub expunged : List ℕ → ℕ → Cache → Cache
-expunged held t c = record (dropped held t (λ row. true) c) {
+expunged held t c = record (dropped held t (leaving c.conf c.rows) c) {
   hits = 0;
   misses = 0;
   inserts = 0;
@@ -58,11 +70,12 @@ expunged held t c = record (dropped held t (λ row. true) c) {
 
 -- the row that a look-up of the key finds is dropped
 abbrev pub deleted : List ℕ → List ℕ → ℕ → Cache → Cache
-deleted held key t c = if is_some (live_row key t c) then dropped held t (has_key key) c else c
+deleted held key t c =
+    if is_some (live_row key t c) then dropped held t (filter (has_key key) c.rows) c else c
 
 -- all rows are dropped, and every count is forgotten
 abbrev pub cleared : List ℕ → ℕ → Cache → Cache
-cleared held t c = record (dropped held t (λ row. true) c) {
+cleared held t c = record (dropped held t (leaving c.conf c.rows) c) {
   hits = 0;
   misses = 0;
   inserts = 0;
@@ -111,13 +124,15 @@ pub record Insertion : Type 0 where
   pub answer : StoreAnswer
   pub cache : Cache
 
+-- the expired rows of a slot
+abbrev pub expired_in : Conf → ℕ → ℕ → List Row → List Row
+expired_in conf t slot rows = filter (is_expired conf t) (filter (is_in_slot conf slot) rows)
+
 -- A new row at a place where it fits: the expired rows of its slot are dropped, and so is the old
 -- row of its key, in whose place it stands.
 abbrev pub placed : List ℕ → List ℕ → List Kind → ℕ → ℕ → ℕ → Cache → ℕ → Cache
 placed held key graph ttl t n c place =
-    let fresh =
-    dropped held t
-    (λ row. is_in_slot c.conf (slot_of c.conf key) row && is_expired c.conf t row) c in
+    let fresh = dropped held t (expired_in c.conf t (slot_of c.conf key) c.rows) c in
     let new : Row = record {
       key = key;
       graph = graph;
@@ -131,7 +146,7 @@ placed held key graph ttl t n c place =
       size = n;
       number = c.next_number;
     } in
-    record (dropped held t (has_key key) fresh) {
+    record (dropped held t (filter (has_key key) fresh.rows) fresh) {
       rows = with_row new fresh.rows;
       next_number = risen c.next_number;
       inserts = risen c.inserts;

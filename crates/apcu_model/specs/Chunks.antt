@@ -1,5 +1,5 @@
 -- What an iterator gives, step by step, and what its relatives answer.
-use Rattle.std.specs.Prelude.{ℕ, ◌-◌, ◌^◌, ◌==◌, ◌&&◌, not, nat_le, nat_lt, min, Bool}
+use Rattle.std.specs.Prelude.{ℕ, ◌-◌, ◌^◌, ◌==◌, ◌&&◌, not, nat_le, min, Bool}
 use Rattle.std.specs.Prelude.{if◌then◌else◌, List, length, map, filter, sum_by, Option, Some, None}
 use Rattle.std.specs.Prelude.{unwrap_or, find}
 use Rattle.std.specs.Int.{bit_at}
@@ -17,7 +17,7 @@ use Rattle.apcu_model.specs.Expiry.{is_hard_expired}
 use Rattle.apcu_model.specs.Change.{dropped}
 use Rattle.apcu_model.specs.Infos.{word_bytes}
 use Rattle.apcu_model.specs.Matching.{key_matches}
-use Rattle.apcu_model.specs.Walk.{is_in_slot, slot_of}
+use Rattle.apcu_model.specs.Walk.{is_in_slot}
 
 -- the value is asked for
 abbrev pub tells_value : Fields → Bool
@@ -66,12 +66,6 @@ abbrev pub chunk_rows : Option Pattern → ℕ → Cache → ℕ → ℕ → Lis
 chunk_rows wanted t c from size =
     items_between wanted t c from (chunk_end wanted t c from size)
 
--- the row is one of those
-abbrev pub is_in_chunk : Option Pattern → ℕ → Cache → ℕ → ℕ → Row → Bool
-is_in_chunk wanted t c from size row =
-    is_item wanted t row && nat_le from (slot_of c.conf row.key)
-    && nat_lt (slot_of c.conf row.key) (chunk_end wanted t c from size)
-
 -- ---- the removed rows
 
 -- those whose keys match, in the order in which they were dropped
@@ -93,7 +87,7 @@ chunk_of wanted from size Deleted fields t c = record {
 
 -- the rows of a step over the active rows are dropped
 abbrev pub chunk_dropped : List ℕ → Option Pattern → ℕ → ℕ → ℕ → Cache → Cache
-chunk_dropped held wanted from size t c = dropped held t (is_in_chunk wanted t c from size) c
+chunk_dropped held wanted from size t c = dropped held t (chunk_rows wanted t c from size) c
 
 -- all rows that an iterator goes over
 abbrev pub all_items : Option Pattern → Which → ℕ → Cache → List Row

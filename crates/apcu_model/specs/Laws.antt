@@ -6,12 +6,15 @@ use Rattle.apcu_model.specs.Generators.{entered}
 use Rattle.apcu_model.specs.History.{Stage, after_event, after_events, all_legal, are_shallow}
 use Rattle.apcu_model.specs.History.{is_legal_mask, is_shallow, mark_of, marks_of, stage_of}
 use Rattle.apcu_model.specs.Levels.{Generator}
+use Rattle.apcu_model.specs.Numbers.{AreBelow, IsIn, IsStill, KeepsNumbers}
 use Rattle.apcu_model.specs.Rows.{are_apart}
 use Rattle.apcu_model.specs.Sequential.{cache_after, reply_to}
 use Rattle.apcu_model.specs.declared.conf.Conf.{Conf}
 use Rattle.apcu_model.specs.declared.event.Event.{Event}
+use Rattle.apcu_model.specs.declared.journal.TheConstants.{MOST_EVENTS}
 use Rattle.apcu_model.specs.declared.request.Request.{Request}
-use Rattle.std.specs.Prelude.{Bool, List, [], false, filter, map, true, ℕ, ◌&&◌, ◌++◌, ◌∷◌, ◌≡◌}
+use Rattle.std.specs.Prelude.{Bool, List, [], false, filter, length, map, true, ℕ, ◌&&◌, ◌+◌}
+use Rattle.std.specs.Prelude.{◌++◌, ◌∷◌, ◌≡◌, ◌≤◌}
 
 -- what leaves rows apart, of which no two have one key
 pub record RowsStayApart : Type 0 where
@@ -63,3 +66,22 @@ pub record EventsKeep : Type 0 where
   pub conf_in : (conf : Conf) (history : List Event) → (stage_of conf history).cache.conf ≡ conf
   pub apart_in : (conf : Conf) (history : List Event)
       → are_apart (stage_of conf history).cache.rows ≡ true
+
+-- What row numbers tell in a history, and after more of its events, where all of them are shallow
+-- and at most `MOST_EVENTS`.
+pub record RowsKeepNumbers : Type 0 where
+  pub below : (conf : Conf) (history : List Event) → length history ≤ MOST_EVENTS
+      → are_shallow history ≡ true → AreBelow (stage_of conf history).cache
+  -- a number that is gone never comes back
+  pub later : (conf : Conf) (before between : List Event)
+      → length before + length between ≤ MOST_EVENTS
+      → are_shallow before ≡ true → are_shallow between ≡ true
+      → KeepsNumbers (stage_of conf before).cache
+      (after_events (stage_of conf before) between).cache
+  -- a number stands for one row, at both moments
+  pub one : (conf : Conf) (before between : List Event)
+      → length before + length between ≤ MOST_EVENTS
+      → are_shallow before ≡ true → are_shallow between ≡ true
+      → (was row : Row) → IsIn (stage_of conf before).cache was
+      → IsIn (after_events (stage_of conf before) between).cache row
+      → was.number ≡ row.number → IsStill was row

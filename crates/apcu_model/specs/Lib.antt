@@ -16,6 +16,7 @@ pub mod Matching
 pub mod Chunks
 pub mod Sequential
 pub mod History
+pub mod Numbers
 pub mod Journal
 pub mod Asking
 pub mod Laws

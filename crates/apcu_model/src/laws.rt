@@ -1,5 +1,5 @@
 ghost use Rattle.apcu_model.specs.Laws.{CountLaws, EventsKeep, HeldAlike, OneEventMore};
-ghost use Rattle.apcu_model.specs.Laws.{RowsStayApart};
+ghost use Rattle.apcu_model.specs.Laws.{RowsKeepNumbers, RowsStayApart};
 ghost use Rattle.std.specs.Prelude.{◌≡◌, ◌↔◌, ◌<◌, ◌≤◌, ◌&&◌, ℕ, Bool, true, false, List, [], ◌∷◌};
 ghost use Rattle.std.specs.Prelude.{◌++◌, length, map, filter, Contains, IsTrue};
 ghost use Rattle.apcu_model.specs.declared.conf.Conf.{Conf};
@@ -16,7 +16,6 @@ ghost use Rattle.apcu_model.specs.History.{mark_of, marks_of, stage_of};
 ghost use Rattle.apcu_model.specs.Levels.{Generator};
 ghost use Rattle.apcu_model.specs.Rows.{are_apart};
 ghost use Rattle.apcu_model.specs.Sequential.{cache_after, reply_to};
-ghost use Rattle.apcu_model.specs.Walk.{in_slot_order, slot_of};
 
 /// With a single worker nobody else copies a value: 0 is the mask of each of its events, and
 /// no block is held in them. The mask 0 is legal in every event, whoever works.
@@ -42,13 +41,6 @@ pub fn count_laws()
     ensures { CountLaws }
 {}
 
-/// Rows of one hash chain are visited in their own order.
-pub fn order_single()
-    ensures { (conf : Conf) (rows : List Row) (slot : ℕ) → slot < conf.slots
-        → ((row : Row) → Contains rows row → slot_of conf row.key ≡ slot)
-        → in_slot_order conf rows ≡ rows }
-{}
-
 /// Of the list of held places only its members count, not their order or how often they stand
 /// there.
 pub fn held_alike()
@@ -60,6 +52,15 @@ pub fn held_alike()
 pub fn numbered()
     ensures { (conf : Conf) (history : List Event) → length history ≤ MOST_EVENTS
         → are_shallow history ≡ true → IsNumbered (stage_of conf history) }
+{}
+
+/// In a history of at most `MOST_EVENTS` events, each of at most eight insertions: rows and removed
+/// rows have numbers below the next one. A number that is gone never comes back: after more events
+/// each row with a number that was given before them was there then, with its key. And a number
+/// stands for one row: two rows of one number, in the same cache or in a later one, have one key and
+/// one place.
+pub fn rows_keep_numbers()
+    ensures { RowsKeepNumbers }
 {}
 
 /// What comes of one event more.

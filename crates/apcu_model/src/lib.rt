@@ -36,8 +36,8 @@ pub use items::{Chunk, ItemRow, Items};
 pub use journal::{Journal, MOST_EVENTS, Mark};
 pub use keys::Keys;
 pub use laws::{
-    count_laws, events_keep, held_alike, numbered, one_event_more, order_single, rows_stay_apart,
-    works_alone,
+    count_laws, events_keep, held_alike, numbered, one_event_more, rows_keep_numbers,
+    rows_stay_apart, works_alone,
 };
 pub use noted::{ListedRow, Noted};
 pub use pairs::Pairs;

@@ -1,6 +1,8 @@
-//! Tests of the plain cache and of what stands beside it.
+//! Tests of the plain cache and of what stands beside it; its laws are called here too.
 #![tactic(auto)]
 
+#[cfg(test)]
+mod laws;
 #[cfg(test)]
 mod lists;
 #[cfg(test)]

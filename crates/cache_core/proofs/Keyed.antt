@@ -7,14 +7,13 @@ use Rattle.seg_words.specs.Windows.{Aside, held_blocks}
 use Rattle.seg_words.specs.Probing.{Goes}
 use Rattle.apcu_model.specs.Cache.{Row, Cache, has_key, risen}
 use Rattle.apcu_model.specs.Counters.{with_integer, with_integer_at, integer_set}
-use Rattle.apcu_model.specs.Change.{dropped, deleted, cleared}
+use Rattle.apcu_model.specs.Change.{dropped, deleted, cleared, leaving}
 use Rattle.apcu_model.specs.Expiry.{live_row}
 use Rattle.apcu_model.specs.Sequential.{touched, looked_up}
-use Rattle.apcu_model.specs.Walk.{in_slot_order}
 use Rattle.entry_slots.specs.Lists.{is_at, only_at}
 use Rattle.entry_slots.specs.Entries.{Entries, entries_of, touched_row, touched_in, number_row, with_number}
 use Rattle.entry_slots.specs.Facts.{IsSound}
-use Rattle.ttl_expunge.specs.Dropping.{dropped_in}
+use Rattle.ttl_expunge.specs.Dropping.{dropped_rows}
 use Rattle.ttl_expunge.specs.Held.{Drops}
 use Rattle.entry_slots.specs.Standing.{entries}
 use Rattle.cache_core.specs.declared.cache.Core.{Core}
@@ -22,9 +21,9 @@ use Rattle.cache_core.specs.declared.tally.Tally.{Tally}
 use Rattle.cache_core.specs.Caching.{cache_of}
 use Rattle.cache_core.specs.Laws.{CacheLaws}
 use Rattle.cache_core.proofs.Caching.{cache_made, whole_made}
-use Rattle.seg_words.specs.Members.{counted_some, count-cons, none_counted, filter_all, Contains-first, Contains-later, Contains-cases, Contains-filter, Contains-kept}
+use Rattle.seg_words.specs.Members.{counted_some, count-cons, none_counted, Contains-first, Contains-later, Contains-cases, Contains-filter, Contains-kept}
 use Rattle.entry_slots.specs.Having.{only_none}
-use Rattle.cache_core.proofs.Replacing.{IsOld, order_key}
+use Rattle.cache_core.proofs.Replacing.{IsOld}
 
 -- the row at a place where one row at most is
 only_once : (at : ℕ) (rows : List Row) (row : Row) → Contains rows row → row.place ≡ at → count_by (is_at at) rows ≤ 1 → only_at at rows ≡ row ∷ []
@@ -43,12 +42,11 @@ only_once at (r ∷ rows) row c place few = elim (Contains-cases r rows row c) [
       ap (λ b. cond b (r ∷ only_at at rows) (only_at at rows)) none ∙ only_once at rows row later place (omega (arith, few, count-cons (is_at at) r rows))
 ]
 
--- the rows that pass were dropped, by the blocks that are held later too
-pub passing_later : (laws : CacheLaws) {s new : Entries} {before after : Aside} {t : ℕ} {words windows : List ℕ} (pass : Row → Bool) (c : Cache)
-    → Drops s new before after t (in_slot_order s.conf (filter pass s.rows)) → IsSound s words windows → s ≡ entries_of c → (later : Aside) → Goes after later → new ≡ entries_of (dropped (held_blocks later) t pass c)
-passing_later laws {s} {new} {before} {after} {t} {words} {windows} pass c drops sound e later on =
-    laws.drops.later s new before after later t (in_slot_order s.conf (filter pass s.rows)) drops on
-    ∙ (laws.drops.order s words windows (held_blocks later) t pass sound ∙ ap (λ (x : Entries). dropped_in (held_blocks later) t pass x) e)
+-- the rows were dropped, by the blocks that are held later too
+pub gone_later : (laws : CacheLaws) {s new : Entries} {before after : Aside} {t : ℕ} {gone : List Row} (c : Cache) → Drops s new before after t gone → s ≡ entries_of c → (later : Aside) → Goes after later
+    → new ≡ entries_of (dropped (held_blocks later) t gone c)
+gone_later laws {s} {new} {before} {after} {t} {gone} c drops e later on =
+    laws.drops.later s new before after later t gone drops on ∙ ap (λ (x : Entries). dropped_rows (held_blocks later) t gone x) e
 
 map_alike : (f h : Row → Row) (rows : List Row) → ((row : Row) → Contains rows row → f row ≡ h row) → map f rows ≡ map h rows
 map_alike f h [] e = refl
@@ -84,10 +82,10 @@ pub core_deleted : (laws : CacheLaws) (old new : Core) {before after : Aside} {w
 core_deleted laws old new {before} {after} key t at whole o sound drops conf tally live later on =
     let s = entries old.slots in
     let only : only_at at s.rows ≡ o.row ∷ [] = only_once at s.rows o.row o.there o.place (omega (arith, sound.once at)) in
-    let keyed : Drops s (entries new.slots) before after t (in_slot_order s.conf (filter (has_key key) s.rows)) =
-    subst (λ (l : List Row). Drops s (entries new.slots) before after t l) (only ∙ (sym o.one ∙ sym (order_key laws s.conf s.rows key sound.good.slots_least))) drops in
-    let gone : Cache = dropped (held_blocks later) t (has_key key) (cache_of old) in
-    let e : entries new.slots ≡ entries_of gone = passing_later laws (has_key key) (cache_of old) keyed sound whole later on in
+    let keyed : Drops s (entries new.slots) before after t (filter (has_key key) s.rows) =
+    subst (λ (l : List Row). Drops s (entries new.slots) before after t l) (only ∙ sym o.one) drops in
+    let gone : Cache = dropped (held_blocks later) t (filter (has_key key) s.rows) (cache_of old) in
+    let e : entries new.slots ≡ entries_of gone = gone_later laws (cache_of old) keyed whole later on in
     let same : cache_of new ≡ gone = cache_made new gone e conf (record {
       hits = ap (λ (x : Tally). x.hits) tally;
       misses = ap (λ (x : Tally). x.misses) tally;
@@ -99,15 +97,14 @@ core_deleted laws old new {before} {after} key t at whole o sound drops conf tal
     )
 
 -- and once all rows were
-pub core_cleared : (laws : CacheLaws) (old new : Core) {before after : Aside} {words windows : List ℕ} (t : ℕ) → entries old.slots ≡ entries_of (cache_of old) → IsSound (entries old.slots) words windows
-    → Drops (entries old.slots) (entries new.slots) before after t (in_slot_order (entries old.slots).conf (entries old.slots).rows) → new.conf ≡ old.conf → new.tally ≡ record { hits = 0; misses = 0; inserts = 0; expunges = 0 }
+pub core_cleared : (laws : CacheLaws) (old new : Core) {before after : Aside} (t : ℕ) → entries old.slots ≡ entries_of (cache_of old)
+    → Drops (entries old.slots) (entries new.slots) before after t (leaving (entries old.slots).conf (entries old.slots).rows) → new.conf ≡ old.conf → new.tally ≡ record { hits = 0; misses = 0; inserts = 0; expunges = 0 }
     → (later : Aside) → Goes after later → (cache_of new ≡ cleared (held_blocks later) t (cache_of old)) × (entries new.slots ≡ entries_of (cache_of new))
-core_cleared laws old new {before} {after} t whole sound drops conf tally later on =
+core_cleared laws old new {before} {after} t whole drops conf tally later on =
     let s = entries old.slots in
-    let every : Drops s (entries new.slots) before after t (in_slot_order s.conf (filter (λ row. true) s.rows)) =
-    subst (λ (l : List Row). Drops s (entries new.slots) before after t (in_slot_order s.conf l)) (sym (filter_all (λ (row : Row). true) s.rows (λ row m. refl))) drops in
     let gone : Cache = cleared (held_blocks later) t (cache_of old) in
-    let e : entries new.slots ≡ entries_of gone = passing_later laws (λ row. true) (cache_of old) every sound whole later on in
+    let order = ap (λ (x : Entries). leaving x.conf s.rows) whole in
+    let e : entries new.slots ≡ entries_of gone = gone_later laws (cache_of old) (subst (λ (l : List Row). Drops s (entries new.slots) before after t l) order drops) whole later on in
     let same : cache_of new ≡ gone = cache_made new gone e conf (record {
       hits = ap (λ (x : Tally). x.hits) tally;
       misses = ap (λ (x : Tally). x.misses) tally;

@@ -1,7 +1,7 @@
 -- The old row of a key is dropped where a new one is put.
-use Rattle.std.proofs.Common.{◌≡◌, ◌≢◌, ◌⊎◌, inl, inr, ℕ, ◌<◌, ◌≤◌, ◌%◌, ◌==◌, Bool, true, false, cond, not, ◌&&◌, ◌||◌, List, [], ◌∷◌, ◌++◌, length, map, filter, find, Option, Some, None, refl, sym, ap, ◌∙◌, subst, arith}
+use Rattle.std.proofs.Common.{◌≡◌, ◌≢◌, ◌⊎◌, inl, inr, ℕ, ◌≤◌, ◌==◌, Bool, true, false, cond, not, ◌||◌, List, [], ◌∷◌, ◌++◌, length, map, filter, find, Option, Some, None, refl, sym, ap, ◌∙◌, subst, arith}
 use Rattle.std.specs.Prelude.{option_map}
-use Rattle.std.proofs.lemmas.Bool.{and_parts, or_parts, or_left, or_right, eqb-true, eq-eqb, false≢true, false_from_ne_true, not-true}
+use Rattle.std.proofs.lemmas.Bool.{and_parts, or_parts, or_left, or_right, eq-eqb, false≢true, false_from_ne_true, not-true}
 use Rattle.std.specs.List.{Contains, list_any, count_by}
 use Rattle.std.proofs.lemmas.List.{append-nil}
 use Rattle.std.proofs.lemmas.List.Elements.{Contains-append_left, Contains-append_right, Contains-append_cases}
@@ -10,23 +10,21 @@ use Rattle.seg_words.specs.declared.extents.Extent.{Extent}
 use Rattle.seg_words.specs.Windows.{Aside, has, is_named, held_blocks}
 use Rattle.seg_words.specs.Probing.{Goes, IsDecided, Met, goes_on, goes_nowhere}
 use Rattle.php_graph.specs.declared.kind.Kind.{Kind}
-use Rattle.php_graph.specs.Numbers.{hash_of}
 use Rattle.php_graph.specs.Size.{block_size}
-use Rattle.apcu_model.specs.declared.conf.Conf.{Conf}
 use Rattle.apcu_model.specs.Cache.{Row, Cache, risen, has_key}
-use Rattle.apcu_model.specs.Change.{is_held, dropped, with_row, placed}
+use Rattle.apcu_model.specs.Change.{expired_in, is_held, dropped, with_row, placed}
 use Rattle.apcu_model.specs.Expiry.{is_expired}
 use Rattle.apcu_model.specs.Rows.{are_apart}
-use Rattle.apcu_model.specs.Walk.{slot_of, is_in_slot, in_slot_order}
+use Rattle.apcu_model.specs.Walk.{slot_of, is_in_slot}
 use Rattle.entry_slots.specs.Lists.{is_at, has_place, only_at, without_place}
 use Rattle.entry_slots.specs.Entries.{Entries, entries_of, chain_of, with_taken, linked, fresh_row, freed_at, removed_at, found_place, old_place}
 use Rattle.entry_slots.specs.Facts.{IsSound}
 use Rattle.ttl_expunge.specs.Held.{AreRemoved, AreHeld, KeepsOpen, Drops}
-use Rattle.ttl_expunge.specs.Dropping.{dropped_in, dropped_rows}
+use Rattle.ttl_expunge.specs.Dropping.{dropped_rows}
 use Rattle.cache_core.specs.Laws.{CacheLaws}
 use Rattle.cache_core.specs.Placing.{replaced_in, Replaces, Puts}
 use Rattle.std.proofs.lemmas.List.Folds.{list_any-append}
-use Rattle.seg_words.specs.Members.{counted_some, none_counted, filter_then, Contains-first, Contains-later, Contains-cases, Contains-filter, Contains-kept, Contains-map}
+use Rattle.seg_words.specs.Members.{counted_some, none_counted, Contains-first, Contains-later, Contains-cases, Contains-filter, Contains-kept, Contains-map}
 use Rattle.entry_slots.specs.Having.{place_there, without_none, only_none}
 use Rattle.apcu_model.specs.Facts.{held_is, dated, dated_held}
 use Rattle.ttl_expunge.specs.Decided.{same_held}
@@ -200,23 +198,6 @@ replaces_old {s} {new} {before} {after} {old} at key graph ttl t o met was now =
 pub old_fresh : {s : Entries} {aside : Aside} {key : List ℕ} {old : ℕ} → IsOld s key old → AreRemoved aside s.removed → has old aside.refused ≡ false
 old_fresh {aside = aside} {old = old} o was = false_from_ne_true (has old aside.refused) (λ r. false≢true (sym o.removed ∙ was.each old r))
 
-slot_low : (hash slots : ℕ) → 0 < slots → hash % slots < slots
-slot_low hash slots some = omega arith
-
--- the expired rows of one slot
-pub order_chain : (laws : CacheLaws) (s : Entries) (t slot : ℕ) → slot < s.conf.slots
-    → filter (is_expired s.conf t) (chain_of s slot) ≡ in_slot_order s.conf (filter (λ row. is_in_slot s.conf slot row && is_expired s.conf t row) s.rows)
-order_chain laws s t slot low =
-    let pass : Row → Bool = λ row. is_in_slot s.conf slot row && is_expired s.conf t row in
-    filter_then (is_in_slot s.conf slot) (is_expired s.conf t) s.rows
-    ∙ sym (laws.single s.conf (filter pass s.rows) slot low (λ row c. eqb-true (slot_of s.conf row.key) slot (and_parts (is_in_slot s.conf slot row) (is_expired s.conf t row) (Contains-filter pass s.rows row c).1).0))
-
--- the row of a key, in the order of slots
-pub order_key : (laws : CacheLaws) (conf : Conf) (rows : List Row) (key : List ℕ) → 2 ≤ conf.slots → in_slot_order conf (filter (has_key key) rows) ≡ filter (has_key key) rows
-order_key laws conf rows key some =
-    laws.single conf (filter (has_key key) rows) (slot_of conf key) (slot_low (hash_of key) conf.slots (omega (arith, some)))
-    (λ row c. ap (slot_of conf) (key_is key row (Contains-filter (has_key key) rows row c).1))
-
 with_keeps : (new : Row) (rows : List Row) (row : Row) → Contains rows row → has_key new.key row ≡ false → Contains (with_row new rows) row
 with_keeps new rows row c other = go (list_any (has_key new.key) rows)
   where
@@ -262,8 +243,8 @@ replaces_held {s} {new} {before} {after} {at} {key} {graph} {ttl} {t} r was = re
       ];
 }
 
-closed : (s : Entries) (removed removed' : List Row) (taken : List Extent) → removed ≡ removed' → taken ≡ [] → ◌≡◌ {A = Entries} (record s { removed = removed; taken = taken }) (record s { removed = removed'; taken = [] })
-closed s removed removed' taken p q = cc (p, q)
+closed : (s : Entries) (taken : List Extent) → taken ≡ [] → ◌≡◌ {A = Entries} (record s { taken = taken }) (record s { taken = [] })
+closed s taken q = ap (λ l. let x : Entries = record s { taken = l } in x) q
 
 -- the whole insertion
 pub puts_from : (laws : CacheLaws) {s0 s1 s2 : Entries} {a0 a1 a2 : Aside} {words windows : List ℕ} (at : ℕ) (key : List ℕ) (graph : List Kind) (ttl t slot : ℕ) → IsSound s0 words windows → slot ≡ slot_of s0.conf key
@@ -281,28 +262,19 @@ puts_from laws {s0} {s1} {s2} {a0} {a1} {a2} {words} {windows} at key graph ttl 
     n : ℕ
     n = block_size (length key) graph
 
-    low : slot < s0.conf.slots
-    low = subst (λ k. k < s0.conf.slots) (sym is) (slot_low (hash_of key) s0.conf.slots (omega (arith, sound.good.slots_least)))
-
     placed_is : (c : Cache) (later : Aside) → s0 ≡ with_taken at n (entries_of c) → Goes a2 later → s2 ≡ entries_of (placed (held_blocks later) key graph ttl t n c at)
     placed_is c later e on =
         let held = held_blocks later in
         let on1 = goes_on a1 a2 later rep.goes on in
-        let fresh : Cache = dropped held t (λ row. is_in_slot c.conf (slot_of c.conf key) row && is_expired c.conf t row) c in
-        let conf : s0.conf ≡ c.conf = ap (λ (x : Entries). x.conf) e in
+        let fresh : Cache = dropped held t (expired_in c.conf t (slot_of c.conf key) c.rows) c in
         let first : s1 ≡ with_taken at n (entries_of fresh) =
         laws.drops.later s0 s1 a0 a1 later t (filter (is_expired s0.conf t) (chain_of s0 slot)) drops on1
-        ∙ (ap (λ l. dropped_rows held t l s0) (order_chain laws s0 t slot low)
-        ∙ (laws.drops.order s0 words windows held t (λ row. is_in_slot s0.conf slot row && is_expired s0.conf t row) sound
-        ∙ (ap (λ (x : Entries). dropped_in held t (λ row. is_in_slot x.conf slot row && is_expired x.conf t row) x) e
-        ∙ ap (λ k. dropped_in held t (λ row. is_in_slot c.conf k row && is_expired c.conf t row) (with_taken at n (entries_of c))) (is ∙ ap (λ (k : Conf). slot_of k key) conf)))) in
+        ∙ (ap (λ k. dropped_rows held t (expired_in s0.conf t k s0.rows) s0) is
+        ∙ ap (λ (x : Entries). dropped_rows held t (expired_in x.conf t (slot_of x.conf key) x.rows) x) e) in
         let mid : s2 ≡ replaced_in held at key graph ttl t s1 =
         rep.replaced ∙ built s1 (with_row (fresh_row key graph ttl t at s1.next_number) s1.rows) (risen s1.next_number)
         (s1.removed ++ dated t (filter (is_held (held_blocks a2)) (filter (has_key key) s1.rows))) (s1.removed ++ dated t (filter (is_held held) (filter (has_key key) s1.rows))) s1.unlinked s1.unlinked (filter (λ block. not (block.place == at)) s1.taken)
         (ap (λ l. s1.removed ++ dated t l) (sym (same_held a2 later (filter (has_key key) s1.rows) on rep.decided))) refl in
-        let good : 2 ≤ c.conf.slots = subst (λ (k : Conf). 2 ≤ k.slots) conf sound.good.slots_least in
         mid ∙ (ap (replaced_in held at key graph ttl t) first
-        ∙ closed (entries_of (placed held key graph ttl t n c at)) (fresh.removed ++ dated t (filter (is_held held) (filter (has_key key) fresh.rows))) (fresh.removed ++ dated t (filter (is_held held) (in_slot_order fresh.conf (filter (has_key key) fresh.rows))))
-        (filter (λ (block : Extent). not (block.place == at)) (record { place = at; size = n } ∷ []))
-        (ap (λ l. fresh.removed ++ dated t (filter (is_held held) l)) (sym (order_key laws fresh.conf fresh.rows key good)))
+        ∙ closed (entries_of (placed held key graph ttl t n c at)) (filter (λ (block : Extent). not (block.place == at)) (record { place = at; size = n } ∷ []))
         (ap (λ b. cond (not b) (record { place = at; size = n } ∷ []) []) (eq-eqb at at refl)))

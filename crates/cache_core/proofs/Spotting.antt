@@ -1,14 +1,15 @@
 -- A spot that was found before room was made is the same where no row had to go.
-use Rattle.std.proofs.Common.{◌≡◌, ℕ, ◌<◌, ◌==◌, Bool, true, false, cond, not, List, [], ◌∷◌, length, filter, find, Option, Some, None, refl, sym, ap, ◌∙◌, subst, arith}
-use Rattle.std.specs.Prelude.{nat_lt, if◌then◌else◌}
+use Rattle.std.proofs.Common.{◌≡◌, ℕ, ◌<◌, ◌==◌, ◌&&◌, Bool, true, false, cond, not, List, [], ◌∷◌, length, filter, find, Option, Some, None, refl, sym, ap, ◌∙◌, subst, arith}
+use Rattle.std.specs.Prelude.{if◌then◌else◌}
 use Rattle.std.specs.List.{list_any}
 use Rattle.std.proofs.lemmas.Bool.{or_parts, eqb-true}
 use Rattle.std.proofs.lemmas.List.Sums.{length-filter, count_by-le-length}
 use Rattle.apcu_model.specs.declared.conf.Conf.{Conf}
 use Rattle.apcu_model.specs.Cache.{Row, Cache, has_key}
-use Rattle.apcu_model.specs.Change.{dropped, swept, expired_dropped, expunged, has_gap, with_room}
+use Rattle.apcu_model.specs.Change.{is_among, leaving, spent, swept, expired_dropped, expunged, has_gap, with_room}
 use Rattle.apcu_model.specs.Expiry.{is_expired}
 use Rattle.apcu_model.specs.Walk.{is_in_slot, slot_of}
+use Rattle.seg_words.specs.Members.{filter_then}
 use Rattle.entry_slots.specs.declared.spots.Spot.{Spot}
 use Rattle.entry_slots.specs.Entries.{Entries, chain_of, found_place}
 use Rattle.entry_slots.specs.Spots.{IsSpotOf}
@@ -27,14 +28,6 @@ all_left p (row ∷ rows) h = go (p row) refl (all_left p rows)
         let now : filter p (row ∷ rows) ≡ filter p rows = ap (λ b. cond b (row ∷ filter p rows) (filter p rows)) e in
         absurd (omega (arith, sym (ap (λ (l : List Row). length l) now) ∙ h, length-filter p rows, count_by-le-length p rows))
 
-none_left : (rows : List Row) → filter (λ (row : Row). not true) rows ≡ []
-none_left [] = refl
-none_left (row ∷ rows) = none_left rows
-
-empty_is : (rows : List Row) → 0 ≡ length rows → [] ≡ rows
-empty_is [] h = refl
-empty_is (row ∷ rows) h = absurd (omega (arith, h))
-
 -- where no row passes, none is taken
 pub none_taken : (p : Row → Bool) (rows : List Row) → list_any p rows ≡ false → filter p rows ≡ []
 none_taken p [] h = refl
@@ -52,16 +45,19 @@ rows_stay held n t c = go (has_gap n first) (has_gap n second)
     second : Cache
     second = expired_dropped held t first
 
-    unexpired : (b : Bool) → length (if b then dropped held t (is_expired first.conf t) first else first).rows ≡ length c.rows → (if b then dropped held t (is_expired first.conf t) first else first).rows ≡ c.rows
-    unexpired true h = all_left (λ row. not (is_expired c.conf t row)) c.rows h
-    unexpired false h = refl
+    -- the rows that stay, when the expired ones go and when all do
+    stays : Row → Bool
+    stays row = not (is_among (spent c.conf t c.rows) row)
+
+    last : Row → Bool
+    last row = not (is_among (leaving second.conf second.rows) row)
 
     go : (b d : Bool) → length (if b then first else if d then second else expunged held t second).rows ≡ length c.rows → (if b then first else if d then second else expunged held t second).rows ≡ c.rows
     go true d h = refl
-    go false true h = unexpired (nat_lt 0 first.conf.ttl) h
+    go false true h = all_left stays c.rows h
     go false false h =
-        let none : (expunged held t second).rows ≡ [] = none_left second.rows in
-        none ∙ empty_is c.rows (sym (ap (λ (l : List Row). length l) none) ∙ h)
+        let both = filter_then stays last c.rows in
+        both ∙ all_left (λ row. stays row && last row) c.rows (sym (ap (λ (l : List Row). length l) both) ∙ h)
 
 -- the spot of the key among the same rows
 pub same_spot : {s new : Entries} {key : List ℕ} {t : ℕ} {spot : Spot} → HaveSameRows s new → IsSpotOf s key t spot → IsSpotOf new key t spot

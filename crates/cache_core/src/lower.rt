@@ -2,7 +2,7 @@
 
 ghost use Rattle.cache_core.specs.Laws.{CacheLaws};
 
-use apcu_model::{count_laws, order_single};
+use apcu_model::count_laws;
 use entry_slots::standing_laws;
 use ttl_expunge::drop_laws;
 
@@ -12,6 +12,5 @@ pub(crate) fn lower_laws()
 {
     standing_laws();
     drop_laws();
-    order_single();
     count_laws();
 }

@@ -6,18 +6,19 @@ use Rattle.std.proofs.lemmas.List.{append-nil}
 use Rattle.std.proofs.lemmas.List.Elements.{Contains-append_right, filter-append}
 use Rattle.seg_words.specs.Windows.{Aside}
 use Rattle.apcu_model.specs.Cache.{Row}
+use Rattle.apcu_model.specs.Change.{left_of}
+use Rattle.apcu_model.specs.Facts.{left_all}
 use Rattle.apcu_model.specs.Walk.{is_in_slot}
 use Rattle.entry_slots.specs.Lists.{is_at, has_place, only_at, without_place, first_place, place_after}
 use Rattle.ttl_expunge.specs.Lists.{rows_from}
 use Rattle.entry_slots.specs.Entries.{Entries, chain_of}
 use Rattle.entry_slots.specs.Facts.{IsSound}
 use Rattle.ttl_expunge.specs.Held.{AreRemoved, Drops}
-use Rattle.ttl_expunge.specs.Dropping.{left_of}
 use Rattle.std.proofs.lemmas.List.Folds.{list_any-append}
-use Rattle.seg_words.specs.Members.{count-cons, filter_alike, filter_all, Contains-first, Contains-filter, filter_then}
+use Rattle.seg_words.specs.Members.{count-cons, filter_alike, Contains-first, Contains-filter, filter_then}
 use Rattle.entry_slots.specs.Having.{place_from, place_there}
-use Rattle.ttl_expunge.proofs.Rows.{without_middle, next_in, from_in, from_none, alone}
-use Rattle.ttl_expunge.proofs.Dropping.{only_once, drops_on, drops_none, left_one}
+use Rattle.ttl_expunge.proofs.Rows.{without_middle, next_in, from_in, from_none, alone, left_one}
+use Rattle.ttl_expunge.proofs.Dropping.{only_once, drops_on, drops_none}
 
 pub count_kept : {X : Type 0} (p q : X → Bool) (xs : List X) → count_by p (filter q xs) ≤ count_by p xs
 count_kept p q [] = omega arith
@@ -64,6 +65,7 @@ pub record IsNext (s : Entries) (slot at : ℕ) (kept todo : List Row) : Type 0 
   pub place : row.place ≡ at
   pub chain : chain_of s slot ≡ kept ++ row ∷ more
   pub only : only_at at s.rows ≡ row ∷ []
+  pub left : left_of (row ∷ []) s.rows ≡ without_place at s.rows
   pub before : has_place at kept ≡ false
   pub behind : has_place at more ≡ false
   pub there : has_place at (chain_of s slot) ≡ true
@@ -84,6 +86,7 @@ next_from s slot at kept (row ∷ more) chain here sound some =
       place = sym here;
       chain = chain;
       only = only_once at s.rows row listed (sym here) few;
+      left = left_one at s.rows row sound.apart listed (sym here) few;
       before = a.before;
       behind = a.behind;
       there = subst (λ n. has_place n (chain_of s slot) ≡ true) (sym here) (place_there (chain_of s slot) row there);
@@ -104,13 +107,13 @@ chain_on pass {t} {s} {s'} {aside} {aside'} {slot} {at} {kept} {todo} n drops = 
     go : (b : Bool) → pass n.row ≡ b → (k : List Row) × (chain_of s' slot ≡ k ++ n.more)
     go true e = (
       kept,
-      left true e ∙ (ap (filter (is_in_slot s.conf slot)) (left_one n.row s.rows ∙ ap (λ k. without_place k s.rows) n.place)
+      left true e ∙ (ap (filter (is_in_slot s.conf slot)) n.left
           ∙ (filter_swap (λ (r : Row). not (is_at at r)) (is_in_slot s.conf slot) s.rows
           ∙ (ap (without_place at) n.chain ∙ without_middle at kept n.row n.more n.before n.place n.behind))),
     )
     go false e = (
       kept ++ n.row ∷ [],
-      left false e ∙ (ap (filter (is_in_slot s.conf slot)) (filter_all (λ (r : Row). true) s.rows (λ r c. refl)) ∙ (n.chain ∙ sym (append_assoc kept (n.row ∷ []) n.more))),
+      left false e ∙ (ap (filter (is_in_slot s.conf slot)) (left_all s.rows) ∙ (n.chain ∙ sym (append_assoc kept (n.row ∷ []) n.more))),
     )
 
 pub chaining_on : {pass : Row → Bool} {t : ℕ} {first s s' : Entries} {start aside aside' : Aside} {slot at next : ℕ} (w : Chaining pass t first s start aside slot at) → IsNext s slot at w.kept w.todo

@@ -6,19 +6,19 @@ use Rattle.std.proofs.lemmas.List.{append-nil}
 use Rattle.std.proofs.lemmas.List.Elements.{Contains-append_cases, filter-append}
 use Rattle.seg_words.specs.Probing.{IsDecided, Met, goes_nowhere, goes_on}
 use Rattle.seg_words.specs.Windows.{Aside, has, held_blocks}
-use Rattle.apcu_model.specs.Cache.{Row}
-use Rattle.apcu_model.specs.Change.{is_held}
+use Rattle.apcu_model.specs.Cache.{Row, has_key}
+use Rattle.apcu_model.specs.Change.{is_among, is_held, left_of}
 use Rattle.entry_slots.specs.Lists.{is_at, has_place, only_at, without_place}
 use Rattle.entry_slots.specs.Entries.{Entries, unlinked_at, removed_at, freed_at}
 use Rattle.entry_slots.specs.Facts.{IsSound}
 use Rattle.ttl_expunge.specs.Held.{AreDecided, AreRemoved, Drops}
-use Rattle.ttl_expunge.specs.Dropping.{left_of, dropped_rows}
+use Rattle.ttl_expunge.specs.Dropping.{dropped_rows}
 use Rattle.std.proofs.lemmas.List.Folds.{list_any-append}
-use Rattle.seg_words.specs.Members.{none_counted, count-cons, counted_some, filter_alike, filter_all, Contains-cases, filter_then}
+use Rattle.seg_words.specs.Members.{none_counted, count-cons, counted_some, filter_alike, Contains-cases, filter_then}
 use Rattle.entry_slots.specs.Having.{place_from, without_none, only_none}
 use Rattle.ttl_expunge.specs.Decided.{all_stay, same_held}
-use Rattle.apcu_model.specs.Facts.{held_is, dated}
-use Rattle.ttl_expunge.proofs.Asides.{flip}
+use Rattle.apcu_model.specs.Facts.{held_is, dated, left_all}
+use Rattle.ttl_expunge.proofs.Rows.{left_one}
 
 dated-append : (t : ℕ) (xs ys : List Row) → dated t (xs ++ ys) ≡ dated t xs ++ dated t ys
 dated-append t [] ys = refl
@@ -28,19 +28,16 @@ pub made : (s : Entries) (rows rows' removed removed' unlinked unlinked' : List 
     → ◌≡◌ {A = Entries} (record s { rows = rows; removed = removed; unlinked = unlinked }) (record s { rows = rows'; removed = removed'; unlinked = unlinked' })
 made s rows rows' removed removed' unlinked unlinked' p q r = cc (p, q, r)
 
-or_false : (b : Bool) → (b || false) ≡ b
-or_false true = refl
-or_false false = refl
-
 not_or : (a b : Bool) → not (a || b) ≡ (not a && not b)
 not_or true b = refl
 not_or false b = refl
 
 left_append : (gone more rows : List Row) → left_of (gone ++ more) rows ≡ left_of more (left_of gone rows)
+unfolding is_among
 left_append gone more rows =
-    filter_alike (λ (row : Row). not (has_place row.place (gone ++ more))) (λ (row : Row). not (has_place row.place gone) && not (has_place row.place more)) rows
-    (λ row c. ap not (list_any-append (is_at row.place) gone more) ∙ not_or (has_place row.place gone) (has_place row.place more))
-    ∙ sym (filter_then (λ (row : Row). not (has_place row.place gone)) (λ (row : Row). not (has_place row.place more)) rows)
+    filter_alike (λ (row : Row). not (is_among (gone ++ more) row)) (λ (row : Row). not (is_among gone row) && not (is_among more row)) rows
+    (λ row c. ap not (list_any-append (has_key row.key) gone more) ∙ not_or (is_among gone row) (is_among more row))
+    ∙ sym (filter_then (λ (row : Row). not (is_among gone row)) (λ (row : Row). not (is_among more row)) rows)
 
 -- what is dropped after other rows
 pub dropped_on : (held held' : List ℕ) (t : ℕ) (gone more : List Row) (s : Entries) → filter (is_held held') gone ≡ filter (is_held held) gone
@@ -70,7 +67,7 @@ drops_on {old} {mid} {new} {before} {between} {after} {t} {gone} {more} first th
 -- nothing is dropped
 pub drops_none : (s : Entries) (before after : Aside) (t : ℕ) → after ≡ before → AreRemoved before s.removed → Drops s s before after t []
 drops_none s before after t same refused = record {
-  dropped = made s s.rows (left_of [] s.rows) s.removed (s.removed ++ []) s.unlinked s.unlinked (sym (filter_all (λ (row : Row). true) s.rows (λ row c. refl))) (sym (append-nil s.removed)) refl;
+  dropped = made s s.rows (left_of [] s.rows) s.removed (s.removed ++ []) s.unlinked s.unlinked (sym (left_all s.rows)) (sym (append-nil s.removed)) refl;
   goes = goes_nowhere before after same;
   decided = record { each = λ row c. absurd (omega (arith, c.1)) };
   refused = subst (λ (a : Aside). AreRemoved a s.removed) (sym same) refused;
@@ -82,6 +79,8 @@ pub record IsOnly (s : Entries) (at : ℕ) : Type 0 where
   pub there : Contains s.rows row
   pub place : row.place ≡ at
   pub only : only_at at s.rows ≡ row ∷ []
+  -- the rows without it
+  pub left : left_of (row ∷ []) s.rows ≡ without_place at s.rows
   pub removed : has_place at s.removed ≡ false
   pub unlinked : has_place at s.unlinked ≡ false
 
@@ -110,6 +109,7 @@ only_is {s} row sound there at place =
       there = there;
       place = place;
       only = only_once at s.rows row there place (omega (arith, once));
+      left = left_one at s.rows row sound.apart there place (omega (arith, once));
       removed = none_counted (is_at at) s.removed (omega (arith, once, one));
       unlinked = none_counted (is_at at) s.unlinked (omega (arith, once, one));
     }
@@ -117,17 +117,13 @@ only_is {s} row sound there at place =
 pub only_of : {s : Entries} {words windows : List ℕ} (at : ℕ) → IsSound s words windows → has_place at s.rows ≡ true → IsOnly s at
 only_of {s} at sound h = let r = place_from at s.rows h in only_is r.0 sound r.1 at r.2
 
--- the rows without this one
-pub left_one : (row : Row) (rows : List Row) → left_of (row ∷ []) rows ≡ without_place row.place rows
-left_one row rows = filter_alike (λ (r : Row). not (has_place r.place (row ∷ []))) (λ (r : Row). not (is_at row.place r)) rows (λ r c. ap not (or_false (row.place == r.place) ∙ flip row.place r.place))
-
 -- a row that is not held is freed after it was unlinked
 pub freed_one : {s : Entries} {at : ℕ} (t : ℕ) (held : List ℕ) (o : IsOnly s at) → has at held ≡ false → freed_at at (unlinked_at at s) ≡ dropped_rows held t (only_at at s.rows) s
 freed_one {s} {at} t held o free =
     made s (without_place at s.rows) (left_of (only_at at s.rows) s.rows)
     (without_place at s.removed) (s.removed ++ dated t (filter (is_held held) (only_at at s.rows)))
     (without_place at (only_at at s.rows ++ s.unlinked)) s.unlinked
-    (sym (ap (λ l. left_of l s.rows) o.only ∙ (left_one o.row s.rows ∙ ap (λ n. without_place n s.rows) o.place)))
+    (sym (ap (λ l. left_of l s.rows) o.only ∙ o.left))
     (without_none at s.removed o.removed ∙ (sym (append-nil s.removed) ∙ ap (λ l. s.removed ++ dated t l) (sym (ap (filter (is_held held)) o.only ∙ ap (λ b. cond b (o.row ∷ []) []) (held_is held o.row ∙ (ap (λ n. has n held) o.place ∙ free))))))
     (ap (λ l. without_place at (l ++ s.unlinked)) o.only ∙ (ap (λ b. cond (not b) (o.row ∷ without_place at s.unlinked) (without_place at s.unlinked)) (eq-eqb o.row.place at o.place) ∙ without_none at s.unlinked o.unlinked))
 
@@ -138,7 +134,7 @@ removed_one {s} {at} t held o is =
     made s (without_place at s.rows) (left_of (only_at at s.rows) s.rows)
     (s.removed ++ dated t (only_at at (only_at at s.rows ++ s.unlinked))) (s.removed ++ dated t (filter (is_held held) (only_at at s.rows)))
     (without_place at (only_at at s.rows ++ s.unlinked)) s.unlinked
-    (sym (ap (λ l. left_of l s.rows) o.only ∙ (left_one o.row s.rows ∙ ap (λ n. without_place n s.rows) o.place)))
+    (sym (ap (λ l. left_of l s.rows) o.only ∙ o.left))
     (ap (λ l. s.removed ++ dated t l) (
     ap (λ l. only_at at (l ++ s.unlinked)) o.only ∙ (ap (λ b. cond b (o.row ∷ only_at at s.unlinked) (only_at at s.unlinked)) here ∙ ap (λ l. o.row ∷ l) (only_none at s.unlinked o.unlinked))
     ∙ sym (ap (filter (is_held held)) o.only ∙ ap (λ b. cond b (o.row ∷ []) []) (held_is held o.row ∙ (ap (λ n. has n held) o.place ∙ is)))))

@@ -1,5 +1,5 @@
 -- Room is made, by one call after the other.
-use Rattle.std.proofs.Common.{◌≡◌, ℕ, Bool, true, false, cond, not, ◌&&◌, List, [], ◌∷◌, ◌++◌, map, filter, Option, Some, None, refl, sym, ap, ◌∙◌, subst, arith}
+use Rattle.std.proofs.Common.{◌≡◌, ℕ, Bool, true, false, not, ◌&&◌, List, [], ◌∷◌, ◌++◌, map, filter, Option, Some, None, refl, sym, ap, ◌∙◌, subst, arith}
 use Rattle.std.specs.Prelude.{nat_lt, is_some, if◌then◌else◌, IfSome, IfNone}
 use Rattle.std.specs.List.{Contains}
 use Rattle.std.proofs.lemmas.List.{append-nil}
@@ -9,19 +9,18 @@ use Rattle.seg_words.specs.Gaps.{first_fit}
 use Rattle.seg_words.specs.Windows.{Aside, held_blocks}
 use Rattle.apcu_model.specs.Conf.{piece_of}
 use Rattle.apcu_model.specs.Cache.{Row, Cache, extent_of, gap_of}
-use Rattle.apcu_model.specs.Change.{is_held, dropped, swept, expired_dropped, expunged, has_gap, with_room, is_expunged}
+use Rattle.apcu_model.specs.Change.{is_held, dropped, leaving, left_of, spent, swept, expired_dropped, expunged, has_gap, with_room, is_expunged}
 use Rattle.apcu_model.specs.Expiry.{is_expired}
-use Rattle.apcu_model.specs.Walk.{in_slot_order}
 use Rattle.entry_slots.specs.Entries.{Entries, entries_of, blocks_of, with_taken}
 use Rattle.entry_slots.specs.Facts.{IsSound}
 use Rattle.ttl_expunge.specs.Held.{AreRemoved, AreHeld, KeepsOpen, Sweeps, Drops}
-use Rattle.ttl_expunge.specs.Dropping.{swept_in, dropped_in, dropped_rows}
+use Rattle.ttl_expunge.specs.Dropping.{swept_in, dropped_rows}
 use Rattle.ttl_expunge.specs.Room.{with_found, MakesRoom}
 use Rattle.seg_words.specs.Members.{Contains-filter, Contains-first, filter_all}
 use Rattle.ttl_expunge.specs.Decided.{same_held}
-use Rattle.apcu_model.specs.Facts.{dated, order_from}
+use Rattle.apcu_model.specs.Facts.{dated, leaving_from}
 use Rattle.ttl_expunge.proofs.Dropping.{made}
-use Rattle.ttl_expunge.proofs.Open.{in_order, drops_open, open_on}
+use Rattle.ttl_expunge.proofs.Open.{drops_open, open_on}
 
 map_both : {X Y : Type 0} (f : X → Y) (xs ys : List X) → map f (xs ++ ys) ≡ map f xs ++ map f ys
 map_both f [] ys = refl
@@ -40,38 +39,19 @@ swept_later {s} {s'} {before} {after} c w e later goes =
 
 pub dropped_later : {s s' : Entries} {before after : Aside} {t : ℕ} {gone : List Row} → Drops s s' before after t gone → (later : Aside) → Goes after later → s' ≡ dropped_rows (held_blocks later) t gone s
 dropped_later {s} {s'} {before} {after} {t} {gone} d later goes =
-    d.dropped ∙ made s (Rattle.ttl_expunge.specs.Dropping.left_of gone s.rows) (Rattle.ttl_expunge.specs.Dropping.left_of gone s.rows)
+    d.dropped ∙ made s (left_of gone s.rows) (left_of gone s.rows)
     (s.removed ++ dated t (filter (is_held (held_blocks after)) gone)) (s.removed ++ dated t (filter (is_held (held_blocks later)) gone)) s.unlinked s.unlinked
     refl (ap (λ l. s.removed ++ dated t l) (sym (same_held after later gone goes d.decided))) refl
 
-pub passing_later : {s s' : Entries} {before after : Aside} {t : ℕ} {words windows : List ℕ} (pass : Row → Bool) (c : Cache) → Drops s s' before after t (in_slot_order s.conf (filter pass s.rows)) → IsSound s words windows
-    → s ≡ entries_of c → (later : Aside) → Goes after later → s' ≡ entries_of (dropped (held_blocks later) t pass c)
-passing_later {s} {s'} {before} {after} {t} pass c d sound e later goes =
-    dropped_later d later goes ∙ (in_order (held_blocks later) t pass sound ∙ ap (λ (x : Entries). dropped_in (held_blocks later) t pass x) e)
+pub passing_later : {s s' : Entries} {before after : Aside} {t : ℕ} {gone : List Row} (c : Cache) → Drops s s' before after t gone → s ≡ entries_of c → (later : Aside) → Goes after later
+    → s' ≡ entries_of (dropped (held_blocks later) t gone c)
+passing_later {t = t} {gone} c d e later goes = dropped_later d later goes ∙ ap (λ (x : Entries). dropped_rows (held_blocks later) t gone x) e
 
 -- the expired rows, where there is a limit
-pub expired_later : {s s' : Entries} {before after : Aside} {t : ℕ} {words windows : List ℕ} (c : Cache)
-    → Drops s s' before after t (if nat_lt 0 s.conf.ttl then in_slot_order s.conf (filter (is_expired s.conf t) s.rows) else []) → IsSound s words windows
-    → s ≡ entries_of c → (later : Aside) → Goes after later → s' ≡ entries_of (expired_dropped (held_blocks later) t c)
-expired_later {s} {s'} {before} {after} {t} c d sound e later goes = go (nat_lt 0 s.conf.ttl) refl
-  where
-    conf : s.conf ≡ c.conf
-    conf = ap (λ (x : Entries). x.conf) e
-
-    gone : List Row
-    gone = in_slot_order s.conf (filter (is_expired s.conf t) s.rows)
-
-    go : (b : Bool) → nat_lt 0 s.conf.ttl ≡ b → s' ≡ entries_of (expired_dropped (held_blocks later) t c)
-    go true is =
-        let d' : Drops s s' before after t gone = subst (λ (b : Bool). Drops s s' before after t (cond b gone [])) is d in
-        passing_later (is_expired s.conf t) c d' sound e later goes
-        ∙ (ap (λ k. entries_of (dropped (held_blocks later) t (is_expired k t) c)) conf
-        ∙ ap (λ (b : Bool). entries_of (cond b (dropped (held_blocks later) t (is_expired c.conf t) c) c)) (sym (sym (ap (λ k. nat_lt 0 k.ttl) conf) ∙ is)))
-    go false isnt =
-        let d' : Drops s s' before after t [] = subst (λ (b : Bool). Drops s s' before after t (cond b gone [])) isnt d in
-        dropped_later d' later goes
-        ∙ (made s (Rattle.ttl_expunge.specs.Dropping.left_of [] s.rows) s.rows (s.removed ++ []) s.removed s.unlinked s.unlinked (filter_all (λ (row : Row). true) s.rows (λ row m. refl)) (append-nil s.removed) refl
-        ∙ (e ∙ ap (λ (b : Bool). entries_of (cond b (dropped (held_blocks later) t (is_expired c.conf t) c) c)) (sym (sym (ap (λ k. nat_lt 0 k.ttl) conf) ∙ isnt))))
+pub expired_later : {s s' : Entries} {before after : Aside} {t : ℕ} (c : Cache) → Drops s s' before after t (spent s.conf t s.rows) → s ≡ entries_of c → (later : Aside) → Goes after later
+    → s' ≡ entries_of (expired_dropped (held_blocks later) t c)
+expired_later {t = t} c d e later goes =
+    passing_later c d e later goes ∙ ap (λ (x : Entries). entries_of (dropped (held_blocks later) t (spent x.conf t x.rows) c)) e
 
 -- what `take` leaves
 pub took : (r : Option ℕ) (n : ℕ) (s s' : Entries) → IfSome r (λ at. s' ≡ with_taken at n s) → IfNone r (s' ≡ s) → s' ≡ with_found r n s
@@ -143,16 +123,16 @@ room_swept {s0} {s1} {a0} {a1} {n} {t} r sweeps place some c later e on =
     }
 
 -- the expired ones were
-pub room_expired : {s0 s1 s2 : Entries} {a0 a1 a2 : Aside} {n t : ℕ} {words windows : List ℕ} (r r' : Option ℕ) → Sweeps s0 s1 a0 a1 → r ≡ first_fit s1.conf.slots s1.conf.words (piece_of s1.conf) n (blocks_of s1) → is_some r ≡ false
-    → Drops s1 s2 a1 a2 t (if nat_lt 0 s1.conf.ttl then in_slot_order s1.conf (filter (is_expired s1.conf t) s1.rows) else []) → IsSound s1 words windows
+pub room_expired : {s0 s1 s2 : Entries} {a0 a1 a2 : Aside} {n t : ℕ} (r r' : Option ℕ) → Sweeps s0 s1 a0 a1 → r ≡ first_fit s1.conf.slots s1.conf.words (piece_of s1.conf) n (blocks_of s1) → is_some r ≡ false
+    → Drops s1 s2 a1 a2 t (spent s1.conf t s1.rows)
     → r' ≡ first_fit s2.conf.slots s2.conf.words (piece_of s2.conf) n (blocks_of s2) → is_some r' ≡ true
     → (c : Cache) (later : Aside) → s0 ≡ entries_of c → Goes a2 later → IsRoom s2 n t false c (held_blocks later)
-room_expired {s0} {s1} {s2} {a0} {a1} {a2} {n} {t} r r' sweeps place nothing drops sound place' some c later e on =
+room_expired {s0} {s1} {s2} {a0} {a1} {a2} {n} {t} r r' sweeps place nothing drops place' some c later e on =
     let held = held_blocks later in
     let first = swept held c in
     let second = expired_dropped held t first in
     let e1 : s1 ≡ entries_of first = swept_later c sweeps e later (goes_on a1 a2 later drops.goes on) in
-    let e2 : s2 ≡ entries_of second = expired_later first drops sound e1 later on in
+    let e2 : s2 ≡ entries_of second = expired_later first drops e1 later on in
     let none : has_gap n first ≡ false = gap_there s1 first n r false e1 place nothing in
     let has : has_gap n second ≡ true = gap_there s2 second n r' true e2 place' some in
     record {
@@ -162,20 +142,20 @@ room_expired {s0} {s1} {s2} {a0} {a1} {a2} {n} {t} r r' sweeps place nothing dro
     }
 
 -- all rows went
-pub room_full : {s0 s1 s2 s3 : Entries} {a0 a1 a2 a3 : Aside} {n t : ℕ} {words windows words' windows' : List ℕ} (r r' : Option ℕ) → Sweeps s0 s1 a0 a1 → r ≡ first_fit s1.conf.slots s1.conf.words (piece_of s1.conf) n (blocks_of s1) → is_some r ≡ false
-    → Drops s1 s2 a1 a2 t (if nat_lt 0 s1.conf.ttl then in_slot_order s1.conf (filter (is_expired s1.conf t) s1.rows) else []) → IsSound s1 words windows
+pub room_full : {s0 s1 s2 s3 : Entries} {a0 a1 a2 a3 : Aside} {n t : ℕ} (r r' : Option ℕ) → Sweeps s0 s1 a0 a1 → r ≡ first_fit s1.conf.slots s1.conf.words (piece_of s1.conf) n (blocks_of s1) → is_some r ≡ false
+    → Drops s1 s2 a1 a2 t (spent s1.conf t s1.rows)
     → r' ≡ first_fit s2.conf.slots s2.conf.words (piece_of s2.conf) n (blocks_of s2) → is_some r' ≡ false
-    → Drops s2 s3 a2 a3 t (in_slot_order s2.conf s2.rows) → IsSound s2 words' windows'
+    → Drops s2 s3 a2 a3 t (leaving s2.conf s2.rows)
     → (c : Cache) (later : Aside) → s0 ≡ entries_of c → Goes a3 later → IsRoom s3 n t true c (held_blocks later)
-room_full {s0} {s1} {s2} {s3} {a0} {a1} {a2} {a3} {n} {t} r r' sweeps place nothing drops sound place' neither all sound' c later e on =
+room_full {s0} {s1} {s2} {s3} {a0} {a1} {a2} {a3} {n} {t} r r' sweeps place nothing drops place' neither all c later e on =
     let held = held_blocks later in
     let first = swept held c in
     let second = expired_dropped held t first in
     let on2 = goes_on a2 a3 later all.goes on in
     let e1 : s1 ≡ entries_of first = swept_later c sweeps e later (goes_on a1 a2 later drops.goes on2) in
-    let e2 : s2 ≡ entries_of second = expired_later first drops sound e1 later on2 in
-    let every : Drops s2 s3 a2 a3 t (in_slot_order s2.conf (filter (λ row. true) s2.rows)) = subst (λ (l : List Row). Drops s2 s3 a2 a3 t (in_slot_order s2.conf l)) (sym (filter_all (λ (row : Row). true) s2.rows (λ row m. refl))) all in
-    let e3 : s3 ≡ entries_of (dropped held t (λ row. true) second) = passing_later (λ row. true) second every sound' e2 later on in
+    let e2 : s2 ≡ entries_of second = expired_later first drops e1 later on2 in
+    let e3 : s3 ≡ entries_of (dropped held t (leaving second.conf second.rows) second) =
+    passing_later second all e2 later on ∙ ap (λ (x : Entries). entries_of (dropped held t (leaving x.conf x.rows) second)) e2 in
     let none : has_gap n first ≡ false = gap_there s1 first n r false e1 place nothing in
     let none' : has_gap n second ≡ false = gap_there s2 second n r' false e2 place' neither in
     record {
@@ -186,22 +166,22 @@ room_full {s0} {s1} {s2} {s3} {a0} {a1} {a2} {a3} {n} {t} r r' sweeps place noth
 
 -- the rows under open windows stay where the expired ones go
 pub expired_open : {words windows : List ℕ} (old new : Entries) (before after : Aside) (t : ℕ) → IsSound old words windows
-    → Drops old new before after t (if nat_lt 0 old.conf.ttl then in_slot_order old.conf (filter (is_expired old.conf t) old.rows) else []) → KeepsOpen after.windows old new
-expired_open old new before after t sound d = drops_open old new before after t (if nat_lt 0 old.conf.ttl then gone else []) sound (from (nat_lt 0 old.conf.ttl)) d
+    → Drops old new before after t (spent old.conf t old.rows) → KeepsOpen after.windows old new
+expired_open old new before after t sound d = drops_open old new before after t (spent old.conf t old.rows) sound (from (nat_lt 0 old.conf.ttl)) d
   where
     gone : List Row
-    gone = in_slot_order old.conf (filter (is_expired old.conf t) old.rows)
+    gone = leaving old.conf (filter (is_expired old.conf t) old.rows)
 
     from : (b : Bool) (row : Row) → Contains (if b then gone else []) row → Contains old.rows row
-    from true row c = (Contains-filter (is_expired old.conf t) old.rows row (order_from old.conf (filter (is_expired old.conf t) old.rows) row c)).0
+    from true row c = (Contains-filter (is_expired old.conf t) old.rows row (leaving_from old.conf (filter (is_expired old.conf t) old.rows) row c)).0
     from false row c = absurd (omega (arith, c.1))
 
 -- the rows that each step drops
 abbrev pub expired_rows_of : ℕ → Entries → List Row
-expired_rows_of t s = if nat_lt 0 s.conf.ttl then in_slot_order s.conf (filter (is_expired s.conf t) s.rows) else []
+expired_rows_of t s = spent s.conf t s.rows
 
 abbrev pub all_rows_of : Entries → List Row
-all_rows_of s = in_slot_order s.conf s.rows
+all_rows_of s = leaving s.conf s.rows
 
 both : (held : List ℕ) (rows : List Row) → filter (is_held held) (filter (is_held held) rows) ≡ filter (is_held held) rows
 both held rows = filter_all (is_held held) (filter (is_held held) rows) (λ row c. (Contains-filter (is_held held) rows row c).1)

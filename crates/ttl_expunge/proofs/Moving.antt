@@ -7,31 +7,29 @@ use Rattle.std.proofs.lemmas.List.Elements.{Contains-append_right, filter-append
 use Rattle.seg_words.specs.Probing.{Goes, IsDecided, Met, goes_nowhere, goes_on, held_unnamed}
 use Rattle.seg_words.specs.Windows.{Aside, has, is_named, held_blocks}
 use Rattle.apcu_model.specs.Cache.{Row}
-use Rattle.apcu_model.specs.Change.{is_held}
+use Rattle.apcu_model.specs.Change.{is_among, is_held, leaving, left_of}
 use Rattle.entry_slots.specs.Lists.{has_place, only_at, first_place, place_after, is_at}
 use Rattle.ttl_expunge.specs.Lists.{rows_from}
 use Rattle.entry_slots.specs.Entries.{Entries, chain_of}
 use Rattle.entry_slots.specs.Facts.{IsSound}
 use Rattle.std.specs.List.{flat_map, range_with_len}
-use Rattle.apcu_model.specs.Walk.{in_slot_order}
 use Rattle.entry_slots.specs.Entries.{without_rows}
 use Rattle.ttl_expunge.specs.Held.{AreDecided, AreRemoved, Drops, Moves}
 use Rattle.ttl_expunge.specs.Decided.{same_held, all_stay}
-use Rattle.apcu_model.specs.Facts.{held_is, order_from, dated}
+use Rattle.apcu_model.specs.Facts.{among_there, held_is, leaving_from, leaving_there, left_all, dated}
 use Rattle.entry_slots.specs.Having.{place_from, place_there}
 use Rattle.seg_words.specs.Members.{filter_all, filter_none, Contains-first, Contains-cases, Contains-filter, Contains-kept}
 use Rattle.std.proofs.lemmas.List.Folds.{list_any-append}
 use Rattle.ttl_expunge.proofs.Chaining.{IsNext, next_from, chain_on, chain_left, none_at_zero}
 use Rattle.ttl_expunge.proofs.Ordering.{flat_last, chain_beside}
-use Rattle.ttl_expunge.proofs.Open.{order_there}
-use Rattle.ttl_expunge.specs.Dropping.{left_of, dropped_rows}
+use Rattle.ttl_expunge.specs.Dropping.{dropped_rows}
 use Rattle.ttl_expunge.proofs.Rows.{next_in, from_in, from_none}
 use Rattle.ttl_expunge.proofs.Dropping.{IsOnly, drops_on, drops_one, decided_both, made}
 
 -- nothing is dropped, though probed
 pub drops_nothing : {s : Entries} {before after : Aside} {t : ℕ} → Goes before after → AreRemoved after s.removed → Drops s s before after t []
 drops_nothing {s} goes refused = record {
-  dropped = made s s.rows (left_of [] s.rows) s.removed (s.removed ++ []) s.unlinked s.unlinked (sym (filter_all (λ (row : Row). true) s.rows (λ row c. refl))) (sym (append-nil s.removed)) refl;
+  dropped = made s s.rows (left_of [] s.rows) s.removed (s.removed ++ []) s.unlinked s.unlinked (sym (left_all s.rows)) (sym (append-nil s.removed)) refl;
   goes = goes;
   decided = record { each = λ row c. absurd (omega (arith, c.1)) };
   refused = refused;
@@ -161,34 +159,34 @@ pub record Passing (t : ℕ) (first s : Entries) (start aside : Aside) (n : ℕ)
 pub passing_starts : (t : ℕ) (s : Entries) (start aside : Aside) → aside ≡ start → AreRemoved start s.removed → Passing t s s start aside 0
 passing_starts t s start aside same was = record { moves = moves_none s start aside t same was; chains = λ k l. refl }
 
-pub passing_on : {t : ℕ} {first s s' : Entries} {start aside aside' : Aside} {n : ℕ} {words windows : List ℕ} → Passing t first s start aside n → IsSound s words windows
+pub passing_on : {t : ℕ} {first s s' : Entries} {start aside aside' : Aside} {n : ℕ} → Passing t first s start aside n
     → Moves s s' aside aside' t (chain_of s n) → Passing t first s' start aside' (n + 1)
-passing_on {t} {first} {s} {s'} {start} {aside} {aside'} {n} w sound moves = record {
+passing_on {t} {first} {s} {s'} {start} {aside} {aside'} {n} w moves = record {
   moves = subst (λ l. Moves first s' start aside' t l)
       (ap (λ l. flat_map (chain_of first) (range_with_len 0 n) ++ l) (w.chains n (omega arith)) ∙ (sym (flat_last (chain_of first) n 0 n (omega arith)) ∙ ap (λ m. flat_map (chain_of first) (range_with_len 0 m)) (sym (add-one n))))
       (moves_on w.moves moves);
   chains = λ k l.
       ap (λ (x : Entries). chain_of x k) moves.drops.dropped
-      ∙ (chain_beside k n (filter (is_held (held_blocks aside')) (chain_of s n)) sound (λ e. omega (arith, e, l)) (λ row c. (Contains-filter (is_held (held_blocks aside')) (chain_of s n) row c).0)
+      ∙ (chain_beside s k n (filter (is_held (held_blocks aside')) (chain_of s n)) (λ e. omega (arith, e, l)) (λ row c. (Contains-filter (is_held (held_blocks aside')) (chain_of s n) row c).0)
       ∙ w.chains k (omega (arith, l)));
 }
 
 -- the rows that are left are not held
-pub left_unnamed : {first s : Entries} {start aside : Aside} {t : ℕ} → Moves first s start aside t (in_slot_order first.conf first.rows) → 2 ≤ first.conf.slots → (at : ℕ) → has_place at s.rows ≡ true → is_named aside.windows at ≡ false
+pub left_unnamed : {first s : Entries} {start aside : Aside} {t : ℕ} → Moves first s start aside t (leaving first.conf first.rows) → 2 ≤ first.conf.slots → (at : ℕ) → has_place at s.rows ≡ true → is_named aside.windows at ≡ false
 left_unnamed {first} {s} {start} {aside} {t} m good at h =
-    let all = in_slot_order first.conf first.rows in
+    let all = leaving first.conf first.rows in
     let r = place_from at s.rows h in
     let left : Contains (left_of (filter (is_held (held_blocks aside)) all) first.rows) r.0 = subst (λ (x : Entries). Contains x.rows r.0) m.drops.dropped r.1 in
-    let f = Contains-filter (λ (row : Row). not (has_place row.place (filter (is_held (held_blocks aside)) all))) first.rows r.0 left in
-    let seen = order_there first.conf first.rows r.0 good f.0 in
+    let f = Contains-filter (λ (row : Row). not (is_among (filter (is_held (held_blocks aside)) all) row)) first.rows r.0 left in
+    let seen = leaving_there first.conf first.rows r.0 good f.0 in
     let free : has r.0.place (held_blocks aside) ≡ false = false_from_ne_true (has r.0.place (held_blocks aside)) (λ held.
     let kept = Contains-kept (is_held (held_blocks aside)) all r.0 seen (held_is (held_blocks aside) r.0 ∙ held) in
-    false≢true (sym (not-true (has_place r.0.place (filter (is_held (held_blocks aside)) all)) f.1) ∙ place_there (filter (is_held (held_blocks aside)) all) r.0 kept)) in
+    false≢true (sym (not-true (is_among (filter (is_held (held_blocks aside)) all) r.0) f.1) ∙ among_there (filter (is_held (held_blocks aside)) all) r.0 kept)) in
     subst (λ n. is_named aside.windows n ≡ false) r.2 (m.decided.each r.0 seen ∙ free)
 
 -- all rows were dropped
-pub all_gone : {first s new : Entries} {start aside aside' : Aside} {t : ℕ} → Moves first s start aside t (in_slot_order first.conf first.rows) → 2 ≤ first.conf.slots → new ≡ without_rows s → aside' ≡ aside
-    → Drops first new start aside' t (in_slot_order first.conf first.rows)
+pub all_gone : {first s new : Entries} {start aside aside' : Aside} {t : ℕ} → Moves first s start aside t (leaving first.conf first.rows) → 2 ≤ first.conf.slots → new ≡ without_rows s → aside' ≡ aside
+    → Drops first new start aside' t (leaving first.conf first.rows)
 all_gone {first} {s} {new} {start} {aside} {aside'} {t} m good freed same = subst (λ (a : Aside). Drops first new start a t all) (sym same) (record {
   dropped = dropped;
   goes = m.drops.goes;
@@ -197,7 +195,7 @@ all_gone {first} {s} {new} {start} {aside} {aside'} {t} m good freed same = subs
 })
   where
     all : List Row
-    all = in_slot_order first.conf first.rows
+    all = leaving first.conf first.rows
 
     held : List ℕ
     held = held_blocks aside
@@ -206,13 +204,13 @@ all_gone {first} {s} {new} {start} {aside} {aside'} {t} m good freed same = subs
     dropped =
         freed ∙ (ap without_rows m.drops.dropped
         ∙ made first [] (left_of all first.rows) (first.removed ++ dated t (filter (is_held held) (filter (is_held held) all))) (first.removed ++ dated t (filter (is_held held) all)) first.unlinked first.unlinked
-        (sym (filter_none (λ (row : Row). not (has_place row.place all)) first.rows (λ row c. ap not (place_there all row (order_there first.conf first.rows row good c)))))
+        (sym (filter_none (λ (row : Row). not (is_among all row)) first.rows (λ row c. ap not (among_there all row (leaving_there first.conf first.rows row good c)))))
         (ap (λ l. first.removed ++ dated t l) (filter_all (is_held held) (filter (is_held held) all) (λ row c. (Contains-filter (is_held held) all row c).1)))
         refl)
 
 -- or the rows that were left were dropped one after the other
-pub all_left : {first s new : Entries} {start aside after : Aside} {t : ℕ} → Moves first s start aside t (in_slot_order first.conf first.rows) → 2 ≤ first.conf.slots → Drops s new aside after t (in_slot_order s.conf s.rows)
-    → Drops first new start after t (in_slot_order first.conf first.rows)
+pub all_left : {first s new : Entries} {start aside after : Aside} {t : ℕ} → Moves first s start aside t (leaving first.conf first.rows) → 2 ≤ first.conf.slots → Drops s new aside after t (leaving s.conf s.rows)
+    → Drops first new start after t (leaving first.conf first.rows)
 all_left {first} {s} {new} {start} {aside} {after} {t} m good d = record {
   dropped = dropped;
   goes = goes_on start aside after m.drops.goes d.goes;
@@ -221,10 +219,10 @@ all_left {first} {s} {new} {start} {aside} {after} {t} m good d = record {
 }
   where
     all : List Row
-    all = in_slot_order first.conf first.rows
+    all = leaving first.conf first.rows
 
     last : List Row
-    last = in_slot_order s.conf s.rows
+    last = leaving s.conf s.rows
 
     held : List ℕ
     held = held_blocks aside
@@ -237,17 +235,17 @@ all_left {first} {s} {new} {start} {aside} {after} {t} m good d = record {
 
     free : (row : Row) → Contains last row → is_held later row ≡ false
     free row c =
-        let closed : is_named aside.windows row.place ≡ false = left_unnamed m good row.place (place_there s.rows row (order_from s.conf s.rows row c)) in
+        let closed : is_named aside.windows row.place ≡ false = left_unnamed m good row.place (place_there s.rows row (leaving_from s.conf s.rows row c)) in
         held_is later row ∙ held_unnamed after row.place (false_from_ne_true (is_named after.windows row.place) (λ n. false≢true (sym closed ∙ d.goes.closes row.place n)))
 
     dropped : new ≡ dropped_rows later t all first
     dropped =
         d.dropped ∙ (made s (left_of last s.rows) [] (s.removed ++ dated t (filter (is_held later) last)) s.removed s.unlinked s.unlinked
-        (filter_none (λ (row : Row). not (has_place row.place last)) s.rows (λ row c. ap not (place_there last row (order_there s.conf s.rows row conf c))))
+        (filter_none (λ (row : Row). not (is_among last row)) s.rows (λ row c. ap not (among_there last row (leaving_there s.conf s.rows row conf c))))
         (ap (λ l. s.removed ++ dated t l) (filter_none (is_held later) last free) ∙ append-nil s.removed) refl
         ∙ (ap without_rows m.drops.dropped
         ∙ made first [] (left_of all first.rows) (first.removed ++ dated t (filter (is_held held) (filter (is_held held) all))) (first.removed ++ dated t (filter (is_held later) all)) first.unlinked first.unlinked
-        (sym (filter_none (λ (row : Row). not (has_place row.place all)) first.rows (λ row c. ap not (place_there all row (order_there first.conf first.rows row good c)))))
+        (sym (filter_none (λ (row : Row). not (is_among all row)) first.rows (λ row c. ap not (among_there all row (leaving_there first.conf first.rows row good c)))))
         (ap (λ l. first.removed ++ dated t l) (filter_all (is_held held) (filter (is_held held) all) (λ row c. (Contains-filter (is_held held) all row c).1) ∙ sym (same_held aside after all d.goes m.decided)))
         refl))
 

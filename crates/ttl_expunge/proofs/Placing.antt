@@ -1,18 +1,20 @@
 -- Rows that are dropped by their places.
-use Rattle.std.proofs.Common.{◌≡◌, ◌∙◌, ℕ, zero, suc, ◌+◌, ◌<◌, ◌≤◌, Bool, true, false, cond, not, List, []}
+use Rattle.std.proofs.Common.{◌≡◌, ◌∙◌, ℕ, zero, suc, ◌+◌, ◌<◌, ◌≤◌, Bool, true, false, cond, inl, inr, not, List, []}
 use Rattle.std.proofs.Common.{◌∷◌, ◌++◌, length, take, refl, sym, ap, subst, arith}
 use Rattle.std.specs.Prelude.{slice_index}
-use Rattle.std.proofs.lemmas.Bool.{eq-eqb, false_from_ne_true}
+use Rattle.std.proofs.lemmas.Bool.{eq-eqb, false≢true, false_from_ne_true}
 use Rattle.std.proofs.lemmas.List.{length-map}
 use Rattle.std.specs.List.{Contains, count_by}
-use Rattle.seg_words.specs.Members.{Contains-first, Contains-later, Contains-kept, count-cons, counted_some}
+use Rattle.seg_words.specs.Members.{Contains-cases, Contains-first, Contains-later, Contains-kept, count-cons, counted_some, none_in_nil}
 use Rattle.seg_words.specs.Windows.{Aside}
 use Rattle.apcu_model.specs.Cache.{Row}
+use Rattle.apcu_model.specs.Change.{is_among, left_of}
+use Rattle.apcu_model.specs.Facts.{among_from, one_by_key}
+use Rattle.apcu_model.specs.Rows.{are_apart}
 use Rattle.entry_slots.specs.Lists.{is_at, has_place, only_at}
 use Rattle.entry_slots.specs.Entries.{Entries}
 use Rattle.entry_slots.specs.Facts.{IsSound}
 use Rattle.entry_slots.specs.Having.{place_there}
-use Rattle.ttl_expunge.specs.Dropping.{left_of}
 use Rattle.ttl_expunge.specs.Held.{Drops}
 use Rattle.ttl_expunge.specs.Lists.{row_places, AreRowsAt}
 use Rattle.ttl_expunge.proofs.Dropping.{only_once, drops_on}
@@ -60,6 +62,14 @@ nth_row (r ∷ rs) (suc i) once low =
       fresh = rw here t.fresh;
     }
 
+taken : (rows : List Row) (i : ℕ) (row : Row) → Contains (take i rows) row → Contains rows row
+taken rows zero row c = absurd (none_in_nil row c)
+taken [] (suc i) row c = c
+taken (r ∷ rows) (suc i) row c = elim (Contains-cases r (take i rows) row c) [
+  | inl same ↦ subst (Contains (r ∷ rows)) same (Contains-first r rows)
+  | inr later ↦ Contains-later r rows row (taken rows i row later)
+]
+
 -- after those before it were dropped it is there still, and alone at its place
 pub record IsLeftAt (s : Entries) (some : List Row) (i at : ℕ) : Type 0 where
   pub row : Row
@@ -68,16 +78,20 @@ pub record IsLeftAt (s : Entries) (some : List Row) (i at : ℕ) : Type 0 where
   pub only : only_at at s.rows ≡ row ∷ []
 
 pub left_at : {s now : Entries} {words windows places : List ℕ} {start aside : Aside} {t : ℕ}
-    (gone : List Row) (i at : ℕ) → AreRowsAt s.rows places gone → IsSound now words windows
+    (gone : List Row) (i at : ℕ) → AreRowsAt s.rows places gone → are_apart s.rows ≡ true → IsSound now words windows
     → Drops s now start aside t (take i gone) → i < length places → slice_index places i ≡ at
     → IsLeftAt now gone i at
-left_at {s} {now} {words} {windows} {places} gone i at are sound drops low here =
+left_at {s} {now} {words} {windows} {places} gone i at are apart sound drops low here =
     let n = nth_row gone i are.once (omega (arith, low, ap (length {A = ℕ}) are.places_are)) in
     let place : n.row.place ≡ at = n.place ∙ ap (λ l. slice_index l i) are.places_are ∙ here in
     let left : now.rows ≡ left_of (take i gone) s.rows = ap (λ (x : Entries). x.rows) drops.dropped in
+    let fresh : is_among (take i gone) n.row ≡ false = false_from_ne_true (is_among (take i gone) n.row) (λ h.
+    let r = among_from (take i gone) n.row h in
+    let same : r.0 ≡ n.row = one_by_key s.rows r.0 n.row apart (are.there r.0 (taken gone i r.0 r.1)) (are.there n.row n.member) r.2 in
+    false≢true (sym n.fresh ∙ subst (λ (x : Row). has_place x.place (take i gone) ≡ true) same (place_there (take i gone) r.0 r.1))) in
     let c : Contains now.rows n.row =
     subst (λ l. Contains l n.row) (sym left)
-    (Contains-kept (λ (r : Row). not (has_place r.place (take i gone))) s.rows n.row (are.there n.row n.member) (ap not n.fresh)) in
+    (Contains-kept (λ (r : Row). not (is_among (take i gone) r)) s.rows n.row (are.there n.row n.member) (ap not fresh)) in
     record {
       row = n.row;
       more = n.more;

@@ -1,11 +1,9 @@
 -- How rows leave the entries.
-use Rattle.std.specs.Prelude.{ℕ, Bool, not, nat_lt, if◌then◌else◌, List, [], filter}
+use Rattle.std.specs.Prelude.{ℕ, if◌then◌else◌, List, filter}
 use Rattle.seg_words.specs.Windows.{has}
 use Rattle.apcu_model.specs.Cache.{Row}
-use Rattle.apcu_model.specs.Change.{is_held, leaving, removed_with}
+use Rattle.apcu_model.specs.Change.{is_held, leaving, left_of, removed_with, spent}
 use Rattle.apcu_model.specs.Expiry.{is_expired}
-use Rattle.apcu_model.specs.Walk.{in_slot_order}
-use Rattle.entry_slots.specs.Lists.{has_place}
 use Rattle.entry_slots.specs.Entries.{Entries, chain_of, freed_at}
 
 -- the removed rows that nobody copies any more are gone
@@ -16,37 +14,25 @@ swept_in held s = record s { removed = filter (is_held held) s.removed }
 abbrev pub swept_at : List ℕ → ℕ → Entries → Entries
 swept_at held at s = if has at held then s else freed_at at s
 
--- the rows but those at the places of `gone`
-abbrev pub left_of : List Row → List Row → List Row
-left_of gone rows = filter (λ row. not (has_place row.place gone)) rows
-
--- these rows leave the rows, one after the other: those that are held go to the end of the
--- removed ones
+-- these rows leave the rows, one after the other, as `dropped` of a cache says
 abbrev pub dropped_rows : List ℕ → ℕ → List Row → Entries → Entries
 dropped_rows held t gone s = record s {
   rows = left_of gone s.rows;
   removed = removed_with held t gone s.removed;
 }
 
--- the rows that pass leave the rows, as `dropped` of a cache says
-abbrev pub dropped_in : List ℕ → ℕ → (Row → Bool) → Entries → Entries
-dropped_in held t pass s = record s {
-  rows = filter (λ row. not (pass row)) s.rows;
-  removed = removed_with held t (leaving s.conf pass s.rows) s.removed;
-}
-
 -- all rows, in the order in which they are dropped
 abbrev pub all_rows : Entries → List Row
-all_rows s = in_slot_order s.conf s.rows
+all_rows s = leaving s.conf s.rows
 
 -- the expired ones of them
 abbrev pub expired_rows : ℕ → Entries → List Row
-expired_rows t s = leaving s.conf (is_expired s.conf t) s.rows
+expired_rows t s = leaving s.conf (filter (is_expired s.conf t) s.rows)
 
 -- the expired ones of one slot
 abbrev pub expired_in : ℕ → ℕ → Entries → List Row
 expired_in t slot s = filter (is_expired s.conf t) (chain_of s slot)
 
--- those that go where room is wanted: none where the cache has no time limit
+-- those that go where room is wanted
 abbrev pub spent_rows : ℕ → Entries → List Row
-spent_rows t s = if nat_lt 0 s.conf.ttl then expired_rows t s else []
+spent_rows t s = spent s.conf t s.rows

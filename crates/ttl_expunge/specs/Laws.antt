@@ -1,12 +1,11 @@
 -- The laws of this crate, as records that callers hand on.
 use Rattle.apcu_model.specs.Cache.{Row}
-use Rattle.apcu_model.specs.Walk.{in_slot_order}
 use Rattle.entry_slots.specs.Entries.{Entries}
 use Rattle.entry_slots.specs.Facts.{IsSound}
 use Rattle.seg_words.specs.Probing.{Goes}
 use Rattle.seg_words.specs.Windows.{Aside, held_blocks}
-use Rattle.std.specs.Prelude.{Bool, Contains, List, filter, ℕ, ◌≡◌}
-use Rattle.ttl_expunge.specs.Dropping.{dropped_in, dropped_rows}
+use Rattle.std.specs.Prelude.{Contains, List, ℕ, ◌≡◌}
+use Rattle.ttl_expunge.specs.Dropping.{dropped_rows}
 use Rattle.ttl_expunge.specs.Held.{AreHeld, Drops, KeepsOpen}
 
 -- what follows where rows were dropped
@@ -14,10 +13,6 @@ pub record DropLaws : Type 0 where
   pub later : (s new : Entries) (before after later : Aside) (t : ℕ) (gone : List Row)
       → Drops s new before after t gone → Goes after later → new
       ≡ dropped_rows (held_blocks later) t gone s
-  pub order : (s : Entries) (words windows held : List ℕ) (t : ℕ) (pass : Row → Bool)
-      → IsSound s words windows
-      → dropped_rows held t (in_slot_order s.conf (filter pass s.rows)) s
-      ≡ dropped_in held t pass s
   pub keeps :
       (s new : Entries) (words windows : List ℕ) (before after : Aside) (t : ℕ) (gone : List Row)
       → IsSound s words windows → ((row : Row) → Contains gone row → Contains s.rows row)

@@ -1,6 +1,6 @@
 ghost use Rattle.std.specs.Prelude.{◌≡◌, ◌<◌, true, filter};
 ghost use Rattle.apcu_model.specs.Cache.{Row};
-ghost use Rattle.apcu_model.specs.Walk.{in_slot_order};
+ghost use Rattle.apcu_model.specs.Change.{leaving};
 ghost use Rattle.entry_slots.specs.Lists.{has_place, only_at};
 ghost use Rattle.entry_slots.specs.Entries.{chain_of};
 ghost use Rattle.ttl_expunge.specs.Dropping.{all_rows, expired_rows, expired_in};
@@ -66,7 +66,7 @@ fn drop_chain<S: Segment>(slots: &mut EntrySlots, seg: &mut S, slot: u32, which:
 fn drop_all<S: Segment>(slots: &mut EntrySlots, seg: &mut S, which: Which, t: u64)
     requires ready { MayDropRows S.WordsIn slots.old seg.old }
     ensures { DropsRows S.WordsIn slots.old slots.new seg.old seg.new t
-        (in_slot_order (entries slots.old).conf
+        (leaving (entries slots.old).conf
         (filter (is_to_drop which t) (entries slots.old).rows)) }
 {
     standing_laws();

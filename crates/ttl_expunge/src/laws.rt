@@ -1,19 +1,17 @@
 //! What the layers above rely on beside the calls.
 
 ghost use Rattle.ttl_expunge.specs.Laws.{DropLaws};
-ghost use Rattle.std.specs.Prelude.{◌≡◌, ℕ, Bool, List, filter, Contains};
+ghost use Rattle.std.specs.Prelude.{◌≡◌, ℕ, List, Contains};
 ghost use Rattle.seg_words.specs.Probing.{Goes};
 ghost use Rattle.seg_words.specs.Windows.{Aside, held_blocks};
 ghost use Rattle.apcu_model.specs.Cache.{Row};
-ghost use Rattle.apcu_model.specs.Walk.{in_slot_order};
 ghost use Rattle.entry_slots.specs.Entries.{Entries};
-ghost use Rattle.ttl_expunge.specs.Dropping.{dropped_in, dropped_rows};
+ghost use Rattle.ttl_expunge.specs.Dropping.{dropped_rows};
 ghost use Rattle.ttl_expunge.specs.Held.{AreHeld, KeepsOpen, Drops};
 ghost use Rattle.entry_slots.specs.Facts.{IsSound};
 
 /// What follows where rows were dropped: it is so by the blocks that are held after later probes of
-/// the event, and in the order of a cache; the rows under open windows stay, and removed rows that
-/// are held stay so.
+/// the event; the rows under open windows stay, and removed rows that are held stay so.
 pub fn drop_laws()
     ensures { DropLaws }
 {}

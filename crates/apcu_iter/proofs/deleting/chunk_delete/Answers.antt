@@ -65,7 +65,7 @@ returns-clause-does g c =
     let before = g.S.WordsIn.aside c.args.seg.now in
     let now = g.S.WordsIn.aside c.drop_rows.new.seg in
     let laws = c.drop_laws.ensures in
-    let gone = core_dropped laws core new key c.args.from c.args.size c.args.t c.requires.ready.stand.whole (sound g c) (low g c) (drops g c) in
+    let gone = core_dropped laws core new key c.args.from c.args.size c.args.t c.requires.ready.stand.whole (drops g c) in
     let rows = rows_of_chunk key c.args.t c.args.from c.args.size _ (sound g c) (low g c) refl in
     let next = c.in_ok-next.ensures.next
     ∙ ap (λ (x : Choice). chunk_end x.pattern x.t (uncounted (entries slots)) c.args.from c.args.size) c.in_ok-test.ensures

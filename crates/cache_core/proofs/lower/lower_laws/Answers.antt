@@ -5,5 +5,4 @@ returns c = record {
   standing = c.standing_laws.ensures;
   drops = c.drop_laws.ensures;
   counts = c.count_laws.ensures;
-  single = c.order_single.ensures;
 }

@@ -1,5 +1,6 @@
 use Rattle.std.proofs.Common.{◌≡◌, ℕ, refl, ap, ◌∙◌, subst, arith}
 use Rattle.std.specs.List.{flat_map, range_with_len}
+use Rattle.apcu_model.specs.Change.{leaving}
 use Rattle.entry_slots.specs.Entries.{Entries, chain_of}
 use Rattle.ttl_expunge.specs.Held.{Moves}
 use Rattle.ttl_expunge.proofs.Moving.{passing_starts, passing_on}
@@ -25,16 +26,15 @@ move_held_in-requires g c =
     }
 
 pub loop-slot-preserved : goal.loop-slot-preserved
-loop-slot-preserved g c =
-    let sound = c.standing_laws.ensures.sound c.loop-slot.slots (g.S.WordsIn.words c.loop-slot.seg) (g.S.WordsIn.aside c.loop-slot.seg) (entries c.loop-slot.slots) c.loop-slot.invariant.stand in
-    record {
-      passing = passing_on c.loop-slot.invariant.passing sound c.move_held_in.ensures.moves;
-      within = omega arith;
-      stand = c.move_held_in.ensures.stand;
-      rest = c.move_held_in.ensures.rest ∙ c.loop-slot.invariant.rest;
-    }
+loop-slot-preserved g c = record {
+  passing = passing_on c.loop-slot.invariant.passing c.move_held_in.ensures.moves;
+  within = omega arith;
+  stand = c.move_held_in.ensures.stand;
+  rest = c.move_held_in.ensures.rest ∙ c.loop-slot.invariant.rest;
+}
 
 pub returns : goal.returns
+unfolding leaving
 returns g c =
     let s = entries c.args.slots.now in
     let all : c.loop-slot.slot ≡ s.conf.slots = omega (arith, c.slots-end.ensures.slots, c.loop-slot.invariant.within) in

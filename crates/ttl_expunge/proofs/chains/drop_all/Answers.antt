@@ -24,14 +24,12 @@ drop_chain-requires-clause-slot g c =
     omega (arith, same, c.slots-end.ensures.slots)
 
 pub loop-slot-preserved : goal.loop-slot-preserved
-loop-slot-preserved g c =
-    let sound = c.standing_laws.ensures.sound c.loop-slot.slots (g.S.WordsIn.words c.loop-slot.seg) (g.S.WordsIn.aside c.loop-slot.seg) (entries c.loop-slot.slots) c.loop-slot.invariant.stand in
-    record {
-      expunging = expunging_on c.loop-slot.invariant.expunging sound c.drop_chain.ensures.drops;
-      within = omega arith;
-      stand = c.drop_chain.ensures.stand;
-      rest = c.drop_chain.ensures.rest ∙ c.loop-slot.invariant.rest;
-    }
+loop-slot-preserved g c = record {
+  expunging = expunging_on c.loop-slot.invariant.expunging c.drop_chain.ensures.drops;
+  within = omega arith;
+  stand = c.drop_chain.ensures.stand;
+  rest = c.drop_chain.ensures.rest ∙ c.loop-slot.invariant.rest;
+}
 
 pub returns : goal.returns
 returns g c = record {

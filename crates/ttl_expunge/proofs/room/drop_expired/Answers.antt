@@ -2,7 +2,7 @@ use Rattle.std.proofs.Common.{◌≡◌, Bool, false, cond, refl, sym, subst, []
 use Rattle.std.specs.Prelude.{nat_lt}
 use Rattle.std.proofs.lemmas.Bool.{le-ltb}
 use Rattle.apcu_model.specs.Expiry.{is_expired}
-use Rattle.apcu_model.specs.Walk.{in_slot_order}
+use Rattle.apcu_model.specs.Change.{leaving}
 use Rattle.ttl_expunge.specs.Steps.{DropsRows}
 use Rattle.ttl_expunge.proofs.Steps.{drops_nothing}
 use Rattle.entry_slots.specs.Standing.{entries}
@@ -12,7 +12,7 @@ pub returns-else-ttl-gt0 : goal.returns-else-ttl-gt0
 returns-else-ttl-gt0 g c =
     let s = entries c.args.slots.now in
     let is : nat_lt 0 s.conf.ttl ≡ false = le-ltb 0 s.conf.ttl (omega (arith, c.requires.limit, c.if-ttl-gt0.false)) in
-    subst (λ (b : Bool). DropsRows g.S.WordsIn c.args.slots.now c.args.slots.now c.args.seg.now c.args.seg.now c.args.t (cond b (in_slot_order s.conf (filter (is_expired s.conf c.args.t) s.rows)) [])) (sym is)
+    subst (λ (b : Bool). DropsRows g.S.WordsIn c.args.slots.now c.args.slots.now c.args.seg.now c.args.seg.now c.args.t (cond b (leaving s.conf (filter (is_expired s.conf c.args.t) s.rows)) [])) (sym is)
     (drops_nothing c.args.slots.now c.args.t (record { words = refl; aside = refl; rest = refl }) c.requires.ready)
 
 pub expunge_expired-requires-clause-limit : goal.expunge_expired-requires-clause-limit

@@ -3,7 +3,7 @@ use Rattle.std.specs.Prelude.{is_some}
 use Rattle.seg_words.specs.Probing.{goes_on}
 use Rattle.entry_slots.specs.Entries.{Entries}
 use Rattle.ttl_expunge.specs.Held.{Drops}
-use Rattle.apcu_model.specs.Facts.{order_from}
+use Rattle.apcu_model.specs.Facts.{leaving_from}
 use Rattle.ttl_expunge.proofs.Open.{sweeps_open, drops_open, open_on, sweeps_held, drops_held, nothing_swept}
 use Rattle.ttl_expunge.proofs.Making.{took, unchanged, drops_from, makes, room_swept, room_expired, room_full, expired_open, expired_rows_of, all_rows_of}
 use Rattle.entry_slots.specs.Standing.{entries}
@@ -57,7 +57,7 @@ returns-then-is_some-2 g c =
     drops_from (expired_rows_of c.args.t) (unchanged r s1 (entries c.take-swept.new.self) nothing e.none) e.beside.aside c.drop_expired.ensures.drops in
     record {
       made = makes r' false (took r' c.args.n s2 (entries c.take-unexpired.new.self) e'.taken e'.none) e'.place
-          (room_expired r r' sweeps e.place nothing drops sound e'.place (sym c.is_some-2.ensures ∙ c.if-is_some-2.true))
+          (room_expired r r' sweeps e.place nothing drops e'.place (sym c.is_some-2.ensures ∙ c.if-is_some-2.true))
           (ap (λ (x : Entries). x.conf) drops.dropped ∙ ap (λ (x : Entries). x.conf) sweeps.swept)
           (goes_on a0 a1 a2 sweeps.goes drops.goes)
           (open_on s0 s1 s2 a1 a2 drops.goes (sweeps_open s0 s1 a0 a1 sweeps) (expired_open s1 s2 a1 a2 c.args.t sound drops)) drops.refused (drops_held s1 s2 a1 a2 c.args.t (expired_rows_of c.args.t s1) drops (sweeps_held s0 s1 a0 a1 sweeps)) e'.beside.aside;
@@ -92,10 +92,10 @@ returns g c =
     let keeps = open_on s0 s1 s2 a1 a2 drops.goes (sweeps_open s0 s1 a0 a1 sweeps) (expired_open s1 s2 a1 a2 c.args.t sound drops) in
     record {
       made = makes c.take.result true (took c.take.result c.args.n s3 (entries c.take.new.self) f.taken f.none) f.place
-          (room_full r r' sweeps e.place nothing drops sound e'.place neither all sound')
+          (room_full r r' sweeps e.place nothing drops e'.place neither all)
           (ap (λ (x : Entries). x.conf) all.dropped ∙ (ap (λ (x : Entries). x.conf) drops.dropped ∙ ap (λ (x : Entries). x.conf) sweeps.swept))
           (goes_on a0 a2 a3 (goes_on a0 a1 a2 sweeps.goes drops.goes) all.goes)
-          (open_on s0 s2 s3 a2 a3 all.goes keeps (drops_open s2 s3 a2 a3 c.args.t (all_rows_of s2) sound' (order_from s2.conf s2.rows) all)) all.refused
+          (open_on s0 s2 s3 a2 a3 all.goes keeps (drops_open s2 s3 a2 a3 c.args.t (all_rows_of s2) sound' (leaving_from s2.conf s2.rows) all)) all.refused
           (drops_held s2 s3 a2 a3 c.args.t (all_rows_of s2) all (drops_held s1 s2 a1 a2 c.args.t (expired_rows_of c.args.t s1) drops (sweeps_held s0 s1 a0 a1 sweeps))) f.beside.aside;
       stand = c.take.ensures.stand;
       rest = c.take.ensures.beside.rest ∙ (c.expunge_at_once.ensures.rest ∙ (c.take-unexpired.ensures.beside.rest ∙ (c.drop_expired.ensures.rest ∙ c.take-swept.ensures.beside.rest)));

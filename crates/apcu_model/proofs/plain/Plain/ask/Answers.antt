@@ -1,5 +1,8 @@
-use Rattle.std.proofs.Common.{arith}
+use Rattle.std.proofs.Common.{[], sym, ap, ◌∙◌, arith}
 use Rattle.std.proofs.lemmas.Grind.{common_steps}
+use Rattle.apcu_model.specs.declared.request.Request.{Request}
+use Rattle.apcu_model.specs.declared.request.Request.TheVariants.{Delete}
+use Rattle.apcu_model.specs.Sequential.{cache_after}
 use Rattle.apcu_model.proofs.plain.Plain.ask.Goals as goal
 
 pub store_copies-requires : goal.store_copies-requires
@@ -117,7 +120,10 @@ pub returns-in-Delete-clause-reply : goal.returns-in-Delete-clause-reply
 returns-in-Delete-clause-reply c = grind (arith, common_steps)
 
 pub returns-in-Delete-clause-after : goal.returns-in-Delete-clause-after
-returns-in-Delete-clause-after c = grind (arith, common_steps)
+returns-in-Delete-clause-after c =
+    c.delete.ensures.after
+    ∙ ap (λ (r : Request). cache_after [] c.args.t r c.args.self.now)
+    (ap Delete c.as_slice-in-Delete.ensures.bytes ∙ sym c.in-Delete.is)
 
 pub returns-in-Delete-clause-err : goal.returns-in-Delete-clause-err
 returns-in-Delete-clause-err c = grind (arith, common_steps)

@@ -1,7 +1,8 @@
-use Rattle.std.proofs.Common.{true, List, sym, ap, ◌∙◌}
+use Rattle.std.proofs.Common.{List, [], sym, ap, ◌∙◌}
 use Rattle.apcu_model.specs.Cache.{Row, Cache}
+use Rattle.apcu_model.specs.Change.{leaving}
 use Rattle.apcu_model.specs.Rows.{cache_in}
-use Rattle.apcu_model.proofs.Apart.{dropped_of, none_left}
+use Rattle.apcu_model.proofs.Apart.{dropped_of, left_none}
 use Rattle.apcu_model.proofs.state.State.clear.Goals as goal
 
 pub returns-clause-cache : goal.returns-clause-cache
@@ -9,5 +10,5 @@ returns-clause-cache c = λ t.
     let s = c.args.self.now in
     ap
     (λ (rows : List Row). let d : Cache = record (cache_in s) { rows = rows; hits = 0; misses = 0; inserts = 0; expunges = 0 } in d)
-    (c.clear.ensures.items ∙ sym (none_left s.rows.items))
-    ∙ sym (ap (λ (d : Cache). let e : Cache = record d { hits = 0; misses = 0; inserts = 0; expunges = 0 } in e) (dropped_of t (λ row. true) s))
+    c.clear.ensures.items
+    ∙ sym (ap (λ (d : Cache). let e : Cache = record d { hits = 0; misses = 0; inserts = 0; expunges = 0 } in e) (dropped_of t (leaving s.conf s.rows.items) [] s (left_none s.conf s.rows.items c.requires.good.slots_least)))

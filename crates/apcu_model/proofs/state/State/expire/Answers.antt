@@ -1,19 +1,23 @@
-use Rattle.std.proofs.Common.{◌≡◌, true, not, List, [], nat_lt, sym, ap, ◌∙◌}
-use Rattle.std.proofs.lemmas.Bool.{lt-ltb, cond-true}
+use Rattle.std.proofs.Common.{◌≡◌, Bool, true, false, cond, not, List, [], filter, nat_lt, sym, ap, ◌∙◌, arith}
+use Rattle.std.proofs.lemmas.Bool.{le-ltb, lt-ltb, cond-true}
 use Rattle.apcu_model.specs.Cache.{Row, Cache}
-use Rattle.apcu_model.specs.Change.{dropped}
+use Rattle.apcu_model.specs.Change.{dropped, leaving}
 use Rattle.apcu_model.specs.Expiry.{is_expired}
+use Rattle.apcu_model.specs.Facts.{left_all}
 use Rattle.apcu_model.specs.Rows.{are_apart, cache_in}
-use Rattle.apcu_model.proofs.Apart.{dropped_of, are_apart-filter}
+use Rattle.apcu_model.proofs.Apart.{dropped_of, left_in_order, are_apart-filter}
 use Rattle.apcu_model.proofs.state.State.expire.Goals as goal
 
 pub returns-then-self-gt0-clause-cache : goal.returns-then-self-gt0-clause-cache
 returns-then-self-gt0-clause-cache c =
     let s = c.args.self.now in
     let limited : nat_lt 0 s.conf.ttl ≡ true = lt-ltb 0 s.conf.ttl c.if-self-gt0.true in
-    let rest = is_expired s.conf c.args.t in
+    let over = is_expired s.conf c.args.t in
+    let gone = leaving s.conf (filter over s.rows.items) in
+    let left = filter (λ row. not (over row)) s.rows.items in
     ap (λ (rows : List Row). let d : Cache = record (cache_in s) { rows = rows } in d) c.drop_expired.ensures.items
-    ∙ (sym (dropped_of c.args.t rest s) ∙ sym (cond-true (nat_lt 0 s.conf.ttl) (dropped [] c.args.t rest (cache_in s)) (cache_in s) limited))
+    ∙ (sym (dropped_of c.args.t gone left s (left_in_order s.conf over s.rows.items c.requires.apart c.requires.good.slots_least))
+    ∙ ap (λ (l : List Row). dropped [] c.args.t l (cache_in s)) (sym (cond-true (nat_lt 0 s.conf.ttl) gone [] limited)))
 
 pub returns-then-self-gt0-clause-valid : goal.returns-then-self-gt0-clause-valid
 returns-then-self-gt0-clause-valid c =
@@ -22,3 +26,11 @@ returns-then-self-gt0-clause-valid c =
       good = c.requires.good;
       apart = ap are_apart c.drop_expired.ensures.items ∙ are_apart-filter (λ row. not (is_expired s.conf c.args.t row)) s.rows.items c.requires.apart;
     }
+
+pub returns-else-self-gt0-clause-cache : goal.returns-else-self-gt0-clause-cache
+returns-else-self-gt0-clause-cache c =
+    let s = c.args.self.now in
+    let gone = leaving s.conf (filter (is_expired s.conf c.args.t) s.rows.items) in
+    let none : nat_lt 0 s.conf.ttl ≡ false = le-ltb 0 s.conf.ttl (omega (arith, c.if-self-gt0.false)) in
+    sym (dropped_of c.args.t [] s.rows.items s (left_all s.rows.items))
+    ∙ ap (λ (b : Bool). dropped [] c.args.t (cond b gone []) (cache_in s)) (sym none)

@@ -1,7 +1,8 @@
-use Rattle.std.proofs.Common.{ℕ, true, List, sym, ap, ap₂, ◌∙◌}
+use Rattle.std.proofs.Common.{ℕ, List, [], sym, ap, ap₂, ◌∙◌}
 use Rattle.apcu_model.specs.Cache.{Row, Cache, risen}
+use Rattle.apcu_model.specs.Change.{leaving}
 use Rattle.apcu_model.specs.Rows.{cache_in}
-use Rattle.apcu_model.proofs.Apart.{dropped_of, none_left}
+use Rattle.apcu_model.proofs.Apart.{dropped_of, left_none}
 use Rattle.apcu_model.proofs.state.State.expunge.Goals as goal
 
 pub returns-clause-cache : goal.returns-clause-cache
@@ -9,7 +10,7 @@ returns-clause-cache c = λ t.
     let s = c.args.self.now in
     ap₂
     (λ (rows : List Row) (expunges : ℕ). let d : Cache = record (cache_in s) { rows = rows; hits = 0; misses = 0; inserts = 0; expunges = expunges } in d)
-    (c.clear.ensures.items ∙ sym (none_left s.rows.items))
+    c.clear.ensures.items
     c.saturating_add-self.ensures
     ∙ sym
-    (ap (λ (d : Cache). let e : Cache = record d { hits = 0; misses = 0; inserts = 0; expunges = risen s.expunges } in e) (dropped_of t (λ row. true) s))
+    (ap (λ (d : Cache). let e : Cache = record d { hits = 0; misses = 0; inserts = 0; expunges = risen s.expunges } in e) (dropped_of t (leaving s.conf s.rows.items) [] s (left_none s.conf s.rows.items c.requires.good.slots_least)))

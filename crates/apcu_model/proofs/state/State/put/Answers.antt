@@ -22,7 +22,7 @@ returns-clause-cache c =
     (λ (number inserts : ℕ). let e : Cache = record (cache_in s) { rows = with_row new (fresh_rows s (slot_of s.conf d.key) c.args.t); next_number = number; inserts = inserts } in e)
     c.saturating_add-self.ensures
     c.saturating_add-self-2.ensures
-    ∙ sym (placed_of d.key d.graph d.ttl c.args.t d.size c.args.place s))
+    ∙ sym (placed_of d.key d.graph d.ttl c.args.t d.size c.args.place s c.requires.valid.apart))
 
 pub returns-clause-valid : goal.returns-clause-valid
 returns-clause-valid c =

@@ -4,7 +4,7 @@ use Rattle.entry_slots.specs.Entries.{Entries}
 use Rattle.entry_slots.specs.Standing.{entries}
 use Rattle.ttl_expunge.specs.Dropping.{all_rows}
 use Rattle.cache_core.specs.declared.cache.Core.{Core}
-use Rattle.apcu_model.specs.Facts.{order_from}
+use Rattle.apcu_model.specs.Facts.{leaving_from}
 use Rattle.cache_core.proofs.Keyed.{core_cleared}
 use Rattle.cache_core.proofs.cache.Core.clear.Goals as goal
 
@@ -25,13 +25,13 @@ returns g c =
     let begun = g.S.WordsIn.aside c.args.seg.now in
     let now = g.S.WordsIn.aside c.expunge_at_once.new.seg in
     let sound = laws.standing.sound core.slots words begun s c.requires.stand.stand in
-    let made = core_cleared laws core new c.args.t c.requires.stand.whole sound drops refl c.new-self.ensures in
+    let made = core_cleared laws core new c.args.t c.requires.stand.whole drops refl c.new-self.ensures in
     record {
       reply = λ later on. refl;
       cache = λ later on. (made later on).0;
       step = record {
         goes = drops.goes;
-        keeps = laws.drops.keeps s (entries c.expunge_at_once.new.slots) words begun.windows begun now c.args.t (all_rows s) sound (λ row m. order_from s.conf s.rows row m) drops;
+        keeps = laws.drops.keeps s (entries c.expunge_at_once.new.slots) words begun.windows begun now c.args.t (all_rows s) sound (λ row m. leaving_from s.conf s.rows row m) drops;
         refused = λ was. drops.refused;
         stand = record { stand = c.expunge_at_once.ensures.stand; whole = (made now (goes_nowhere now now refl)).1 };
         rest = c.expunge_at_once.ensures.rest;

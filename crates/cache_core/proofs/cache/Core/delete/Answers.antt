@@ -1,4 +1,4 @@
-use Rattle.std.proofs.Common.{◌≡◌, ◌∙◌, Bool, true, refl, sym, ap, subst}
+use Rattle.std.proofs.Common.{◌≡◌, ◌∙◌, Bool, true, filter, refl, sym, ap, subst}
 use Rattle.std.specs.Prelude.{is_some, if◌then◌else◌}
 use Rattle.seg_words.specs.Windows.{Aside}
 use Rattle.seg_words.specs.Probing.{Goes, goes_nowhere}
@@ -42,7 +42,7 @@ returns-in_default g c =
     let none = sym (ap is_some c.in_default.ensures.none) in
     let same : IsUnchanged g.S.WordsIn c.args.self.now c.args.self.now c.args.seg.now c.find_spot.new.seg = record { core = refl; kept = c.find_spot.ensures.kept } in
     record {
-      does = does_nothing same c.requires.ready.stand (λ held. ap reply.Flag none) (λ held. ap (λ (b : Bool). if b then dropped held c.args.t (has_key c.args.key.now) old else old) none);
+      does = does_nothing same c.requires.ready.stand (λ held. ap reply.Flag none) (λ held. ap (λ (b : Bool). if b then dropped held c.args.t (filter (has_key c.args.key.now) old.rows) old else old) none);
       none = λ none. same;
     }
 
