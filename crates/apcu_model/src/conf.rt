@@ -31,8 +31,8 @@ pub struct Conf {
 const USUAL_WORDS: u32 = 4_194_304;
 
 impl Conf {
-    /// The shape where nothing else is asked for: one segment of 32 MB (PHP's `apc.shm_size`), 4,096
-    /// slots, and no time limit.
+    /// The shape where nothing else is asked for: one segment of 32 MB (PHP's `apc.shm_size`),
+    /// 4,096 slots, and no time limit.
     pub fn usual() -> Conf
         ensures is { result
             ≡ record { words = USUAL_WORDS; slots = 4096; ttl = 0; segments = 1 } }

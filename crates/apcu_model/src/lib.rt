@@ -2,6 +2,7 @@
 #![tactic(auto)]
 
 mod ask;
+mod clock;
 mod conf;
 mod counts;
 mod entry;
@@ -26,6 +27,7 @@ mod telling;
 mod value;
 
 pub use ask::Ask;
+pub use clock::Clock;
 pub use conf::{Conf, MOST_SEGMENTS, MOST_SLOTS, MOST_WORDS};
 pub use counts::Counts;
 pub use event::Event;

@@ -2,7 +2,6 @@
 use Rattle.std.proofs.Common.{◌≡◌, ◌≢◌, ◌<◌, ◌≤◌, ℕ, List, ◌++◌, length, Option, Some, None, inl, inr, refl, sym, ap, subst, arith, ◌∙◌}
 use Rattle.std.specs.Prelude.{Bool, IfSome}
 use Rattle.io_edges.specs.Faults.{Rose}
-use Rattle.apcu_model.specs.declared.conf.Conf.{Conf}
 use Rattle.conf_read.specs.declared.settings.Settings.{Settings}
 use Rattle.script_read.specs.declared.script.Step.{Step}
 use Rattle.apcu_play.specs.declared.status.Status.{Status}
@@ -11,8 +10,8 @@ use Rattle.script_read.specs.Grammar.{AreScripts}
 use Rattle.std.proofs.lemmas.List.{append-nil}
 use Rattle.std.specs.Io.KnownBytes.{prepend_known, IsAtEnd}
 use Rattle.script_read.specs.Ties.{ScriptsAreOne}
-use Rattle.crew_play.specs.Budgets.{all_events, most_events}
-use Rattle.crew_play.specs.Searching.{SomeRefusable}
+use Rattle.script_read.specs.Budgets.{all_events, most_events}
+use Rattle.script_read.specs.Patterns.{SomeRefusable}
 use Rattle.notation.specs.declared.fault.Reason.{Reason}
 use Rattle.apcu_play.specs.Message.{script_message}
 use Rattle.apcu_play.specs.Run.{longest_input, WasRead, AnswersInput, Replays, ReplaysPart, IsRefusedAt, IsRefused, IsCrowded, IsUnsearchable, TellsMessage, TellsRefusal, IsUnlessMemory, Completes}
@@ -30,20 +29,20 @@ was_read left input before after told read = all_read left input after (sym told
 longer_is : (left : List ℕ) (before : Option (List ℕ)) → before ≡ Some left → IfSome before (λ l. longest_input < length l) → longest_input < length left
 longer_is left before told longer = subst (λ (o : Option (List ℕ)). IfSome o (λ l. longest_input < length l)) told longer
 
-module _ (one : ScriptsAreOne) (may_refuse : Bool → List ℕ → Type 0) (conf : Conf) (before after held_before held_after : Option (List ℕ)) (reads_before reads_after writes_before writes_after : ℕ) where
+module _ (one : ScriptsAreOne) (may_refuse : Bool → List ℕ → Type 0) (asked : Settings) (before after held_before held_after : Option (List ℕ)) (reads_before reads_after writes_before writes_after : ℕ) where
   -- what is known of how a run ended
   pub record Ended (status : Status) : Type 0 where
-    pub replayed : status ≡ Done → Replays conf before after held_before held_after
+    pub replayed : status ≡ Done → Replays asked before after held_before held_after
     pub usage : status ≢ Usage
     pub script : status ≡ Script → IsRefused before after
-    pub too_many : status ≡ TooMany → IsCrowded conf before after
-    pub pattern : status ≡ Pattern → IsUnsearchable may_refuse conf before after
+    pub too_many : status ≡ TooMany → IsCrowded asked.conf before after
+    pub pattern : status ≡ Pattern → IsUnsearchable may_refuse asked.conf before after
     pub longer : status ≡ TooLong → IfSome before (λ left. longest_input < length left)
     pub read_fault : status ≡ ReadFault → Rose reads_before reads_after
     pub write_fault : status ≡ WriteFault → Rose writes_before writes_after
-    pub cut : status ≡ WriteFault → ReplaysPart conf before after held_before held_after
+    pub cut : status ≡ WriteFault → ReplaysPart asked before after held_before held_after
 
-  spelled_is : (input : List ℕ) (printed : List ℕ) → before ≡ Some input → AnswersInput conf before after printed → (length input ≤ longest_input) × ((scripts : List (List Step)) × AreScripts input scripts)
+  spelled_is : (input : List ℕ) (printed : List ℕ) → before ≡ Some input → AnswersInput asked before after printed → (length input ≤ longest_input) × ((scripts : List (List Step)) × AreScripts input scripts)
   spelled_is input printed told answer =
       let same = was_read input answer.input before after told answer.read in
       (subst (λ (i : List ℕ). length i ≤ longest_input) (sym same) answer.read.short, (answer.scripts, subst (λ (i : List ℕ). AreScripts i answer.scripts) (sym same) answer.spelled))
@@ -54,37 +53,37 @@ module _ (one : ScriptsAreOne) (may_refuse : Bool → List ℕ → Type 0) (conf
       (subst (λ (i : List ℕ). length i ≤ longest_input) (sym same) refused.at.read.short, λ scripts are. refused.at.nothing scripts (subst (λ (i : List ℕ). AreScripts i scripts) same are))
 
   -- what the input spells makes few events where something was answered, and many where it was too much
-  few_is : (input : List ℕ) (scripts : List (List Step)) (printed : List ℕ) → before ≡ Some input → AreScripts input scripts → AnswersInput conf before after printed → all_events conf.slots scripts ≤ most_events
+  few_is : (input : List ℕ) (scripts : List (List Step)) (printed : List ℕ) → before ≡ Some input → AreScripts input scripts → AnswersInput asked before after printed → all_events asked.conf.slots scripts ≤ most_events
   few_is input scripts printed told are answer =
       let same = was_read input answer.input before after told answer.read in
       let other = one input answer.scripts scripts (subst (λ (i : List ℕ). AreScripts i answer.scripts) (sym same) answer.spelled) are in
-      subst (λ (s : List (List Step)). all_events conf.slots s ≤ most_events) other answer.few
+      subst (λ (s : List (List Step)). all_events asked.conf.slots s ≤ most_events) other answer.few
 
-  many_is : (input : List ℕ) (scripts : List (List Step)) → before ≡ Some input → AreScripts input scripts → IsCrowded conf before after → most_events < all_events conf.slots scripts
+  many_is : (input : List ℕ) (scripts : List (List Step)) → before ≡ Some input → AreScripts input scripts → IsCrowded asked.conf before after → most_events < all_events asked.conf.slots scripts
   many_is input scripts told are crowded =
       let same = was_read input crowded.input before after told crowded.read in
       let other = one input crowded.scripts scripts (subst (λ (i : List ℕ). AreScripts i crowded.scripts) (sym same) crowded.spelled) are in
-      subst (λ (s : List (List Step)). most_events < all_events conf.slots s) other crowded.many
+      subst (λ (s : List (List Step)). most_events < all_events asked.conf.slots s) other crowded.many
 
-  crowded_is : (input : List ℕ) → before ≡ Some input → IsCrowded conf before after → (length input ≤ longest_input) × ((scripts : List (List Step)) × AreScripts input scripts)
+  crowded_is : (input : List ℕ) → before ≡ Some input → IsCrowded asked.conf before after → (length input ≤ longest_input) × ((scripts : List (List Step)) × AreScripts input scripts)
   crowded_is input told crowded =
       let same = was_read input crowded.input before after told crowded.read in
       (subst (λ (i : List ℕ). length i ≤ longest_input) (sym same) crowded.read.short, (crowded.scripts, subst (λ (i : List ℕ). AreScripts i crowded.scripts) (sym same) crowded.spelled))
 
   -- and of a pattern that may be refused
-  searched_is : (input : List ℕ) (scripts : List (List Step)) → before ≡ Some input → AreScripts input scripts → IsUnsearchable may_refuse conf before after → (all_events conf.slots scripts ≤ most_events) × SomeRefusable may_refuse scripts
+  searched_is : (input : List ℕ) (scripts : List (List Step)) → before ≡ Some input → AreScripts input scripts → IsUnsearchable may_refuse asked.conf before after → (all_events asked.conf.slots scripts ≤ most_events) × SomeRefusable may_refuse scripts
   searched_is input scripts told are u =
       let same = was_read input u.input before after told u.read in
       let other = one input u.scripts scripts (subst (λ (i : List ℕ). AreScripts i u.scripts) (sym same) u.spelled) are in
-      subst (λ (s : List (List Step)). (all_events conf.slots s ≤ most_events) × SomeRefusable may_refuse s) other (u.few, u.refusable)
+      subst (λ (s : List (List Step)). (all_events asked.conf.slots s ≤ most_events) × SomeRefusable may_refuse s) other (u.few, u.refusable)
 
-  unsearchable_is : (input : List ℕ) → before ≡ Some input → IsUnsearchable may_refuse conf before after → (length input ≤ longest_input) × ((scripts : List (List Step)) × AreScripts input scripts)
+  unsearchable_is : (input : List ℕ) → before ≡ Some input → IsUnsearchable may_refuse asked.conf before after → (length input ≤ longest_input) × ((scripts : List (List Step)) × AreScripts input scripts)
   unsearchable_is input told u =
       let same = was_read input u.input before after told u.read in
       (subst (λ (i : List ℕ). length i ≤ longest_input) (sym same) u.read.short, (u.scripts, subst (λ (i : List ℕ). AreScripts i u.scripts) (sym same) u.spelled))
 
   done_by : (status : Status) → Ended status → (input : List ℕ) (scripts : List (List Step)) → before ≡ Some input → length input ≤ longest_input → AreScripts input scripts
-      → all_events conf.slots scripts ≤ most_events → ¬ SomeRefusable may_refuse scripts → ¬ Rose reads_before reads_after → ¬ Rose writes_before writes_after → IsUnlessMemory Done status
+      → all_events asked.conf.slots scripts ≤ most_events → ¬ SomeRefusable may_refuse scripts → ¬ Rose reads_before reads_after → ¬ Rose writes_before writes_after → IsUnlessMemory Done status
   done_by Done e input scripts told short are few plain no_read no_write = inl refl
   done_by Usage e input scripts told short are few plain no_read no_write = absurd (e.usage refl)
   done_by Script e input scripts told short are few plain no_read no_write = absurd ((refused_is input told (e.script refl)).1 scripts are)
@@ -96,7 +95,7 @@ module _ (one : ScriptsAreOne) (may_refuse : Bool → List ℕ → Type 0) (conf
   done_by Pattern e input scripts told short are few plain no_read no_write = absurd (plain (searched_is input scripts told are (e.pattern refl)).1)
 
   too_many_by : (status : Status) → Ended status → (input : List ℕ) (scripts : List (List Step)) → before ≡ Some input → length input ≤ longest_input → AreScripts input scripts
-      → most_events < all_events conf.slots scripts → ¬ Rose reads_before reads_after → IsUnlessMemory TooMany status
+      → most_events < all_events asked.conf.slots scripts → ¬ Rose reads_before reads_after → IsUnlessMemory TooMany status
   too_many_by Done e input scripts told short are many no_read = let few = few_is input scripts (e.replayed refl).printed told are (e.replayed refl).answer in absurd (omega arith)
   too_many_by Usage e input scripts told short are many no_read = absurd (e.usage refl)
   too_many_by Script e input scripts told short are many no_read = absurd ((refused_is input told (e.script refl)).1 scripts are)
@@ -131,12 +130,12 @@ module _ (one : ScriptsAreOne) (may_refuse : Bool → List ℕ → Type 0) (conf
   too_long_by Pattern e input told long no_read = let s = (unsearchable_is input told (e.pattern refl)).0 in absurd (omega arith)
 
   -- and so what it must come to
-  pub completes : (status : Status) → Ended status → Completes may_refuse conf status before reads_before reads_after writes_before writes_after
+  pub completes : (status : Status) → Ended status → Completes may_refuse asked.conf status before reads_before reads_after writes_before writes_after
   completes status e = record { done = done_by status e; too_many = too_many_by status e; refused = refused_by status e; too_long = too_long_by status e }
 
 -- the same of the cache that the words tell, if they tell one
 pub completes_if : (one : ScriptsAreOne) (may_refuse : Bool → List ℕ → Type 0) (told : Option Settings) (before after held_before held_after : Option (List ℕ)) (reads_before reads_after writes_before writes_after : ℕ) (status : Status)
-    → IfSome told (λ s. status ≡ Done → Replays s.conf before after held_before held_after)
+    → IfSome told (λ s. status ≡ Done → Replays s before after held_before held_after)
     → (status ≡ Usage → told ≡ None)
     → (status ≡ Script → IsRefused before after)
     → IfSome told (λ s. status ≡ TooMany → IsCrowded s.conf before after)
@@ -144,11 +143,11 @@ pub completes_if : (one : ScriptsAreOne) (may_refuse : Bool → List ℕ → Typ
     → (status ≡ TooLong → IfSome before (λ left. longest_input < length left))
     → (status ≡ ReadFault → Rose reads_before reads_after)
     → (status ≡ WriteFault → Rose writes_before writes_after)
-    → IfSome told (λ s. status ≡ WriteFault → ReplaysPart s.conf before after held_before held_after)
+    → IfSome told (λ s. status ≡ WriteFault → ReplaysPart s before after held_before held_after)
     → IfSome told (λ s. Completes may_refuse s.conf status before reads_before reads_after writes_before writes_after)
 completes_if one may_refuse None before after held_before held_after reads_before reads_after writes_before writes_after status replayed usage script too_many pattern longer read_fault write_fault cut = tt
 completes_if one may_refuse (Some s) before after held_before held_after reads_before reads_after writes_before writes_after status replayed usage script too_many pattern longer read_fault write_fault cut =
-    completes one may_refuse s.conf before after held_before held_after reads_before reads_after writes_before writes_after status
+    completes one may_refuse s before after held_before held_after reads_before reads_after writes_before writes_after status
     (record {
       replayed = replayed;
       usage = λ is. absurd (some_is_not_none (usage is));

@@ -5,6 +5,7 @@ use Rattle.std.specs.Prelude.{Some}
 use Rattle.std.specs.Io.KnownBytes.{prepend_known, append_known, IsAtEnd}
 use Rattle.io_edges.specs.Faults.{Rose}
 use Rattle.apcu_model.specs.declared.conf.Conf.{Conf}
+use Rattle.conf_read.specs.declared.settings.Settings.{Settings}
 use Rattle.apcu_model.specs.declared.journal.Mark.{Mark}
 use Rattle.script_read.specs.declared.script.Step.{Step}
 use Rattle.apcu_play.specs.declared.status.Status.{Status}
@@ -15,8 +16,9 @@ use Rattle.script_read.specs.Gives.{IsFirstScriptFault}
 use Rattle.apcu_play.specs.Message.{script_message}
 use Rattle.script_read.specs.Play.{IsLegal, IsCompletePlay}
 use Rattle.script_read.specs.Grammar.{AreScripts}
-use Rattle.crew_play.specs.Budgets.{all_events, most_events}
-use Rattle.crew_play.specs.Searching.{SomeRefusable}
+use Rattle.script_read.specs.Budgets.{all_events, most_events}
+use Rattle.script_read.specs.Clock.{all_timed}
+use Rattle.script_read.specs.Patterns.{SomeRefusable}
 use Rattle.apcu_play.specs.Output.{output_of}
 
 -- the most bytes of input
@@ -30,33 +32,33 @@ pub record WasRead (left_before left_after : Option (List ℕ)) (input : List �
   pub short : length input ≤ longest_input
 
 -- The whole input spells these scripts, and this is the output of a journal that is legal and
--- complete for them: each event once, in its worker's order, with the reply that the cache of one
--- thread gives there.
+-- complete for them as the clock sees them: each event once, in its worker's order, with the reply
+-- that the cache of one thread gives there.
 pub record AnswersInput
-    (conf : Conf) (left_before left_after : Option (List ℕ)) (printed : List ℕ) : Type 0 where
+    (s : Settings) (left_before left_after : Option (List ℕ)) (printed : List ℕ) : Type 0 where
   pub input : List ℕ
   pub scripts : List (List Step)
   pub journal : List Mark
   pub read : WasRead left_before left_after input
   pub spelled : AreScripts input scripts
-  pub few : all_events conf.slots scripts ≤ most_events
-  pub legal : IsLegal conf scripts journal
-  pub complete : IsCompletePlay conf scripts journal
-  pub text : printed ≡ output_of conf scripts journal
+  pub few : all_events s.conf.slots scripts ≤ most_events
+  pub legal : IsLegal s.conf (all_timed s.clock scripts) journal
+  pub complete : IsCompletePlay s.conf (all_timed s.clock scripts) journal
+  pub text : printed ≡ output_of s.conf (all_timed s.clock scripts) journal
 
 -- all of it was written
 pub record Replays
-    (conf : Conf) (left_before left_after held_before held_after : Option (List ℕ)) : Type 0 where
+    (s : Settings) (left_before left_after held_before held_after : Option (List ℕ)) : Type 0 where
   pub printed : List ℕ
-  pub answer : AnswersInput conf left_before left_after printed
+  pub answer : AnswersInput s left_before left_after printed
   pub written : held_after ≡ append_known held_before printed
 
 -- only the first of it was written
 pub record ReplaysPart
-    (conf : Conf) (left_before left_after held_before held_after : Option (List ℕ)) : Type 0 where
+    (s : Settings) (left_before left_after held_before held_after : Option (List ℕ)) : Type 0 where
   pub printed : List ℕ
   pub count : ℕ
-  pub answer : AnswersInput conf left_before left_after printed
+  pub answer : AnswersInput s left_before left_after printed
   pub fewer : count < length printed
   pub written : held_after ≡ append_known held_before (take count printed)
 

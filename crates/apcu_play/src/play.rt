@@ -1,13 +1,14 @@
 ghost use Rattle.std.specs.Prelude.{◌≡◌, ◌<◌, ◌≤◌, ◌++◌, IfOk, IfErr, OnOk};
 ghost use Rattle.apcu_model.specs.Conf.{IsGood};
-ghost use Rattle.crew_play.specs.Budgets.{all_events, most_events};
-ghost use Rattle.crew_play.specs.Searching.{SomeRefusable};
+ghost use Rattle.script_read.specs.Budgets.{all_events, most_events};
+ghost use Rattle.script_read.specs.Clock.{all_timed};
+ghost use Rattle.script_read.specs.Patterns.{SomeRefusable};
 ghost use Rattle.crew_play.specs.declared.play.CrewFault.TheVariants.{TooMany, Pattern};
 ghost use Rattle.apcu_play.specs.Output.{worker_texts, IsOutput};
 
 use crate::journal::write_journal;
 use apcu_iter::Maker;
-use apcu_model::Conf;
+use apcu_model::{Clock, Conf};
 use crew_play::{CrewFault, Played, play_scripts};
 use io_edges::Gate;
 use notation::ByteOut;
@@ -24,8 +25,8 @@ pub(crate) struct Printed {
     pub(crate) journal: ByteOut,
 }
 
-/// Plays the scripts, each worker on a thread of its own, and gathers what is printed: the lines of
-/// each worker, then the journal. Nothing is played where the calls may make more than 4,194,304
+/// Plays the scripts under a clock, each worker on a thread of its own, and gathers what is printed:
+/// the lines of each worker, then the journal. Nothing is played where the calls may make more than 4,194,304
 /// events, each worker's end included.
 pub(crate) fn play<R: Threads + Wait + Sync, M: Maker + Sync, G: Gate + Sync>(
     rt: &R,
@@ -34,10 +35,12 @@ pub(crate) fn play<R: Threads + Wait + Sync, M: Maker + Sync, G: Gate + Sync>(
     scripts: &Scripts,
     maker: &M,
     gate: &G,
+    clock: Clock,
 ) -> Result<Printed, CrewFault>
     requires good { IsGood conf.now }
     ensures output { IfOk result (λ p.
-        IsOutput conf.now scripts.now (worker_texts 0 p.texts.items ++ p.journal)) }
+        IsOutput conf.now (all_timed clock scripts.now)
+        (worker_texts 0 p.texts.items ++ p.journal)) }
     ensures few { OnOk result (all_events conf.now.slots scripts.now ≤ most_events) }
     ensures many { IfErr result (λ e. e ≡ TooMany
         → most_events < all_events conf.now.slots scripts.now) }
@@ -45,7 +48,11 @@ pub(crate) fn play<R: Threads + Wait + Sync, M: Maker + Sync, G: Gate + Sync>(
         → (all_events conf.now.slots scripts.now ≤ most_events)
         × SomeRefusable (M.may_refuse maker.now) scripts.now) }
 {
-    let Played { journal, texts } = play_scripts(rt, alloc, conf, scripts, maker, gate)?;
+    let Played {
+        journal,
+        texts,
+        counts: _,
+    } = play_scripts(rt, alloc, conf, scripts, maker, gate, clock)?;
     let mut lines = ByteOut::new(alloc);
     write_journal(&mut lines, &journal)?;
     Ok(Printed {

@@ -19,8 +19,7 @@ use crate::play::{Printed, play};
 use crate::printing::print;
 use crate::status::Status;
 use apcu_iter::Maker;
-use apcu_model::Conf;
-use conf_read::{ConfFault, read_settings};
+use conf_read::{ConfFault, Settings, read_settings};
 use crew_play::CrewFault;
 use io_edges::{Gate, ReadError, Sink, Source, read_all};
 use notation::Reason;
@@ -98,20 +97,20 @@ fn ending_of(fault: &ScriptFault) -> Ending
 fn answer<R: Threads + Wait + Sync, S: Source, M: Maker + Sync, G: Gate + Sync>(
     rt: &R,
     alloc: Global,
-    conf: &Conf,
+    settings: &Settings,
     input: &mut S,
     maker: &M,
     gate: &G,
 ) -> Result<Printed, Ending>
-    requires good { IsGood conf.now }
-    ensures answer { IfOk result (λ p. AnswersInput conf.now (S.left input.old) (S.left input.new)
-        (worker_texts 0 p.texts.items ++ p.journal)) }
+    requires good { IsGood settings.now.conf }
+    ensures answer { IfOk result (λ p. AnswersInput settings.now
+        (S.left input.old) (S.left input.new) (worker_texts 0 p.texts.items ++ p.journal)) }
     ensures script { IfErr result (λ e. e.status ≡ Status.Script
         → IsRefusedAt (S.left input.old) (S.left input.new) e.place e.reason) }
     ensures too_many { IfErr result (λ e. e.status ≡ Status.TooMany
-        → IsCrowded conf.now (S.left input.old) (S.left input.new)) }
+        → IsCrowded settings.now.conf (S.left input.old) (S.left input.new)) }
     ensures pattern { IfErr result (λ e. e.status ≡ Status.Pattern
-        → IsUnsearchable (M.may_refuse maker.now) conf.now
+        → IsUnsearchable (M.may_refuse maker.now) settings.now.conf
         (S.left input.old) (S.left input.new)) }
     ensures too_long { IfErr result (λ e. e.status ≡ Status.TooLong
         → HasTaken (S.left input.old) (S.left input.new) (longest_input + 1)) }
@@ -130,7 +129,8 @@ fn answer<R: Threads + Wait + Sync, S: Source, M: Maker + Sync, G: Gate + Sync>(
     };
     match read_scripts(alloc, &bytes) {
         Ok(scripts) => {
-            let played = play(rt, alloc, conf, &scripts, maker, gate);
+            let Settings { conf, clock } = *settings;
+            let played = play(rt, alloc, &conf, &scripts, maker, gate, clock);
             // The program ends soon, and its memory goes at once.
             forget(scripts);
             match played {
@@ -144,26 +144,26 @@ fn answer<R: Threads + Wait + Sync, S: Source, M: Maker + Sync, G: Gate + Sync>(
     }
 }
 
-// Answers the input on `out` by a cache of this shape, or tells why not.
+// Answers the input on `out` as these settings ask, or tells why not.
 fn outcome_on<R: Threads + Wait + Sync, S: Source, K: Sink, M: Maker + Sync, G: Gate + Sync>(
     rt: &R,
     alloc: Global,
-    conf: &Conf,
+    settings: &Settings,
     input: &mut S,
     out: &mut K,
     maker: &M,
     gate: &G,
 ) -> Ending
-    requires good { IsGood conf.now }
-    ensures replayed { result.status ≡ Status.Done → Replays conf.now
+    requires good { IsGood settings.now.conf }
+    ensures replayed { result.status ≡ Status.Done → Replays settings.now
         (S.left input.old) (S.left input.new) (K.held out.old) (K.held out.new) }
     ensures no_usage { result.status ≢ Status.Usage }
     ensures script { result.status ≡ Status.Script
         → IsRefusedAt (S.left input.old) (S.left input.new) result.place result.reason }
     ensures too_many { result.status ≡ Status.TooMany
-        → IsCrowded conf.now (S.left input.old) (S.left input.new) }
+        → IsCrowded settings.now.conf (S.left input.old) (S.left input.new) }
     ensures pattern { result.status ≡ Status.Pattern
-        → IsUnsearchable (M.may_refuse maker.now) conf.now
+        → IsUnsearchable (M.may_refuse maker.now) settings.now.conf
         (S.left input.old) (S.left input.new) }
     ensures too_long { result.status ≡ Status.TooLong
         → HasTaken (S.left input.old) (S.left input.new) (longest_input + 1) }
@@ -175,12 +175,12 @@ fn outcome_on<R: Threads + Wait + Sync, S: Source, K: Sink, M: Maker + Sync, G: 
         → Rose (S.faults input.old) (S.faults input.new) }
     ensures write_fault { result.status ≡ Status.WriteFault
         → Rose (K.faults out.old) (K.faults out.new) }
-    ensures cut { result.status ≡ Status.WriteFault → ReplaysPart conf.now
+    ensures cut { result.status ≡ Status.WriteFault → ReplaysPart settings.now
         (S.left input.old) (S.left input.new) (K.held out.old) (K.held out.new) }
     ensures unchanged { result.status ≢ Status.Done → result.status ≢ Status.WriteFault
         → (K.held out.new ≡ K.held out.old) × (K.faults out.new ≡ K.faults out.old) }
 {
-    match answer(rt, alloc, conf, input, maker, gate) {
+    match answer(rt, alloc, settings, input, maker, gate) {
         Ok(printed) => {
             if print(out, &printed) {
                 Ending::of(Status::Done)
@@ -203,7 +203,7 @@ fn outcome<R: Threads + Wait + Sync, S: Source, K: Sink, M: Maker + Sync, G: Gat
     gate: &G,
 ) -> Ending
     ensures replayed { IfSome (settings_of words.now) (λ s. result.status ≡ Status.Done
-        → Replays s.conf (S.left input.old) (S.left input.new) (K.held out.old) (K.held out.new)) }
+        → Replays s (S.left input.old) (S.left input.new) (K.held out.old) (K.held out.new)) }
     ensures usage { result.status ≡ Status.Usage → settings_of words.now ≡ None }
     ensures faulty_words { settings_of words.now ≡ None
         → IsUnlessMemory Status.Usage result.status }
@@ -224,13 +224,13 @@ fn outcome<R: Threads + Wait + Sync, S: Source, K: Sink, M: Maker + Sync, G: Gat
     ensures write_fault { result.status ≡ Status.WriteFault
         → Rose (K.faults out.old) (K.faults out.new) }
     ensures cut { IfSome (settings_of words.now) (λ s. result.status ≡ Status.WriteFault
-        → ReplaysPart s.conf (S.left input.old) (S.left input.new)
+        → ReplaysPart s (S.left input.old) (S.left input.new)
         (K.held out.old) (K.held out.new)) }
     ensures unchanged { result.status ≢ Status.Done → result.status ≢ Status.WriteFault
         → (K.held out.new ≡ K.held out.old) × (K.faults out.new ≡ K.faults out.old) }
 {
     match read_settings(alloc, words) {
-        Ok(settings) => outcome_on(rt, alloc, &settings.conf, input, out, maker, gate),
+        Ok(settings) => outcome_on(rt, alloc, &settings, input, out, maker, gate),
         Err(ConfFault::Usage) => Ending::of(Status::Usage),
         Err(ConfFault::Memory) => Ending::of(Status::NoMemory),
     }
@@ -278,9 +278,9 @@ pub fn run<R: Threads + Wait + Sync, S: Source, K: Sink, E: Sink, M: Maker + Syn
     gate: &G,
 ) -> Status
     // What is printed is the output of a journal that is legal and complete for the scripts of the
-    // whole input, on the cache that the words ask for.
+    // whole input, on the cache and by the clock that the words ask for.
     ensures replayed { IfSome (settings_of words.now) (λ s. result ≡ Status.Done
-        → Replays s.conf (S.left input.old) (S.left input.new) (K.held out.old) (K.held out.new)) }
+        → Replays s (S.left input.old) (S.left input.new) (K.held out.old) (K.held out.new)) }
 
     // Each other status, and when it comes.
     ensures usage { result ≡ Status.Usage → settings_of words.now ≡ None }
@@ -305,7 +305,7 @@ pub fn run<R: Threads + Wait + Sync, S: Source, K: Sink, E: Sink, M: Maker + Syn
 
     // What is left on the sinks.
     ensures cut { IfSome (settings_of words.now) (λ s. result ≡ Status.WriteFault
-        → ReplaysPart s.conf (S.left input.old) (S.left input.new)
+        → ReplaysPart s (S.left input.old) (S.left input.new)
         (K.held out.old) (K.held out.new)) }
     ensures unchanged { result ≢ Status.Done → result ≢ Status.WriteFault
         → (K.held out.new ≡ K.held out.old) × (K.faults out.new ≡ K.faults out.old) }

@@ -20,6 +20,8 @@ mod iterators_that_differ;
 #[cfg(test)]
 mod laws;
 #[cfg(test)]
+mod moments;
+#[cfg(test)]
 mod options;
 #[cfg(test)]
 mod pieces;

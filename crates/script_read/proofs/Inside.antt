@@ -9,12 +9,14 @@ use Rattle.notation.specs.Marks.{◌>>=◌, fail}
 use Rattle.notation.specs.Reading.{reading_of}
 use Rattle.apcu_model.specs.Levels.{Generator}
 use Rattle.script_read.specs.declared.effect.Effect.{Effect}
-use Rattle.script_read.specs.declared.effect.Effect.TheVariants.{Sets, Calls}
+use Rattle.script_read.specs.declared.effect.Effect.TheVariants.{Sets, Begins, Calls}
+use Rattle.script_read.specs.declared.effect.Moments.{Moments}
 use Rattle.script_read.specs.declared.script.Step.{Step}
 use Rattle.script_read.specs.Table.{Form, Done, Need, May, Make, Refuse}
 use Rattle.script_read.specs.Arguments.{key, ttl}
 use Rattle.script_read.specs.GenParts.{literal_gen, entry_round}
 use Rattle.script_read.specs.Grammar.{entry_word, inner_levels, most_workers}
+use Rattle.script_read.specs.Clock.{at_first, request_at, step_at}
 use Rattle.script_read.specs.Reading.{space_at, one_more_at, end_at, ends_here, chosen, choice_at, separator_at, limit_at, literal_at, entry_at, begins_entry, generator_at, rest_at, word_len, line_word, behind_word, worker_at, form_after, line_at, is_worker, Rest, with_effect, lines_at, scripts_at}
 
 -- no more than n bytes are left, or are there from the fault on
@@ -137,26 +139,27 @@ worker_within n begun line h =
 line_within : ValuesInside → (n begun : ℕ) (line : List ℕ) → length line ≤ n → Within n (behind {A = Effect}) (line_at begun line)
 line_within law n begun line h = form_within law (form_after begun (line_word line)) n line (behind_word line) h (omega (arith, h, length-drop (word_len line) line))
 
-effect_within : (n t : ℕ) (others : ℕ → Result Rest Fault) (e : Effect) → ((u : ℕ) → Within n (none {A = Rest}) (others u)) → Within n (none {A = Rest}) (with_effect t others e)
-effect_within n t others (Sets u) within = within u
-effect_within n t others (Calls call) within = then_within n none none (others t) (λ more. Ok (record { t = t; call = call } ∷ more.0, more.1)) (within t) (λ more k. omega arith)
+effect_within : (n : ℕ) (now : Moments) (others : Moments → Result Rest Fault) (e : Effect) → ((later : Moments) → Within n (none {A = Rest}) (others later)) → Within n (none {A = Rest}) (with_effect now others e)
+effect_within n now others (Sets u) within = within (record now { t = u })
+effect_within n now others (Begins u) within = within (request_at u)
+effect_within n now others (Calls call) within = then_within n none none (others now) (λ more. Ok (step_at now call ∷ more.0, more.1)) (within now) (λ more k. omega arith)
 
-lines_within : ValuesInside → (lines begun t n : ℕ) (bytes : List ℕ) → length bytes ≤ n → Within n (none {A = Rest}) (lines_at lines begun t bytes)
+lines_within : ValuesInside → (lines begun : ℕ) (now : Moments) (n : ℕ) (bytes : List ℕ) → length bytes ≤ n → Within n (none {A = Rest}) (lines_at lines begun now bytes)
 unfolding lines_at
-lines_within law zero begun t n [] h = omega arith
-lines_within law (suc lines) begun t n [] h = omega arith
-lines_within law zero begun t n (b ∷ rest) h = omega arith
-lines_within law (suc lines) begun t n (b ∷ rest) h =
+lines_within law zero begun now n [] h = omega arith
+lines_within law (suc lines) begun now n [] h = omega arith
+lines_within law zero begun now n (b ∷ rest) h = omega arith
+lines_within law (suc lines) begun now n (b ∷ rest) h =
     cond_within n none (is_worker (b ∷ rest))
-    (worker_at begun (b ∷ rest) >>= λ after. lines_at lines (suc begun) 0 after >>= λ more. Ok ([], more.0 ∷ more.1))
-    (line_at begun (b ∷ rest) >>= λ e. with_effect t (λ u. lines_at lines begun u e.1) e.0)
-    (then_within n same none (worker_at begun (b ∷ rest)) (λ after. lines_at lines (suc begun) 0 after >>= λ more. Ok ([], more.0 ∷ more.1)) (worker_within n begun (b ∷ rest) h)
-    (λ after k. then_within n none none (lines_at lines (suc begun) 0 after) (λ more. Ok ([], more.0 ∷ more.1)) (lines_within law lines (suc begun) 0 n after k) (λ more m. omega arith)))
-    (then_within n behind none (line_at begun (b ∷ rest)) (λ e. with_effect t (λ u. lines_at lines begun u e.1) e.0) (line_within law n begun (b ∷ rest) h)
-    (λ e k. effect_within n t (λ u. lines_at lines begun u e.1) e.0 (λ u. lines_within law lines begun u n e.1 k)))
+    (worker_at begun (b ∷ rest) >>= λ after. lines_at lines (suc begun) at_first after >>= λ more. Ok ([], more.0 ∷ more.1))
+    (line_at begun (b ∷ rest) >>= λ e. with_effect now (λ later. lines_at lines begun later e.1) e.0)
+    (then_within n same none (worker_at begun (b ∷ rest)) (λ after. lines_at lines (suc begun) at_first after >>= λ more. Ok ([], more.0 ∷ more.1)) (worker_within n begun (b ∷ rest) h)
+    (λ after k. then_within n none none (lines_at lines (suc begun) at_first after) (λ more. Ok ([], more.0 ∷ more.1)) (lines_within law lines (suc begun) at_first n after k) (λ more m. omega arith)))
+    (then_within n behind none (line_at begun (b ∷ rest)) (λ e. with_effect now (λ later. lines_at lines begun later e.1) e.0) (line_within law n begun (b ∷ rest) h)
+    (λ e k. effect_within n now (λ later. lines_at lines begun later e.1) e.0 (λ later. lines_within law lines begun later n e.1 k)))
 
 pub scripts_inside : ValuesInside → (bytes : List ℕ) (fault : Fault) → scripts_at bytes ≡ Err fault → fault.left ≤ length bytes
 unfolding scripts_at
 scripts_inside law bytes fault e =
     subst (λ (r : Result (List (List Step)) Fault). Within (length bytes) (none {A = List (List Step)}) r) e
-    (then_within (length bytes) none none (lines_at (length bytes) 0 0 bytes) (λ rest. Ok rest.1) (lines_within law (length bytes) 0 0 (length bytes) bytes (omega arith)) (λ rest k. omega arith))
+    (then_within (length bytes) none none (lines_at (length bytes) 0 at_first bytes) (λ rest. Ok rest.1) (lines_within law (length bytes) 0 at_first (length bytes) bytes (omega arith)) (λ rest k. omega arith))

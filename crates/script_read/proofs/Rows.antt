@@ -10,11 +10,11 @@ use Rattle.apcu_model.specs.Levels.{Generator}
 use Rattle.apcu_model.specs.declared.searching.List.TheVariants.{Active}
 use Rattle.script_read.specs.declared.call.Call.TheVariants.{StoreOne, StoreMany, Inc, Cas, Entry, KeyInfo, CacheInfo, SmaInfo, Walk, WalkDelete, Totals}
 use Rattle.script_read.specs.declared.effect.Effect.{Effect}
-use Rattle.script_read.specs.declared.effect.Effect.TheVariants.{Sets, Calls}
+use Rattle.script_read.specs.declared.effect.Effect.TheVariants.{Calls}
 use Rattle.script_read.specs.declared.given.Stored.{Stored}
 use Rattle.script_read.specs.declared.given.Stored.TheVariants as stores
 use Rattle.script_read.specs.Arguments.{any_value, key, integer, truth, null, ttl, moment, asked_of, stored, search_for, fields, all_fields, chunk_size, which_list}
-use Rattle.script_read.specs.Table.{Form, Done, Need, May, Make, Refuse, or_refuse, taken, needs, may, calls, store_one, store_many, store_by, fetch_of, exists_of, delete_of, step_by, count_form, cas_form, entry_form, key_info_form, info_form, usual_size, walk_form, walk_delete_form, totals_form, form_in, form_of}
+use Rattle.script_read.specs.Table.{Form, Done, Need, May, Make, Refuse, or_refuse, taken, needs, may, calls, timing, moment_form, store_one, store_many, store_by, fetch_of, exists_of, delete_of, step_by, count_form, cas_form, entry_form, key_info_form, info_form, usual_size, walk_form, walk_delete_form, totals_form, form_in, form_of}
 use Rattle.script_read.specs.GenParts.{entry_round}
 use Rattle.script_read.specs.Grammar.{inner_levels}
 use Rattle.script_read.specs.Reading.{space_at, ends_here, end_at, chosen, choice_at, argument_at, optional_at, last_argument_at, generator_at, gen_argument_at, rest_at, line_word, behind_word, form_after, line_at}
@@ -108,9 +108,9 @@ then_is (Err e) f g same = refl
 abbrev pub ended : {A : Type 0} → (A → Effect) → A × List ℕ → Result (Effect × List ℕ) Fault
 ended effect x = end_at x.1 >>= λ rest. Ok (effect x.0, rest)
 
-pub time_is : (last bytes : List ℕ) → rest_at (form_of (codes "time")) last bytes ≡ (argument_at moment bytes >>= ended Sets)
-unfolding form_in rest_at
-time_is last bytes = needs_is moment (λ t. Done (Sets t)) last bytes (λ t. tt)
+pub moment_is : (begins : Bool) (last bytes : List ℕ) → rest_at (moment_form begins) last bytes ≡ (argument_at moment bytes >>= ended (timing begins))
+unfolding rest_at
+moment_is begins last bytes = needs_is moment (λ t. Done (timing begins t)) last bytes (λ t. tt)
 
 pub store_one_is : (exclusive : Bool) (k last bytes : List ℕ) → rest_at (store_one exclusive k) last bytes
     ≡ (argument_at any_value bytes >>= λ v. on (λ t. calls (StoreOne k v.0 t exclusive)) (optional_at 0 ttl v.1))

@@ -11,8 +11,10 @@ use Rattle.notation.specs.declared.fault.Reason.TheVariants as reasons
 use Rattle.notation.specs.declared.fault.Fault.{Fault}
 use Rattle.notation.specs.Marks.{◌>>=◌, fail}
 use Rattle.script_read.specs.declared.effect.Effect.{Effect}
-use Rattle.script_read.specs.declared.effect.Effect.TheVariants.{Sets, Calls}
+use Rattle.script_read.specs.declared.effect.Effect.TheVariants.{Sets, Begins, Calls}
+use Rattle.script_read.specs.declared.effect.Moments.{Moments}
 use Rattle.script_read.specs.declared.script.Step.{Step}
+use Rattle.script_read.specs.Clock.{at_first, request_at, step_at}
 use Rattle.script_read.specs.Table.{Form, Refuse, table, form_in, form_of}
 use Rattle.script_read.specs.Grammar.{Argument, Line, argument_text, arguments_text, AreArguments, ends_line, line_text, script_text, effect_by, effect_of, steps_after, steps_of, Mean, most_workers, AreScripts}
 use Rattle.script_read.specs.Reading.{ends_word, word_len, line_word, behind_word, end_at, rest_at, worker_at, line_at, is_worker, Rest, with_effect, lines_at, scripts_at}
@@ -122,39 +124,40 @@ rest_is steps scripts = Ok (steps, scripts)
 
 -- the bytes hold these scripts, where so many have begun
 abbrev ReadOn : ℕ → List ℕ → List (List Step) → Type 0
-ReadOn begun bytes scripts = (lines t : ℕ) → length bytes ≤ lines → lines_at lines begun t bytes ≡ rest_is [] scripts
+ReadOn begun bytes scripts = (lines : ℕ) (now : Moments) → length bytes ≤ lines → lines_at lines begun now bytes ≡ rest_is [] scripts
 
-one_line : (lines begun t : ℕ) (bytes : List ℕ) (e : Effect) (rest : List ℕ) (read : Result Rest Fault) → 1 ≤ length bytes → IsLineRead begun bytes e rest
-    → with_effect t (λ u. lines_at lines (suc begun) u rest) e ≡ read → lines_at (suc lines) (suc begun) t bytes ≡ read
+one_line : (lines begun : ℕ) (now : Moments) (bytes : List ℕ) (e : Effect) (rest : List ℕ) (read : Result Rest Fault) → 1 ≤ length bytes → IsLineRead begun bytes e rest
+    → with_effect now (λ later. lines_at lines (suc begun) later rest) e ≡ read → lines_at (suc lines) (suc begun) now bytes ≡ read
 unfolding lines_at
-one_line lines begun t [] e rest read some line is = absurd (omega arith)
-one_line lines begun t (b ∷ bytes) e rest read some line is =
-    ap (λ (w : Bool). cond w (worker_at (suc begun) (b ∷ bytes) >>= λ after. lines_at lines (suc (suc begun)) 0 after >>= λ more. Ok ([], more.0 ∷ more.1)) (line_at (suc begun) (b ∷ bytes) >>= λ e. with_effect t (λ u. lines_at lines (suc begun) u e.1) e.0)) line.no_worker
-    ∙ (ap (λ (r : Result (Effect × List ℕ) Fault). r >>= λ e. with_effect t (λ u. lines_at lines (suc begun) u e.1) e.0) line.reads ∙ is)
+one_line lines begun now [] e rest read some line is = absurd (omega arith)
+one_line lines begun now (b ∷ bytes) e rest read some line is =
+    ap (λ (w : Bool). cond w (worker_at (suc begun) (b ∷ bytes) >>= λ after. lines_at lines (suc (suc begun)) at_first after >>= λ more. Ok ([], more.0 ∷ more.1)) (line_at (suc begun) (b ∷ bytes) >>= λ e. with_effect now (λ later. lines_at lines (suc begun) later e.1) e.0)) line.no_worker
+    ∙ (ap (λ (r : Result (Effect × List ℕ) Fault). r >>= λ e. with_effect now (λ later. lines_at lines (suc begun) later e.1) e.0) line.reads ∙ is)
 
 -- what an effect means for the lines after it
-effect_again : (t lines begun : ℕ) (rest : List ℕ) (others : ℕ → Option (List Step)) (e : Effect) (steps : List Step) (scripts : List (List Step))
-    → ((u : ℕ) (more : List Step) → others u ≡ Some more → lines_at lines begun u rest ≡ rest_is more scripts)
-    → steps_after t others e ≡ Some steps → with_effect t (λ u. lines_at lines begun u rest) e ≡ rest_is steps scripts
-effect_again t lines begun rest others (Sets u) steps scripts again means = again u steps means
-effect_again t lines begun rest others (Calls call) steps scripts again means =
-    let m = map_some (λ steps. record { t = t; call = call } ∷ steps) (others t) steps means in
-    ap (λ (r : Result Rest Fault). r >>= λ more. Ok (record { t = t; call = call } ∷ more.0, more.1)) (again t m.0 m.1) ∙ ap (λ (s : List Step). rest_is s scripts) m.2
+effect_again : (now : Moments) (lines begun : ℕ) (rest : List ℕ) (others : Moments → Option (List Step)) (e : Effect) (steps : List Step) (scripts : List (List Step))
+    → ((later : Moments) (more : List Step) → others later ≡ Some more → lines_at lines begun later rest ≡ rest_is more scripts)
+    → steps_after now others e ≡ Some steps → with_effect now (λ later. lines_at lines begun later rest) e ≡ rest_is steps scripts
+effect_again now lines begun rest others (Sets u) steps scripts again means = again (record now { t = u }) steps means
+effect_again now lines begun rest others (Begins u) steps scripts again means = again (request_at u) steps means
+effect_again now lines begun rest others (Calls call) steps scripts again means =
+    let m = map_some (λ steps. step_at now call ∷ steps) (others now) steps means in
+    ap (λ (r : Result Rest Fault). r >>= λ more. Ok (step_at now call ∷ more.0, more.1)) (again now m.0 m.1) ∙ ap (λ (s : List Step). rest_is s scripts) m.2
 
-body_again : FormsAgain → (begun : ℕ) (tail : List ℕ) (scripts : List (List Step)) → ReadOn (suc begun) tail scripts → (body : List Line) (lines t : ℕ) (steps : List Step) → AreLines body → steps_of t body ≡ Some steps
-    → length (flat_map line_text body ++ tail) ≤ lines → lines_at lines (suc begun) t (flat_map line_text body ++ tail) ≡ rest_is steps scripts
-body_again forms begun tail scripts on [] lines t steps are means enough = on lines t enough ∙ ap (λ (s : List Step). rest_is s scripts) (some_is [] steps means)
-body_again forms begun tail scripts on (line ∷ body) zero t steps are means enough =
+body_again : FormsAgain → (begun : ℕ) (tail : List ℕ) (scripts : List (List Step)) → ReadOn (suc begun) tail scripts → (body : List Line) (lines : ℕ) (now : Moments) (steps : List Step) → AreLines body → steps_of now body ≡ Some steps
+    → length (flat_map line_text body ++ tail) ≤ lines → lines_at lines (suc begun) now (flat_map line_text body ++ tail) ≡ rest_is steps scripts
+body_again forms begun tail scripts on [] lines now steps are means enough = on lines now enough ∙ ap (λ (s : List Step). rest_is s scripts) (some_is [] steps means)
+body_again forms begun tail scripts on (line ∷ body) zero now steps are means enough =
     absurd (omega (arith, enough, ap length (ap (λ (l : List ℕ). l ++ tail) (flat_map-cons line_text line body) ∙ append_assoc (line_text line) (flat_map line_text body) tail), length-append (line_text line) (flat_map line_text body ++ tail), line_some line))
-body_again forms begun tail scripts on (line ∷ body) (suc lines) t steps are means enough =
+body_again forms begun tail scripts on (line ∷ body) (suc lines) now steps are means enough =
     let rest = flat_map line_text body ++ tail in
     let text : flat_map line_text (line ∷ body) ++ tail ≡ line_text line ++ rest = ap (λ (l : List ℕ). l ++ tail) (flat_map-cons line_text line body) ∙ append_assoc (line_text line) (flat_map line_text body) tail in
     let n = ap length text in
     let few : length rest ≤ lines = omega (arith, n, enough, length-append (line_text line) rest, line_some line) in
-    let e = then_some (steps_after t (λ u. steps_of u body)) (effect_of line) steps means in
-    ap (lines_at (suc lines) (suc begun) t) text
-    ∙ one_line lines begun t (line_text line ++ rest) e.0 rest (rest_is steps scripts) (omega (arith, length-append (line_text line) rest, line_some line)) (line_again forms begun line e.0 rest are.0 e.1)
-    (effect_again t lines (suc begun) rest (λ u. steps_of u body) e.0 steps scripts (λ u more is. body_again forms begun tail scripts on body lines u more are.1 is few) e.2)
+    let e = then_some (steps_after now (λ later. steps_of later body)) (effect_of line) steps means in
+    ap (lines_at (suc lines) (suc begun) now) text
+    ∙ one_line lines begun now (line_text line ++ rest) e.0 rest (rest_is steps scripts) (omega (arith, length-append (line_text line) rest, line_some line)) (line_again forms begun line e.0 rest are.0 e.1)
+    (effect_again now lines (suc begun) rest (λ later. steps_of later body) e.0 steps scripts (λ later more is. body_again forms begun tail scripts on body lines later more are.1 is few) e.2)
 
 abbrev AreAllLines : List (List Line) → Type 0
 AreAllLines lines = AllByRecursion AreLines lines
@@ -165,46 +168,46 @@ script_parts body rest = append_assoc (codes "worker") (ends_line ++ flat_map li
 nat_lt_is : (a b : ℕ) → a < b → nat_lt a b ≡ true
 nat_lt_is a b lt = grind (arith, lt)
 
-worker_again : (lines begun t : ℕ) (rest : List ℕ) (steps : List Step) (scripts : List (List Step)) → begun < most_workers → lines_at lines (suc begun) 0 rest ≡ rest_is steps scripts
-    → lines_at (suc lines) begun t (codes "worker" ++ (ends_line ++ rest)) ≡ rest_is [] (steps ∷ scripts)
+worker_again : (lines begun : ℕ) (now : Moments) (rest : List ℕ) (steps : List Step) (scripts : List (List Step)) → begun < most_workers → lines_at lines (suc begun) at_first rest ≡ rest_is steps scripts
+    → lines_at (suc lines) begun now (codes "worker" ++ (ends_line ++ rest)) ≡ rest_is [] (steps ∷ scripts)
 unfolding lines_at end_at
-worker_again lines begun t rest steps scripts few read =
-    ap (λ (b : Bool). cond b (Ok rest) (fail reasons.Workers (codes "worker" ++ (ends_line ++ rest))) >>= λ after. lines_at lines (suc begun) 0 after >>= λ more. Ok ([], more.0 ∷ more.1)) (nat_lt_is begun most_workers few)
+worker_again lines begun now rest steps scripts few read =
+    ap (λ (b : Bool). cond b (Ok rest) (fail reasons.Workers (codes "worker" ++ (ends_line ++ rest))) >>= λ after. lines_at lines (suc begun) at_first after >>= λ more. Ok ([], more.0 ∷ more.1)) (nat_lt_is begun most_workers few)
     ∙ ap (λ (r : Result Rest Fault). r >>= λ more. Ok ([], more.0 ∷ more.1)) read
 
 others_again : FormsAgain → (begun : ℕ) (others : List (List Line)) (scripts : List (List Step)) → AreAllLines others → Mean others scripts → begun + length scripts ≤ most_workers → ReadOn begun (flat_map script_text others) scripts
 unfolding lines_at
-others_again forms begun [] [] are means few lines t enough = refl
-others_again forms begun [] (steps ∷ scripts) are means few lines t enough = absurd means
-others_again forms begun (body ∷ others) [] are means few lines t enough = absurd means
-others_again forms begun (body ∷ others) (steps ∷ scripts) are means few zero t enough =
+others_again forms begun [] [] are means few lines now enough = refl
+others_again forms begun [] (steps ∷ scripts) are means few lines now enough = absurd means
+others_again forms begun (body ∷ others) [] are means few lines now enough = absurd means
+others_again forms begun (body ∷ others) (steps ∷ scripts) are means few zero now enough =
     absurd (omega (arith, enough, ap length (flat_map-cons script_text body others ∙ script_parts body (flat_map script_text others))))
-others_again forms begun (body ∷ others) (steps ∷ scripts) are means few (suc lines) t enough =
+others_again forms begun (body ∷ others) (steps ∷ scripts) are means few (suc lines) now enough =
     let rest = flat_map line_text body ++ flat_map script_text others in
     let text : flat_map script_text (body ∷ others) ≡ codes "worker" ++ (ends_line ++ rest) = flat_map-cons script_text body others ∙ script_parts body (flat_map script_text others) in
     let n = ap length text in
     let fewer : length rest ≤ lines = omega (arith, n, enough) in
-    ap (lines_at (suc lines) begun t) text
-    ∙ worker_again lines begun t rest steps scripts (omega (arith, few))
-    (body_again forms begun (flat_map script_text others) scripts (others_again forms (suc begun) others scripts are.1 means.1 (omega (arith, few))) body lines 0 steps are.0 means.0 fewer)
+    ap (lines_at (suc lines) begun now) text
+    ∙ worker_again lines begun now rest steps scripts (omega (arith, few))
+    (body_again forms begun (flat_map script_text others) scripts (others_again forms (suc begun) others scripts are.1 means.1 (omega (arith, few))) body lines at_first steps are.0 means.0 fewer)
 
 pub scripts_again : ValuesAgain → (bytes : List ℕ) (scripts : List (List Step)) → AreScripts bytes scripts → scripts_at bytes ≡ Ok scripts
 unfolding scripts_at
 scripts_again values bytes scripts are =
     let forms = forms_again values (gens_again values) in
-    let read : lines_at (length bytes) 0 0 bytes ≡ rest_is [] scripts = subst (λ (l : List ℕ). lines_at (length l) 0 0 l ≡ rest_is [] scripts) (sym are.text)
-    (others_again forms 0 are.lines scripts are.values are.meaning (omega (arith, are.workers)) (length (flat_map script_text are.lines)) 0 (omega arith)) in
+    let read : lines_at (length bytes) 0 at_first bytes ≡ rest_is [] scripts = subst (λ (l : List ℕ). lines_at (length l) 0 at_first l ≡ rest_is [] scripts) (sym are.text)
+    (others_again forms 0 are.lines scripts are.values are.meaning (omega (arith, are.workers)) (length (flat_map script_text are.lines)) at_first (omega arith)) in
     ap (λ (r : Result Rest Fault). r >>= λ rest. Ok rest.1) read
 
 -- ---- scripts that are read
 
 -- what was read of the lines from here on
-pub record IsRest (begun t : ℕ) (bytes : List ℕ) (steps : List Step) (scripts : List (List Step)) : Type 0 where
+pub record IsRest (begun : ℕ) (now : Moments) (bytes : List ℕ) (steps : List Step) (scripts : List (List Step)) : Type 0 where
   pub body : List Line
   pub others : List (List Line)
   pub values : AreLines body
   pub more_values : AreAllLines others
-  pub meaning : steps_of t body ≡ Some steps
+  pub meaning : steps_of now body ≡ Some steps
   pub more_meaning : Mean others scripts
   pub text : bytes ≡ flat_map line_text body ++ flat_map script_text others
   pub few : length scripts ≤ most_workers - begun
@@ -253,33 +256,34 @@ line_before line body bytes rest tail e1 e2 =
 
 -- the line's effect, before what comes after it
 abbrev ReadAfter : ℕ → ℕ → List ℕ → Type 0
-ReadAfter lines begun rest = (t : ℕ) (steps : List Step) (scripts : List (List Step)) → lines_at lines begun t rest ≡ rest_is steps scripts → IsRest begun t rest steps scripts
+ReadAfter lines begun rest = (now : Moments) (steps : List Step) (scripts : List (List Step)) → lines_at lines begun now rest ≡ rest_is steps scripts → IsRest begun now rest steps scripts
 
-line_rest : (begun t u : ℕ) (bytes rest : List ℕ) (e : Effect) (steps more : List Step) (scripts : List (List Step)) → IsLineTaken begun bytes e rest → IsRest begun u rest more scripts
-    → ((others : ℕ → Option (List Step)) → others u ≡ Some more → steps_after t others e ≡ Some steps) → IsRest begun t bytes steps scripts
-line_rest begun t u bytes rest e steps more scripts line after means = record {
+line_rest : (begun : ℕ) (now later : Moments) (bytes rest : List ℕ) (e : Effect) (steps more : List Step) (scripts : List (List Step)) → IsLineTaken begun bytes e rest → IsRest begun later rest more scripts
+    → ((others : Moments → Option (List Step)) → others later ≡ Some more → steps_after now others e ≡ Some steps) → IsRest begun now bytes steps scripts
+line_rest begun now later bytes rest e steps more scripts line after means = record {
   body = line.line ∷ after.body;
   others = after.others;
   values = (line.values, after.values);
   more_values = after.more_values;
-  meaning = ap (option_and_then (steps_after t (λ u. steps_of u after.body))) line.meaning ∙ means (λ u. steps_of u after.body) after.meaning;
+  meaning = ap (option_and_then (steps_after now (λ later. steps_of later after.body))) line.meaning ∙ means (λ later. steps_of later after.body) after.meaning;
   more_meaning = after.more_meaning;
   text = line_before line.line after.body bytes rest (flat_map script_text after.others) line.text after.text;
   few = after.few;
   first = λ none. absurd (let some = line.some in omega (arith, some, none));
 }
 
-effect_takes : (lines begun t : ℕ) (bytes rest : List ℕ) (e : Effect) (steps : List Step) (scripts : List (List Step)) → IsLineTaken begun bytes e rest → ReadAfter lines begun rest
-    → with_effect t (λ u. lines_at lines begun u rest) e ≡ rest_is steps scripts → IsRest begun t bytes steps scripts
-effect_takes lines begun t bytes rest (Sets u) steps scripts line after read = line_rest begun t u bytes rest (Sets u) steps steps scripts line (after u steps scripts read) (λ others is. is)
-effect_takes lines begun t bytes rest (Calls call) steps scripts line after read =
-    let a = bind_ok (lines_at lines begun t rest) (λ more. Ok (record { t = t; call = call } ∷ more.0, more.1)) (steps, scripts) read in
-    let is : (record { t = t; call = call } ∷ a.0.0, a.0.1) ≡ (steps, scripts) = ok_is (record { t = t; call = call } ∷ a.0.0, a.0.1) (steps, scripts) a.2 in
-    subst (λ (r : Rest). IsRest begun t bytes r.0 r.1) is
-    (line_rest begun t t bytes rest (Calls call) (record { t = t; call = call } ∷ a.0.0) a.0.0 a.0.1 line (after t a.0.0 a.0.1 a.1) (λ others is. ap (option_map (λ steps. record { t = t; call = call } ∷ steps)) is))
+effect_takes : (lines begun : ℕ) (now : Moments) (bytes rest : List ℕ) (e : Effect) (steps : List Step) (scripts : List (List Step)) → IsLineTaken begun bytes e rest → ReadAfter lines begun rest
+    → with_effect now (λ later. lines_at lines begun later rest) e ≡ rest_is steps scripts → IsRest begun now bytes steps scripts
+effect_takes lines begun now bytes rest (Sets u) steps scripts line after read = line_rest begun now (record now { t = u }) bytes rest (Sets u) steps steps scripts line (after (record now { t = u }) steps scripts read) (λ others is. is)
+effect_takes lines begun now bytes rest (Begins u) steps scripts line after read = line_rest begun now (request_at u) bytes rest (Begins u) steps steps scripts line (after (request_at u) steps scripts read) (λ others is. is)
+effect_takes lines begun now bytes rest (Calls call) steps scripts line after read =
+    let a = bind_ok (lines_at lines begun now rest) (λ more. Ok (step_at now call ∷ more.0, more.1)) (steps, scripts) read in
+    let is : (step_at now call ∷ a.0.0, a.0.1) ≡ (steps, scripts) = ok_is (step_at now call ∷ a.0.0, a.0.1) (steps, scripts) a.2 in
+    subst (λ (r : Rest). IsRest begun now bytes r.0 r.1) is
+    (line_rest begun now now bytes rest (Calls call) (step_at now call ∷ a.0.0) a.0.0 a.0.1 line (after now a.0.0 a.0.1 a.1) (λ others is. ap (option_map (λ steps. step_at now call ∷ steps)) is))
 
-worker_rest : (begun t : ℕ) (bytes rest : List ℕ) (steps : List Step) (scripts : List (List Step)) → begun < most_workers → bytes ≡ codes "worker" ++ (ends_line ++ rest) → IsRest (suc begun) 0 rest steps scripts → IsRest begun t bytes [] (steps ∷ scripts)
-worker_rest begun t bytes rest steps scripts some text after = record {
+worker_rest : (begun : ℕ) (now : Moments) (bytes rest : List ℕ) (steps : List Step) (scripts : List (List Step)) → begun < most_workers → bytes ≡ codes "worker" ++ (ends_line ++ rest) → IsRest (suc begun) at_first rest steps scripts → IsRest begun now bytes [] (steps ∷ scripts)
+worker_rest begun now bytes rest steps scripts some text after = record {
   body = [];
   others = after.body ∷ after.others;
   values = tt;
@@ -291,40 +295,40 @@ worker_rest begun t bytes rest steps scripts some text after = record {
   first = λ none. refl;
 }
 
-nothing_left : (begun t : ℕ) (steps : List Step) (scripts : List (List Step)) → rest_is [] [] ≡ rest_is steps scripts → IsRest begun t [] steps scripts
-nothing_left begun t steps scripts e =
-    subst (λ (r : Rest). IsRest begun t [] r.0 r.1) (ok_is ([], []) (steps, scripts) e)
+nothing_left : (begun : ℕ) (now : Moments) (steps : List Step) (scripts : List (List Step)) → rest_is [] [] ≡ rest_is steps scripts → IsRest begun now [] steps scripts
+nothing_left begun now steps scripts e =
+    subst (λ (r : Rest). IsRest begun now [] r.0 r.1) (ok_is ([], []) (steps, scripts) e)
     (record { body = []; others = []; values = tt; more_values = tt; meaning = refl; more_meaning = tt; text = refl; few = omega arith; first = λ none. refl })
 
-lines_take : FormsTake → (lines begun t : ℕ) (bytes : List ℕ) (steps : List Step) (scripts : List (List Step)) → AreSomeBytes bytes → length bytes ≤ lines → lines_at lines begun t bytes ≡ rest_is steps scripts → IsRest begun t bytes steps scripts
+lines_take : FormsTake → (lines begun : ℕ) (now : Moments) (bytes : List ℕ) (steps : List Step) (scripts : List (List Step)) → AreSomeBytes bytes → length bytes ≤ lines → lines_at lines begun now bytes ≡ rest_is steps scripts → IsRest begun now bytes steps scripts
 unfolding lines_at
-lines_take forms zero begun t [] steps scripts fits enough read = nothing_left begun t steps scripts read
-lines_take forms (suc lines) begun t [] steps scripts fits enough read = nothing_left begun t steps scripts read
-lines_take forms zero begun t (b ∷ bytes) steps scripts fits enough read = absurd (omega arith)
-lines_take forms (suc lines) begun t (b ∷ bytes) steps scripts fits enough read =
-    elim (chosen (is_worker (b ∷ bytes)) (worker_at begun (b ∷ bytes) >>= λ after. lines_at lines (suc begun) 0 after >>= λ more. Ok ([], more.0 ∷ more.1)) (line_at begun (b ∷ bytes) >>= λ e. with_effect t (λ u. lines_at lines begun u e.1) e.0) (Ok (steps, scripts)) read) [
+lines_take forms zero begun now [] steps scripts fits enough read = nothing_left begun now steps scripts read
+lines_take forms (suc lines) begun now [] steps scripts fits enough read = nothing_left begun now steps scripts read
+lines_take forms zero begun now (b ∷ bytes) steps scripts fits enough read = absurd (omega arith)
+lines_take forms (suc lines) begun now (b ∷ bytes) steps scripts fits enough read =
+    elim (chosen (is_worker (b ∷ bytes)) (worker_at begun (b ∷ bytes) >>= λ after. lines_at lines (suc begun) at_first after >>= λ more. Ok ([], more.0 ∷ more.1)) (line_at begun (b ∷ bytes) >>= λ e. with_effect now (λ later. lines_at lines begun later e.1) e.0) (Ok (steps, scripts)) read) [
       | inl p ↦
-          let a = bind_ok (worker_at begun (b ∷ bytes)) (λ after. lines_at lines (suc begun) 0 after >>= λ more. Ok ([], more.0 ∷ more.1)) (steps, scripts) p.1 in
-          let c = bind_ok (lines_at lines (suc begun) 0 a.0) (λ more. Ok ([], more.0 ∷ more.1)) (steps, scripts) a.2 in
+          let a = bind_ok (worker_at begun (b ∷ bytes)) (λ after. lines_at lines (suc begun) at_first after >>= λ more. Ok ([], more.0 ∷ more.1)) (steps, scripts) p.1 in
+          let c = bind_ok (lines_at lines (suc begun) at_first a.0) (λ more. Ok ([], more.0 ∷ more.1)) (steps, scripts) a.2 in
           let w = worker_takes begun (b ∷ bytes) a.0 p.0 a.1 in
           let is : ([], c.0.0 ∷ c.0.1) ≡ (steps, scripts) = ok_is ([], c.0.0 ∷ c.0.1) (steps, scripts) c.2 in
           let n = ap length w.1 in
           let few : length a.0 ≤ lines = omega (arith, n, enough) in
-          subst (λ (r : Rest). IsRest begun t (b ∷ bytes) r.0 r.1) is
-          (worker_rest begun t (b ∷ bytes) a.0 c.0.0 c.0.1 w.0 w.1 (lines_take forms lines (suc begun) 0 a.0 c.0.0 c.0.1 (bytes_after (b ∷ bytes) (codes "worker\n") a.0 w.1 fits) few c.1))
+          subst (λ (r : Rest). IsRest begun now (b ∷ bytes) r.0 r.1) is
+          (worker_rest begun now (b ∷ bytes) a.0 c.0.0 c.0.1 w.0 w.1 (lines_take forms lines (suc begun) at_first a.0 c.0.0 c.0.1 (bytes_after (b ∷ bytes) (codes "worker\n") a.0 w.1 fits) few c.1))
       | inr p ↦
-          let a = bind_ok (line_at begun (b ∷ bytes)) (λ e. with_effect t (λ u. lines_at lines begun u e.1) e.0) (steps, scripts) p.1 in
+          let a = bind_ok (line_at begun (b ∷ bytes)) (λ e. with_effect now (λ later. lines_at lines begun later e.1) e.0) (steps, scripts) p.1 in
           let l = line_takes forms begun (b ∷ bytes) a.0.0 a.0.1 fits a.1 in
           let n = ap length l.text in
           let few : length a.0.1 ≤ lines = omega (arith, n, enough, length-append (line_text l.line) a.0.1, line_some l.line) in
-          effect_takes lines begun t (b ∷ bytes) a.0.1 a.0.0 steps scripts l (λ u more others read. lines_take forms lines begun u a.0.1 more others (bytes_after (b ∷ bytes) (line_text l.line) a.0.1 l.text fits) few read) a.2
+          effect_takes lines begun now (b ∷ bytes) a.0.1 a.0.0 steps scripts l (λ later more others read. lines_take forms lines begun later a.0.1 more others (bytes_after (b ∷ bytes) (line_text l.line) a.0.1 l.text fits) few read) a.2
     ]
 
 pub scripts_take : ValuesTake → (bytes : List ℕ) (scripts : List (List Step)) → AreSomeBytes bytes → scripts_at bytes ≡ Ok scripts → AreScripts bytes scripts
 unfolding scripts_at
 scripts_take values bytes scripts fits e =
-    let a = bind_ok (lines_at (length bytes) 0 0 bytes) (λ rest. Ok rest.1) scripts e in
-    let r = lines_take (forms_take values (gens_take values)) (length bytes) 0 0 bytes a.0.0 a.0.1 fits (omega arith) a.1 in
+    let a = bind_ok (lines_at (length bytes) 0 at_first bytes) (λ rest. Ok rest.1) scripts e in
+    let r = lines_take (forms_take values (gens_take values)) (length bytes) 0 at_first bytes a.0.0 a.0.1 fits (omega arith) a.1 in
     let none : r.body ≡ [] = r.first refl in
     subst (AreScripts bytes) (ok_is a.0.1 scripts a.2)
     (record {

@@ -7,10 +7,12 @@ use Rattle.notation.specs.declared.fault.Fault.{Fault}
 use Rattle.notation.specs.Marks.{◌>>=◌}
 use Rattle.script_read.specs.declared.call.Call.{Call}
 use Rattle.script_read.specs.declared.effect.Effect.{Effect}
-use Rattle.script_read.specs.declared.effect.Effect.TheVariants.{Sets, Calls}
+use Rattle.script_read.specs.declared.effect.Effect.TheVariants.{Calls}
+use Rattle.script_read.specs.declared.effect.Moments.{Moments}
 use Rattle.script_read.specs.declared.fault.Stop.{Stop}
 use Rattle.script_read.specs.declared.fault.Stop.TheVariants as stops
 use Rattle.script_read.specs.declared.script.Step.{Step}
+use Rattle.script_read.specs.Clock.{at_first, step_at}
 use Rattle.script_read.specs.Reading.{word_len, worker_at, line_at, is_worker, Rest, with_effect, lines_at, scripts_at}
 use Rattle.script_read.specs.Growing.{grown, last_len}
 use Rattle.script_read.specs.Gives.{Stops}
@@ -28,12 +30,12 @@ abbrev pub with_front : List (List Step) → Result Rest Fault → Scripts
 with_front front read = read >>= λ more. Ok (joined front more)
 
 -- what was read before, with what is still read, is the whole
-pub record IsSoFar (front : List (List Step)) (t : ℕ) (rest : List ℕ) (whole : Scripts) : Type 0 where
+pub record IsSoFar (front : List (List Step)) (now : Moments) (rest : List ℕ) (whole : Scripts) : Type 0 where
   pub lines : ℕ
   pub enough : length rest ≤ lines
-  pub reads : with_front front (lines_at lines (length front) t rest) ≡ whole
+  pub reads : with_front front (lines_at lines (length front) now rest) ≡ whole
 
-pub begins : (bytes : List ℕ) → IsSoFar [] 0 bytes (scripts_at bytes)
+pub begins : (bytes : List ℕ) → IsSoFar [] at_first bytes (scripts_at bytes)
 unfolding scripts_at
 begins bytes = record { lines = length bytes; enough = omega arith; reads = refl }
 
@@ -85,92 +87,96 @@ joined_none (steps ∷ next ∷ others) = ap (λ (l : List (List Step)). steps �
 -- ---- one line
 
 abbrev by_worker : ℕ → ℕ → Result (List ℕ) Fault → Result Rest Fault
-by_worker lines begun r = r >>= λ after. lines_at lines (suc begun) 0 after >>= λ more. Ok ([], more.0 ∷ more.1)
+by_worker lines begun r = r >>= λ after. lines_at lines (suc begun) at_first after >>= λ more. Ok ([], more.0 ∷ more.1)
 
-abbrev by_line : ℕ → ℕ → ℕ → Result (Effect × List ℕ) Fault → Result Rest Fault
-by_line lines begun t r = r >>= λ e. with_effect t (λ u. lines_at lines begun u e.1) e.0
+abbrev by_line : ℕ → ℕ → Moments → Result (Effect × List ℕ) Fault → Result Rest Fault
+by_line lines begun now r = r >>= λ e. with_effect now (λ later. lines_at lines begun later e.1) e.0
 
 -- there is a line more
-pub record IsLine (front : List (List Step)) (t : ℕ) (rest : List ℕ) (whole : Scripts) : Type 0 where
+pub record IsLine (front : List (List Step)) (now : Moments) (rest : List ℕ) (whole : Scripts) : Type 0 where
   pub lines : ℕ
   pub enough : length rest ≤ suc lines
-  pub reads : with_front front (cond (is_worker rest) (by_worker lines (length front) (worker_at (length front) rest)) (by_line lines (length front) t (line_at (length front) rest))) ≡ whole
+  pub reads : with_front front (cond (is_worker rest) (by_worker lines (length front) (worker_at (length front) rest)) (by_line lines (length front) now (line_at (length front) rest))) ≡ whole
 
-line_of : (front : List (List Step)) (t : ℕ) (rest : List ℕ) (whole : Scripts) (lines : ℕ) → 0 < length rest → length rest ≤ lines → with_front front (lines_at lines (length front) t rest) ≡ whole → IsLine front t rest whole
+line_of : (front : List (List Step)) (now : Moments) (rest : List ℕ) (whole : Scripts) (lines : ℕ) → 0 < length rest → length rest ≤ lines → with_front front (lines_at lines (length front) now rest) ≡ whole → IsLine front now rest whole
 unfolding lines_at
-line_of front t [] whole lines some enough reads = absurd (omega (arith, some))
-line_of front t (b ∷ rest) whole zero some enough reads = absurd (omega (arith, enough))
-line_of front t (b ∷ rest) whole (suc lines) some enough reads = record { lines = lines; enough = enough; reads = reads }
+line_of front now [] whole lines some enough reads = absurd (omega (arith, some))
+line_of front now (b ∷ rest) whole zero some enough reads = absurd (omega (arith, enough))
+line_of front now (b ∷ rest) whole (suc lines) some enough reads = record { lines = lines; enough = enough; reads = reads }
 
-a_line : (front : List (List Step)) (t : ℕ) (rest : List ℕ) (whole : Scripts) → 0 < length rest → IsSoFar front t rest whole → IsLine front t rest whole
-a_line front t rest whole some so_far = line_of front t rest whole so_far.lines some so_far.enough so_far.reads
+a_line : (front : List (List Step)) (now : Moments) (rest : List ℕ) (whole : Scripts) → 0 < length rest → IsSoFar front now rest whole → IsLine front now rest whole
+a_line front now rest whole some so_far = line_of front now rest whole so_far.lines some so_far.enough so_far.reads
 
 -- it is one of these
 chosen_line : (front : List (List Step)) (b : Bool) (x y : Result Rest Fault) (c : Bool) (whole : Scripts) → b ≡ c → with_front front (cond b x y) ≡ whole → with_front front (cond c x y) ≡ whole
 chosen_line front b x y c whole is reads = ap (λ (d : Bool). with_front front (cond d x y)) (sym is) ∙ reads
 
-pub worker_goes_on : (front : List (List Step)) (t : ℕ) (rest after : List ℕ) (whole : Scripts) → 0 < length rest → is_worker rest ≡ true → worker_at (length front) rest ≡ Ok after → length after < length rest → IsSoFar front t rest whole → IsSoFar (front ++ [] ∷ []) 0 after whole
-worker_goes_on front t rest after whole some word read fewer so_far =
-    let l = a_line front t rest whole some so_far in
+pub worker_goes_on : (front : List (List Step)) (now : Moments) (rest after : List ℕ) (whole : Scripts) → 0 < length rest → is_worker rest ≡ true → worker_at (length front) rest ≡ Ok after → length after < length rest → IsSoFar front now rest whole → IsSoFar (front ++ [] ∷ []) at_first after whole
+worker_goes_on front now rest after whole some word read fewer so_far =
+    let l = a_line front now rest whole some so_far in
     let n = length front in
-    let here = chosen_line front (is_worker rest) (by_worker l.lines n (worker_at n rest)) (by_line l.lines n t (line_at n rest)) true whole word l.reads in
+    let here = chosen_line front (is_worker rest) (by_worker l.lines n (worker_at n rest)) (by_line l.lines n now (line_at n rest)) true whole word l.reads in
     let next : with_front front (by_worker l.lines n (Ok after)) ≡ whole = ap (λ (r : Result (List ℕ) Fault). with_front front (by_worker l.lines n r)) (sym read) ∙ here in
     record {
       lines = l.lines;
       enough = omega (arith, l.enough, fewer);
-      reads = ap (λ (k : ℕ). with_front (front ++ [] ∷ []) (lines_at l.lines k 0 after)) (one_longer front) ∙ (sym (begun_after front (lines_at l.lines (suc n) 0 after)) ∙ next);
+      reads = ap (λ (k : ℕ). with_front (front ++ [] ∷ []) (lines_at l.lines k at_first after)) (one_longer front) ∙ (sym (begun_after front (lines_at l.lines (suc n) at_first after)) ∙ next);
     }
 
-line_read : (front : List (List Step)) (t : ℕ) (rest : List ℕ) (whole : Scripts) (l : IsLine front t rest whole) (r : Result (Effect × List ℕ) Fault) → is_worker rest ≡ false → line_at (length front) rest ≡ r → with_front front (by_line l.lines (length front) t r) ≡ whole
-line_read front t rest whole l r word read =
-    ap (λ (x : Result (Effect × List ℕ) Fault). with_front front (by_line l.lines (length front) t x)) (sym read)
-    ∙ chosen_line front (is_worker rest) (by_worker l.lines (length front) (worker_at (length front) rest)) (by_line l.lines (length front) t (line_at (length front) rest)) false whole word l.reads
+line_read : (front : List (List Step)) (now : Moments) (rest : List ℕ) (whole : Scripts) (l : IsLine front now rest whole) (r : Result (Effect × List ℕ) Fault) → is_worker rest ≡ false → line_at (length front) rest ≡ r → with_front front (by_line l.lines (length front) now r) ≡ whole
+line_read front now rest whole l r word read =
+    ap (λ (x : Result (Effect × List ℕ) Fault). with_front front (by_line l.lines (length front) now x)) (sym read)
+    ∙ chosen_line front (is_worker rest) (by_worker l.lines (length front) (worker_at (length front) rest)) (by_line l.lines (length front) now (line_at (length front) rest)) false whole word l.reads
 
-pub moment_goes_on : (front : List (List Step)) (t u : ℕ) (rest after : List ℕ) (whole : Scripts) → 0 < length rest → is_worker rest ≡ false → line_at (length front) rest ≡ Ok (Sets u, after) → length after < length rest → IsSoFar front t rest whole → IsSoFar front u after whole
-moment_goes_on front t u rest after whole some word read fewer so_far =
-    let l = a_line front t rest whole some so_far in
+-- a line that is no call leads on to the moments of the lines after it
+abbrev IsTiming : Moments → Effect → Moments → Type 0
+IsTiming now e later = (others : Moments → Result Rest Fault) → with_effect now others e ≡ others later
+
+pub moment_goes_on : (front : List (List Step)) (now later : Moments) (e : Effect) (rest after : List ℕ) (whole : Scripts) → 0 < length rest → is_worker rest ≡ false → line_at (length front) rest ≡ Ok (e, after) → length after < length rest → IsTiming now e later → IsSoFar front now rest whole → IsSoFar front later after whole
+moment_goes_on front now later e rest after whole some word read fewer times so_far =
+    let l = a_line front now rest whole some so_far in
     record {
       lines = l.lines;
       enough = omega (arith, l.enough, fewer);
-      reads = line_read front t rest whole l (Ok (Sets u, after)) word read;
+      reads = ap (with_front front) (sym (times (λ m. lines_at l.lines (length front) m after))) ∙ line_read front now rest whole l (Ok (e, after)) word read;
     }
 
-pub call_goes_on : (front : List (List Step)) (t : ℕ) (call : Call) (rest after : List ℕ) (whole : Scripts) → 0 < length front → 0 < length rest → is_worker rest ≡ false → line_at (length front) rest ≡ Ok (Calls call, after) → length after < length rest → IsSoFar front t rest whole
-    → IsSoFar (grown front (record { t = t; call = call })) t after whole
-call_goes_on front t call rest after whole begun some word read fewer so_far =
-    let l = a_line front t rest whole some so_far in
-    let step : Step = record { t = t; call = call } in
+pub call_goes_on : (front : List (List Step)) (now : Moments) (call : Call) (rest after : List ℕ) (whole : Scripts) → 0 < length front → 0 < length rest → is_worker rest ≡ false → line_at (length front) rest ≡ Ok (Calls call, after) → length after < length rest → IsSoFar front now rest whole
+    → IsSoFar (grown front (step_at now call)) now after whole
+call_goes_on front now call rest after whole begun some word read fewer so_far =
+    let l = a_line front now rest whole some so_far in
+    let step : Step = step_at now call in
     record {
       lines = l.lines;
       enough = omega (arith, l.enough, fewer);
-      reads = ap (λ (k : ℕ). with_front (grown front step) (lines_at l.lines k t after)) (grown_length front step)
-          ∙ (sym (grown_after front step (lines_at l.lines (length front) t after) begun) ∙ line_read front t rest whole l (Ok (Calls call, after)) word read);
+      reads = ap (λ (k : ℕ). with_front (grown front step) (lines_at l.lines k now after)) (grown_length front step)
+          ∙ (sym (grown_after front step (lines_at l.lines (length front) now after) begun) ∙ line_read front now rest whole l (Ok (Calls call, after)) word read);
     }
 
 -- a line was at fault
-pub worker_fails : (e : Stop) (front : List (List Step)) (t : ℕ) (rest : List ℕ) (whole : Scripts) → 0 < length rest → is_worker rest ≡ true → Stops e (worker_at (length front) rest) → IsSoFar front t rest whole → Stops e whole
-worker_fails stops.Memory front t rest whole some word stop so_far = tt
-worker_fails (stops.Fault f) front t rest whole some word stop so_far =
-    let l = a_line front t rest whole some so_far in
+pub worker_fails : (e : Stop) (front : List (List Step)) (now : Moments) (rest : List ℕ) (whole : Scripts) → 0 < length rest → is_worker rest ≡ true → Stops e (worker_at (length front) rest) → IsSoFar front now rest whole → Stops e whole
+worker_fails stops.Memory front now rest whole some word stop so_far = tt
+worker_fails (stops.Fault f) front now rest whole some word stop so_far =
+    let l = a_line front now rest whole some so_far in
     let n = length front in
-    let here = chosen_line front (is_worker rest) (by_worker l.lines n (worker_at n rest)) (by_line l.lines n t (line_at n rest)) true whole word l.reads in
+    let here = chosen_line front (is_worker rest) (by_worker l.lines n (worker_at n rest)) (by_line l.lines n now (line_at n rest)) true whole word l.reads in
     sym here ∙ ap (λ (r : Result (List ℕ) Fault). with_front front (by_worker l.lines n r)) stop
 
-pub line_fails : (e : Stop) (front : List (List Step)) (t : ℕ) (rest : List ℕ) (whole : Scripts) → 0 < length rest → is_worker rest ≡ false → Stops e (line_at (length front) rest) → IsSoFar front t rest whole → Stops e whole
-line_fails stops.Memory front t rest whole some word stop so_far = tt
-line_fails (stops.Fault f) front t rest whole some word stop so_far =
-    let l = a_line front t rest whole some so_far in
-    sym (line_read front t rest whole l (Err f) word stop)
+pub line_fails : (e : Stop) (front : List (List Step)) (now : Moments) (rest : List ℕ) (whole : Scripts) → 0 < length rest → is_worker rest ≡ false → Stops e (line_at (length front) rest) → IsSoFar front now rest whole → Stops e whole
+line_fails stops.Memory front now rest whole some word stop so_far = tt
+line_fails (stops.Fault f) front now rest whole some word stop so_far =
+    let l = a_line front now rest whole some so_far in
+    sym (line_read front now rest whole l (Err f) word stop)
 
 -- no line is left
-ends_at : (front : List (List Step)) (lines t : ℕ) (rest : List ℕ) (whole : Scripts) → length rest ≡ 0 → with_front front (lines_at lines (length front) t rest) ≡ whole → whole ≡ Ok front
+ends_at : (front : List (List Step)) (lines : ℕ) (now : Moments) (rest : List ℕ) (whole : Scripts) → length rest ≡ 0 → with_front front (lines_at lines (length front) now rest) ≡ whole → whole ≡ Ok front
 unfolding lines_at
-ends_at front zero t [] whole no_more reads = sym reads ∙ ap (λ (l : List (List Step)). Ok l) (joined_none front)
-ends_at front (suc lines) t [] whole no_more reads = sym reads ∙ ap (λ (l : List (List Step)). Ok l) (joined_none front)
-ends_at front lines t (b ∷ rest) whole no_more reads = absurd (omega (arith, no_more))
+ends_at front zero now [] whole no_more reads = sym reads ∙ ap (λ (l : List (List Step)). Ok l) (joined_none front)
+ends_at front (suc lines) now [] whole no_more reads = sym reads ∙ ap (λ (l : List (List Step)). Ok l) (joined_none front)
+ends_at front lines now (b ∷ rest) whole no_more reads = absurd (omega (arith, no_more))
 
-pub is_done : (front : List (List Step)) (t : ℕ) (rest : List ℕ) (whole : Scripts) → length rest ≡ 0 → IsSoFar front t rest whole → whole ≡ Ok front
-is_done front t rest whole no_more so_far = ends_at front so_far.lines t rest whole no_more so_far.reads
+pub is_done : (front : List (List Step)) (now : Moments) (rest : List ℕ) (whole : Scripts) → length rest ≡ 0 → IsSoFar front now rest whole → whole ≡ Ok front
+is_done front now rest whole no_more so_far = ends_at front so_far.lines now rest whole no_more so_far.reads
 
 -- ---- the last script grows in its place
 

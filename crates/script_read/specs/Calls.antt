@@ -38,9 +38,9 @@ event_bound slots (Totals wanted list) = 1
 abbrev pub last_moment : ℕ
 last_moment = 999999999999
 
--- the step's moment is one
+-- the step's moments are such
 abbrev pub IsInTime : Step → Type 0
-IsInTime step = step.t ≤ last_moment
+IsInTime step = (step.t ≤ last_moment) × (step.start ≤ last_moment)
 
 -- the most items that may be asked for in a step of a walk
 abbrev pub most_items : ℕ

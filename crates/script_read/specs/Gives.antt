@@ -7,7 +7,7 @@ use Rattle.script_read.specs.declared.fault.Stop.TheVariants as stops
 use Rattle.script_read.specs.declared.fault.ScriptFault.{ScriptFault}
 use Rattle.script_read.specs.declared.fault.ScriptFault.TheVariants as faults
 use Rattle.script_read.specs.declared.effect.Effect.{Effect}
-use Rattle.script_read.specs.declared.effect.Effect.TheVariants.{Sets, Calls}
+use Rattle.script_read.specs.declared.effect.Effect.TheVariants.{Sets, Begins, Calls}
 use Rattle.script_read.specs.declared.keyword.Keyword.{Keyword}
 use Rattle.script_read.specs.declared.keyword.Row.{Row}
 use Rattle.script_read.specs.declared.keyword.Keyword.TheVariants as keywords
@@ -42,6 +42,7 @@ ReadsScripts bytes (Err faults.Memory) = Unit {0}
 -- what follows a word of the code
 abbrev pub form_named : Keyword → Form
 form_named keywords.Time = form_of (codes "time")
+form_named keywords.Request = form_of (codes "request")
 form_named keywords.Store = form_of (codes "apcu_store")
 form_named keywords.Add = form_of (codes "apcu_add")
 form_named keywords.Fetch = form_of (codes "apcu_fetch")
@@ -65,7 +66,8 @@ form_named keywords.Unknown = Refuse reasons.Line
 abbrev pub forms_of : List Row → List (List ℕ × Form)
 forms_of rows = map (λ row. (row.text.now, form_named row.word)) rows
 
--- what a line does is in range: the moment that it sets, or its call's arguments
+-- what a line does is in range: its moment, or its call's arguments
 abbrev pub IsInRange : Effect → Type 0
 IsInRange (Sets t) = t ≤ last_moment
+IsInRange (Begins t) = t ≤ last_moment
 IsInRange (Calls call) = HasRanges call

@@ -8,9 +8,11 @@ use Rattle.php_graph.specs.Graph.{IsGraph}
 use Rattle.notation.specs.Notation.{text_of}
 use Rattle.apcu_model.specs.Levels.{Generator}
 use Rattle.script_read.specs.declared.effect.Effect.{Effect}
-use Rattle.script_read.specs.declared.effect.Effect.TheVariants.{Sets, Calls}
+use Rattle.script_read.specs.declared.effect.Effect.TheVariants.{Sets, Begins, Calls}
+use Rattle.script_read.specs.declared.effect.Moments.{Moments}
 use Rattle.script_read.specs.declared.script.Step.{Step}
 use Rattle.script_read.specs.Arguments.{key, ttl}
+use Rattle.script_read.specs.Clock.{at_first, request_at, step_at}
 use Rattle.script_read.specs.GenParts.{literal_gen, entry_round}
 use Rattle.script_read.specs.Table.{Form, Done, Need, May, Make, form_of}
 
@@ -115,20 +117,22 @@ effect_by _ _ = None
 abbrev pub effect_of : Line → Option Effect
 effect_of line = effect_by (form_of line.word) line.arguments
 
--- The steps of a script's lines, from this moment on. A line that sets the moment leaves no step.
-abbrev pub steps_after : ℕ → (ℕ → Option (List Step)) → Effect → Option (List Step)
-steps_after t others (Sets u) = others u
-steps_after t others (Calls call) =
-    option_map (λ steps. record { t = t; call = call } ∷ steps) (others t)
+-- The steps of a script's lines, from these moments on. A line that sets the moment, or begins a
+-- request, leaves no step.
+abbrev pub steps_after : Moments → (Moments → Option (List Step)) → Effect → Option (List Step)
+steps_after m others (Sets u) = others (record m { t = u })
+steps_after m others (Begins u) = others (request_at u)
+steps_after m others (Calls call) = option_map (λ steps. step_at m call ∷ steps) (others m)
 
-abbrev pub steps_of : ℕ → List Line → Option (List Step)
-steps_of t [] = Some []
-steps_of t (line ∷ lines) = option_and_then (steps_after t (λ u. steps_of u lines)) (effect_of line)
+abbrev pub steps_of : Moments → List Line → Option (List Step)
+steps_of m [] = Some []
+steps_of m (line ∷ lines) =
+    option_and_then (steps_after m (λ later. steps_of later lines)) (effect_of line)
 
--- each script's lines mean its steps, from the moment 0 on
+-- each script's lines mean its steps, both moments being 0 at its start
 abbrev pub Mean : List (List Line) → List (List Step) → Type 0
 Mean [] [] = Unit {0}
-Mean (lines ∷ others) (steps ∷ scripts) = (steps_of 0 lines ≡ Some steps) × Mean others scripts
+Mean (lines ∷ others) (steps ∷ scripts) = (steps_of at_first lines ≡ Some steps) × Mean others scripts
 Mean _ _ = ⊥
 
 -- how many scripts there may be

@@ -1,4 +1,5 @@
 pub mod Calls
+pub mod Clock
 pub mod Leaving
 pub mod Arguments
 pub mod GenParts
@@ -9,4 +10,6 @@ pub mod Ties
 pub mod Generated
 pub mod Growing
 pub mod Gives
+pub mod Budgets
+pub mod Patterns
 pub mod Play

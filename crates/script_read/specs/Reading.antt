@@ -11,9 +11,11 @@ use Rattle.notation.specs.Marks.{◌>>=◌, fail}
 use Rattle.notation.specs.Reading.{reading_of}
 use Rattle.apcu_model.specs.Levels.{Generator}
 use Rattle.script_read.specs.declared.effect.Effect.{Effect}
-use Rattle.script_read.specs.declared.effect.Effect.TheVariants.{Sets, Calls}
+use Rattle.script_read.specs.declared.effect.Effect.TheVariants.{Sets, Begins, Calls}
+use Rattle.script_read.specs.declared.effect.Moments.{Moments}
 use Rattle.script_read.specs.declared.script.Step.{Step}
 use Rattle.script_read.specs.Arguments.{key, ttl}
+use Rattle.script_read.specs.Clock.{at_first, request_at, step_at}
 use Rattle.script_read.specs.GenParts.{literal_gen, entry_round}
 use Rattle.script_read.specs.Table.{Form, Done, Need, May, Make, Refuse, form_of}
 use Rattle.script_read.specs.Grammar.{entry_word, inner_levels, most_workers}
@@ -181,23 +183,23 @@ is_worker line = bytes_eq (line_word line) (codes "worker")
 abbrev pub Rest : Type 0
 Rest = List Step × List (List Step)
 
-abbrev pub with_effect : ℕ → (ℕ → Result Rest Fault) → Effect → Result Rest Fault
-with_effect t others (Sets u) = others u
-with_effect t others (Calls call) =
-    others t >>= λ more. Ok (record { t = t; call = call } ∷ more.0, more.1)
+abbrev pub with_effect : Moments → (Moments → Result Rest Fault) → Effect → Result Rest Fault
+with_effect m others (Sets u) = others (record m { t = u })
+with_effect m others (Begins u) = others (request_at u)
+with_effect m others (Calls call) = others m >>= λ more. Ok (step_at m call ∷ more.0, more.1)
 
 -- The lines up to the end of the bytes, at most so many, where so many scripts have begun, from
--- this moment on.
-unfoldable pub lines_at : ℕ → ℕ → ℕ → List ℕ → Result Rest Fault
-lines_at lines begun t [] = Ok ([], [])
-lines_at zero begun t (b ∷ rest) = Ok ([], [])
-lines_at (suc lines) begun t (b ∷ rest) =
+-- these moments on.
+unfoldable pub lines_at : ℕ → ℕ → Moments → List ℕ → Result Rest Fault
+lines_at lines begun m [] = Ok ([], [])
+lines_at zero begun m (b ∷ rest) = Ok ([], [])
+lines_at (suc lines) begun m (b ∷ rest) =
     if is_worker (b ∷ rest)
     then (worker_at begun (b ∷ rest) >>= λ after.
-    lines_at lines (suc begun) 0 after >>= λ more. Ok ([], more.0 ∷ more.1))
+    lines_at lines (suc begun) at_first after >>= λ more. Ok ([], more.0 ∷ more.1))
     else (line_at begun (b ∷ rest) >>= λ e.
-    with_effect t (λ u. lines_at lines begun u e.1) e.0)
+    with_effect m (λ later. lines_at lines begun later e.1) e.0)
 
 -- All of the bytes. Each line takes a byte at least, so there are no more of them than bytes.
 unfoldable pub scripts_at : List ℕ → Result (List (List Step)) Fault
-scripts_at bytes = lines_at (length bytes) 0 0 bytes >>= λ rest. Ok rest.1
+scripts_at bytes = lines_at (length bytes) 0 at_first bytes >>= λ rest. Ok rest.1

@@ -16,7 +16,7 @@ use Rattle.script_read.specs.declared.call.Call.TheVariants.{DeleteOne, DeleteMa
 use Rattle.script_read.specs.declared.call.Call.TheVariants.{Enabled, Entry, KeyInfo, CacheInfo}
 use Rattle.script_read.specs.declared.call.Call.TheVariants.{SmaInfo, Walk, WalkDelete, Totals}
 use Rattle.script_read.specs.declared.effect.Effect.{Effect}
-use Rattle.script_read.specs.declared.effect.Effect.TheVariants.{Sets, Calls}
+use Rattle.script_read.specs.declared.effect.Effect.TheVariants.{Sets, Begins, Calls}
 use Rattle.script_read.specs.declared.given.Asked.{Asked}
 use Rattle.script_read.specs.declared.given.Asked.TheVariants as asks
 use Rattle.script_read.specs.declared.given.Stored.{Stored}
@@ -61,6 +61,14 @@ abbrev pub calls : Call → Form
 calls call = Done (Calls call)
 
 -- ---- words
+
+-- a line with a moment begins a request, or sets the moment alone
+abbrev pub timing : Bool → ℕ → Effect
+timing false t = Sets t
+timing true t = Begins t
+
+abbrev pub moment_form : Bool → Form
+moment_form begins = needs moment (λ t. Done (timing begins t))
 
 -- a key's value, and a limit of time
 abbrev pub store_one : Bool → List ℕ → Form
@@ -135,7 +143,8 @@ totals_form = needs search_for (λ s. may Active which_list (λ l. calls (Totals
 -- the words, `worker` apart
 abbrev pub table : List (List ℕ × Form)
 table =
-    (codes "time", needs moment (λ t. Done (Sets t)))
+    (codes "time", moment_form false)
+    ∷ (codes "request", moment_form true)
     ∷ (codes "apcu_store", needs stored (store_by false))
     ∷ (codes "apcu_add", needs stored (store_by true))
     ∷ (codes "apcu_fetch", needs asked_of (λ a. calls (fetch_of a)))

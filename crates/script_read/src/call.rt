@@ -1,5 +1,7 @@
 ghost use Rattle.std.specs.Prelude.{◌≡◌};
+ghost use Rattle.apcu_model.specs.Asking.{pattern_lent};
 ghost use Rattle.script_read.specs.Calls.{event_bound};
+ghost use Rattle.script_read.specs.Patterns.{call_pattern};
 
 use apcu_model::{Fields, Gen, Keys, List, Pairs, Pattern};
 use php_graph::{Bytes, Graph};
@@ -116,6 +118,18 @@ impl Call {
                 u64::from(keys.len())
             }
             Call::Enabled => 0,
+        }
+    }
+
+    /// The pattern that the call's keys are to match, if it has one.
+    pub fn pattern(&self) -> Option<&Pattern>
+        ensures { pattern_lent result ≡ call_pattern self.now }
+    {
+        match self {
+            Call::Walk { search, .. }
+            | Call::WalkDelete { search, .. }
+            | Call::Totals { search, .. } => search.as_ref(),
+            _ => None,
         }
     }
 }

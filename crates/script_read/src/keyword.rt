@@ -7,6 +7,7 @@ ghost use Rattle.script_read.specs.Gives.{form_named, forms_of};
 #[derive(Clone, Copy)]
 pub(crate) enum Keyword {
     Time,
+    Request,
     Store,
     Add,
     Fetch,
@@ -35,10 +36,14 @@ struct Row {
 }
 
 // The words.
-const WORDS: [Row; 18] = [
+const WORDS: [Row; 19] = [
     Row {
         text: b"time",
         word: Keyword::Time,
+    },
+    Row {
+        text: b"request",
+        word: Keyword::Request,
     },
     Row {
         text: b"apcu_store",

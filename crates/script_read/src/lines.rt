@@ -1,8 +1,8 @@
 //! Lines: what follows each word, to the end of its line.
 
-ghost use Rattle.std.specs.Prelude.{◌≡◌, ℕ, ◌≤◌, ◌<◌, List, codes, length, IfOk, OnOk};
+ghost use Rattle.std.specs.Prelude.{◌≡◌, ℕ, ◌≤◌, ◌<◌, List, length, IfOk, OnOk};
 ghost use Rattle.script_read.specs.Calls.{HasRanges};
-ghost use Rattle.script_read.specs.Table.{calls, form_of};
+ghost use Rattle.script_read.specs.Table.{calls, timing, moment_form};
 ghost use Rattle.script_read.specs.Grammar.{most_workers};
 ghost use Rattle.script_read.specs.Reading.{ends_word, word_len, line_word, behind_word, rest_at};
 ghost use Rattle.script_read.specs.Reading.{worker_at, line_at};
@@ -21,16 +21,23 @@ use crate::stores::store;
 use notation::Reason;
 use std::alloc::Global;
 
-// The argument of `time`.
-fn time(alloc: Global, bytes: &[u8]) -> Result<(Effect, &[u8]), Stop>
+// What a line with a moment does: it begins a request, or sets the moment alone.
+fn timing(begins: bool, t: u64) -> Effect
+    ensures { result ≡ timing begins t }
+{
+    if begins { Effect::Begins(t) } else { Effect::Sets(t) }
+}
+
+// The argument of `time`, or of `request`, which begins one.
+fn moment(alloc: Global, begins: bool, bytes: &[u8]) -> Result<(Effect, &[u8]), Stop>
     ensures read { (last : List ℕ) → GivesItem (λ x. (x.0, x.1.now)) result
-        (rest_at (form_of (codes "time")) last bytes.now) }
+        (rest_at (moment_form begins) last bytes.now) }
     ensures fewer { IfOk result (λ x. length x.1.now < length bytes.now) }
     ensures range { IfOk result (λ x. IsInRange x.0) }
 {
     let (t, rest) = moment_argument(alloc, bytes)?;
     let rest = end(rest)?;
-    Ok((Effect::Sets(t), rest))
+    Ok((timing(begins, t), rest))
 }
 
 // A call whose last argument is read, or that has none: its line ends here.
@@ -60,7 +67,8 @@ fn effect<'a>(
     ensures range { IfOk result (λ x. IsInRange x.0) }
 {
     match word {
-        Keyword::Time => time(alloc, rest),
+        Keyword::Time => moment(alloc, false, rest),
+        Keyword::Request => moment(alloc, true, rest),
         Keyword::Store => store(alloc, false, rest),
         Keyword::Add => store(alloc, true, rest),
         Keyword::Fetch => fetch(alloc, rest),

@@ -4,12 +4,12 @@ ghost use Rattle.script_read.specs.Grammar.{AreScripts};
 ghost use Rattle.script_read.specs.Reading.{scripts_at};
 ghost use Rattle.script_read.specs.Gives.{GivesItem, ReadsScripts};
 
-use crate::effect::Effect;
+use crate::effect::{Effect, Moments};
 use crate::fault::{ScriptFault, Stop};
 use crate::keyword::is_word;
 use crate::laws::readings_are_scripts;
 use crate::lines::{line, word_len, worker};
-use crate::script::{Scripts, Step};
+use crate::script::Scripts;
 use notation::readings_stay_inside;
 use std::alloc::Global;
 
@@ -19,20 +19,21 @@ fn scripts(alloc: Global, bytes: &[u8]) -> Result<Scripts, Stop>
     ensures read { GivesItem (λ scripts. scripts) result (scripts_at bytes.now) }
 {
     let mut scripts = Scripts::new(alloc);
-    let mut t = 0;
+    let mut moments = Moments { t: 0, start: 0 };
     let mut rest = bytes;
     while !rest.is_empty() {
         let (word, behind) = rest.split_at(word_len(rest));
         if is_word(word, b"worker") {
             rest = worker(scripts.len(), rest, behind)?;
             scripts.begin(alloc)?;
-            t = 0;
+            moments = Moments { t: 0, start: 0 };
         } else {
             let (effect, after) = line(alloc, scripts.len(), word, rest, behind)?;
             rest = after;
             match effect {
-                Effect::Sets(moment) => t = moment,
-                Effect::Calls(call) => scripts.add(Step { t, call })?,
+                Effect::Sets(t) => moments.t = t,
+                Effect::Begins(t) => moments = Moments { t, start: t },
+                Effect::Calls(call) => scripts.add(moments.step(call))?,
             }
         }
     }

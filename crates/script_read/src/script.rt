@@ -2,19 +2,38 @@ ghost use Rattle.std.specs.Prelude.{◌≡◌, ℕ, ◌<◌, ◌==◌, ◌++◌,
 ghost use Rattle.std.specs.Prelude.{if◌then◌else◌, slice_get, Some, IfNone};
 ghost use Rattle.script_read.specs.declared.script.Step.{Step};
 ghost use Rattle.script_read.specs.Calls.{IsInTime, IsRanged};
+ghost use Rattle.script_read.specs.Clock.{moment_under};
 ghost use Rattle.script_read.specs.Growing.{grown, last_len};
 ghost use Rattle.std.specs.List.{AllByRecursion};
 ghost use Rattle.std.specs.Option.{option_to_list};
 
 use crate::call::Call;
+use apcu_model::Clock;
 use std::alloc::{AllocError, Global};
 use std::marker::Model;
 
-/// A call and the moment, in seconds, at which it is made.
+/// A call with its moments, in seconds.
 #[derive(Drop)]
 pub struct Step {
+    /// At which it is made: that of the last line `time` or `request` before it, 0 where there is
+    /// none.
     pub t: u64,
+    /// At which its request began: that of the last line `request` before it, 0 where there is
+    /// none.
+    pub start: u64,
     pub call: Call,
+}
+
+impl Step {
+    /// The moment that the call has under this clock.
+    pub fn moment(&self, clock: Clock) -> u64
+        ensures { result ≡ moment_under clock self.now }
+    {
+        match clock {
+            Clock::Line => self.t,
+            Clock::Request => self.start,
+        }
+    }
 }
 
 /// What one worker does, in order. Contracts see the list of its steps.

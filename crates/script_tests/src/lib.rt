@@ -13,6 +13,8 @@ mod iterators;
 #[cfg(test)]
 mod laws;
 #[cfg(test)]
+mod moments;
+#[cfg(test)]
 mod reading;
 #[cfg(test)]
 mod replies;

@@ -184,10 +184,12 @@ fn scripts_are_made(rt: HostRuntime) -> Result<(), Fail> {
     let key = Bytes::of(rt.alloc(), b"k")?;
     script.push(Step {
         t: 5,
+        start: 3,
         call: Call::FetchOne(key),
     })?;
     assert_eq!(rt; script.len(), 1);
     assert_eq!(rt; script.at(0).t, 5);
+    assert_eq!(rt; script.at(0).start, 3);
     let scripts = Scripts::new(rt.alloc());
     assert!(rt; scripts.is_empty());
     Ok(())

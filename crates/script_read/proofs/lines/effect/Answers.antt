@@ -1,7 +1,7 @@
 use Rattle.std.proofs.Common.{◌≡◌, true, ap}
 use Rattle.script_read.specs.declared.keyword.Keyword.{Keyword}
 use Rattle.script_read.specs.Arguments.{stored}
-use Rattle.script_read.specs.Table.{needs, store_by, count_form, form_in}
+use Rattle.script_read.specs.Table.{needs, moment_form, store_by, count_form, form_in}
 use Rattle.script_read.specs.Reading.{rest_at}
 use Rattle.script_read.specs.Gives.{form_named}
 use Rattle.script_read.proofs.Rows.{moved}
@@ -12,7 +12,16 @@ unfolding form_in
 returns-in-Time-clause-read c =
     let line = c.args.line.now in
     let rest = c.args.rest.now in
-    moved _ c.time.result _ _ (ap (λ (w : Keyword). rest_at (form_named w) line rest) c.in-Time.is) (c.time.ensures.read line)
+    let is : rest_at (form_named c.args.word) line rest ≡ rest_at (moment_form false) line rest = ap (λ (w : Keyword). rest_at (form_named w) line rest) c.in-Time.is in
+    moved _ c.moment.result _ _ is (c.moment.ensures.read line)
+
+pub returns-in-Request-clause-read : goal.returns-in-Request-clause-read
+unfolding form_in
+returns-in-Request-clause-read c =
+    let line = c.args.line.now in
+    let rest = c.args.rest.now in
+    let is : rest_at (form_named c.args.word) line rest ≡ rest_at (moment_form true) line rest = ap (λ (w : Keyword). rest_at (form_named w) line rest) c.in-Request.is in
+    moved _ c.moment-in-Request.result _ _ is (c.moment-in-Request.ensures.read line)
 
 pub returns-in-Store-clause-read : goal.returns-in-Store-clause-read
 unfolding form_in

@@ -8,8 +8,8 @@ use Rattle.script_read.proofs.reading.scripts.Given as goal
 
 abbrev pub invariant-loop-rest : goal.invariant-loop-rest
 invariant-loop-rest l = record {
-  so_far : IsSoFar l.scripts l.t l.rest (scripts_at l.bytes);
-  soon : l.t ≤ last_moment;
+  so_far : IsSoFar l.scripts l.moments l.rest (scripts_at l.bytes);
+  soon : (l.moments.t ≤ last_moment) × (l.moments.start ≤ last_moment);
   few : last_len l.scripts + length l.rest ≤ length l.bytes;
   workers : length l.scripts ≤ most_workers;
 }

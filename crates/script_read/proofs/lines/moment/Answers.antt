@@ -1,17 +1,17 @@
 use Rattle.std.proofs.lemmas.Result.{err_from_is_err_and}
-use Rattle.script_read.proofs.Rows.{time_is, fails, goes_on}
-use Rattle.script_read.proofs.lines.time.Goals as goal
+use Rattle.script_read.proofs.Rows.{moment_is, fails, goes_on}
+use Rattle.script_read.proofs.lines.moment.Goals as goal
 
 pub returns-in_err-t-clause-read : goal.returns-in_err-t-clause-read
 returns-in_err-t-clause-read c = λ last.
     let p = err_from_is_err_and c.from_residual.result c.from_residual.ensures.1 in
-    rw (p.1, p.2) (fails c.in_err-t.field-0.0 _ _ _ (time_is last c.args.bytes.now) c.in_err-t.ensures.read)
+    rw (p.1, p.2) (fails c.in_err-t.field-0.0 _ _ _ (moment_is c.args.begins last c.args.bytes.now) c.in_err-t.ensures.read)
 
 pub returns-in_err-rest-clause-read : goal.returns-in_err-rest-clause-read
 returns-in_err-rest-clause-read c = λ last.
     let p = err_from_is_err_and c.from_residual-in_err-rest.result c.from_residual-in_err-rest.ensures.1 in
-    rw (p.1, p.2) (fails c.in_err-rest.field-0.0 _ _ _ (goes_on _ _ _ _ (time_is last c.args.bytes.now) c.in_ok-t.ensures.read) c.in_err-rest.ensures.read)
+    rw (p.1, p.2) (fails c.in_err-rest.field-0.0 _ _ _ (goes_on _ _ _ _ (moment_is c.args.begins last c.args.bytes.now) c.in_ok-t.ensures.read) c.in_err-rest.ensures.read)
 
 pub returns-clause-read : goal.returns-clause-read
 returns-clause-read c = λ last.
-    goes_on _ _ _ _ (goes_on _ _ _ _ (time_is last c.args.bytes.now) c.in_ok-t.ensures.read) c.in_ok-rest.ensures.read
+    goes_on _ _ _ _ (goes_on _ _ _ _ (moment_is c.args.begins last c.args.bytes.now) c.in_ok-t.ensures.read) c.in_ok-rest.ensures.read
