@@ -18,3 +18,4 @@ mod Watching
 mod Drawing
 mod Agreeing
 mod Looking
+mod Timed

@@ -1,6 +1,6 @@
 -- A gap is always there: small blocks that are few meet few of many pieces.
 use Rattle.std.proofs.Common.{◌≡◌, inl, inr, ℕ, zero, suc, ◌+◌, ◌*◌, ◌%◌, ◌<◌, ◌≤◌, ◌&&◌, ◌||◌, Bool, true, false, not, cond, List, [], ◌∷◌, length, Some, refl, sym, ap, ◌∙◌, subst, arith}
-use Rattle.std.specs.Prelude.{◌==◌, nat_le, min, max, find, is_some}
+use Rattle.std.specs.Prelude.{◌==◌, ◌/◌, nat_le, min, max, find, is_some}
 use Rattle.std.specs.List.{Contains, count_by, range_with_len}
 use Rattle.std.proofs.lemmas.Bool.{cases_Bool, false≢true, and_parts, and_from, ltb-true, lt-ltb, le-leb, eq-eqb, eqb-true, not-true, false_from_ne_true, not_from_false}
 use Rattle.std.proofs.lemmas.List.FromFn.{length-range_with_len}
@@ -112,7 +112,8 @@ find_some p (y ∷ ys) x c h = elim (cases_Bool (p y)) [
 in_one : (to a n : ℕ) → a + n ≤ to → is_whole to a n ≡ true
 in_one to a n within =
     let q = a / to in
-    let more : (q + 1) * to ≡ q * to + to = nat.suc-mul q to in
+    let next : q + 1 ≡ suc q = omega arith in
+    let more : (q + 1) * to ≡ q * to + to = ap (λ m. m * to) next ∙ nat.suc-mul q to in
     whole_below to a n (omega (arith, more, within))
 
 -- so many small blocks leave room for one more in one segment

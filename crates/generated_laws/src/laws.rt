@@ -3,6 +3,7 @@ ghost use Rattle.std.specs.Prelude.{◌++◌, length, Contains, IsTrue, Some, sl
 ghost use Rattle.std.specs.Int.{int_wrap, w64};
 ghost use Rattle.std.specs.Int.RustNames.{FitsSigned};
 ghost use Rattle.std.specs.List.{AllByRecursion};
+ghost use Rattle.apcu_model.specs.declared.clock.Clock.{Clock};
 ghost use Rattle.apcu_model.specs.declared.conf.Conf.{Conf};
 ghost use Rattle.apcu_model.specs.declared.event.Event.{Event};
 ghost use Rattle.apcu_model.specs.declared.journal.Mark.{Mark};
@@ -13,6 +14,7 @@ ghost use Rattle.apcu_model.specs.Counters.{integer_in};
 ghost use Rattle.apcu_model.specs.History.{are_shallow, marks_of, reply_in, stage_of};
 ghost use Rattle.pin_table.specs.Events.{events_of};
 ghost use Rattle.script_read.specs.declared.script.Step.{Step};
+ghost use Rattle.script_read.specs.Clock.{all_timed};
 ghost use Rattle.script_read.specs.Generated.{Draw, draws_of, generated, steps_of_draws};
 ghost use Rattle.script_read.specs.Play.{IsCompletePlay, Play, Wish, event_of, played, wanted};
 ghost use Rattle.script_read.specs.Play.{wish_of};
@@ -78,7 +80,8 @@ pub fn summaries_agree()
 }
 
 /// What generated scripts want depends on nothing but how many replies there were: the draws in
-/// turn, then the observer's looks, then the end.
+/// turn, then the observer's looks, then the end. All their calls are made at the moment 0, so they
+/// are the same under each clock.
 pub fn generated_wishes()
     ensures others { (conf : Conf) (worker : ℕ) (draws : List Draw) (replies : List Reply)
         → wanted conf (steps_of_draws worker draws) replies
@@ -87,6 +90,9 @@ pub fn generated_wishes()
         → wanted conf (steps_of_draws 0 draws ++ counters_read) replies
         ≡ slice_get (wishes_of_draws 0 draws ++ (wishes_of_looks ++ wish_to_end ∷ []))
         (length replies) }
+    ensures timed { (clock : Clock) (seed workers calls : ℕ)
+        → let scripts = observed (generated seed workers calls) in
+        all_timed clock scripts ≡ scripts }
 {}
 
 /// Where worker 0 has made its own calls and has seen all events of the others, and then only it

@@ -67,7 +67,7 @@ asked_by worker (Counts n step) = requests.Inc (counter_key n) (pos step) 0
 
 -- all calls are made at the moment 0
 abbrev pub step_now : Call → Step
-step_now call = record { t = 0; call = call }
+step_now call = record { t = 0; start = 0; call = call }
 
 abbrev pub steps_of_draws : ℕ → List Draw → List Step
 steps_of_draws worker draws = map (λ draw. step_now (call_of worker draw)) draws

@@ -97,7 +97,11 @@ fn script_of(
     for _call in 0..calls {
         state = state_after(state);
         let call = call_of(alloc, worker, workers, state >> 33)?;
-        script.push(Step { t: 0, call })?;
+        script.push(Step {
+            t: 0,
+            start: 0,
+            call,
+        })?;
     }
     Ok(script)
 }
