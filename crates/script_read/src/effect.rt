@@ -1,8 +1,8 @@
-use crate::call::Call;
-use crate::script::Step;
-
 ghost use Rattle.std.specs.Prelude.{◌≡◌};
 ghost use Rattle.script_read.specs.Clock.{step_at};
+
+use crate::call::Call;
+use crate::script::Step;
 
 /// What a line of a script does: it sets the moment of the lines after it, or begins a request, or
 /// it is a call.

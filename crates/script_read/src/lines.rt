@@ -25,7 +25,11 @@ use std::alloc::Global;
 fn timing(begins: bool, t: u64) -> Effect
     ensures { result ≡ timing begins t }
 {
-    if begins { Effect::Begins(t) } else { Effect::Sets(t) }
+    if begins {
+        Effect::Begins(t)
+    } else {
+        Effect::Sets(t)
+    }
 }
 
 // The argument of `time`, or of `request`, which begins one.

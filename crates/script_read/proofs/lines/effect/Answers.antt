@@ -1,4 +1,4 @@
-use Rattle.std.proofs.Common.{◌≡◌, true, ap}
+use Rattle.std.proofs.Common.{◌≡◌, true, false, ap}
 use Rattle.script_read.specs.declared.keyword.Keyword.{Keyword}
 use Rattle.script_read.specs.Arguments.{stored}
 use Rattle.script_read.specs.Table.{needs, moment_form, store_by, count_form, form_in}

@@ -13,5 +13,5 @@ returns-in_err-rest-clause-read c = λ last.
     rw (p.1, p.2) (fails c.in_err-rest.field-0.0 _ _ _ (goes_on _ _ _ _ (moment_is c.args.begins last c.args.bytes.now) c.in_ok-t.ensures.read) c.in_err-rest.ensures.read)
 
 pub returns-clause-read : goal.returns-clause-read
-returns-clause-read c = λ last.
-    goes_on _ _ _ _ (goes_on _ _ _ _ (moment_is c.args.begins last c.args.bytes.now) c.in_ok-t.ensures.read) c.in_ok-rest.ensures.read
+returns-clause-read c = λ last. rw c.timing.ensures
+    (goes_on _ _ _ _ (goes_on _ _ _ _ (moment_is c.args.begins last c.args.bytes.now) c.in_ok-t.ensures.read) c.in_ok-rest.ensures.read)

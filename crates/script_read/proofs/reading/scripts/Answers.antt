@@ -6,7 +6,7 @@ use Rattle.script_read.specs.declared.effect.Effect.{Effect}
 use Rattle.script_read.specs.declared.effect.Effect.TheVariants.{Sets, Begins, Calls}
 use Rattle.script_read.specs.declared.script.Step.{Step}
 use Rattle.script_read.specs.Clock.{at_first, request_at, step_at}
-use Rattle.script_read.specs.Growing.{last_len}
+use Rattle.script_read.specs.Growing.{grown, last_len}
 use Rattle.script_read.specs.Reading.{is_worker, worker_at, line_at, scripts_at}
 use Rattle.script_read.specs.Gives.{Stops, IsInRange}
 use Rattle.script_read.proofs.Walking.{IsSoFar, begins, one_longer, begun_last, grown_length, grown_last, worker_goes_on, moment_goes_on, call_goes_on, worker_fails, line_fails, is_done, word_is}
@@ -102,14 +102,15 @@ loop-rest-preserved c =
     let after = c.in_ok-effect.after.now in
     let front = c.loop-rest.scripts in
     let whole = scripts_at c.args.bytes.now in
-    let step : Step = step_at c.loop-rest.moments c.in-Calls.call in
+    let step = c.step.result in
     let some : 0 < length rest = grind arith in
     let begun : 0 < length front = omega (arith, c.in_ok-effect.ensures.some, c.len-else-is_word.ensures) in
     let word : is_worker rest ≡ false = word_is rest c.split_at.result.0.now c.word_len.result c.is_word.result false c.split_at.ensures.front c.word_len.ensures.len c.is_word.ensures c.if-is_word.false in
     let fewer : length after < length rest = omega (arith, c.in_ok-effect.ensures.fewer, c.split_at.ensures.back_len) in
     let read : line_at (length front) rest ≡ Ok (Calls c.in-Calls.call, after) = subst (λ (n : ℕ). line_at n rest ≡ was_read after c.in_ok-effect.effect) c.len-else-is_word.ensures c.in_ok-effect.ensures.read ∙ ap (was_read after) c.in-Calls.is in
     record {
-      so_far = subst (λ (l : List (List Step)). IsSoFar l c.loop-rest.moments after whole) (sym c.in_ok-add-in-Calls.ensures) (call_goes_on front c.loop-rest.moments c.in-Calls.call rest after whole begun some word read fewer c.loop-rest.invariant.so_far);
+      so_far = subst (λ (l : List (List Step)). IsSoFar l c.loop-rest.moments after whole) (sym c.in_ok-add-in-Calls.ensures)
+          (subst (λ (s : Step). IsSoFar (grown front s) c.loop-rest.moments after whole) (sym c.step.ensures) (call_goes_on front c.loop-rest.moments c.in-Calls.call rest after whole begun some word read fewer c.loop-rest.invariant.so_far));
       soon = c.loop-rest.invariant.soon;
       few = omega (arith, fewer, c.loop-rest.invariant.few, ap last_len c.in_ok-add-in-Calls.ensures, grown_last front step begun);
       workers = omega (arith, c.loop-rest.invariant.workers, ap length c.in_ok-add-in-Calls.ensures, grown_length front step);
