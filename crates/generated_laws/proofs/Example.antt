@@ -2,6 +2,8 @@
 use Rattle.std.proofs.Common.{◌≡◌, List, [], ◌∷◌, Some, true, refl}
 use Rattle.std.specs.Fmt.{digits}
 use Rattle.std.specs.Prelude.{pos, codes, replicate, option_map}
+use Rattle.seg_words.specs.Gaps as gaps
+use Rattle.apcu_model.specs.Conf as shape
 use Rattle.apcu_model.specs.declared.conf.Conf.{Conf}
 use Rattle.apcu_model.specs.declared.journal.Mark.{Mark}
 use Rattle.script_read.specs.Play.{played, is_complete_play}
@@ -30,11 +32,11 @@ marks : List Mark
 marks = replicate 10 (record { worker = 0; mask = 0 })
 
 is_played : option_map (summary_of 1) (played small (observed (generated 0 1 1)) marks) ≡ Some (summary_due (draws_of 0 1 1))
-unfolding small marks digits
+unfolding small marks digits gaps.is_whole shape.piece_of
 is_played = refl
 
 is_done : is_complete_play small (observed (generated 0 1 1)) (played small (observed (generated 0 1 1)) marks) ≡ true
-unfolding small marks
+unfolding small marks gaps.is_whole shape.piece_of
 is_done = refl
 
 is_due : summary_due (draws_of 0 1 1) ≡ (let s : Summary = record { inserts = 1; counters = pos 0 ∷ pos 0 ∷ pos 0 ∷ pos 0 ∷ pos 0 ∷ pos 0 ∷ pos 0 ∷ pos 93 ∷ [] } in s)
