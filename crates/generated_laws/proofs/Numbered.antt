@@ -1,5 +1,5 @@
 -- Each event leaves rows apart and numbered, and which rows of the cache after it are old ones.
-use Rattle.std.proofs.Common.{◌≡◌, ℕ, ◌+◌, ◌-◌, ◌%◌, ◌^◌, ◌<◌, ◌≤◌, ◌&&◌, ◌⊎◌, inl, inr, Bool, true, false, not, if◌then◌else◌, List, [], ◌∷◌, length, map, filter, Option, Some, None, refl, ap, sym, ◌∙◌, subst, arith}
+use Rattle.std.proofs.Common.{◌≡◌, ℕ, ◌+◌, ◌-◌, ◌%◌, ◌^◌, ◌<◌, ◌≤◌, ◌&&◌, ◌⊎◌, inl, inr, Bool, true, false, not, if◌then◌else◌, List, [], ◌∷◌, length, Option, Some, None, refl, ap, sym, ◌∙◌, subst, arith}
 use Rattle.std.specs.Prelude.{ℤ, Contains, nat_lt, is_some}
 use Rattle.std.proofs.lemmas.Bool.{ltb-false, false≢true}
 use Rattle.seg_words.specs.Members.{Contains-filter, map_there, filter_none}
@@ -13,7 +13,7 @@ use Rattle.apcu_model.specs.declared.request.StoreAnswer.TheVariants as answers
 use Rattle.apcu_model.specs.Laws.{RowsStayApart}
 use Rattle.apcu_model.specs.Conf.{most_of}
 use Rattle.apcu_model.specs.Cache.{Row, Cache, risen, has_key, gap_of}
-use Rattle.apcu_model.specs.Change.{dropped, swept, expired_dropped, expunged, deleted, cleared, has_gap, with_room, with_row, placed, put_in, inserted}
+use Rattle.apcu_model.specs.Change.{dropped, swept, expired_dropped, expunged, deleted, cleared, has_gap, with_room, placed, put_in, inserted}
 use Rattle.apcu_model.specs.Counters.{integer_in}
 use Rattle.apcu_model.specs.Expiry.{is_expired, live_row}
 use Rattle.apcu_model.specs.Generators.{filled, missed_levels, looked_for}

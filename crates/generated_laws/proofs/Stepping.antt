@@ -1,37 +1,31 @@
 -- What a step of a counter does, that no store or increment is answered no, and what any turn does.
-use Rattle.std.proofs.Common.{◌≡◌, ◌⊎◌, inl, inr, ℕ, zero, suc, ◌+◌, ◌-◌, ◌^◌, ◌<◌, ◌≤◌, Bool, true, false, not, cond, if◌then◌else◌, List, [], ◌∷◌, length, map, filter, Option, Some, None, refl, sym, ap, ◌∙◌, subst, arith, w64}
+use Rattle.std.proofs.Common.{◌≡◌, ◌⊎◌, inl, inr, ℕ, zero, suc, ◌+◌, ◌^◌, ◌<◌, ◌≤◌, Bool, true, false, not, cond, if◌then◌else◌, List, [], ◌∷◌, length, filter, Option, Some, None, refl, sym, ap, ◌∙◌, subst, arith, w64}
 use Rattle.std.specs.Prelude.{ℤ, pos, nat_lt, find, ◌==◌, option_map, replicate}
 use Rattle.std.specs.Int.RustNames.{FitsSigned}
 use Rattle.std.specs.Str.{bytes_eq}
 use Rattle.std.specs.List.{Contains, count_by, range_with_len}
 use Rattle.std.proofs.lemmas.Bool.{cases_Bool, false≢true, false_from_ne_true, ltb-true, lt-ltb, eqb-true, eq-eqb}
 use Rattle.std.proofs.lemmas.Int.{wrapping_add_is, int_wrap_fits}
-use Rattle.std.proofs.lemmas.List.{map-id}
-use Rattle.std.proofs.lemmas.List.Sums.{count_by-le-length}
-use Rattle.std.proofs.lemmas.List.FromFn.{length-range_with_len}
 use Rattle.seg_words.specs.Members.{count-cons}
 use Rattle.php_graph.specs.declared.kind.Kind.{Kind}
 use Rattle.php_graph.specs.declared.kind.Kind.TheVariants as kinds
 use Rattle.php_graph.specs.Size.{block_size}
 use Rattle.apcu_model.specs.declared.conf.Conf.{Conf}
-use Rattle.apcu_model.specs.declared.request.Request.{Request}
-use Rattle.apcu_model.specs.declared.request.Request.TheVariants as requests
-use Rattle.apcu_model.specs.Cache.{Row, Cache, has_key, gap_of}
-use Rattle.apcu_model.specs.Change.{is_held, swept, with_row, placed, put_in, inserted, Insertion}
+use Rattle.apcu_model.specs.Cache.{Row, Cache, has_key}
+use Rattle.apcu_model.specs.Change.{is_held, with_row, inserted, Insertion}
 use Rattle.apcu_model.specs.Counters.{integer_in, with_integer, with_integer_at, integer_set, sum_of, counted_on, counted_at, begun, Count}
 use Rattle.apcu_model.specs.Expiry.{live_row}
 use Rattle.apcu_model.specs.History.{Stage, held_places}
-use Rattle.apcu_model.specs.Lookups.{looked_up, touched}
-use Rattle.apcu_model.specs.Rows.{touched_at}
+use Rattle.apcu_model.specs.Lookups.{looked_up}
 use Rattle.apcu_model.specs.Sequential.{cache_after, reply_to, is_stored, number_reply}
-use Rattle.script_read.specs.Generated.{Draw, Fetches, Stores, Counts, value_key, counter_key}
-use Rattle.generated_laws.specs.Summary.{stored_by, times_by, counted_by, is_no, is_declined}
+use Rattle.script_read.specs.Generated.{Fetches, Stores, Counts, value_key, counter_key}
+use Rattle.generated_laws.specs.Summary.{is_no, is_declined}
 use Rattle.generated_laws.proofs.RowFacts.{key_is, found_there}
 use Rattle.generated_laws.proofs.Pigeons.{count_alike}
 use Rattle.generated_laws.proofs.Placing.{value_at, live_is, finds_own, finds_other, finds_changed}
-use Rattle.generated_laws.proofs.Laid.{OneSlot, IsRoomy, Laid, Alike, Placed, new_row, laid_changed, laid_swept, laid_placed, placed_parts, inserts_so, no_row_there, few_held}
-use Rattle.generated_laws.proofs.Names.{names_of, few_names, value_named, counter_named, value_small, counter_small, counter_no_value, other_counter}
-use Rattle.generated_laws.proofs.Turns.{Turn, Does, Watches, Ends, request_of, IsTurn, stores_in, times_in, sums_in, begun_counters, counter_value, Good, good_same, values_kept, good_looked, IsShort, few_begun, Inserted, inserted_so, good_store}
+use Rattle.generated_laws.proofs.Laid.{OneSlot, IsRoomy, Alike, new_row, laid_changed, few_held}
+use Rattle.generated_laws.proofs.Names.{names_of, few_names, value_named, counter_named, value_small, counter_small, other_counter}
+use Rattle.generated_laws.proofs.Turns.{Turn, Does, Watches, Ends, request_of, IsTurn, stores_in, times_in, sums_in, begun_counters, counter_value, Good, good_same, good_looked, IsShort, few_begun, Inserted, inserted_so, good_store}
 
 -- ---- a counter
 

@@ -1,15 +1,10 @@
 -- What each turn of a generated script does to the cache: no row leaves unasked, and all is counted.
-use Rattle.std.proofs.Common.{◌≡◌, ◌⊎◌, inl, inr, ℕ, zero, suc, ◌+◌, ◌-◌, ◌^◌, ◌<◌, ◌≤◌, Bool, true, false, not, cond, if◌then◌else◌, List, [], ◌∷◌, length, map, filter, Option, Some, None, refl, sym, ap, ◌∙◌, subst, arith, w64}
-use Rattle.std.specs.Prelude.{ℤ, pos, nat_lt, find, ◌==◌, option_map, replicate}
-use Rattle.std.specs.Int.RustNames.{FitsSigned}
-use Rattle.std.specs.Str.{bytes_eq}
+use Rattle.std.proofs.Common.{◌≡◌, ℕ, ◌+◌, ◌-◌, ◌^◌, ◌<◌, ◌≤◌, true, false, if◌then◌else◌, List, [], ◌∷◌, length, map, filter, Option, Some, None, refl, sym, ap, ◌∙◌, subst, arith}
+use Rattle.std.specs.Prelude.{pos, nat_lt, find, ◌==◌, option_map, replicate}
 use Rattle.std.specs.List.{Contains, count_by, range_with_len}
-use Rattle.std.proofs.lemmas.Bool.{cases_Bool, false≢true, false_from_ne_true, ltb-true, lt-ltb, eqb-true, eq-eqb}
-use Rattle.std.proofs.lemmas.Int.{wrapping_add_is, int_wrap_fits}
 use Rattle.std.proofs.lemmas.List.{map-id}
 use Rattle.std.proofs.lemmas.List.Sums.{count_by-le-length}
 use Rattle.std.proofs.lemmas.List.FromFn.{length-range_with_len}
-use Rattle.seg_words.specs.Members.{count-cons}
 use Rattle.php_graph.specs.declared.kind.Kind.{Kind}
 use Rattle.php_graph.specs.declared.kind.Kind.TheVariants as kinds
 use Rattle.php_graph.specs.Size.{block_size}
@@ -18,19 +13,14 @@ use Rattle.apcu_model.specs.declared.request.Request.{Request}
 use Rattle.apcu_model.specs.declared.request.Request.TheVariants as requests
 use Rattle.apcu_model.specs.Cache.{Row, Cache, has_key, gap_of}
 use Rattle.apcu_model.specs.Change.{is_held, swept, with_row, placed, put_in, inserted, Insertion}
-use Rattle.apcu_model.specs.Counters.{integer_in, with_integer, with_integer_at, integer_set, sum_of, counted_on, counted_at, begun, Count}
-use Rattle.apcu_model.specs.Expiry.{live_row}
-use Rattle.apcu_model.specs.History.{Stage, held_places}
 use Rattle.apcu_model.specs.Lookups.{looked_up, touched}
 use Rattle.apcu_model.specs.Rows.{touched_at}
-use Rattle.apcu_model.specs.Sequential.{cache_after, reply_to, is_stored, number_reply}
 use Rattle.script_read.specs.Generated.{Draw, Fetches, Stores, Counts, value_key, counter_key}
-use Rattle.generated_laws.specs.Summary.{stored_by, times_by, counted_by, is_no, is_declined}
-use Rattle.generated_laws.proofs.RowFacts.{key_is, found_there}
+use Rattle.generated_laws.specs.Summary.{stored_by, times_by, counted_by}
 use Rattle.generated_laws.proofs.Pigeons.{count_alike}
-use Rattle.generated_laws.proofs.Placing.{value_at, live_is, finds_own, finds_other, finds_changed}
-use Rattle.generated_laws.proofs.Laid.{OneSlot, IsRoomy, Laid, Alike, Placed, new_row, laid_changed, laid_swept, laid_placed, placed_parts, inserts_so, no_row_there, few_held}
-use Rattle.generated_laws.proofs.Names.{names_of, few_names, value_named, counter_named, value_small, counter_small, counter_no_value, other_counter}
+use Rattle.generated_laws.proofs.Placing.{value_at, finds_other, finds_changed}
+use Rattle.generated_laws.proofs.Laid.{OneSlot, IsRoomy, Laid, Alike, Placed, new_row, laid_changed, laid_swept, laid_placed, placed_parts, inserts_so, no_row_there}
+use Rattle.generated_laws.proofs.Names.{names_of, few_names, value_named, value_small, counter_no_value}
 
 -- what a worker does in turn: a draw of its own, a look at a counter, or its end
 pub data Turn : Type 0 where
