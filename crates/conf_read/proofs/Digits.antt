@@ -36,20 +36,20 @@ unread most high t never = go (is_number most t && nat_le (digits_value 10 t) hi
 abbrev up_to : ℕ → ℕ → Option ℕ
 up_to high n = cond (nat_le n high) (Some n) None
 
-parsed : {E : Type 0} (most high : ℕ) (t : List ℕ) (r : Result ℕ E) → high < 2 ^ 32 → 0 < length t → length t ≤ most → slice_index t 0 ≢ 43 →
-    ParsesUnsigned 32 10 t r → number_in most high t ≡ option_and_then (up_to high) (result_ok r)
+parsed : {E : Type 0} (most high : ℕ) (t : List ℕ) (r : Result ℕ E) → high < 2 ^ 64 → 0 < length t → length t ≤ most → slice_index t 0 ≢ 43 →
+    ParsesUnsigned 64 10 t r → number_in most high t ≡ option_and_then (up_to high) (result_ok r)
 parsed {E} most high t (Ok v) fits some few plain h =
-    let p = parse_plain numerals {E = E} 32 t (Ok v) h plain in
+    let p = parse_plain numerals {E = E} 64 t (Ok v) h plain in
     rw (p.1, p.0.0, lt-ltb 0 (length t) some, le-leb (length t) most few) refl
 parsed {E} most high t (Err e) fits some few plain h =
-    let never = parse_plain numerals {E = E} 32 t (Err e) h plain in
+    let never = parse_plain numerals {E = E} 64 t (Err e) h plain in
     sym (unread most high t (λ all some' few' low. never (all, some, omega arith)))
 
 -- what is read of the text that these bytes are
 pub read_as : {E : Type 0} (most high : ℕ) (t u : List ℕ) (r : Result ℕ E) (o : Option ℕ) → t ≡ u → o ≡ result_ok r →
-    high < 2 ^ 32 → 0 < length u → length u ≤ most → slice_index u 0 ≢ 43 → ParsesUnsigned 32 10 t r → number_in most high u ≡ option_and_then (up_to high) o
+    high < 2 ^ 64 → 0 < length u → length u ≤ most → slice_index u 0 ≢ 43 → ParsesUnsigned 64 10 t r → number_in most high u ≡ option_and_then (up_to high) o
 read_as {E} most high t u r o same is fits some few plain h =
-    parsed most high u r fits some few plain (subst (λ x. ParsesUnsigned 32 10 x r) same h) ∙ ap (option_and_then (up_to high)) (sym is)
+    parsed most high u r fits some few plain (subst (λ x. ParsesUnsigned 64 10 x r) same h) ∙ ap (option_and_then (up_to high)) (sym is)
 
 pub not_above : (high n : ℕ) → n ≤ high → up_to high n ≡ Some n
 not_above high n low = rw (le-leb n high low) refl

@@ -1,15 +1,12 @@
 -- The program's command is simple, and what a parse of it gives.
-use Rattle.std.proofs.Common.{◌≡◌, ◌≢◌, ◌∙◌, ◌||◌, Bool, not, List, [], ◌∷◌, map, length, ◌==◌, Option, Result, Err, option_map, ap, ap₂, false, true, refl, subst, ⊎_elim}
-use Rattle.std.specs.Borrow.{Bor}
-use Rattle.clap.specs.Words.{AddsArg, App, HasKind, HasMatchesOf, IsAmong, Kinds, Text, app_of, fault_of, first_of, first_value, found_of, is_simple_and_free, kind_of, rule_of, with_rule}
+use Rattle.std.proofs.Common.{◌≡◌, ◌≢◌, ◌∙◌, ◌||◌, Bool, not, List, [], ◌∷◌, map, length, ◌==◌, Result, Err, ap₂, false, true, refl, ⊎_elim}
+use Rattle.clap.specs.Words.{AddsArg, App, HasKind, IsAmong, Kinds, Text, app_of, fault_of, is_simple_and_free, kind_of, rule_of, with_rule}
 use Rattle.clap.specs.declared.builder.arg.Arg.{Arg}
 use Rattle.clap.specs.declared.builder.command.Command.{Command}
 use Rattle.clap.specs.declared.error.Error.{Error}
 use Rattle.clap.specs.declared.error.kind.ErrorKind.{ErrorKind}
 use Rattle.clap.specs.declared.error.kind.ErrorKind.TheVariants.{OutOfMemory}
-use Rattle.clap.specs.declared.parser.matches.ArgMatches.{ArgMatches}
 use Rattle.clap.proofs.OnLiterals.{clap_on_literals}
-use Rattle.clap.proofs.WalkLemmas.{first_value-rows}
 use Rattle.conf_read.specs.Command.{option_rule}
 use Rattle.conf_read.specs.Options.{are_faulty, is_none_of, program}
 

@@ -1,5 +1,5 @@
 -- The shapes that are good.
-use Rattle.std.proofs.Common.{◌≡◌, ℕ, ◌+◌, ◌*◌, ◌/◌, ◌%◌, ◌≤◌, Bool, true, ◌&&◌, ◌==◌, nat_le, ap, sym, subst, ◌∙◌, refl, arith}
+use Rattle.std.proofs.Common.{◌≡◌, ℕ, ◌+◌, ◌*◌, ◌/◌, ◌%◌, ◌≤◌, true, ◌==◌, nat_le, ap, sym, subst, ◌∙◌, arith}
 use Rattle.std.proofs.Math.Nat as nat
 use Rattle.std.proofs.lemmas.Bool.{eqb-true, leb-true}
 use Rattle.apcu_model.specs.Conf.{IsGood, piece_of}

@@ -2,7 +2,10 @@
 use Rattle.std.specs.Prelude.{◌≡◌, ℕ, ◌+◌, ◌*◌, ◌%◌, ◌≤◌, Bool, true, false, not, ◌&&◌, ◌||◌, ◌==◌}
 use Rattle.std.specs.Prelude.{nat_le, if◌then◌else◌, List, [], ◌∷◌, map, codes, Option, Some, None}
 use Rattle.std.specs.Prelude.{String, string_bytes}
+use Rattle.std.specs.Option.{option_map}
 use Rattle.clap.specs.Words.{App, Row, Text, fault_of, first_of, matches_of, new_app}
+use Rattle.apcu_model.specs.declared.clock.Clock.{Clock}
+use Rattle.apcu_model.specs.declared.clock.Clock.TheVariants.{Line, Request}
 use Rattle.apcu_model.specs.declared.conf.Conf.{Conf}
 use Rattle.conf_read.specs.declared.settings.Settings.{Settings}
 use Rattle.conf_read.specs.declared.options.Row.{Row as CodeRow}
@@ -13,28 +16,34 @@ use Rattle.conf_read.specs.Numbers.{number_from, words_told}
 
 -- ---- the table
 
--- an option: its name, what stands for it where it is left out, and what is read of its value
+-- an option: its name, what stands for it where it is left out, if anything does, and what is read
+-- of its value
 pub record ProgramOption : Type 0 where
   pub name : Text
-  pub default : ℕ
+  pub default : Option ℕ
   pub read : Text → Option ℕ
 
 -- the size of each segment, in words of 8 bytes: 32 MB
 abbrev pub shm_size : ProgramOption
-shm_size = record { name = codes "shm-size"; default = 4194304; read = words_told }
+shm_size = record { name = codes "shm-size"; default = Some 4194304; read = words_told }
 
 abbrev pub segments : ProgramOption
-segments = record { name = codes "segments"; default = 1; read = number_from 1 64 }
+segments = record { name = codes "segments"; default = Some 1; read = number_from 1 64 }
 
 abbrev pub slots : ProgramOption
-slots = record { name = codes "slots"; default = 4096; read = number_from 2 1048576 }
+slots = record { name = codes "slots"; default = Some 4096; read = number_from 2 1048576 }
 
 -- in seconds; none: no row grows old
 abbrev pub ttl : ProgramOption
-ttl = record { name = codes "ttl"; default = 0; read = number_from 0 4294967295 }
+ttl = record { name = codes "ttl"; default = Some 0; read = number_from 0 4294967295 }
+
+-- whether a call's moment is the start of its request: 1 where it is
+abbrev pub use_request_time : ProgramOption
+use_request_time =
+    record { name = codes "use-request-time"; default = Some 0; read = number_from 0 1 }
 
 abbrev pub names : List Text
-names = map (λ o. o.name) (shm_size ∷ segments ∷ slots ∷ ttl ∷ [])
+names = map (λ o. o.name) (shm_size ∷ segments ∷ slots ∷ ttl ∷ use_request_time ∷ [])
 
 abbrev pub program : App
 program = with_options (new_app (codes "apcu_run")) names
@@ -46,13 +55,18 @@ abbrev pub ◌>>=◌ : {A B : Type 0} → Option A → (A → Option B) → Opti
 (Some x) >>= f = f x
 None >>= f = None
 
-abbrev pub read_or : ℕ → (Text → Option ℕ) → Option Text → Option ℕ
+abbrev pub read_or : Option ℕ → (Text → Option ℕ) → Option Text → Option (Option ℕ)
 read_or default read None = Some default
-read_or default read (Some text) = read text
+read_or default read (Some text) = option_map Some (read text)
 
--- what clap's rows tell of an option
+-- what clap's rows tell of an option: `None` where its value is refused, and `Some None` where it
+-- is left out and has no default
+abbrev pub told_if : ProgramOption → List Row → Option (Option ℕ)
+told_if option rows = read_or option.default option.read (first_of option.name rows)
+
+-- what they tell of an option that has a default
 abbrev pub told : ProgramOption → List Row → Option ℕ
-told option rows = read_or option.default option.read (first_of option.name rows)
+told option rows = told_if option rows >>= (λ n. n)
 
 -- so many slots leave 16 words of the first segment for blocks, and so many segments of so many
 -- words have 128 MB at most
@@ -64,16 +78,26 @@ abbrev pub cache_with : ℕ → ℕ → ℕ → ℕ → Conf
 cache_with words count chains seconds =
     record { words = count * words; slots = chains; ttl = seconds; segments = count }
 
--- what clap's rows ask for: nothing where a value is out of its form or range, or two do not agree
-abbrev pub settings_in : List Row → Option Settings
-settings_in rows = do
+-- the cache's shape: nothing where a value is out of its form or range, or two do not agree
+abbrev pub conf_in : List Row → Option Conf
+conf_in rows = do
   words ← told shm_size rows
   count ← told segments rows
   chains ← told slots rows
   seconds ← told ttl rows
-  if is_in_order words count chains
-      then Some (record { conf = cache_with words count chains seconds })
-      else None
+  if is_in_order words count chains then Some (cache_with words count chains seconds) else None
+
+-- 0 is the second of the call
+abbrev pub clock_of : ℕ → Clock
+clock_of number = if number == 0 then Line else Request
+
+-- what clap's rows ask for: nothing where they ask for no shape, or another value is out of its
+-- form or range
+abbrev pub settings_in : List Row → Option Settings
+settings_in rows = do
+  shape ← conf_in rows
+  start ← told use_request_time rows
+  Some (record { conf = shape; clock = clock_of start })
 
 -- the program's words as texts
 abbrev pub as_texts : {Z : Type 0} → List (String Z) → List Text

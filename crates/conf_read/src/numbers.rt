@@ -3,10 +3,10 @@ ghost use Rattle.std.specs.Prelude.{◌≡◌, ◌<◌, ◌≤◌, ◌%◌, ◌^
 ghost use Rattle.conf_read.specs.Numbers.{number_in, unit_of, bytes_in, words_told};
 
 // The most bytes of a segment.
-const MOST_BYTES: u32 = 134_217_728;
+const MOST_BYTES: u64 = 134_217_728;
 
 // The number that a text writes in at most so many digits, where it is not above another.
-pub(crate) fn number_in(text: &[u8], most: usize, high: u32) -> Option<u32>
+pub(crate) fn number_in(text: &[u8], most: usize, high: u64) -> Option<u64>
     ensures is { result ≡ number_in most high text.now }
     ensures low { IfSome result (λ n. n ≤ high) }
 {
@@ -14,7 +14,7 @@ pub(crate) fn number_in(text: &[u8], most: usize, high: u32) -> Option<u32>
         return None;
     }
     let number = match str::from_utf8(text) {
-        Ok(text) => text.parse::<u32>().ok()?,
+        Ok(text) => text.parse::<u64>().ok()?,
         Err(_) => return None,
     };
     if number <= high { Some(number) } else { None }
@@ -42,22 +42,22 @@ fn bytes_in(text: &[u8]) -> Option<u64>
     };
     let unit = unit_of(*last);
     if unit == 1 {
-        Some(u64::from(number_in(text, 10, MOST_BYTES)?))
+        number_in(text, 10, MOST_BYTES)
     } else {
-        Some(u64::from(number_in(digits, 10, MOST_BYTES)?) * unit)
+        Some(number_in(digits, 10, MOST_BYTES)? * unit)
     }
 }
 
 // The words of a segment of this size.
-pub(crate) fn words_told(text: &str) -> Option<u32>
+pub(crate) fn words_told(text: &str) -> Option<u64>
     ensures is { result ≡ words_told text.now }
     ensures even { IfSome result (λ words. words % 2 ≡ 0) }
     ensures least { IfSome result (λ words. 32 ≤ words) }
     ensures most { IfSome result (λ words. words ≤ 16777216) }
 {
     let bytes = bytes_in(text.as_bytes())?;
-    if bytes % 16 == 0 && bytes >= 256 && bytes <= u64::from(MOST_BYTES) {
-        Some((bytes / 8) as u32)
+    if bytes % 16 == 0 && bytes >= 256 && bytes <= MOST_BYTES {
+        Some(bytes / 8)
     } else {
         None
     }

@@ -2,7 +2,7 @@
 
 ghost use Rattle.std.specs.Prelude.{◌≡◌, IfSome};
 ghost use Rattle.clap.specs.Words.{found_of, rows_of};
-ghost use Rattle.conf_read.specs.Options.{option_of, reader_of, told, IsWithin};
+ghost use Rattle.conf_read.specs.Options.{option_of, reader_of, told, told_if, IsWithin};
 
 use crate::numbers::{number_in, words_told};
 use apcu_model::{MOST_SEGMENTS, MOST_SLOTS};
@@ -14,59 +14,67 @@ pub(crate) enum Reader {
     /// A size in bytes, as words of 8 bytes.
     Size,
     /// A number of at most twenty digits, between these two.
-    Number { low: u32, high: u32 },
+    Number { low: u64, high: u64 },
 }
 
-/// An option: its name, what stands for it where it is left out, and how its value is read.
+/// An option: its name, what stands for it where it is left out, if anything does, and how its
+/// value is read.
 #[derive(Clone, Copy)]
 pub(crate) struct Row {
     pub(crate) name: &'static str,
-    pub(crate) default: u32,
+    pub(crate) default: Option<u64>,
     pub(crate) reader: Reader,
 }
 
 /// The size of each segment, PHP's `apc.shm_size`.
 pub(crate) const SHM_SIZE: Row = Row {
     name: "shm-size",
-    default: 4_194_304,
+    default: Some(4_194_304),
     reader: Reader::Size,
 };
 
 /// The number of segments, PHP's `apc.shm_segments`.
 pub(crate) const SEGMENTS: Row = Row {
     name: "segments",
-    default: 1,
+    default: Some(1),
     reader: Reader::Number {
         low: 1,
-        high: MOST_SEGMENTS,
+        high: MOST_SEGMENTS as u64,
     },
 };
 
 /// The number of hash chains.
 pub(crate) const SLOTS: Row = Row {
     name: "slots",
-    default: 4096,
+    default: Some(4096),
     reader: Reader::Number {
         low: 2,
-        high: MOST_SLOTS,
+        high: MOST_SLOTS as u64,
     },
 };
 
 /// PHP's `apc.ttl`, in seconds.
 pub(crate) const TTL: Row = Row {
     name: "ttl",
-    default: 0,
+    default: Some(0),
     reader: Reader::Number {
         low: 0,
-        high: u32::MAX,
+        high: u32::MAX as u64,
     },
 };
 
+/// Whether a call's moment is the start of its request, PHP's `apc.use_request_time`.
+pub(crate) const USE_REQUEST_TIME: Row = Row {
+    name: "use-request-time",
+    default: Some(0),
+    reader: Reader::Number { low: 0, high: 1 },
+};
+
 /// All options, by which the command is built.
-pub(crate) const OPTIONS: [Row; 4] = [SHM_SIZE, SEGMENTS, SLOTS, TTL];
+pub(crate) const OPTIONS: [Row; 5] = [SHM_SIZE, SEGMENTS, SLOTS, TTL, USE_REQUEST_TIME];
 
 impl Reader {
-    fn read(self, text: &str) -> Option<u32>
+    fn read(self, text: &str) -> Option<u64>
         ensures is { result ≡ reader_of self text.now }
         ensures within { IfSome result (λ n. IsWithin self n) }
     {
@@ -80,14 +88,24 @@ impl Reader {
     }
 }
 
-// What the words tell of an option.
-pub(crate) fn told(matches: &ArgMatches<'_>, row: Row) -> Option<u32>
-    requires { IsWithin row.reader row.default }
+// What the words tell of an option: `None` where its value is refused, and `Some(None)` where it
+// is left out and has no default.
+pub(crate) fn told_if(matches: &ArgMatches<'_>, row: Row) -> Option<Option<u64>>
+    requires { IfSome row.default (λ n. IsWithin row.reader n) }
+    ensures is { result ≡ told_if (option_of row) (rows_of (found_of matches.now)) }
+    ensures within { IfSome result (λ given. IfSome given (λ n. IsWithin row.reader n)) }
+{
+    match matches.get_str(row.name) {
+        Some(text) => Some(Some(row.reader.read(text)?)),
+        None => Some(row.default),
+    }
+}
+
+// What the words tell of an option that has a default.
+pub(crate) fn told(matches: &ArgMatches<'_>, row: Row) -> Option<u64>
+    requires { IfSome row.default (λ n. IsWithin row.reader n) }
     ensures is { result ≡ told (option_of row) (rows_of (found_of matches.now)) }
     ensures within { IfSome result (λ n. IsWithin row.reader n) }
 {
-    match matches.get_str(row.name) {
-        Some(text) => row.reader.read(text),
-        None => Some(row.default),
-    }
+    told_if(matches, row)?
 }

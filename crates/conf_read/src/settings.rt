@@ -1,12 +1,12 @@
 ghost use Rattle.std.specs.Prelude.{◌≡◌, ◌≤◌, None, Some, IfOk, IfSome, IsErrOf};
 ghost use Rattle.apcu_model.specs.Conf.{IsGood};
 ghost use Rattle.clap.specs.Words.{found_of, rows_of};
-ghost use Rattle.conf_read.specs.Options.{is_in_order, settings_in, settings_of};
+ghost use Rattle.conf_read.specs.Options.{clock_of, conf_in, is_in_order, settings_in, settings_of};
 
 use crate::command::matches_of;
 use crate::fault::ConfFault;
-use crate::options::{SEGMENTS, SHM_SIZE, SLOTS, TTL, told};
-use apcu_model::{Conf, MOST_WORDS};
+use crate::options::{SEGMENTS, SHM_SIZE, SLOTS, TTL, USE_REQUEST_TIME, told};
+use apcu_model::{Clock, Conf, MOST_WORDS};
 use clap::ArgMatches;
 use std::alloc::Global;
 
@@ -15,6 +15,8 @@ use std::alloc::Global;
 pub struct Settings {
     /// The shape of the cache: `--shm-size`, `--segments`, `--slots` and `--ttl`.
     pub conf: Conf,
+    /// What a call's moment is: `--use-request-time`.
+    pub clock: Clock,
 }
 
 // Whether so many slots have room in one of so many segments of so many words, and the segments
@@ -27,38 +29,59 @@ fn in_order(words: u32, segments: u32, slots: u32) -> bool
         && u64::from(segments) * u64::from(words) <= u64::from(MOST_WORDS)
 }
 
+// The cache's shape by what clap found.
+fn conf_in(matches: &ArgMatches<'_>) -> Option<Conf>
+    ensures is { result ≡ conf_in (rows_of (found_of matches.now)) }
+    ensures good { IfSome result (λ conf. IsGood conf) }
+{
+    let words = told(matches, SHM_SIZE)? as u32;
+    let segments = told(matches, SEGMENTS)? as u32;
+    let slots = told(matches, SLOTS)? as u32;
+    let ttl = told(matches, TTL)? as u32;
+    if !in_order(words, segments, slots) {
+        return None;
+    }
+    Some(Conf {
+        words: segments * words,
+        slots,
+        ttl,
+        segments,
+    })
+}
+
+// What a call's moment is by this number.
+fn clock_of(number: u64) -> Clock
+    ensures { result ≡ clock_of number }
+{
+    if number == 0 {
+        Clock::Line
+    } else {
+        Clock::Request
+    }
+}
+
 // What clap found, as settings.
 fn settings_in(matches: &ArgMatches<'_>) -> Option<Settings>
     ensures is { result ≡ settings_in (rows_of (found_of matches.now)) }
     ensures good { IfSome result (λ s. IsGood s.conf) }
 {
-    let words = told(matches, SHM_SIZE)?;
-    let segments = told(matches, SEGMENTS)?;
-    let slots = told(matches, SLOTS)?;
-    let ttl = told(matches, TTL)?;
-    if !in_order(words, segments, slots) {
-        return None;
-    }
     Some(Settings {
-        conf: Conf {
-            words: segments * words,
-            slots,
-            ttl,
-            segments,
-        },
+        conf: conf_in(matches)?,
+        clock: clock_of(told(matches, USE_REQUEST_TIME)?),
     })
 }
 
 /// What the program's words ask for, its name first: `--shm-size SIZE` is PHP's `apc.shm_size`, the
 /// size of each segment (32M where it is left out), `--segments N` PHP's `apc.shm_segments` (1),
-/// `--slots N` the number of hash chains (4096), and `--ttl N` PHP's `apc.ttl` in seconds (0). The
-/// options stand in any order, each at most once.
+/// `--slots N` the number of hash chains (4096), `--ttl N` PHP's `apc.ttl` in seconds (0), and
+/// `--use-request-time B` PHP's `apc.use_request_time` (0): whether a call's moment is the second of
+/// the call (0) or its request's start (1). The options stand in any order, each at most once.
 ///
 /// A size is one to ten digits and at most one of `K M G k m g` behind them, times 1024, 1024^2 or
 /// 1024^3; it is a multiple of 16 bytes from 256 to 134,217,728. The other numbers are one to
 /// twenty digits. Segments are from 1 to 64, and have 134,217,728 bytes at most together. Slots are
 /// even, from 2 to 1,048,576, and leave 16 words of 8 bytes in the first segment. A time limit is
-/// below 2^32.
+/// below 2^32, and `--use-request-time` is 0 or 1.
 ///
 /// The answer is `Usage` exactly where there is no word, clap finds a fault in them (a call for
 /// help is one), a value is none of these, or two do not agree, if there is memory to read the

@@ -1,4 +1,4 @@
-use apcu_model::Conf;
+use apcu_model::{Clock, Conf};
 use conf_read::{ConfFault, Settings, read_settings};
 use std::alloc::Global;
 use std::process::Abort;
@@ -20,11 +20,19 @@ fn expect<R: Abort>(
     Ok(())
 }
 
+// The settings where nothing is said of the clock.
+fn by_line(conf: Conf) -> Settings {
+    Settings {
+        conf,
+        clock: Clock::Line,
+    }
+}
+
 #[test]
 fn words_in_order(rt: HostRuntime) -> Result<(), Fail> {
     for options in [[].as_slice(), &["--"]] {
         let conf = Conf::usual();
-        expect(&rt, rt.alloc(), options, Ok(Settings { conf }))?;
+        expect(&rt, rt.alloc(), options, Ok(by_line(conf)))?;
     }
     for (options, words, slots, ttl) in [
         (["--slots", "32"].as_slice(), 4_194_304, 32, 0),
@@ -51,7 +59,7 @@ fn words_in_order(rt: HostRuntime) -> Result<(), Fail> {
             ttl,
             segments: 1,
         };
-        expect(&rt, rt.alloc(), options, Ok(Settings { conf }))?;
+        expect(&rt, rt.alloc(), options, Ok(by_line(conf)))?;
     }
     Ok(())
 }
@@ -108,7 +116,7 @@ fn values_in_their_range(rt: HostRuntime) -> Result<(), Fail> {
             ttl: ttl_wanted,
             segments: 1,
         };
-        expect(&rt, rt.alloc(), options.as_slice(), Ok(Settings { conf }))?;
+        expect(&rt, rt.alloc(), options.as_slice(), Ok(by_line(conf)))?;
     }
     Ok(())
 }
@@ -137,6 +145,9 @@ fn values_out_of_their_range(rt: HostRuntime) -> Result<(), Fail> {
         ("4096", "000000000000000000032", "0"),
         ("4096", "18446744073709551648", "0"),
         ("4096", "32", "4294967296"),
+        ("4096", "32", "18446744073709551615"),
+        ("4096", "32", "18446744073709551616"),
+        ("4096", "32", "99999999999999999999"),
         ("4096", "32", ""),
         ("4096", "32", "1s"),
     ] {
@@ -166,7 +177,7 @@ fn segments_in_their_range(rt: HostRuntime) -> Result<(), Fail> {
             ttl: 0,
             segments: segments_wanted,
         };
-        expect(&rt, rt.alloc(), options.as_slice(), Ok(Settings { conf }))?;
+        expect(&rt, rt.alloc(), options.as_slice(), Ok(by_line(conf)))?;
     }
     Ok(())
 }
@@ -200,6 +211,102 @@ fn segments_out_of_their_range(rt: HostRuntime) -> Result<(), Fail> {
     ] {
         let options = ["--shm-size", size, "--slots", slots, "--segments", segments];
         expect(&rt, rt.alloc(), options.as_slice(), Err(ConfFault::Usage))?;
+    }
+    Ok(())
+}
+
+#[test]
+fn clock_by_its_option(rt: HostRuntime) -> Result<(), Fail> {
+    for (options, clock) in [
+        (["--use-request-time", "0"].as_slice(), Clock::Line),
+        (&["--use-request-time", "1"], Clock::Request),
+        (&["--use-request-time=1"], Clock::Request),
+        (&["--use-request-time", "01"], Clock::Request),
+        (
+            &["--use-request-time", "00000000000000000001"],
+            Clock::Request,
+        ),
+        (&["--use-request-time", "00000000000000000000"], Clock::Line),
+        (&["--use-request-time", "1", "--"], Clock::Request),
+    ] {
+        let conf = Conf::usual();
+        expect(&rt, rt.alloc(), options, Ok(Settings { conf, clock }))?;
+    }
+    Ok(())
+}
+
+#[test]
+fn values_of_no_clock(rt: HostRuntime) -> Result<(), Fail> {
+    for value in [
+        "2",
+        "10",
+        "",
+        "-1",
+        "+1",
+        "1K",
+        "1 ",
+        " 1",
+        "true",
+        "000000000000000000001",
+        // They are 1 in 32 and in 64 bits.
+        "4294967297",
+        "18446744073709551617",
+    ] {
+        let options = ["--use-request-time", value];
+        expect(&rt, rt.alloc(), options.as_slice(), Err(ConfFault::Usage))?;
+    }
+    Ok(())
+}
+
+#[test]
+fn faulty_words_of_the_clock(rt: HostRuntime) -> Result<(), Fail> {
+    for options in [
+        ["--use-request-time"].as_slice(),
+        &["--use-request-time="],
+        &["--use-request-time", "--ttl", "7"],
+        &["--use-request-time", "1", "1"],
+        &["--use-request-time", "1", "--use-request-time", "1"],
+        &["--use-request-time=0", "--ttl=7", "--use-request-time=1"],
+        &["--use-request-tim", "1"],
+        &["--request-time", "1"],
+        // The other values are looked at too.
+        &["--use-request-time", "1", "--slots", "31"],
+        &["--ttl", "4294967296", "--use-request-time", "1"],
+    ] {
+        expect(&rt, rt.alloc(), options, Err(ConfFault::Usage))?;
+    }
+    Ok(())
+}
+
+#[test]
+fn all_options_in_any_order(rt: HostRuntime) -> Result<(), Fail> {
+    let [clock, size, segments, slots, ttl] = [
+        "--use-request-time=1",
+        "--shm-size=4k",
+        "--segments=2",
+        "--slots=32",
+        "--ttl=7",
+    ];
+    for options in [
+        [clock, size, segments, slots, ttl],
+        [size, segments, slots, ttl, clock],
+        [segments, slots, ttl, clock, size],
+        [slots, ttl, clock, size, segments],
+        [ttl, clock, size, segments, slots],
+        [ttl, slots, segments, size, clock],
+        [slots, clock, ttl, segments, size],
+    ] {
+        let conf = Conf {
+            words: 1024,
+            slots: 32,
+            ttl: 7,
+            segments: 2,
+        };
+        let wanted = Ok(Settings {
+            conf,
+            clock: Clock::Request,
+        });
+        expect(&rt, rt.alloc(), options.as_slice(), wanted)?;
     }
     Ok(())
 }

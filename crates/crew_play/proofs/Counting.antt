@@ -1,10 +1,9 @@
 -- Events counted step by step and worker by worker.
-use Rattle.std.proofs.Common.{◌≡◌, ℕ, ◌+◌, List, [], ◌∷◌, ◌++◌, map, drop, slice_get, Some, refl, sym, ap, ◌∙◌, append_assoc}
-use Rattle.std.specs.Prelude.{sum}
+use Rattle.std.proofs.Common.{◌≡◌, ℕ, ◌+◌, List, [], ◌∷◌, ◌++◌, drop, slice_get, Some, sym, ap, ◌∙◌, append_assoc}
 use Rattle.script_read.specs.declared.script.Step.{Step}
+use Rattle.script_read.specs.Budgets.{events_in, budgets_of, all_events}
 use Rattle.script_read.specs.Calls.{event_bound}
-use Rattle.play_laws.specs.Parts.{drop_item, sum_step}
-use Rattle.crew_play.specs.Budgets.{events_in, budgets_of, all_events}
+use Rattle.play_laws.specs.Parts.{drop_item}
 
 pub step_counted : (slots : ℕ) (script : List Step) (i : ℕ) (step : Step) → slice_get script i ≡ Some step
     → events_in slots (drop i script) ≡ event_bound slots step.call + events_in slots (drop (i + 1) script)
@@ -21,8 +20,3 @@ budgets_go_on slots scripts w script all more budget is its so_far pushed =
     let rest = budgets_of slots (drop (w + 1) scripts) in
     ap (λ (l : List ℕ). l ++ rest) pushed ∙ (append_assoc all (budget ∷ []) rest
     ∙ (ap (λ n. all ++ n ∷ rest) its ∙ (ap (λ (l : List (List Step)). all ++ budgets_of slots l) (sym (drop_item scripts w script is)) ∙ so_far)))
-
--- the same sum in one word of std
-pub events_sum : (slots : ℕ) (script : List Step) → sum (map (λ (step : Step). event_bound slots step.call) script) ≡ events_in slots script
-events_sum slots [] = refl
-events_sum slots (step ∷ steps) = sum_step (λ (s : Step). event_bound slots s.call) step steps ∙ ap (λ n. event_bound slots step.call + n) (events_sum slots steps)

@@ -1,6 +1,6 @@
 -- The last of several workers.
 use Rattle.std.proofs.Common.{◌≡◌, ℕ, zero, suc, ◌+◌, ◌-◌, ◌<◌, ◌⊎◌, inl, inr, List, [], ◌∷◌, ◌++◌, length, map, slice_get, slice_index, Some, refl, sym, ap, ◌∙◌, subst, arith, length-append}
-use Rattle.std.specs.Prelude.{sum, Result, Err, IfErr, Contains}
+use Rattle.std.specs.Prelude.{Result, Err, IfErr, Contains}
 use Rattle.std.specs.Result.{result_ok}
 use Rattle.std.proofs.lemmas.List.{same_from_push}
 use Rattle.std.proofs.lemmas.List.Elements.{Contains-append_cases}
@@ -10,13 +10,11 @@ use Rattle.apcu_model.specs.declared.conf.Conf.{Conf}
 use Rattle.pin_table.specs.Values.{Bearer}
 use Rattle.pin_table.specs.Lists.{fresh, fresh_pass}
 use Rattle.script_read.specs.declared.script.Step.{Step}
-use Rattle.script_read.specs.Calls.{event_bound}
+use Rattle.script_read.specs.Budgets.{events_in, budgets_of}
 use Rattle.worker_play.specs.Ends.{Ends}
 use Rattle.worker_play.specs.declared.script.PlayFault.{PlayFault}
 use Rattle.worker_play.specs.declared.script.PlayFault.TheVariants.{Pattern}
-use Rattle.crew_play.specs.Budgets.{events_in, budgets_of}
 use Rattle.crew_play.specs.Crew.{AllEnd}
-use Rattle.crew_play.proofs.Counting.{events_sum}
 
 -- ---- passes
 
@@ -49,12 +47,20 @@ budget_at slots (s ∷ scripts) (suc w) script h = budget_at slots scripts w scr
 
 -- a worker's pass has enough for its script, and for its end
 pub enough_left : (t : TableId) (slots : ℕ) (bs : List ℕ) (scripts : List (List Step)) (w : ℕ) (script : List Step) (p : Bearer) → p ≡ fresh_pass t bs w → bs ≡ budgets_of slots scripts → slice_get scripts w ≡ Some script
-    → sum (map (λ (step : Step). event_bound slots step.call) script) < p.known.left
+    → events_in slots script < p.known.left
 enough_left t slots bs scripts w script p is budgets its =
     let left : p.known.left ≡ slice_index (budgets_of slots scripts) w = ap (λ (b : Bearer). b.known.left) is ∙ ap (λ (l : List ℕ). slice_index l w) budgets in
-    omega (arith, left, budget_at slots scripts w script its, events_sum slots script)
+    omega (arith, left, budget_at slots scripts w script its)
 
 -- ---- ends
+
+-- what stands at a place of a list, after a function
+pub get-map : {A B : Type 0} (f : A → B) (xs : List A) (k : ℕ) (x : A) → slice_get xs k ≡ Some x → slice_get (map f xs) k ≡ Some (f x)
+get-map f [] k x h = absurd (cc (h))
+get-map {A = A} f (y ∷ ys) zero x h =
+    let same : y ≡ x = cc (h) in
+    ap (λ (v : A). Some (f v)) same
+get-map f (y ∷ ys) (suc k) x h = get-map f ys k x h
 
 -- what stands in a list that is one longer
 pub get_more : {A : Type 0} (xs : List A) (x : A) (k : ℕ) (y : A) → slice_get (xs ++ x ∷ []) k ≡ Some y → (slice_get xs k ≡ Some y) ⊎ ((k ≡ length xs) × (x ≡ y))

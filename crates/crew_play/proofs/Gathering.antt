@@ -25,6 +25,7 @@ use Rattle.shared_cache.specs.Closing.{IsClosed}
 use Rattle.worker_play.specs.declared.script.PlayFault.{PlayFault}
 use Rattle.crew_play.specs.Crew.{AllEnd}
 use Rattle.crew_play.specs.Played.{IsPlayed}
+use Rattle.crew_play.proofs.Crews.{get-map}
 
 -- what stands at a place of a list
 get_some : {A : Type 0} (xs : List A) (k : ℕ) → k < length xs → (x : A) × (slice_get xs k ≡ Some x)
@@ -110,13 +111,6 @@ texts_match conf w (s ∷ ss) (x ∷ xs) history same each =
     each (suc k) script text hs ht ∙ ap (λ v. script_lines conf script (own_replies conf v history)) next) in
     ap₂ (λ (a : List ℕ) (b : List (List ℕ)). a ∷ b) first rest
 
-get-map : {A B : Type 0} (f : A → B) (xs : List A) (k : ℕ) (x : A) → slice_get xs k ≡ Some x → slice_get (map f xs) k ≡ Some (f x)
-get-map f [] k x h = absurd (cc (h))
-get-map {A = A} f (y ∷ ys) zero x h =
-    let same : y ≡ x = cc (h) in
-    ap (λ (v : A). Some (f v)) same
-get-map f (y ∷ ys) (suc k) x h = get-map f ys k x h
-
 -- ---- the whole
 
 -- a worker that ended after all of its script
@@ -145,7 +139,7 @@ pub record PlayLaws : Type 0 where
       → IsCompletePlay conf scripts (marks_of history)
 
 pub is_played : OthersLaw → PlayLaws → (t : TableId) (conf : Conf) (workers : ℕ) (scripts : List (List Step)) (ended : List Bearer) (texts : List (List ℕ)) (closed : Closed) → workers ≡ length scripts
-    → AllEnd t conf scripts (length scripts) ended (map Ok texts) → IsClosed conf workers ended closed → IsPlayed conf scripts closed.journal.marks texts
+    → AllEnd t conf scripts (length scripts) ended (map Ok texts) → IsClosed conf workers ended closed → IsPlayed conf scripts closed.journal.marks texts closed.counts
 is_played law laws t conf workers scripts ended texts closed count all c =
     let o = out law t conf workers scripts ended texts closed all c in
     let has : length texts ≡ length scripts = sym (length-map texts Ok) ∙ all.have_texts in
@@ -164,4 +158,5 @@ is_played law laws t conf workers scripts ended texts closed count all c =
           (λ k script text hs ht.
           let here : k ≡ 0 + k = omega arith in
           (o k script text hs ht).lines ∙ ap (λ v. script_lines conf script (own_replies conf v c.history)) here);
+      counts_are = c.counts;
     }

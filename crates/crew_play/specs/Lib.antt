@@ -1,4 +1,2 @@
-pub mod Budgets
 pub mod Crew
 pub mod Played
-pub mod Searching

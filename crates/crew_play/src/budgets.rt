@@ -2,7 +2,7 @@
 
 ghost use Rattle.std.specs.Prelude.{◌≡◌, ◌≢◌, ◌+◌, ◌<◌, ◌≤◌, length};
 ghost use Rattle.std.specs.Prelude.{IfOk, IfErr, IfSome, IfNone};
-ghost use Rattle.crew_play.specs.Budgets.{events_in, budgets_of, all_events, most_events};
+ghost use Rattle.script_read.specs.Budgets.{events_in, budgets_of, all_events, most_events};
 ghost use Rattle.crew_play.specs.declared.play.CrewFault.TheVariants.{Memory, TooMany, Pattern};
 
 use crate::play::CrewFault;

@@ -1,21 +1,20 @@
 //! Workers on threads of their own.
 
-ghost use Rattle.std.specs.Prelude.{◌≡◌, ◌+◌, ◌-◌, ◌<◌, ◌≤◌, [], length, map, slice_get, sum};
+ghost use Rattle.std.specs.Prelude.{◌≡◌, ◌+◌, ◌-◌, ◌<◌, ◌≤◌, [], length, slice_get};
 ghost use Rattle.std.specs.Prelude.{vec_capacity, Some, Err, Contains, IfErr};
 ghost use Rattle.std.specs.Thread.{IsSync};
 ghost use Rattle.std.specs.Result.{result_ok};
-ghost use Rattle.script_read.specs.Calls.{event_bound};
+ghost use Rattle.script_read.specs.Budgets.{events_in, budgets_of};
+ghost use Rattle.script_read.specs.Clock.{timed, all_timed};
+ghost use Rattle.script_read.specs.Patterns.{HasRefusable, SomeRefusable};
 ghost use Rattle.pin_table.specs.Lists.{fresh};
-ghost use Rattle.crew_play.specs.Budgets.{budgets_of};
 ghost use Rattle.crew_play.specs.Crew.{AllEnd};
-ghost use Rattle.crew_play.specs.Searching.{SomeRefusable};
 ghost use Rattle.worker_play.specs.Ends.{Ends};
 ghost use Rattle.worker_play.specs.Goes.{KnowsOwnEvents};
-ghost use Rattle.worker_play.specs.Patterns.{HasRefusable};
 ghost use Rattle.worker_play.specs.declared.script.PlayFault.TheVariants as faults;
 
 use apcu_iter::Maker;
-use apcu_model::Conf;
+use apcu_model::{Clock, Conf};
 use io_edges::Gate;
 use notation::ByteOut;
 use pin_table::{Ended, EndedList, Pass, Passes, TableName};
@@ -42,8 +41,7 @@ fn last_worker<'a, N: TableName>(
     ensures worker { result.0.known.worker ≡ count - 1 }
     ensures no_event { result.0.known.own ≡ [] }
     ensures whole { KnowsOwnEvents result.0 }
-    ensures left { sum (map (λ step. event_bound N.conf.slots step.call) result.1.now)
-        < result.0.known.left }
+    ensures left { events_in N.conf.slots result.1.now < result.0.known.left }
 {
     let Some(pass) = passes.pop() else {
         unreachable!()
@@ -70,6 +68,7 @@ pub(crate) fn play_crew<
     count: u32,
     maker: &M,
     gate: &G,
+    clock: Clock,
 ) -> (EndedList, Vec<Result<ByteOut, PlayFault>>)
     requires conf { conf.now ≡ N.conf }
     requires budgets { N.budgets ≡ budgets_of N.conf.slots scripts.now }
@@ -79,7 +78,8 @@ pub(crate) fn play_crew<
     requires seats { count ≤ ended.room }
     requires no_text { texts.items ≡ [] }
     requires places { count ≤ vec_capacity texts }
-    ensures all { AllEnd N.table N.conf scripts.now count result.0.ended result.1.items }
+    ensures all { AllEnd N.table N.conf (all_timed clock scripts.now) count result.0.ended
+        result.1.items }
     ensures pattern { Contains result.1.items (Err faults.Pattern)
         → SomeRefusable (M.may_refuse maker.now) scripts.now }
     ensures seats { result.0.room + count ≡ ended.room }
@@ -101,7 +101,7 @@ pub(crate) fn play_crew<
                 × (passes ≡ fresh N.table N.budgets before)
                 × (ended.ended ≡ []) × (before ≤ ended.room)
                 × (texts.items ≡ []) × (before ≤ vec_capacity texts) }
-            ensures { AllEnd N.table N.conf scripts.entry.now before
+            ensures { AllEnd N.table N.conf (all_timed clock scripts.entry.now) before
                 result.0.ended result.1.items
                 × (Contains result.1.items (Err faults.Pattern)
                 → SomeRefusable (M.may_refuse maker.entry.now) scripts.entry.now)
@@ -109,19 +109,18 @@ pub(crate) fn play_crew<
                 × (vec_capacity result.1 ≡ vec_capacity texts) }
         {
             play_crew(
-                rt, alloc, conf, shared, passes, ended, texts, scripts, before, maker, gate,
+                rt, alloc, conf, shared, passes, ended, texts, scripts, before, maker, gate, clock,
             )
         },
         || -> (Ended, Result<ByteOut, PlayFault>)
             requires { (conf.now ≡ N.conf) × (pass.table ≡ N.table)
                 × (pass.known.own ≡ []) × KnowsOwnEvents pass
-                × (sum (map (λ step. event_bound N.conf.slots step.call) script.now)
-                < pass.known.left) }
-            ensures { Ends N.table N.conf pass.known.worker script.entry.now result.0
-                (result_ok result.1)
+                × (events_in N.conf.slots script.now < pass.known.left) }
+            ensures { Ends N.table N.conf pass.known.worker (timed clock script.entry.now)
+                result.0 (result_ok result.1)
                 × IfErr result.1 (λ e. e ≡ faults.Pattern
                 → HasRefusable (M.may_refuse maker.entry.now) script.entry.now) }
-        { play_out(rt, alloc, conf, shared, pass, script, maker, gate) },
+        { play_out(rt, alloc, conf, shared, pass, script, maker, gate, clock) },
     );
     let (mut ended, mut texts) = front;
     let (end, text) = last;

@@ -1,8 +1,7 @@
 //! The patterns of all scripts, tried before a cache is opened.
 
 ghost use Rattle.std.specs.Prelude.{◌≡◌, ◌≢◌, IfErr};
-ghost use Rattle.worker_play.specs.Patterns.{IsRefusable, HasRefusable};
-ghost use Rattle.crew_play.specs.Searching.{SomeRefusable};
+ghost use Rattle.script_read.specs.Patterns.{IsRefusable, HasRefusable, SomeRefusable};
 ghost use Rattle.crew_play.specs.declared.play.CrewFault.TheVariants as faults;
 
 use crate::play::CrewFault;
@@ -10,7 +9,6 @@ use apcu_iter::{Maker, SearchFault};
 use apcu_model::Pattern;
 use script_read::{Script, Scripts};
 use std::alloc::Global;
-use worker_play::pattern_of;
 
 // Makes the regex of a pattern, and drops it again.
 fn try_pattern<M: Maker>(alloc: Global, maker: &M, pattern: &Pattern) -> Result<(), CrewFault>
@@ -33,7 +31,7 @@ fn try_script<M: Maker>(alloc: Global, maker: &M, script: &Script) -> Result<(),
     ensures few { IfErr result (λ e. e ≢ faults.TooMany) }
 {
     for number in 0..script.len() {
-        let Some(pattern) = pattern_of(&script.at(number).call) else {
+        let Some(pattern) = script.at(number).call.pattern() else {
             continue;
         };
         try_pattern(alloc, maker, pattern)?;

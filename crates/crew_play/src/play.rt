@@ -3,9 +3,10 @@
 ghost use Rattle.std.specs.Prelude.{◌≡◌, ◌≢◌, ◌<◌, ◌≤◌, [], length, map, vec_capacity};
 ghost use Rattle.std.specs.Prelude.{Contains, Ok, Err, IfOk, IfErr};
 ghost use Rattle.apcu_model.specs.Conf.{IsGood};
-ghost use Rattle.crew_play.specs.Budgets.{budgets_of, all_events, most_events};
+ghost use Rattle.script_read.specs.Budgets.{budgets_of, all_events, most_events};
+ghost use Rattle.script_read.specs.Clock.{all_timed};
+ghost use Rattle.script_read.specs.Patterns.{SomeRefusable};
 ghost use Rattle.crew_play.specs.Played.{IsPlayed};
-ghost use Rattle.crew_play.specs.Searching.{SomeRefusable};
 ghost use Rattle.crew_play.specs.declared.play.CrewFault.TheVariants.{Memory, TooMany, Pattern};
 ghost use Rattle.worker_play.specs.declared.script.PlayFault.TheVariants as faults;
 
@@ -13,7 +14,7 @@ use crate::budgets::budgets;
 use crate::crew::play_crew;
 use crate::patterns::try_patterns;
 use apcu_iter::Maker;
-use apcu_model::{Conf, Journal};
+use apcu_model::{Clock, Conf, Counts, Journal};
 use io_edges::Gate;
 use notation::ByteOut;
 use pin_table::TableName;
@@ -52,6 +53,8 @@ pub struct Played {
     pub journal: Journal,
     /// The lines of each worker's calls, those of worker 0 first.
     pub texts: Vec<ByteOut>,
+    /// What the cache counted.
+    pub counts: Counts,
 }
 
 // The texts, where all workers have one. Want of memory is told before a pattern, whoever had it.
@@ -94,6 +97,7 @@ fn play_named<
     scripts: &Scripts,
     maker: &M,
     gate: &G,
+    clock: Clock,
 ) -> Result<Played, CrewFault>
     requires table { N.table ≡ fresh.table }
     requires conf { N.conf ≡ fresh.conf }
@@ -102,8 +106,8 @@ fn play_named<
     requires events { fresh.budgets ≡ budgets_of conf.now.slots scripts.now }
     requires no_text { texts.items ≡ [] }
     requires places { length scripts.now ≤ vec_capacity texts }
-    ensures played { IfOk result (λ p. IsPlayed conf.now scripts.now p.journal.marks
-        p.texts.items) }
+    ensures played { IfOk result (λ p. IsPlayed conf.now (all_timed clock scripts.now)
+        p.journal.marks p.texts.items p.counts) }
     ensures pattern { IfErr result (λ e. e ≡ Pattern
         → SomeRefusable (M.may_refuse maker.now) scripts.now) }
     ensures few { IfErr result (λ e. e ≢ TooMany) }
@@ -113,20 +117,28 @@ fn play_named<
     let count = scripts.len();
     let (shared, passes, ended) = fresh.name::<N>();
     let (ended, texts) = play_crew(
-        rt, alloc, conf, &shared, passes, ended, texts, scripts, count, maker, gate,
+        rt, alloc, conf, &shared, passes, ended, texts, scripts, count, maker, gate, clock,
     );
-    let Closed { journal, counts: _ } = shared.close(rt, ended);
+    let Closed { journal, counts } = shared.close(rt, ended);
     let texts = whole(alloc, texts)?;
-    Ok(Played { journal, texts })
+    Ok(Played {
+        journal,
+        texts,
+        counts,
+    })
 }
 
 /// Plays the scripts on a cache of this shape, each worker on a thread of its own, and gives the
-/// journal and the lines of each worker's calls. `maker` makes the regexes of patterns. The gate is
-/// told of each call of each worker, of each value that is copied, between its fetch and its copy,
-/// and of each step of an iterator.
+/// journal, the lines of each worker's calls, and what the cache counted. `maker` makes the regexes
+/// of patterns. The gate is told of each call of each worker, of each value that is copied, between
+/// its fetch and its copy, and of each step of an iterator.
 ///
-/// The journal is a play of the scripts: each call stands in it once, in its worker's order, and
-/// each reply is the one that a cache of one thread gives at that place.
+/// `clock` decides what a call's moment is, as PHP's `apc.use_request_time` does: the second at
+/// which it is made, or that at which its request began.
+///
+/// The journal is a play of the scripts as the clock sees them: each call stands in it once, in its
+/// worker's order, and each reply is the one that a cache of one thread gives at that place. The
+/// counts are those of that cache after it.
 ///
 /// Nothing is played where the calls may make more than 4,194,304 events, each worker's end
 /// included. Nor is it where the regex of a pattern can't be made: each is made once before the
@@ -140,10 +152,11 @@ pub fn play_scripts<M: Maker + Sync, G: Gate + Sync, R: Threads + Wait + Sync>(
     scripts: &Scripts,
     maker: &M,
     gate: &G,
+    clock: Clock,
 ) -> Result<Played, CrewFault>
     requires good { IsGood conf.now }
-    ensures played { IfOk result
-        (λ p. IsPlayed conf.now scripts.now p.journal.marks p.texts.items) }
+    ensures played { IfOk result (λ p. IsPlayed conf.now (all_timed clock scripts.now)
+        p.journal.marks p.texts.items p.counts) }
     ensures few { IfOk result (λ _. all_events conf.now.slots scripts.now ≤ most_events) }
     ensures many { IfErr result (λ e. e ≡ TooMany
         → most_events < all_events conf.now.slots scripts.now) }
@@ -157,7 +170,7 @@ pub fn play_scripts<M: Maker + Sync, G: Gate + Sync, R: Threads + Wait + Sync>(
     let texts = Vec::with_capacity(alloc, scripts.len() as usize)?;
     match open_cache(rt, alloc, conf, &budgets) {
         Ok(fresh) => play_named::<Brand, M, G, R>(
-            rt, alloc, conf, fresh, texts, scripts, maker, gate,
+            rt, alloc, conf, fresh, texts, scripts, maker, gate, clock,
         ),
         Err(_) => Err(CrewFault::Memory),
     }

@@ -8,11 +8,11 @@ use Rattle.apcu_model.specs.declared.searching.Pattern.{Pattern}
 use Rattle.apcu_model.specs.declared.request.Reply.{Reply}
 use Rattle.pin_table.specs.Values.{Bearer}
 use Rattle.script_read.specs.declared.call.Call.{Call}
+use Rattle.script_read.specs.Patterns.{call_pattern}
 use Rattle.script_read.specs.Play.{wish_at, Asks, Leaves, Asking, Steps, asking_of, asks_steps, asks_so, slot_after, next_of}
 use Rattle.reply_text.specs.Lines.{call_text}
 use Rattle.worker_play.specs.Goes.{wish, GoesOn, Reaches, Tells}
 use Rattle.worker_play.specs.Turns.{Turn, Takes, Over, turn_at, turns_at, steps_at}
-use Rattle.worker_play.specs.Patterns.{call_pattern}
 use Rattle.worker_play.proofs.Going.{Midway, goes_on, one_asked, more_asked}
 use Rattle.worker_play.proofs.Forms.{call_tells}
 

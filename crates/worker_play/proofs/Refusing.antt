@@ -5,7 +5,7 @@ use Rattle.std.proofs.lemmas.Option.{slice_get_within, get_or_from_slice_get}
 use Rattle.apcu_model.specs.declared.searching.Pattern.{Pattern}
 use Rattle.apcu_iter.specs.Searching.{IsNoPattern, OfPattern}
 use Rattle.script_read.specs.declared.script.Step.{Step}
-use Rattle.worker_play.specs.Patterns.{call_pattern, MayBeRefused, HasRefusable}
+use Rattle.script_read.specs.Patterns.{call_pattern, MayBeRefused, HasRefusable}
 
 -- it is none
 pub no_pattern : (may_refuse : Bool → List ℕ → Type 0) (wanted : Option Pattern) → OfPattern IsNoPattern wanted → MayBeRefused may_refuse wanted

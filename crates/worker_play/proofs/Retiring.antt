@@ -1,14 +1,16 @@
 -- Workers that end.
 use Rattle.std.proofs.Common.{◌≡◌, ℕ, ◌+◌, ◌<◌, ◌≤◌, List, [], ◌∷◌, ◌++◌, map, Some, refl, sym, ap, subst, ◌∙◌, arith}
-use Rattle.std.specs.Prelude.{sum, Result, Ok, Err, IfOk, IfSome}
+use Rattle.std.specs.Prelude.{Result, Ok, Err, IfOk, IfSome}
 use Rattle.std.specs.Result.{result_ok}
+use Rattle.apcu_model.specs.declared.clock.Clock.{Clock}
 use Rattle.apcu_model.specs.declared.conf.Conf.{Conf}
 use Rattle.apcu_model.specs.declared.request.Request.TheVariants as requests
 use Rattle.apcu_model.specs.declared.request.Reply.{Reply}
 use Rattle.apcu_model.specs.declared.request.Reply.TheVariants as replies
 use Rattle.pin_table.specs.Values.{Bearer}
 use Rattle.script_read.specs.declared.script.Step.{Step}
-use Rattle.script_read.specs.Calls.{event_bound}
+use Rattle.script_read.specs.Budgets.{events_in, timed_events}
+use Rattle.script_read.specs.Clock.{timed}
 use Rattle.script_read.specs.Play.{Wish, wanted}
 use Rattle.reply_text.specs.Lines.{script_lines}
 use Rattle.play_laws.specs.Own.{own_replies, wish_in, HasPlayed}
@@ -20,12 +22,14 @@ use Rattle.worker_play.proofs.Going.{OwnLaws, more, one}
 use Rattle.worker_play.proofs.Turns.{script_few, in_turn_one, in_turn_more, in_turn_wanted, ends_wanted, lines_more}
 
 -- an event is left for the end
-pub one_left : (conf : Conf) (workers : ℕ) (p q : Bearer) (script : List Step) → Reaches conf workers p q (turns_of conf script) → sum (map (λ (s : Step). event_bound conf.slots s.call) script) < p.known.left → 1 ≤ q.known.left
-one_left conf workers p q script r enough = omega (arith, enough, r.goes.left, script_few conf script r.made r.replies r.in_turn)
+pub one_left : (conf : Conf) (workers : ℕ) (p q : Bearer) (clock : Clock) (script : List Step) → Reaches conf workers p q (turns_of conf (timed clock script)) → events_in conf.slots script < p.known.left → 1 ≤ q.known.left
+one_left conf workers p q clock script r enough =
+    omega (arith, enough, r.goes.left, script_few conf (timed clock script) r.made r.replies r.in_turn, timed_events conf.slots clock script)
 
 -- no more was taken than all calls may make
-pub few_taken : (conf : Conf) (workers : ℕ) (p q : Bearer) (script : List Step) → Reaches conf workers p q (turns_of conf script) → p.known.left ≤ q.known.left + sum (map (λ (s : Step). event_bound conf.slots s.call) script)
-few_taken conf workers p q script r = omega (arith, r.goes.left, script_few conf script r.made r.replies r.in_turn)
+pub few_taken : (conf : Conf) (workers : ℕ) (p q : Bearer) (clock : Clock) (script : List Step) → Reaches conf workers p q (turns_of conf (timed clock script)) → p.known.left ≤ q.known.left + events_in conf.slots script
+few_taken conf workers p q clock script r =
+    omega (arith, r.goes.left, script_few conf (timed clock script) r.made r.replies r.in_turn, timed_events conf.slots clock script)
 
 -- who has made no event was answered nothing
 pub unanswered : OwnLaws → (conf : Conf) (p : Bearer) → p.known.own ≡ [] → KnowsOwnEvents p → own_replies conf p.known.worker p.known.seen ≡ []

@@ -1,16 +1,15 @@
 -- Scripts, call by call.
-use Rattle.std.proofs.Common.{◌≡◌, ℕ, ◌-◌, ◌<◌, List, [], ◌∷◌, ◌++◌, length, map, take, refl, sym, ap, subst, ◌∙◌, append_assoc, length-append, arith}
-use Rattle.std.specs.Prelude.{sum}
+use Rattle.std.proofs.Common.{◌≡◌, ℕ, ◌-◌, ◌<◌, List, [], ◌∷◌, ◌++◌, length, take, refl, sym, ap, subst, ◌∙◌, append_assoc, length-append, arith}
 use Rattle.std.proofs.Math.Seq.{take-append_seam}
 use Rattle.std.proofs.lemmas.List.{append-nil}
 use Rattle.apcu_model.specs.declared.conf.Conf.{Conf}
 use Rattle.apcu_model.specs.declared.request.Reply.{Reply}
 use Rattle.pin_table.specs.Values.{Bearer}
 use Rattle.script_read.specs.declared.script.Step.{Step}
+use Rattle.script_read.specs.Budgets.{events_in}
 use Rattle.script_read.specs.Calls.{event_bound}
 use Rattle.script_read.specs.Grammar.{ends_line}
 use Rattle.script_read.specs.Play.{next_of}
-use Rattle.play_laws.specs.Parts.{sum_step}
 use Rattle.reply_text.specs.Lines.{call_text, before, lines_from, script_lines}
 use Rattle.worker_play.specs.Goes.{Reaches, Tells}
 use Rattle.worker_play.specs.Turns.{Turn, Over, turns_at, turns_of}
@@ -55,14 +54,13 @@ pub step_breaks : {A : Type 0} (conf : Conf) (workers : ℕ) (p o q : Bearer) (t
 step_breaks conf workers p o q turns step steps told to_tell m r = more_asked conf workers p o q turns (turns_of conf (step ∷ steps)) m.0 m.1 (as_step conf workers o q step steps r)
 
 -- enough events are left for the next step
-pub left_now : (conf : Conf) (step : Step) (steps : List Step) (n : ℕ) → sum (map (λ (s : Step). event_bound conf.slots s.call) (step ∷ steps)) < n → event_bound conf.slots step.call < n
-left_now conf step steps n enough = omega (arith, enough, sum_step (λ (s : Step). event_bound conf.slots s.call) step steps)
+pub left_now : (conf : Conf) (step : Step) (steps : List Step) (n : ℕ) → events_in conf.slots (step ∷ steps) < n → event_bound conf.slots step.call < n
+left_now conf step steps n enough = omega (arith, enough)
 
 -- and for those after it
-pub left_after : (conf : Conf) (workers : ℕ) (o q : Bearer) (step : Step) (steps : List Step) → Reaches conf workers o q (turns_at step.t (next_of conf step.call)) → sum (map (λ (s : Step). event_bound conf.slots s.call) (step ∷ steps)) < o.known.left
-    → sum (map (λ (s : Step). event_bound conf.slots s.call) steps) < q.known.left
-left_after conf workers o q step steps r enough =
-    omega (arith, r.goes.left, enough, call_few conf step.t step.call r.made r.replies r.in_turn, sum_step (λ (s : Step). event_bound conf.slots s.call) step steps)
+pub left_after : (conf : Conf) (workers : ℕ) (o q : Bearer) (t : ℕ) (step : Step) (steps : List Step) → Reaches conf workers o q (turns_at t (next_of conf step.call)) → events_in conf.slots (step ∷ steps) < o.known.left
+    → events_in conf.slots steps < q.known.left
+left_after conf workers o q t step steps r enough = omega (arith, r.goes.left, enough, call_few conf t step.call r.made r.replies r.in_turn)
 
 -- all steps were met
 pub steps_end : (conf : Conf) (workers : ℕ) (p q : Bearer) (turns : List Reply → Turn) (told : List Reply → List ℕ) (out : List ℕ) → Midway conf workers p q turns (turns_of conf []) told (λ later. out ++ script_lines conf [] later) → Tells conf workers p q turns told out

@@ -1,6 +1,5 @@
 -- Wishes in turn, and the turns of calls and scripts.
-use Rattle.std.proofs.Common.{◌≡◌, ℕ, zero, suc, ◌+◌, ◌-◌, ◌<◌, ◌≤◌, ◌⊎◌, inl, inr, List, [], ◌∷◌, ◌++◌, length, map, take, drop, slice_get, Option, Some, refl, sym, ap, ◌∙◌, length-append, take-append-drop, length-take-le, arith}
-use Rattle.std.specs.Prelude.{sum}
+use Rattle.std.proofs.Common.{◌≡◌, ℕ, zero, suc, ◌+◌, ◌-◌, ◌<◌, ◌≤◌, ◌⊎◌, inl, inr, List, [], ◌∷◌, ◌++◌, length, take, drop, slice_get, Option, Some, refl, sym, ap, ◌∙◌, length-append, take-append-drop, length-take-le, arith}
 use Rattle.std.proofs.lemmas.Bool.{cases_lt}
 use Rattle.std.proofs.lemmas.List.{length-drop, take-append-le}
 use Rattle.std.proofs.lemmas.Option.{slice_get_cases, slice_get_within}
@@ -9,13 +8,14 @@ use Rattle.apcu_model.specs.declared.request.Request.{Request}
 use Rattle.apcu_model.specs.declared.request.Reply.{Reply}
 use Rattle.script_read.specs.declared.call.Call.{Call}
 use Rattle.script_read.specs.declared.script.Step.{Step}
+use Rattle.script_read.specs.Budgets.{events_in}
 use Rattle.script_read.specs.Calls.{event_bound}
 use Rattle.script_read.specs.Grammar.{ends_line}
 use Rattle.script_read.specs.Leaving.{leaves_more}
 use Rattle.script_read.specs.Play.{Wish, wish_at, Next, Asks, Leaves, next_of, continued, wanted}
 use Rattle.script_read.proofs.Asking.{asks_few}
 use Rattle.play_laws.specs.Own.{AreInTurn}
-use Rattle.play_laws.specs.Parts.{get_joined, take_joined, sum_step}
+use Rattle.play_laws.specs.Parts.{get_joined, take_joined}
 use Rattle.reply_text.specs.Lines.{call_text, before, lines_from, script_lines}
 use Rattle.worker_play.specs.Turns.{Turn, Takes, Over, turn_at, turns_at, then_turns, turns_of, wish_of_turn, wanted_in}
 
@@ -107,17 +107,17 @@ call_few conf t call ws rs a =
 
 -- ---- the calls of a script
 
-steps_few : (conf : Conf) (script : List Step) (replies : List Reply) (w : Wish) → turns_of conf script replies ≡ Takes w → length replies < sum (map (λ (s : Step). event_bound conf.slots s.call) script)
+steps_few : (conf : Conf) (script : List Step) (replies : List Reply) (w : Wish) → turns_of conf script replies ≡ Takes w → length replies < events_in conf.slots script
 steps_few conf [] replies w e = absurd (cc (e))
 steps_few conf (step ∷ steps) replies w e = elim (asks_or_leaves (next_of conf step.call replies)) [
-  | inl (request, asks) ↦ omega (arith, asks_few conf step.call replies request asks, sum_step (λ (s : Step). event_bound conf.slots s.call) step steps)
+  | inl (request, asks) ↦ omega (arith, asks_few conf step.call replies request asks)
   | inr (others, leaves) ↦
       let later : turns_of conf steps others ≡ Takes w = sym (ap (λ (n : Next). then_turns (turns_of conf steps) (turn_at step.t n)) leaves) ∙ e in
-      omega (arith, takes_few conf step.call replies others leaves, steps_few conf steps others w later, sum_step (λ (s : Step). event_bound conf.slots s.call) step steps)
+      omega (arith, takes_few conf step.call replies others leaves, steps_few conf steps others w later)
 ]
 
-pub script_few : (conf : Conf) (script : List Step) (ws : List Wish) (rs : List Reply) → AreInTurn (wanted_in (turns_of conf script)) ws rs → length ws ≤ sum (map (λ (s : Step). event_bound conf.slots s.call) script)
-script_few conf script ws rs a = asked_few (turns_of conf script) ws rs (sum (map (λ (s : Step). event_bound conf.slots s.call) script)) a (steps_few conf script)
+pub script_few : (conf : Conf) (script : List Step) (ws : List Wish) (rs : List Reply) → AreInTurn (wanted_in (turns_of conf script)) ws rs → length ws ≤ events_in conf.slots script
+script_few conf script ws rs a = asked_few (turns_of conf script) ws rs (events_in conf.slots script) a (steps_few conf script)
 
 -- what the first call wants its script wants
 first_wants : (later : List Reply → Turn) (turn : Turn) (w : Wish) → wish_of_turn turn ≡ Some w → wish_of_turn (then_turns later turn) ≡ Some w

@@ -1,5 +1,4 @@
 pub mod Turns
 pub mod Goes
 pub mod Ends
-pub mod Patterns
 pub mod Groups

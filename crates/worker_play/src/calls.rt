@@ -5,13 +5,13 @@ ghost use Rattle.std.specs.Prelude.{◌≡◌, ◌≤◌, ◌<◌, ◌^◌, ◌+
 ghost use Rattle.apcu_model.specs.declared.request.Request.TheVariants.{Store, Fetch, Exists};
 ghost use Rattle.apcu_model.specs.declared.request.Request.TheVariants.{Delete};
 ghost use Rattle.script_read.specs.Calls.{HasRanges, event_bound};
+ghost use Rattle.script_read.specs.Patterns.{call_pattern};
 ghost use Rattle.script_read.specs.Play.{next_of};
 ghost use Rattle.reply_text.specs.Replies.{unstored_text, found_text, there_text, undeleted_text};
 ghost use Rattle.reply_text.specs.Lines.{call_text};
 ghost use Rattle.shared_cache.specs.Asking.{MayAsk};
 ghost use Rattle.worker_play.specs.Goes.{KnowsOwnEvents, Reaches, Tells};
 ghost use Rattle.worker_play.specs.Groups.{IsFlagged, IsInforming, IsSearching};
-ghost use Rattle.worker_play.specs.Patterns.{call_pattern};
 ghost use Rattle.worker_play.specs.Turns.{turns_at, asks_at};
 
 use crate::chunks::totals;

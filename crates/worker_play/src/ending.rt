@@ -1,16 +1,17 @@
 //! A worker's script and its end.
 
-ghost use Rattle.std.specs.Prelude.{◌≡◌, ◌<◌, [], map, sum, IfErr};
+ghost use Rattle.std.specs.Prelude.{◌≡◌, ◌<◌, [], IfErr};
 ghost use Rattle.std.specs.Result.{result_ok};
-ghost use Rattle.script_read.specs.Calls.{event_bound};
+ghost use Rattle.script_read.specs.Budgets.{events_in};
+ghost use Rattle.script_read.specs.Clock.{timed};
+ghost use Rattle.script_read.specs.Patterns.{HasRefusable};
 ghost use Rattle.worker_play.specs.Ends.{Ends};
 ghost use Rattle.worker_play.specs.Goes.{KnowsOwnEvents};
-ghost use Rattle.worker_play.specs.Patterns.{HasRefusable};
 ghost use Rattle.worker_play.specs.declared.script.PlayFault.TheVariants.{Pattern};
 
 use crate::script::{PlayFault, play_script};
 use apcu_iter::Maker;
-use apcu_model::Conf;
+use apcu_model::{Clock, Conf};
 use io_edges::Gate;
 use notation::ByteOut;
 use pin_table::{Ended, Pass, TableName};
@@ -34,20 +35,20 @@ pub fn play_out<N: TableName, M: Maker + Sync, G: Gate, R: Wait>(
     script: &Script,
     maker: &M,
     gate: &G,
+    clock: Clock,
 ) -> (Ended, Result<ByteOut, PlayFault>)
     requires conf { conf.now ≡ N.conf }
     requires table { pass.table ≡ N.table }
     requires no_event { pass.known.own ≡ [] }
     requires whole { KnowsOwnEvents pass }
-    requires left { sum (map (λ step. event_bound conf.now.slots step.call) script.now)
-        < pass.known.left }
-    ensures ends { Ends N.table N.conf pass.known.worker script.now result.0
+    requires left { events_in conf.now.slots script.now < pass.known.left }
+    ensures ends { Ends N.table N.conf pass.known.worker (timed clock script.now) result.0
         (result_ok result.1) }
     ensures pattern { IfErr result.1 (λ fault. fault ≡ Pattern
         → HasRefusable (M.may_refuse maker.now) script.now) }
 {
     one_event_own();
-    let (pass, played) = play_script(rt, alloc, conf, shared, pass, script, maker, gate);
+    let (pass, played) = play_script(rt, alloc, conf, shared, pass, script, maker, gate, clock);
     let ended = shared.retire(rt, pass);
     (ended, played)
 }

@@ -13,5 +13,4 @@ mod script;
 mod walks;
 
 pub use ending::play_out;
-pub use patterns::pattern_of;
 pub use script::{PlayFault, play_script};

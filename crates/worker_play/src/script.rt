@@ -1,24 +1,26 @@
 //! A worker's script.
 
-ghost use Rattle.std.specs.Prelude.{◌≡◌, ℕ, ◌+◌, ◌<◌, ◌≤◌, ◌++◌, List, [], length, map, sum};
+ghost use Rattle.std.specs.Prelude.{◌≡◌, ℕ, ◌+◌, ◌<◌, ◌≤◌, ◌++◌, List, [], length};
 ghost use Rattle.std.specs.Prelude.{IfOk, IfErr, OnOk};
+ghost use Rattle.script_read.specs.Budgets.{events_in};
 ghost use Rattle.script_read.specs.Calls.{HasRanges, event_bound};
+ghost use Rattle.script_read.specs.Clock.{timed};
 ghost use Rattle.script_read.specs.Grammar.{ends_line};
+ghost use Rattle.script_read.specs.Patterns.{call_pattern, MayBeRefused, HasRefusable};
 ghost use Rattle.script_read.specs.Play.{next_of};
 ghost use Rattle.reply_text.specs.Lines.{call_text, script_lines};
 ghost use Rattle.worker_play.specs.Goes.{KnowsOwnEvents, Reaches, Tells};
 ghost use Rattle.worker_play.specs.Turns.{turns_at, turns_of};
-ghost use Rattle.worker_play.specs.Patterns.{call_pattern, MayBeRefused, HasRefusable};
 ghost use Rattle.worker_play.specs.declared.script.PlayFault.TheVariants.{Memory, Pattern};
 
 use crate::calls::play_call;
 use crate::patterns::search_of;
 use apcu_iter::Maker;
-use apcu_model::Conf;
+use apcu_model::{Clock, Conf};
 use io_edges::{Gate, Point};
 use notation::ByteOut;
 use pin_table::{Pass, TableName};
-use script_read::{Script, Step};
+use script_read::{Call, Script};
 use shared_cache::Shared;
 use std::alloc::{AllocError, Global};
 use std::sync::Wait;
@@ -40,8 +42,8 @@ impl From<AllocError> for PlayFault {
     }
 }
 
-// A step and its line. The gate is reached before the call, and after it where it was played. The
-// search for its pattern is made once, and kept for all that the call asks.
+// A call at its moment, and its line. The gate is reached before the call, and after it where it
+// was played. The search for its pattern is made once, and kept for all that the call asks.
 fn play_step<N: TableName, M: Maker, G: Gate, R: Wait>(
     rt: &R,
     alloc: Global,
@@ -51,24 +53,25 @@ fn play_step<N: TableName, M: Maker, G: Gate, R: Wait>(
     number: u32,
     slots: u32,
     pass: Pass,
-    step: &Step,
+    call: &Call,
+    t: u64,
     out: &mut ByteOut,
 ) -> (Pass, Result<(), PlayFault>)
     requires table { pass.table ≡ N.table }
     requires whole { KnowsOwnEvents pass }
     requires slots { slots ≡ N.conf.slots }
-    requires left { event_bound N.conf.slots step.now.call < pass.known.left }
-    requires ranges { HasRanges step.now.call }
+    requires left { event_bound N.conf.slots call.now < pass.known.left }
+    requires ranges { HasRanges call.now }
     ensures reaches { Reaches N.conf (length N.budgets) pass result.0
-        (turns_at step.now.t (next_of N.conf step.now.call)) }
+        (turns_at t (next_of N.conf call.now)) }
     ensures line { OnOk result.1 (Tells N.conf (length N.budgets) pass result.0
-        (turns_at step.now.t (next_of N.conf step.now.call))
-        (λ replies. out.old ++ (call_text step.now.call replies ++ ends_line)) out.new) }
+        (turns_at t (next_of N.conf call.now))
+        (λ replies. out.old ++ (call_text call.now replies ++ ends_line)) out.new) }
     ensures pattern { IfErr result.1 (λ fault. fault ≡ Pattern
-        → MayBeRefused (M.may_refuse maker.now) (call_pattern step.now.call)) }
+        → MayBeRefused (M.may_refuse maker.now) (call_pattern call.now)) }
 {
     gate.reached(pass.worker(), Point::Before(number));
-    let mut search = match search_of(alloc, maker, &step.call) {
+    let mut search = match search_of(alloc, maker, call) {
         Ok(search) => search,
         Err(fault) => return (pass, Err(fault)),
     };
@@ -80,9 +83,9 @@ fn play_step<N: TableName, M: Maker, G: Gate, R: Wait>(
         number,
         slots,
         pass,
-        &step.call,
+        call,
         &mut search,
-        step.t,
+        t,
         out,
     );
     match played {
@@ -104,7 +107,7 @@ fn end_line(out: &mut ByteOut) -> Result<(), PlayFault>
     Ok(())
 }
 
-// All steps of a script, with their lines.
+// All steps of a script, each at its moment under the clock, with their lines.
 fn play_steps<N: TableName, M: Maker, G: Gate, R: Wait>(
     rt: &R,
     alloc: Global,
@@ -114,34 +117,27 @@ fn play_steps<N: TableName, M: Maker, G: Gate, R: Wait>(
     slots: u32,
     pass: Pass,
     script: &Script,
+    clock: Clock,
     out: &mut ByteOut,
 ) -> (Pass, Result<(), PlayFault>)
     requires table { pass.table ≡ N.table }
     requires whole { KnowsOwnEvents pass }
     requires slots { slots ≡ N.conf.slots }
-    requires left { sum (map (λ step. event_bound N.conf.slots step.call) script.now)
-        < pass.known.left }
+    requires left { events_in N.conf.slots script.now < pass.known.left }
     ensures reaches { Reaches N.conf (length N.budgets) pass result.0
-        (turns_of N.conf script.now) }
+        (turns_of N.conf (timed clock script.now)) }
     ensures lines { OnOk result.1 (Tells N.conf (length N.budgets) pass result.0
-        (turns_of N.conf script.now)
-        (λ replies. out.old ++ script_lines N.conf script.now replies) out.new) }
+        (turns_of N.conf (timed clock script.now))
+        (λ replies. out.old ++ script_lines N.conf (timed clock script.now) replies) out.new) }
     ensures pattern { IfErr result.1 (λ fault. fault ≡ Pattern
         → HasRefusable (M.may_refuse maker.now) script.now) }
 {
     let mut held = pass;
     for number in 0..script.len() {
+        let step = script.at(number);
+        let t = step.moment(clock);
         let (next, played) = play_step(
-            rt,
-            alloc,
-            shared,
-            maker,
-            gate,
-            number,
-            slots,
-            held,
-            script.at(number),
-            out,
+            rt, alloc, shared, maker, gate, number, slots, held, &step.call, t, out,
         );
         held = next;
         if let Err(fault) = played {
@@ -157,10 +153,13 @@ fn play_steps<N: TableName, M: Maker, G: Gate, R: Wait>(
 ///
 /// A search for a call's pattern is made by `maker`, once, before the call asks anything.
 ///
+/// `clock` decides what a call's moment is, as PHP's `apc.use_request_time` does: the second at
+/// which it is made, or that at which its request began.
+///
 /// The pass has made no event, and may make one more than all calls of the script may. It comes
 /// back with the events that are left, which are at most as many fewer as all calls may make. Its
-/// worker has asked in turn what the calls want after its
-/// replies, and those are the ones of one thread at the events' places in what the pass has seen.
+/// worker has asked in turn what the calls want after its replies, and those are the ones of one
+/// thread at the events' places in what the pass has seen.
 ///
 /// Without memory the worker stops, and also where a pattern of its script is none or is refused:
 /// some first of the events were made, and they stand.
@@ -173,25 +172,26 @@ pub fn play_script<N: TableName, M: Maker + Sync, G: Gate, R: Wait>(
     script: &Script,
     maker: &M,
     gate: &G,
+    clock: Clock,
 ) -> (Pass, Result<ByteOut, PlayFault>)
     requires conf { conf.now ≡ N.conf }
     requires table { pass.table ≡ N.table }
     requires no_event { pass.known.own ≡ [] }
     requires whole { KnowsOwnEvents pass }
-    requires left { sum (map (λ step. event_bound conf.now.slots step.call) script.now)
-        < pass.known.left }
+    requires left { events_in conf.now.slots script.now < pass.known.left }
     ensures reaches { Reaches N.conf (length N.budgets) pass result.0
-        (turns_of N.conf script.now) }
+        (turns_of N.conf (timed clock script.now)) }
     ensures lines { IfOk result.1 (λ out. Tells N.conf (length N.budgets) pass result.0
-        (turns_of N.conf script.now) (script_lines conf.now script.now) out) }
-    ensures left { pass.known.left ≤ result.0.known.left
-        + sum (map (λ step. event_bound conf.now.slots step.call) script.now) }
+        (turns_of N.conf (timed clock script.now))
+        (script_lines conf.now (timed clock script.now)) out) }
+    ensures left { pass.known.left
+        ≤ result.0.known.left + events_in conf.now.slots script.now }
     ensures pattern { IfErr result.1 (λ fault. fault ≡ Pattern
         → HasRefusable (M.may_refuse maker.now) script.now) }
 {
     let mut out = ByteOut::new(alloc);
     let (pass, played) = play_steps(
-        rt, alloc, shared, maker, gate, conf.slots, pass, script, &mut out,
+        rt, alloc, shared, maker, gate, conf.slots, pass, script, clock, &mut out,
     );
     match played {
         Ok(()) => (pass, Ok(out)),

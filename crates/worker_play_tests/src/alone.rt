@@ -5,6 +5,7 @@ ghost use Rattle.pin_table.specs.Lists.{fresh, fresh_pass};
 
 use crate::playing::{CONF, plays, script_of};
 use apcu_iter::{Maker, RefuseAll, RegexMaker};
+use apcu_model::Clock;
 use io_edges::NoGate;
 use notation::ByteOut;
 use pin_table::{Pass, Passes, TableName};
@@ -32,6 +33,7 @@ fn plays_alone<N: TableName, M: Maker + Sync, R: Wait>(
     budget: u32,
     script: &Script,
     maker: &M,
+    clock: Clock,
 ) -> Option<(Closed, Result<ByteOut, PlayFault>)>
     requires table { N.table ≡ fresh.table }
     requires conf { N.conf ≡ fresh.conf }
@@ -41,16 +43,19 @@ fn plays_alone<N: TableName, M: Maker + Sync, R: Wait>(
 {
     let (shared, mut passes, mut ended) = fresh.name::<N>();
     let pass = one_pass::<N>(&mut passes)?;
-    let (pass, printed) = plays(rt, alloc, &CONF, &shared, pass, script, maker, &NoGate)?;
+    let (pass, printed) = plays(
+        rt, alloc, &CONF, &shared, pass, script, maker, &NoGate, clock,
+    )?;
     ended.push(shared.retire(rt, pass));
     Some((shared.close(rt, ended), printed))
 }
 
-// A script alone: what it prints, if none of its patterns is refused; how many events it may make
-// at most, and how many it makes, its end included in both.
+// A script alone, under a clock: what it prints, if none of its patterns is refused; how many
+// events it may make at most, and how many it makes, its end included in both.
 #[derive(Clone, Copy)]
 struct Alone {
     script: &'static [u8],
+    clock: Clock,
     printed: Option<&'static [u8]>,
     budget: u32,
     events: u32,
@@ -67,7 +72,7 @@ fn played_alone<M: Maker + Sync, R: Wait>(
     let Ok(fresh) = open_cache(rt, alloc, &CONF, &[case.budget]) else {
         return Err(Fail::new("open_cache"));
     };
-    match plays_alone::<Brand, _, _>(rt, alloc, fresh, case.budget, &script, maker) {
+    match plays_alone::<Brand, _, _>(rt, alloc, fresh, case.budget, &script, maker, case.clock) {
         Some(played) => Ok(played),
         None => Err(Fail::new("too few events")),
     }
@@ -119,6 +124,7 @@ const EVERY_CALL: Alone = Alone {
         apcu_delete a:2:{i:0;s:1:\"b\";i:1;s:1:\"7\";}\n\
         apcu_clear_cache\n\
         apcu_exists s:1:\"7\";\n",
+    clock: Clock::Line,
     printed: Some(
         b"b:1;\n\
         b:1;\n\
@@ -156,6 +162,7 @@ const ITERATORS: Alone = Alone {
         apcu_exists a:3:{i:0;s:1:\"a\";i:1;s:1:\"A\";i:2;s:1:\"b\";}\n\
         apcu_delete a:2:{i:0;s:1:\"a\";i:1;s:1:\"b\";}\n\
         APCUIterator N; a:1:{i:0;s:3:\"key\";} i:1; s:7:\"deleted\";\n",
+    clock: Clock::Line,
     printed: Some(
         b"a:0:{}\n\
         a:3:{i:0;a:1:{s:3:\"key\";s:1:\"a\";}i:1;a:1:{s:3:\"key\";s:1:\"A\";}\
@@ -170,6 +177,22 @@ const ITERATORS: Alone = Alone {
     events: 15,
 };
 
+// A row that is stored for ten seconds is looked for after a line `time`, and in a request that
+// begins eleven seconds after the first one.
+const TWO_REQUESTS: Alone = Alone {
+    script: b"worker\n\
+        request i:100;\n\
+        apcu_store s:1:\"a\"; i:1; i:10;\n\
+        time i:200;\n\
+        apcu_fetch s:1:\"a\";\n\
+        request i:111;\n\
+        apcu_fetch s:1:\"a\";\n",
+    clock: Clock::Request,
+    printed: Some(b"b:1;\ni:1;b:1;\nb:0;b:0;\n"),
+    budget: 4,
+    events: 4,
+};
+
 // A script without calls, and one whose only call makes no event, beside those with all calls.
 #[test]
 fn plays_alone_with_every_call(rt: HostRuntime) -> Result<(), Fail> {
@@ -178,12 +201,14 @@ fn plays_alone_with_every_call(rt: HostRuntime) -> Result<(), Fail> {
         ITERATORS,
         Alone {
             script: b"worker\n",
+            clock: Clock::Line,
             printed: Some(b""),
             budget: 1,
             events: 1,
         },
         Alone {
             script: b"worker\napcu_enabled\n",
+            clock: Clock::Line,
             printed: Some(b"b:1;\n"),
             budget: 1,
             events: 1,
@@ -204,4 +229,16 @@ fn stops_at_a_refused_pattern(rt: HostRuntime) -> Result<(), Fail> {
         ..ITERATORS
     };
     expect(&rt, rt.alloc(), refused, &RefuseAll)
+}
+
+// By the line's moment the row is too old after the line `time`.
+#[test]
+fn plays_by_its_clock(rt: HostRuntime) -> Result<(), Fail> {
+    let by_line = Alone {
+        clock: Clock::Line,
+        printed: Some(b"b:1;\nb:0;b:0;\nb:0;b:0;\n"),
+        ..TWO_REQUESTS
+    };
+    expect(&rt, rt.alloc(), TWO_REQUESTS, &RegexMaker)?;
+    expect(&rt, rt.alloc(), by_line, &RegexMaker)
 }

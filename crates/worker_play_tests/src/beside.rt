@@ -9,7 +9,7 @@ ghost use Rattle.worker_play.specs.Goes.{KnowsOwnEvents};
 use crate::gates::Noting;
 use crate::playing::{CONF, plays, script_of};
 use apcu_iter::RegexMaker;
-use apcu_model::Journal;
+use apcu_model::{Clock, Journal};
 use io_edges::{Gate, Point};
 use notation::ByteOut;
 use pin_table::{Pass, Passes, TableName};
@@ -75,6 +75,7 @@ fn plays_both<N: TableName + Send + Sync, G: Gate + Sync, R: Threads + Wait + Sy
                 &scripts.0,
                 &RegexMaker,
                 gate,
+                Clock::Line,
             )
         },
         || -> Option<(Pass, Result<ByteOut, PlayFault>)>
@@ -92,6 +93,7 @@ fn plays_both<N: TableName + Send + Sync, G: Gate + Sync, R: Threads + Wait + Sy
                 &scripts.1,
                 &RegexMaker,
                 gate,
+                Clock::Line,
             )
         },
     );

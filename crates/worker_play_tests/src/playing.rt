@@ -1,11 +1,11 @@
 //! A script, and a worker that plays it.
 
-ghost use Rattle.std.specs.Prelude.{◌≡◌, ◌<◌, ◌≤◌, IsTrue, [], length, map, sum, IfSome};
-ghost use Rattle.script_read.specs.Calls.{event_bound};
+ghost use Rattle.std.specs.Prelude.{◌≡◌, ◌<◌, ◌≤◌, IsTrue, [], length, IfSome};
+ghost use Rattle.script_read.specs.Budgets.{events_in};
 ghost use Rattle.worker_play.specs.Goes.{KnowsOwnEvents};
 
 use apcu_iter::Maker;
-use apcu_model::Conf;
+use apcu_model::{Clock, Conf};
 use io_edges::Gate;
 use notation::ByteOut;
 use pin_table::{Pass, TableName};
@@ -40,7 +40,7 @@ pub(crate) fn script_of(alloc: Global, text: &[u8]) -> Result<Script, Fail> {
 
 // Whether so many events are enough for a script, and one is left then.
 fn may_play(script: &Script, slots: u32, left: u32) -> bool
-    ensures { IsTrue result → sum (map (λ step. event_bound slots step.call) script.now) < left }
+    ensures { IsTrue result → events_in slots script.now < left }
 {
     if left == 0 {
         return false;
@@ -66,6 +66,7 @@ pub(crate) fn plays<N: TableName, M: Maker + Sync, G: Gate, R: Wait>(
     script: &Script,
     maker: &M,
     gate: &G,
+    clock: Clock,
 ) -> Option<(Pass, Result<ByteOut, PlayFault>)>
     requires conf { conf.now ≡ N.conf }
     requires table { pass.table ≡ N.table }
@@ -78,5 +79,5 @@ pub(crate) fn plays<N: TableName, M: Maker + Sync, G: Gate, R: Wait>(
     if !may_play(script, conf.slots, pass.left()) {
         return None;
     }
-    Some(play_script(rt, alloc, conf, shared, pass, script, maker, gate))
+    Some(play_script(rt, alloc, conf, shared, pass, script, maker, gate, clock))
 }

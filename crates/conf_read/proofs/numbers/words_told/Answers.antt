@@ -14,17 +14,17 @@ returns-in_err-bytes-clause-least c = grind (arith, common_steps)
 pub returns-in_err-bytes-clause-most : goal.returns-in_err-bytes-clause-most
 returns-in_err-bytes-clause-most c = grind (arith, common_steps)
 
-pub returns-then-bytes-from-clause-is : goal.returns-then-bytes-from-clause-is
-returns-then-bytes-from-clause-is c = grind (arith, common_steps)
+pub returns-then-bytes-le-MOST_BYTES-clause-is : goal.returns-then-bytes-le-MOST_BYTES-clause-is
+returns-then-bytes-le-MOST_BYTES-clause-is c = grind (arith, common_steps)
 
-pub returns-then-bytes-from-clause-even : goal.returns-then-bytes-from-clause-even
-returns-then-bytes-from-clause-even c = grind (arith, common_steps)
+pub returns-then-bytes-le-MOST_BYTES-clause-even : goal.returns-then-bytes-le-MOST_BYTES-clause-even
+returns-then-bytes-le-MOST_BYTES-clause-even c = grind (arith, common_steps)
 
-pub returns-then-bytes-from-clause-least : goal.returns-then-bytes-from-clause-least
-returns-then-bytes-from-clause-least c = grind (arith, common_steps)
+pub returns-then-bytes-le-MOST_BYTES-clause-least : goal.returns-then-bytes-le-MOST_BYTES-clause-least
+returns-then-bytes-le-MOST_BYTES-clause-least c = grind (arith, common_steps)
 
-pub returns-then-bytes-from-clause-most : goal.returns-then-bytes-from-clause-most
-returns-then-bytes-from-clause-most c = grind (arith, common_steps)
+pub returns-then-bytes-le-MOST_BYTES-clause-most : goal.returns-then-bytes-le-MOST_BYTES-clause-most
+returns-then-bytes-le-MOST_BYTES-clause-most c = grind (arith, common_steps)
 
 pub returns-else-bytes-eq0-clause-is : goal.returns-else-bytes-eq0-clause-is
 returns-else-bytes-eq0-clause-is c = grind (arith, common_steps)

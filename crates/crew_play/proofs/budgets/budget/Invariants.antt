@@ -1,5 +1,5 @@
 use Rattle.std.proofs.Common.{◌≡◌, ◌+◌, ◌≤◌, drop}
-use Rattle.crew_play.specs.Budgets.{events_in, most_events}
+use Rattle.script_read.specs.Budgets.{events_in, most_events}
 use Rattle.crew_play.proofs.budgets.budget.Given as goal
 
 abbrev pub invariant-loop-number : goal.invariant-loop-number

@@ -1,5 +1,5 @@
 use Rattle.std.proofs.Common.{◌≡◌, ◌+◌, ◌≤◌, ◌++◌, length, drop, vec_capacity}
-use Rattle.crew_play.specs.Budgets.{budgets_of, all_events, most_events}
+use Rattle.script_read.specs.Budgets.{budgets_of, all_events, most_events}
 use Rattle.crew_play.proofs.budgets.budgets.Given as goal
 
 abbrev pub invariant-loop-worker : goal.invariant-loop-worker

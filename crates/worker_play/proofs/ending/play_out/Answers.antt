@@ -1,22 +1,22 @@
-use Rattle.std.proofs.Common.{◌<◌, length, map, subst, ◌∙◌}
-use Rattle.std.specs.Prelude.{sum, IfOk}
+use Rattle.std.proofs.Common.{◌<◌, length, subst, ◌∙◌}
+use Rattle.std.specs.Prelude.{IfOk}
 use Rattle.worker_play.specs.Turns.{turns_of}
 use Rattle.reply_text.specs.Lines.{script_lines}
 use Rattle.worker_play.specs.Goes.{Tells}
 use Rattle.apcu_model.specs.declared.conf.Conf.{Conf}
-use Rattle.script_read.specs.declared.script.Step.{Step}
-use Rattle.script_read.specs.Calls.{event_bound}
+use Rattle.script_read.specs.Budgets.{events_in}
+use Rattle.script_read.specs.Clock.{timed}
 use Rattle.worker_play.proofs.Going.{OwnLaws}
 use Rattle.worker_play.proofs.Retiring.{one_left, unanswered, plays_out_if, has_asked}
 use Rattle.worker_play.proofs.ending.play_out.Goals as goal
 
 pub retire-ended-requires : goal.retire-ended-requires
 retire-ended-requires g c =
-    let enough = subst (λ (f : Conf). sum (map (λ (s : Step). event_bound f.slots s.call) c.args.script.now) < c.args.pass.known.left) c.requires.conf c.requires.left in
+    let enough = subst (λ (f : Conf). events_in f.slots c.args.script.now < c.args.pass.known.left) c.requires.conf c.requires.left in
     record {
       pass = record {
         table = c.play_script-pass.ensures.reaches.goes.table ∙ c.requires.table;
-        left = one_left g.N.TableName.conf (length g.N.TableName.budgets) c.args.pass c.play_script-pass.result.0 c.args.script.now c.play_script-pass.ensures.reaches enough;
+        left = one_left g.N.TableName.conf (length g.N.TableName.budgets) c.args.pass c.play_script-pass.result.0 c.args.clock c.args.script.now c.play_script-pass.ensures.reaches enough;
       };
     }
 
@@ -30,7 +30,7 @@ returns-clause-ends g c =
       table = f.table ∙ (r.table ∙ c.requires.table);
       worker = f.worker ∙ r.worker;
       all_own = f.all_own;
-      begun = has_asked laws g.N.TableName.conf (length g.N.TableName.budgets) c.args.pass c.play_script-pass.result.0 c.retire-ended.result c.args.script.now c.requires.no_event none c.play_script-pass.ensures.reaches f;
-      plays = plays_out_if laws g.N.TableName.conf (length g.N.TableName.budgets) c.args.pass c.play_script-pass.result.0 c.retire-ended.result c.args.script.now c.play_script-pass.result.1 c.requires.no_event none
-          (subst (λ (f : Conf). IfOk c.play_script-pass.result.1 (λ out. Tells g.N.TableName.conf (length g.N.TableName.budgets) c.args.pass c.play_script-pass.result.0 (turns_of g.N.TableName.conf c.args.script.now) (script_lines f c.args.script.now) out)) c.requires.conf c.play_script-pass.ensures.lines) f;
+      begun = has_asked laws g.N.TableName.conf (length g.N.TableName.budgets) c.args.pass c.play_script-pass.result.0 c.retire-ended.result (timed c.args.clock c.args.script.now) c.requires.no_event none c.play_script-pass.ensures.reaches f;
+      plays = plays_out_if laws g.N.TableName.conf (length g.N.TableName.budgets) c.args.pass c.play_script-pass.result.0 c.retire-ended.result (timed c.args.clock c.args.script.now) c.play_script-pass.result.1 c.requires.no_event none
+          (subst (λ (f : Conf). IfOk c.play_script-pass.result.1 (λ out. Tells g.N.TableName.conf (length g.N.TableName.budgets) c.args.pass c.play_script-pass.result.0 (turns_of g.N.TableName.conf (timed c.args.clock c.args.script.now)) (script_lines f (timed c.args.clock c.args.script.now)) out)) c.requires.conf c.play_script-pass.ensures.lines) f;
     }

@@ -1,6 +1,6 @@
-use Rattle.std.proofs.Common.{◌≡◌, ◌<◌, ◌++◌, length, map, drop}
-use Rattle.std.specs.Prelude.{sum}
-use Rattle.script_read.specs.Calls.{event_bound}
+use Rattle.std.proofs.Common.{◌≡◌, ◌<◌, ◌++◌, length, drop}
+use Rattle.script_read.specs.Budgets.{events_in}
+use Rattle.script_read.specs.Clock.{timed}
 use Rattle.reply_text.specs.Lines.{script_lines}
 use Rattle.worker_play.specs.Goes.{KnowsOwnEvents}
 use Rattle.worker_play.specs.Turns.{turns_of}
@@ -14,6 +14,6 @@ invariant-loop-number g l =
     record {
       table : l.held.table ≡ g.N.TableName.table;
       whole : KnowsOwnEvents l.held;
-      left : sum (map (λ step. event_bound conf.slots step.call) rest) < l.held.known.left;
-      midway : Midway conf (length g.N.TableName.budgets) l.fn.pass l.held (turns_of conf l.script) (turns_of conf rest) (λ replies. l.fn.out ++ script_lines conf l.script replies) (λ later. l.out ++ script_lines conf rest later);
+      left : events_in conf.slots rest < l.held.known.left;
+      midway : Midway conf (length g.N.TableName.budgets) l.fn.pass l.held (turns_of conf (timed l.clock l.script)) (turns_of conf (timed l.clock rest)) (λ replies. l.fn.out ++ script_lines conf (timed l.clock l.script) replies) (λ later. l.out ++ script_lines conf (timed l.clock rest) later);
     }
