@@ -14,3 +14,4 @@ pub mod Slashes
 pub mod Bits
 pub mod Calling
 pub mod Answered
+mod Drawn

@@ -7,6 +7,7 @@ pub mod Table
 pub mod Grammar
 pub mod Reading
 pub mod Ties
+pub mod Generated
 pub mod Growing
 pub mod Gives
 pub mod Budgets

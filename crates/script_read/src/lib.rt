@@ -5,6 +5,7 @@ mod arguments;
 mod call;
 mod choices;
 mod counters;
+mod drawing;
 mod effect;
 mod fault;
 mod generators;
@@ -21,6 +22,7 @@ mod searches;
 mod stores;
 
 pub use call::Call;
+pub use drawing::generate;
 pub use fault::ScriptFault;
 pub use laws::{calls_ask_few, readings_are_scripts, scripts_cross};
 pub use reading::read_scripts;

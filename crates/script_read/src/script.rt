@@ -166,6 +166,15 @@ impl Scripts {
         self.scripts.pop()
     }
 
+    // The script of one more worker; without memory the scripts stay as they were.
+    pub(crate) fn push(&mut self, script: Script) -> Result<(), AllocError>
+        requires { length self.old < 64 }
+        ensures { self.new ≡ (if is_ok result then self.old ++ script ∷ [] else self.old) }
+    {
+        self.scripts.push(script)?;
+        Ok(())
+    }
+
     // The script of one more worker begins; without memory the scripts stay as they were.
     pub(crate) fn begin(&mut self, alloc: Global) -> Result<(), AllocError>
         requires { length self.old < 64 }

@@ -185,7 +185,7 @@ fn expect_step(rt: &impl Abort, alloc: Global, step: &Step, row: Row) -> Result<
     Ok(())
 }
 
-fn expect_script(
+pub(crate) fn expect_script(
     rt: &impl Abort,
     alloc: Global,
     script: &Script,

@@ -1,9 +1,11 @@
-//! Tests of scripts, of what a worker asks and of how its replies are written; the laws of plays and
-//! walks are called.
+//! Tests of scripts, of what a worker asks and of how its replies are written; the laws of plays,
+//! walks, counters and generated scripts are called.
 #![tactic(auto)]
 
 #[cfg(test)]
 mod asked;
+#[cfg(test)]
+mod drawing;
 #[cfg(test)]
 mod faults;
 #[cfg(test)]

@@ -1,0 +1,9 @@
+use Rattle.generated_laws.proofs.Counting as lemmas
+use Rattle.generated_laws.proofs.Wraps.{modulo}
+use Rattle.generated_laws.proofs.Told.{played_counted}
+use Rattle.generated_laws.proofs.laws.counters_count.Goals as goal
+
+pub returns : goal.returns
+returns c =
+    let law = c.rows_stay_apart.ensures in
+    record { counted = lemmas.counted law; journals = played_counted law; modulo = modulo }

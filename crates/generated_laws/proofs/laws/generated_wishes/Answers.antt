@@ -1,0 +1,6 @@
+use Rattle.generated_laws.proofs.Looking.{others_want, observer_wants}
+use Rattle.generated_laws.proofs.Timed.{same_timed}
+use Rattle.generated_laws.proofs.laws.generated_wishes.Goals as goal
+
+pub returns : goal.returns
+returns c = record { others = others_want; observer = observer_wants; timed = same_timed }

@@ -1,0 +1,5 @@
+use Rattle.generated_laws.proofs.Looking.{come_last}
+use Rattle.generated_laws.proofs.laws.looks_come_last.Goals as goal
+
+pub returns : goal.returns
+returns c = come_last

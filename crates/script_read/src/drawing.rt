@@ -1,0 +1,124 @@
+//! Scripts that are made from a number.
+
+ghost use Rattle.std.specs.Prelude.{◌≡◌, ◌<◌, ◌≤◌, ◌∷◌, [], IfOk, ◌++◌, OnOk, length, replicate};
+ghost use Rattle.php_graph.specs.declared.kind.Kind.TheVariants as kinds;
+ghost use Rattle.script_read.specs.Generated.{state_after, drawn_number, value_key, counter_key};
+ghost use Rattle.script_read.specs.Generated.{draw_of, draws_from, call_of, steps_of_draws};
+ghost use Rattle.script_read.specs.Generated.{generated};
+
+use crate::call::Call;
+use crate::script::{Script, Scripts, Step};
+use itoa::Buffer;
+use php_graph::{Builder, Bytes, Graph, Item};
+use std::alloc::{AllocError, Global};
+
+// The state behind one more number.
+fn state_after(state: u64) -> u64
+    ensures { result ≡ state_after state }
+{
+    state
+        .wrapping_mul(6_364_136_223_846_793_005)
+        .wrapping_add(1_442_695_040_888_963_407)
+}
+
+// The key of the n-th value of a worker.
+fn value_key(alloc: Global, worker: u64, n: u64) -> Result<Bytes, AllocError>
+    ensures { IfOk result (λ key. key ≡ value_key worker n) }
+{
+    let mut digits = Buffer::new();
+    let mut text = Vec::new(alloc);
+    text.extend_from_slice(b"p")?;
+    text.extend_from_slice(digits.format(worker).as_bytes())?;
+    text.extend_from_slice(b".")?;
+    text.extend_from_slice(digits.format(n).as_bytes())?;
+    Ok(Bytes::from_vec(text))
+}
+
+// The key of the n-th counter.
+fn counter_key(alloc: Global, n: u64) -> Result<Bytes, AllocError>
+    ensures { IfOk result (λ key. key ≡ counter_key n) }
+{
+    let mut digits = Buffer::new();
+    let mut text = Vec::new(alloc);
+    text.extend_from_slice(b"c")?;
+    text.extend_from_slice(digits.format(n).as_bytes())?;
+    Ok(Bytes::from_vec(text))
+}
+
+// A string of so many bytes `x`.
+fn string_of(alloc: Global, len: usize) -> Result<Graph, AllocError>
+    requires { len < 200 }
+    ensures { IfOk result (λ graph. graph ≡ kinds.Str (replicate len 120) ∷ []) }
+{
+    let bytes = Bytes::from_vec(Vec::from_elem(alloc, b'x', len)?);
+    let mut builder = Builder::new(alloc);
+    match builder.push(Item::Str(bytes)) {
+        Ok(()) => Ok(builder.seal()),
+        Err(_) => Err(AllocError),
+    }
+}
+
+// The call that a number means.
+fn call_of(alloc: Global, worker: u64, workers: u64, r: u64) -> Result<Call, AllocError>
+    requires some { 0 < workers }
+    ensures { IfOk result (λ call. call ≡ call_of worker (draw_of workers r)) }
+{
+    match r % 4 {
+        3 => Ok(Call::Inc {
+            key: counter_key(alloc, r / 4 % 8)?,
+            step: (r / 32 % 100) as i64,
+            ttl: 0,
+        }),
+        2 => Ok(Call::StoreOne {
+            key: value_key(alloc, worker, r / 4 % 16)?,
+            value: string_of(alloc, (r / 64 % 200) as usize)?,
+            ttl: 0,
+            exclusive: false,
+        }),
+        _ => Ok(Call::FetchOne(value_key(alloc, r / 64 % workers, r / 4 % 16)?)),
+    }
+}
+
+// The script of a worker, from a state on.
+fn script_of(
+    alloc: Global,
+    worker: u64,
+    workers: u64,
+    calls: u32,
+    first: u64,
+) -> Result<Script, AllocError>
+    requires some { 0 < workers }
+    requires few { calls ≤ 1000000 }
+    ensures { IfOk result (λ script.
+        script ≡ steps_of_draws worker (draws_from workers calls first)) }
+{
+    let mut script = Script::new(alloc);
+    let mut state = first;
+    for _call in 0..calls {
+        state = state_after(state);
+        let call = call_of(alloc, worker, workers, state >> 33)?;
+        script.push(Step {
+            t: 0,
+            start: 0,
+            call,
+        })?;
+    }
+    Ok(script)
+}
+
+/// The scripts of so many workers, each of so many calls, that a seed stands for: each worker
+/// stores short strings under keys of its own, fetches those of all, and counts on eight counters.
+pub fn generate(alloc: Global, seed: u64, workers: u32, calls: u32) -> Result<Scripts, AllocError>
+    requires some { 0 < workers }
+    requires most { workers ≤ 64 }
+    requires few { calls ≤ 1000000 }
+    ensures { IfOk result (λ scripts. scripts ≡ generated seed workers calls) }
+{
+    let mut scripts = Scripts::new(alloc);
+    for worker in 0..workers {
+        let first = seed.wrapping_add(u64::from(worker));
+        let script = script_of(alloc, u64::from(worker), u64::from(workers), calls, first)?;
+        scripts.push(script)?;
+    }
+    Ok(scripts)
+}
