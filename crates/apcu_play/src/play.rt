@@ -25,9 +25,9 @@ pub(crate) struct Printed {
     pub(crate) journal: ByteOut,
 }
 
-/// Plays the scripts under a clock, each worker on a thread of its own, and gathers what is printed:
-/// the lines of each worker, then the journal. Nothing is played where the calls may make more than 4,194,304
-/// events, each worker's end included.
+/// Plays the scripts under a clock, each worker on a thread of its own, and gathers what is
+/// printed: the lines of each worker, then the journal. Nothing is played where the calls may make
+/// more than 4,194,304 events, each worker's end included.
 pub(crate) fn play<R: Threads + Wait + Sync, M: Maker + Sync, G: Gate + Sync>(
     rt: &R,
     alloc: Global,

@@ -87,8 +87,8 @@ impl Copying {
         self.word_at(table, self.first as usize + i as usize)
     }
 
-    // The eight words of the image from the word `i` on, as they were at the pin. The place where the
-    // image begins is handed in, so that it is not looked for at each of them.
+    // The eight words of the image from the word `i` on, as they were at the pin. The place where
+    // the image begins is handed in, so that it is not looked for at each of them.
     pub(crate) fn eight(&mut self, table: &PinTable, first: u32, i: u32) -> [u64; 8]
         requires table { self.old.table ≡ table.now }
         requires first { first ≡ self.old.copy.first }

@@ -132,7 +132,8 @@ steps_of m (line ∷ lines) =
 -- each script's lines mean its steps, both moments being 0 at its start
 abbrev pub Mean : List (List Line) → List (List Step) → Type 0
 Mean [] [] = Unit {0}
-Mean (lines ∷ others) (steps ∷ scripts) = (steps_of at_first lines ≡ Some steps) × Mean others scripts
+Mean (lines ∷ others) (steps ∷ scripts) =
+    (steps_of at_first lines ≡ Some steps) × Mean others scripts
 Mean _ _ = ⊥
 
 -- how many scripts there may be
