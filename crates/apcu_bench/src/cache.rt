@@ -2,8 +2,8 @@
 //! [SEGMENTS]` fills a cache with so many rows and as many slots, and prints for each kind of call
 //! several times the picoseconds of one, and how many calls answered true. `apcu_bench cache clear
 //! ROWS [SEGMENTS]` prints that of dropping all rows, and of dropping them because they are
-//! expired, and `apcu_bench cache info ROWS [SEGMENTS]` that of telling of them. Without arguments it does
-//! the same over few rows, and prints nothing.
+//! expired, and `apcu_bench cache info ROWS [SEGMENTS]` that of telling of them. Without arguments
+//! it does the same over few rows, and prints nothing.
 
 mod keys;
 mod leaving;

@@ -1,6 +1,7 @@
 //! Images and texts of values: `apcu_bench image WORK GRAPH ROUNDS` writes an image, reads a graph
 //! back, copies the graph, copies as many words, or writes or reads the value's text, so many
-//! times. It prints nothing: who calls it looks at the clock. Without arguments it reads one graph back.
+//! times. It prints nothing: who calls it looks at the clock. Without arguments it reads one graph
+//! back.
 
 pub mod often;
 mod texts;

@@ -1,7 +1,7 @@
 //! Pinned blocks: `apcu_bench pins WORK ROUNDS SPARE` stores a text of 64 KB in a block with so
-//! many spare words behind it, pins it, and so many times fetches it through its image, loads each word
-//! of it, loads and stores each word, takes memory for it, or reads it from words in memory. It
-//! prints nothing: who calls it looks at the clock. Without arguments it fetches once.
+//! many spare words behind it, pins it, and so many times fetches it through its image, loads each
+//! word of it, loads and stores each word, takes memory for it, or reads it from words in memory.
+//! It prints nothing: who calls it looks at the clock. Without arguments it fetches once.
 
 mod often;
 mod pinned;

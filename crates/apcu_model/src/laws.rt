@@ -57,8 +57,8 @@ pub fn numbered()
 /// In a history of at most `MOST_EVENTS` events, each of at most eight insertions: rows and removed
 /// rows have numbers below the next one. A number that is gone never comes back: after more events
 /// each row with a number that was given before them was there then, with its key. And a number
-/// stands for one row: two rows of one number, in the same cache or in a later one, have one key and
-/// one place.
+/// stands for one row: two rows of one number, in the same cache or in a later one, have one key
+/// and one place.
 pub fn rows_keep_numbers()
     ensures { RowsKeepNumbers }
 {}

@@ -1,6 +1,8 @@
--- Two even numbers as one number, where one of them is 0, or the first one is 2: the larger of them
--- doubled, and 1 more where it is the second one, or 2 more where it is that and the first one is 2.
-use Rattle.std.specs.Prelude.{◌≡◌, ◌≢◌, ℕ, ◌+◌, ◌-◌, ◌*◌, ◌/◌, ◌%◌, ◌==◌, if◌then◌else◌, List, [], ◌∷◌}
+-- Two even numbers as one number, where one of them is 0, or the first one is 2: the larger of
+-- them doubled, and 1 more where it is the second one, or 2 more where it is that and the first
+-- one is 2.
+use Rattle.std.specs.Prelude.{◌≡◌, ◌≢◌, ℕ, ◌+◌, ◌-◌, ◌*◌, ◌/◌, ◌%◌, ◌==◌, if◌then◌else◌, List, []}
+use Rattle.std.specs.Prelude.{◌∷◌}
 
 -- the first or the second of the two numbers that this one tells
 abbrev pub half : ℕ → ℕ → ℕ

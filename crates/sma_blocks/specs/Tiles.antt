@@ -60,8 +60,8 @@ gaps_touch piece after_gap (tile ∷ rest) =
 abbrev pub are_whole : ℕ → List Tile → Bool
 are_whole piece tiles = list_all (λ tile. is_whole piece tile.place tile.size) tiles
 
--- the words from an even place on are blocks and gaps to their end, each lies in one segment, and no
--- two gaps stand side by side in one
+-- the words from an even place on are blocks and gaps to their end, each lies in one segment, and
+-- no two gaps stand side by side in one
 pub record IsFormatted (words : List ℕ) (from piece : ℕ) : Type 0 where
   pub even : from % 2 ≡ 0
   pub full : Fill words from (tiles words from) (length words)
