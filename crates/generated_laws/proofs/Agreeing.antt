@@ -20,7 +20,7 @@ use Rattle.script_read.specs.Generated.{Draw, draws_of, generated, scripts_from}
 use Rattle.generated_laws.specs.Observer.{observed, IsObservedLast}
 use Rattle.generated_laws.specs.Summary.{IsLarge, is_declined, Summary, number_found, summary_of, stored_by, times_by, counted_by, total_by, summary_due}
 use Rattle.generated_laws.proofs.Pigeons.{count_alike, count_none}
-use Rattle.generated_laws.proofs.Laid.{OneSlot, IsRoomy}
+use Rattle.generated_laws.proofs.Laid.{IsRoomy}
 use Rattle.generated_laws.proofs.Names.{names_of}
 use Rattle.generated_laws.proofs.Turns.{Turn, Does, Ends, IsTurn, stores_in, times_in, sums_in, counter_value, Good, good_same}
 use Rattle.generated_laws.proofs.Stepping.{zero_value, some_value, same_or_not}
@@ -48,23 +48,23 @@ by_turns conf bodies p q mark marks work h =
     go true None at e = absurd (cc e)
     go true (Some turn) at e = (turn, at, e)
 
-going_all : OneSlot → (conf : Conf) (workers : ℕ) (bodies : List (List Turn)) (marks : List Mark) (p q : Play) → Setting conf workers bodies → played_from conf (scripts_of bodies) p marks ≡ Some q → Going conf workers bodies p → Going conf workers bodies q
-going_all law conf workers bodies [] p q s h g = let same : p ≡ q = cc h in subst (Going conf workers bodies) same g
-going_all law conf workers bodies (mark ∷ marks) p q s h g =
+going_all : (conf : Conf) (workers : ℕ) (bodies : List (List Turn)) (marks : List Mark) (p q : Play) → Setting conf workers bodies → played_from conf (scripts_of bodies) p marks ≡ Some q → Going conf workers bodies p → Going conf workers bodies q
+going_all conf workers bodies [] p q s h g = let same : p ≡ q = cc h in subst (Going conf workers bodies) same g
+going_all conf workers bodies (mark ∷ marks) p q s h g =
     let t = by_turns conf bodies p q mark marks s.work h in
-    going_all law conf workers bodies marks (after_wish p mark (wish_in_turn t.0)) q s t.2 (going_mark law conf workers bodies p mark t.0 s t.1 g)
+    going_all conf workers bodies marks (after_wish p mark (wish_in_turn t.0)) q s t.2 (going_mark conf workers bodies p mark t.0 s t.1 g)
 
-watched_all : OneSlot → (conf : Conf) (workers : ℕ) (first : List Turn) (others : List (List Turn)) (journal before marks : List Mark) (p q : Play) → Setting conf workers (watched_bodies first others) → AreEven first others
+watched_all : (conf : Conf) (workers : ℕ) (first : List Turn) (others : List (List Turn)) (journal before marks : List Mark) (p q : Play) → Setting conf workers (watched_bodies first others) → AreEven first others
     → IsObservedLast workers (length first) journal → journal ≡ before ++ marks → played_from conf (scripts_of (watched_bodies first others)) p marks ≡ Some q → Watched conf workers first others before p → Watched conf workers first others (before ++ marks) q
-watched_all law conf workers first others journal before [] p q s even last split h w =
+watched_all conf workers first others journal before [] p q s even last split h w =
     let same : p ≡ q = cc h in
     subst (λ l. Watched conf workers first others l q) (sym (append-nil before)) (subst (Watched conf workers first others before) same w)
-watched_all law conf workers first others journal before (mark ∷ marks) p q s even last split h w =
+watched_all conf workers first others journal before (mark ∷ marks) p q s even last split h w =
     let t = by_turns conf (watched_bodies first others) p q mark marks s.work h in
     let joined : (before ++ mark ∷ []) ++ marks ≡ before ++ mark ∷ marks = append_assoc before (mark ∷ []) marks in
     subst (λ l. Watched conf workers first others l q) joined
-    (watched_all law conf workers first others journal (before ++ mark ∷ []) marks (after_wish p mark (wish_in_turn t.0)) q s even last (split ∙ sym joined) t.2
-    (watched_mark law conf workers first others before p mark t.0 s even (last before marks mark split) t.1 w))
+    (watched_all conf workers first others journal (before ++ mark ∷ []) marks (after_wish p mark (wish_in_turn t.0)) q s even last (split ∙ sym joined) t.2
+    (watched_mark conf workers first others before p mark t.0 s even (last before marks mark split) t.1 w))
 
 -- ---- the start
 
@@ -154,7 +154,7 @@ weighs_sums i = record { does = λ worker draw. refl; light = record { look = λ
 
 -- such a shape has room
 roomy_so : (conf : Conf) → IsLarge conf → IsRoomy conf
-roomy_so conf large = record { even = large.good.slots_even; some = omega (arith, large.good.slots_least); slots = large.slots; words = large.words; one = large.one }
+roomy_so conf large = record { even = large.good.slots_even; slots = large.slots; words = large.words; one = large.one }
 
 setting_of : (conf : Conf) (calls : ℕ) (own : List Draw) (draws : List (List Draw)) → IsLarge conf → length (own ∷ draws) ≤ 64 → length (own ∷ draws) * (calls + 1) ≤ 4194304 → AreDrawn calls (own ∷ draws) → Setting conf (length (own ∷ draws)) (observing (bodies_from 0 (own ∷ draws)))
 setting_of conf calls own draws large most few drawn = record {
@@ -180,9 +180,9 @@ setting_of conf calls own draws large most few drawn = record {
         omega (arith, first, few, product, drawn.0.0, turns_count calls 1 draws drawn.1, sum_by-cons (λ (turns : List Turn). length turns) (ended (drawn_body 0 own ++ watching)) (turns_of (bodies_from 1 draws)))
 
 -- no expunge comes, however far the play is
-pub none_expunged : OneSlot → (conf : Conf) (seed workers calls : ℕ) (journal : List Mark) (p : Play) → IsLarge conf → 1 ≤ workers → workers ≤ 64 → workers * (calls + 1) ≤ 4194304
+pub none_expunged : (conf : Conf) (seed workers calls : ℕ) (journal : List Mark) (p : Play) → IsLarge conf → 1 ≤ workers → workers ≤ 64 → workers * (calls + 1) ≤ 4194304
     → played conf (observed (generated seed workers calls)) journal ≡ Some p → p.stage.cache.expunges ≡ 0
-none_expunged law conf seed workers calls journal p large some most few h = go (draws_of seed workers calls) (drawn_workers seed workers calls) (all_drawn seed workers calls) h
+none_expunged conf seed workers calls journal p large some most few h = go (draws_of seed workers calls) (drawn_workers seed workers calls) (all_drawn seed workers calls) h
   where
     go : (draws : List (List Draw)) → length draws ≡ workers → AreDrawn calls draws → played conf (observed (scripts_from 0 draws)) journal ≡ Some p → p.stage.cache.expunges ≡ 0
     go [] count drawn h = absurd (omega (arith, count, some))
@@ -190,12 +190,12 @@ none_expunged law conf seed workers calls journal p large some most few h = go (
         let s = setting_of conf calls own draws large (omega (arith, count, most)) (subst (λ n. n * (calls + 1) ≤ 4194304) (sym count) few) drawn in
         let bodies = observing (bodies_from 0 (own ∷ draws)) in
         let h' : played conf (scripts_of bodies) journal ≡ Some p = subst (λ (l : List (List Step)). played conf l journal ≡ Some p) (sym (scripts_observed (own ∷ draws))) h in
-        (going_all law conf (length (own ∷ draws)) bodies journal (nothing_played conf (scripts_of bodies)) p s h' (going_start conf (length (own ∷ draws)) bodies)).good.expunges
+        (going_all conf (length (own ∷ draws)) bodies journal (nothing_played conf (scripts_of bodies)) p s h' (going_start conf (length (own ∷ draws)) bodies)).good.expunges
 
 -- and no store or increment is answered no
-pub all_stored : OneSlot → (conf : Conf) (seed workers calls : ℕ) (journal : List Mark) (p : Play) (mark : Mark) (wish : Wish) → IsLarge conf → 1 ≤ workers → workers ≤ 64 → workers * (calls + 1) ≤ 4194304
+pub all_stored : (conf : Conf) (seed workers calls : ℕ) (journal : List Mark) (p : Play) (mark : Mark) (wish : Wish) → IsLarge conf → 1 ≤ workers → workers ≤ 64 → workers * (calls + 1) ≤ 4194304
     → played conf (observed (generated seed workers calls)) journal ≡ Some p → wish_of conf (observed (generated seed workers calls)) p mark.worker ≡ Some wish → is_declined wish.request (reply_in p.stage (event_of mark wish)) ≡ false
-all_stored law conf seed workers calls journal p mark wish large some most few h w = go (draws_of seed workers calls) (drawn_workers seed workers calls) (all_drawn seed workers calls) h w
+all_stored conf seed workers calls journal p mark wish large some most few h w = go (draws_of seed workers calls) (drawn_workers seed workers calls) (all_drawn seed workers calls) h w
   where
     go : (draws : List (List Draw)) → length draws ≡ workers → AreDrawn calls draws → played conf (observed (scripts_from 0 draws)) journal ≡ Some p → wish_of conf (observed (scripts_from 0 draws)) p mark.worker ≡ Some wish
         → is_declined wish.request (reply_in p.stage (event_of mark wish)) ≡ false
@@ -205,7 +205,7 @@ all_stored law conf seed workers calls journal p mark wish large some most few h
         let bodies = observing (bodies_from 0 (own ∷ draws)) in
         let scripts = scripts_observed (own ∷ draws) in
         let h' : played conf (scripts_of bodies) journal ≡ Some p = subst (λ (l : List (List Step)). played conf l journal ≡ Some p) (sym scripts) h in
-        let g = going_all law conf (length (own ∷ draws)) bodies journal (nothing_played conf (scripts_of bodies)) p s h' (going_start conf (length (own ∷ draws)) bodies) in
+        let g = going_all conf (length (own ∷ draws)) bodies journal (nothing_played conf (scripts_of bodies)) p s h' (going_start conf (length (own ∷ draws)) bodies) in
         let w' : wish_of conf (scripts_of bodies) p mark.worker ≡ Some wish = subst (λ (l : List (List Step)). wish_of conf l p mark.worker ≡ Some wish) (sym scripts) w in
         at (turn_at (turns_of bodies) mark.worker (length (replies_of p mark.worker))) refl (sym (wish_is conf bodies p mark.worker s.work) ∙ w') s g
       where
@@ -214,7 +214,7 @@ all_stored law conf seed workers calls journal p mark wish large some most few h
         at None is e s g = absurd (cc e)
         at (Some turn) is e s g =
             let same : wish_in_turn turn ≡ wish = cc e in
-            subst (λ (x : Wish). is_declined x.request (reply_in p.stage (event_of mark x)) ≡ false) same (going_stored law conf (length (own ∷ draws)) (observing (bodies_from 0 (own ∷ draws))) p mark turn s is g)
+            subst (λ (x : Wish). is_declined x.request (reply_in p.stage (event_of mark x)) ≡ false) same (going_stored conf (length (own ∷ draws)) (observing (bodies_from 0 (own ∷ draws))) p mark turn s is g)
 
 -- ---- the summary
 
@@ -270,10 +270,10 @@ told_so conf calls own draws journal p s drawn done w =
         ap number_found r.1 ∙ (ap (λ (x : Reply). number_found (Some x)) is ∙ (number_told (total (times_in i) lists) (total (sums_in i) lists) none ∙ ap pos (total_all (sums_in i) (counted_by i) all (weighs_sums i))))
 
 -- all legal and complete journals give the one summary
-pub agreed : OneSlot → (conf : Conf) (seed workers calls : ℕ) (journal : List Mark) (p : Play) → IsLarge conf → 1 ≤ workers → workers ≤ 64 → workers * (calls + 1) ≤ 4194304
+pub agreed : (conf : Conf) (seed workers calls : ℕ) (journal : List Mark) (p : Play) → IsLarge conf → 1 ≤ workers → workers ≤ 64 → workers * (calls + 1) ≤ 4194304
     → played conf (observed (generated seed workers calls)) journal ≡ Some p → is_complete_play conf (observed (generated seed workers calls)) (played conf (observed (generated seed workers calls)) journal) ≡ true → IsObservedLast workers calls journal
     → summary_of calls p ≡ summary_due (draws_of seed workers calls)
-agreed law conf seed workers calls journal p large some most few h complete last = go (draws_of seed workers calls) (drawn_workers seed workers calls) (all_drawn seed workers calls) h complete
+agreed conf seed workers calls journal p large some most few h complete last = go (draws_of seed workers calls) (drawn_workers seed workers calls) (all_drawn seed workers calls) h complete
   where
     go : (draws : List (List Draw)) → length draws ≡ workers → AreDrawn calls draws → played conf (observed (scripts_from 0 draws)) journal ≡ Some p
         → is_complete_play conf (observed (scripts_from 0 draws)) (played conf (observed (scripts_from 0 draws)) journal) ≡ true → summary_of calls p ≡ summary_due draws
@@ -288,4 +288,4 @@ agreed law conf seed workers calls journal p large some most few h complete last
         let even : AreEven (drawn_body 0 own) (bodies_from 1 draws) = record { each = λ v turns at. others_even calls 1 draws drawn.1 v turns at ∙ ap (λ n. n + 1) (sym first_count) } in
         let last' : IsObservedLast (length (own ∷ draws)) (length (drawn_body 0 own)) journal = subst (λ n. IsObservedLast n (length (drawn_body 0 own)) journal) (sym count) (subst (λ n. IsObservedLast workers n journal) (sym first_count) last) in
         told_so conf calls own draws journal p s drawn done'
-        (watched_all law conf (length (own ∷ draws)) (drawn_body 0 own) (bodies_from 1 draws) journal [] journal (nothing_played conf (scripts_of bodies)) p s even last' refl h' (watched_start conf (length (own ∷ draws)) (drawn_body 0 own) (bodies_from 1 draws)))
+        (watched_all conf (length (own ∷ draws)) (drawn_body 0 own) (bodies_from 1 draws) journal [] journal (nothing_played conf (scripts_of bodies)) p s even last' refl h' (watched_start conf (length (own ∷ draws)) (drawn_body 0 own) (bodies_from 1 draws)))

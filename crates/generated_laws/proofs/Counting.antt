@@ -17,7 +17,7 @@ use Rattle.apcu_model.specs.Laws.{RowsStayApart}
 use Rattle.apcu_model.specs.Conf.{most_of}
 use Rattle.apcu_model.specs.Cache.{Row, Cache, has_key, gap_of}
 use Rattle.apcu_model.specs.Change.{deleted, cleared, with_room, put_in, inserted}
-use Rattle.apcu_model.specs.Chunks.{is_in_chunk, chunk_dropped}
+use Rattle.apcu_model.specs.Chunks.{chunk_rows, chunk_dropped}
 use Rattle.apcu_model.specs.Counters.{integer_in, with_integer, with_integer_at, integer_set, sum_of, counted_on, counted_at, is_integer, is_expected, swapped}
 use Rattle.apcu_model.specs.Expiry.{live_row}
 use Rattle.apcu_model.specs.Generators.{filled, given_by, missed_levels, looked_for}
@@ -127,7 +127,7 @@ kept_after law held t r c sound few shallow = go r shallow
     go (request.CacheInfo limited) deep = sub c (sub_refl c)
     go (request.SmaInfo limited) deep = sub c (sub_refl c)
     go (request.Chunk wanted from size list fields) deep = sub c (sub_refl c)
-    go (request.ChunkDelete wanted from size) deep = sub (chunk_dropped held wanted from size t c) (sub_dropped law held t (is_in_chunk wanted t c from size) c)
+    go (request.ChunkDelete wanted from size) deep = sub (chunk_dropped held wanted from size t c) (sub_dropped law held t (chunk_rows wanted t c from size) c)
     go (request.Totals wanted list) deep = sub c (sub_refl c)
     go request.Retire deep = sub c (sub_refl c)
 
@@ -222,7 +222,7 @@ from_begun law held key step ttl t c sound few r h old own = go (nat_lt (most_of
     room = with_room held n t c
 
     at : (o : Option ℕ) → gap_of room n ≡ o → Contains (put_in held key (kinds.Int step ∷ []) ttl t n room o).cache.rows r → From key (step ∷ []) c r
-    at None none h = absurd (none_in_nil r (subst (λ (l : List Row). Contains l r) (no_row held n t c none) h))
+    at None none h = absurd (none_in_nil r (subst (λ (l : List Row). Contains l r) (no_row held n t c sound.slots none) h))
     at (Some place) there h = elim (placed_cases law held key (kinds.Int step ∷ []) ttl t n room place r h) [
       | inl e ↦ absurd (omega (arith, e.0, old, (sub_room law held n t c).next))
       | inr e ↦ absurd (false≢true (sym e.1 ∙ is_key key r own))
@@ -289,7 +289,7 @@ from_after law key held t q c sound few shallow kept r h old own = go q shallow 
     go (request.CacheInfo limited) deep quiet h = from_same key c r h
     go (request.SmaInfo limited) deep quiet h = from_same key c r h
     go (request.Chunk wanted from size list fields) deep quiet h = from_same key c r h
-    go (request.ChunkDelete wanted from size) deep quiet h = sub (chunk_dropped held wanted from size t c) (sub_dropped law held t (is_in_chunk wanted t c from size) c) h
+    go (request.ChunkDelete wanted from size) deep quiet h = sub (chunk_dropped held wanted from size t c) (sub_dropped law held t (chunk_rows wanted t c from size) c) h
     go (request.Totals wanted list) deep quiet h = from_same key c r h
     go request.Retire deep quiet h = from_same key c r h
 
@@ -339,13 +339,13 @@ after-joined : (m : Stage) (before between : List Event) → after_events m (bef
 after-joined m [] between = refl
 after-joined m (e ∷ before) between = after-joined (after_event m e) before between
 
-pub counted : RowsStayApart → (conf : Conf) (before between : List Event) (first second : Row) (n : ℤ) → length (before ++ between) ≤ 4194304 → are_shallow (before ++ between) ≡ true
+pub counted : RowsStayApart → (conf : Conf) (before between : List Event) (first second : Row) (n : ℤ) → 1 ≤ conf.slots → length (before ++ between) ≤ 4194304 → are_shallow (before ++ between) ≡ true
     → Contains (stage_of conf before).cache.rows first → Contains (stage_of conf (before ++ between)).cache.rows second → first.key ≡ second.key → first.number ≡ second.number → integer_in first.graph ≡ Some n
     → none_swaps first.key (stage_of conf before) between ≡ true → integer_in second.graph ≡ Some (counted_up n (steps_on first.key between))
-counted law conf before between first second n short deep a b same number is none =
+counted law conf before between first second n some short deep a b same number is none =
     let deep' = shallow_parts before between deep in
     let count = length-append before between in
-    let start : Sound (start_of conf).cache = record { apart = refl; below = λ p h. absurd (none_in_nil p h); one = λ p q h. absurd (none_in_nil p h); room = λ p h. absurd (none_in_nil p h) } in
+    let start : Sound (start_of conf).cache = record { slots = some; apart = refl; below = λ p h. absurd (none_in_nil p h); one = λ p q h. absurd (none_in_nil p h); room = λ p h. absurd (none_in_nil p h) } in
     let s = sound_events law (start_of conf) before start (omega (arith, short, count)) deep'.0 in
     let m = stage_of conf before in
     let there : Contains (after_events m between).cache.rows second = subst (λ (x : Stage). Contains x.cache.rows second) (after-joined (start_of conf) before between) b in

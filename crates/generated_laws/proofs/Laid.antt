@@ -3,38 +3,33 @@ use Rattle.std.proofs.Common.{◌≡◌, ◌⊎◌, inl, inr, ℕ, ◌+◌, ◌-
 use Rattle.std.proofs.Math.Nat as nat
 use Rattle.std.specs.Prelude.{◌/◌, nat_lt, nat_le, find, is_some, ◌==◌, max, min}
 use Rattle.std.specs.Str.{bytes_eq}
-use Rattle.std.specs.List.{Contains, count_by, flat_map, range_with_len}
-use Rattle.std.proofs.lemmas.Bool.{and_parts, false≢true, false_from_ne_true, ltb-true, lt-ltb, eqb-true, eq-eqb, not-true, not_from_false}
+use Rattle.std.specs.List.{Contains, count_by, range_with_len}
+use Rattle.std.proofs.lemmas.Bool.{and_parts, false≢true, false_from_ne_true, ltb-true, lt-ltb, eqb-true, eq-eqb, not-true}
 use Rattle.std.proofs.lemmas.List.{length-append, length-map, append-nil}
 use Rattle.std.proofs.lemmas.List.Sums.{length-filter, count_by-le-length}
 use Rattle.std.proofs.lemmas.List.Elements.{Contains-append_left, Contains-append_right, Contains-append_cases}
 use Rattle.seg_words.specs.declared.extents.Extent.{Extent}
 use Rattle.seg_words.specs.Gaps.{meets, is_free, is_whole, fits, first_fit}
-use Rattle.seg_words.specs.Members.{Contains-cases, Contains-filter, Contains-map, any_there, none_in_nil, count-append, filter_none, filter_all, map_there}
+use Rattle.seg_words.specs.Members.{Contains-cases, Contains-filter, Contains-map, any_there, none_in_nil, count-append, filter_none, map_there}
 use Rattle.php_graph.specs.declared.kind.Kind.{Kind}
 use Rattle.php_graph.specs.Size.{block_size}
 use Rattle.apcu_model.specs.declared.conf.Conf.{Conf}
 use Rattle.apcu_model.specs.Conf.{piece_of, most_of}
 use Rattle.apcu_model.specs.declared.request.StoreAnswer.TheVariants as answers
 use Rattle.apcu_model.specs.Cache.{Row, Cache, risen, has_key, extent_of, gap_of}
-use Rattle.apcu_model.specs.Change.{is_held, dropped, swept, expired_dropped, expunged, has_gap, with_room, with_row, placed, put_in, inserted}
+use Rattle.apcu_model.specs.Change.{is_held, dropped, expired_in, left_of, removed_with, swept, expired_dropped, expunged, has_gap, with_room, with_row, placed, put_in, inserted}
 use Rattle.apcu_model.specs.Expiry.{is_expired}
+use Rattle.apcu_model.specs.Facts.{left_all}
 use Rattle.apcu_model.specs.History.{Stage, held_places, is_copied, is_in_mask}
-use Rattle.php_graph.specs.Numbers.{hash_of}
-use Rattle.apcu_model.specs.Walk.{is_in_slot, in_slot_order, slot_of}
+use Rattle.apcu_model.specs.Walk.{is_in_slot, slot_of}
 use Rattle.generated_laws.proofs.RowFacts.{key_is, is_key, with_there}
 use Rattle.generated_laws.proofs.Pigeons.{at_most, count-map, count_alike, count_none, count_filter, count_both, pigeons}
 use Rattle.generated_laws.proofs.Pieces.{AreSmall, gap_there}
 use Rattle.generated_laws.proofs.Placing.{with_counted, never_expired}
 
--- rows of one slot are visited in their own order
-pub record OneSlot : Type 0 where
-  pub order : (conf : Conf) (rows : List Row) (slot : ℕ) → slot < conf.slots → ((row : Row) → Contains rows row → slot_of conf row.key ≡ slot) → in_slot_order conf rows ≡ rows
-
 -- a shape with as much room as this needs
 pub record IsRoomy (conf : Conf) : Type 0 where
   pub even : conf.slots % 2 ≡ 0
-  pub some : 0 < conf.slots
   pub slots : conf.slots ≤ 4096
   pub words : 1048576 ≤ conf.words
   pub one : conf.segments ≡ 1
@@ -207,58 +202,35 @@ pub record Placed (held : List ℕ) (new : Row) (c d : Cache) : Type 0 where
   pub removed : d.removed ≡ c.removed ++ replaced_rows held new.key c.rows
   pub next : d.next_number ≡ risen c.next_number
 
-none_slots : (conf : Conf) (slots : List ℕ) → flat_map (λ slot. filter (is_in_slot conf slot) []) slots ≡ []
-none_slots conf [] = refl
-none_slots conf (slot ∷ slots) = none_slots conf slots
-
-slot_within : (conf : Conf) (key : List ℕ) → 0 < conf.slots → slot_of conf key < conf.slots
-slot_within conf key some = go (hash_of key)
-  where
-    go : (h : ℕ) → h % conf.slots < conf.slots
-    go h = omega (arith, some)
-
 abbrev pub new_row : List ℕ → List Kind → ℕ → ℕ → ℕ → Row
 new_row key graph n place number = record { key = key; graph = graph; ttl = 0; ctime = 0; mtime = 0; atime = 0; dtime = 0; hits = 0; place = place; size = n; number = number }
 
-pub placed_parts : OneSlot → (held key : List ℕ) (graph : List Kind) (n : ℕ) (c : Cache) (place : ℕ) → 0 < c.conf.slots → Placed held (new_row key graph n place c.next_number) c (placed held key graph 0 0 n c place)
-placed_parts law held key graph n c place some = record {
+pub placed_parts : (held key : List ℕ) (graph : List Kind) (n : ℕ) (c : Cache) (place : ℕ) → Placed held (new_row key graph n place c.next_number) c (placed held key graph 0 0 n c place)
+placed_parts held key graph n c place = record {
   shape = refl;
   rows = ap (λ (l : List Row). with_row (new_row key graph n place c.next_number) l) kept;
   removed = removed;
   next = refl;
 }
   where
-    pass : Row → Bool
-    pass row = is_in_slot c.conf (slot_of c.conf key) row && is_expired c.conf 0 row
+    here : List Row
+    here = filter (is_in_slot c.conf (slot_of c.conf key)) c.rows
 
-    never : (row : Row) → pass row ≡ false
-    never row = go (is_in_slot c.conf (slot_of c.conf key) row) (is_expired c.conf 0 row) (never_expired c.conf row)
-      where
-        go : (a b : Bool) → b ≡ false → (a && b) ≡ false
-        go a true e = absurd (cc e)
-        go true false e = refl
-        go false false e = refl
+    -- none expires
+    none : expired_in c.conf 0 (slot_of c.conf key) c.rows ≡ []
+    none = filter_none (is_expired c.conf 0) here (λ row h. never_expired c.conf row)
 
     fresh : Cache
-    fresh = dropped held 0 pass c
+    fresh = dropped held 0 (expired_in c.conf 0 (slot_of c.conf key) c.rows) c
 
     kept : fresh.rows ≡ c.rows
-    kept = filter_all (λ row. not (pass row)) c.rows (λ row h. not_from_false (pass row) (never row))
+    kept = ap (λ (l : List Row). left_of l c.rows) none ∙ left_all c.rows
 
-    none : fresh.removed ≡ c.removed
-    none =
-        ap (λ (l : List Row). c.removed ++ dated_rows (filter (is_held held) (in_slot_order c.conf l))) (filter_none pass c.rows (λ row h. never row))
-        ∙ (ap (λ (l : List Row). c.removed ++ dated_rows (filter (is_held held) l)) (none_slots c.conf (range_with_len 0 c.conf.slots)) ∙ append-nil c.removed)
+    same : fresh.removed ≡ c.removed
+    same = ap (λ (l : List Row). removed_with held 0 l c.removed) none ∙ append-nil c.removed
 
-    ordered : in_slot_order c.conf (filter (has_key key) c.rows) ≡ filter (has_key key) c.rows
-    ordered =
-        law.order c.conf (filter (has_key key) c.rows) (slot_of c.conf key) (slot_within c.conf key some) (λ row h. ap (slot_of c.conf) (key_is key row (Contains-filter (has_key key) c.rows row h).1))
-
-    removed : (dropped held 0 (has_key key) fresh).removed ≡ c.removed ++ replaced_rows held key c.rows
-    removed =
-        ap (λ (l : List Row). l ++ dated_rows (filter (is_held held) (in_slot_order c.conf (filter (has_key key) fresh.rows)))) none
-        ∙ (ap (λ (l : List Row). c.removed ++ dated_rows (filter (is_held held) (in_slot_order c.conf (filter (has_key key) l)))) kept
-        ∙ ap (λ (l : List Row). c.removed ++ dated_rows (filter (is_held held) l)) ordered)
+    removed : (dropped held 0 (filter (has_key key) fresh.rows) fresh).removed ≡ c.removed ++ replaced_rows held key c.rows
+    removed = ap (λ (l : List Row). l ++ replaced_rows held key fresh.rows) same ∙ ap (λ (l : List Row). c.removed ++ replaced_rows held key l) kept
 
 -- no new row is like an old one
 counted_placed : (p : Row → Bool) (held : List ℕ) (new : Row) (c d : Cache) → Placed held new c d → count_by (has_key new.key) c.rows ≤ 1 → ((r : Row) → p (let r' : Row = record r { dtime = 0 } in r') ≡ p r)

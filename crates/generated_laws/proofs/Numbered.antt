@@ -1,5 +1,5 @@
 -- Each event leaves rows apart and numbered, and which rows of the cache after it are old ones.
-use Rattle.std.proofs.Common.{◌≡◌, ℕ, ◌+◌, ◌-◌, ◌%◌, ◌^◌, ◌<◌, ◌≤◌, ◌&&◌, ◌⊎◌, inl, inr, Bool, true, false, not, if◌then◌else◌, List, [], ◌∷◌, length, Option, Some, None, refl, ap, sym, ◌∙◌, subst, arith}
+use Rattle.std.proofs.Common.{◌≡◌, ℕ, ◌+◌, ◌-◌, ◌%◌, ◌^◌, ◌<◌, ◌≤◌, ◌&&◌, ◌⊎◌, inl, inr, Bool, true, false, not, if◌then◌else◌, List, [], ◌∷◌, length, filter, Option, Some, None, refl, ap, sym, ◌∙◌, subst, arith}
 use Rattle.std.specs.Prelude.{ℤ, Contains, nat_lt, is_some}
 use Rattle.std.proofs.lemmas.Bool.{ltb-false, false≢true}
 use Rattle.seg_words.specs.Members.{Contains-filter, map_there, filter_none}
@@ -11,17 +11,19 @@ use Rattle.std.proofs.lemmas.List.Sums.{sum_by-cons}
 use Rattle.php_graph.specs.Size.{block_size, image_length, cells_of}
 use Rattle.apcu_model.specs.declared.request.StoreAnswer.TheVariants as answers
 use Rattle.apcu_model.specs.Laws.{RowsStayApart}
+use Rattle.apcu_model.specs.declared.conf.Conf.{Conf}
 use Rattle.apcu_model.specs.Conf.{most_of}
 use Rattle.apcu_model.specs.Cache.{Row, Cache, risen, has_key, gap_of}
-use Rattle.apcu_model.specs.Change.{dropped, swept, expired_dropped, expunged, deleted, cleared, has_gap, with_room, placed, put_in, inserted}
+use Rattle.apcu_model.specs.Change.{dropped, expired_in, is_among, leaving, spent, swept, expired_dropped, expunged, deleted, cleared, has_gap, with_room, placed, put_in, inserted}
 use Rattle.apcu_model.specs.Counters.{integer_in}
-use Rattle.apcu_model.specs.Expiry.{is_expired, live_row}
+use Rattle.apcu_model.specs.Expiry.{live_row}
+use Rattle.apcu_model.specs.Facts.{among_there}
 use Rattle.apcu_model.specs.Generators.{filled, missed_levels, looked_for}
 use Rattle.apcu_model.specs.Levels.{EntryLevel}
 use Rattle.apcu_model.specs.Lookups.{looked_up, touched}
 use Rattle.apcu_model.specs.Rows.{are_apart, touched_at}
-use Rattle.apcu_model.specs.Walk.{is_in_slot, slot_of}
-use Rattle.generated_laws.proofs.RowFacts.{with_there}
+use Rattle.apcu_model.specs.Walk.{slot_of}
+use Rattle.generated_laws.proofs.RowFacts.{with_there, all_leave}
 
 -- the row holds an integer
 abbrev pub is_counter : Row → Bool
@@ -32,6 +34,7 @@ abbrev pub HasRoom : Cache → List ℕ → Type 0
 HasRoom c key = (n : ℤ) → block_size (length key) (kinds.Int n ∷ []) ≤ most_of c.conf
 
 pub record Sound (c : Cache) : Type 0 where
+  pub slots : 1 ≤ c.conf.slots
   pub apart : are_apart c.rows ≡ true
   pub below : (p : Row) → Contains c.rows p → p.number < c.next_number
   pub one : (p q : Row) → Contains c.rows p → Contains c.rows q → p.number ≡ q.number → p.key ≡ q.key
@@ -67,6 +70,7 @@ sub_like c c' s = record {
 
 pub sound_like : (c c' : Cache) → Like c c' → Sound c → Sound c'
 sound_like c c' s n = record {
+  slots = omega (arith, n.slots, ap (λ (f : Conf). f.slots) s.shape);
   apart = s.apart n.apart;
   below = λ r h. let p = s.from r h in omega (arith, n.below p.0 p.1, p.2.number, s.next);
   one = λ r q h k e. let a = s.from r h in let b = s.from q k in sym a.2.key ∙ (n.one a.0 b.0 a.1 b.1 (a.2.number ∙ (e ∙ sym b.2.number)) ∙ b.2.key);
@@ -90,28 +94,30 @@ pub sub_if : (b : Bool) (c x y : Cache) → Sub c x → Sub c y → Sub c (if b 
 sub_if true c x y f g = f
 sub_if false c x y f g = g
 
-pub sub_dropped : RowsStayApart → (held : List ℕ) (t : ℕ) (pass : Row → Bool) (c : Cache) → Sub c (dropped held t pass c)
-sub_dropped law held t pass c = record {
+pub sub_dropped : RowsStayApart → (held : List ℕ) (t : ℕ) (gone : List Row) (c : Cache) → Sub c (dropped held t gone c)
+sub_dropped law held t gone c = record {
   shape = refl;
   next = refl;
-  apart = law.picked (λ row. not (pass row)) c.rows;
-  from = λ r h. (r, (Contains-filter (λ (row : Row). not (pass row)) c.rows r h).0, refl, refl, refl);
+  apart = law.picked (λ row. not (is_among gone row)) c.rows;
+  from = λ r h. (r, (Contains-filter (λ (row : Row). not (is_among gone row)) c.rows r h).0, refl, refl, refl);
 }
 
 pub sub_swept : (held : List ℕ) (c : Cache) → Sub c (swept held c)
 sub_swept held c = record { shape = refl; next = refl; apart = λ k. k; from = λ r h. (r, h, refl, refl, refl) }
 
 pub sub_expired : RowsStayApart → (held : List ℕ) (t : ℕ) (c : Cache) → Sub c (expired_dropped held t c)
-sub_expired law held t c = sub_if (nat_lt 0 c.conf.ttl) c (dropped held t (is_expired c.conf t) c) c (sub_dropped law held t (is_expired c.conf t) c) (sub_refl c)
+sub_expired law held t c = sub_dropped law held t (spent c.conf t c.rows) c
 
 pub sub_expunged : RowsStayApart → (held : List ℕ) (t : ℕ) (c : Cache) → Sub c (expunged held t c)
-sub_expunged law held t c = let d = sub_dropped law held t (λ row. true) c in record { shape = d.shape; next = d.next; apart = d.apart; from = d.from }
+sub_expunged law held t c = let d = sub_dropped law held t (leaving c.conf c.rows) c in record { shape = d.shape; next = d.next; apart = d.apart; from = d.from }
 
 pub sub_cleared : RowsStayApart → (held : List ℕ) (t : ℕ) (c : Cache) → Sub c (cleared held t c)
-sub_cleared law held t c = let d = sub_dropped law held t (λ row. true) c in record { shape = d.shape; next = d.next; apart = d.apart; from = d.from }
+sub_cleared law held t c = let d = sub_dropped law held t (leaving c.conf c.rows) c in record { shape = d.shape; next = d.next; apart = d.apart; from = d.from }
 
 pub sub_deleted : RowsStayApart → (held key : List ℕ) (t : ℕ) (c : Cache) → Sub c (deleted held key t c)
-sub_deleted law held key t c = sub_if (is_some (live_row key t c)) c (dropped held t (has_key key) c) c (sub_dropped law held t (has_key key) c) (sub_refl c)
+sub_deleted law held key t c =
+    let gone = filter (has_key key) c.rows in
+    sub_if (is_some (live_row key t c)) c (dropped held t gone c) c (sub_dropped law held t gone c) (sub_refl c)
 
 pub sub_room : RowsStayApart → (held : List ℕ) (n t : ℕ) (c : Cache) → Sub c (with_room held n t c)
 sub_room law held n t c =
@@ -203,18 +209,18 @@ least_counter k (kinds.Same x ∷ ks) n is = absurd (cc is)
 pub placed_cases : RowsStayApart → (held key : List ℕ) (graph : List Kind) (ttl t n : ℕ) (c : Cache) (place : ℕ) (r : Row) → Contains (placed held key graph ttl t n c place).rows r
     → ((r.number ≡ c.next_number) × (r.key ≡ key) × (integer_in graph ≡ integer_in r.graph)) ⊎ (Contains c.rows r × (has_key key r ≡ false))
 placed_cases law held key graph ttl t n c place r h =
-    let pass : Row → Bool = λ row. is_in_slot c.conf (slot_of c.conf key) row && is_expired c.conf t row in
+    let gone = expired_in c.conf t (slot_of c.conf key) c.rows in
     let fresh_row : Row = record { key = key; graph = graph; ttl = ttl; ctime = t; mtime = t; atime = t; dtime = 0; hits = 0; place = place; size = n; number = c.next_number } in
-    elim (with_there fresh_row (dropped held t pass c).rows r h) [
+    elim (with_there fresh_row (dropped held t gone c).rows r h) [
       | inl e ↦ inl (sym (ap (λ (q : Row). q.number) e), sym (ap (λ (q : Row). q.key) e), ap (λ (q : Row). integer_in q.graph) e)
-      | inr m ↦ inr ((Contains-filter (λ (row : Row). not (pass row)) c.rows r m.0).0, m.1)
+      | inr m ↦ inr ((Contains-filter (λ (row : Row). not (is_among gone row)) c.rows r m.0).0, m.1)
     ]
 
 grown_placed : RowsStayApart → (held key : List ℕ) (graph : List Kind) (ttl t : ℕ) (c : Cache) (place : ℕ) → block_size (length key) graph ≤ most_of c.conf → Sound c → c.next_number < 2 ^ 64 - 1
     → Grown 1 c (placed held key graph ttl t (block_size (length key) graph) c place)
 grown_placed law held key graph ttl t c place small sound few = record {
   shape = refl;
-  sound = record { apart = law.more fresh_row (dropped held t pass c).rows (law.picked (λ row. not (pass row)) c.rows sound.apart); below = below; one = one; room = room };
+  sound = record { slots = sound.slots; apart = law.more fresh_row (dropped held t gone c).rows (law.picked (λ row. not (is_among gone row)) c.rows sound.apart); below = below; one = one; room = room };
   next = omega (arith, few);
   more = omega (arith, few);
   from = λ r h l. elim (placed_cases law held key graph ttl t n c place r h) [
@@ -226,8 +232,8 @@ grown_placed law held key graph ttl t c place small sound few = record {
     n : ℕ
     n = block_size (length key) graph
 
-    pass : Row → Bool
-    pass row = is_in_slot c.conf (slot_of c.conf key) row && is_expired c.conf t row
+    gone : List Row
+    gone = expired_in c.conf t (slot_of c.conf key) c.rows
 
     fresh_row : Row
     fresh_row = record { key = key; graph = graph; ttl = ttl; ctime = t; mtime = t; atime = t; dtime = 0; hits = 0; place = place; size = n; number = c.next_number }
@@ -257,8 +263,8 @@ grown_placed law held key graph ttl t c place small sound few = record {
     ]
 
 -- where no gap is left after room was made, no row is
-pub no_row : (held : List ℕ) (n t : ℕ) (c : Cache) → gap_of (with_room held n t c) n ≡ None → (with_room held n t c).rows ≡ []
-no_row held n t c none = go (has_gap n first) refl (has_gap n second) refl none
+pub no_row : (held : List ℕ) (n t : ℕ) (c : Cache) → 1 ≤ c.conf.slots → gap_of (with_room held n t c) n ≡ None → (with_room held n t c).rows ≡ []
+no_row held n t c some none = go (has_gap n first) refl (has_gap n second) refl none
   where
     first : Cache
     first = swept held c
@@ -270,7 +276,7 @@ no_row held n t c none = go (has_gap n first) refl (has_gap n second) refl none
         → (if a then first else if b then second else expunged held t second).rows ≡ []
     go true e b f none = absurd (false≢true (sym (ap (λ (o : Option ℕ). is_some o) none) ∙ e))
     go false e true f none = absurd (false≢true (sym (ap (λ (o : Option ℕ). is_some o) none) ∙ f))
-    go false e false f none = filter_none (λ (row : Row). false) second.rows (λ row h. refl)
+    go false e false f none = filter_none (λ (row : Row). not (is_among (leaving c.conf second.rows) row)) second.rows (λ row h. ap not (among_there (leaving c.conf second.rows) row (all_leave c.conf second.rows row some h)))
 
 grown_put : RowsStayApart → (held key : List ℕ) (graph : List Kind) (ttl t : ℕ) (c room : Cache) (place : Option ℕ) → block_size (length key) graph ≤ most_of c.conf → Sub c room → Sound c → c.next_number < 2 ^ 64 - 1
     → Grown 1 c (put_in held key graph ttl t (block_size (length key) graph) room place).cache

@@ -18,7 +18,7 @@ use Rattle.script_read.specs.Generated.{Fetches, Stores, Counts, value_key, coun
 use Rattle.generated_laws.specs.Summary.{is_declined}
 use Rattle.generated_laws.proofs.Pigeons.{at_most, count_none, count_filter, pigeons}
 use Rattle.generated_laws.proofs.Pieces.{range_has}
-use Rattle.generated_laws.proofs.Laid.{OneSlot, IsRoomy}
+use Rattle.generated_laws.proofs.Laid.{IsRoomy}
 use Rattle.generated_laws.proofs.Names.{names_of}
 use Rattle.generated_laws.proofs.Turns.{Turn, Does, Watches, Ends, request_of, IsTurn, stores_in, times_in, sums_in, Good, IsShort, good_same}
 use Rattle.generated_laws.proofs.Stepping.{good_turn, not_declined}
@@ -151,12 +151,12 @@ are_short conf workers bodies p s = record {
   sums = λ i. omega (arith, s.short, done_most (sums_in i) (turns_of bodies) p.replies (low_all workers (sums_in i) (turns_of bodies) (sums_low workers i) s.ranged));
 }
 
-pub going_mark : OneSlot → (conf : Conf) (workers : ℕ) (bodies : List (List Turn)) (p : Play) (mark : Mark) (turn : Turn) → Setting conf workers bodies → turn_at (turns_of bodies) mark.worker (length (replies_of p mark.worker)) ≡ Some turn → Going conf workers bodies p
+pub going_mark : (conf : Conf) (workers : ℕ) (bodies : List (List Turn)) (p : Play) (mark : Mark) (turn : Turn) → Setting conf workers bodies → turn_at (turns_of bodies) mark.worker (length (replies_of p mark.worker)) ≡ Some turn → Going conf workers bodies p
     → Going conf workers bodies (after_wish p mark (wish_in_turn turn))
-going_mark law conf workers bodies p mark turn s at g = record {
+going_mark conf workers bodies p mark turn s at g = record {
   good = good_same conf (names_of workers) (after_wish p mark (wish_in_turn turn)).stage.cache (done stores_in + stores_in turn) (after stores_in) (λ i. done (times_in i) + times_in i turn) (λ i. after (times_in i)) (λ i. done (sums_in i) + sums_in i turn) (λ i. after (sums_in i))
       (more stores_in) (λ i. more (times_in i)) (λ i. more (sums_in i))
-      (good_turn law conf workers p.stage mark.mask turn (done stores_in) (λ i. done (times_in i)) (λ i. done (sums_in i)) s.roomy s.most (omega (arith, s.most, few_windows workers p.stage.windows g.windows)) (are_short conf workers bodies p s) (turn_ranged (IsTurn workers) lists mark.worker k turn s.ranged at) g.good);
+      (good_turn conf workers p.stage mark.mask turn (done stores_in) (λ i. done (times_in i)) (λ i. done (sums_in i)) s.roomy s.most (omega (arith, s.most, few_windows workers p.stage.windows g.windows)) (are_short conf workers bodies p s) (turn_ranged (IsTurn workers) lists mark.worker k turn s.ranged at) g.good);
   windows = windows_after workers mark.worker (opened mark.worker 0 (request_of turn) p.stage.cache) p.stage.windows (omega (arith, s.count, turn_within lists mark.worker k turn at, length-map bodies (λ (body : List Turn). body ++ Ends ∷ []))) (opens_one mark.worker turn p.stage.cache) g.windows;
   count = count;
 }
@@ -183,9 +183,9 @@ going_mark law conf workers bodies p mark turn s at g = record {
     count = length-set {A = List Reply} p.replies mark.worker (replies_of p mark.worker ++ reply ∷ []) ∙ g.count
 
 -- nor is any store or increment answered no
-pub going_stored : OneSlot → (conf : Conf) (workers : ℕ) (bodies : List (List Turn)) (p : Play) (mark : Mark) (turn : Turn) → Setting conf workers bodies → turn_at (turns_of bodies) mark.worker (length (replies_of p mark.worker)) ≡ Some turn → Going conf workers bodies p
+pub going_stored : (conf : Conf) (workers : ℕ) (bodies : List (List Turn)) (p : Play) (mark : Mark) (turn : Turn) → Setting conf workers bodies → turn_at (turns_of bodies) mark.worker (length (replies_of p mark.worker)) ≡ Some turn → Going conf workers bodies p
     → is_declined (request_of turn) (reply_in p.stage (event_of mark (wish_in_turn turn))) ≡ false
-going_stored law conf workers bodies p mark turn s at g =
+going_stored conf workers bodies p mark turn s at g =
     let lists = turns_of bodies in
-    not_declined law conf workers p.stage mark.mask turn (done_sum stores_in lists p.replies) (λ i. done_sum (times_in i) lists p.replies) (λ i. done_sum (sums_in i) lists p.replies) s.roomy s.most (omega (arith, s.most, few_windows workers p.stage.windows g.windows)) (are_short conf workers bodies p s)
+    not_declined conf workers p.stage mark.mask turn (done_sum stores_in lists p.replies) (λ i. done_sum (times_in i) lists p.replies) (λ i. done_sum (sums_in i) lists p.replies) s.roomy s.most (omega (arith, s.most, few_windows workers p.stage.windows g.windows)) (are_short conf workers bodies p s)
     (turn_ranged (IsTurn workers) lists mark.worker (length (replies_of p mark.worker)) turn s.ranged at) g.good

@@ -1,15 +1,18 @@
 -- Rows of a list: those with a key, those that a look-up finds, and those of a list with a new row.
-use Rattle.std.proofs.Common.{◌≡◌, ℕ, ◌&&◌, ◌⊎◌, inl, inr, Bool, true, false, not, cond, if◌then◌else◌, List, [], ◌∷◌, ◌++◌, map, Some, refl, ap, sym, ◌∙◌, subst}
+use Rattle.std.proofs.Common.{◌≡◌, ◌≢◌, ◌==◌, ℕ, zero, suc, ◌+◌, ◌%◌, ◌<◌, ◌≤◌, arith, filter, ◌&&◌, ◌⊎◌, inl, inr, Bool, true, false, not, cond, if◌then◌else◌, List, [], ◌∷◌, ◌++◌, map, Some, refl, ap, sym, ◌∙◌, subst}
 use Rattle.std.specs.Prelude.{Contains, find}
-use Rattle.std.specs.List.{list_any}
-use Rattle.std.proofs.lemmas.Bool.{and_parts, false≢true, not-true}
-use Rattle.std.proofs.lemmas.List.Elements.{Contains-append_cases}
+use Rattle.std.specs.List.{flat_map, list_any, range_with_len}
+use Rattle.std.proofs.lemmas.Bool.{and_parts, cases_Bool, eq-eqb, eqb-true, false≢true, not-true}
+use Rattle.std.proofs.lemmas.List.Elements.{Contains-append_cases, Contains-append_left, Contains-append_right}
 use Rattle.std.proofs.lemmas.Slice.Eq.{bytes_eq-Decides}
-use Rattle.seg_words.specs.Members.{Contains-cases, Contains-first, Contains-later, any_from, map_there, none_in_nil}
+use Rattle.seg_words.specs.Members.{Contains-cases, Contains-first, Contains-later, Contains-kept, any_from, map_there, none_in_nil}
+use Rattle.php_graph.specs.Numbers.{hash_of}
+use Rattle.apcu_model.specs.declared.conf.Conf.{Conf}
 use Rattle.apcu_model.specs.Cache.{Row, Cache, has_key}
-use Rattle.apcu_model.specs.Change.{with_row}
+use Rattle.apcu_model.specs.Change.{leaving, with_row}
 use Rattle.apcu_model.specs.Expiry.{is_hard_expired, live_row}
 use Rattle.apcu_model.specs.Rows.{are_apart}
+use Rattle.apcu_model.specs.Walk.{is_in_slot, slot_of}
 
 pub key_is : (key : List ℕ) (row : Row) → has_key key row ≡ true → row.key ≡ key
 key_is key row h = (bytes_eq-Decides row.key key).0 h
@@ -74,3 +77,25 @@ with_there new rows r h = go (list_any (has_key new.key) rows) refl h
         other : (b : Bool) → has_key new.key r ≡ b → Contains rows r → has_key new.key r ≡ false
         other true e l = absurd (false≢true (sym is ∙ any_from (has_key new.key) rows r l e))
         other false e l = e
+
+-- all rows go where all leave, if there is a slot at all
+slot_low : (hash slots : ℕ) → 1 ≤ slots → hash % slots < slots
+slot_low hash slots some = omega (arith, some)
+
+flat_from : (f : ℕ → List Row) (n a k : ℕ) (row : Row) → a ≤ k → k < a + n → Contains (f k) row → Contains (flat_map f (range_with_len a n)) row
+flat_from f zero a k row low high h = absurd (omega (arith, low, high))
+flat_from f (suc n) a k row low high h =
+    let rest = flat_map f (range_with_len (a + 1) n) in
+    elim (cases_Bool (a == k)) [
+      | inl same ↦ Contains-append_left (f a) rest row (subst (λ j. Contains (f j) row) (sym (eqb-true a k same)) h)
+      | inr other ↦
+          let apart : a ≢ k = λ e. false≢true (sym other ∙ eq-eqb a k e) in
+          Contains-append_right (f a) rest row (flat_from f n (a + 1) k row (omega (arith, low, apart)) (omega (arith, high)) h)
+    ]
+
+pub all_leave : (conf : Conf) (rows : List Row) (row : Row) → 1 ≤ conf.slots → Contains rows row → Contains (leaving conf rows) row
+unfolding leaving
+all_leave conf rows row some h =
+    let k = slot_of conf row.key in
+    flat_from (λ slot. filter (is_in_slot conf slot) rows) conf.slots 0 k row (omega arith) (omega (arith, slot_low (hash_of row.key) conf.slots some))
+    (Contains-kept (is_in_slot conf k) rows row h (eq-eqb k k refl))

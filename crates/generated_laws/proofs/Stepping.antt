@@ -23,7 +23,7 @@ use Rattle.generated_laws.specs.Summary.{is_no, is_declined}
 use Rattle.generated_laws.proofs.RowFacts.{key_is, found_there}
 use Rattle.generated_laws.proofs.Pigeons.{count_alike}
 use Rattle.generated_laws.proofs.Placing.{value_at, live_is, finds_own, finds_other, finds_changed}
-use Rattle.generated_laws.proofs.Laid.{OneSlot, IsRoomy, Alike, new_row, laid_changed, few_held}
+use Rattle.generated_laws.proofs.Laid.{IsRoomy, Alike, new_row, laid_changed, few_held}
 use Rattle.generated_laws.proofs.Names.{names_of, few_names, value_named, counter_named, value_small, counter_small, other_counter}
 use Rattle.generated_laws.proofs.Turns.{Turn, Does, Watches, Ends, request_of, IsTurn, stores_in, times_in, sums_in, begun_counters, counter_value, Good, good_same, good_looked, IsShort, few_begun, Inserted, inserted_so, good_store}
 
@@ -95,9 +95,9 @@ same_or_not a b = elim (cases_Bool (a == b)) [
 ]
 
 -- a counter that begins
-good_begun : OneSlot → (conf : Conf) (workers : ℕ) (held : List ℕ) (n step : ℕ) (c : Cache) (s : ℕ) (t u : ℕ → ℕ) → IsRoomy conf → workers ≤ 64 → length (filter (is_held held) c.removed) ≤ 64 → IsShort s u → n < 8 → t n ≡ 0
+good_begun : (conf : Conf) (workers : ℕ) (held : List ℕ) (n step : ℕ) (c : Cache) (s : ℕ) (t u : ℕ → ℕ) → IsRoomy conf → workers ≤ 64 → length (filter (is_held held) c.removed) ≤ 64 → IsShort s u → n < 8 → t n ≡ 0
     → Good conf (names_of workers) c s t u → Good conf (names_of workers) (inserted held (counter_key n) (kinds.Int (pos step) ∷ []) 0 false 0 c).cache s (stepped_times n t) (stepped_sums n step u)
-good_begun law conf workers held n step c s t u roomy most few short within fresh g =
+good_begun conf workers held n step c s t u roomy most few short within fresh g =
     subst (λ (x : Insertion). Good conf (names_of workers) x.cache s (stepped_times n t) (stepped_sums n step u)) (sym i.is) (record {
       laid = i.laid;
       expunges = g.expunges;
@@ -114,7 +114,7 @@ good_begun law conf workers held n step c s t u roomy most few short within fres
     graph = kinds.Int (pos step) ∷ []
 
     i : Inserted conf (names_of workers) held key graph c
-    i = inserted_so law conf (names_of workers) held key graph c roomy (few_names workers most) g.laid few (counter_named workers n within) (omega (arith, g.next, g.inserts, short.stores, few_begun t)) (counter_small n (kinds.Int (pos step)) within refl)
+    i = inserted_so conf (names_of workers) held key graph c roomy (few_names workers most) g.laid few (counter_named workers n within) (omega (arith, g.next, g.inserts, short.stores, few_begun t)) (counter_small n (kinds.Int (pos step)) within refl)
 
     new : Row
     new = new_row key graph (block_size (length key) graph) i.place c.next_number
@@ -212,9 +212,9 @@ good_on conf workers n step row c s t u short within low old found g = record {
     none k z (inl e) = absurd (omega (arith, own, subst (λ x. stepped_times n t x ≡ 0) e z))
     none k z (inr d) = omega (arith, at_other n k step d, g.none k (omega (arith, z)))
 
-good_counted : OneSlot → (conf : Conf) (workers : ℕ) (held : List ℕ) (n step : ℕ) (c : Cache) (s : ℕ) (t u : ℕ → ℕ) → IsRoomy conf → workers ≤ 64 → length (filter (is_held held) c.removed) ≤ 64 → IsShort s u → n < 8 → step < 100
+good_counted : (conf : Conf) (workers : ℕ) (held : List ℕ) (n step : ℕ) (c : Cache) (s : ℕ) (t u : ℕ → ℕ) → IsRoomy conf → workers ≤ 64 → length (filter (is_held held) c.removed) ≤ 64 → IsShort s u → n < 8 → step < 100
     → Good conf (names_of workers) c s t u → Good conf (names_of workers) (counted_at held (counter_key n) (pos step) 0 0 c (live_row (counter_key n) 0 c)).cache s (stepped_times n t) (stepped_sums n step u)
-good_counted law conf workers held n step c s t u roomy most few short within low g = go (same_or_not (t n) 0)
+good_counted conf workers held n step c s t u roomy most few short within low g = go (same_or_not (t n) 0)
   where
     key : List ℕ
     key = counter_key n
@@ -228,7 +228,7 @@ good_counted law conf workers held n step c s t u roomy most few short within lo
     go : (t n ≡ 0) ⊎ (t n ≡ 0 → ⊥) → After (counted_at held key (pos step) 0 0 c (live_row key 0 c)).cache
     go (inl fresh) =
         let nothing : live_row key 0 c ≡ None = sym is_live ∙ nothing_found (find (has_key key) c.rows) (g.values n within ∙ zero_value (t n) (u n) fresh) in
-        subst (λ (o : Option Row). After (counted_at held key (pos step) 0 0 c o).cache) (sym nothing) (good_begun law conf workers held n step c s t u roomy most few short within fresh g)
+        subst (λ (o : Option Row). After (counted_at held key (pos step) 0 0 c o).cache) (sym nothing) (good_begun conf workers held n step c s t u roomy most few short within fresh g)
     go (inr old) =
         let r = something_found (find (has_key key) c.rows) (kinds.Int (pos (u n)) ∷ []) (g.values n within ∙ some_value (t n) (u n) old) in
         let live : live_row key 0 c ≡ Some r.0 = sym is_live ∙ r.1 in
@@ -240,16 +240,16 @@ good_counted law conf workers held n step c s t u roomy most few short within lo
 
 -- ---- what is stored finds room
 
-not_declined_store : OneSlot → (conf : Conf) (workers : ℕ) (held : List ℕ) (worker n len : ℕ) (c : Cache) (s : ℕ) (t u : ℕ → ℕ) → IsRoomy conf → workers ≤ 64 → length (filter (is_held held) c.removed) ≤ 64 → IsShort s u → (worker < workers) × (n < 16) × (len < 200)
+not_declined_store : (conf : Conf) (workers : ℕ) (held : List ℕ) (worker n len : ℕ) (c : Cache) (s : ℕ) (t u : ℕ → ℕ) → IsRoomy conf → workers ≤ 64 → length (filter (is_held held) c.removed) ≤ 64 → IsShort s u → (worker < workers) × (n < 16) × (len < 200)
     → Good conf (names_of workers) c s t u → is_declined (request_of (Does worker (Stores n len))) (reply_to held 0 (request_of (Does worker (Stores n len))) c) ≡ false
-not_declined_store law conf workers held worker n len c s t u roomy most few short ranges g =
+not_declined_store conf workers held worker n len c s t u roomy most few short ranges g =
     let key = value_key worker n in
-    let i = inserted_so law conf (names_of workers) held key (kinds.Str (replicate len 120) ∷ []) c roomy (few_names workers most) g.laid few (value_named workers worker n ranges.0 ranges.1) (omega (arith, g.next, g.inserts, short.stores, few_begun t)) (value_small worker n len (omega (arith, ranges.0, most)) ranges.1 ranges.2) in
+    let i = inserted_so conf (names_of workers) held key (kinds.Str (replicate len 120) ∷ []) c roomy (few_names workers most) g.laid few (value_named workers worker n ranges.0 ranges.1) (omega (arith, g.next, g.inserts, short.stores, few_begun t)) (value_small worker n len (omega (arith, ranges.0, most)) ranges.1 ranges.2) in
     ap (λ (x : Insertion). not (is_stored x.answer)) i.is
 
-not_declined_count : OneSlot → (conf : Conf) (workers : ℕ) (held : List ℕ) (worker n step : ℕ) (c : Cache) (s : ℕ) (t u : ℕ → ℕ) → IsRoomy conf → workers ≤ 64 → length (filter (is_held held) c.removed) ≤ 64 → IsShort s u → n < 8
+not_declined_count : (conf : Conf) (workers : ℕ) (held : List ℕ) (worker n step : ℕ) (c : Cache) (s : ℕ) (t u : ℕ → ℕ) → IsRoomy conf → workers ≤ 64 → length (filter (is_held held) c.removed) ≤ 64 → IsShort s u → n < 8
     → Good conf (names_of workers) c s t u → is_declined (request_of (Does worker (Counts n step))) (reply_to held 0 (request_of (Does worker (Counts n step))) c) ≡ false
-not_declined_count law conf workers held worker n step c s t u roomy most few short within g = go (same_or_not (t n) 0)
+not_declined_count conf workers held worker n step c s t u roomy most few short within g = go (same_or_not (t n) 0)
   where
     key : List ℕ
     key = counter_key n
@@ -263,7 +263,7 @@ not_declined_count law conf workers held worker n step c s t u roomy most few sh
     go : (t n ≡ 0) ⊎ (t n ≡ 0 → ⊥) → After (counted_at held key (pos step) 0 0 c (live_row key 0 c))
     go (inl fresh) =
         let nothing : live_row key 0 c ≡ None = sym is_live ∙ nothing_found (find (has_key key) c.rows) (g.values n within ∙ zero_value (t n) (u n) fresh) in
-        let i = inserted_so law conf (names_of workers) held key (kinds.Int (pos step) ∷ []) c roomy (few_names workers most) g.laid few (counter_named workers n within) (omega (arith, g.next, g.inserts, short.stores, few_begun t)) (counter_small n (kinds.Int (pos step)) within refl) in
+        let i = inserted_so conf (names_of workers) held key (kinds.Int (pos step) ∷ []) c roomy (few_names workers most) g.laid few (counter_named workers n within) (omega (arith, g.next, g.inserts, short.stores, few_begun t)) (counter_small n (kinds.Int (pos step)) within refl) in
         subst (λ (o : Option Row). After (counted_at held key (pos step) 0 0 c o)) (sym nothing) (ap (λ (x : Insertion). is_no (number_reply (begun (pos step) x).number)) i.is)
     go (inr old) =
         let r = something_found (find (has_key key) c.rows) (kinds.Int (pos (u n)) ∷ []) (g.values n within ∙ some_value (t n) (u n) old) in
@@ -272,25 +272,25 @@ not_declined_count law conf workers held worker n step c s t u roomy most few sh
         subst (λ (o : Option Row). After (counted_at held key (pos step) 0 0 c o)) (sym live)
         (subst (λ (o : Option ℤ). After (counted_on key (pos step) 0 c o)) (sym is) refl)
 
-pub not_declined : OneSlot → (conf : Conf) (workers : ℕ) (m : Stage) (mask : ℕ) (turn : Turn) (s : ℕ) (t u : ℕ → ℕ) → IsRoomy conf → workers ≤ 64 → length m.windows ≤ 64 → IsShort s u → IsTurn workers turn → Good conf (names_of workers) m.cache s t u
+pub not_declined : (conf : Conf) (workers : ℕ) (m : Stage) (mask : ℕ) (turn : Turn) (s : ℕ) (t u : ℕ → ℕ) → IsRoomy conf → workers ≤ 64 → length m.windows ≤ 64 → IsShort s u → IsTurn workers turn → Good conf (names_of workers) m.cache s t u
     → is_declined (request_of turn) (reply_to (held_places m mask) 0 (request_of turn) m.cache) ≡ false
-not_declined law conf workers m mask turn s t u roomy most windows short ranges g = go turn ranges (few_held conf (names_of workers) m mask g.laid windows)
+not_declined conf workers m mask turn s t u roomy most windows short ranges g = go turn ranges (few_held conf (names_of workers) m mask g.laid windows)
   where
     held : List ℕ
     held = held_places m mask
 
     go : (turn : Turn) → IsTurn workers turn → length (filter (is_held held) m.cache.removed) ≤ 64 → is_declined (request_of turn) (reply_to held 0 (request_of turn) m.cache) ≡ false
     go (Does worker (Fetches owner n)) r few = refl
-    go (Does worker (Stores n len)) r few = not_declined_store law conf workers held worker n len m.cache s t u roomy most few short r g
-    go (Does worker (Counts n step)) r few = not_declined_count law conf workers held worker n step m.cache s t u roomy most few short r.0 g
+    go (Does worker (Stores n len)) r few = not_declined_store conf workers held worker n len m.cache s t u roomy most few short r g
+    go (Does worker (Counts n step)) r few = not_declined_count conf workers held worker n step m.cache s t u roomy most few short r.0 g
     go (Watches n) r few = refl
     go Ends r few = refl
 
 -- ---- any turn
 
-pub good_turn : OneSlot → (conf : Conf) (workers : ℕ) (m : Stage) (mask : ℕ) (turn : Turn) (s : ℕ) (t u : ℕ → ℕ) → IsRoomy conf → workers ≤ 64 → length m.windows ≤ 64 → IsShort s u → IsTurn workers turn → Good conf (names_of workers) m.cache s t u
+pub good_turn : (conf : Conf) (workers : ℕ) (m : Stage) (mask : ℕ) (turn : Turn) (s : ℕ) (t u : ℕ → ℕ) → IsRoomy conf → workers ≤ 64 → length m.windows ≤ 64 → IsShort s u → IsTurn workers turn → Good conf (names_of workers) m.cache s t u
     → Good conf (names_of workers) (cache_after (held_places m mask) 0 (request_of turn) m.cache) (s + stores_in turn) (λ i. t i + times_in i turn) (λ i. u i + sums_in i turn)
-good_turn law conf workers m mask turn s t u roomy most windows short ranges g = go turn ranges
+good_turn conf workers m mask turn s t u roomy most windows short ranges g = go turn ranges
   where
     names : List (List ℕ)
     names = names_of workers
@@ -307,9 +307,9 @@ good_turn law conf workers m mask turn s t u roomy most windows short ranges g =
     go : (turn : Turn) → IsTurn workers turn → Good conf names (cache_after held 0 (request_of turn) m.cache) (s + stores_in turn) (λ i. t i + times_in i turn) (λ i. u i + sums_in i turn)
     go (Does worker (Fetches owner n)) r = same (looked_up (value_key owner n) 0 (live_row (value_key owner n) 0 m.cache) m.cache) (good_looked conf names (value_key owner n) (live_row (value_key owner n) 0 m.cache) m.cache s t u g)
     go (Does worker (Stores n len)) r =
-        good_same conf names (cache_after held 0 (request_of (Does worker (Stores n len))) m.cache) (s + 1) (s + 1) t (λ i. t i + 0) u (λ i. u i + 0) refl (λ i. omega arith) (λ i. omega arith) (good_store law conf workers held worker n len m.cache s t u roomy most few short r g)
+        good_same conf names (cache_after held 0 (request_of (Does worker (Stores n len))) m.cache) (s + 1) (s + 1) t (λ i. t i + 0) u (λ i. u i + 0) refl (λ i. omega arith) (λ i. omega arith) (good_store conf workers held worker n len m.cache s t u roomy most few short r g)
     go (Does worker (Counts n step)) r =
         good_same conf names (cache_after held 0 (request_of (Does worker (Counts n step))) m.cache) s (s + 0) (stepped_times n t) (stepped_times n t) (stepped_sums n step u) (stepped_sums n step u) (omega arith) (λ i. refl) (λ i. refl)
-        (good_counted law conf workers held n step m.cache s t u roomy most few short r.0 r.1 g)
+        (good_counted conf workers held n step m.cache s t u roomy most few short r.0 r.1 g)
     go (Watches n) r = same (looked_up (counter_key n) 0 (live_row (counter_key n) 0 m.cache) m.cache) (good_looked conf names (counter_key n) (live_row (counter_key n) 0 m.cache) m.cache s t u g)
     go Ends r = same m.cache g

@@ -144,11 +144,11 @@ stage-joined : (m : Stage) (before between : List Event) → after_events m (bef
 stage-joined m [] between = refl
 stage-joined m (e ∷ before) between = stage-joined (after_event m e) before between
 
-pub played_counted : RowsStayApart → (conf : Conf) (scripts : List (List Step)) (before between : List Mark) (p q : Play) (first second : Row) (n : ℤ) → length (before ++ between) ≤ 4194304 → AreRanged scripts
+pub played_counted : RowsStayApart → (conf : Conf) (scripts : List (List Step)) (before between : List Mark) (p q : Play) (first second : Row) (n : ℤ) → 1 ≤ conf.slots → length (before ++ between) ≤ 4194304 → AreRanged scripts
     → played conf scripts before ≡ Some p → played conf scripts (before ++ between) ≡ Some q → Contains p.stage.cache.rows first → Contains q.stage.cache.rows second
     → first.key ≡ second.key → first.number ≡ second.number → integer_in first.graph ≡ Some n → none_swaps first.key p.stage (events_from conf scripts p between) ≡ true
     → integer_in second.graph ≡ Some (counted_up n (steps_on first.key (events_from conf scripts p between)))
-played_counted law conf scripts before between p q first second n short ranged a b there there' same number is none =
+played_counted law conf scripts before between p q first second n some short ranged a b there there' same number is none =
     let o = nothing_played conf scripts in
     let on = played-joined conf scripts o p q before between a b in
     let early = events_from conf scripts o before in
@@ -158,5 +158,5 @@ played_counted law conf scripts before between p q first second n short ranged a
     let count : length (early ++ late) ≤ 4194304 = omega (arith, short, e.1, l.1, length-append before between, length-append early late) in
     let deep = shallow_joined early late (told_shallow conf scripts o before ranged) (told_shallow conf scripts p between ranged) in
     let end : stage_of conf (early ++ late) ≡ q.stage = stage-joined (start_of conf) early late ∙ (ap (λ m. after_events m late) e.0 ∙ l.0) in
-    counting.counted law conf early late first second n count deep (subst (λ (m : Stage). Contains m.cache.rows first) (sym e.0) there) (subst (λ (m : Stage). Contains m.cache.rows second) (sym end) there') same number is
+    counting.counted law conf early late first second n some count deep (subst (λ (m : Stage). Contains m.cache.rows first) (sym e.0) there) (subst (λ (m : Stage). Contains m.cache.rows second) (sym end) there') same number is
     (subst (λ m. none_swaps first.key m late ≡ true) (sym e.0) none)

@@ -19,7 +19,7 @@ use Rattle.script_read.specs.Generated.{Draw, Fetches, Stores, Counts, value_key
 use Rattle.generated_laws.specs.Summary.{stored_by, times_by, counted_by}
 use Rattle.generated_laws.proofs.Pigeons.{count_alike}
 use Rattle.generated_laws.proofs.Placing.{value_at, finds_other, finds_changed}
-use Rattle.generated_laws.proofs.Laid.{OneSlot, IsRoomy, Laid, Alike, Placed, new_row, laid_changed, laid_swept, laid_placed, placed_parts, inserts_so, no_row_there}
+use Rattle.generated_laws.proofs.Laid.{IsRoomy, Laid, Alike, Placed, new_row, laid_changed, laid_swept, laid_placed, placed_parts, inserts_so, no_row_there}
 use Rattle.generated_laws.proofs.Names.{names_of, few_names, value_named, value_small, counter_no_value}
 
 -- what a worker does in turn: a draw of its own, a look at a counter, or its end
@@ -139,9 +139,9 @@ pub record Inserted (conf : Conf) (names : List (List ℕ)) (held key : List ℕ
   pub laid : Laid conf names (placed held key graph 0 0 (block_size (length key) graph) (swept held c) place)
   pub rows : (placed held key graph 0 0 (block_size (length key) graph) (swept held c) place).rows ≡ with_row (new_row key graph (block_size (length key) graph) place c.next_number) c.rows
 
-pub inserted_so : OneSlot → (conf : Conf) (names : List (List ℕ)) (held key : List ℕ) (graph : List Kind) (c : Cache) → IsRoomy conf → length names ≤ 1032 → Laid conf names c → length (filter (is_held held) c.removed) ≤ 64 → Contains names key → c.next_number < 2 ^ 64 - 1
+pub inserted_so : (conf : Conf) (names : List (List ℕ)) (held key : List ℕ) (graph : List Kind) (c : Cache) → IsRoomy conf → length names ≤ 1032 → Laid conf names c → length (filter (is_held held) c.removed) ≤ 64 → Contains names key → c.next_number < 2 ^ 64 - 1
     → (0 < block_size (length key) graph) × (block_size (length key) graph ≤ 40) → Inserted conf names held key graph c
-inserted_so law conf names held key graph c roomy most laid few name next size = record {
+inserted_so conf names held key graph c roomy most laid few name next size = record {
   place = p.0;
   is = p.2;
   laid = laid_placed conf names held (new_row key graph n p.0 c.next_number) first (placed held key graph 0 0 n first p.0) parts (laid_swept conf names held c laid) few name refl next size.0 size.1
@@ -159,11 +159,11 @@ inserted_so law conf names held key graph c roomy most laid few name next size =
     p = inserts_so conf names held key graph c roomy most laid few size.1
 
     parts : Placed held (new_row key graph n p.0 c.next_number) first (placed held key graph 0 0 n first p.0)
-    parts = placed_parts law held key graph n first p.0 (subst (λ (f : Conf). 0 < f.slots) (sym laid.shape) roomy.some)
+    parts = placed_parts held key graph n first p.0
 
-pub good_store : OneSlot → (conf : Conf) (workers : ℕ) (held : List ℕ) (worker n len : ℕ) (c : Cache) (s : ℕ) (t u : ℕ → ℕ) → IsRoomy conf → workers ≤ 64 → length (filter (is_held held) c.removed) ≤ 64 → IsShort s u → (worker < workers) × (n < 16) × (len < 200)
+pub good_store : (conf : Conf) (workers : ℕ) (held : List ℕ) (worker n len : ℕ) (c : Cache) (s : ℕ) (t u : ℕ → ℕ) → IsRoomy conf → workers ≤ 64 → length (filter (is_held held) c.removed) ≤ 64 → IsShort s u → (worker < workers) × (n < 16) × (len < 200)
     → Good conf (names_of workers) c s t u → Good conf (names_of workers) (inserted held (value_key worker n) (kinds.Str (replicate len 120) ∷ []) 0 false 0 c).cache (s + 1) t u
-good_store law conf workers held worker n len c s t u roomy most few short ranges g =
+good_store conf workers held worker n len c s t u roomy most few short ranges g =
     subst (λ (x : Insertion). Good conf (names_of workers) x.cache (s + 1) t u) (sym i.is) (record {
       laid = i.laid;
       expunges = g.expunges;
@@ -180,7 +180,7 @@ good_store law conf workers held worker n len c s t u roomy most few short range
     graph = kinds.Str (replicate len 120) ∷ []
 
     i : Inserted conf (names_of workers) held key graph c
-    i = inserted_so law conf (names_of workers) held key graph c roomy (few_names workers most) g.laid few (value_named workers worker n ranges.0 ranges.1) (omega (arith, g.next, g.inserts, short.stores, few_begun t)) (value_small worker n len (omega (arith, ranges.0, most)) ranges.1 ranges.2)
+    i = inserted_so conf (names_of workers) held key graph c roomy (few_names workers most) g.laid few (value_named workers worker n ranges.0 ranges.1) (omega (arith, g.next, g.inserts, short.stores, few_begun t)) (value_small worker n len (omega (arith, ranges.0, most)) ranges.1 ranges.2)
 
     new : Row
     new = new_row key graph (block_size (length key) graph) i.place c.next_number

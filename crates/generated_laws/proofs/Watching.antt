@@ -20,7 +20,6 @@ use Rattle.script_read.specs.Play.{Play, replies_of, event_of, after_wish}
 use Rattle.play_laws.specs.Parts.{get_joined}
 use Rattle.script_read.specs.Generated.{counter_key}
 use Rattle.generated_laws.specs.Observer.{times_marked}
-use Rattle.generated_laws.proofs.Laid.{OneSlot}
 use Rattle.generated_laws.proofs.Placing.{value_at, live_is}
 use Rattle.generated_laws.proofs.Turns.{Turn, Watches, Ends, times_in, sums_in, counter_value}
 use Rattle.generated_laws.proofs.Stepping.{same_or_not}
@@ -119,11 +118,11 @@ pub record Watched (conf : Conf) (workers : ℕ) (first : List Turn) (others : L
 pub record AreEven (first : List Turn) (others : List (List Turn)) : Type 0 where
   pub each : (worker : ℕ) (turns : List Turn) → slice_get (map ended others) worker ≡ Some turns → length turns ≡ length first + 1
 
-pub watched_mark : OneSlot → (conf : Conf) (workers : ℕ) (first : List Turn) (others : List (List Turn)) (before : List Mark) (p : Play) (mark : Mark) (turn : Turn) → Setting conf workers (watched_bodies first others) → AreEven first others
+pub watched_mark : (conf : Conf) (workers : ℕ) (first : List Turn) (others : List (List Turn)) (before : List Mark) (p : Play) (mark : Mark) (turn : Turn) → Setting conf workers (watched_bodies first others) → AreEven first others
     → (mark.worker ≡ 0 → length first ≤ times_marked 0 before → (worker : ℕ) → 0 < worker → worker < workers → times_marked worker before ≡ length first + 1)
     → turn_at (turns_of (watched_bodies first others)) mark.worker (length (replies_of p mark.worker)) ≡ Some turn → Watched conf workers first others before p → Watched conf workers first others (before ++ mark ∷ []) (after_wish p mark (wish_in_turn turn))
-watched_mark law conf workers first others before p mark turn s even last at w = record {
-  going = going_mark law conf workers bodies p mark turn s at w.going;
+watched_mark conf workers first others before p mark turn s even last at w = record {
+  going = going_mark conf workers bodies p mark turn s at w.going;
   counted = λ worker h. count worker h (same_or_not worker mark.worker);
   seen = λ i reply h is. see i reply h (same_or_not 0 mark.worker) is;
 }

@@ -24,15 +24,17 @@ ghost use Rattle.generated_laws.specs.Observer.{wish_to_end, wishes_of_draws, wi
 ghost use Rattle.generated_laws.specs.Summary.{IsLarge, is_declined, summary_due, summary_of};
 ghost use Rattle.generated_laws.specs.Told.{AreRanged, events_from};
 
-use apcu_model::{order_single, rows_stay_apart};
+use apcu_model::rows_stay_apart;
 
 /// Between two points of a history at which the row of a key is the same one, its integer counts on
 /// by the steps of all increments on the key, as long as no compare-and-swap sets it: whatever else
-/// is done meanwhile, by whomever. So it does between two points of any legal journal. Where all
-/// fit 64 bits, it counts on by their sum modulo 2^64.
+/// is done meanwhile, by whomever. So it does between two points of any legal journal. The cache
+/// has a slot at least: with none no row would ever go for want of room. Where all fit 64 bits, it
+/// counts on by their sum modulo 2^64.
 pub fn counters_count()
     ensures counted { (conf : Conf) (before between : List Event) (first second : Row) (n : ℤ)
-        → length (before ++ between) ≤ MOST_EVENTS → IsTrue (are_shallow (before ++ between))
+        → 1 ≤ conf.slots → length (before ++ between) ≤ MOST_EVENTS
+        → IsTrue (are_shallow (before ++ between))
         → Contains (stage_of conf before).cache.rows first
         → Contains (stage_of conf (before ++ between)).cache.rows second
         → first.key ≡ second.key → first.number ≡ second.number → integer_in first.graph ≡ Some n
@@ -40,7 +42,7 @@ pub fn counters_count()
         → integer_in second.graph ≡ Some (counted_up n (steps_on first.key between)) }
     ensures journals { (conf : Conf) (scripts : List (List Step)) (before between : List Mark)
         (p q : Play) (first second : Row) (n : ℤ)
-        → length (before ++ between) ≤ MOST_EVENTS → AreRanged scripts
+        → 1 ≤ conf.slots → length (before ++ between) ≤ MOST_EVENTS → AreRanged scripts
         → played conf scripts before ≡ Some p → played conf scripts (before ++ between) ≡ Some q
         → Contains p.stage.cache.rows first → Contains q.stage.cache.rows second
         → first.key ≡ second.key → first.number ≡ second.number → integer_in first.graph ≡ Some n
@@ -75,9 +77,7 @@ pub fn summaries_agree()
         played conf scripts journal ≡ Some p → IsCompletePlay conf scripts journal
         → IsObservedLast workers calls journal
         → summary_of calls p ≡ summary_due (draws_of seed workers calls) }
-{
-    order_single();
-}
+{}
 
 /// What generated scripts want depends on nothing but how many replies there were: the draws in
 /// turn, then the observer's looks, then the end. All their calls are made at the moment 0, so they
