@@ -10,12 +10,12 @@ final class ReplyTexts
     /** The reply to the lines of one call. */
     public static function add(string $word, string $lines, mixed $answer, ?bool $success = null): void
     {
+        [$parts, Calls::$parts] = [Calls::$parts, null];
         if ($lines === '') {
             return;
         }
-        if (Calls::$parts !== null) {
-            self::add_parts(Calls::$parts, $answer);
-            Calls::$parts = null;
+        if ($parts !== null) {
+            self::add_parts($parts, $answer);
         } elseif ($word === 'apcu_delete' && \is_array($answer)) {
             Script::reply(\serialize(\array_values(\array_filter($answer, 'is_string'))) . "\n");
         } else {
