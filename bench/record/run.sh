@@ -58,6 +58,29 @@ check_answers() {
     echo "answers: $(grep -c '^[0-9]' "$of.plain") calls, the same with the recorder"
 }
 
+# A program goes on where the recorder can't, and one line says why.
+fault() {
+    local what=$1 words=$2 of="$work/fault"
+    shift 2
+    "$@" "$here/cost.php" 3000 >"$of.out" 2>"$of.err" || { echo "$what: the site did not go on" >&2; return 1; }
+    if [ "$(wc -l <"$of.err")" != 1 ] || ! grep -q "^apcu record: .*$words" "$of.err" || [ -s "$of.out" ]; then
+        echo "$what: another message" >&2
+        return 1
+    fi
+    echo "$what: $(cat "$of.err")"
+}
+
+check_faults() {
+    local prepended=(-d auto_prepend_file="$here/../../php/record.php")
+    : >"$work/file"
+    fault 'no folder' 'Failed to open stream' env APCU_RECORD_DIR="$work/file/none" "${recorded[@]}"
+    fault 'no uopz' 'uopz is not loaded' "${plain[@]}" "${prepended[@]}"
+    fault 'APCu is off' 'APCu is off' php -d extension=uopz -d apc.enable_cli=0 "${prepended[@]}"
+    # Where files may have so few bytes, a write ends as on a full disk.
+    (trap '' XFSZ && ulimit -f 100 && fault 'full disk' 'Write of' env APCU_RECORD_DIR="$work/full" "${recorded[@]}")
+    php "$here/../../php/join.php" "$work/full"/* >/dev/null 2>&1 || { echo 'full disk: no script' >&2; return 1; }
+}
+
 # Each suite's script is taken by the program, and its replies are APCu's.
 check_replies() {
     local name of failed=0
@@ -103,6 +126,7 @@ cost() {
 status=0
 check_suites || status=1
 check_answers || status=1
+check_faults || status=1
 [ -z "$program" ] || check_replies || status=1
 cost
 exit "$status"

@@ -148,8 +148,8 @@ final class Text
             $object instanceof \UnitEnum => 'enumeration',
             $object instanceof \Closure, (new \ReflectionClass($object))->isAnonymous() => 'unserializable',
             $object instanceof \Serializable,
-            \method_exists($object, '__serialize'),
-            \method_exists($object, '__sleep') => 'hooks',
+            \method_exists($object::class, '__serialize'),
+            \method_exists($object::class, '__sleep') => 'hooks',
             default => '',
         };
     }

@@ -7,7 +7,7 @@ declare(strict_types=1);
 
 function rendered(int $product): string
 {
-    return str_repeat("<p>Product $product is in stock.</p>\n", 50 + $product * 37 % 200);
+    return str_repeat("<p>Product $product is in stock.</p>\n", 50 + $product * 37 % 400);
 }
 
 function settings(): array
