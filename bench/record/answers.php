@@ -109,7 +109,7 @@ foreach ([
     ['-0' => 1, '007' => 2, PHP_INT_MIN => 3], [1.0], new Plain(), (object) ['5' => 1, '' => 2], $cycle, $deep, $deeper,
     [&$one, &$one], [$shared, $shared], $sleeper, [$told], Suit::Hearts, [Suit::Hearts], fn () => 1, [fn () => 1],
     new class {
-    }, $stream, [$stream], new ArrayObject([1]), new DateTimeImmutable('2020-01-01'), str_repeat('long', 500_000),
+    }, unserialize('O:7:"Unknown":1:{s:1:"x";i:1;}'), [['a"5";' => 1]], $stream, [$stream], new ArrayObject([1]), new DateTimeImmutable('2020-01-01'), str_repeat('long', 500_000),
 ] as $value) {
     shown(fn () => apcu_store('value', $value));
     shown(fn () => apcu_fetch('value'));
@@ -126,6 +126,8 @@ shown(fn () => apcu_store([]));
 shown(fn () => apcu_fetch(['m1', 'm2', 'm3', 'm4', 5, '5', 'm1', null, '']));
 shown(fn () => apcu_exists(['m1', 'm2', 5, '5', 'gone']));
 shown(fn () => apcu_delete(['m2', 5, 'gone']));
+shown(fn () => apcu_store('odd', apcu_fetch(['5', 'm1'])));
+shown(fn () => apcu_store(apcu_fetch(['5', 'm1'])));
 shown(fn () => apcu_fetch(5));
 shown(fn () => apcu_fetch(null));
 shown(fn () => apcu_exists(5.0));

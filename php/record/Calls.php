@@ -16,7 +16,7 @@ final class Calls
     /** @var ?list<string> the keys of a store that became one line a key */
     public static ?array $parts = null;
 
-    /** Records a call before it is made. */
+    /** Records any other call. */
     public static function made(string $word, array $args): void
     {
         try {
@@ -26,10 +26,32 @@ final class Calls
         }
     }
 
+    /** Records a call of `apcu_fetch` for many keys, or a wrong one. */
+    public static function fetched(mixed $keys): void
+    {
+        try {
+            Script::call(
+                \is_array($keys) ? 'apcu_fetch ' . Text::keys($keys) . "\n" : self::look('apcu_fetch', $keys)
+            );
+        } catch (\Throwable $fault) {
+            Script::stop($fault->getMessage());
+        }
+    }
+
+    /** Records a call of `apcu_store`. */
+    public static function stored(int $count, mixed $key, mixed $value, mixed $ttl): void
+    {
+        try {
+            Script::call(self::store('apcu_store', $count, $key, $value, $ttl));
+        } catch (\Throwable $fault) {
+            Script::stop($fault->getMessage());
+        }
+    }
+
     public static function line(string $word, array $args): string
     {
         return match ($word) {
-            'apcu_store', 'apcu_add' => self::store($word, $args),
+            'apcu_store', 'apcu_add' => self::store($word, \count($args), ...$args + [null, null, 0]),
             'apcu_fetch', 'apcu_exists', 'apcu_delete' => self::look($word, $args[0] ?? null),
             'apcu_inc', 'apcu_dec' => self::count($word, $args),
             'apcu_cas' => self::swap($args),
@@ -39,16 +61,18 @@ final class Calls
         };
     }
 
-    public static function store(string $word, array $args): string
+    /** The lines of a store with so many arguments. */
+    public static function store(string $word, int $count, mixed $key, mixed $value, mixed $ttl): string
     {
         self::$parts = null;
-        $ttl = $args[2] ?? 0;
-        if (!self::is_ttl($ttl)) {
-            return self::left('argument', $args[0] ?? null);
+        if ($ttl !== 0 && !self::is_ttl($ttl)) {
+            return self::left('argument', $key);
         }
-        $key = $args[0] ?? null;
-        if (\is_string($key) && \array_key_exists(1, $args)) {
-            return self::pair($word, $key, $args[1], $ttl);
+        if (\is_string($key) && $count > 1) {
+            $text = Text::of($value);
+            return $text === null
+                ? self::left(Text::$why, $key)
+                : "$word " . \serialize($key) . " $text" . ($ttl === 0 ? "\n" : " i:$ttl;\n");
         }
         return \is_array($key) ? self::map($word, $key, $ttl) : self::left('argument');
     }
@@ -65,52 +89,39 @@ final class Calls
         return '';
     }
 
-    public static function key(string $key): string
-    {
-        return 's:' . \strlen($key) . ":\"$key\";";
-    }
-
-    private static function pair(string $word, string $key, mixed $value, int $ttl): string
-    {
-        $text = Text::of($value);
-        if ($text === null) {
-            return self::left(Text::$why, $key);
-        }
-        return "$word s:" . \strlen($key) . ":\"$key\"; $text" . ($ttl === 0 ? "\n" : " i:$ttl;\n");
-    }
-
     /**
      * A store of many keys. APCu makes one store after the other, and copies each value by itself. So where the values
      * may share something, and where one of them is refused, there is a line for each key.
      */
     private static function map(string $word, array $map, int $ttl): string
     {
-        $text = Text::of($map);
-        if ($text !== null && !Text::may_share($text)) {
-            return "$word $text" . ($ttl === 0 ? "\n" : " N; i:$ttl;\n");
+        $text = Text::of_array($map);
+        if ($text !== null && Text::$is_plain) {
+            return $ttl === 0 ? "$word $text\n" : "$word $text N; i:$ttl;\n";
         }
         $lines = '';
-        self::$parts = [];
+        $parts = [];
         foreach ($map as $key => $value) {
-            $line = self::pair($word, (string) $key, $value, $ttl);
+            $line = self::store($word, 2, (string) $key, $value, $ttl);
             $lines .= $line;
             if ($line !== '') {
-                self::$parts[] = (string) $key;
+                $parts[] = (string) $key;
             }
         }
+        self::$parts = $parts;
         return $lines;
     }
 
     private static function look(string $word, mixed $keys): string
     {
         return match (true) {
-            \is_string($keys) => "$word " . self::key($keys) . "\n",
+            \is_string($keys) => "$word " . \serialize($keys) . "\n",
             \is_array($keys) => "$word " . Text::keys($keys) . "\n",
             $word === 'apcu_delete' => $keys instanceof \APCUIterator
                 ? Iterators::deleted($keys)
                 : self::left('argument'),
             // As APCu does, but what an object says of itself is not asked for twice.
-            \is_scalar($keys), $keys === null => "$word " . self::key((string) $keys) . "\n",
+            \is_scalar($keys), $keys === null => "$word " . \serialize((string) $keys) . "\n",
             default => self::left('argument'),
         };
     }
@@ -121,7 +132,7 @@ final class Calls
         if (!\is_string($key) || !\is_int($step) || !self::is_ttl($ttl)) {
             return self::left('argument', $key);
         }
-        return "$word " . self::key($key) . " i:$step;" . ($ttl === 0 ? "\n" : " i:$ttl;\n");
+        return "$word " . \serialize($key) . " i:$step;" . ($ttl === 0 ? "\n" : " i:$ttl;\n");
     }
 
     private static function swap(array $args): string
@@ -130,13 +141,13 @@ final class Calls
         if (!\is_string($key) || !\is_int($expect) || !\is_int($set)) {
             return self::left('argument', $key);
         }
-        return 'apcu_cas ' . self::key($key) . " i:$expect; i:$set;\n";
+        return 'apcu_cas ' . \serialize($key) . " i:$expect; i:$set;\n";
     }
 
     private static function key_info(array $args): string
     {
         $key = $args[0] ?? null;
-        return \is_string($key) ? 'apcu_key_info ' . self::key($key) . "\n" : self::left('argument', $key);
+        return \is_string($key) ? 'apcu_key_info ' . \serialize($key) . "\n" : self::left('argument', $key);
     }
 
     private static function info(string $word, mixed $limited): string

@@ -51,7 +51,7 @@ final class Entries
         self::end();
         $has_run = \is_string($args[0] ?? null) && \is_callable($args[1] ?? null) && \is_int($args[2] ?? 0);
         if ($has_run) {
-            Script::call('apcu_fetch ' . Calls::key($args[0]) . "\n", $second);
+            Script::call('apcu_fetch ' . \serialize($args[0]) . "\n", $second);
             if (Script::$tells_replies) {
                 Script::reply("b:0;b:0;\n");
             }
@@ -67,7 +67,7 @@ final class Entries
         if ($text === null) {
             return Calls::left(Text::$why, $key);
         }
-        return 'apcu_entry ' . Calls::key($key) . " ($text)" . ($ttl === 0 ? "\n" : " i:$ttl;\n");
+        return 'apcu_entry ' . \serialize($key) . " ($text)" . ($ttl === 0 ? "\n" : " i:$ttl;\n");
     }
 
     private static function end(): void

@@ -26,7 +26,7 @@ final class Pattern
             return null;
         }
         $text = self::rewritten($parts[2]);
-        return $text === null ? null : Calls::key("/$text/" . (\str_contains($parts[3], 'i') ? 'i' : ''));
+        return $text === null ? null : \serialize("/$text/" . (\str_contains($parts[3], 'i') ? 'i' : ''));
     }
 
     /** Whether PCRE reads the pattern. */

@@ -7,14 +7,12 @@ namespace ApcuRecord;
 /** The script of this process: lines in a buffer, and behind it a file that no other process writes. */
 final class Script
 {
-    /** A buffer is written when it has more bytes than this. */
-    public const BUFFER = 65_536;
     /** A file that has as many is not written on: apcu_run takes 67,108,864 at most. */
     private const MOST = 62_000_000;
 
     public static bool $tells_replies = false;
     private static bool $is_off = false;
-    /** The lines that are not written yet. */
+    /** The lines that are not written yet; they are written when they have more than 65,536 bytes. */
     public static string $buffer = '';
     /** What `time` or `request` said last; and as it was where the buffer begins. */
     public static int $second = 0;
@@ -55,7 +53,7 @@ final class Script
             self::turn($now);
         }
         self::$buffer .= $lines;
-        if (\strlen(self::$buffer) > self::BUFFER) {
+        if (isset(self::$buffer[65_536])) {
             self::flush();
         }
     }

@@ -12,10 +12,21 @@ final class Text
     /** More members than these in one value are not looked through. */
     private const MEMBERS = 1_000_000;
     /** A longer text is copied only where there is memory for it. */
-    public const SHORT = 1_000_000;
+    private const SHORT = 1_000_000;
+    /** How a string begins that may spell a number; what may be a part that is shared. */
+    private const NUMBER = '/:"[0-9-]/';
+    private const SHARED = '/[rR]:[0-9]/';
 
     /** Why the last value was refused. */
     public static string $why = '';
+    /** Whether no part of the last array is shared with another one. */
+    public static bool $is_plain = false;
+    /**
+     * Takes plain values and throws at others. With uopz each call of a function is looked up, `is_string` too, and this
+     * is no call.
+     */
+    public static string|int|bool|null $plain = null;
+    public static string $string = '';
     /** @var array<string, string> why objects of a class are refused, or nothing */
     private static array $classes = [];
     /** @var array<int, true> the objects of this value that were met */
@@ -25,23 +36,35 @@ final class Text
     /** The value's text, or null. None of the site's code runs. */
     public static function of(mixed $value): ?string
     {
-        if (\is_string($value)) {
-            if (\strlen($value) <= self::SHORT || self::has_memory(\strlen($value))) {
-                return 's:' . \strlen($value) . ":\"$value\";";
-            }
+        if (\is_array($value)) {
+            return self::of_array($value);
+        }
+        try {
+            self::$plain = $value;
+        } catch (\TypeError) {
+            return self::of_all($value);
+        }
+        if (isset($value[self::SHORT]) && !self::has_memory(\strlen($value))) {
             self::$why = 'memory';
             return null;
         }
-        if (\is_int($value)) {
-            return "i:$value;";
+        return \serialize($value);
+    }
+
+    /** Most arrays have plain members, and no doubtful keys. */
+    public static function of_array(array $array): ?string
+    {
+        try {
+            foreach ($array as self::$plain);
+        } catch (\TypeError) {
+            return self::of_all($array);
         }
-        if ($value === null || \is_bool($value)) {
-            return $value === null ? 'N;' : ($value ? 'b:1;' : 'b:0;');
+        $text = \serialize($array);
+        if (\preg_match(self::NUMBER, $text) !== 0 || \preg_match(self::SHARED, $text) !== 0 || isset($text[self::SHORT])) {
+            return self::of_all($array);
         }
-        self::$met = [];
-        self::$members = 0;
-        self::$why = self::refused($value, 0);
-        return self::$why === '' ? self::serialized($value) : null;
+        self::$is_plain = true;
+        return $text;
     }
 
     /** A list of the keys that are strings; APCu passes over the others. */
@@ -58,25 +81,47 @@ final class Text
         return "a:$count:{{$text}}";
     }
 
-    /** Whether values of a text share something, or it looks as if they did. */
-    public static function may_share(string $text): bool
+    private static function of_all(mixed $value): ?string
     {
-        return \str_contains($text, ';r:') || \str_contains($text, ';R:');
-    }
-
-    private static function serialized(mixed $value): ?string
-    {
+        self::$met = [];
+        self::$members = 0;
+        self::$why = self::refused($value, 0);
+        if (self::$why !== '') {
+            return null;
+        }
         try {
             $text = \serialize($value);
         } catch (\Throwable) {
             self::$why = 'unserializable';
             return null;
         }
-        if (\strlen($text) <= self::SHORT || self::has_memory(\strlen($text))) {
-            return $text;
+        self::$is_plain = !\str_contains($text, ';r:') && !\str_contains($text, ';R:');
+        self::$met = [];
+        self::$why = match (true) {
+            isset($text[self::SHORT]) && !self::has_memory(\strlen($text)) => 'memory',
+            \preg_match(self::NUMBER, $text) !== 0 && self::has_number($value) => 'key',
+            default => '',
+        };
+        return self::$why === '' ? $text : null;
+    }
+
+    /** Whether an array in the value has a string for a key that spells a number, as APCu's own answers have. */
+    private static function has_number(mixed $value): bool
+    {
+        if (\is_object($value)) {
+            $id = \spl_object_id($value);
+            if (isset(self::$met[$id])) {
+                return false;
+            }
+            self::$met[$id] = true;
         }
-        self::$why = 'memory';
-        return null;
+        foreach ((array) $value as $key => $member) {
+            $is_number = \is_array($value) && \is_string($key) && $key === (string) (int) $key;
+            if ($is_number || (\is_array($member) || \is_object($member)) && self::has_number($member)) {
+                return true;
+            }
+        }
+        return false;
     }
 
     /** Whether a text of so many bytes may be copied some times, and the site still has room. */
@@ -90,27 +135,26 @@ final class Text
     /** Why a value in so many arrays and objects is refused, or nothing. */
     private static function refused(mixed $value, int $depth): string
     {
-        return match (true) {
-            \is_array($value) => self::in_array($value, $depth + 1),
-            \is_object($value) => self::in_object($value, $depth + 1),
-            \is_float($value) => 'double',
+        return match (\gettype($value)) {
+            'string', 'integer', 'boolean', 'NULL' => '',
+            'array' => self::in_members($value, $depth + 1),
+            'object' => self::in_object($value, $depth + 1),
+            'double' => 'double',
             default => 'resource',
         };
     }
 
-    private static function in_array(array $array, int $depth): string
+    private static function in_members(array $members, int $depth): string
     {
-        if (($why = self::too_many(\count($array), $depth)) !== '') {
-            return $why;
+        $count = \count($members);
+        self::$members += $count;
+        if ($depth >= self::DEPTH && ($count > 0 || $depth > self::DEPTH)) {
+            return 'depth';
         }
-        foreach ($array as $key => $value) {
-            // APCu's own answers can have such keys, and arrays that were made of them.
-            if (\is_string($key) && $key === (string) (int) $key) {
-                return 'key';
-            }
-            if (\is_string($value) || \is_int($value) || $value === null || \is_bool($value)) {
-                continue;
-            }
+        if (self::$members > self::MEMBERS) {
+            return 'members';
+        }
+        foreach ($members as $value) {
             if (($why = self::refused($value, $depth)) !== '') {
                 return $why;
             }
@@ -126,19 +170,7 @@ final class Text
             return $why;
         }
         self::$met[$id] = true;
-        $members = (array) $object;
-        if (($why = self::too_many(\count($members), $depth)) !== '') {
-            return $why;
-        }
-        foreach ($members as $value) {
-            if (\is_string($value) || \is_int($value) || $value === null || \is_bool($value)) {
-                continue;
-            }
-            if (($why = self::refused($value, $depth)) !== '') {
-                return $why;
-            }
-        }
-        return '';
+        return self::in_members((array) $object, $depth);
     }
 
     /** Code of the site's would run twice if the recorder serialized an object with hooks too. */
@@ -150,16 +182,6 @@ final class Text
             $object instanceof \Serializable,
             \method_exists($object::class, '__serialize'),
             \method_exists($object::class, '__sleep') => 'hooks',
-            default => '',
-        };
-    }
-
-    private static function too_many(int $count, int $depth): string
-    {
-        self::$members += $count;
-        return match (true) {
-            $depth > self::DEPTH || $depth === self::DEPTH && $count > 0 => 'depth',
-            self::$members > self::MEMBERS => 'members',
             default => '',
         };
     }

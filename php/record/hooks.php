@@ -7,35 +7,42 @@ declare(strict_types=1);
 
 namespace ApcuRecord;
 
-// The two calls that a site makes most: what is plain is written without any further call.
+// The two calls that a site makes most. With uopz each call of a function and each constant is looked up anew, so there
+// are few.
 \uopz_set_hook('apcu_fetch', static function (mixed $key = null): void {
-    if (!\is_string($key)) {
-        Calls::made('apcu_fetch', [$key]);
+    try {
+        Text::$string = $key;
+    } catch (\TypeError) {
+        Calls::fetched($key);
         return;
     }
     $now = \time();
     if ($now !== Script::$second) {
         Script::turn($now);
     }
-    $long = \strlen($key);
-    Script::$buffer .= "apcu_fetch s:$long:\"$key\";\n";
-    if (\strlen(Script::$buffer) > Script::BUFFER) {
+    Script::$buffer .= 'apcu_fetch ' . \serialize($key) . "\n";
+    if (isset(Script::$buffer[65_536])) {
         Script::flush();
     }
 });
-\uopz_set_hook('apcu_store', static function (mixed $key = null, mixed $value = null, mixed $ttl = 0): void {
-    if (!\is_string($value) || !\is_string($key) || $ttl !== 0 || \strlen($value) > Text::SHORT) {
-        Calls::made('apcu_store', \func_get_args());
+\uopz_set_hook('apcu_store', static function (mixed $key = null, mixed $value = [], mixed $ttl = 0): void {
+    try {
+        Text::$string = $key;
+        Text::$plain = $value;
+    } catch (\TypeError) {
+        Calls::stored(\func_num_args(), $key, $value, $ttl);
+        return;
+    }
+    if ($ttl !== 0 || isset($value[1_000_000])) {
+        Calls::stored(2, $key, $value, $ttl);
         return;
     }
     $now = \time();
     if ($now !== Script::$second) {
         Script::turn($now);
     }
-    $long = \strlen($key);
-    $size = \strlen($value);
-    Script::$buffer .= "apcu_store s:$long:\"$key\"; s:$size:\"$value\";\n";
-    if (\strlen(Script::$buffer) > Script::BUFFER) {
+    Script::$buffer .= 'apcu_store ' . \serialize($key) . ' ' . \serialize($value) . "\n";
+    if (isset(Script::$buffer[65_536])) {
         Script::flush();
     }
 });
