@@ -109,7 +109,8 @@ foreach ([
     ['-0' => 1, '007' => 2, PHP_INT_MIN => 3], [1.0], new Plain(), (object) ['5' => 1, '' => 2], $cycle, $deep, $deeper,
     [&$one, &$one], [$shared, $shared], $sleeper, [$told], Suit::Hearts, [Suit::Hearts], fn () => 1, [fn () => 1],
     new class {
-    }, unserialize('O:7:"Unknown":1:{s:1:"x";i:1;}'), [['a"5";' => 1]], $stream, [$stream], new ArrayObject([1]), new DateTimeImmutable('2020-01-01'), str_repeat('long', 500_000),
+    }, unserialize('O:7:"Unknown":1:{s:1:"x";i:1;}'), [['a"5";' => 1]], $stream, [$stream], new ArrayObject([1]),
+    new DateTimeImmutable('2020-01-01'), str_repeat('long', 500_000),
 ] as $value) {
     shown(fn () => apcu_store('value', $value));
     shown(fn () => apcu_fetch('value'));
@@ -178,7 +179,7 @@ shown(fn () => apcu_fetch(['entry', 'thrown', 'outer', 'inner', 'busy', 'named',
 
 shown(fn () => array_keys(apcu_key_info('m1')));
 shown(fn () => apcu_key_info('gone'));
-shown(fn () => array_keys(apcu_cache_info(true)) == array_diff(array_keys(apcu_cache_info()), ['']));
+shown(fn () => count(apcu_cache_info()) - count(apcu_cache_info(true)));
 shown(fn () => apcu_sma_info(limited: true)['num_seg']);
 shown(fn () => keys_of(new APCUIterator('/^m[0-9]$/')));
 shown(fn () => keys_of(new APCUIterator(null, APC_ITER_KEY | APC_ITER_TYPE, 2)));

@@ -1,8 +1,8 @@
 <?php
 
 // php compare.php SCRIPT REPLIES OUTPUT
-// Compares what apcu_run printed for a script of one process with what APCu answered. Each difference is told with the
-// row of docs/DIFFERENCES.md that names it; one that no row names makes the status 1.
+// Compares what apcu_run printed for a script of one process with what APCu answered. Differences are counted by the row
+// of docs/DIFFERENCES.md that names them; where no row names one the status is 1, and the first ten of these are told.
 
 declare(strict_types=1);
 
@@ -32,9 +32,9 @@ foreach (lines_of(opened($script)) as $line) {
     if ($asked !== $got) {
         $row = row_of($seen, $line, (string) $asked, (string) $got);
         $named[$row] = ($named[$row] ?? 0) + 1;
-        if ($row === null) {
-            $unnamed++;
-            tell('call ' . $calls . ': ' . cut($line) . '  APCu:     ' . cut((string) $asked) . '  this one: ' . cut((string) $got));
+        if ($row === null && $unnamed++ < 10) {
+            tell("call $calls: " . cut($line) . '  APCu:     ' . cut((string) $asked)
+                . '  this one: ' . cut((string) $got));
         }
     }
     $seen->made($line);
@@ -47,6 +47,7 @@ if ($theirs->valid() || $ours->current() !== "journal\n") {
 }
 echo "$calls calls, ", $calls - array_sum($named), " replies the same\n";
 unset($named['']);
+echo $unnamed === 0 ? '' : "  $unnamed: no row\n";
 foreach ($named as $row => $count) {
     echo "  $count: $row\n";
 }

@@ -6,12 +6,13 @@ declare(strict_types=1);
 
 namespace ApcuRecord;
 
-/** What the calls so far tell of keys: which of them stand for a value that was left out, and when a row's time is over. */
+/** What the calls so far tell of keys: for which of them a value was left out, and when a row's time is over. */
 final class Seen
 {
     private const ROWS = [
         'double' => 'No doubles', 'enumeration' => 'No enumerations', 'hooks' => 'Objects are data',
-        'depth' => 'How deep values nest', 'key' => 'One text for each value', 'argument' => 'Arguments are not converted',
+        'depth' => 'How deep values nest', 'key' => 'One text for each value',
+        'argument' => 'Arguments are not converted',
         'entry in a generator' => 'A generator is written, not run', 'pattern' => 'No back-references',
         'search by an array' => 'Slashes and one flag', 'iterator' => 'Deleting by an iterator',
     ];

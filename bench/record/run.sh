@@ -1,7 +1,7 @@
 #!/usr/bin/env bash
 # Debian's suites for PSR-6 and PSR-16 over Symfony's cache on PHP's APCu, with and without php/record.php: the results
-# are the same. Where a program is given, it plays what was recorded, and each reply is compared with APCu's. Then what
-# recording costs.
+# are the same. Where a program is given, it plays what was recorded, random calls too, and each reply is compared with
+# APCu's. Then what recording costs.
 # Usage: bench/record/run.sh [PROGRAM]; it needs php-apcu, php-uopz, phpunit, php-symfony-cache, php-psr-simple-cache
 # and php-cache-integration-tests. KEEP=FOLDER in the environment keeps what was recorded.
 set -eu
@@ -81,19 +81,30 @@ check_faults() {
     php "$here/../../php/join.php" "$work/full"/* >/dev/null 2>&1 || { echo 'full disk: no script' >&2; return 1; }
 }
 
-# Each suite's script is taken by the program, and its replies are APCu's.
+# The script of one process is taken by the program, and its replies are APCu's.
+check_script() {
+    local name=$1 of
+    of=$(ls "$work/$name.replies"/*.apcu)
+    of=${of%.apcu}
+    "$program" --shm-size 64M <"$of.apcu" >"$of.output" || { echo "$name: $of.apcu is not played" >&2; return 1; }
+    printf '%s: ' "$name"
+    php "$here/compare.php" "$of.apcu" "$of.replies" "$of.output"
+}
+
+# Random calls, of a moment or over some seconds, as bench/calls makes them.
+random_calls() {
+    APCU_RECORD_DIR="$work/$1.$2.replies" APCU_RECORD_REPLIES=1 "${recorded[@]}" -d apc.shm_size=64M \
+        "$here/../calls/fuzz.php" "$1" "$2" "$3" printed >/dev/null
+}
+
 check_replies() {
-    local name of failed=0
-    for name in "${suites[@]}"; do
-        for of in "$work/$name.replies"/*.apcu; do
-            of=${of%.apcu}
-            "$program" <"$of.apcu" >"$of.output" || { echo "$name: $of.apcu is not played" >&2; return 1; }
-            printf '%s: ' "$name"
-            php "$here/compare.php" "$of.apcu" "$of.replies" "$of.output" || failed=1
-        done
-    done
+    local name failed=0
+    random_calls seconds 1 400 &
+    for name in 1 2 3; do random_calls moment "$name" 2000; done
+    wait $!
+    for name in "${suites[@]}" seconds.1 moment.{1,2,3}; do check_script "$name" || failed=1; done
     # Each script of the odd calls is taken, too.
-    php "$here/../../php/join.php" "$work/answers"/* 2>/dev/null | "$program" --shm-size 64M >/dev/null
+    php "$here/../../php/join.php" "$work/answers"/* 2>/dev/null | "$program" --shm-size 64M >/dev/null || failed=1
     return "$failed"
 }
 
@@ -115,7 +126,8 @@ cost() {
         spent "${plain[@]}" -d apc.shm_size=128M "$here/cost.php" 100000 >>"$work/cost.plain"
         spent "${loaded[@]}" -d apc.shm_size=128M "$here/cost.php" 100000 >>"$work/cost.loaded"
         rm -rf "$work/cost"
-        APCU_RECORD_DIR="$work/cost" spent "${recorded[@]}" -d apc.shm_size=128M "$here/cost.php" 100000 >>"$work/cost.recorded"
+        APCU_RECORD_DIR="$work/cost" spent "${recorded[@]}" -d apc.shm_size=128M "$here/cost.php" 100000 \
+            >>"$work/cost.recorded"
     done
     echo "100,000 stores and fetches, processor time of the whole program, median of 5 runs:"
     for run in plain loaded recorded; do

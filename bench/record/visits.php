@@ -1,6 +1,7 @@
 <?php
 
-// Makes so many visits to the shop in site/: php visits.php URL COUNT SEED. Few products are asked for often, most of them seldom.
+// php visits.php URL COUNT SEED: makes so many visits to the shop in site/. Few products are asked for often, most of
+// them seldom.
 
 declare(strict_types=1);
 

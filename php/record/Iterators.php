@@ -97,6 +97,7 @@ final class Iterators
 
     private static function fields(int $format): string
     {
-        return Text::keys(\array_keys(\array_filter(self::FIELDS, static fn (int $bit): bool => ($format & $bit) !== 0)));
+        $asked = \array_filter(self::FIELDS, static fn (int $bit): bool => ($format & $bit) !== 0);
+        return Text::keys(\array_keys($asked));
     }
 }

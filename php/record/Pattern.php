@@ -74,7 +74,8 @@ final class Pattern
         $is_negated = $class[1] === '^';
         $sign = self::CLASS_SIGN;
         $forms = "~(?<same>\\\\[dws])|(?<low>$sign)-(?<high>$sign)|(?<sign>$sign|-)~i";
-        \preg_match_all($forms, \substr($class, $is_negated ? 2 : 1, -1), $members, \PREG_SET_ORDER | \PREG_UNMATCHED_AS_NULL);
+        $flags = \PREG_SET_ORDER | \PREG_UNMATCHED_AS_NULL;
+        \preg_match_all($forms, \substr($class, $is_negated ? 2 : 1, -1), $members, $flags);
         $text = '';
         foreach ($members as $member) {
             $text .= match (true) {

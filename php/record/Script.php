@@ -14,6 +14,8 @@ final class Script
     private static bool $is_off = false;
     /** The lines that are not written yet; they are written when they have more than 65,536 bytes. */
     public static string $buffer = '';
+    /** APCu reads the clock that begins with the machine, and the time of day with apc.use_request_time. */
+    public static bool $is_by_day = false;
     /** What `time` or `request` said last; and as it was where the buffer begins. */
     public static int $second = 0;
     private static int $second_before = 0;
@@ -28,10 +30,12 @@ final class Script
     private static int $size = 0;
     private static string $reason = '';
 
-    public static function begin(int $request, bool $tells_replies): void
+    public static function begin(): void
     {
-        self::$request = self::$second = self::$second_before = $request;
-        self::$tells_replies = $tells_replies;
+        self::$is_by_day = (bool) \ini_get('apc.use_request_time');
+        self::$request = self::$is_by_day ? (int) $_SERVER['REQUEST_TIME'] : self::now();
+        self::$second = self::$second_before = self::$request;
+        self::$tells_replies = \getenv('APCU_RECORD_REPLIES') === '1';
         // From there on uopz shows no calls any more.
         \register_shutdown_function(self::flush(...));
         if (\function_exists('pcntl_fork')) {
@@ -48,7 +52,7 @@ final class Script
         if ($lines === '') {
             return;
         }
-        $now ??= \time();
+        $now ??= self::now();
         if ($now !== self::$second) {
             self::turn($now);
         }
@@ -56,6 +60,11 @@ final class Script
         if (isset(self::$buffer[65_536])) {
             self::flush();
         }
+    }
+
+    public static function now(): int
+    {
+        return self::$is_by_day ? \time() : (int) (\hrtime(true) / 1e9);
     }
 
     /** The second of the lines from here on. */

@@ -22,8 +22,8 @@ final class Text
     /** Whether no part of the last array is shared with another one. */
     public static bool $is_plain = false;
     /**
-     * Takes plain values and throws at others. With uopz each call of a function is looked up, `is_string` too, and this
-     * is no call.
+     * Takes plain values and throws at others. With uopz each call of a function is looked up, `is_string` too; this is
+     * no call.
      */
     public static string|int|bool|null $plain = null;
     public static string $string = '';
@@ -60,11 +60,8 @@ final class Text
             return self::of_all($array);
         }
         $text = \serialize($array);
-        if (\preg_match(self::NUMBER, $text) !== 0 || \preg_match(self::SHARED, $text) !== 0 || isset($text[self::SHORT])) {
-            return self::of_all($array);
-        }
-        self::$is_plain = true;
-        return $text;
+        self::$is_plain = \preg_match(self::NUMBER, $text) === 0 && \preg_match(self::SHARED, $text) === 0;
+        return self::$is_plain && !isset($text[self::SHORT]) ? $text : self::of_all($array);
     }
 
     /** A list of the keys that are strings; APCu passes over the others. */

@@ -16,7 +16,7 @@ namespace ApcuRecord;
         Calls::fetched($key);
         return;
     }
-    $now = \time();
+    $now = Script::$is_by_day ? \time() : (int) (\hrtime(true) / 1e9);
     if ($now !== Script::$second) {
         Script::turn($now);
     }
@@ -37,7 +37,7 @@ namespace ApcuRecord;
         Calls::stored(2, $key, $value, $ttl);
         return;
     }
-    $now = \time();
+    $now = Script::$is_by_day ? \time() : (int) (\hrtime(true) / 1e9);
     if ($now !== Script::$second) {
         Script::turn($now);
     }

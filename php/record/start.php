@@ -15,12 +15,12 @@ require __DIR__ . '/Entries.php';
 
 // As it comes, uopz makes PHP go on behind `exit`.
 \uopz_allow_exit(true);
-Script::begin((int) $_SERVER['REQUEST_TIME'], \getenv('APCU_RECORD_REPLIES') === '1');
+Script::begin();
 if (Script::$tells_replies) {
     require __DIR__ . '/ReplyTexts.php';
-    require __DIR__ . '/replies.php';
+    require __DIR__ . '/hooks_replies.php';
 } else {
     require __DIR__ . '/hooks.php';
 }
-require __DIR__ . '/entry.php';
-require __DIR__ . '/iterators.php';
+require __DIR__ . '/hooks_entry.php';
+require __DIR__ . '/hooks_iterators.php';

@@ -8,7 +8,7 @@ namespace ApcuRecord;
     Entries::seen($key);
 });
 \uopz_set_return('apcu_entry', static function (mixed ...$args): mixed {
-    $second = \time();
+    $second = Script::now();
     Entries::begin();
     try {
         $answer = \apcu_entry(...$args);

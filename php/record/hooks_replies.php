@@ -1,7 +1,7 @@
 <?php
 
 // For tests: beside each line of the script, what APCu answered, as apcu_run prints it. Each call is made from here, so
-// a wrong call of a site with strict types may be taken; and a call that is made inside another of its name is not seen.
+// a wrong call of a site with strict types may be taken, and a call inside another one of its name is not seen.
 // No strict types: they would turn back what a site without them may hand over.
 
 namespace ApcuRecord;
