@@ -27,7 +27,7 @@ foreach ($settings as $setting) {
     echo line($setting, is_array($rows[$setting]) ? shown_all($rows[$setting]) : $rows[$setting]);
 }
 if ($page !== null) {
-    file_put_contents($page, page(basename($input), $rows)) !== false || give_up("$page cannot be written");
+    @file_put_contents($page, page(basename($input), $rows)) !== false || give_up("$page cannot be written");
 }
 
 /** The program, the page, the settings and the input. */
