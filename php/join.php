@@ -3,7 +3,7 @@
 // php join.php [--one] FILES.. > INPUT
 // One input of apcu_run from the scripts of several processes: a worker for each, in the order in which they started.
 // With --one there is one worker, which makes the calls of all processes in the order of their seconds. So the time is
-// the same for all, as it was for the site.
+// the same for all, as it was for the site. Of one second's order only that of each process is known.
 
 declare(strict_types=1);
 
@@ -76,20 +76,34 @@ function taken(array $scripts, int $most): array
     return $taken;
 }
 
-/** All calls in the order of their seconds, and those of one second in the order of the scripts. */
+/** All calls in the order of their seconds. In one second those of each process are spread evenly. */
 function write_merged(array $paths): void
 {
-    $parts = [];
-    foreach ($paths as $path) {
-        foreach (parts_of($path) as $part) {
-            $parts[$part[0]][] = $part[1];
+    $seconds = [];
+    foreach ($paths as $number => $path) {
+        foreach (parts_of($path) as [$second, $text]) {
+            $seconds[$second][$number][] = $text;
         }
     }
-    ksort($parts);
+    ksort($seconds);
     fwrite(STDOUT, "worker\n");
-    foreach ($parts as $texts) {
-        fwrite(STDOUT, implode($texts));
+    foreach ($seconds as $scripts) {
+        fwrite(STDOUT, implode(spread($scripts)));
     }
+}
+
+/** The parts of some scripts in one list: the parts of each in their order, at even distances. */
+function spread(array $scripts): array
+{
+    $places = $texts = [];
+    foreach ($scripts as $parts) {
+        foreach ($parts as $place => $text) {
+            $places[] = ($place + 0.5) / count($parts);
+            $texts[] = $text;
+        }
+    }
+    asort($places);
+    return array_map(static fn (int $at): string => $texts[$at], array_keys($places));
 }
 
 /** The calls of a script by their second, each part with its own lines `request` and `time`. */

@@ -7,11 +7,8 @@ namespace ApcuRecord;
 /** Where the files of this machine's processes go. */
 final class Folder
 {
-    /**
-     * The path of a process's files, without their endings, with the second in which its cache began: a server that is
-     * started anew has another cache. The folder is made where there is none.
-     */
-    public static function path(int $cache, int $process): string
+    /** The path of a process's files, without their endings. The folder is made where there is none. */
+    public static function path(int $process): string
     {
         $folder = \getenv('APCU_RECORD_DIR');
         if ($folder === false || $folder === '') {
@@ -19,7 +16,7 @@ final class Folder
         } elseif (!\is_dir($folder)) {
             \mkdir($folder, 0700, true);
         }
-        return "$folder/" . \preg_replace('/[^A-Za-z0-9.-]/', '_', (string) \gethostname()) . "-$cache-$process";
+        return "$folder/" . \preg_replace('/[^A-Za-z0-9.-]/', '_', (string) \gethostname()) . "-$process";
     }
 
     /** A folder for this user alone. It is not taken from another user, who could have put links there. */

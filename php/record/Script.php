@@ -23,7 +23,6 @@ final class Script
     private static string $replies = '';
     /** @var array<string, int> how many calls were left out, by kind */
     private static array $left = [];
-    private static int $cache = 0;
     private static string $path = '';
     private static int $process = 0;
     /** @var resource|null */
@@ -33,7 +32,6 @@ final class Script
 
     public static function begin(): void
     {
-        self::$cache = (int) (\apcu_cache_info(true)['start_time'] ?? 0);
         self::$is_by_day = (bool) \ini_get('apc.use_request_time');
         self::$request = self::$is_by_day ? (int) $_SERVER['REQUEST_TIME'] : self::now();
         self::$second = self::$second_before = self::$request;
@@ -156,7 +154,7 @@ final class Script
     private static function open(): void
     {
         self::$process = (int) \getmypid();
-        self::$path = Folder::path(self::$cache, self::$process);
+        self::$path = Folder::path(self::$process);
         $file = \fopen(self::$path . '.apcu', 'ab');
         if ($file === false) {
             throw new \RuntimeException(self::$reason);
