@@ -1,0 +1,63 @@
+<?php
+
+// php compare.php SCRIPT REPLIES OUTPUT
+// Compares what apcu_run printed for a script of one process with what APCu answered. Differences are counted by the row
+// of docs/DIFFERENCES.md that names them; where no row names one the status is 1, and the first ten of these are told.
+
+declare(strict_types=1);
+
+namespace ApcuRecord;
+
+require __DIR__ . '/../../php/lines.php';
+require __DIR__ . '/rows.php';
+
+[, $script, $replies, $output] = $argv;
+$theirs = lines_of(opened($replies));
+$ours = lines_of(opened($output));
+$ours->next(); // its first line is that of the worker
+$seen = new Seen();
+$named = [];
+$calls = $unnamed = 0;
+foreach (lines_of(opened($script)) as $line) {
+    if ($seen->sets_time($line)) {
+        continue;
+    }
+    for (; str_starts_with((string) $theirs->current(), 'left '); $theirs->next()) {
+        $seen->left($theirs->current());
+    }
+    [$asked, $got] = [$theirs->current(), $ours->current()];
+    $theirs->next();
+    $ours->next();
+    $calls++;
+    if ($asked !== $got) {
+        $row = row_of($seen, $line, (string) $asked, (string) $got);
+        $named[$row] = ($named[$row] ?? 0) + 1;
+        if ($row === null && $unnamed++ < 10) {
+            tell("call $calls: " . cut($line) . '  APCu:     ' . cut((string) $asked)
+                . '  this one: ' . cut((string) $got));
+        }
+    }
+    $seen->made($line);
+}
+for (; str_starts_with((string) $theirs->current(), 'left '); $theirs->next()) {
+    $seen->left($theirs->current());
+}
+if ($theirs->valid() || $ours->current() !== "journal\n") {
+    give_up('there are more replies than calls');
+}
+echo "$calls calls, ", $calls - array_sum($named), " replies the same\n";
+unset($named['']);
+echo $unnamed === 0 ? '' : "  $unnamed: no row\n";
+foreach ($named as $row => $count) {
+    echo "  $count: $row\n";
+}
+foreach ($seen->counts as $kind => $count) {
+    echo "  $count calls left out: $kind\n";
+}
+exit($unnamed === 0 ? 0 : 1);
+
+function cut(string $text): string
+{
+    $text = addcslashes(rtrim($text, "\n"), "\0..\37\177..\377");
+    return (strlen($text) > 200 ? substr($text, 0, 200) . '..' : $text) . "\n";
+}

@@ -1,0 +1,12 @@
+<?php
+
+// php cost.php COUNT: stores and fetches so many values of 100 bytes.
+
+declare(strict_types=1);
+
+$count = (int) $argv[1];
+$value = str_repeat('x', 100);
+for ($i = 0; $i < $count; $i++) {
+    apcu_store("key:$i", $value);
+    apcu_fetch("key:$i");
+}

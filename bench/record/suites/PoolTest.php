@@ -1,0 +1,14 @@
+<?php
+
+declare(strict_types=1);
+
+use Symfony\Component\Cache\Adapter\ApcuAdapter;
+
+/** The PSR-6 suite over APCu. */
+final class PoolTest extends Cache\IntegrationTests\CachePoolTest
+{
+    public function createCachePool()
+    {
+        return new ApcuAdapter('pool');
+    }
+}

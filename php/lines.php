@@ -1,0 +1,98 @@
+<?php
+
+// Lines of scripts and of what apcu_run prints. A string in them may have line feeds of its own.
+
+declare(strict_types=1);
+
+namespace ApcuRecord;
+
+/** The place behind the line that begins at a place, or null where the text ends before. */
+function line_end(string $text, int $at): ?int
+{
+    $size = strlen($text);
+    while (($at += strcspn($text, "\"\n", $at)) < $size) {
+        if ($text[$at] === "\n") {
+            return $at + 1;
+        }
+        // A string is so many bytes between quotes, and its length stands between the last two colons.
+        $digits = strrpos($text, ':', $at - 2 - $size) + 1;
+        $at += (int) substr($text, $digits, $at - 1 - $digits) + 2;
+        if ($at > $size) {
+            return null;
+        }
+    }
+    return null;
+}
+
+/**
+ * The lines of a stream, each with its line feed.
+ *
+ * @param resource $stream
+ * @return \Generator<int, string>
+ */
+function lines_of($stream): \Generator
+{
+    $text = '';
+    $at = 0;
+    while (true) {
+        $end = line_end($text, $at);
+        if ($end !== null) {
+            yield substr($text, $at, $end - $at);
+            $at = $end;
+            continue;
+        }
+        $more = (string) fread($stream, 1 << 20);
+        if ($more === '') {
+            break;
+        }
+        $text = substr($text, $at) . $more;
+        $at = 0;
+    }
+    if ($at < strlen($text)) {
+        yield substr($text, $at);
+    }
+}
+
+/** The first word of a line. */
+function word_of(string $line): string
+{
+    return substr($line, 0, strcspn($line, " \n"));
+}
+
+/** The second of a line `time` or `request`. */
+function second_of(string $line): int
+{
+    return (int) substr($line, (int) strpos($line, ':') + 1);
+}
+
+/** The first argument of a line, where it is a string. */
+function key_of(string $line): ?string
+{
+    return preg_match('/^[A-Za-z_]+ s:([0-9]+):"/', $line, $found) === 1
+        ? substr($line, strlen($found[0]), (int) $found[1])
+        : null;
+}
+
+/** How many members the array has that stands at a place, or null where none does. */
+function members_of(string $text, int $at = 0): ?int
+{
+    return preg_match('/\Ga:([0-9]+):/', $text, $found, 0, $at) === 1 ? (int) $found[1] : null;
+}
+
+/** A file that must be there. */
+function opened(string $path, string $mode = 'rb')
+{
+    $file = @fopen($path, $mode);
+    return $file === false ? give_up("$path: " . (error_get_last()['message'] ?? 'no such file')) : $file;
+}
+
+function tell(string $text): void
+{
+    fwrite(STDERR, "$text\n");
+}
+
+function give_up(string $text): never
+{
+    tell($text);
+    exit(1);
+}

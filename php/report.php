@@ -1,0 +1,75 @@
+<?php
+
+// php report.php [--program PATH] [--html FILE] [--try "OPTIONS"].. INPUT
+// Plays an input of apcu_run once for each setting, and prints what came of it, as a table and as an HTML page.
+
+declare(strict_types=1);
+
+namespace ApcuRecord;
+
+require __DIR__ . '/lines.php';
+require __DIR__ . '/report/play.php';
+require __DIR__ . '/report/page.php';
+
+const SETTINGS = [
+    '--shm-size 8M', '--shm-size 16M', '--shm-size 32M', '--shm-size 64M', '--shm-size 128M',
+    '--shm-size 32M --ttl 60', '--shm-size 32M --ttl 3600',
+    '--shm-size 16M --segments 2', '--shm-size 8M --segments 4',
+];
+
+[$program, $page, $settings, $input] = asked(array_slice($argv, 1));
+$played = with_questions($input);
+$rows = [];
+echo line('setting', array_values(COLUMNS));
+foreach ($settings as $setting) {
+    [$output, $message] = play($program, $setting, $played);
+    $rows[$setting] = $output === null ? $message : told($played, $output);
+    echo line($setting, is_array($rows[$setting]) ? shown_all($rows[$setting]) : $rows[$setting]);
+}
+if ($page !== null) {
+    @file_put_contents($page, page(basename($input), $rows)) !== false || give_up("$page cannot be written");
+}
+
+/** The program, the page, the settings and the input. */
+function asked(array $words): array
+{
+    [$program, $page, $settings, $inputs] = [dirname(__DIR__) . '/apcu_run', null, [], []];
+    while ($words !== []) {
+        $word = array_shift($words);
+        match ($word) {
+            '--program' => $program = (string) array_shift($words),
+            '--html' => $page = (string) array_shift($words),
+            '--try' => $settings[] = (string) array_shift($words),
+            default => $inputs[] = $word,
+        };
+    }
+    if (count($inputs) !== 1 || $inputs[0][0] === '-') {
+        give_up('usage: php report.php [--program PATH] [--html FILE] [--try "OPTIONS"].. INPUT');
+    }
+    if (!is_executable($program)) {
+        give_up("$program is no program: say where it is with --program");
+    }
+    return [$program, $page, $settings ?: SETTINGS, $inputs[0]];
+}
+
+/** A line of the table; or the message where there are no cells. */
+function line(string $setting, array|string $cells): string
+{
+    return is_string($cells)
+        ? sprintf("%-28s %s\n", $setting, $cells)
+        : vsprintf("%-28s %9s %8s %8s %8s %8s %10s %11s\n", [$setting, ...$cells]);
+}
+
+function shown_all(array $row): array
+{
+    return array_map(shown(...), array_keys($row), array_values($row));
+}
+
+function shown(string $name, int|float $value): string
+{
+    return match ($name) {
+        'rate' => sprintf('%.2f %%', 100 * $value),
+        'used', 'gap' => sprintf('%.2f MB', $value / 1_048_576),
+        default => (string) $value,
+    };
+}
