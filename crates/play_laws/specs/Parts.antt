@@ -2,9 +2,8 @@
 use Rattle.std.proofs.Common.{◌≡◌, ℕ, zero, suc, ◌+◌, Bool, true, false, cond, List, [], ◌∷◌, ◌++◌}
 use Rattle.std.proofs.Common.{map, take, drop, slice_get, length, Some, ◌⊎◌, inl, inr}
 use Rattle.std.proofs.Common.{refl, sym, ap, ◌∙◌, arith}
-use Rattle.std.specs.Prelude.{◌==◌, sum}
+use Rattle.std.specs.Prelude.{◌==◌}
 use Rattle.std.proofs.lemmas.List.{drop_more}
-use Rattle.std.proofs.lemmas.List.Sums.{sum-map, sum_by-cons}
 use Rattle.std.proofs.lemmas.Option.{slice_get_within, get_or_from_slice_get}
 use Rattle.apcu_model.specs.declared.event.Event.{Event}
 use Rattle.pin_table.specs.Events.{events_of}
@@ -52,9 +51,3 @@ take_joined [] ys j = let count : 0 + j ≡ j = omega arith in ap (λ k. take k 
 take_joined (x ∷ xs) ys j =
     let count : length (x ∷ xs) + j ≡ suc (length xs + j) = omega arith in
     ap (λ k. take k (x ∷ (xs ++ ys))) count ∙ ap (λ l. x ∷ l) (take_joined xs ys j)
-
--- the sum with one item more
-pub sum_step : {A : Type 0} (f : A → ℕ) (x : A) (xs : List A)
-    → sum (map f (x ∷ xs)) ≡ f x + sum (map f xs)
-sum_step f x xs =
-    sum-map f (x ∷ xs) ∙ (sum_by-cons f x xs ∙ ap (λ n. f x + n) (sym (sum-map f xs)))
