@@ -115,6 +115,7 @@ impl PairRow {
             return None;
         };
         let pair = self.row.get(k);
+        // Where both are there the first one is 2.
         if pair % 4 == 2 && n == 2 {
             return Some(2 * k);
         }
@@ -147,8 +148,8 @@ impl PairRow {
     }
 }
 
-// Which number of a pair is the second one, or where that is 0 the first one. The processor need
-// not guess it.
+// The last number of a pair that is not 0: 0 where the first one is there alone, and 1 for the
+// second one. The processor need not guess which it is.
 fn second_or_first(pair: u32) -> usize
     ensures { result ≡ min (pair % 4) 1 }
 {
