@@ -34,8 +34,11 @@ piece_even {conf} good =
     let whole : conf.words ≡ (2 * q) * conf.segments =
     sym (nat.div-add-mod' conf.words (2 * conf.segments))
     ∙ ap (λ (r : ℕ). q * (2 * conf.segments) + r) good.words_even
-    ∙ omega (arith, sym (nat.mul_assoc q 2 conf.segments),
-    ap (λ (x : ℕ). x * conf.segments) (nat.mul_comm q 2)) in
+    ∙ omega (
+      arith,
+      sym (nat.mul_assoc q 2 conf.segments),
+      ap (λ (x : ℕ). x * conf.segments) (nat.mul_comm q 2),
+    ) in
     let piece : conf.words / conf.segments ≡ 2 * q =
     ap (λ (x : ℕ). x / conf.segments) whole ∙ nat.mul-div_cancel (2 * q) some in
     omega arith
