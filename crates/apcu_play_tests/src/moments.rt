@@ -18,15 +18,16 @@ fn words_with(alloc: Global, value: &str) -> Result<Vec<String>, Fail> {
     Ok(words)
 }
 
-// What the script prints by the start of the request, and by the second of the line: with the
-// option, and without it.
+// A script, what it prints by the start of the request, and what by the second of the line.
+type Case = (&'static [u8], &'static [u8], &'static [u8]);
+
+// It prints the one with the option, and the other without it.
 fn expect_both(
     rt: &(impl Threads + Wait + Sync + Abort),
     alloc: Global,
-    script: &[u8],
-    by_request: &[u8],
-    by_line: &[u8],
+    case: Case,
 ) -> Result<(), Fail> {
+    let (script, by_request, by_line) = case;
     let words = words_with(alloc, "1")?;
     expect_of(
         rt,
@@ -42,66 +43,60 @@ fn expect_both(
 
 #[test]
 fn requests_and_lines(rt: HostRuntime) -> Result<(), Fail> {
-    // A row is fresh while its request lasts, however long that is, and expired in a later one.
-    let script = b"worker\n\
-        request i:100;\n\
-        apcu_store s:1:\"a\"; i:1; i:10;\n\
-        time i:200;\n\
-        apcu_fetch s:1:\"a\";\n\
-        request i:111;\n\
-        apcu_fetch s:1:\"a\";\n";
-    expect_both(
-        &rt,
-        rt.alloc(),
-        script,
-        b"worker 0\nb:1;\ni:1;b:1;\nb:0;b:0;\njournal\n0\n0\n0\n0\n",
-        b"worker 0\nb:1;\nb:0;b:0;\nb:0;b:0;\njournal\n0\n0\n0\n0\n",
-    )?;
-    // A row lasts as long as the request in which it was stored.
-    let script = b"worker\n\
-        request i:100;\n\
-        apcu_store s:1:\"a\"; i:1; i:1;\n\
-        time i:103;\n\
-        apcu_exists s:1:\"a\";\n\
-        request i:103;\n\
-        apcu_exists s:1:\"a\";\n";
-    expect_both(
-        &rt,
-        rt.alloc(),
-        script,
-        b"worker 0\nb:1;\nb:1;\nb:0;\njournal\n0\n0\n0\n0\n",
-        b"worker 0\nb:1;\nb:0;\nb:0;\njournal\n0\n0\n0\n0\n",
-    )?;
-    // Without a request all is at the second 0.
-    let script = b"worker\n\
-        time i:100;\n\
-        apcu_store s:1:\"a\"; i:1; i:10;\n\
-        time i:200;\n\
-        apcu_exists s:1:\"a\";\n";
-    expect_both(
-        &rt,
-        rt.alloc(),
-        script,
-        b"worker 0\nb:1;\nb:1;\njournal\n0\n0\n0\n",
-        b"worker 0\nb:1;\nb:0;\njournal\n0\n0\n0\n",
-    )?;
-    // A line `time` before the request's, and two lines `request` one after the other.
-    let script = b"worker\n\
-        time i:5;\n\
-        request i:100;\n\
-        request i:90;\n\
-        apcu_store s:1:\"a\"; i:1; i:10;\n\
-        time i:100;\n\
-        apcu_exists s:1:\"a\";\n\
-        time i:101;\n\
-        apcu_exists s:1:\"a\";\n";
-    expect_both(
-        &rt,
-        rt.alloc(),
-        script,
-        b"worker 0\nb:1;\nb:1;\nb:1;\njournal\n0\n0\n0\n0\n",
-        b"worker 0\nb:1;\nb:1;\nb:0;\njournal\n0\n0\n0\n0\n",
-    )
+    const CASES: &[Case] = &[
+        // A row is fresh while its request lasts, however long that is, and expired in a later one.
+        (
+            b"worker\n\
+            request i:100;\n\
+            apcu_store s:1:\"a\"; i:1; i:10;\n\
+            time i:200;\n\
+            apcu_fetch s:1:\"a\";\n\
+            request i:111;\n\
+            apcu_fetch s:1:\"a\";\n",
+            b"worker 0\nb:1;\ni:1;b:1;\nb:0;b:0;\njournal\n0\n0\n0\n0\n",
+            b"worker 0\nb:1;\nb:0;b:0;\nb:0;b:0;\njournal\n0\n0\n0\n0\n",
+        ),
+        // The script of the page on differences.
+        (
+            b"worker\n\
+            request i:100;\n\
+            apcu_store s:1:\"a\"; i:1; i:1;\n\
+            time i:103;\n\
+            apcu_exists s:1:\"a\";\n\
+            request i:103;\n\
+            apcu_exists s:1:\"a\";\n",
+            b"worker 0\nb:1;\nb:1;\nb:0;\njournal\n0\n0\n0\n0\n",
+            b"worker 0\nb:1;\nb:0;\nb:0;\njournal\n0\n0\n0\n0\n",
+        ),
+        // Without a request all is at the second 0.
+        (
+            b"worker\n\
+            time i:100;\n\
+            apcu_store s:1:\"a\"; i:1; i:10;\n\
+            time i:200;\n\
+            apcu_exists s:1:\"a\";\n",
+            b"worker 0\nb:1;\nb:1;\njournal\n0\n0\n0\n",
+            b"worker 0\nb:1;\nb:0;\njournal\n0\n0\n0\n",
+        ),
+        // A line `time` before the request's, and two lines `request` one after the other.
+        (
+            b"worker\n\
+            time i:5;\n\
+            request i:100;\n\
+            request i:90;\n\
+            apcu_store s:1:\"a\"; i:1; i:10;\n\
+            time i:100;\n\
+            apcu_exists s:1:\"a\";\n\
+            time i:101;\n\
+            apcu_exists s:1:\"a\";\n",
+            b"worker 0\nb:1;\nb:1;\nb:1;\njournal\n0\n0\n0\n0\n",
+            b"worker 0\nb:1;\nb:1;\nb:0;\njournal\n0\n0\n0\n0\n",
+        ),
+    ];
+    for case in CASES {
+        expect_both(&rt, rt.alloc(), *case)?;
+    }
+    Ok(())
 }
 
 // Each worker has its own request, and a script begins at the second 0.
