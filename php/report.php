@@ -8,6 +8,7 @@ declare(strict_types=1);
 namespace ApcuRecord;
 
 require __DIR__ . '/lines.php';
+require __DIR__ . '/report/map.php';
 require __DIR__ . '/report/play.php';
 require __DIR__ . '/report/page.php';
 
@@ -19,15 +20,15 @@ const SETTINGS = [
 
 [$program, $page, $settings, $input] = asked(array_slice($argv, 1));
 $played = with_questions($input);
-$rows = [];
+[$rows, $maps] = [[], []];
 echo line('setting', array_values(COLUMNS));
 foreach ($settings as $setting) {
     [$output, $message] = play($program, $setting, $played);
-    $rows[$setting] = $output === null ? $message : told($played, $output);
+    [$rows[$setting], $maps[$setting]] = $output === null ? [$message, []] : told($played, $output);
     echo line($setting, is_array($rows[$setting]) ? shown_all($rows[$setting]) : $rows[$setting]);
 }
 if ($page !== null) {
-    @file_put_contents($page, page(basename($input), $rows)) !== false || give_up("$page cannot be written");
+    @file_put_contents($page, page(basename($input), $rows, $maps)) !== false || give_up("$page cannot be written");
 }
 
 /** The program, the page, the settings and the input. */
