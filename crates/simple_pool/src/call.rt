@@ -1,0 +1,68 @@
+ghost use Rattle.std.specs.Prelude.{◌≡◌, true, IfOk};
+ghost use Rattle.simple_pool.specs.Names.{is_good_name};
+ghost use Rattle.simple_pool.specs.Requests.{ask_pattern, pool_bound};
+
+use crate::names::pool_pattern;
+use apcu_model::{Keys, Pairs, Pattern};
+use php_graph::{Bytes, Graph};
+use std::alloc::{AllocError, Global};
+
+/// A call on a pool.
+#[derive(Drop)]
+pub struct PoolCall {
+    /// The pool's name.
+    pub pool: Bytes,
+    pub ask: PoolAsk,
+}
+
+/// What is asked of a pool. Times to live are in seconds.
+#[derive(Drop)]
+pub enum PoolAsk {
+    /// The value of a key, or else the default.
+    Get(Bytes, Graph),
+    /// A value is set, for a time to live: where that is not positive, the key is deleted.
+    Set(Bytes, Graph, i64),
+    /// A value is set for ever.
+    SetPlain(Bytes, Graph),
+    Delete(Bytes),
+    /// All keys of the pool are deleted.
+    Clear,
+    /// The values of keys, or the default.
+    GetMany(Keys, Graph),
+    SetMany(Pairs, i64),
+    SetManyPlain(Pairs),
+    DeleteMany(Keys),
+    /// Whether a key is there.
+    Has(Bytes),
+}
+
+impl PoolCall {
+    /// The pattern of what the call goes over: where it clears, that of the pool's keys.
+    pub fn pattern(&self, alloc: Global) -> Result<Option<Pattern>, AllocError>
+        requires { is_good_name self.now.pool ≡ true }
+        ensures { IfOk result (λ pattern. pattern ≡ ask_pattern self.now.pool self.now.ask) }
+    {
+        match self.ask {
+            PoolAsk::Clear => Ok(Some(pool_pattern(alloc, self.pool.as_slice())?)),
+            _ => Ok(None),
+        }
+    }
+}
+
+impl PoolAsk {
+    /// How many events it makes at most, in a cache of so many slots.
+    pub fn events(&self, slots: u32) -> u64
+        ensures { result ≡ pool_bound slots self.now }
+    {
+        match self {
+            PoolAsk::Get(..)
+            | PoolAsk::Set(..)
+            | PoolAsk::SetPlain(..)
+            | PoolAsk::Delete(_)
+            | PoolAsk::Has(_) => 1,
+            PoolAsk::Clear => u64::from(slots),
+            PoolAsk::GetMany(keys, _) | PoolAsk::DeleteMany(keys) => u64::from(keys.len()),
+            PoolAsk::SetMany(pairs, _) | PoolAsk::SetManyPlain(pairs) => u64::from(pairs.len()),
+        }
+    }
+}

@@ -1,0 +1,11 @@
+//! Pools in the manner of PSR-16: several caches of their own within one. A pool keeps its key `k`
+//! under the cache's key `{name}k`.
+#![tactic(auto)]
+
+mod call;
+mod names;
+mod requests;
+
+pub use call::{PoolAsk, PoolCall};
+pub use names::{good_key, good_name, pool_key, pool_pattern};
+pub use requests::{POOL_STEP, request};
