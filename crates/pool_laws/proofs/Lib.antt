@@ -1,0 +1,12 @@
+pub mod Finding
+pub mod Chunks
+pub mod Steps
+pub mod Finds
+pub mod Names
+pub mod Counting
+pub mod Own
+pub mod Clearing
+pub mod Law
+pub mod ByCalls
+pub mod Tied
+mod Example

@@ -1,0 +1,5 @@
+use Rattle.pool_laws.proofs.Tied.{tied}
+use Rattle.pool_laws.proofs.laws.calls_are_tied.Goals as goal
+
+pub returns : goal.returns
+returns c = tied

@@ -1,0 +1,4 @@
+pub mod PoolKeys
+pub mod Maps
+pub mod Pools
+pub mod Calls

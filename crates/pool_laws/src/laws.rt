@@ -1,0 +1,35 @@
+ghost use Rattle.std.specs.Prelude.{◌≡◌, ℕ, List, Some};
+ghost use Rattle.apcu_model.specs.declared.conf.Conf.{Conf};
+ghost use Rattle.apcu_model.specs.declared.event.Event.{Event};
+ghost use Rattle.apcu_model.specs.declared.request.Request.{Request};
+ghost use Rattle.simple_pool.specs.declared.call.PoolCall.{PoolCall};
+ghost use Rattle.simple_pool.specs.Requests.{IsGoodCall, request_at};
+ghost use Rattle.pool_laws.specs.Calls.{AreTied, Asked, CallsLeaveAlone, CallsStandAlone, IsTied};
+ghost use Rattle.pool_laws.specs.Pools.{LeavesAlone, StandsAlone};
+
+use apcu_model::{events_keep, one_event_more};
+
+/// A pool keeps its keys in the cache beside all other keys. Where it is left alone, each reply to
+/// its events is what a map of its own would answer, that began empty and saw these events alone.
+pub fn pools_stand_alone()
+    ensures { (name : List ℕ) (conf : Conf) (history : List Event)
+        → LeavesAlone name conf history → StandsAlone name conf history }
+{
+    one_event_more();
+    events_keep();
+}
+
+/// The same of the events that a pool's calls asked, where each event is known with the pool whose
+/// call asked it.
+pub fn calls_stand_alone()
+    ensures { (name : List ℕ) (conf : Conf) (asked : List Asked) → AreTied asked
+        → CallsLeaveAlone name conf asked → CallsStandAlone name conf asked }
+{
+    pools_stand_alone();
+}
+
+/// What a call of a pool asks has the pool's form: it names keys of the pool, or clears it.
+pub fn calls_are_tied()
+    ensures { (call : PoolCall) (i : ℕ) (request : Request) → IsGoodCall call
+        → request_at call i ≡ Some request → IsTied (Some call.pool) request }
+{}

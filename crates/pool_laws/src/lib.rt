@@ -1,0 +1,6 @@
+//! Laws of pools: what a pool that keeps its keys under `{name}key` in the cache is answered.
+#![tactic(auto)]
+
+mod laws;
+
+pub use laws::{calls_are_tied, calls_stand_alone, pools_stand_alone};
