@@ -1,0 +1,9 @@
+mod Binding
+mod Written
+mod Steps
+mod Walking
+mod Rows
+mod Room
+mod Filling
+mod Playing
+mod Loaders

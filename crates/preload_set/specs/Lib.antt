@@ -1,0 +1,5 @@
+pub mod Bundle
+pub mod Reading
+pub mod Gives
+pub mod Ties
+pub mod Loader

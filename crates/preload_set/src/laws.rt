@@ -1,0 +1,53 @@
+//! Laws of bundles.
+
+ghost use Rattle.std.specs.Prelude.{◌≡◌, ◌≤◌, ◌+◌, ◌-◌, ℕ, List, length, Contains, Some, None};
+ghost use Rattle.std.specs.List.{AllByRecursion};
+ghost use Rattle.apcu_model.specs.declared.clock.Clock.{Clock};
+ghost use Rattle.apcu_model.specs.declared.conf.Conf.{Conf};
+ghost use Rattle.apcu_model.specs.declared.journal.Mark.{Mark};
+ghost use Rattle.apcu_model.specs.Conf.{IsGood};
+ghost use Rattle.script_read.specs.declared.script.Step.{Step};
+ghost use Rattle.script_read.specs.Budgets.{events_in};
+ghost use Rattle.script_read.specs.Clock.{timed};
+ghost use Rattle.script_read.specs.Patterns.{call_pattern};
+ghost use Rattle.script_read.specs.Play.{Play, played, script_of};
+ghost use Rattle.preload_set.specs.Bundle.{Record};
+ghost use Rattle.preload_set.specs.Ties.{BundlesTake, BundlesAgain, BundlesAreOne};
+ghost use Rattle.preload_set.specs.Loader.{loader_of, words_of, IsLoaded};
+
+use notation::readings_are_spellings;
+
+/// Records that are read are those that are written there, and those that are written are read. So
+/// bytes are one bundle at most.
+pub fn readings_are_bundles()
+    ensures takes { BundlesTake }
+    ensures again { BundlesAgain }
+    ensures one { BundlesAreOne }
+{
+    readings_are_spellings();
+}
+
+/// A loader's script is the same under each clock, makes an event for each record, and searches
+/// for nothing.
+pub fn loaders_only_store()
+    ensures timed { (clock : Clock) (records : List Record)
+        → timed clock (loader_of records) ≡ loader_of records }
+    ensures events { (slots : ℕ) (records : List Record)
+        → events_in slots (loader_of records) ≡ length records }
+    ensures patterns { (records : List Record) (step : Step)
+        → Contains (loader_of records) step → call_pattern step.call ≡ None }
+{}
+
+/// In a cache of one segment, a bundle whose blocks together fit beside the slots is loaded whole.
+/// The journal is that of the loader's worker alone: each of its stores and its end. Where a loader
+/// is played before the other workers, a longer journal begins with such a one, and the play goes
+/// through what is said here.
+pub fn bundles_load()
+    ensures { (conf : Conf) (scripts : List (List Step)) (worker : ℕ) (records : List Record)
+        (journal : List Mark) (p : Play)
+        → IsGood conf → conf.segments ≡ 1 → words_of records ≤ conf.words - conf.slots
+        → script_of scripts worker ≡ Some (loader_of records)
+        → AllByRecursion (λ mark. mark.worker ≡ worker) journal
+        → length journal ≡ length records + 1
+        → played conf scripts journal ≡ Some p → IsLoaded worker records p }
+{}
