@@ -1,0 +1,9 @@
+mod Made
+mod Finding
+mod Placing
+mod HeldFor
+mod Beginning
+mod Meeting
+mod Windows
+mod Playing
+mod Legality

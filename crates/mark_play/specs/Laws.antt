@@ -1,0 +1,20 @@
+-- What the crates below promise of all windows, entries and histories: see their public laws.
+use Rattle.std.specs.Prelude.{◌≡◌, ◌≤◌, true, List, length}
+use Rattle.apcu_model.specs.declared.conf.Conf.{Conf}
+use Rattle.apcu_model.specs.declared.event.Event.{Event}
+use Rattle.apcu_model.specs.declared.journal.TheConstants.{MOST_EVENTS}
+use Rattle.apcu_model.specs.History.{IsNumbered, are_shallow, stage_of}
+use Rattle.apcu_model.specs.Laws.{EventsKeep, HeldAlike, OneEventMore, RowsKeepNumbers}
+use Rattle.entry_slots.specs.Laws.{StandingLaws, WindowLaws}
+
+pub record PlayLaws : Type 0 where
+  pub windows : WindowLaws
+  pub standing : StandingLaws
+  pub more : OneEventMore
+  pub alike : HeldAlike
+  pub keep : EventsKeep
+  pub numbers : RowsKeepNumbers
+  -- rows of one number have one place, each worker has one window, and none is of a row that holds
+  -- null, a truth value or an integer
+  pub numbered : (conf : Conf) (history : List Event) → length history ≤ MOST_EVENTS
+      → are_shallow history ≡ true → IsNumbered (stage_of conf history)
