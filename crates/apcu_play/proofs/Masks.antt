@@ -9,7 +9,7 @@ use Rattle.std.proofs.lemmas.List.{append-nil}
 use Rattle.std.proofs.lemmas.List.Elements.{filter-append}
 use Rattle.std.proofs.lemmas.Grind.{flat_map-append}
 use Rattle.apcu_model.specs.History.{is_in_mask}
-use Rattle.apcu_play.specs.Output.{mask_text}
+use Rattle.reply_text.specs.Output.{mask_text}
 
 range_suc : (a n : ℕ) → range_with_len a (suc n) ≡ range_with_len a n ++ (a + n) ∷ []
 range_suc a zero = ap (λ k. k ∷ []) (sym (add-zero a))

@@ -8,7 +8,7 @@ use Rattle.std.proofs.lemmas.Option.{slice_get_within, get_or_from_slice_get}
 use Rattle.std.proofs.lemmas.Grind.{flat_map-append}
 use Rattle.apcu_model.specs.declared.journal.Mark.{Mark}
 use Rattle.script_read.specs.Grammar.{ends_line}
-use Rattle.apcu_play.specs.Output.{mark_line, worker_texts}
+use Rattle.reply_text.specs.Output.{mark_line, worker_texts}
 
 -- one mark more is written
 pub journal_goes_on : (before out next head : List ℕ) (marks : List Mark) (i : ℕ) (mark : Mark) → out ≡ before ++ (head ++ flat_map mark_line (take i marks)) → next ≡ out ++ mark_line mark → slice_get marks i ≡ Some mark

@@ -19,7 +19,7 @@ use Rattle.script_read.specs.Grammar.{AreScripts}
 use Rattle.script_read.specs.Budgets.{all_events, most_events}
 use Rattle.script_read.specs.Clock.{all_timed}
 use Rattle.script_read.specs.Patterns.{SomeRefusable}
-use Rattle.apcu_play.specs.Output.{output_of}
+use Rattle.reply_text.specs.Output.{output_of}
 
 -- the most bytes of input
 abbrev pub longest_input : ℕ

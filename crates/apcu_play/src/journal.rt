@@ -2,7 +2,7 @@
 
 ghost use Rattle.std.specs.Prelude.{◌≡◌, ◌++◌, ◌≤◌, OnOk};
 ghost use Rattle.std.specs.Fmt.{decimal};
-ghost use Rattle.apcu_play.specs.Output.{journal_lines, mark_line, mask_text};
+ghost use Rattle.reply_text.specs.Output.{journal_lines, mark_line, mask_text};
 
 use apcu_model::{Journal, Mark};
 use itoa::Buffer;

@@ -4,7 +4,7 @@ ghost use Rattle.script_read.specs.Budgets.{all_events, most_events};
 ghost use Rattle.script_read.specs.Clock.{all_timed};
 ghost use Rattle.script_read.specs.Patterns.{SomeRefusable};
 ghost use Rattle.crew_play.specs.declared.play.CrewFault.TheVariants.{TooMany, Pattern};
-ghost use Rattle.apcu_play.specs.Output.{worker_texts, IsOutput};
+ghost use Rattle.reply_text.specs.Output.{worker_texts, IsOutput};
 
 use crate::journal::write_journal;
 use apcu_iter::Maker;

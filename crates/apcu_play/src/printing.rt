@@ -3,7 +3,7 @@
 ghost use Rattle.std.specs.Prelude.{◌++◌, codes};
 ghost use Rattle.std.specs.Fmt.{decimal};
 ghost use Rattle.script_read.specs.Grammar.{ends_line};
-ghost use Rattle.apcu_play.specs.Output.{worker_texts};
+ghost use Rattle.reply_text.specs.Output.{worker_texts};
 ghost use Rattle.apcu_play.specs.Run.{WasWritten};
 
 use crate::play::Printed;

@@ -7,7 +7,7 @@ ghost use Rattle.io_edges.specs.Reading.{HasTaken, HasTakenWithin};
 ghost use Rattle.apcu_model.specs.Conf.{IsGood};
 ghost use Rattle.script_read.specs.Gives.{IsFirstScriptFault, ReadsScripts};
 ghost use Rattle.apcu_play.specs.Message.{message_of, script_message};
-ghost use Rattle.apcu_play.specs.Output.{worker_texts};
+ghost use Rattle.reply_text.specs.Output.{worker_texts};
 ghost use Rattle.conf_read.specs.Options.{settings_of};
 ghost use Rattle.apcu_play.specs.Run.{longest_input, WasRead, AnswersInput, Replays, ReplaysPart};
 ghost use Rattle.apcu_play.specs.Run.{IsRefusedAt, IsRefused, IsCrowded, IsUnsearchable};

@@ -11,7 +11,7 @@ use Rattle.apcu_model.specs.History.{is_in_mask, is_legal_mask, window_of}
 use Rattle.script_read.specs.declared.script.Step.{Step}
 use Rattle.script_read.specs.Play.{Wish, Play, wanted, replies_of, script_of, wish_of, after_wish, marked, played_from, played, nothing_played, IsLegal}
 use Rattle.reply_text.specs.Lines.{texts_of}
-use Rattle.apcu_play.specs.Output.{worker_texts, journal_lines, play_text, output_of}
+use Rattle.reply_text.specs.Output.{worker_texts, journal_lines, play_text, output_of}
 use Rattle.output_laws.proofs.Numbers.{both_true}
 use Rattle.output_laws.specs.InRange.{AreInRange}
 use Rattle.output_laws.proofs.Lines.{journal_told}

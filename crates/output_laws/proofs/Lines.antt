@@ -11,7 +11,7 @@ use Rattle.std.proofs.lemmas.Nat.Bits.{bit_at-lt, same_from_bits_below}
 use Rattle.apcu_model.specs.declared.journal.Mark.{Mark}
 use Rattle.apcu_model.specs.History.{is_in_mask}
 use Rattle.script_read.specs.Grammar.{ends_line}
-use Rattle.apcu_play.specs.Output.{mask_text, mark_line, journal_lines}
+use Rattle.reply_text.specs.Output.{mask_text, mark_line, journal_lines}
 use Rattle.output_laws.specs.InRange.{AreInRange}
 use Rattle.output_laws.proofs.Numbers.{is_digit, both_true, all-joined, decimal_digits, IsCut, number_told}
 

@@ -3,7 +3,7 @@ ghost use Rattle.apcu_model.specs.declared.conf.Conf.{Conf};
 ghost use Rattle.apcu_model.specs.declared.journal.Mark.{Mark};
 ghost use Rattle.script_read.specs.declared.script.Step.{Step};
 ghost use Rattle.script_read.specs.Play.{IsLegal};
-ghost use Rattle.apcu_play.specs.Output.{journal_lines, output_of};
+ghost use Rattle.reply_text.specs.Output.{journal_lines, output_of};
 ghost use Rattle.output_laws.specs.InRange.{AreInRange};
 
 /// What is printed tells its journal. Whatever marks are read off the end of an output, they are

@@ -3,3 +3,4 @@ pub mod Notes
 pub mod Items
 pub mod Fields
 pub mod Lines
+pub mod Output

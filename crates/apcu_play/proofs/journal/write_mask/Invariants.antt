@@ -1,5 +1,5 @@
 use Rattle.std.proofs.Common.{◌≡◌, ◌++◌}
-use Rattle.apcu_play.specs.Output.{mask_text}
+use Rattle.reply_text.specs.Output.{mask_text}
 use Rattle.apcu_play.proofs.journal.write_mask.Given as goal
 
 abbrev pub invariant-loop-worker : goal.invariant-loop-worker

@@ -1,5 +1,5 @@
 use Rattle.std.proofs.Common.{true, take}
-use Rattle.apcu_play.specs.Output.{worker_texts}
+use Rattle.reply_text.specs.Output.{worker_texts}
 use Rattle.apcu_play.specs.Run.{WasWritten}
 use Rattle.apcu_play.proofs.printing.print_texts.Given as goal
 
