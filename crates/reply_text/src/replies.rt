@@ -7,12 +7,13 @@ ghost use Rattle.std.specs.Fmt.{decimal};
 ghost use Rattle.php_graph.specs.Numbers.{int_of_text};
 ghost use Rattle.notation.specs.Keys.{written_key};
 ghost use Rattle.notation.specs.Notation.{array_head, integer_text, string_text};
-ghost use Rattle.apcu_model.specs.declared.request.Reply.TheVariants.{Gave, Totals};
+ghost use Rattle.apcu_model.specs.declared.request.Reply.TheVariants.{Found, Gave, Totals};
 ghost use Rattle.apcu_model.specs.Sequential.{number_reply, info_reply};
 ghost use Rattle.reply_text.specs.Replies.{flag_text, fetched, fetched_one, number_one, array_text};
 ghost use Rattle.reply_text.specs.Replies.{all_with, numbered, value_members, gave_one, info_one};
 ghost use Rattle.reply_text.specs.Items.{totals_one};
 
+use crate::value::Value;
 use itoa::Buffer;
 use notation::{ByteOut, write_key, write_value};
 use php_graph::{Bytes, Graph};
@@ -33,12 +34,24 @@ pub fn write_fetched(out: &mut ByteOut, found: Option<Graph>) -> Result<(), Allo
     ensures { OnOk result (out.new ≡ out.old ++ fetched_one (fetched found)) }
 {
     match found {
-        Some(value) => {
-            write_value(&value, 0, out)?;
-            out.push(b"b:1;")
-        }
-        None => out.push(b"b:0;b:0;"),
+        Some(value) => write_present(out, &value),
+        None => write_absent(out),
     }
+}
+
+// A value that a fetch found, and that it was there.
+pub(crate) fn write_present(out: &mut ByteOut, value: &Graph) -> Result<(), AllocError>
+    ensures { OnOk result (out.new ≡ out.old ++ fetched_one (Found value.now)) }
+{
+    write_value(value, 0, out)?;
+    out.push(b"b:1;")
+}
+
+// That nothing was there, or that nothing was counted.
+pub(crate) fn write_absent(out: &mut ByteOut) -> Result<(), AllocError>
+    ensures { OnOk result (out.new ≡ out.old ++ codes "b:0;b:0;") }
+{
+    out.push(b"b:0;b:0;")
 }
 
 // The number that a counter came to and that it counted, or that it did not.
@@ -166,17 +179,18 @@ pub fn write_numbered(out: &mut ByteOut, strings: &[&Bytes]) -> Result<(), Alloc
 
 // An array of these values under their keys, which is the first value of the reply.
 #[tactic(auto, using(crate::proofs::Printed::members_len))]
-pub fn write_values(out: &mut ByteOut, values: &[(&Bytes, Graph)]) -> Result<(), AllocError>
+pub fn write_values<V: Value>(out: &mut ByteOut, values: &[(&Bytes, V)]) -> Result<(), AllocError>
     requires { length values.now < 2 ^ 32 }
     ensures { OnOk result (out.new ≡ out.old ++ array_text
-        (value_members 1 (map (λ value. (value.0.now, value.1)) values.now))) }
+        (value_members 1 (map (λ value. (value.0.now, V.kinds_of value.1)) values.now))) }
 {
     write_head(out, values.len())?;
     let mut base = 1;
     for value in values {
         write_key(value.0.as_slice(), out)?;
-        write_value(&value.1, base, out)?;
-        base += u64::from(value.1.places());
+        let graph = value.1.graph();
+        write_value(graph, base, out)?;
+        base += u64::from(graph.places());
     }
     out.push(b"}")
 }

@@ -20,11 +20,11 @@ const MOST_NUMBERS: u64 = 1 << 55;
 
 // How far a walk's text has come.
 #[derive(Clone, Copy, Debug)]
-struct Reached {
+pub(crate) struct Reached {
     // The key of the next item.
-    key: u64,
+    pub key: u64,
     // How many values that take a number stand before it.
-    base: u64,
+    pub base: u64,
 }
 
 // What an item can tell, by the bits from 0 on.
@@ -61,7 +61,7 @@ fn write_item(
 }
 
 // The items of one step.
-fn write_items(
+pub(crate) fn write_items(
     out: &mut ByteOut,
     fields: Fields,
     rows: &[ItemRow],
