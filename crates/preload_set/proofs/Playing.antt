@@ -21,7 +21,7 @@ use Rattle.apcu_model.specs.Sequential.{is_stored}
 use Rattle.script_read.specs.declared.script.Step.{Step}
 use Rattle.script_read.specs.Play.{Wish, Play, wanted, replies_of, wish_of, script_of, event_of, after_wish, marked, played_from, played, nothing_played}
 use Rattle.preload_set.specs.Bundle.{Record}
-use Rattle.preload_set.specs.Loader.{loader_of, words_of, IsLoaded}
+use Rattle.preload_set.specs.Loader.{loader_of, words_of, IsLoaded, IsPlayedFirst}
 use Rattle.preload_set.proofs.Filling.{IsOne, Filled, IsStored, filled_first, record_stored}
 
 -- ---- what the loader wants
@@ -153,7 +153,21 @@ begins conf scripts worker script there = record {
   replies = slice_get-map (λ (s : List Step). []) scripts worker ∙ ap (option_map (λ (s : List Step). [])) there;
 }
 
-pub bundle_loads : (conf : Conf) (scripts : List (List Step)) (worker : ℕ) (records : List Record) (marks : List Mark) (q : Play) → IsGood conf → conf.segments ≡ 1 → words_of records ≤ conf.words - conf.slots → script_of scripts worker ≡ Some (loader_of records)
+bundle_loads : (conf : Conf) (scripts : List (List Step)) (worker : ℕ) (records : List Record) (marks : List Mark) (q : Play) → IsGood conf → conf.segments ≡ 1 → words_of records ≤ conf.words - conf.slots → script_of scripts worker ≡ Some (loader_of records)
     → AllBy worker marks → length marks ≡ length records + 1 → played conf scripts marks ≡ Some q → IsLoaded worker records q
 bundle_loads conf scripts worker records marks q good one room script own count is =
     goes_on conf scripts worker [] records marks (nothing_played conf scripts) q (record { even = good.slots_even; one = one }) (omega (arith, room, room_of good)) script own count (begins conf scripts worker (loader_of records) script) is
+
+-- what comes first can be played alone
+played_front : (conf : Conf) (scripts : List (List Step)) (p : Play) (own others : List Mark) (q : Play) → played_from conf scripts p (own ++ others) ≡ Some q → (m : Play) × (played_from conf scripts p own ≡ Some m)
+played_front conf scripts p [] others q is = (p, refl)
+played_front conf scripts p (mark ∷ own) others q is =
+    let a = then_some (λ (x : Play). played_from conf scripts x (own ++ others)) (marked conf scripts p mark) q is in
+    let b = played_front conf scripts a.0 own others q a.2 in
+    (b.0, ap (λ (o : Option Play). option_and_then (λ (x : Play). played_from conf scripts x own) o) a.1 ∙ b.1)
+
+pub bundle_comes_first : (conf : Conf) (scripts : List (List Step)) (worker : ℕ) (records : List Record) (own others : List Mark) (q : Play) → IsGood conf → conf.segments ≡ 1 → words_of records ≤ conf.words - conf.slots → script_of scripts worker ≡ Some (loader_of records)
+    → AllBy worker own → length own ≡ length records + 1 → played conf scripts (own ++ others) ≡ Some q → IsPlayedFirst conf scripts worker records own
+bundle_comes_first conf scripts worker records own others q good one room script by count is =
+    let m = played_front conf scripts (nothing_played conf scripts) own others q is in
+    record { play = m.0; plays = m.1; loaded = bundle_loads conf scripts worker records own m.0 good one room script by count m.1 }

@@ -5,13 +5,15 @@ use Rattle.std.specs.Option.{option_to_list}
 use Rattle.std.specs.Str.{bytes_eq}
 use Rattle.php_graph.specs.declared.kind.Kind.{Kind}
 use Rattle.php_graph.specs.Size.{block_size}
+use Rattle.apcu_model.specs.declared.conf.Conf.{Conf}
+use Rattle.apcu_model.specs.declared.journal.Mark.{Mark}
 use Rattle.apcu_model.specs.declared.request.Reply.TheVariants.{Flag, Ended}
 use Rattle.apcu_model.specs.Cache.{Cache, has_key}
 use Rattle.script_read.specs.declared.call.Call.TheVariants.{StoreOne}
 use Rattle.script_read.specs.declared.script.Step.{Step}
 use Rattle.script_read.specs.Arguments.{or_else}
 use Rattle.script_read.specs.Generated.{step_now}
-use Rattle.script_read.specs.Play.{Play, replies_of}
+use Rattle.script_read.specs.Play.{Play, replies_of, played}
 use Rattle.preload_set.specs.Bundle.{Record}
 
 -- each record in turn is stored for ever, over what its key had, at the moment 0
@@ -39,3 +41,10 @@ pub record IsLoaded (worker : ℕ) (records : List Record) (p : Play) : Type 0 w
   pub expunges : p.stage.cache.expunges ≡ 0
   pub values : (key : List ℕ)
       → values_at key p.stage.cache ≡ option_to_list (last_value key records)
+
+-- A journal of the worker's own events can be played, and then the records are loaded.
+pub record IsPlayedFirst (conf : Conf) (scripts : List (List Step)) (worker : ℕ)
+    (records : List Record) (own : List Mark) : Type 0 where
+  pub play : Play
+  pub plays : played conf scripts own ≡ Some play
+  pub loaded : IsLoaded worker records play

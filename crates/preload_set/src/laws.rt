@@ -1,6 +1,6 @@
 //! Laws of bundles.
 
-ghost use Rattle.std.specs.Prelude.{◌≡◌, ◌≤◌, ◌+◌, ◌-◌, ℕ, List, length, Contains, Some, None};
+ghost use Rattle.std.specs.Prelude.{◌≡◌, ◌≤◌, ◌+◌, ◌-◌, ◌++◌, ℕ, List, length, Contains, Some, None};
 ghost use Rattle.std.specs.List.{AllByRecursion};
 ghost use Rattle.apcu_model.specs.declared.clock.Clock.{Clock};
 ghost use Rattle.apcu_model.specs.declared.conf.Conf.{Conf};
@@ -13,7 +13,7 @@ ghost use Rattle.script_read.specs.Patterns.{call_pattern};
 ghost use Rattle.script_read.specs.Play.{Play, played, script_of};
 ghost use Rattle.preload_set.specs.Bundle.{Record};
 ghost use Rattle.preload_set.specs.Ties.{BundlesTake, BundlesAgain, BundlesAreOne};
-ghost use Rattle.preload_set.specs.Loader.{loader_of, words_of, IsLoaded};
+ghost use Rattle.preload_set.specs.Loader.{loader_of, words_of, IsPlayedFirst};
 
 use notation::readings_are_spellings;
 
@@ -38,16 +38,16 @@ pub fn loaders_only_store()
         → Contains (loader_of records) step → call_pattern step.call ≡ None }
 {}
 
-/// In a cache of one segment, a bundle whose blocks together fit beside the slots is loaded whole.
-/// The journal is that of the loader's worker alone: each of its stores and its end. Where a loader
-/// is played before the other workers, a longer journal begins with such a one, and the play goes
-/// through what is said here.
+/// In a cache of one segment, a bundle whose blocks together fit beside the slots is loaded whole,
+/// where its loader comes first: a journal that can be played begins with the loader's stores and
+/// its end, and whatever follows, the cache after these has just the bundle's values.
 pub fn bundles_load()
     ensures { (conf : Conf) (scripts : List (List Step)) (worker : ℕ) (records : List Record)
-        (journal : List Mark) (p : Play)
+        (own others : List Mark) (p : Play)
         → IsGood conf → conf.segments ≡ 1 → words_of records ≤ conf.words - conf.slots
         → script_of scripts worker ≡ Some (loader_of records)
-        → AllByRecursion (λ mark. mark.worker ≡ worker) journal
-        → length journal ≡ length records + 1
-        → played conf scripts journal ≡ Some p → IsLoaded worker records p }
+        → AllByRecursion (λ mark. mark.worker ≡ worker) own
+        → length own ≡ length records + 1
+        → played conf scripts (own ++ others) ≡ Some p
+        → IsPlayedFirst conf scripts worker records own }
 {}

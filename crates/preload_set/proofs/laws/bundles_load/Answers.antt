@@ -1,5 +1,5 @@
-use Rattle.preload_set.proofs.Playing.{bundle_loads}
+use Rattle.preload_set.proofs.Playing.{bundle_comes_first}
 use Rattle.preload_set.proofs.laws.bundles_load.Goals as goal
 
 pub returns : goal.returns
-returns c = bundle_loads
+returns c = bundle_comes_first
