@@ -7,3 +7,4 @@ mod Room
 mod Filling
 mod Playing
 mod Loaders
+mod Example
