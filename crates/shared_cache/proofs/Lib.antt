@@ -8,3 +8,4 @@ pub mod Turning
 pub mod Fetches
 pub mod Copies
 pub mod Undone
+mod Left

@@ -1,10 +1,14 @@
 -- What is left of a cache once all its workers have ended.
 use Rattle.std.specs.Prelude.{◌≡◌, ℕ, true, false, List, [], slice_get, Some}
 use mathlib.Core.List.{IsPrefix}
+use Rattle.seg_words.specs.declared.vec_words.VecWords.{VecWords}
+use Rattle.seg_words.specs.contracts.vec_words.VecWordsWordsIn.TheImpl as held
 use Rattle.apcu_model.specs.declared.conf.Conf.{Conf}
 use Rattle.apcu_model.specs.declared.event.Event.{Event}
 use Rattle.apcu_model.specs.Cache.{counts_of}
 use Rattle.apcu_model.specs.History.{start_of, stage_of, all_legal, marks_of}
+use Rattle.cache_core.specs.declared.cache.Core.{Core}
+use Rattle.cache_core.specs.Caching.{cache_of, CacheStands}
 use Rattle.pin_table.specs.Values.{Bearer}
 use Rattle.pin_table.specs.Events.{events_of}
 use Rattle.pin_table.specs.Lists.{known_list}
@@ -24,3 +28,11 @@ pub record IsClosed (conf : Conf) (workers : ℕ) (ended : List Bearer) (closed 
   pub own : (k : ℕ) (b : Bearer) → slice_get ended k ≡ Some b
       → events_of b.known.worker history ≡ b.known.own
   pub others : (w : ℕ) → is_among w (known_list ended) ≡ false → events_of w history ≡ []
+
+-- So it was closed. The core is the cache after that history, and the words stand for it; no window
+-- is open.
+pub record IsClosedWhole (conf : Conf) (workers : ℕ) (ended : List Bearer) (closed : Closed)
+    (core : Core) (words : VecWords) : Type 0 where
+  pub is_closed : IsClosed conf workers ended closed
+  pub cache : cache_of core ≡ (stage_of conf is_closed.history).cache
+  pub stand : CacheStands held.ghosts core words

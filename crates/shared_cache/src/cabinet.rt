@@ -12,7 +12,7 @@ ghost use Rattle.shared_cache.specs.Pinned.{IsFetched};
 ghost use Rattle.shared_cache.specs.Learned.{Learns};
 ghost use Rattle.pin_table.specs.Lists.{AllOf, known_list};
 ghost use Rattle.pin_table.specs.Views.{is_among};
-ghost use Rattle.shared_cache.specs.Closing.{IsClosed};
+ghost use Rattle.shared_cache.specs.Closing.{IsClosedWhole};
 
 use crate::closed::Closed;
 use crate::lower::lower_laws;
@@ -24,6 +24,7 @@ use cache_core::{Core, Look};
 use counter_entry::{IncAnswer, cas, inc};
 use php_graph::Graph;
 use pin_table::{Ended, EndedList, Pass, PinTable, TableName, WriterSeat};
+use seg_words::VecWords;
 use std::alloc::Global;
 use std::marker::{Model, PhantomData};
 use value_image::images_are_runs;
@@ -245,14 +246,15 @@ impl<N: TableName> Cabinet<N> {
         (w.give_seen(), ended)
     }
 
-    // The journal and the counts, once every worker has ended.
-    pub(crate) fn close(self, table: PinTable, ended: EndedList) -> Closed
+    // The journal and the counts, once every worker has ended, and the cache with its words.
+    pub(crate) fn close_all(self, table: PinTable, ended: EndedList) -> (Closed, Core, VecWords)
         requires table { table ≡ N.table }
         requires ended { AllOf N.table ended.ended }
         requires every { (w : ℕ) → w < length N.budgets
             → is_among w (known_list ended.ended) ≡ true }
-        ensures { IsClosed N.conf (length N.budgets) ended.ended result }
+        ensures { IsClosedWhole N.conf (length N.budgets) ended.ended result.0 result.1 result.2 }
     {
+        lower_laws();
         let Cabinet {
             seat,
             journal,
@@ -260,8 +262,8 @@ impl<N: TableName> Cabinet<N> {
             of: _,
         } = self;
         let counts = core.counts();
-        let _words = table.close(seat, ended);
-        Closed { journal, counts }
+        let words = table.close(seat, ended);
+        (Closed { journal, counts }, core, words)
     }
 }
 

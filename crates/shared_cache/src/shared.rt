@@ -13,14 +13,16 @@ ghost use Rattle.shared_cache.specs.Pinned.{IsFetched};
 ghost use Rattle.shared_cache.specs.Learned.{Learns};
 ghost use Rattle.pin_table.specs.Lists.{AllOf, known_list};
 ghost use Rattle.pin_table.specs.Views.{is_among};
-ghost use Rattle.shared_cache.specs.Closing.{IsClosed};
+ghost use Rattle.shared_cache.specs.Closing.{IsClosed, IsClosedWhole};
 
 use crate::cabinet::Cabinet;
 use crate::closed::Closed;
 use crate::pinned::Pinned;
+use cache_core::Core;
 use counter_entry::IncAnswer;
 use php_graph::Graph;
 use pin_table::{Copying, Ended, EndedList, Image, Pass, PinTable, TableName};
+use seg_words::VecWords;
 use std::alloc::{AllocError, Global};
 use std::hint::spin_loop;
 use std::marker::Model;
@@ -274,12 +276,25 @@ impl<N: TableName> Shared<N> {
             → is_among w (known_list ended.ended) ≡ true }
         ensures { IsClosed N.conf (length N.budgets) ended.ended result }
     {
+        let (closed, _core, _words) = self.close_all(rt, ended);
+        closed
+    }
+
+    /// Gives the journal and the counts, once every worker has ended, and beside them the cache and
+    /// its words, which stand for it: the cache of one thread after the journal. It waits for
+    /// nobody and takes no memory.
+    pub fn close_all<R: Wait>(self, rt: &R, ended: EndedList) -> (Closed, Core, VecWords)
+        requires table { AllOf N.table ended.ended }
+        requires every { (w : ℕ) → w < length N.budgets
+            → is_among w (known_list ended.ended) ≡ true }
+        ensures { IsClosedWhole N.conf (length N.budgets) ended.ended result.0 result.1 result.2 }
+    {
         let _ = rt;
         let Shared {
             alloc: _,
             table,
             lock,
         } = self;
-        lock.into_inner().close(table, ended)
+        lock.into_inner().close_all(table, ended)
     }
 }
