@@ -6,3 +6,4 @@ pub mod Retiring
 pub mod Steps
 pub mod Iterators
 pub mod Refusing
+pub mod Looking

@@ -1,6 +1,6 @@
 -- Workers that end.
 use Rattle.std.proofs.Common.{◌≡◌, ℕ, ◌+◌, ◌<◌, ◌≤◌, List, [], ◌∷◌, ◌++◌, map, Some, refl, sym, ap, subst, ◌∙◌, arith}
-use Rattle.std.specs.Prelude.{Result, Ok, Err, IfOk, IfSome}
+use Rattle.std.specs.Prelude.{Result, Ok, Err, IfOk, OnOk, IfSome}
 use Rattle.std.specs.Result.{result_ok}
 use Rattle.apcu_model.specs.declared.clock.Clock.{Clock}
 use Rattle.apcu_model.specs.declared.conf.Conf.{Conf}
@@ -13,10 +13,10 @@ use Rattle.script_read.specs.Budgets.{events_in, timed_events}
 use Rattle.script_read.specs.Clock.{timed}
 use Rattle.script_read.specs.Play.{Wish, wanted}
 use Rattle.reply_text.specs.Lines.{script_lines}
-use Rattle.play_laws.specs.Own.{own_replies, wish_in, HasPlayed}
+use Rattle.play_laws.specs.Own.{own_replies, wish_in, AreInTurn, HasPlayed}
 use Rattle.shared_cache.specs.Follows.{Follows}
-use Rattle.worker_play.specs.Goes.{wish, KnowsOwnEvents, GoesOn, Reaches, Tells}
-use Rattle.worker_play.specs.Ends.{PlaysOut, Asked}
+use Rattle.worker_play.specs.Goes.{wish, KnowsOwnEvents, GoesOn, Reaches, Tells, nothing}
+use Rattle.worker_play.specs.Ends.{PlaysOut, Asked, HasMade, PlaysAll}
 use Rattle.worker_play.specs.Turns.{turns_of}
 use Rattle.worker_play.proofs.Going.{OwnLaws, more, one}
 use Rattle.worker_play.proofs.Turns.{script_few, in_turn_one, in_turn_more, in_turn_wanted, ends_wanted, lines_more}
@@ -77,3 +77,41 @@ pub has_asked : OwnLaws → (conf : Conf) (workers : ℕ) (p o q : Bearer) (scri
 has_asked laws conf workers p o q script none unanswered r f =
     let e = ends_after laws conf workers p o q r.made r.replies none unanswered r.goes f in
     record { made = r.made; replies = r.replies; in_turn = r.in_turn; asked = e.asked; answered = e.answered }
+
+-- ---- without lines
+
+-- the worker that has made all its calls, and nothing before
+has_made : (conf : Conf) (workers : ℕ) (p q : Bearer) (script : List Step) → p.known.own ≡ [] → own_replies conf p.known.worker p.known.seen ≡ [] → Tells conf workers p q (turns_of conf script) nothing tt → HasMade conf script q
+has_made conf workers p q script none unanswered t =
+    let g = t.asked.goes in
+    let asked : t.asked.made ≡ map wish_in q.known.own = sym (g.own ∙ ap (λ (l : List _). map wish_in l ++ t.asked.made) none) in
+    let answered : t.asked.replies ≡ own_replies conf q.known.worker q.known.seen = sym (g.replies_are ∙ ap (λ (l : List Reply). l ++ t.asked.replies) unanswered) in
+    record {
+      in_turn = subst (λ (rs : List Reply). AreInTurn (wanted conf script) (map wish_in q.known.own) rs) answered
+          (subst (λ (ws : List Wish). AreInTurn (wanted conf script) ws t.asked.replies) asked (in_turn_wanted conf script t.asked.made t.asked.replies t.asked.in_turn));
+      done = λ later. ap (λ (l : List Reply). wanted conf script (l ++ later)) (sym answered) ∙ ends_wanted conf script t.asked.replies [] later t.over;
+    }
+
+pub has_made_if : {X E : Type 0} (conf : Conf) (workers : ℕ) (p q : Bearer) (script : List Step) (r : Result X E) → p.known.own ≡ [] → own_replies conf p.known.worker p.known.seen ≡ []
+    → OnOk r (Tells conf workers p q (turns_of conf script) nothing tt) → OnOk r (HasMade conf script q)
+has_made_if conf workers p q script (Ok x) none unanswered t = has_made conf workers p q script none unanswered t
+has_made_if conf workers p q script (Err e) none unanswered t = tt
+
+-- and then its end
+plays_all : OwnLaws → (conf : Conf) (workers : ℕ) (o q : Bearer) (script : List Step) → KnowsOwnEvents o → HasMade conf script o → Follows conf workers o q 0 requests.Retire replies.Ended → PlaysAll conf script q
+plays_all laws conf workers o q script whole made f =
+    let g = one laws conf workers o q 0 requests.Retire requests.Retire replies.Ended f whole refl in
+    let ws = map wish_in o.known.own in
+    let rs = own_replies conf o.known.worker o.known.seen in
+    let end : wanted conf [] [] ≡ Some (wish 0 requests.Retire) = refl in
+    let all : HasPlayed conf script (ws ++ wish 0 requests.Retire ∷ []) (rs ++ replies.Ended ∷ []) = record {
+      in_turn = in_turn_more (wanted conf script) (wanted conf []) ws (wish 0 requests.Retire ∷ []) rs (replies.Ended ∷ []) made.in_turn (in_turn_one (wanted conf []) (wish 0 requests.Retire) replies.Ended end) made.done;
+      done = made.done (replies.Ended ∷ []);
+    } in
+    subst (λ (l : List Reply). HasPlayed conf script (map wish_in q.known.own) l) (sym g.replies_are)
+    (subst (λ (l : List Wish). HasPlayed conf script l (rs ++ replies.Ended ∷ [])) (sym g.own) all)
+
+pub plays_all_if : {X E : Type 0} → OwnLaws → (conf : Conf) (workers : ℕ) (o q : Bearer) (script : List Step) (r : Result X E) → KnowsOwnEvents o → OnOk r (HasMade conf script o) → Follows conf workers o q 0 requests.Retire replies.Ended
+    → OnOk r (PlaysAll conf script q)
+plays_all_if laws conf workers o q script (Ok x) whole made f = plays_all laws conf workers o q script whole made f
+plays_all_if laws conf workers o q script (Err e) whole made f = tt

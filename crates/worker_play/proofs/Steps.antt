@@ -11,7 +11,7 @@ use Rattle.script_read.specs.Calls.{event_bound}
 use Rattle.script_read.specs.Grammar.{ends_line}
 use Rattle.script_read.specs.Play.{next_of}
 use Rattle.reply_text.specs.Lines.{call_text, before, lines_from, script_lines}
-use Rattle.worker_play.specs.Goes.{Reaches, Tells}
+use Rattle.worker_play.specs.Goes.{Reaches, Tells, nothing}
 use Rattle.worker_play.specs.Turns.{Turn, Over, turns_at, turns_of}
 use Rattle.worker_play.proofs.Going.{Midway, goes_on, more_asked, ends}
 use Rattle.worker_play.proofs.Turns.{call_few, events_step, in_turn_first, is_over, turns_step}
@@ -67,3 +67,13 @@ left_after conf workers o q t step steps r enough =
 pub steps_end : (conf : Conf) (workers : ℕ) (p q : Bearer) (turns : List Reply → Turn) (told : List Reply → List ℕ) (out : List ℕ) → Midway conf workers p q turns (turns_of conf []) told (λ later. out ++ script_lines conf [] later) → Tells conf workers p q turns told out
 steps_end conf workers p q turns told out m =
     subst (λ (l : List ℕ). Tells conf workers p q turns told l) (append-nil out) (ends conf workers p q turns (turns_of conf []) told (λ later. out ++ script_lines conf [] later) m refl)
+
+-- one step more, of which nothing is told
+pub step_made : (conf : Conf) (workers : ℕ) (p o q : Bearer) (turns : List Reply → Turn) (step : Step) (steps : List Step) (told : List Reply → List ℕ) (new : List ℕ)
+    → Midway conf workers p o turns (turns_of conf (step ∷ steps)) nothing nothing → Tells conf workers o q (turns_at step.t (next_of conf step.call)) told new → Midway conf workers p q turns (turns_of conf steps) nothing nothing
+step_made conf workers p o q turns step steps told new m t =
+    goes_on conf workers p o q turns (turns_of conf (step ∷ steps)) (turns_of conf steps) nothing nothing nothing m (as_step conf workers o q step steps t.asked) (turns_step conf step steps t.asked.replies t.over) (λ later. refl)
+
+-- all steps were met
+pub steps_made : (conf : Conf) (workers : ℕ) (p q : Bearer) (turns : List Reply → Turn) → Midway conf workers p q turns (turns_of conf []) nothing nothing → Tells conf workers p q turns nothing tt
+steps_made conf workers p q turns m = ends conf workers p q turns (turns_of conf []) nothing nothing m refl

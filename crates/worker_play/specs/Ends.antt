@@ -7,7 +7,7 @@ use Rattle.apcu_model.specs.declared.request.Reply.{Reply}
 use Rattle.apcu_model.specs.declared.request.Reply.TheVariants.{Ended}
 use Rattle.pin_table.specs.Values.{Bearer}
 use Rattle.script_read.specs.declared.script.Step.{Step}
-use Rattle.script_read.specs.Play.{Wish}
+use Rattle.script_read.specs.Play.{Wish, wanted}
 use Rattle.play_laws.specs.Own.{own_replies, wish_in, AreInTurn, HasPlayed}
 use Rattle.reply_text.specs.Lines.{script_lines}
 use Rattle.worker_play.specs.Goes.{wish, KnowsOwnEvents}
@@ -36,3 +36,26 @@ pub record Ends (t : TableId) (conf : Conf) (w : ℕ) (script : List Step) (b : 
   pub all_own : KnowsOwnEvents b
   pub begun : Asked conf script b
   pub plays : IfSome text (λ lines. PlaysOut conf script b lines)
+
+-- ---- without lines
+
+-- The worker asked in turn what its script wants. After its replies the script wants what one
+-- without calls does: its end, and then nothing.
+pub record HasMade (conf : Conf) (script : List Step) (b : Bearer) : Type 0 where
+  pub in_turn : AreInTurn (wanted conf script) (map wish_in b.known.own)
+      (own_replies conf b.known.worker b.known.seen)
+  pub done : (later : List Reply)
+      → wanted conf script (own_replies conf b.known.worker b.known.seen ++ later)
+      ≡ wanted conf [] later
+
+-- It asked all that its script wants, its end included.
+abbrev pub PlaysAll : Conf → List Step → Bearer → Type 0
+PlaysAll conf script b =
+    HasPlayed conf script (map wish_in b.known.own)
+    (own_replies conf b.known.worker b.known.seen)
+
+-- The worker w of the table has ended.
+pub record HasEnded (t : TableId) (w : ℕ) (b : Bearer) : Type 0 where
+  pub table : b.table ≡ t
+  pub worker : b.known.worker ≡ w
+  pub all_own : KnowsOwnEvents b

@@ -50,3 +50,7 @@ pub record Tells {A : Type 0} (conf : Conf) (workers : ℕ) (p q : Bearer)
   pub asked : Reaches conf workers p q turns
   pub over : turns asked.replies ≡ Over []
   pub is : a ≡ told asked.replies
+
+-- where nothing is told
+abbrev pub nothing : List Reply → Unit {0}
+nothing replies = tt

@@ -2,3 +2,4 @@ pub mod Turns
 pub mod Goes
 pub mod Ends
 pub mod Groups
+pub mod Looks

@@ -6,11 +6,15 @@ mod calls;
 mod chunks;
 mod ending;
 mod events;
+mod looks;
 mod noting;
 mod patterns;
+mod quiet;
 mod scalar;
 mod script;
 mod walks;
 
 pub use ending::play_out;
+pub use looks::observe;
+pub use quiet::{play_out_quietly, play_quietly};
 pub use script::{PlayFault, play_script};

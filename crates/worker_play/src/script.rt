@@ -44,7 +44,7 @@ impl From<AllocError> for PlayFault {
 
 // A call at its moment, and its line. The gate is reached before the call, and after it where it
 // was played. The search for its pattern is made once, and kept for all that the call asks.
-fn play_step<N: TableName, M: Maker, G: Gate, R: Wait>(
+pub(crate) fn play_step<N: TableName, M: Maker, G: Gate, R: Wait>(
     rt: &R,
     alloc: Global,
     shared: &Shared<N>,

@@ -1,0 +1,18 @@
+use Rattle.std.proofs.Common.{ℕ, ◌≤◌, ◌+◌, length, sym, subst}
+use Rattle.apcu_model.specs.declared.conf.Conf.{Conf}
+use Rattle.script_read.specs.Budgets.{events_in}
+use Rattle.script_read.specs.Clock.{timed}
+use Rattle.worker_play.proofs.Going.{OwnLaws}
+use Rattle.worker_play.proofs.Retiring.{few_taken, unanswered, has_made_if}
+use Rattle.worker_play.proofs.quiet.play_quietly.Goals as goal
+
+pub returns-clause-made : goal.returns-clause-made
+returns-clause-made g c =
+    let laws : OwnLaws = record { more = c.one_event_own.ensures.more; others = c.one_event_own.ensures.others } in
+    let none = unanswered laws g.N.TableName.conf c.args.pass c.requires.no_event c.requires.whole in
+    has_made_if g.N.TableName.conf (length g.N.TableName.budgets) c.args.pass c.make_steps.result.0 (timed c.args.clock c.args.script.now) c.make_steps.result.1 c.requires.no_event none c.make_steps.ensures.over
+
+pub returns-clause-left : goal.returns-clause-left
+returns-clause-left g c =
+    subst (λ (conf : Conf). c.args.pass.known.left ≤ c.make_steps.result.0.known.left + events_in conf.slots c.args.script.now) (sym c.requires.conf)
+    (few_taken g.N.TableName.conf (length g.N.TableName.budgets) c.args.pass c.make_steps.result.0 c.args.clock c.args.script.now c.make_steps.ensures.reaches)
