@@ -1,0 +1,8 @@
+mod Ahead
+mod Cuts
+mod Tiled
+mod Removed
+mod Growing
+mod Standing
+mod Steps
+mod Mapping

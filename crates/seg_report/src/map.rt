@@ -1,0 +1,63 @@
+//! The map of the words.
+
+ghost use Rattle.std.specs.Prelude.{◌≡◌, ℕ, ◌-◌, ◌++◌, false, OnOk, OnErr, sum_by};
+ghost use Rattle.seg_words.specs.Windows.{is_named};
+ghost use Rattle.notation.specs.Appending.{Extends};
+ghost use Rattle.cache_core.specs.Caching.{cache_of, CacheStands};
+ghost use Rattle.cache_core.specs.Events.{IsUnchanged};
+ghost use Rattle.seg_report.specs.Lines.{map_text};
+ghost use Rattle.seg_report.specs.Parts.{parts_of, size_of};
+
+use crate::gaps::put_free;
+use crate::parts::put_parts;
+use cache_core::Core;
+use notation::ByteOut;
+use seg_words::{Segment, WordsIn};
+use std::alloc::{AllocError, Global};
+
+/// Appends the map of the cache's words: the line `map`, a line for the block of each row and each
+/// removed row and for each run of free words by rising place, all in words, and what the free runs
+/// come to. No window may be open. Without memory `out` stays as it was; nothing else changes
+/// either way.
+///
+/// It takes as long as there are slots, blocks and gaps, and a sort of the removed rows.
+pub fn map_text<S: Segment>(
+    alloc: Global,
+    core: &mut Core,
+    seg: &mut S,
+    out: &mut ByteOut,
+) -> Result<(), AllocError>
+    requires stand { CacheStands S.WordsIn core.old seg.old }
+    requires closed { (at : ℕ) → is_named (S.aside seg.old).windows at ≡ false }
+    ensures ok { OnOk result (out.new ≡ out.old ++ map_text (cache_of core.old)) }
+    ensures err { OnErr result (out.new ≡ out.old) }
+    ensures whole { sum_by size_of (parts_of (cache_of core.old))
+        ≡ (cache_of core.old).conf.words - (cache_of core.old).conf.slots }
+    ensures same { IsUnchanged S.WordsIn core.old core.new seg.old seg.new }
+{
+    let before = out.as_slice().len();
+    match put_map(alloc, core, seg, out) {
+        Ok(()) => Ok(()),
+        Err(fault) => {
+            out.cut(before);
+            Err(fault)
+        }
+    }
+}
+
+fn put_map<S: Segment>(
+    alloc: Global,
+    core: &mut Core,
+    seg: &mut S,
+    out: &mut ByteOut,
+) -> Result<(), AllocError>
+    requires stand { CacheStands S.WordsIn core.old seg.old }
+    ensures ok { OnOk result (out.new ≡ out.old ++ map_text (cache_of core.old)) }
+    ensures err { OnErr result (Extends out.old out.new) }
+    ensures same { IsUnchanged S.WordsIn core.old core.new seg.old seg.new }
+{
+    let slots = core.slots();
+    out.push(b"map\n")?;
+    put_parts(alloc, slots, seg, out)?;
+    put_free(slots.sma(), seg, out)
+}
