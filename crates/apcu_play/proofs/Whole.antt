@@ -1,4 +1,4 @@
--- What was read of a source that tells.
+-- What a run of the input's scripts must come to: what was read of a source that tells.
 use Rattle.std.proofs.Common.{◌≡◌, ◌≢◌, ◌<◌, ◌≤◌, ℕ, List, ◌++◌, length, Option, Some, None, inl, inr, refl, sym, ap, subst, arith, ◌∙◌}
 use Rattle.std.specs.Prelude.{Bool, IfSome}
 use Rattle.io_edges.specs.Faults.{Rose}
@@ -14,7 +14,8 @@ use Rattle.script_read.specs.Budgets.{all_events, most_events}
 use Rattle.script_read.specs.Patterns.{SomeRefusable}
 use Rattle.notation.specs.declared.fault.Reason.{Reason}
 use Rattle.apcu_play.specs.Message.{script_message}
-use Rattle.apcu_play.specs.Run.{longest_input, WasRead, AnswersInput, Replays, ReplaysPart, IsRefusedAt, IsRefused, IsCrowded, IsUnsearchable, TellsMessage, TellsRefusal, IsUnlessMemory, Completes}
+use Rattle.apcu_play.specs.Tasks.{longest_input, WasRead, AnswersInput, IsRefusedAt, IsRefused, IsCrowded, IsUnsearchable}
+use Rattle.apcu_play.specs.Run.{WritesAll, WritesPart, TellsMessage, TellsRefusal, IsUnlessMemory, CompletesInput}
 
 all_read : (left input : List ℕ) (after : Option (List ℕ)) → Some left ≡ prepend_known input after → IsAtEnd after → left ≡ input
 all_read left input None taken end = absurd cc
@@ -32,7 +33,7 @@ longer_is left before told longer = subst (λ (o : Option (List ℕ)). IfSome o 
 module _ (one : ScriptsAreOne) (may_refuse : Bool → List ℕ → Type 0) (asked : Settings) (before after held_before held_after : Option (List ℕ)) (reads_before reads_after writes_before writes_after : ℕ) where
   -- what is known of how a run ended
   pub record Ended (status : Status) : Type 0 where
-    pub replayed : status ≡ Done → Replays asked before after held_before held_after
+    pub replayed : status ≡ Done → WritesAll (AnswersInput asked before after) held_before held_after
     pub usage : status ≢ Usage
     pub script : status ≡ Script → IsRefused before after
     pub too_many : status ≡ TooMany → IsCrowded asked.conf before after
@@ -40,7 +41,7 @@ module _ (one : ScriptsAreOne) (may_refuse : Bool → List ℕ → Type 0) (aske
     pub longer : status ≡ TooLong → IfSome before (λ left. longest_input < length left)
     pub read_fault : status ≡ ReadFault → Rose reads_before reads_after
     pub write_fault : status ≡ WriteFault → Rose writes_before writes_after
-    pub cut : status ≡ WriteFault → ReplaysPart asked before after held_before held_after
+    pub cut : status ≡ WriteFault → WritesPart (AnswersInput asked before after) held_before held_after
 
   spelled_is : (input : List ℕ) (printed : List ℕ) → before ≡ Some input → AnswersInput asked before after printed → (length input ≤ longest_input) × ((scripts : List (List Step)) × AreScripts input scripts)
   spelled_is input printed told answer =
@@ -130,38 +131,8 @@ module _ (one : ScriptsAreOne) (may_refuse : Bool → List ℕ → Type 0) (aske
   too_long_by Pattern e input told long no_read = let s = (unsearchable_is input told (e.pattern refl)).0 in absurd (omega arith)
 
   -- and so what it must come to
-  pub completes : (status : Status) → Ended status → Completes may_refuse asked.conf status before reads_before reads_after writes_before writes_after
+  pub completes : (status : Status) → Ended status → CompletesInput may_refuse asked.conf status before reads_before reads_after writes_before writes_after
   completes status e = record { done = done_by status e; too_many = too_many_by status e; refused = refused_by status e; too_long = too_long_by status e }
-
--- the same of the cache that the words tell, if they tell one
-pub completes_if : (one : ScriptsAreOne) (may_refuse : Bool → List ℕ → Type 0) (told : Option Settings) (before after held_before held_after : Option (List ℕ)) (reads_before reads_after writes_before writes_after : ℕ) (status : Status)
-    → IfSome told (λ s. status ≡ Done → Replays s before after held_before held_after)
-    → (status ≡ Usage → told ≡ None)
-    → (status ≡ Script → IsRefused before after)
-    → IfSome told (λ s. status ≡ TooMany → IsCrowded s.conf before after)
-    → IfSome told (λ s. status ≡ Pattern → IsUnsearchable may_refuse s.conf before after)
-    → (status ≡ TooLong → IfSome before (λ left. longest_input < length left))
-    → (status ≡ ReadFault → Rose reads_before reads_after)
-    → (status ≡ WriteFault → Rose writes_before writes_after)
-    → IfSome told (λ s. status ≡ WriteFault → ReplaysPart s before after held_before held_after)
-    → IfSome told (λ s. Completes may_refuse s.conf status before reads_before reads_after writes_before writes_after)
-completes_if one may_refuse None before after held_before held_after reads_before reads_after writes_before writes_after status replayed usage script too_many pattern longer read_fault write_fault cut = tt
-completes_if one may_refuse (Some s) before after held_before held_after reads_before reads_after writes_before writes_after status replayed usage script too_many pattern longer read_fault write_fault cut =
-    completes one may_refuse s before after held_before held_after reads_before reads_after writes_before writes_after status
-    (record {
-      replayed = replayed;
-      usage = λ is. absurd (some_is_not_none (usage is));
-      script = script;
-      too_many = too_many;
-      pattern = pattern;
-      longer = longer;
-      read_fault = read_fault;
-      write_fault = write_fault;
-      cut = cut;
-    })
-  where
-    some_is_not_none : Some s ≡ None → ⊥
-    some_is_not_none e = cc
 
 -- a script's fault was told
 pub told_refusal : (status : Status) (place : ℕ) (reason : Reason) (before after held_before held_after : Option (List ℕ)) (faults_before faults_after : ℕ)

@@ -1,12 +1,13 @@
 -- What is printed piece by piece.
-use Rattle.std.proofs.Common.{◌≡◌, ℕ, ◌+◌, ◌<◌, List, [], ◌∷◌, ◌++◌, take, drop, Some, sym, ap, length, arith, ◌∙◌, append_assoc}
+use Rattle.std.proofs.Common.{◌≡◌, ℕ, ℤ, ◌+◌, ◌<◌, ◌≤◌, List, [], ◌∷◌, ◌++◌, take, drop, Some, sym, ap, length, arith, ◌∙◌, append_assoc}
 use Rattle.std.specs.Prelude.{codes, slice_get, slice_index_or}
-use Rattle.std.specs.Fmt.{decimal}
+use Rattle.std.specs.Fmt.{decimal, signed_decimal}
 use Rattle.std.specs.List.{flat_map}
-use Rattle.std.proofs.lemmas.List.{append-nil, take_more, take-append-drop, length-take}
+use Rattle.std.proofs.lemmas.List.{append-nil, drop_all, drop_more, take_more, take-append-drop, length-take}
 use Rattle.std.proofs.lemmas.Option.{slice_get_within, get_or_from_slice_get}
 use Rattle.std.proofs.lemmas.Grind.{flat_map-append}
 use Rattle.apcu_model.specs.declared.journal.Mark.{Mark}
+use Rattle.generated_laws.specs.Summary.{counter_lines}
 use Rattle.script_read.specs.Grammar.{ends_line}
 use Rattle.reply_text.specs.Output.{mark_line, worker_texts}
 
@@ -44,3 +45,19 @@ texts_go_on texts i text few at =
 -- what comes behind the first of the workers
 pub texts_behind : (texts : List (List ℕ)) (i : ℕ) → worker_texts 0 (take i texts) ++ worker_texts (0 + length (take i texts)) (drop i texts) ≡ worker_texts 0 texts
 texts_behind texts i = sym (worker_texts-append 0 (take i texts) (drop i texts)) ∙ ap (worker_texts 0) (take-append-drop i texts)
+
+-- one counter more is written
+pub counters_go_on : (before out next : List ℕ) (values : List ℤ) (n : ℕ) (value d : ℤ) → n < length values → value ≡ slice_index_or values n d
+    → next ≡ out ++ (codes "counter " ++ decimal n ++ codes " " ++ signed_decimal value ++ codes "\n")
+    → out ++ counter_lines n (drop n values) ≡ before → next ++ counter_lines (n + 1) (drop (n + 1) values) ≡ before
+counters_go_on before out next values n value d few at written so_far =
+    let rest = counter_lines (n + 1) (drop (n + 1) values) in
+    let split : drop n values ≡ value ∷ drop (n + 1) values = drop_more values n d few ∙ ap (λ (v : ℤ). v ∷ drop (n + 1) values) (sym at) in
+    ap (λ (o : List ℕ). o ++ rest) written
+    ∙ (append_assoc out (codes "counter " ++ decimal n ++ codes " " ++ signed_decimal value ++ codes "\n") rest
+    ∙ (sym (ap (λ (l : List ℤ). out ++ counter_lines n l) split) ∙ so_far))
+
+-- behind the last of them nothing is left to write
+pub counters_end : (before out : List ℕ) (values : List ℤ) (n : ℕ) → length values ≤ n → out ++ counter_lines n (drop n values) ≡ before → out ≡ before
+counters_end before out values n all so_far =
+    sym (append-nil out) ∙ (sym (ap (λ (l : List ℤ). out ++ counter_lines n l) (drop_all n values all)) ∙ so_far)

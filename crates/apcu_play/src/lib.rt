@@ -1,13 +1,16 @@
 //! Plays scripts of apcu calls, and prints what each call answers and the order in which they took
-//! effect.
+//! effect; or plays scripts that are made from a number, and prints their summary.
 #![tactic(auto)]
 
+mod answering;
+mod ending;
 mod journal;
 mod messages;
 mod play;
 mod printing;
 mod running;
 mod status;
+mod summary;
 mod writing;
 
 pub use messages::tell;

@@ -14,13 +14,13 @@ use notation::ByteOut;
 
 /// Prints all of it; whether it was written. It takes no memory.
 pub(crate) fn print<K: Sink>(out: &mut K, printed: &Printed) -> bool
-    ensures { WasWritten result (worker_texts 0 printed.now.texts.items ++ printed.now.journal)
+    ensures { WasWritten result (worker_texts 0 printed.now.texts.items ++ printed.now.rest)
         (K.held out.old) (K.held out.new) (K.faults out.old) (K.faults out.new) }
 {
     if !print_texts(out, &printed.texts) {
         return false;
     }
-    write_text(out, printed.journal.as_slice())
+    write_text(out, printed.rest.as_slice())
 }
 
 // For each worker its number and its lines.

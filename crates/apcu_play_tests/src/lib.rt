@@ -14,6 +14,8 @@ mod faults;
 #[cfg(test)]
 mod gates;
 #[cfg(test)]
+mod generated;
+#[cfg(test)]
 mod iterators;
 #[cfg(test)]
 mod iterators_that_differ;

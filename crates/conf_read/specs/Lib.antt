@@ -1,3 +1,4 @@
 pub mod Command
 pub mod Numbers
 pub mod Options
+pub mod Tasks

@@ -8,11 +8,13 @@ use Rattle.apcu_model.specs.declared.clock.Clock.{Clock}
 use Rattle.apcu_model.specs.declared.clock.Clock.TheVariants.{Line, Request}
 use Rattle.apcu_model.specs.declared.conf.Conf.{Conf}
 use Rattle.conf_read.specs.declared.settings.Settings.{Settings}
+use Rattle.conf_read.specs.declared.task.Task.{Task}
 use Rattle.conf_read.specs.declared.options.Row.{Row as CodeRow}
 use Rattle.conf_read.specs.declared.options.Reader.{Reader}
 use Rattle.conf_read.specs.declared.options.Reader.TheVariants.{Size, Number}
 use Rattle.conf_read.specs.Command.{with_options}
 use Rattle.conf_read.specs.Numbers.{number_from, words_told}
+use Rattle.conf_read.specs.Tasks.{task_by}
 
 -- ---- the table
 
@@ -42,8 +44,25 @@ abbrev pub use_request_time : ProgramOption
 use_request_time =
     record { name = codes "use-request-time"; default = Some 0; read = number_from 0 1 }
 
+-- the number that scripts are made from; nothing stands for it
+abbrev pub generate : ProgramOption
+generate =
+    record { name = codes "generate"; default = None; read = number_from 0 18446744073709551615 }
+
+-- how many workers they are for
+abbrev pub workers : ProgramOption
+workers = record { name = codes "workers"; default = Some 4; read = number_from 1 64 }
+
+-- and how many calls each of these makes
+abbrev pub calls : ProgramOption
+calls = record { name = codes "calls"; default = Some 1000; read = number_from 0 1000000 }
+
+abbrev pub options : List ProgramOption
+options =
+    shm_size ∷ segments ∷ slots ∷ ttl ∷ use_request_time ∷ generate ∷ workers ∷ calls ∷ []
+
 abbrev pub names : List Text
-names = map (λ o. o.name) (shm_size ∷ segments ∷ slots ∷ ttl ∷ use_request_time ∷ [])
+names = map (λ o. o.name) options
 
 abbrev pub program : App
 program = with_options (new_app (codes "apcu_run")) names
@@ -91,13 +110,22 @@ conf_in rows = do
 abbrev pub clock_of : ℕ → Clock
 clock_of number = if number == 0 then Line else Request
 
--- what clap's rows ask for: nothing where they ask for no shape, or another value is out of its
--- form or range
+-- what the run is for, on a cache of this shape; the numbers of a generated run are read in any run
+abbrev pub task_in : Conf → List Row → Option Task
+task_in shape rows = do
+  seed ← told_if generate rows
+  crew ← told workers rows
+  each ← told calls rows
+  task_by shape seed crew each
+
+-- what clap's rows ask for: nothing where they ask for no shape, another value is out of its form
+-- or range, or the shape does not suit the task
 abbrev pub settings_in : List Row → Option Settings
 settings_in rows = do
   shape ← conf_in rows
   start ← told use_request_time rows
-  Some (record { conf = shape; clock = clock_of start })
+  task ← task_in shape rows
+  Some (record { conf = shape; clock = clock_of start; task = task })
 
 -- the program's words as texts
 abbrev pub as_texts : {Z : Type 0} → List (String Z) → List Text

@@ -6,6 +6,8 @@ mod fault;
 mod numbers;
 mod options;
 mod settings;
+mod task;
 
 pub use fault::ConfFault;
 pub use settings::{Settings, read_settings};
+pub use task::Task;

@@ -70,8 +70,44 @@ pub(crate) const USE_REQUEST_TIME: Row = Row {
     reader: Reader::Number { low: 0, high: 1 },
 };
 
+/// The number from which scripts are made, in place of an input's.
+pub(crate) const GENERATE: Row = Row {
+    name: "generate",
+    default: None,
+    reader: Reader::Number {
+        low: 0,
+        high: u64::MAX,
+    },
+};
+
+/// How many workers generated scripts are for.
+pub(crate) const WORKERS: Row = Row {
+    name: "workers",
+    default: Some(4),
+    reader: Reader::Number { low: 1, high: 64 },
+};
+
+/// How many calls each of them makes.
+pub(crate) const CALLS: Row = Row {
+    name: "calls",
+    default: Some(1000),
+    reader: Reader::Number {
+        low: 0,
+        high: 1_000_000,
+    },
+};
+
 /// All options, by which the command is built.
-pub(crate) const OPTIONS: [Row; 5] = [SHM_SIZE, SEGMENTS, SLOTS, TTL, USE_REQUEST_TIME];
+pub(crate) const OPTIONS: [Row; 8] = [
+    SHM_SIZE,
+    SEGMENTS,
+    SLOTS,
+    TTL,
+    USE_REQUEST_TIME,
+    GENERATE,
+    WORKERS,
+    CALLS,
+];
 
 impl Reader {
     fn read(self, text: &str) -> Option<u64>

@@ -2,10 +2,12 @@ ghost use Rattle.std.specs.Prelude.{◌≡◌, ◌≤◌, None, Some, IfOk, IfSo
 ghost use Rattle.apcu_model.specs.Conf.{IsGood};
 ghost use Rattle.clap.specs.Words.{found_of, rows_of};
 ghost use Rattle.conf_read.specs.Options.{clock_of, conf_in, is_in_order, settings_in, settings_of};
+ghost use Rattle.conf_read.specs.Tasks.{SuitsTask};
 
 use crate::command::matches_of;
 use crate::fault::ConfFault;
 use crate::options::{SEGMENTS, SHM_SIZE, SLOTS, TTL, USE_REQUEST_TIME, told};
+use crate::task::{Task, task_in};
 use apcu_model::{Clock, Conf, MOST_WORDS};
 use clap::ArgMatches;
 use std::alloc::Global;
@@ -17,6 +19,8 @@ pub struct Settings {
     pub conf: Conf,
     /// What a call's moment is: `--use-request-time`.
     pub clock: Clock,
+    /// What the run is for: `--generate`, with `--workers` and `--calls`.
+    pub task: Task,
 }
 
 // Whether so many slots have room in one of so many segments of so many words, and the segments
@@ -64,24 +68,30 @@ fn clock_of(number: u64) -> Clock
 fn settings_in(matches: &ArgMatches<'_>) -> Option<Settings>
     ensures is { result ≡ settings_in (rows_of (found_of matches.now)) }
     ensures good { IfSome result (λ s. IsGood s.conf) }
+    ensures large { IfSome result (λ s. SuitsTask s.conf s.task) }
 {
-    Some(Settings {
-        conf: conf_in(matches)?,
-        clock: clock_of(told(matches, USE_REQUEST_TIME)?),
-    })
+    let conf = conf_in(matches)?;
+    let clock = clock_of(told(matches, USE_REQUEST_TIME)?);
+    let task = task_in(matches, &conf)?;
+    Some(Settings { conf, clock, task })
 }
 
 /// What the program's words ask for, its name first: `--shm-size SIZE` is PHP's `apc.shm_size`, the
 /// size of each segment (32M where it is left out), `--segments N` PHP's `apc.shm_segments` (1),
 /// `--slots N` the number of hash chains (4096), `--ttl N` PHP's `apc.ttl` in seconds (0), and
 /// `--use-request-time B` PHP's `apc.use_request_time` (0): whether a call's moment is the second
-/// of the call (0) or its request's start (1). The options stand in any order, each at most once.
+/// of the call (0) or its request's start (1). `--generate N` asks for a run of scripts that are
+/// made from the number N, for `--workers N` workers (4) of `--calls N` calls each (1000); without
+/// it the input's scripts are played, and the two are read all the same. The options stand in any
+/// order, each at most once.
 ///
 /// A size is one to ten digits and at most one of `K M G k m g` behind them, times 1024, 1024^2 or
 /// 1024^3; it is a multiple of 16 bytes from 256 to 134,217,728. The other numbers are one to
 /// twenty digits. Segments are from 1 to 64, and have 134,217,728 bytes at most together. Slots are
 /// even, from 2 to 1,048,576, and leave 16 words of 8 bytes in the first segment. A time limit is
-/// below 2^32, and `--use-request-time` is 0 or 1.
+/// below 2^32, and `--use-request-time` is 0 or 1. N of `--generate` is below 2^64; workers are
+/// from 1 to 64, and calls at most 1,000,000. A generated run has one segment of 8,388,608 bytes or
+/// more and at most 4096 slots.
 ///
 /// The answer is `Usage` exactly where there is no word, clap finds a fault in them (a call for
 /// help is one), a value is none of these, or two do not agree, if there is memory to read the
@@ -90,6 +100,8 @@ pub fn read_settings(alloc: Global, words: &[String]) -> Result<Settings, ConfFa
     ensures told { IfOk result (λ settings. settings_of words.now ≡ Some settings) }
     ensures usage { IsErrOf result ConfFault.Usage → settings_of words.now ≡ None }
     ensures good { IfOk result (λ settings. IsGood settings.conf) }
+    // A generated run's cache has room for what its scripts store, and its numbers are in bounds.
+    ensures large { IfOk result (λ settings. SuitsTask settings.conf settings.task) }
 {
     let matches = matches_of(alloc, words)?;
     match settings_in(&matches) {

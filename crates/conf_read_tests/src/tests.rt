@@ -1,11 +1,11 @@
 use apcu_model::{Clock, Conf};
-use conf_read::{ConfFault, Settings, read_settings};
+use conf_read::{ConfFault, Settings, Task, read_settings};
 use std::alloc::Global;
 use std::process::Abort;
 use std::test::Fail;
 
 // The program is called with these words behind its name.
-fn expect<R: Abort>(
+pub(crate) fn expect<R: Abort>(
     rt: &R,
     alloc: Global,
     options: &[&str],
@@ -20,11 +20,12 @@ fn expect<R: Abort>(
     Ok(())
 }
 
-// The settings where nothing is said of the clock.
+// The settings where nothing is said of the clock and the task.
 fn by_line(conf: Conf) -> Settings {
     Settings {
         conf,
         clock: Clock::Line,
+        task: Task::Play,
     }
 }
 
@@ -229,8 +230,11 @@ fn clock_by_its_option(rt: HostRuntime) -> Result<(), Fail> {
         (&["--use-request-time", "00000000000000000000"], Clock::Line),
         (&["--use-request-time", "1", "--"], Clock::Request),
     ] {
-        let conf = Conf::usual();
-        expect(&rt, rt.alloc(), options, Ok(Settings { conf, clock }))?;
+        let settings = Settings {
+            clock,
+            ..by_line(Conf::usual())
+        };
+        expect(&rt, rt.alloc(), options, Ok(settings))?;
     }
     Ok(())
 }
@@ -302,11 +306,11 @@ fn all_options_in_any_order(rt: HostRuntime) -> Result<(), Fail> {
             ttl: 7,
             segments: 2,
         };
-        let wanted = Ok(Settings {
-            conf,
+        let wanted = Settings {
             clock: Clock::Request,
-        });
-        expect(&rt, rt.alloc(), options.as_slice(), wanted)?;
+            ..by_line(conf)
+        };
+        expect(&rt, rt.alloc(), options.as_slice(), Ok(wanted))?;
     }
     Ok(())
 }

@@ -7,4 +7,4 @@ pub returns : goal.returns
 returns g c =
     let p = c.args.printed.now in
     let texts = written_as true (worker_texts 0 c.deref.result.now) (worker_texts 0 p.texts.items) _ _ _ _ (ap (worker_texts 0) c.deref.ensures.value) c.if-not-print_texts.ensures in
-    written_after c.write_text.result (worker_texts 0 p.texts.items) p.journal _ _ _ _ _ _ texts (written_as c.write_text.result c.as_slice.result.now p.journal _ _ _ _ c.as_slice.ensures c.write_text.ensures)
+    written_after c.write_text.result (worker_texts 0 p.texts.items) p.rest _ _ _ _ _ _ texts (written_as c.write_text.result c.as_slice.result.now p.rest _ _ _ _ c.as_slice.ensures c.write_text.ensures)

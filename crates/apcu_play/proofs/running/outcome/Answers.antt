@@ -1,6 +1,7 @@
 use Rattle.std.proofs.Common.{arith}
 use Rattle.std.proofs.lemmas.Grind.{common_steps}
 use Rattle.conf_read.specs.Options.{settings_of}
+use Rattle.apcu_play.proofs.Coming.{unread_for_memory}
 use Rattle.apcu_play.proofs.Taken.{none_taken}
 use Rattle.apcu_play.proofs.Unmet.{unmet}
 use Rattle.apcu_play.proofs.running.outcome.Goals as goal
@@ -26,3 +27,6 @@ returns-in-Err-Memory-clause-pattern g c = unmet _ (settings_of c.args.words.now
 
 pub returns-in-Err-Memory-clause-within : goal.returns-in-Err-Memory-clause-within
 returns-in-Err-Memory-clause-within g c = λ _. none_taken _ _
+
+pub returns-in-Err-Memory-clause-unread : goal.returns-in-Err-Memory-clause-unread
+returns-in-Err-Memory-clause-unread g c = unread_for_memory (settings_of c.args.words.now) _ _ _ (c.of-in-Err-Memory.ensures)

@@ -1,5 +1,6 @@
 use Rattle.std.proofs.Common.{sym, ◌∙◌}
-use Rattle.apcu_play.proofs.Taken.{was_taken}
+use Rattle.apcu_play.specs.declared.status.Status.TheVariants.{Done}
+use Rattle.apcu_play.proofs.Coming.{unread_as}
 use Rattle.apcu_play.proofs.running.outcome_on.Goals as goal
 
 pub returns-then-print-clause-no_usage : goal.returns-then-print-clause-no_usage
@@ -60,7 +61,17 @@ pub returns-in-Ok-clause-unchanged : goal.returns-in-Ok-clause-unchanged
 returns-in-Ok-clause-unchanged g c = λ _ h. absurd (h c.of-else-print.ensures)
 
 pub returns-then-print-clause-within : goal.returns-then-print-clause-within
-returns-then-print-clause-within g c = λ _. was_taken _ _ _ c.in-Ok.ensures.answer.read
+returns-then-print-clause-within g c = λ _. c.in-Ok.ensures.within_ok
 
 pub returns-in-Ok-clause-within : goal.returns-in-Ok-clause-within
-returns-in-Ok-clause-within g c = λ _. was_taken _ _ _ c.in-Ok.ensures.answer.read
+returns-in-Ok-clause-within g c = λ _. c.in-Ok.ensures.within_ok
+
+pub returns-then-print-clause-unread : goal.returns-then-print-clause-unread
+returns-then-print-clause-unread g c =
+    unread_as c.args.settings.now.task Done _ _ _ _ _ c.in-Ok.ensures.unread_ok
+    (λ h. cc (sym c.of.ensures ∙ h)) (λ h. cc (sym c.of.ensures ∙ h)) (λ h. cc (sym c.of.ensures ∙ h)) (λ h. cc (sym c.of.ensures ∙ h))
+
+pub returns-in-Ok-clause-unread : goal.returns-in-Ok-clause-unread
+returns-in-Ok-clause-unread g c =
+    unread_as c.args.settings.now.task Done _ _ _ _ _ c.in-Ok.ensures.unread_ok
+    (λ h. cc (sym c.of-else-print.ensures ∙ h)) (λ h. cc (sym c.of-else-print.ensures ∙ h)) (λ h. cc (sym c.of-else-print.ensures ∙ h)) (λ h. cc (sym c.of-else-print.ensures ∙ h))

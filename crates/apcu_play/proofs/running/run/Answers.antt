@@ -1,6 +1,7 @@
 use Rattle.std.proofs.Common.{rules}
 use Rattle.conf_read.specs.Options.{settings_of}
-use Rattle.apcu_play.proofs.Whole.{completes_if, told_refusal}
+use Rattle.apcu_play.proofs.Coming.{completes_if}
+use Rattle.apcu_play.proofs.Whole.{told_refusal}
 use Rattle.apcu_play.proofs.running.run.Goals as goal
 
 pub returns-clause-complete : goal.returns-clause-complete
@@ -17,6 +18,7 @@ returns-clause-complete g c =
           c.outcome-ending.ensures.pattern
           c.outcome-ending.ensures.longer
           c.outcome-ending.ensures.read_fault
+          c.outcome-ending.ensures.unread
           c.outcome-ending.ensures.write_fault
           c.outcome-ending.ensures.cut,
     )

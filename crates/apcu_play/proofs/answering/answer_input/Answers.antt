@@ -1,7 +1,7 @@
 use Rattle.std.proofs.Common.{sym, subst, ◌∙◌}
-use Rattle.apcu_play.specs.Run.{WasRead}
+use Rattle.apcu_play.specs.Tasks.{WasRead}
 use Rattle.apcu_play.proofs.Taken.{was_taken}
-use Rattle.apcu_play.proofs.running.answer.Goals as goal
+use Rattle.apcu_play.proofs.answering.answer_input.Goals as goal
 
 pub returns-clause-script : goal.returns-clause-script
 returns-clause-script g c = λ is. record {

@@ -1,6 +1,6 @@
 use Rattle.std.proofs.Common.{arith}
 use Rattle.std.proofs.lemmas.Grind.{common_steps}
-use Rattle.apcu_play.proofs.running.tell_ending.Goals as goal
+use Rattle.apcu_play.proofs.ending.tell_ending.Goals as goal
 
 pub returns-in_default : goal.returns-in_default
 returns-in_default g c = grind (arith, common_steps)
