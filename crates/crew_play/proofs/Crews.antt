@@ -45,12 +45,11 @@ budget_at slots (s ∷ scripts) zero script h =
     ap (λ (l : List Step). events_in slots l + 1) same
 budget_at slots (s ∷ scripts) (suc w) script h = budget_at slots scripts w script h
 
--- a worker's pass has enough for its script, and for its end
-pub enough_left : (t : TableId) (slots : ℕ) (bs : List ℕ) (scripts : List (List Step)) (w : ℕ) (script : List Step) (p : Bearer) → p ≡ fresh_pass t bs w → bs ≡ budgets_of slots scripts → slice_get scripts w ≡ Some script
-    → events_in slots script < p.known.left
-enough_left t slots bs scripts w script p is budgets its =
-    let left : p.known.left ≡ slice_index (budgets_of slots scripts) w = ap (λ (b : Bearer). b.known.left) is ∙ ap (λ (l : List ℕ). slice_index l w) budgets in
-    omega (arith, left, budget_at slots scripts w script its)
+-- so each has enough for its script, and for its end
+pub enough_in : (slots : ℕ) (bs : List ℕ) (scripts : List (List Step)) → bs ≡ budgets_of slots scripts → (w : ℕ) (script : List Step) → slice_get scripts w ≡ Some script → events_in slots script < slice_index bs w
+enough_in slots bs scripts budgets w script its =
+    let here : slice_index bs w ≡ slice_index (budgets_of slots scripts) w = ap (λ (l : List ℕ). slice_index l w) budgets in
+    omega (arith, here, budget_at slots scripts w script its)
 
 -- ---- ends
 

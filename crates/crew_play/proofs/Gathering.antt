@@ -28,21 +28,21 @@ use Rattle.crew_play.specs.Played.{IsPlayed}
 use Rattle.crew_play.proofs.Crews.{get-map}
 
 -- what stands at a place of a list
-get_some : {A : Type 0} (xs : List A) (k : ℕ) → k < length xs → (x : A) × (slice_get xs k ≡ Some x)
+pub get_some : {A : Type 0} (xs : List A) (k : ℕ) → k < length xs → (x : A) × (slice_get xs k ≡ Some x)
 get_some [] k h = absurd (omega (arith, h))
 get_some (x ∷ xs) zero h = (x, refl)
 get_some (x ∷ xs) (suc k) h = get_some xs k (omega (arith, h))
 
 -- ---- who has ended
 
-among_at : (bs : List Bearer) (k w : ℕ) (b : Bearer) → slice_get bs k ≡ Some b → b.known.worker ≡ w → is_among w (known_list bs) ≡ true
+pub among_at : (bs : List Bearer) (k w : ℕ) (b : Bearer) → slice_get bs k ≡ Some b → b.known.worker ≡ w → is_among w (known_list bs) ≡ true
 among_at [] k w b h e = absurd (cc (h))
 among_at (c ∷ bs) zero w b h e =
     let same : c ≡ b = cc (h) in
     or_left (c.known.worker == w) (is_among w (known_list bs)) (eq-eqb c.known.worker w (ap (λ (x : Bearer). x.known.worker) same ∙ e))
 among_at (c ∷ bs) (suc k) w b h e = or_right (c.known.worker == w) (is_among w (known_list bs)) (among_at bs k w b h e)
 
-among_there : (bs : List Bearer) (w : ℕ) → is_among w (known_list bs) ≡ true → (k : ℕ) × (b : Bearer) × (slice_get bs k ≡ Some b) × (b.known.worker ≡ w)
+pub among_there : (bs : List Bearer) (w : ℕ) → is_among w (known_list bs) ≡ true → (k : ℕ) × (b : Bearer) × (slice_get bs k ≡ Some b) × (b.known.worker ≡ w)
 among_there [] w h = absurd (false≢true h)
 among_there (c ∷ bs) w h = elim (or_cases (c.known.worker == w) (is_among w (known_list bs)) h) [
   | inl e ↦ (0, c, refl, eqb-true c.known.worker w e)
@@ -86,7 +86,7 @@ pub record OthersLaw : Type 0 where
       → own_replies conf w (history ++ between) ≡ own_replies conf w history
 
 -- once a worker has seen all its own events, it has had all its replies
-replies_whole : OthersLaw → (conf : Conf) (w : ℕ) (seen history own : List Event) → IsPrefix seen history → events_of w seen ≡ own → events_of w history ≡ own
+pub replies_whole : OthersLaw → (conf : Conf) (w : ℕ) (seen history own : List Event) → IsPrefix seen history → events_of w seen ≡ own → events_of w history ≡ own
     → own_replies conf w seen ≡ own_replies conf w history
 replies_whole law conf w seen history own prefix mine all =
     let rest = prefix.0 in

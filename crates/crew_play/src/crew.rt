@@ -1,9 +1,10 @@
 //! Workers on threads of their own.
 
-ghost use Rattle.std.specs.Prelude.{◌≡◌, ◌+◌, ◌-◌, ◌<◌, ◌≤◌, [], length, slice_get};
-ghost use Rattle.std.specs.Prelude.{vec_capacity, Some, Err, Contains, IfErr};
+ghost use Rattle.std.specs.Prelude.{◌≡◌, ℕ, List, ◌+◌, ◌-◌, ◌<◌, ◌≤◌, [], length, slice_get};
+ghost use Rattle.std.specs.Prelude.{slice_index, vec_capacity, Some, Err, Contains, IfErr};
 ghost use Rattle.std.specs.Thread.{IsSync};
 ghost use Rattle.std.specs.Result.{result_ok};
+ghost use Rattle.script_read.specs.declared.script.Step.{Step};
 ghost use Rattle.script_read.specs.Budgets.{events_in, budgets_of};
 ghost use Rattle.script_read.specs.Clock.{timed, all_timed};
 ghost use Rattle.script_read.specs.Patterns.{HasRefusable, SomeRefusable};
@@ -26,7 +27,7 @@ use std::thread::{Threads, join};
 use worker_play::{PlayFault, play_out};
 
 // The last of the first `count` workers: its pass and its script.
-fn last_worker<'a, N: TableName>(
+pub(crate) fn last_worker<'a, N: TableName>(
     passes: &mut Passes,
     scripts: &'a Scripts,
     count: u32,
@@ -34,14 +35,16 @@ fn last_worker<'a, N: TableName>(
     requires some { 0 < count }
     requires scripts { count ≤ length scripts.now }
     requires passes { passes.old ≡ fresh N.table N.budgets count }
-    requires budgets { N.budgets ≡ budgets_of N.conf.slots scripts.now }
+    requires enough { (w : ℕ) (script : List Step) → slice_get scripts.now w ≡ Some script
+        → events_in N.conf.slots script < slice_index N.budgets w }
     ensures rest { passes.new ≡ fresh N.table N.budgets (count - 1) }
     ensures script { slice_get scripts.now (count - 1) ≡ Some result.1.now }
     ensures table { result.0.table ≡ N.table }
     ensures worker { result.0.known.worker ≡ count - 1 }
     ensures no_event { result.0.known.own ≡ [] }
     ensures whole { KnowsOwnEvents result.0 }
-    ensures left { events_in N.conf.slots result.1.now < result.0.known.left }
+    ensures left { result.0.known.left ≡ slice_index N.budgets (count - 1) }
+    ensures enough { events_in N.conf.slots result.1.now < result.0.known.left }
 {
     let Some(pass) = passes.pop() else {
         unreachable!()

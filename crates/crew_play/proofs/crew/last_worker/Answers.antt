@@ -1,7 +1,8 @@
-use Rattle.std.proofs.Common.{◌-◌, refl, ap, sym, subst, ◌∙◌}
+use Rattle.std.proofs.Common.{◌-◌, ◌<◌, refl, ap, sym, subst, ◌∙◌}
 use Rattle.pin_table.specs.Values.{Bearer}
 use Rattle.worker_play.specs.Goes.{KnowsOwnEvents}
-use Rattle.crew_play.proofs.Crews.{fresh_last, enough_left}
+use Rattle.script_read.specs.Budgets.{events_in}
+use Rattle.crew_play.proofs.Crews.{fresh_last}
 use Rattle.crew_play.proofs.crew.last_worker.Goals as goal
 
 pub returns-clause-rest : goal.returns-clause-rest
@@ -26,6 +27,9 @@ returns-clause-whole g c =
 
 pub returns-clause-left : goal.returns-clause-left
 returns-clause-left g c =
-    enough_left g.N.TableName.table g.N.TableName.conf.slots g.N.TableName.budgets c.args.scripts.now (c.args.count - 1) c.at.result.now c.in-Some.pass
-    (fresh_last g.N.TableName.table g.N.TableName.budgets c.args.count c.pop.new.self c.in-Some.pass c.requires.some (sym c.requires.passes ∙ c.in-Some.ensures.some)).1
-    c.requires.budgets c.at.ensures
+    ap (λ (b : Bearer). b.known.left) (fresh_last g.N.TableName.table g.N.TableName.budgets c.args.count c.pop.new.self c.in-Some.pass c.requires.some (sym c.requires.passes ∙ c.in-Some.ensures.some)).1
+
+pub returns-clause-enough : goal.returns-clause-enough
+returns-clause-enough g c =
+    let left = ap (λ (b : Bearer). b.known.left) (fresh_last g.N.TableName.table g.N.TableName.budgets c.args.count c.pop.new.self c.in-Some.pass c.requires.some (sym c.requires.passes ∙ c.in-Some.ensures.some)).1 in
+    subst (λ n. events_in g.N.TableName.conf.slots c.at.result.now < n) (sym left) (c.requires.enough (c.args.count - 1) c.at.result.now c.at.ensures)
