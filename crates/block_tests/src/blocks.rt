@@ -369,3 +369,31 @@ fn states_its_laws() {
     call_laws();
     list_laws();
 }
+
+#[test]
+fn ten_small_blocks_fit_where_a_large_one_was(rt: HostRuntime) -> Result<(), Fail> {
+    const STEPS: &[Step] = &[
+        Step::Take(160, Some(32)),
+        Step::Take(160, Some(192)),
+        Step::Take(160, Some(352)),
+        Step::Give(0),
+        Step::Take(16, Some(32)),
+        Step::Take(16, Some(48)),
+        Step::Take(16, Some(64)),
+        Step::Take(16, Some(80)),
+        Step::Take(16, Some(96)),
+        Step::Take(16, Some(112)),
+        Step::Take(16, Some(128)),
+        Step::Take(16, Some(144)),
+        Step::Take(16, Some(160)),
+        Step::Take(16, Some(176)),
+        Step::Take(16, None),
+    ];
+    let shape = Shape {
+        len: 512,
+        from: 32,
+        piece: 512,
+    };
+    assert_eq!(rt; play_over(rt.alloc(), shape, STEPS)?, 15);
+    Ok(())
+}

@@ -1,0 +1,5 @@
+//! Tests of the map of a cache's words, and of what would still fit.
+#![tactic(auto)]
+
+#[cfg(test)]
+mod maps;
