@@ -3,12 +3,20 @@
 
 mod fields;
 mod notes;
+mod rendering;
 mod replies;
+mod reply_list;
+mod several;
+mod single;
+mod value;
 mod walks;
 
 pub use notes::Notes;
+pub use rendering::render;
 pub use replies::{
     write_each, write_fetched, write_flag, write_flags, write_gave, write_info, write_number,
     write_numbered, write_totals, write_values,
 };
+pub use reply_list::Replies;
+pub use value::Value;
 pub use walks::write_walk;

@@ -13,6 +13,7 @@ ghost use Rattle.reply_text.specs.Replies.{flag_text, fetched, fetched_one, numb
 ghost use Rattle.reply_text.specs.Replies.{all_with, numbered, value_members, gave_one, info_one};
 ghost use Rattle.reply_text.specs.Items.{totals_one};
 
+use crate::value::Value;
 use itoa::Buffer;
 use notation::{ByteOut, write_key, write_value};
 use php_graph::{Bytes, Graph};
@@ -29,12 +30,13 @@ pub fn write_flag(out: &mut ByteOut, done: bool) -> Result<(), AllocError>
 }
 
 // What a fetch of one key found: the value and that it was there, or that it was not.
-pub fn write_fetched(out: &mut ByteOut, found: Option<Graph>) -> Result<(), AllocError>
-    ensures { OnOk result (out.new ≡ out.old ++ fetched_one (fetched found)) }
+pub fn write_fetched(out: &mut ByteOut, found: Option<&Graph>) -> Result<(), AllocError>
+    ensures { OnOk result (out.new
+        ≡ out.old ++ fetched_one (fetched (option_map (λ g. g.now) found))) }
 {
     match found {
         Some(value) => {
-            write_value(&value, 0, out)?;
+            write_value(value, 0, out)?;
             out.push(b"b:1;")
         }
         None => out.push(b"b:0;b:0;"),
@@ -63,11 +65,12 @@ pub fn write_gave(out: &mut ByteOut, value: &Graph) -> Result<(), AllocError>
 
 /// What `apcu_key_info`, `apcu_cache_info` or `apcu_sma_info` told, or a null where no live row has
 /// the key.
-pub fn write_info(out: &mut ByteOut, info: Option<Graph>) -> Result<(), AllocError>
-    ensures { OnOk result (out.new ≡ out.old ++ info_one (info_reply info)) }
+pub fn write_info(out: &mut ByteOut, info: Option<&Graph>) -> Result<(), AllocError>
+    ensures { OnOk result (out.new
+        ≡ out.old ++ info_one (info_reply (option_map (λ g. g.now) info))) }
 {
     match info {
-        Some(graph) => write_value(&graph, 0, out),
+        Some(graph) => write_value(graph, 0, out),
         None => out.push(b"N;"),
     }
 }
@@ -166,17 +169,18 @@ pub fn write_numbered(out: &mut ByteOut, strings: &[&Bytes]) -> Result<(), Alloc
 
 // An array of these values under their keys, which is the first value of the reply.
 #[tactic(auto, using(crate::proofs::Printed::members_len))]
-pub fn write_values(out: &mut ByteOut, values: &[(&Bytes, Graph)]) -> Result<(), AllocError>
+pub fn write_values<V: Value>(out: &mut ByteOut, values: &[(&Bytes, V)]) -> Result<(), AllocError>
     requires { length values.now < 2 ^ 32 }
     ensures { OnOk result (out.new ≡ out.old ++ array_text
-        (value_members 1 (map (λ value. (value.0.now, value.1)) values.now))) }
+        (value_members 1 (map (λ value. (value.0.now, V.kinds_of value.1)) values.now))) }
 {
     write_head(out, values.len())?;
     let mut base = 1;
     for value in values {
         write_key(value.0.as_slice(), out)?;
-        write_value(&value.1, base, out)?;
-        base += u64::from(value.1.places());
+        let graph = value.1.graph();
+        write_value(graph, base, out)?;
+        base += u64::from(graph.places());
     }
     out.push(b"}")
 }

@@ -72,7 +72,7 @@ front_later (x ∷ a) b c k h =
     ap (λ t. cond t (next_place (first_difference (a ++ b) (a ++ c))) (Some 0)) (eq-eqb x x refl)
     ∙ (ap next_place (front_later a b c k h) ∙ ap Some (omega arith))
 
-front_none : (a b c : List ℕ) → first_difference b c ≡ None → first_difference (a ++ b) (a ++ c) ≡ None
+pub front_none : (a b c : List ℕ) → first_difference b c ≡ None → first_difference (a ++ b) (a ++ c) ≡ None
 front_none [] b c h = h
 front_none (x ∷ a) b c h =
     ap (λ t. cond t (next_place (first_difference (a ++ b) (a ++ c))) (Some 0)) (eq-eqb x x refl)

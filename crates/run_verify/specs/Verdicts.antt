@@ -25,7 +25,7 @@ behind text here None = if here then Some (drop 8 text) else None
 abbrev pub journal_from : Bool → List ℕ → Option (List ℕ)
 journal_from begins [] = None
 journal_from begins (byte ∷ bytes) =
-    behind (byte ∷ bytes) (begins && bytes_eq (take 8 (byte ∷ bytes)) (codes "journal\n"))
+    behind (byte ∷ bytes) (begins && bytes_eq (codes "journal\n") (take 8 (byte ∷ bytes)))
     (journal_from (byte == 10) bytes)
 
 -- the journal part of an output, whose first line begins at its front

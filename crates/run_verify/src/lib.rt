@@ -3,7 +3,11 @@
 #![tactic(auto)]
 
 mod comparing;
+mod mark_laws;
+mod reading;
 mod verdict;
 
 pub use comparing::difference;
+pub use mark_laws::lines_tell_marks;
+pub use reading::{journal_at, line_end, read_mark};
 pub use verdict::Verdict;
