@@ -1,3 +1,4 @@
 pub mod Noting
 pub mod Printed
 pub mod ItemTexts
+pub mod KeyByKey

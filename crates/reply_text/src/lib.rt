@@ -8,6 +8,7 @@ mod replies;
 mod reply_list;
 mod several;
 mod single;
+mod steps;
 mod value;
 mod walks;
 

@@ -9,7 +9,7 @@ use crate::several::{write_found, write_there, write_undeleted, write_unstored};
 use crate::single::{
     write_counted, write_done, write_fetch, write_given, write_sums, write_told,
 };
-use crate::walks::write_walk;
+use crate::steps::write_steps;
 use apcu_model::Reply;
 use notation::ByteOut;
 use script_read::Call;
@@ -54,7 +54,7 @@ fn write_call(
         Call::Entry(_) => write_given(out, replies),
         Call::Clear | Call::Enabled | Call::WalkDelete { .. } => write_flag(out, true),
         Call::KeyInfo(_) | Call::CacheInfo(_) | Call::SmaInfo(_) => write_told(out, replies),
-        Call::Walk { fields, .. } => write_walk(out, *fields, replies),
+        Call::Walk { fields, .. } => write_steps(out, *fields, replies),
         Call::Totals { .. } => write_sums(out, replies),
     }
 }

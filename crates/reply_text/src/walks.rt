@@ -2,6 +2,7 @@
 
 ghost use Rattle.std.specs.Prelude.{◌≡◌, ◌+◌, ◌≤◌, ◌++◌, length, map, IfOk, OnOk};
 ghost use Rattle.std.specs.List.{flat_map, sum_by};
+ghost use Rattle.apcu_model.specs.declared.request.Reply.TheVariants as replies;
 ghost use Rattle.reply_text.specs.Replies.{members_text};
 ghost use Rattle.reply_text.specs.Items.{item_text, item_numbers, item_members, items_in};
 ghost use Rattle.reply_text.specs.Items.{item_values, walk_text};
@@ -9,7 +10,7 @@ ghost use Rattle.reply_text.specs.Fields.{field_value};
 
 use crate::fields::{Held, value_or_null, write_chosen};
 use crate::replies::write_head;
-use apcu_model::{Fields, ItemRow, Reply};
+use apcu_model::{Chunk, Fields, ItemRow};
 use itoa::Buffer;
 use notation::{ByteOut, write_key};
 use std::alloc::AllocError;
@@ -19,11 +20,11 @@ const MOST_NUMBERS: u64 = 1 << 55;
 
 // How far a walk's text has come.
 #[derive(Clone, Copy, Debug)]
-struct Reached {
+pub(crate) struct Reached {
     // The key of the next item.
-    key: u64,
+    pub key: u64,
     // How many values that take a number stand before it.
-    base: u64,
+    pub base: u64,
 }
 
 // What an item can tell, by the bits from 0 on.
@@ -60,7 +61,7 @@ fn write_item(
 }
 
 // The items of one step.
-fn write_items(
+pub(crate) fn write_items(
     out: &mut ByteOut,
     fields: Fields,
     rows: &[ItemRow],
@@ -87,23 +88,15 @@ fn write_items(
     Ok(reached)
 }
 
-// The items of a step.
-fn items_of(reply: &Reply) -> &[ItemRow]
-    ensures { result.now ≡ items_in reply.now }
-{
-    match reply {
-        Reply::Chunk(chunk) => chunk.items.as_slice(),
-        _ => &[],
-    }
-}
-
 // How many items these steps have.
-fn item_count(steps: &[Reply]) -> Result<usize, AllocError>
-    ensures { IfOk result (λ count. count ≡ length (flat_map items_in steps.now)) }
+fn item_count(chunks: &[Chunk]) -> Result<usize, AllocError>
+    ensures { IfOk result (λ count. count
+        ≡ length (flat_map items_in (map (λ chunk. replies.Chunk chunk) chunks.now))) }
 {
     let mut count: usize = 0;
-    for step in steps {
-        count = count.checked_add(items_of(step).len()).ok_or(AllocError)?;
+    for chunk in chunks {
+        let more = chunk.items.len() as usize;
+        count = count.checked_add(more).ok_or(AllocError)?;
     }
     Ok(count)
 }
@@ -112,13 +105,14 @@ fn item_count(steps: &[Reply]) -> Result<usize, AllocError>
 /// array of the fields that are chosen, in the order of their bits; a number from 2^63 on is
 /// printed as the last integer of 64 bits. What is inside a value is numbered behind all that
 /// stands before it. Where 2^55 values stand before an item, it fails as without memory.
-pub fn write_walk(out: &mut ByteOut, fields: Fields, steps: &[Reply]) -> Result<(), AllocError>
-    ensures { OnOk result (out.new ≡ out.old ++ walk_text fields steps.now) }
+pub fn write_walk(out: &mut ByteOut, fields: Fields, chunks: &[Chunk]) -> Result<(), AllocError>
+    ensures { OnOk result (out.new ≡ out.old
+        ++ walk_text fields (map (λ chunk. replies.Chunk chunk) chunks.now)) }
 {
-    write_head(out, item_count(steps)?)?;
+    write_head(out, item_count(chunks)?)?;
     let mut reached = Reached { key: 0, base: 1 };
-    for step in steps {
-        reached = write_items(out, fields, items_of(step), reached)?;
+    for chunk in chunks {
+        reached = write_items(out, fields, chunk.items.as_slice(), reached)?;
     }
     out.push(b"}")
 }

@@ -35,7 +35,7 @@ whole_piece line piece to h = by (to == length line) refl
         let more = eqb-false to (length line) e in
         sym (other_bytes piece line (λ is. absurd (omega (arith, more, h.end, ap length is))))
 
-same_none : (l : List ℕ) → first_difference l l ≡ None
+pub same_none : (l : List ℕ) → first_difference l l ≡ None
 same_none l = ap (λ (m : List ℕ). first_difference m m) (sym (append-nil l)) ∙ front_none l [] [] refl
 
 -- it differs from the line somewhere
