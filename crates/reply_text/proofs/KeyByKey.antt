@@ -1,6 +1,6 @@
 -- Calls on several keys, key by key.
-use Rattle.std.proofs.Common.{◌≡◌, ◌⊎◌, inl, inr, ℕ, suc, ◌+◌, ◌<◌, ◌≤◌, Bool, true, false, cond, List, [], ◌∷◌, ◌++◌, length, drop, get_or, map, Option, Some, None, refl, sym, ap, ap₂, ◌∙◌, append_assoc, drop-cons, add-one, arith}
-use Rattle.std.specs.Prelude.{min}
+use Rattle.std.proofs.Common.{◌≡◌, ◌⊎◌, inl, inr, ℕ, suc, ◌+◌, ◌<◌, ◌≤◌, Bool, true, false, cond, List, [], ◌∷◌, ◌++◌, length, drop, get_or, map, Option, refl, sym, ap, ap₂, ◌∙◌, append_assoc, drop-cons, add-one, arith}
+use Rattle.std.specs.Prelude.{min, not}
 use Rattle.std.specs.Borrow.{Bor}
 use Rattle.std.specs.Str.{bytes_eq}
 use Rattle.std.proofs.Math.ListN.{drop_of_length-le}
@@ -33,12 +33,31 @@ undone_take all front new k r ks later rs others ks_are rs_are done more so_far 
 pub past_both : (a b i : ℕ) → min a b ≤ i → (a ≤ i) ⊎ (b ≤ i)
 past_both a b i past = elim (cases_lt b a) [
   | inl less ↦
-      let m = min-eq_right {a} {b} (omega (arith, less)) in
+      let le : b ≤ a = omega (arith, less) in
+      let m : min a b ≡ b = min-eq_right le in
       inr (omega (arith, past, m))
   | inr le ↦
-      let m = min-eq_left {a} {b} (omega (arith, le)) in
+      let m : min a b ≡ a = min-eq_left le in
       inl (omega (arith, past, m))
 ]
+
+-- a place that is not past them is in both
+pub in_both : (a b i : ℕ) → i < min a b → (i < a) × (i < b)
+in_both a b i low = elim (cases_lt b a) [
+  | inl less ↦
+      let le : b ≤ a = omega (arith, less) in
+      let m : min a b ≡ b = min-eq_right le in (omega (arith, low, m, less), omega (arith, low, m))
+  | inr le ↦
+      let m : min a b ≡ a = min-eq_left le in (omega (arith, low, m), omega (arith, low, m, le))
+]
+
+pub is_false : (b : Bool) → not b ≡ true → b ≡ false
+is_false true e = absurd cc
+is_false false e = refl
+
+pub is_true : (b : Bool) → not b ≡ false → b ≡ true
+is_true true e = refl
+is_true false e = absurd cc
 
 none_of : (ks : List (List ℕ)) → undone ks [] ≡ []
 none_of [] = refl
@@ -82,3 +101,30 @@ gone xs ys i past = elim past [
   | inl le ↦ inl (drop_of_length-le xs le)
   | inr le ↦ inr (drop_of_length-le ys le)
 ]
+
+-- the first of what is left of some pairs
+pub pair_there : (pairs : List (List ℕ × List Kind)) (i : ℕ) → i < length pairs → drop i pairs ≡ get_or pairs i ([], []) ∷ drop (i + 1) pairs
+pair_there pairs i low = drop-cons pairs i ([], []) low ∙ ap (λ k. get_or pairs i ([], []) ∷ drop k pairs) (sym (add-one i))
+
+pub key_there : (keys : List (List ℕ)) (i : ℕ) → i < length keys → drop i keys ≡ get_or keys i [] ∷ drop (i + 1) keys
+key_there keys i low = drop-cons keys i [] low ∙ ap (λ k. get_or keys i [] ∷ drop k keys) (sym (add-one i))
+
+-- no pair or no reply is left
+pub pairs_past : (pairs : List (List ℕ × List Kind)) (rs : List Reply) (i : ℕ) → (length pairs ≤ i) ⊎ (length rs ≤ i) → undone (map (λ (pair : List ℕ × List Kind). pair.0) (drop i pairs)) (drop i rs) ≡ []
+pairs_past pairs rs i past = elim past [
+  | inl le ↦ ap (λ l. undone (map (λ (pair : List ℕ × List Kind). pair.0) l) (drop i rs)) (drop_of_length-le pairs le)
+  | inr le ↦ ap (undone (map (λ (pair : List ℕ × List Kind). pair.0) (drop i pairs))) (drop_of_length-le rs le) ∙ none_of (map (λ (pair : List ℕ × List Kind). pair.0) (drop i pairs))
+]
+
+pub lent_len : (ns : List (List ℕ × Bor (List Kind))) → length (lent_notes ns) ≡ length ns
+lent_len [] = refl
+lent_len (n ∷ ns) = ap suc (lent_len ns)
+
+pub told_len : (l : List (Bor (List ℕ) × Bor (List Kind))) → length {A = List ℕ × Bor (List Kind)} (map (λ (v : Bor (List ℕ) × Bor (List Kind)). (v.0.now, v.1)) l) ≡ length l
+told_len [] = refl
+told_len (v ∷ vs) = ap suc (told_len vs)
+
+-- both references read
+pub both_read : (l : List (Bor (List ℕ) × Bor (List Kind))) → map (λ (v : Bor (List ℕ) × Bor (List Kind)). (v.0.now, v.1.now)) l ≡ lent_notes (map (λ (v : Bor (List ℕ) × Bor (List Kind)). (v.0.now, v.1)) l)
+both_read [] = refl
+both_read (v ∷ vs) = ap (λ l. (v.0.now, v.1.now) ∷ l) (both_read vs)

@@ -6,9 +6,7 @@ ghost use Rattle.reply_text.specs.Lines.{call_text};
 use crate::replies::write_flag;
 use crate::reply_list::Replies;
 use crate::several::{write_found, write_there, write_undeleted, write_unstored};
-use crate::single::{
-    write_counted, write_done, write_fetch, write_given, write_sums, write_told,
-};
+use crate::single::{write_counted, write_done, write_fetch, write_given, write_sums, write_told};
 use crate::steps::write_steps;
 use apcu_model::Reply;
 use notation::ByteOut;

@@ -2,6 +2,7 @@
 
 ghost use Rattle.std.specs.Prelude.{◌≡◌, ◌<◌, ◌^◌, ◌++◌, [], length, map, IfOk, OnOk};
 ghost use Rattle.reply_text.specs.Replies.{undone, all_noted, there_in, value_in, is_done};
+ghost use Rattle.std.specs.Option.{option_map};
 ghost use Rattle.reply_text.specs.Notes.{lent_notes};
 ghost use Rattle.reply_text.specs.Replies.{unstored_text, undeleted_text, there_text, found_text};
 
@@ -19,6 +20,16 @@ pub(crate) fn is_done(reply: &Reply) -> bool
     match reply {
         Reply::Flag(done) => *done,
         _ => false,
+    }
+}
+
+// The value that a reply says was found.
+fn value_of(reply: &Reply) -> Option<&Graph>
+    ensures { option_map (λ g. g.now) result ≡ value_in reply.now }
+{
+    match reply {
+        Reply::Found(value) => Some(value),
+        _ => None,
     }
 }
 
@@ -86,7 +97,7 @@ fn values_found<'a, 'b>(
 {
     let mut notes = Notes::new(alloc);
     for i in 0..keys.len().min(replies.len()) {
-        if let Reply::Found(value) = &replies[i] {
+        if let Some(value) = value_of(&replies[i]) {
             notes.note(&keys[i], value)?;
         }
     }
