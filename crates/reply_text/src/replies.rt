@@ -40,10 +40,10 @@ pub fn write_fetched(out: &mut ByteOut, found: Option<Graph>) -> Result<(), Allo
 }
 
 // A value that a fetch found, and that it was there.
-pub(crate) fn write_present(out: &mut ByteOut, value: &Graph) -> Result<(), AllocError>
-    ensures { OnOk result (out.new ≡ out.old ++ fetched_one (Found value.now)) }
+pub(crate) fn write_present(out: &mut ByteOut, found: &Graph) -> Result<(), AllocError>
+    ensures { OnOk result (out.new ≡ out.old ++ fetched_one (Found found.now)) }
 {
-    write_value(value, 0, out)?;
+    write_value(found, 0, out)?;
     out.push(b"b:1;")
 }
 

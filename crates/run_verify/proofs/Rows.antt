@@ -5,6 +5,8 @@ use Rattle.std.specs.Fmt.{digits}
 use Rattle.notation.specs.Notation as notation
 use Rattle.reply_text.specs.Output.{mask_text}
 use Rattle.php_graph.specs.declared.kind.Kind.TheVariants as kinds
+use Rattle.seg_words.specs.Gaps.{is_whole}
+use Rattle.apcu_model.specs.Conf.{piece_of}
 use Rattle.apcu_model.specs.declared.conf.Conf.{Conf}
 use Rattle.script_read.specs.declared.call.Call.TheVariants.{StoreOne, FetchOne}
 use Rattle.script_read.specs.declared.script.Step.{Step}
@@ -33,30 +35,30 @@ end : first_difference (codes "abc") (codes "ab") ≡ Some 2
 end = refl
 
 mark : mark_of_line (codes "1 0 3\n") ≡ Some (record { worker = 1; mask = 9 })
-unfolding digits
+unfolding digits mask_text
 mark = refl
 
 falls : mark_of_line (codes "1 3 0\n") ≡ None
-unfolding digits
+unfolding digits mask_text
 falls = refl
 
 twice : mark_of_line (codes "1  0\n") ≡ None
-unfolding digits
+unfolding digits mask_text
 twice = refl
 
 zeros : mark_of_line (codes "01\n") ≡ None
-unfolding digits
+unfolding digits mask_text
 zeros = refl
 
 open_line : mark_of_line (codes "1") ≡ None
 open_line = refl
 
 yes : verdict_of conf (script ∷ []) (codes "worker 0\nb:1;\ni:5;b:1;\njournal\n0\n0\n0\n") ≡ Yes
-unfolding digits mask_text conf script notation.child_text
+unfolding digits mask_text conf script notation.child_text is_whole piece_of
 yes = refl
 
 byte : verdict_of conf (script ∷ []) (codes "worker 0\nb:1;\ni:6;b:1;\njournal\n0\n0\n0\n") ≡ Byte 16
-unfolding digits mask_text conf script notation.child_text
+unfolding digits mask_text conf script notation.child_text is_whole piece_of
 byte = refl
 
 short : verdict_of conf (script ∷ []) (codes "worker 0\nb:1;\ni:5;b:1;\njournal\n0\n0\n") ≡ Event 2
