@@ -105,9 +105,9 @@ no_part b (x ∷ xs) all =
 part_here : (part : List ℕ) → list_all quiet part ≡ true → journal_from true (codes "journal\n" ++ part) ≡ Some part
 part_here part all =
     ap (λ (o : Option (List ℕ)).
-        behind (codes "journal\n" ++ part) (bytes_eq (codes "journal\n") (take 8 (codes "journal\n" ++ part)))
-        (behind (codes "ournal\n" ++ part) false (behind (codes "urnal\n" ++ part) false (behind (codes "rnal\n" ++ part) false
-        (behind (codes "nal\n" ++ part) false (behind (codes "al\n" ++ part) false (behind (codes "l\n" ++ part) false (behind (codes "\n" ++ part) false o)))))))) (no_part true part all)
+    behind (codes "journal\n" ++ part) (bytes_eq (codes "journal\n") (take 8 (codes "journal\n" ++ part)))
+    (behind (codes "ournal\n" ++ part) false (behind (codes "urnal\n" ++ part) false (behind (codes "rnal\n" ++ part) false
+    (behind (codes "nal\n" ++ part) false (behind (codes "al\n" ++ part) false (behind (codes "l\n" ++ part) false (behind (codes "\n" ++ part) false o)))))))) (no_part true part all)
 
 -- ---- the lines of marks
 

@@ -84,6 +84,7 @@ judged_yes conf scripts output k marks p (line ∷ lines) is e = by (mark_of_lin
         → IsOutput conf scripts output
     goes mark None m e later = absurd cc
     goes mark (Some q) m e later = later (marks ++ mark ∷ []) q (played_more conf scripts (nothing_played conf scripts) marks mark p q is m) e
+
     by : (o : Option Mark) → go_on (Event k) (λ (q : Play). judged conf scripts output (k + 1) (with_mark marks o) q lines) (played_line conf scripts p o) ≡ Yes
         → ((ms : List Mark) (q : Play) → played conf scripts ms ≡ Some q → judged conf scripts output (k + 1) ms q lines ≡ Yes → IsOutput conf scripts output)
         → IsOutput conf scripts output
@@ -128,7 +129,7 @@ marks_fair conf scripts p (mark ∷ marks) few legal =
     let own = and_then_some (λ (script : List Step). wanted conf script (replies_of p mark.worker)) (script_of scripts mark.worker) wished in
     let worker = slice_get_within scripts mark.worker own.first own.is in
     let legal_mask = first_true (nat_lt mark.mask (2 ^ 64))
-        (list_all (λ v. not (is_in_mask mark.mask v) || (not (v == mark.worker) && nat_lt v (length scripts) && is_some (window_of p.stage v))) (range_with_len 0 64)) parts.0 in
+    (list_all (λ v. not (is_in_mask mark.mask v) || (not (v == mark.worker) && nat_lt v (length scripts) && is_some (window_of p.stage v))) (range_with_len 0 64)) parts.0 in
     ((omega (arith, worker, few), ltb-true mark.mask (2 ^ 64) legal_mask), marks_fair conf scripts one.first marks few one.goes)
 
 -- the lines of marks that can be played are judged by their end

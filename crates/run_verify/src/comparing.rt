@@ -24,7 +24,12 @@ pub(crate) fn match_piece(output: &[u8], at: usize, piece: &[u8]) -> Result<usiz
 }
 
 // Whether two pieces stand there, one behind the other.
-pub(crate) fn match_both(output: &[u8], at: usize, first: &[u8], second: &[u8]) -> Result<usize, usize>
+pub(crate) fn match_both(
+    output: &[u8],
+    at: usize,
+    first: &[u8],
+    second: &[u8],
+) -> Result<usize, usize>
     requires { at ≤ length output.now }
     ensures has { IfOk result (λ to. HasPiece output.now at (first.now ++ second.now) to) }
     ensures differs { IfErr result (λ place.
