@@ -17,4 +17,6 @@ mod moments;
 #[cfg(test)]
 mod reading;
 #[cfg(test)]
+mod rendered;
+#[cfg(test)]
 mod replies;

@@ -1,0 +1,5 @@
+//! Tests of verdicts on outputs.
+#![tactic(auto)]
+
+#[cfg(test)]
+mod reading;
