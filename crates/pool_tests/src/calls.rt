@@ -16,7 +16,7 @@ fn a_look(rt: HostRuntime) -> Result<(), Fail> {
     assert_eq!(rt; call.ask.events(64), 1);
     assert!(rt; call.pattern(rt.alloc())?.is_none());
     match request(rt.alloc(), &call, 0)? {
-        Request::Exists(key) => assert_eq!(rt; key.as_slice(), b"{p}a"),
+        Request::Exists(key) => assert_eq!(rt; key.as_slice(), b"{p}a".as_slice()),
         _ => assert!(rt; false),
     }
     Ok(())
@@ -36,7 +36,7 @@ fn a_step_of_clearing(rt: HostRuntime) -> Result<(), Fail> {
             from,
             size,
         } => {
-            assert_eq!(rt; pattern.text.as_slice(), b"\\{p\\.q\\}");
+            assert_eq!(rt; pattern.text.as_slice(), b"\\{p\\.q\\}".as_slice());
             assert!(rt; !pattern.fold && from == 3 && size == 100);
         }
         _ => assert!(rt; false),
