@@ -8,7 +8,6 @@ declare(strict_types=1);
 namespace ApcuRecord;
 
 require __DIR__ . '/lines.php';
-require __DIR__ . '/report/map.php';
 require __DIR__ . '/report/play.php';
 require __DIR__ . '/report/page.php';
 
@@ -20,15 +19,15 @@ const SETTINGS = [
 
 [$program, $page, $settings, $input] = asked(array_slice($argv, 1));
 $played = with_questions($input);
-[$rows, $maps] = [[], []];
+$rows = [];
 echo line('setting', array_values(COLUMNS));
 foreach ($settings as $setting) {
     [$output, $message] = play($program, $setting, $played);
-    [$rows[$setting], $maps[$setting]] = $output === null ? [$message, []] : told($played, $output);
+    $rows[$setting] = $output === null ? $message : told($played, $output);
     echo line($setting, is_array($rows[$setting]) ? shown_all($rows[$setting]) : $rows[$setting]);
 }
 if ($page !== null) {
-    @file_put_contents($page, page(basename($input), $rows, $maps)) !== false || give_up("$page cannot be written");
+    @file_put_contents($page, page(basename($input), $rows)) !== false || give_up("$page cannot be written");
 }
 
 /** The program, the page, the settings and the input. */

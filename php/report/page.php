@@ -1,6 +1,6 @@
 <?php
 
-// The report as one HTML file: a section for each column, with a bar for each setting, and the map of each.
+// The report as one HTML file: a section for each column, with a bar for each setting.
 
 declare(strict_types=1);
 
@@ -15,19 +15,14 @@ td:first-child { width: 17em; white-space: nowrap; font-family: monospace; }
 td:last-child { width: 7em; text-align: right; white-space: nowrap; }
 .bar { background: #4a7ab5; height: 1em; min-width: 1px; }
 .fault { color: #a00; }
-svg { width: 100%; margin-bottom: 1em; }
 CSS;
 
-function page(string $name, array $rows, array $maps): string
+function page(string $name, array $rows): string
 {
     $title = 'The cache of ' . htmlspecialchars($name);
     $sections = '';
     foreach (COLUMNS as $column => $words) {
         $sections .= section($column, $words, $rows);
-    }
-    $sections .= "<h2>Maps</h2>\n";
-    foreach (array_filter($maps) as $setting => $extents) {
-        $sections .= '<p>' . htmlspecialchars($setting) . "</p>\n" . map_picture($extents);
     }
     return "<!DOCTYPE html>\n<html lang=\"en\">\n<meta charset=\"utf-8\">\n<title>$title</title>\n<style>\n" . STYLE
         . "\n</style>\n<h1>$title</h1>\n$sections</html>\n";

@@ -10,12 +10,12 @@ const COLUMNS = [
     'rate' => 'hit rate', 'inserts' => 'inserts', 'refused' => 'refused', 'expunges' => 'expunges',
     'entries' => 'entries', 'used' => 'in use', 'gap' => 'largest gap',
 ];
-/** It changes nothing and counts nothing. */
-const QUESTION = "apcu_cache_info b:1;\n";
+/** They change nothing and count nothing. */
+const QUESTIONS = "apcu_cache_info b:1;\napcu_sma_info b:0;\n";
 
 /**
  * A copy of an input with questions in it: before each entry whether its row is there, which the entry's reply does not
- * tell; and at the end of each worker what the cache has come to.
+ * tell; and at the end of each worker what the cache and its segments have come to.
  */
 function with_questions(string $path): string
 {
@@ -27,25 +27,25 @@ function with_questions(string $path): string
         $word = word_of($line);
         $key = $word === 'apcu_entry' ? key_of($line) : null;
         $before = match (true) {
-            $word === 'worker' && !$is_first => QUESTION,
+            $word === 'worker' && !$is_first => QUESTIONS,
             $key !== null => 'apcu_exists s:' . strlen($key) . ":\"$key\";\n",
             default => '',
         };
         $is_first = false;
         fwrite($out, $before . $line);
     }
-    fwrite($out, $is_first ? '' : QUESTION);
+    fwrite($out, $is_first ? '' : QUESTIONS);
     fclose($out);
     return $copy;
 }
 
-/** What the program prints with these options and a map, as a stream; or none, and its message. */
+/** What the program prints with these options, as a stream; or none, and its message. */
 function play(string $program, string $setting, string $input): array
 {
     $output = tmpfile();
     $words = preg_split('/ +/', $setting, -1, PREG_SPLIT_NO_EMPTY);
     $ends = [opened($input), $output, ['pipe', 'w']];
-    $process = proc_open([$program, ...$words, '--map', '1'], $ends, $pipes);
+    $process = proc_open([$program, ...$words], $ends, $pipes);
     if ($process === false) {
         give_up("$program cannot be started");
     }
@@ -59,10 +59,9 @@ function play(string $program, string $setting, string $input): array
 
 /**
  * What the replies tell: hits and stores in all of the play, for the cache's own counts begin anew at each expunge; and
- * the cache's shape at the end, with its map.
+ * the cache's shape at the end.
  *
  * @param resource $output
- * @return array{array, array} the row of a setting, and the extents of its map
  */
 function told(string $input, $output): array
 {
@@ -80,14 +79,13 @@ function told(string $input, $output): array
         $replies->next();
         match ($word) {
             'worker' => $worker++,
-            'apcu_cache_info' => $ends[$worker] = $reply,
+            'apcu_cache_info', 'apcu_sma_info' => $ends[$worker][$word] = $reply,
             'apcu_exists' => $exists = $reply,
             default => count_call($sums, $word, $line, $reply, $exists),
         };
     }
-    $cache = last_of($ends, $replies);
-    $map = map_of($replies);
-    return [summed($sums, $cache, $map['largest']), $map['extents']];
+    [$cache, $segments] = last_of($ends, $replies);
+    return summed($sums, $cache, $segments);
 }
 
 function count_call(array &$sums, string $word, string $line, string $reply, string $exists): void
@@ -109,30 +107,37 @@ function count_call(array &$sums, string $word, string $line, string $reply, str
 }
 
 /**
- * Of the last replies of each worker, the one that came last: behind it there is no call but questions and ends. The
- * last event of a worker is its end, and the one before it is its question.
+ * Of the last replies of each worker, those that came last: behind them there is no call but questions and ends. The
+ * last event of a worker is its end, and the two before it are its questions.
  */
 function last_of(array $ends, \Generator $journal): array
 {
     $places = [];
-    for ($place = 0; $journal->valid() && $journal->current() !== "map\n"; $journal->next(), $place++) {
+    for ($place = 0; $journal->valid(); $journal->next(), $place++) {
         $worker = (int) $journal->current();
         if ($place > 0) {
-            $places[$worker] = [...array_slice($places[$worker] ?? [], -1), $place];
+            $places[$worker] = [...array_slice($places[$worker] ?? [], -2), $place];
         }
     }
-    [$cache, $at] = ['a:0:{}', -1];
-    foreach ($ends as $worker => $reply) {
-        if ($places[$worker][0] > $at) {
-            [$cache, $at] = [$reply, $places[$worker][0]];
+    [$cache, $segments, $at] = ['a:0:{}', 'a:0:{}', [-1, -1]];
+    foreach ($ends as $worker => $replies) {
+        if ($places[$worker][0] > $at[0]) {
+            [$cache, $at[0]] = [$replies['apcu_cache_info'], $places[$worker][0]];
+        }
+        if ($places[$worker][1] > $at[1]) {
+            [$segments, $at[1]] = [$replies['apcu_sma_info'], $places[$worker][1]];
         }
     }
-    return unserialize($cache);
+    return [unserialize($cache), unserialize($segments)];
 }
 
-/** The row of a setting, in the order of the columns. A word has eight bytes. */
-function summed(array $sums, array $cache, int $largest): array
+/** The row of a setting, in the order of the columns. */
+function summed(array $sums, array $cache, array $segments): array
 {
+    $gaps = [0];
+    foreach ($segments['block_lists'] ?? [] as $list) {
+        array_push($gaps, ...array_column($list, 'size'));
+    }
     $asked = $sums['hits'] + $sums['misses'];
     return [
         'rate' => $asked === 0 ? 0.0 : $sums['hits'] / $asked,
@@ -141,6 +146,6 @@ function summed(array $sums, array $cache, int $largest): array
         'expunges' => $cache['expunges'] ?? 0,
         'entries' => $cache['num_entries'] ?? 0,
         'used' => $cache['mem_size'] ?? 0,
-        'gap' => 8 * $largest,
+        'gap' => max($gaps),
     ];
 }
