@@ -18,7 +18,7 @@ use std::sync::Wait;
 use std::test::Fail;
 use worker_play::PlayFault;
 
-pub(crate) fn one_pass<N: TableName>(passes: &mut Passes) -> Option<Pass>
+fn one_pass<N: TableName>(passes: &mut Passes) -> Option<Pass>
     requires passes { passes.old ≡ fresh N.table N.budgets 1 }
     ensures { IfSome result (λ p. p ≡ fresh_pass N.table N.budgets 0) }
 {

@@ -1,5 +1,4 @@
-//! Tests of `worker_play`: a worker alone, one of which no line is kept, one beside another, and
-//! the gate that both pass.
+//! Tests of `worker_play`: a worker alone, one beside another, and the gate that both pass.
 #![tactic(auto)]
 
 #[cfg(test)]
@@ -10,5 +9,3 @@ mod beside;
 mod gates;
 #[cfg(test)]
 mod playing;
-#[cfg(test)]
-mod quiet;

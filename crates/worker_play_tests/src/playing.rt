@@ -39,7 +39,7 @@ pub(crate) fn script_of(alloc: Global, text: &[u8]) -> Result<Script, Fail> {
 }
 
 // Whether so many events are enough for a script, and one is left then.
-pub(crate) fn may_play(script: &Script, slots: u32, left: u32) -> bool
+fn may_play(script: &Script, slots: u32, left: u32) -> bool
     ensures { IsTrue result → events_in slots script.now < left }
 {
     if left == 0 {
