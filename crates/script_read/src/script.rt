@@ -166,8 +166,8 @@ impl Scripts {
         self.scripts.pop()
     }
 
-    // The script of one more worker; without memory the scripts stay as they were.
-    pub(crate) fn push(&mut self, script: Script) -> Result<(), AllocError>
+    /// The script of one more worker; without memory the scripts stay as they were.
+    pub fn push(&mut self, script: Script) -> Result<(), AllocError>
         requires { length self.old < 64 }
         ensures { self.new ≡ (if is_ok result then self.old ++ script ∷ [] else self.old) }
     {
