@@ -1,10 +1,11 @@
 -- The events that a journal tells lead where its play does, and none of them is deep.
 use Rattle.std.proofs.Common.{◌≡◌, ℕ, zero, suc, ◌≤◌, Bool, true, false, if◌then◌else◌, List, [], ◌∷◌, ◌++◌, length, map, Option, Some, None, refl, ap, sym, ◌∙◌, subst, arith}
-use Rattle.std.specs.Prelude.{ℤ, Contains, unwrap_or, slice_get, nat_lt}
+use Rattle.std.specs.Prelude.{ℤ, pos, Contains, unwrap_or, slice_get, nat_lt, int_lt, nat_abs}
 use Rattle.std.specs.List.{AllByRecursion}
 use Rattle.std.specs.Option.{option_and_then}
 use Rattle.std.proofs.lemmas.List.{length-append}
 use Rattle.std.proofs.lemmas.Bool.{le-leb, and_from, and_parts}
+use Rattle.php_graph.specs.declared.kind.Kind.{Kind}
 use Rattle.apcu_model.specs.declared.conf.Conf.{Conf}
 use Rattle.apcu_model.specs.declared.event.Event.{Event}
 use Rattle.apcu_model.specs.declared.journal.Mark.{Mark}
@@ -21,7 +22,11 @@ use Rattle.script_read.specs.declared.call.Call.{Call}
 use Rattle.script_read.specs.declared.call.Call.TheVariants as calls
 use Rattle.script_read.specs.declared.script.Step.{Step}
 use Rattle.script_read.specs.Calls.{IsRanged, HasRanges}
-use Rattle.script_read.specs.Play.{Wish, Play, Next, Asks, Leaves, asks_each, asks_steps, asks_so, asking_of, next_of, slot_after, wanted, continued, nothing_played, replies_of, wish_of, event_of, after_wish, marked, played_from, played}
+use Rattle.simple_pool.specs.declared.call.PoolAsk.{PoolAsk}
+use Rattle.simple_pool.specs.declared.call.PoolAsk.TheVariants as pools
+use Rattle.simple_pool.specs.Names.{pool_key, pattern_of}
+use Rattle.simple_pool.specs.Requests.{pool_asking, pool_step, set_of, store_of}
+use Rattle.script_read.specs.Play.{Wish, Play, Next, Asks, Leaves, asks_each, asks_steps, asks_so, asking_in, asking_of, next_of, slot_after, wanted, continued, nothing_played, replies_of, wish_of, event_of, after_wish, marked, played_from, played}
 use Rattle.generated_laws.specs.Counting.{steps_on, counted_up, none_swaps}
 use Rattle.generated_laws.specs.Told.{events_from, AreRanged}
 use Rattle.generated_laws.proofs.Counting as counting
@@ -53,6 +58,25 @@ steps_shallow slots ask from (reply ∷ replies) r all e = go (nat_lt from slots
     go true q later = later q
     go false q later = absurd (cc q)
 
+set_shallow : (pool : List ℕ) (pair : List ℕ × List Kind) (ttl : ℤ) → is_shallow (set_of pool pair ttl) ≡ true
+set_shallow pool pair ttl = go (int_lt (pos 0) ttl)
+  where
+    go : (b : Bool) → is_shallow (if b then store_of pool pair (nat_abs ttl) else request.Delete (pool_key pool pair.0)) ≡ true
+    go true = refl
+    go false = refl
+
+pool_shallow : (slots : ℕ) (pool : List ℕ) (ask : PoolAsk) (replies : List Reply) (r : Request) → asks_so slots (asking_in (pool_asking pool ask)) replies ≡ Asks r → is_shallow r ≡ true
+pool_shallow slots pool (pools.Get key default) replies r e = each_shallow (request.Fetch (pool_key pool key) ∷ []) replies r (refl, tt) e
+pool_shallow slots pool (pools.Set key value ttl) replies r e = each_shallow (set_of pool (key, value) ttl ∷ []) replies r (set_shallow pool (key, value) ttl, tt) e
+pool_shallow slots pool (pools.SetPlain key value) replies r e = each_shallow (store_of pool (key, value) 0 ∷ []) replies r (refl, tt) e
+pool_shallow slots pool (pools.Delete key) replies r e = each_shallow (request.Delete (pool_key pool key) ∷ []) replies r (refl, tt) e
+pool_shallow slots pool pools.Clear replies r e = steps_shallow slots (λ from. request.ChunkDelete (Some (pattern_of pool)) from pool_step) 0 replies r (λ n. refl) e
+pool_shallow slots pool (pools.GetMany keys default) replies r e = each_shallow (map (λ key. request.Fetch (pool_key pool key)) keys) replies r (mapped_shallow (λ key. request.Fetch (pool_key pool key)) keys (λ x. refl)) e
+pool_shallow slots pool (pools.SetMany pairs ttl) replies r e = each_shallow (map (λ pair. set_of pool pair ttl) pairs) replies r (mapped_shallow (λ pair. set_of pool pair ttl) pairs (λ pair. set_shallow pool pair ttl)) e
+pool_shallow slots pool (pools.SetManyPlain pairs) replies r e = each_shallow (map (λ pair. store_of pool pair 0) pairs) replies r (mapped_shallow (λ pair. store_of pool pair 0) pairs (λ x. refl)) e
+pool_shallow slots pool (pools.DeleteMany keys) replies r e = each_shallow (map (λ key. request.Delete (pool_key pool key)) keys) replies r (mapped_shallow (λ key. request.Delete (pool_key pool key)) keys (λ x. refl)) e
+pool_shallow slots pool (pools.Has key) replies r e = each_shallow (request.Exists (pool_key pool key) ∷ []) replies r (refl, tt) e
+
 call_shallow : (slots : ℕ) (call : Call) (replies : List Reply) (r : Request) → HasRanges call → asks_so slots (asking_of call) replies ≡ Asks r → is_shallow r ≡ true
 call_shallow slots (calls.StoreOne key value ttl exclusive) replies r h e = each_shallow (request.Store key value ttl exclusive ∷ []) replies r (refl, tt) e
 call_shallow slots (calls.StoreMany pairs ttl exclusive) replies r h e = each_shallow (map (λ pair. request.Store pair.0 pair.1 ttl exclusive) pairs) replies r (mapped_shallow (λ pair. request.Store pair.0 pair.1 ttl exclusive) pairs (λ x. refl)) e
@@ -74,6 +98,7 @@ call_shallow slots (calls.Walk search fields size Active) replies r h e = steps_
 call_shallow slots (calls.Walk search fields size Deleted) replies r h e = each_shallow (request.Chunk search 0 size Deleted fields ∷ []) replies r (refl, tt) e
 call_shallow slots (calls.WalkDelete search size) replies r h e = steps_shallow slots (λ from. request.ChunkDelete search from size) 0 replies r (λ n. refl) e
 call_shallow slots (calls.Totals search list) replies r h e = each_shallow (request.Totals search list ∷ []) replies r (refl, tt) e
+call_shallow slots (calls.Pool call) replies r h e = pool_shallow slots call.pool call.ask replies r e
 
 wanted_shallow : (conf : Conf) (script : List Step) (replies : List Reply) (wish : Wish) → AllByRecursion IsRanged script → wanted conf script replies ≡ Some wish → is_shallow wish.request ≡ true
 wanted_shallow conf [] [] wish all e = ap (λ (o : Option Wish). is_shallow (unwrap_or o wish).request) (sym e)

@@ -9,4 +9,5 @@ pub mod Clearing
 pub mod Law
 pub mod ByCalls
 pub mod Tied
+pub mod InPlays
 mod Example

@@ -1,10 +1,14 @@
 ghost use Rattle.std.specs.Prelude.{◌≡◌, ℕ, List, Some};
 ghost use Rattle.apcu_model.specs.declared.conf.Conf.{Conf};
 ghost use Rattle.apcu_model.specs.declared.event.Event.{Event};
+ghost use Rattle.apcu_model.specs.declared.journal.Mark.{Mark};
 ghost use Rattle.apcu_model.specs.declared.request.Request.{Request};
+ghost use Rattle.script_read.specs.declared.script.Step.{Step};
+ghost use Rattle.script_read.specs.Play.{IsLegal};
 ghost use Rattle.simple_pool.specs.declared.call.PoolCall.{PoolCall};
 ghost use Rattle.simple_pool.specs.Requests.{IsGoodCall, request_at};
 ghost use Rattle.pool_laws.specs.Calls.{AreTied, Asked, CallsLeaveAlone, CallsStandAlone, IsTied};
+ghost use Rattle.pool_laws.specs.Plays.{AreInRange, PoolStandsAlone, asked_in, told_by};
 ghost use Rattle.pool_laws.specs.Pools.{LeavesAlone, StandsAlone};
 
 use apcu_model::{events_keep, one_event_more};
@@ -33,3 +37,15 @@ pub fn calls_are_tied()
     ensures { (call : PoolCall) (i : ℕ) (request : Request) → IsGoodCall call
         → request_at call i ≡ Some request → IsTied (Some call.pool) request }
 {}
+
+/// In a legal journal, whatever the scripts and the interleaving: a pool that is left alone is
+/// answered as a map of its own would answer, that began empty and saw the pool's events alone.
+pub fn pools_in_plays()
+    ensures { (name : List ℕ) (conf : Conf) (scripts : List (List Step)) (journal : List Mark)
+        → let told = told_by conf scripts journal in
+        AreInRange scripts → IsLegal conf scripts journal
+        → CallsLeaveAlone name conf (asked_in told) → PoolStandsAlone name conf told }
+{
+    calls_are_tied();
+    calls_stand_alone();
+}

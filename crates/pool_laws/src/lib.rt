@@ -3,4 +3,4 @@
 
 mod laws;
 
-pub use laws::{calls_are_tied, calls_stand_alone, pools_stand_alone};
+pub use laws::{calls_are_tied, calls_stand_alone, pools_in_plays, pools_stand_alone};

@@ -1,5 +1,5 @@
 -- How often a call asks.
-use Rattle.std.proofs.Common.{◌≡◌, ℕ, suc, ◌+◌, ◌<◌, Bool, true, false, List, [], ◌∷◌, length, map, arith, refl, ap}
+use Rattle.std.proofs.Common.{◌≡◌, ℕ, suc, ◌+◌, ◌<◌, Bool, true, false, List, [], ◌∷◌, length, map, Some, arith, refl, ap}
 use Rattle.std.specs.Prelude.{nat_lt, if◌then◌else◌}
 use Rattle.php_graph.specs.declared.kind.Kind.{Kind}
 use Rattle.apcu_model.specs.declared.conf.Conf.{Conf}
@@ -8,9 +8,13 @@ use Rattle.apcu_model.specs.declared.request.Request.{Request}
 use Rattle.apcu_model.specs.declared.request.Request.TheVariants as requests
 use Rattle.apcu_model.specs.declared.request.Reply.{Reply}
 use Rattle.script_read.specs.declared.call.Call.{Call}
-use Rattle.script_read.specs.declared.call.Call.TheVariants.{StoreOne, StoreMany, FetchOne, FetchMany, ExistsOne, ExistsMany, DeleteOne, DeleteMany, Inc, Cas, Entry, Clear, Enabled, KeyInfo, CacheInfo, SmaInfo, Walk, WalkDelete, Totals}
+use Rattle.script_read.specs.declared.call.Call.TheVariants.{StoreOne, StoreMany, FetchOne, FetchMany, ExistsOne, ExistsMany, DeleteOne, DeleteMany, Inc, Cas, Entry, Clear, Enabled, KeyInfo, CacheInfo, SmaInfo, Walk, WalkDelete, Totals, Pool}
+use Rattle.simple_pool.specs.declared.call.PoolAsk.{PoolAsk}
+use Rattle.simple_pool.specs.declared.call.PoolAsk.TheVariants as pools
+use Rattle.simple_pool.specs.Names.{pool_key, pattern_of}
+use Rattle.simple_pool.specs.Requests.{pool_asking, pool_bound, pool_step, set_of, store_of}
 use Rattle.script_read.specs.Calls.{event_bound}
-use Rattle.script_read.specs.Play.{Asks, Leaves, asks_each, asks_steps, step_end, slot_after, next_of}
+use Rattle.script_read.specs.Play.{Asks, Leaves, asks_each, asks_steps, step_end, slot_after, next_of, asking_in, asks_so}
 
 -- ---- one after the other
 
@@ -56,6 +60,20 @@ steps_few slots ask from (reply ∷ replies) request e =
 walk_few : (slots : ℕ) (ask : ℕ → Request) (replies : List Reply) (request : Request) → asks_steps slots ask 0 replies ≡ Asks request → length replies < slots
 walk_few slots ask replies request e = omega (arith, steps_few slots ask 0 replies request e)
 
+-- ---- a pool's calls
+
+pool_few : (slots : ℕ) (pool : List ℕ) (ask : PoolAsk) (replies : List Reply) (request : Request) → asks_so slots (asking_in (pool_asking pool ask)) replies ≡ Asks request → length replies < pool_bound slots ask
+pool_few slots pool (pools.Get key default) replies request e = each_few (requests.Fetch (pool_key pool key) ∷ []) replies request e
+pool_few slots pool (pools.Set key value ttl) replies request e = each_few (set_of pool (key, value) ttl ∷ []) replies request e
+pool_few slots pool (pools.SetPlain key value) replies request e = each_few (store_of pool (key, value) 0 ∷ []) replies request e
+pool_few slots pool (pools.Delete key) replies request e = each_few (requests.Delete (pool_key pool key) ∷ []) replies request e
+pool_few slots pool pools.Clear replies request e = walk_few slots (λ from. requests.ChunkDelete (Some (pattern_of pool)) from pool_step) replies request e
+pool_few slots pool (pools.GetMany keys default) replies request e = many_few (λ (key : List ℕ). requests.Fetch (pool_key pool key)) keys replies request e
+pool_few slots pool (pools.SetMany pairs ttl) replies request e = many_few (λ (pair : List ℕ × List Kind). set_of pool pair ttl) pairs replies request e
+pool_few slots pool (pools.SetManyPlain pairs) replies request e = many_few (λ (pair : List ℕ × List Kind). store_of pool pair 0) pairs replies request e
+pool_few slots pool (pools.DeleteMany keys) replies request e = many_few (λ (key : List ℕ). requests.Delete (pool_key pool key)) keys replies request e
+pool_few slots pool (pools.Has key) replies request e = each_few (requests.Exists (pool_key pool key) ∷ []) replies request e
+
 -- ---- all calls
 
 pub asks_few : (conf : Conf) (call : Call) (replies : List Reply) (request : Request) → next_of conf call replies ≡ Asks request → length replies < event_bound conf.slots call
@@ -79,3 +97,4 @@ asks_few conf (Walk wanted fields size Active) replies request e = walk_few conf
 asks_few conf (Walk wanted fields size Deleted) replies request e = each_few (requests.Chunk wanted 0 size Deleted fields ∷ []) replies request e
 asks_few conf (WalkDelete wanted size) replies request e = walk_few conf.slots (λ from. requests.ChunkDelete wanted from size) replies request e
 asks_few conf (Totals wanted list) replies request e = each_few (requests.Totals wanted list ∷ []) replies request e
+asks_few conf (Pool call) replies request e = pool_few conf.slots call.pool call.ask replies request e

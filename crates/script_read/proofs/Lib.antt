@@ -5,6 +5,7 @@ pub mod GenSteps
 pub mod Forms
 pub mod Spelled
 pub mod Rows
+pub mod PoolRows
 pub mod Keywords
 pub mod Asking
 pub mod Inside

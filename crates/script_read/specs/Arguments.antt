@@ -21,6 +21,8 @@ use Rattle.apcu_model.specs.declared.searching.Pattern.{Pattern}
 use Rattle.apcu_model.specs.declared.searching.Fields.{Fields}
 use Rattle.apcu_model.specs.declared.searching.List.{List as Which}
 use Rattle.apcu_model.specs.declared.searching.List.TheVariants.{Active, Deleted}
+use Rattle.simple_pool.specs.Names.{is_good_name, is_good_key}
+use Rattle.simple_pool.specs.Requests.{is_good_ttl, are_good_keys, are_good_pairs}
 use Rattle.script_read.specs.Calls.{last_moment, most_items}
 
 -- the function's answers for all of them, where it has one for each
@@ -205,3 +207,31 @@ list_named name =
 -- the active rows, or those that were removed
 abbrev pub which_list : List Kind → Option Which
 which_list g = option_and_then list_named (key g)
+
+-- ---- pools
+
+-- where it passes the test
+abbrev pub kept_if : {A : Type 0} → (A → Bool) → Option A → Option A
+kept_if test o = option_and_then (λ x. if test x then Some x else None) o
+
+-- a pool's name, and its keys
+abbrev pub pool_name : List Kind → Option (List ℕ)
+pool_name g = kept_if is_good_name (key g)
+
+abbrev pub own_key : List Kind → Option (List ℕ)
+own_key g = kept_if is_good_key (key g)
+
+abbrev pub own_keys : List Kind → Option (List (List ℕ))
+own_keys g = kept_if are_good_keys (keys g)
+
+abbrev pub own_pairs : List Kind → Option (List (List ℕ × List Kind))
+own_pairs g = kept_if are_good_pairs (pairs g)
+
+-- a time to live in seconds, or a null for none
+abbrev pub own_ttl : List Kind → Option (Option ℤ)
+own_ttl g =
+    or_else (option_map (λ n. None) (null g)) (option_map Some (kept_if is_good_ttl (integer g)))
+
+-- the value that stands for one that is left out
+abbrev pub null_value : List Kind
+null_value = kinds.Null ∷ []

@@ -8,7 +8,9 @@ use Rattle.script_read.specs.declared.call.Call.TheVariants.{FetchMany, ExistsOn
 use Rattle.script_read.specs.declared.call.Call.TheVariants.{DeleteOne, DeleteMany, Inc, Cas, Clear}
 use Rattle.script_read.specs.declared.call.Call.TheVariants.{Enabled, Entry, KeyInfo, CacheInfo}
 use Rattle.script_read.specs.declared.call.Call.TheVariants.{SmaInfo, Walk, WalkDelete, Totals}
+use Rattle.script_read.specs.declared.call.Call.TheVariants.{Pool}
 use Rattle.script_read.specs.declared.script.Step.{Step}
+use Rattle.simple_pool.specs.Requests.{IsGoodCall, pool_bound}
 
 -- How many events a call makes at most, in a cache of so many slots: a walk over the active rows
 -- takes a slot at least in each step, and all removed rows are one step.
@@ -33,6 +35,7 @@ event_bound slots (Walk wanted fields size Active) = slots
 event_bound slots (Walk wanted fields size Deleted) = 1
 event_bound slots (WalkDelete wanted size) = slots
 event_bound slots (Totals wanted list) = 1
+event_bound slots (Pool call) = pool_bound slots call.ask
 
 -- the last moment, in seconds
 abbrev pub last_moment : ℕ
@@ -47,11 +50,13 @@ abbrev pub most_items : ℕ
 most_items = 65536
 
 -- A call's arguments are in their ranges, where their types do not say it: its generator is an
--- entry, with as many inside as may be, and each step of a walk asks for an item at least.
+-- entry, with as many inside as may be, each step of a walk asks for an item at least, and a pool's
+-- name, keys and time to live have their forms.
 abbrev pub HasRanges : Call → Type 0
 HasRanges (Entry gen) = (0 < length gen.levels) × (length gen.levels ≤ most_levels)
 HasRanges (Walk wanted fields size list) = (0 < size) × (size ≤ most_items)
 HasRanges (WalkDelete wanted size) = (0 < size) × (size ≤ most_items)
+HasRanges (Pool call) = IsGoodCall call
 HasRanges _ = Unit {0}
 
 -- the step's call is such a one

@@ -60,6 +60,14 @@ form_named keywords.SmaInfo = form_of (codes "apcu_sma_info")
 form_named keywords.Iterate = form_of (codes "APCUIterator")
 form_named keywords.IterateDelete = form_of (codes "APCUIterator_delete")
 form_named keywords.IterateTotals = form_of (codes "APCUIterator_totals")
+form_named keywords.PoolGet = form_of (codes "pool_get")
+form_named keywords.PoolSet = form_of (codes "pool_set")
+form_named keywords.PoolDelete = form_of (codes "pool_delete")
+form_named keywords.PoolClear = form_of (codes "pool_clear")
+form_named keywords.PoolGetMany = form_of (codes "pool_get_multiple")
+form_named keywords.PoolSetMany = form_of (codes "pool_set_multiple")
+form_named keywords.PoolDeleteMany = form_of (codes "pool_delete_multiple")
+form_named keywords.PoolHas = form_of (codes "pool_has")
 form_named keywords.Unknown = Refuse reasons.Line
 
 -- the code's words, with what follows each

@@ -2,15 +2,17 @@
 use Rattle.std.specs.Prelude.{◌≡◌, ◌⊎◌, ℕ, Bool, false, List, Contains, Option, Some, None}
 use Rattle.apcu_model.specs.declared.searching.Pattern.{Pattern}
 use Rattle.apcu_model.specs.Matching.{is_pattern}
+use Rattle.simple_pool.specs.Requests.{ask_pattern}
 use Rattle.script_read.specs.declared.call.Call.{Call}
-use Rattle.script_read.specs.declared.call.Call.TheVariants.{Walk, WalkDelete, Totals}
+use Rattle.script_read.specs.declared.call.Call.TheVariants.{Walk, WalkDelete, Totals, Pool}
 use Rattle.script_read.specs.declared.script.Step.{Step}
 
--- the pattern of a call, if it has one
+-- the pattern of a call, if it has one; where a pool is cleared, that of its keys
 abbrev pub call_pattern : Call → Option Pattern
 call_pattern (Walk wanted fields size list) = wanted
 call_pattern (WalkDelete wanted size) = wanted
 call_pattern (Totals wanted list) = wanted
+call_pattern (Pool call) = ask_pattern call.pool call.ask
 call_pattern _ = None
 
 -- the grammar reads no pattern there, or what makes regexes may refuse it

@@ -18,13 +18,21 @@ use Rattle.script_read.specs.declared.call.Call.TheVariants.{FetchMany, ExistsOn
 use Rattle.script_read.specs.declared.call.Call.TheVariants.{DeleteOne, DeleteMany, Inc, Cas, Clear}
 use Rattle.script_read.specs.declared.call.Call.TheVariants.{Enabled, Entry, KeyInfo, CacheInfo}
 use Rattle.script_read.specs.declared.call.Call.TheVariants.{SmaInfo, Walk, WalkDelete, Totals}
+use Rattle.script_read.specs.declared.call.Call.TheVariants.{Pool}
 use Rattle.script_read.specs.declared.script.Step.{Step}
+use Rattle.simple_pool.specs.Requests.{PoolAsking, pool_asking}
+use Rattle.simple_pool.specs.Requests as pools
 
 -- How a call asks: these requests, one after the other; or step by step, each by the slot from
 -- which it goes on.
 pub data Asking : Type 0 where
   Each : List Request → Asking
   Steps : (ℕ → Request) → Asking
+
+-- how a pool's call asks
+abbrev pub asking_in : PoolAsking → Asking
+asking_in (pools.Each asked) = Each asked
+asking_in (pools.Steps ask) = Steps ask
 
 -- Whether the cache is enabled asks nothing. The removed rows are walked over in one step.
 abbrev pub asking_of : Call → Asking
@@ -51,6 +59,7 @@ asking_of (Walk wanted fields size Deleted) =
     Each (requests.Chunk wanted 0 size Deleted fields ∷ [])
 asking_of (WalkDelete wanted size) = Steps (λ from. requests.ChunkDelete wanted from size)
 asking_of (Totals wanted list) = Each (requests.Totals wanted list ∷ [])
+asking_of (Pool call) = asking_in (pool_asking call.pool call.ask)
 
 -- What a call does next, after it got some replies: it asks once more, or it is done and leaves the
 -- replies that belong to the calls after it.

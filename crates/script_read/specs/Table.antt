@@ -15,6 +15,7 @@ use Rattle.script_read.specs.declared.call.Call.TheVariants.{FetchMany, ExistsOn
 use Rattle.script_read.specs.declared.call.Call.TheVariants.{DeleteOne, DeleteMany, Inc, Cas, Clear}
 use Rattle.script_read.specs.declared.call.Call.TheVariants.{Enabled, Entry, KeyInfo, CacheInfo}
 use Rattle.script_read.specs.declared.call.Call.TheVariants.{SmaInfo, Walk, WalkDelete, Totals}
+use Rattle.script_read.specs.declared.call.Call.TheVariants.{Pool}
 use Rattle.script_read.specs.declared.effect.Effect.{Effect}
 use Rattle.script_read.specs.declared.effect.Effect.TheVariants.{Sets, Begins, Calls}
 use Rattle.script_read.specs.declared.given.Asked.{Asked}
@@ -23,7 +24,12 @@ use Rattle.script_read.specs.declared.given.Stored.{Stored}
 use Rattle.script_read.specs.declared.given.Stored.TheVariants as stores
 use Rattle.script_read.specs.Arguments.{any_value, key, integer, truth, null, ttl, moment}
 use Rattle.script_read.specs.Arguments.{asked_of, stored, search_for, fields, all_fields}
-use Rattle.script_read.specs.Arguments.{chunk_size, which_list}
+use Rattle.script_read.specs.Arguments.{chunk_size, which_list, pool_name, own_key, own_keys}
+use Rattle.script_read.specs.Arguments.{own_pairs, own_ttl, null_value}
+use Rattle.simple_pool.specs.declared.call.PoolAsk.{PoolAsk}
+use Rattle.simple_pool.specs.declared.call.PoolAsk.TheVariants as asks_of
+use Rattle.simple_pool.specs.declared.call.PoolAsk.TheVariants.{Get, Set, SetPlain, GetMany, SetMany}
+use Rattle.simple_pool.specs.declared.call.PoolAsk.TheVariants.{SetManyPlain, DeleteMany, Has}
 use Rattle.script_read.specs.GenParts.{entry_round}
 
 -- ---- forms
@@ -140,6 +146,56 @@ walk_delete_form =
 abbrev pub totals_form : Form
 totals_form = needs search_for (λ s. may Active which_list (λ l. calls (Totals s l)))
 
+-- ---- words of pools: the pool's name comes first
+
+abbrev pub pool_call : List ℕ → PoolAsk → Form
+pool_call p ask = calls (Pool (record { pool = p; ask = ask }))
+
+-- without a time to live a value is kept for ever
+abbrev pub set_ask : List ℕ → List Kind → Option ℤ → PoolAsk
+set_ask k v None = SetPlain k v
+set_ask k v (Some n) = Set k v n
+
+abbrev pub set_many_ask : List (List ℕ × List Kind) → Option ℤ → PoolAsk
+set_many_ask ps None = SetManyPlain ps
+set_many_ask ps (Some n) = SetMany ps n
+
+-- a key, and the value for one that is not there: a null where it is left out
+abbrev pub pool_get_form : Form
+pool_get_form =
+    needs pool_name (λ p. needs own_key (λ k.
+    may null_value any_value (λ d. pool_call p (Get k d))))
+
+-- a key, its value, and a time to live: none where it is left out
+abbrev pub pool_set_form : Form
+pool_set_form =
+    needs pool_name (λ p. needs own_key (λ k. needs any_value (λ v.
+    may None own_ttl (λ t. pool_call p (set_ask k v t)))))
+
+abbrev pub pool_delete_form : Form
+pool_delete_form = needs pool_name (λ p. needs own_key (λ k. pool_call p (asks_of.Delete k)))
+
+abbrev pub pool_clear_form : Form
+pool_clear_form = needs pool_name (λ p. pool_call p asks_of.Clear)
+
+-- the same for several keys
+abbrev pub pool_get_multiple_form : Form
+pool_get_multiple_form =
+    needs pool_name (λ p. needs own_keys (λ ks.
+    may null_value any_value (λ d. pool_call p (GetMany ks d))))
+
+abbrev pub pool_set_multiple_form : Form
+pool_set_multiple_form =
+    needs pool_name (λ p. needs own_pairs (λ ps.
+    may None own_ttl (λ t. pool_call p (set_many_ask ps t))))
+
+abbrev pub pool_delete_multiple_form : Form
+pool_delete_multiple_form =
+    needs pool_name (λ p. needs own_keys (λ ks. pool_call p (DeleteMany ks)))
+
+abbrev pub pool_has_form : Form
+pool_has_form = needs pool_name (λ p. needs own_key (λ k. pool_call p (Has k)))
+
 -- the words, `worker` apart
 abbrev pub table : List (List ℕ × Form)
 table =
@@ -162,6 +218,14 @@ table =
     ∷ (codes "APCUIterator", walk_form)
     ∷ (codes "APCUIterator_delete", walk_delete_form)
     ∷ (codes "APCUIterator_totals", totals_form)
+    ∷ (codes "pool_get", pool_get_form)
+    ∷ (codes "pool_set", pool_set_form)
+    ∷ (codes "pool_delete", pool_delete_form)
+    ∷ (codes "pool_clear", pool_clear_form)
+    ∷ (codes "pool_get_multiple", pool_get_multiple_form)
+    ∷ (codes "pool_set_multiple", pool_set_multiple_form)
+    ∷ (codes "pool_delete_multiple", pool_delete_multiple_form)
+    ∷ (codes "pool_has", pool_has_form)
     ∷ []
 
 -- what follows a word, by the first row that has it; no other word may begin a line

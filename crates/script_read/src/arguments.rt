@@ -70,7 +70,7 @@ fn one_more(bytes: &[u8]) -> Stop
     }
 }
 
-fn ends_here(bytes: &[u8]) -> bool
+pub(crate) fn ends_here(bytes: &[u8]) -> bool
     ensures { result ≡ ends_here bytes.now }
 {
     match bytes {

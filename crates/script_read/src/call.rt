@@ -1,10 +1,11 @@
-ghost use Rattle.std.specs.Prelude.{◌≡◌};
-ghost use Rattle.apcu_model.specs.Asking.{pattern_lent};
-ghost use Rattle.script_read.specs.Calls.{event_bound};
+ghost use Rattle.std.specs.Prelude.{◌≡◌, IfOk};
+ghost use Rattle.script_read.specs.Calls.{HasRanges, event_bound};
 ghost use Rattle.script_read.specs.Patterns.{call_pattern};
 
 use apcu_model::{Fields, Gen, Keys, List, Pairs, Pattern};
 use php_graph::{Bytes, Graph};
+use simple_pool::PoolCall;
+use std::alloc::{AllocError, Global};
 
 /// A call of a script, as PHP's manual has the functions of APCu.
 #[derive(Drop)]
@@ -84,6 +85,8 @@ pub enum Call {
         search: Option<Pattern>,
         list: List,
     },
+    /// A call on a pool, whose name, keys and time to live have their forms.
+    Pool(PoolCall),
 }
 
 impl Call {
@@ -118,18 +121,34 @@ impl Call {
                 u64::from(keys.len())
             }
             Call::Enabled => 0,
+            Call::Pool(call) => call.ask.events(slots),
         }
     }
 
-    /// The pattern that the call's keys are to match, if it has one.
-    pub fn pattern(&self) -> Option<&Pattern>
-        ensures { pattern_lent result ≡ call_pattern self.now }
+    /// The pattern that the call's keys are to match, if it has one: a pool's, where it is cleared.
+    pub fn pattern(&self, alloc: Global) -> Result<Option<Pattern>, AllocError>
+        requires { HasRanges self.now }
+        ensures { IfOk result (λ made. made ≡ call_pattern self.now) }
     {
         match self {
             Call::Walk { search, .. }
             | Call::WalkDelete { search, .. }
-            | Call::Totals { search, .. } => search.as_ref(),
-            _ => None,
+            | Call::Totals { search, .. } => copied(alloc, search),
+            Call::Pool(call) => call.pattern(alloc),
+            _ => Ok(None),
         }
+    }
+}
+
+// The same pattern, if there is one.
+fn copied(alloc: Global, search: &Option<Pattern>) -> Result<Option<Pattern>, AllocError>
+    ensures { IfOk result (λ copy. copy ≡ search.now) }
+{
+    match search {
+        Some(pattern) => Ok(Some(Pattern {
+            text: Bytes::of(alloc, pattern.text.as_slice())?,
+            fold: pattern.fold,
+        })),
+        None => Ok(None),
     }
 }

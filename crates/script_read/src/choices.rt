@@ -104,7 +104,7 @@ pub(crate) fn stored_of(alloc: Global, graph: Graph) -> Result<Option<Stored>, A
 }
 
 // The keys of an array of strings.
-fn keys_of(alloc: Global, graph: &Graph) -> Result<Option<Keys>, AllocError>
+pub(crate) fn keys_of(alloc: Global, graph: &Graph) -> Result<Option<Keys>, AllocError>
     ensures { IfOk result (λ made. made ≡ keys graph.now) }
 {
     let _places = graph.places();
@@ -137,7 +137,7 @@ pub(crate) fn member_string(graph: &Graph, child: Child) -> Option<&Bytes>
 }
 
 // An array's keys with their values.
-fn pairs_of(alloc: Global, graph: &Graph) -> Result<Option<Pairs>, AllocError>
+pub(crate) fn pairs_of(alloc: Global, graph: &Graph) -> Result<Option<Pairs>, AllocError>
     ensures { IfOk result (λ made. made ≡ pairs graph.now) }
 {
     let _places = graph.places();

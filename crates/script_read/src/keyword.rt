@@ -25,6 +25,14 @@ pub(crate) enum Keyword {
     Iterate,
     IterateDelete,
     IterateTotals,
+    PoolGet,
+    PoolSet,
+    PoolDelete,
+    PoolClear,
+    PoolGetMany,
+    PoolSetMany,
+    PoolDeleteMany,
+    PoolHas,
     /// No word of the language.
     Unknown,
 }
@@ -36,7 +44,7 @@ struct Row {
 }
 
 // The words.
-const WORDS: [Row; 19] = [
+const WORDS: [Row; 27] = [
     Row {
         text: b"time",
         word: Keyword::Time,
@@ -112,6 +120,38 @@ const WORDS: [Row; 19] = [
     Row {
         text: b"APCUIterator_totals",
         word: Keyword::IterateTotals,
+    },
+    Row {
+        text: b"pool_get",
+        word: Keyword::PoolGet,
+    },
+    Row {
+        text: b"pool_set",
+        word: Keyword::PoolSet,
+    },
+    Row {
+        text: b"pool_delete",
+        word: Keyword::PoolDelete,
+    },
+    Row {
+        text: b"pool_clear",
+        word: Keyword::PoolClear,
+    },
+    Row {
+        text: b"pool_get_multiple",
+        word: Keyword::PoolGetMany,
+    },
+    Row {
+        text: b"pool_set_multiple",
+        word: Keyword::PoolSetMany,
+    },
+    Row {
+        text: b"pool_delete_multiple",
+        word: Keyword::PoolDeleteMany,
+    },
+    Row {
+        text: b"pool_has",
+        word: Keyword::PoolHas,
     },
 ];
 

@@ -16,6 +16,8 @@ mod keyword;
 mod laws;
 mod lines;
 mod lookups;
+mod pool_arguments;
+mod pools;
 mod reading;
 mod script;
 mod searches;

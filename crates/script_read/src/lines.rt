@@ -17,6 +17,10 @@ use crate::information::{cache_info, key_info, sma_info};
 use crate::iterators::{totals, walk, walk_delete};
 use crate::keyword::Keyword;
 use crate::lookups::{delete, exists, fetch};
+use crate::pools::{
+    pool_clear, pool_delete, pool_delete_multiple, pool_get, pool_get_multiple, pool_has, pool_set,
+    pool_set_multiple,
+};
 use crate::stores::store;
 use notation::Reason;
 use std::alloc::Global;
@@ -90,6 +94,14 @@ fn effect<'a>(
         Keyword::Iterate => walk(alloc, rest),
         Keyword::IterateDelete => walk_delete(alloc, rest),
         Keyword::IterateTotals => totals(alloc, rest),
+        Keyword::PoolGet => pool_get(alloc, rest),
+        Keyword::PoolSet => pool_set(alloc, rest),
+        Keyword::PoolDelete => pool_delete(alloc, rest),
+        Keyword::PoolClear => pool_clear(alloc, rest),
+        Keyword::PoolGetMany => pool_get_multiple(alloc, rest),
+        Keyword::PoolSetMany => pool_set_multiple(alloc, rest),
+        Keyword::PoolDeleteMany => pool_delete_multiple(alloc, rest),
+        Keyword::PoolHas => pool_has(alloc, rest),
         Keyword::Unknown => Err(fault(Reason::Line, line)),
     }
 }

@@ -1,5 +1,4 @@
-use Rattle.std.proofs.Common.{◌≡◌, length, sym, ap, ◌∙◌, arith}
-use Rattle.script_read.specs.Table.{form_in}
+use Rattle.std.proofs.Common.{sym, ◌∙◌, arith}
 use Rattle.script_read.proofs.Keywords.{found, passed, none_left}
 use Rattle.script_read.proofs.keyword.word_in.Goals as goal
 

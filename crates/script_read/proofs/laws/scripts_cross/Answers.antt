@@ -1,5 +1,10 @@
 -- Nothing that a script holds keeps it on its thread.
-use denote.Param.Send.{IsSync, sendable}
+use denote.Enum.Enum.{Enum}
+use denote.Enum.Declared as enums
+use denote.Struct.Struct.{Struct}
+use denote.Struct.Declared as structs
+use denote.Param.Send.{IsSync, sendable, enum_sync, struct_sync}
+use Rattle.simple_pool.specs.contracts.call.PoolAsk as ask_type
 use Rattle.apcu_model.proofs.generator.Gen.TheLaws.TheKnot
 use Rattle.apcu_model.proofs.keys.Keys.TheSendSync as keys
 use Rattle.apcu_model.proofs.pairs.Pairs.TheSendSync as pairs
@@ -7,13 +12,29 @@ use Rattle.php_graph.proofs.bytes.Bytes.TheSendSync as bytes
 use Rattle.php_graph.proofs.graph.Graph.TheSendSync as graph
 use Rattle.std.proofs.Crossing
 use Rattle.std.proofs.vec.Vec.TheSendSync as vec
+use Rattle.simple_pool.specs.contracts.call.PoolCall as pool_call_type
+use Rattle.script_read.specs.contracts.call.Call as call_type
 use Rattle.script_read.specs.contracts.script.Script as script_type
+use Rattle.script_read.specs.contracts.script.Step as step_type
 use Rattle.script_read.proofs.laws.scripts_cross.Goals as goal
 
 ruleset held = (keys.the_sync, pairs.the_sync, bytes.the_sync, graph.the_sync, vec.the_sync, Crossing.crosses, TheKnot.crosses, sendable)
 
+asks : IsSync (Enum (enums.shape ask_type.the_type))
+asks = enum_sync (enums.shape ask_type.the_type) (search held depth 30 fits 20000)
+
+pool_calls : IsSync (Struct (structs.shape pool_call_type.the_type))
+pool_calls = struct_sync (structs.shape pool_call_type.the_type) (search (bytes.the_sync, asks, sendable) depth 10 fits 20000)
+
+-- each variant of a call, in their order
+calls : IsSync (Enum (enums.shape call_type.the_type))
+calls = enum_sync (enums.shape call_type.the_type) (search held depth 30 fits 20000, (search held depth 30 fits 20000, (search held depth 30 fits 20000, (search held depth 30 fits 20000, (search held depth 30 fits 20000, (search held depth 30 fits 20000, (search held depth 30 fits 20000, (search held depth 30 fits 20000, (search held depth 30 fits 20000, (search held depth 30 fits 20000, (search held depth 30 fits 20000, (search held depth 30 fits 20000, (search held depth 30 fits 20000, (search held depth 30 fits 20000, (search held depth 30 fits 20000, (search held depth 30 fits 20000, (search held depth 30 fits 20000, (search held depth 30 fits 20000, (search held depth 30 fits 20000, ((pool_calls, tt), tt))))))))))))))))))))
+
+step : IsSync (Struct (structs.shape step_type.the_type))
+step = struct_sync (structs.shape step_type.the_type) (search (calls, sendable) depth 10 fits 20000)
+
 script_crosses : IsSync script_type.the_row
-script_crosses = search held depth 60 fits 20000
+script_crosses = search (step, vec.the_sync, Crossing.crosses, sendable) depth 60 fits 20000
 
 pub returns-clause-script : goal.returns-clause-script
 returns-clause-script c = script_crosses

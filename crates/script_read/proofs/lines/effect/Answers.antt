@@ -143,3 +143,59 @@ returns-in-IterateTotals-clause-read c =
     let line = c.args.line.now in
     let rest = c.args.rest.now in
     moved _ c.totals.result _ _ (ap (λ (w : Keyword). rest_at (form_named w) line rest) c.in-IterateTotals.is) (c.totals.ensures.read line)
+
+pub returns-in-PoolGet-clause-read : goal.returns-in-PoolGet-clause-read
+unfolding form_in
+returns-in-PoolGet-clause-read c =
+    let line = c.args.line.now in
+    let rest = c.args.rest.now in
+    moved _ c.pool_get.result _ _ (ap (λ (w : Keyword). rest_at (form_named w) line rest) c.in-PoolGet.is) (c.pool_get.ensures.read line)
+
+pub returns-in-PoolSet-clause-read : goal.returns-in-PoolSet-clause-read
+unfolding form_in
+returns-in-PoolSet-clause-read c =
+    let line = c.args.line.now in
+    let rest = c.args.rest.now in
+    moved _ c.pool_set.result _ _ (ap (λ (w : Keyword). rest_at (form_named w) line rest) c.in-PoolSet.is) (c.pool_set.ensures.read line)
+
+pub returns-in-PoolDelete-clause-read : goal.returns-in-PoolDelete-clause-read
+unfolding form_in
+returns-in-PoolDelete-clause-read c =
+    let line = c.args.line.now in
+    let rest = c.args.rest.now in
+    moved _ c.pool_delete.result _ _ (ap (λ (w : Keyword). rest_at (form_named w) line rest) c.in-PoolDelete.is) (c.pool_delete.ensures.read line)
+
+pub returns-in-PoolClear-clause-read : goal.returns-in-PoolClear-clause-read
+unfolding form_in
+returns-in-PoolClear-clause-read c =
+    let line = c.args.line.now in
+    let rest = c.args.rest.now in
+    moved _ c.pool_clear.result _ _ (ap (λ (w : Keyword). rest_at (form_named w) line rest) c.in-PoolClear.is) (c.pool_clear.ensures.read line)
+
+pub returns-in-PoolGetMany-clause-read : goal.returns-in-PoolGetMany-clause-read
+unfolding form_in
+returns-in-PoolGetMany-clause-read c =
+    let line = c.args.line.now in
+    let rest = c.args.rest.now in
+    moved _ c.pool_get_multiple.result _ _ (ap (λ (w : Keyword). rest_at (form_named w) line rest) c.in-PoolGetMany.is) (c.pool_get_multiple.ensures.read line)
+
+pub returns-in-PoolSetMany-clause-read : goal.returns-in-PoolSetMany-clause-read
+unfolding form_in
+returns-in-PoolSetMany-clause-read c =
+    let line = c.args.line.now in
+    let rest = c.args.rest.now in
+    moved _ c.pool_set_multiple.result _ _ (ap (λ (w : Keyword). rest_at (form_named w) line rest) c.in-PoolSetMany.is) (c.pool_set_multiple.ensures.read line)
+
+pub returns-in-PoolDeleteMany-clause-read : goal.returns-in-PoolDeleteMany-clause-read
+unfolding form_in
+returns-in-PoolDeleteMany-clause-read c =
+    let line = c.args.line.now in
+    let rest = c.args.rest.now in
+    moved _ c.pool_delete_multiple.result _ _ (ap (λ (w : Keyword). rest_at (form_named w) line rest) c.in-PoolDeleteMany.is) (c.pool_delete_multiple.ensures.read line)
+
+pub returns-in-PoolHas-clause-read : goal.returns-in-PoolHas-clause-read
+unfolding form_in
+returns-in-PoolHas-clause-read c =
+    let line = c.args.line.now in
+    let rest = c.args.rest.now in
+    moved _ c.pool_has.result _ _ (ap (λ (w : Keyword). rest_at (form_named w) line rest) c.in-PoolHas.is) (c.pool_has.ensures.read line)

@@ -5,7 +5,7 @@ use Rattle.notation.specs.declared.fault.Fault.{Fault}
 use Rattle.script_read.specs.declared.effect.Effect.{Effect}
 use Rattle.script_read.specs.declared.effect.Effect.TheVariants.{Sets, Begins, Calls}
 use Rattle.script_read.specs.declared.script.Step.{Step}
-use Rattle.script_read.specs.Clock.{at_first, request_at, step_at}
+use Rattle.script_read.specs.Clock.{at_first, request_at}
 use Rattle.script_read.specs.Growing.{grown, last_len}
 use Rattle.script_read.specs.Reading.{is_worker, worker_at, line_at, scripts_at}
 use Rattle.script_read.specs.Gives.{Stops, IsInRange}

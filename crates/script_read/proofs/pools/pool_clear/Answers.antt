@@ -1,0 +1,14 @@
+use Rattle.std.proofs.Common.{[]}
+use Rattle.std.proofs.lemmas.Result.{err_from_is_err_and}
+use Rattle.script_read.proofs.PoolRows.{pool_clear_is}
+use Rattle.script_read.proofs.Rows.{fails, goes_on, moved}
+use Rattle.script_read.proofs.pools.pool_clear.Goals as goal
+
+pub returns-in_err-pool-clause-read : goal.returns-in_err-pool-clause-read
+returns-in_err-pool-clause-read c = λ last.
+    let p = err_from_is_err_and c.from_residual.result c.from_residual.ensures.1 in
+    rw (p.1, p.2) (fails c.in_err-pool.field-0.0 _ _ _ (pool_clear_is last c.args.bytes.now) c.in_err-pool.ensures.read)
+
+pub returns-clause-read : goal.returns-clause-read
+returns-clause-read c = λ last.
+    moved _ c.bare.result _ _ (goes_on _ _ _ _ (pool_clear_is last c.args.bytes.now) c.in_ok-pool.ensures.read) (c.bare.ensures.read [])

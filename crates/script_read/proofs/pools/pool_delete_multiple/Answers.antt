@@ -1,0 +1,19 @@
+use Rattle.std.proofs.Common.{[]}
+use Rattle.std.proofs.lemmas.Result.{err_from_is_err_and}
+use Rattle.script_read.proofs.PoolRows.{pool_delete_multiple_is}
+use Rattle.script_read.proofs.Rows.{fails, goes_on, moved}
+use Rattle.script_read.proofs.pools.pool_delete_multiple.Goals as goal
+
+pub returns-in_err-pool-clause-read : goal.returns-in_err-pool-clause-read
+returns-in_err-pool-clause-read c = λ last.
+    let p = err_from_is_err_and c.from_residual.result c.from_residual.ensures.1 in
+    rw (p.1, p.2) (fails c.in_err-pool.field-0.0 _ _ _ (pool_delete_multiple_is last c.args.bytes.now) c.in_err-pool.ensures.read)
+
+pub returns-in_err-keys-clause-read : goal.returns-in_err-keys-clause-read
+returns-in_err-keys-clause-read c = λ last.
+    let p = err_from_is_err_and c.from_residual-in_err-keys.result c.from_residual-in_err-keys.ensures.1 in
+    rw (p.1, p.2) (fails c.in_err-keys.field-0.0 _ _ _ (goes_on _ _ _ _ (pool_delete_multiple_is last c.args.bytes.now) c.in_ok-pool.ensures.read) c.in_err-keys.ensures.read)
+
+pub returns-clause-read : goal.returns-clause-read
+returns-clause-read c = λ last.
+    moved _ c.bare.result _ _ (goes_on _ _ _ _ (goes_on _ _ _ _ (pool_delete_multiple_is last c.args.bytes.now) c.in_ok-pool.ensures.read) c.in_ok-keys.ensures.read) (c.bare.ensures.read [])

@@ -1,0 +1,32 @@
+use Rattle.std.proofs.Common.{[], ap, sym}
+use Rattle.std.proofs.lemmas.Result.{err_from_is_err_and}
+use Rattle.simple_pool.specs.declared.call.PoolAsk.{PoolAsk}
+use Rattle.script_read.specs.declared.call.Call.TheVariants.{Pool}
+use Rattle.script_read.proofs.Calling.{call_goes}
+use Rattle.script_read.proofs.PoolRows.{pool_set_is}
+use Rattle.script_read.proofs.Rows.{fails, goes_on}
+use Rattle.script_read.proofs.pools.pool_set.Goals as goal
+
+pub returns-in_err-pool-clause-read : goal.returns-in_err-pool-clause-read
+returns-in_err-pool-clause-read c = λ last.
+    let p = err_from_is_err_and c.from_residual.result c.from_residual.ensures.1 in
+    rw (p.1, p.2) (fails c.in_err-pool.field-0.0 _ _ _ (pool_set_is last c.args.bytes.now) c.in_err-pool.ensures.read)
+
+pub returns-in_err-key-clause-read : goal.returns-in_err-key-clause-read
+returns-in_err-key-clause-read c = λ last.
+    let p = err_from_is_err_and c.from_residual-in_err-key.result c.from_residual-in_err-key.ensures.1 in
+    rw (p.1, p.2) (fails c.in_err-key.field-0.0 _ _ _ (goes_on _ _ _ _ (pool_set_is last c.args.bytes.now) c.in_ok-pool.ensures.read) c.in_err-key.ensures.read)
+
+pub returns-in_err-value-clause-read : goal.returns-in_err-value-clause-read
+returns-in_err-value-clause-read c = λ last.
+    let p = err_from_is_err_and c.from_residual-in_err-value.result c.from_residual-in_err-value.ensures.1 in
+    rw (p.1, p.2) (fails c.in_err-value.field-0.0 _ _ _ (goes_on _ _ _ _ (goes_on _ _ _ _ (pool_set_is last c.args.bytes.now) c.in_ok-pool.ensures.read) c.in_ok-key.ensures.read) c.in_err-value.ensures.read)
+
+pub returns-in_err-ttl-clause-read : goal.returns-in_err-ttl-clause-read
+returns-in_err-ttl-clause-read c = λ last.
+    let p = err_from_is_err_and c.from_residual-in_err-ttl.result c.from_residual-in_err-ttl.ensures.1 in
+    rw (p.1, p.2) (fails c.in_err-ttl.field-0.0 _ _ _ (goes_on _ _ _ _ (goes_on _ _ _ _ (goes_on _ _ _ _ (pool_set_is last c.args.bytes.now) c.in_ok-pool.ensures.read) c.in_ok-key.ensures.read) c.in_ok-value.ensures.read) c.in_err-ttl.ensures.read)
+
+pub returns-clause-read : goal.returns-clause-read
+returns-clause-read c = λ last.
+    call_goes _ c.bare.result _ _ _ _ (goes_on _ _ _ _ (goes_on _ _ _ _ (goes_on _ _ _ _ (goes_on _ _ _ _ (pool_set_is last c.args.bytes.now) c.in_ok-pool.ensures.read) c.in_ok-key.ensures.read) c.in_ok-value.ensures.read) c.in_ok-ttl.ensures.read) (c.bare.ensures.read []) (ap (λ (ask : PoolAsk). Pool (record { pool = c.in_ok-pool.pool; ask = ask })) (sym c.set_ask-ask.ensures.is))
