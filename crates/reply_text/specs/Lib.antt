@@ -2,5 +2,6 @@ pub mod Replies
 pub mod Notes
 pub mod Items
 pub mod Fields
+pub mod PoolReplies
 pub mod Lines
 pub mod Output

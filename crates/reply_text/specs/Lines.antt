@@ -8,12 +8,14 @@ use Rattle.script_read.specs.declared.call.Call.TheVariants.{FetchMany, ExistsOn
 use Rattle.script_read.specs.declared.call.Call.TheVariants.{DeleteOne, DeleteMany, Inc, Cas, Clear}
 use Rattle.script_read.specs.declared.call.Call.TheVariants.{Enabled, Entry, KeyInfo, CacheInfo}
 use Rattle.script_read.specs.declared.call.Call.TheVariants.{SmaInfo, Walk, WalkDelete, Totals}
+use Rattle.script_read.specs.declared.call.Call.TheVariants.{Pool}
 use Rattle.script_read.specs.declared.script.Step.{Step}
 use Rattle.script_read.specs.Grammar.{ends_line}
 use Rattle.script_read.specs.Play.{Next, Asks, Leaves, next_of}
 use Rattle.reply_text.specs.Replies.{flag_text, done_text, fetched_text, number_text, unstored_text}
 use Rattle.reply_text.specs.Replies.{undeleted_text, there_text, found_text, gave_text, info_text}
 use Rattle.reply_text.specs.Items.{walk_text, totals_text}
+use Rattle.reply_text.specs.PoolReplies.{pool_text}
 
 -- what a call prints for its own replies
 abbrev pub call_text : Call → List Reply → List ℕ
@@ -37,6 +39,7 @@ call_text (SmaInfo limited) replies = info_text replies
 call_text (Walk wanted fields size list) replies = walk_text fields replies
 call_text (WalkDelete wanted size) replies = flag_text true
 call_text (Totals wanted list) replies = totals_text replies
+call_text (Pool call) replies = pool_text call.ask replies
 
 -- the replies before these others
 abbrev pub before : List Reply → List Reply → List Reply

@@ -3,12 +3,12 @@
 
 mod fields;
 mod notes;
+mod pools;
 mod rendering;
 mod replies;
 mod reply_list;
 mod several;
 mod single;
-mod steps;
 mod value;
 mod walks;
 

@@ -3,11 +3,12 @@
 ghost use Rattle.std.specs.Prelude.{◌≡◌, ◌++◌, OnOk, OnErr};
 ghost use Rattle.reply_text.specs.Lines.{call_text};
 
+use crate::pools::write_pool;
 use crate::replies::write_flag;
 use crate::reply_list::Replies;
 use crate::several::{write_found, write_there, write_undeleted, write_unstored};
 use crate::single::{write_counted, write_done, write_fetch, write_given, write_sums, write_told};
-use crate::steps::write_steps;
+use crate::walks::write_walk;
 use apcu_model::Reply;
 use notation::ByteOut;
 use script_read::Call;
@@ -52,7 +53,8 @@ fn write_call(
         Call::Entry(_) => write_given(out, replies),
         Call::Clear | Call::Enabled | Call::WalkDelete { .. } => write_flag(out, true),
         Call::KeyInfo(_) | Call::CacheInfo(_) | Call::SmaInfo(_) => write_told(out, replies),
-        Call::Walk { fields, .. } => write_steps(out, *fields, replies),
+        Call::Walk { fields, .. } => write_walk(out, *fields, replies),
         Call::Totals { .. } => write_sums(out, replies),
+        Call::Pool(call) => write_pool(out, alloc, &call.ask, replies),
     }
 }

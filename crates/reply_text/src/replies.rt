@@ -7,7 +7,7 @@ ghost use Rattle.std.specs.Fmt.{decimal};
 ghost use Rattle.php_graph.specs.Numbers.{int_of_text};
 ghost use Rattle.notation.specs.Keys.{written_key};
 ghost use Rattle.notation.specs.Notation.{array_head, integer_text, string_text};
-ghost use Rattle.apcu_model.specs.declared.request.Reply.TheVariants.{Found, Gave, Totals};
+ghost use Rattle.apcu_model.specs.declared.request.Reply.TheVariants.{Gave, Totals};
 ghost use Rattle.apcu_model.specs.Sequential.{number_reply, info_reply};
 ghost use Rattle.reply_text.specs.Replies.{flag_text, fetched, fetched_one, number_one, array_text};
 ghost use Rattle.reply_text.specs.Replies.{all_with, numbered, value_members, gave_one, info_one};
@@ -29,29 +29,18 @@ pub fn write_flag(out: &mut ByteOut, done: bool) -> Result<(), AllocError>
     }
 }
 
-// What a fetch of one key found: the value and that it was there, or that it was not.
-pub fn write_fetched(out: &mut ByteOut, found: Option<Graph>) -> Result<(), AllocError>
-    ensures { OnOk result (out.new ≡ out.old ++ fetched_one (fetched found)) }
+/// What a fetch of one key found: the value and that it was there, or that it was not.
+pub fn write_fetched(out: &mut ByteOut, found: Option<&Graph>) -> Result<(), AllocError>
+    ensures { OnOk result (out.new
+        ≡ out.old ++ fetched_one (fetched (option_map (λ g. g.now) found.entry))) }
 {
     match found {
-        Some(value) => write_present(out, &value),
-        None => write_absent(out),
+        Some(value) => {
+            write_value(value, 0, out)?;
+            out.push(b"b:1;")
+        }
+        None => out.push(b"b:0;b:0;"),
     }
-}
-
-// A value that a fetch found, and that it was there.
-pub(crate) fn write_present(out: &mut ByteOut, found: &Graph) -> Result<(), AllocError>
-    ensures { OnOk result (out.new ≡ out.old ++ fetched_one (Found found.now)) }
-{
-    write_value(found, 0, out)?;
-    out.push(b"b:1;")
-}
-
-// That nothing was there, or that nothing was counted.
-pub(crate) fn write_absent(out: &mut ByteOut) -> Result<(), AllocError>
-    ensures { OnOk result (out.new ≡ out.old ++ codes "b:0;b:0;") }
-{
-    out.push(b"b:0;b:0;")
 }
 
 // The number that a counter came to and that it counted, or that it did not.
@@ -76,11 +65,12 @@ pub fn write_gave(out: &mut ByteOut, value: &Graph) -> Result<(), AllocError>
 
 /// What `apcu_key_info`, `apcu_cache_info` or `apcu_sma_info` told, or a null where no live row has
 /// the key.
-pub fn write_info(out: &mut ByteOut, info: Option<Graph>) -> Result<(), AllocError>
-    ensures { OnOk result (out.new ≡ out.old ++ info_one (info_reply info)) }
+pub fn write_info(out: &mut ByteOut, info: Option<&Graph>) -> Result<(), AllocError>
+    ensures { OnOk result (out.new
+        ≡ out.old ++ info_one (info_reply (option_map (λ g. g.now) info.entry))) }
 {
     match info {
-        Some(graph) => write_value(&graph, 0, out),
+        Some(graph) => write_value(graph, 0, out),
         None => out.push(b"N;"),
     }
 }

@@ -24,7 +24,7 @@ pub(crate) fn is_done(reply: &Reply) -> bool
 }
 
 // The value that a reply says was found.
-fn value_of(reply: &Reply) -> Option<&Graph>
+pub(crate) fn value_of(reply: &Reply) -> Option<&Graph>
     ensures { option_map (λ g. g.now) result ≡ value_in reply.now }
 {
     match reply {

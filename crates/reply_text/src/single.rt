@@ -6,7 +6,7 @@ ghost use Rattle.reply_text.specs.Replies.{info_text};
 ghost use Rattle.reply_text.specs.Items.{totals_text};
 
 use crate::replies::{
-    write_absent, write_flag, write_gave, write_info, write_number, write_present, write_totals,
+    write_fetched, write_flag, write_gave, write_info, write_number, write_totals,
 };
 use crate::several::is_done;
 use apcu_model::Reply;
@@ -14,7 +14,7 @@ use notation::ByteOut;
 use std::alloc::AllocError;
 
 // The first reply.
-fn first(replies: &[Reply]) -> Option<&Reply>
+pub(crate) fn first(replies: &[Reply]) -> Option<&Reply>
     ensures some { IfSome result (λ reply. replies.now ≡ reply.now ∷ drop 1 replies.now) }
     ensures none { IfNone result (replies.now ≡ []) }
 {
@@ -39,8 +39,8 @@ pub(crate) fn write_fetch(out: &mut ByteOut, replies: &[Reply]) -> Result<(), Al
     ensures { OnOk result (out.new ≡ out.old ++ fetched_text replies.now) }
 {
     match first(replies) {
-        Some(Reply::Found(value)) => write_present(out, value),
-        Some(_) => write_absent(out),
+        Some(Reply::Found(value)) => write_fetched(out, Some(value)),
+        Some(_) => write_fetched(out, None),
         None => Ok(()),
     }
 }
@@ -51,7 +51,7 @@ pub(crate) fn write_counted(out: &mut ByteOut, replies: &[Reply]) -> Result<(), 
 {
     match first(replies) {
         Some(Reply::Number(n)) => write_number(out, Some(*n)),
-        Some(_) => write_absent(out),
+        Some(_) => write_number(out, None),
         None => Ok(()),
     }
 }
@@ -71,7 +71,7 @@ pub(crate) fn write_told(out: &mut ByteOut, replies: &[Reply]) -> Result<(), All
     ensures { OnOk result (out.new ≡ out.old ++ info_text replies.now) }
 {
     match first(replies) {
-        Some(Reply::Info(info)) => write_gave(out, info),
+        Some(Reply::Info(info)) => write_info(out, Some(info)),
         Some(_) => write_info(out, None),
         None => Ok(()),
     }

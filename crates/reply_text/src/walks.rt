@@ -2,7 +2,6 @@
 
 ghost use Rattle.std.specs.Prelude.{◌≡◌, ◌+◌, ◌≤◌, ◌++◌, length, map, IfOk, OnOk};
 ghost use Rattle.std.specs.List.{flat_map, sum_by};
-ghost use Rattle.apcu_model.specs.declared.request.Reply.TheVariants as replies;
 ghost use Rattle.reply_text.specs.Replies.{members_text};
 ghost use Rattle.reply_text.specs.Items.{item_text, item_numbers, item_members, items_in};
 ghost use Rattle.reply_text.specs.Items.{item_values, walk_text};
@@ -10,7 +9,7 @@ ghost use Rattle.reply_text.specs.Fields.{field_value};
 
 use crate::fields::{Held, value_or_null, write_chosen};
 use crate::replies::write_head;
-use apcu_model::{Chunk, Fields, ItemRow};
+use apcu_model::{Fields, ItemRow, Reply};
 use itoa::Buffer;
 use notation::{ByteOut, write_key};
 use std::alloc::AllocError;
@@ -20,11 +19,11 @@ const MOST_NUMBERS: u64 = 1 << 55;
 
 // How far a walk's text has come.
 #[derive(Clone, Copy, Debug)]
-pub(crate) struct Reached {
+struct Reached {
     // The key of the next item.
-    pub key: u64,
+    key: u64,
     // How many values that take a number stand before it.
-    pub base: u64,
+    base: u64,
 }
 
 // What an item can tell, by the bits from 0 on.
@@ -61,7 +60,7 @@ fn write_item(
 }
 
 // The items of one step.
-pub(crate) fn write_items(
+fn write_items(
     out: &mut ByteOut,
     fields: Fields,
     rows: &[ItemRow],
@@ -88,14 +87,23 @@ pub(crate) fn write_items(
     Ok(reached)
 }
 
+// The items of a step.
+fn items_of(reply: &Reply) -> &[ItemRow]
+    ensures { result.now ≡ items_in reply.now }
+{
+    match reply {
+        Reply::Chunk(chunk) => chunk.items.as_slice(),
+        _ => &[],
+    }
+}
+
 // How many items these steps have.
-fn item_count(chunks: &[Chunk]) -> Result<usize, AllocError>
-    ensures { IfOk result (λ count. count
-        ≡ length (flat_map items_in (map (λ chunk. replies.Chunk chunk) chunks.now))) }
+fn count_items(steps: &[Reply]) -> Result<usize, AllocError>
+    ensures { IfOk result (λ count. count ≡ length (flat_map items_in steps.now)) }
 {
     let mut count: usize = 0;
-    for chunk in chunks {
-        let more = chunk.items.len() as usize;
+    for step in steps {
+        let more = items_of(step).len();
         count = count.checked_add(more).ok_or(AllocError)?;
     }
     Ok(count)
@@ -104,15 +112,15 @@ fn item_count(chunks: &[Chunk]) -> Result<usize, AllocError>
 /// The items of an iterator's steps, in order: an array with the keys 0, 1 and so on. An item is an
 /// array of the fields that are chosen, in the order of their bits; a number from 2^63 on is
 /// printed as the last integer of 64 bits. What is inside a value is numbered behind all that
-/// stands before it. Where 2^55 values stand before an item, it fails as without memory.
-pub fn write_walk(out: &mut ByteOut, fields: Fields, chunks: &[Chunk]) -> Result<(), AllocError>
-    ensures { OnOk result (out.new ≡ out.old
-        ++ walk_text fields (map (λ chunk. replies.Chunk chunk) chunks.now)) }
+/// stands before it. A reply that is no step has no items. Where 2^55 values stand before an item,
+/// it fails as without memory.
+pub fn write_walk(out: &mut ByteOut, fields: Fields, steps: &[Reply]) -> Result<(), AllocError>
+    ensures { OnOk result (out.new ≡ out.old ++ walk_text fields steps.now) }
 {
-    write_head(out, item_count(chunks)?)?;
+    write_head(out, count_items(steps)?)?;
     let mut reached = Reached { key: 0, base: 1 };
-    for chunk in chunks {
-        reached = write_items(out, fields, chunk.items.as_slice(), reached)?;
+    for step in steps {
+        reached = write_items(out, fields, items_of(step), reached)?;
     }
     out.push(b"}")
 }

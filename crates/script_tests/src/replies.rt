@@ -1,6 +1,6 @@
 //! Walks and totals, as PHP's `serialize` would print them.
 
-use apcu_model::{Chunk, Fields, ItemRow, Items};
+use apcu_model::{Chunk, Fields, ItemRow, Items, Reply};
 use notation::{ByteOut, Cursor, read_value};
 use php_graph::{Bytes, Graph};
 use reply_text::{write_totals, write_walk};
@@ -36,8 +36,8 @@ fn item_of(alloc: Global, row: &Row) -> Result<ItemRow, Fail> {
 }
 
 // The steps of a walk that give these rows.
-fn steps_of(alloc: Global, steps: &[&[Row]]) -> Result<Vec<Chunk>, Fail> {
-    let mut chunks = Vec::new(alloc);
+fn steps_of(alloc: Global, steps: &[&[Row]]) -> Result<Vec<Reply>, Fail> {
+    let mut replies = Vec::new(alloc);
     for rows in steps {
         let mut items = Items::new(alloc);
         for row in *rows {
@@ -46,9 +46,9 @@ fn steps_of(alloc: Global, steps: &[&[Row]]) -> Result<Vec<Chunk>, Fail> {
             }
             items.push(item_of(alloc, row)?)?;
         }
-        chunks.push(Chunk { next: 0, items })?;
+        replies.push(Reply::Chunk(Chunk { next: 0, items }))?;
     }
-    Ok(chunks)
+    Ok(replies)
 }
 
 #[test]
@@ -79,9 +79,9 @@ fn walks(rt: HostRuntime) -> Result<(), Fail> {
         ),
     ];
     for (fields, steps, wanted) in &cases {
-        let chunks = steps_of(rt.alloc(), steps)?;
+        let replies = steps_of(rt.alloc(), steps)?;
         let mut out = ByteOut::new(rt.alloc());
-        write_walk(&mut out, Fields(*fields), chunks.as_slice())?;
+        write_walk(&mut out, Fields(*fields), replies.as_slice())?;
         assert_eq!(rt; out.as_slice(), *wanted);
     }
     Ok(())

@@ -14,7 +14,7 @@ use Rattle.reply_text.specs.Lines.{call_text}
 use Rattle.worker_play.specs.Goes.{wish, GoesOn, Reaches, Tells}
 use Rattle.worker_play.specs.Turns.{Turn, Takes, Over, turn_at, turns_at, steps_at}
 use Rattle.worker_play.proofs.Going.{Midway, goes_on, one_asked, more_asked}
-use Rattle.worker_play.proofs.Forms.{call_tells}
+use Rattle.worker_play.proofs.Forms.{call_asks, call_tells}
 
 is_below : (a b : ℕ) → a < b → nat_lt a b ≡ true
 is_below a b below = grind (arith, nat_tests, below)
@@ -61,6 +61,13 @@ iterator_breaks conf workers p o q turns t slots ask from answer told to_tell (E
 -- the call by its search
 pub by_search : (call : Call) (wanted sought : Option Pattern) (form : Option Pattern → Call) → call ≡ form wanted → call_pattern (form wanted) ≡ wanted → sought ≡ call_pattern call → call ≡ form sought
 by_search call wanted sought form is has same = is ∙ ap form (sym (same ∙ (ap call_pattern is ∙ has)))
+
+-- what its steps reach the call does
+pub steps_reached : (conf : Conf) (workers : ℕ) (p q : Bearer) (t slots : ℕ) (call form : Call) (ask : ℕ → Request) → call ≡ form → slots ≡ conf.slots → asking_of form ≡ Steps ask → Reaches conf workers p q (steps_at t slots ask 0)
+    → Reaches conf workers p q (turns_at t (next_of conf call))
+steps_reached conf workers p q t slots call form ask is same asks r =
+    call_asks conf workers p q t call form is
+    (subst (λ (a : Asking). Reaches conf workers p q (turns_at t (asks_so conf.slots a))) (sym asks) (subst (λ (n : ℕ). Reaches conf workers p q (steps_at t n ask 0)) same r))
 
 pub steps_told : (conf : Conf) (workers : ℕ) (p q : Bearer) (t slots : ℕ) (call form : Call) (ask : ℕ → Request) (out new : List ℕ) → call ≡ form → slots ≡ conf.slots → asking_of form ≡ Steps ask
     → Tells conf workers p q (steps_at t slots ask 0) (λ replies. out ++ call_text form replies) new → Tells conf workers p q (turns_at t (next_of conf call)) (λ replies. out ++ call_text call replies) new

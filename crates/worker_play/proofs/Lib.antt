@@ -7,3 +7,4 @@ pub mod Steps
 pub mod Iterators
 pub mod Refusing
 pub mod Looking
+pub mod PoolKeys

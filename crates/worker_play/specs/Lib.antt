@@ -3,3 +3,4 @@ pub mod Goes
 pub mod Ends
 pub mod Groups
 pub mod Looks
+pub mod Pools

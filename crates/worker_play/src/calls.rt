@@ -19,6 +19,7 @@ use crate::events::{
     cache_info, cas, clear, delete, entry, exists, fetch, inc, key_info, sma_info, store,
 };
 use crate::noting::{note_there, note_undone, note_value, write_found};
+use crate::pools::play_pool;
 use crate::walks::{delete_found, walk_active, walk_deleted};
 use apcu_iter::Search;
 use apcu_model::List;
@@ -84,7 +85,7 @@ pub(crate) fn play_call<N: TableName, G: Gate, R: Wait>(
         Call::FetchOne(key) => {
             let (pass, found) = fetch(rt, alloc, shared, gate, number, pass, key, t);
             match found {
-                Ok(found) => (pass, write_fetched(out, found)),
+                Ok(found) => (pass, write_fetched(out, found.as_ref())),
                 Err(e) => (pass, Err(e)),
             }
         }
@@ -125,6 +126,9 @@ pub(crate) fn play_call<N: TableName, G: Gate, R: Wait>(
             play_told(rt, alloc, shared, pass, call, t, out)
         }
         Call::Walk { .. } | Call::WalkDelete { .. } | Call::Totals { .. } => play_searching(
+            rt, alloc, shared, gate, number, slots, pass, call, search, t, out,
+        ),
+        Call::Pool(call) => play_pool(
             rt, alloc, shared, gate, number, slots, pass, call, search, t, out,
         ),
     }
@@ -198,21 +202,21 @@ fn play_told<N: TableName, R: Wait>(
         Call::KeyInfo(key) => {
             let (pass, info) = key_info(rt, alloc, shared, pass, key, t);
             match info {
-                Ok(info) => (pass, write_info(out, info)),
+                Ok(info) => (pass, write_info(out, info.as_ref())),
                 Err(e) => (pass, Err(e)),
             }
         }
         Call::CacheInfo(limited) => {
             let (pass, info) = cache_info(rt, alloc, shared, pass, *limited);
             match info {
-                Ok(info) => (pass, write_info(out, Some(info))),
+                Ok(info) => (pass, write_info(out, Some(&info))),
                 Err(e) => (pass, Err(e)),
             }
         }
         Call::SmaInfo(limited) => {
             let (pass, info) = sma_info(rt, alloc, shared, pass, *limited);
             match info {
-                Ok(info) => (pass, write_info(out, Some(info))),
+                Ok(info) => (pass, write_info(out, Some(&info))),
                 Err(e) => (pass, Err(e)),
             }
         }

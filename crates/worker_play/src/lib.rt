@@ -2,6 +2,7 @@
 //! what each call prints for its own replies.
 #![tactic(auto)]
 
+mod answers;
 mod calls;
 mod chunks;
 mod ending;
@@ -9,6 +10,7 @@ mod events;
 mod looks;
 mod noting;
 mod patterns;
+mod pools;
 mod quiet;
 mod scalar;
 mod script;

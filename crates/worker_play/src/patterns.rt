@@ -1,6 +1,7 @@
 //! The searches for the patterns that calls are made with.
 
 ghost use Rattle.std.specs.Prelude.{◌≡◌, IfOk, IfErr};
+ghost use Rattle.script_read.specs.Calls.{HasRanges};
 ghost use Rattle.script_read.specs.Patterns.{call_pattern, MayBeRefused};
 ghost use Rattle.worker_play.specs.declared.script.PlayFault.TheVariants as faults;
 
@@ -16,11 +17,13 @@ pub(crate) fn search_of<M: Maker>(
     maker: &M,
     call: &Call,
 ) -> Result<Search, PlayFault>
+    requires { HasRanges call.now }
     ensures made { IfOk result (λ search. search ≡ call_pattern call.now) }
     ensures pattern { IfErr result (λ fault. fault ≡ faults.Pattern
         → MayBeRefused (M.may_refuse maker.now) (call_pattern call.now)) }
 {
-    match Search::new(alloc, maker, call.pattern()) {
+    let pattern = call.pattern(alloc)?;
+    match Search::new(alloc, maker, pattern.as_ref()) {
         Ok(search) => Ok(search),
         Err(SearchFault::BadPattern | SearchFault::TooBig) => Err(PlayFault::Pattern),
         Err(SearchFault::Memory) => Err(PlayFault::Memory),

@@ -15,7 +15,7 @@ ghost use Rattle.worker_play.specs.Turns.{asks_at, steps_at};
 
 use crate::chunks::{chunk, chunk_delete};
 use apcu_iter::Search;
-use apcu_model::{Chunk, Fields, List};
+use apcu_model::{Chunk, Fields, List, Reply};
 use io_edges::Gate;
 use notation::ByteOut;
 use pin_table::{Pass, TableName};
@@ -34,13 +34,13 @@ fn next_slot(slots: u32, from: u32, end: u32) -> u32
 }
 
 // Keeps a step's items, and answers the slot up to which it went.
-fn keep(chunks: &mut Vec<Chunk>, made: Result<Chunk, AllocError>) -> Result<u32, AllocError>
+fn keep(steps: &mut Vec<Reply>, made: Result<Chunk, AllocError>) -> Result<u32, AllocError>
     ensures { IfOk result (λ end. (chunk : Chunk) × (made ≡ Ok chunk) × (end ≡ chunk.next)
-        × (chunks.new.items ≡ chunks.old.items ++ chunk ∷ [])) }
+        × (steps.new.items ≡ steps.old.items ++ reply.Chunk chunk ∷ [])) }
 {
     let chunk = made?;
     let end = chunk.next;
-    chunks.push(chunk)?;
+    steps.push(Reply::Chunk(chunk))?;
     Ok(end)
 }
 
@@ -71,7 +71,7 @@ pub(crate) fn walk_active<N: TableName, G: Gate, R: Wait>(
         (λ replies. out.old ++ walk_text fields replies) out.new) }
 {
     let mut held = pass;
-    let mut chunks = Vec::new(alloc);
+    let mut steps = Vec::new(alloc);
     let mut from = 0;
     'walking: while from < slots {
         let (next, made) = chunk(
@@ -89,12 +89,12 @@ pub(crate) fn walk_active<N: TableName, G: Gate, R: Wait>(
             t,
         );
         held = next;
-        match keep(&mut chunks, made) {
+        match keep(&mut steps, made) {
             Ok(end) => from = next_slot(slots, from, end),
             Err(e) => return (held, Err(e)),
         }
     }
-    (held, write_walk(out, fields, &chunks))
+    (held, write_walk(out, fields, &steps))
 }
 
 // Goes over the removed rows that the search finds, all in one step, and prints their items.
@@ -135,7 +135,7 @@ pub(crate) fn walk_deleted<N: TableName, G: Gate, R: Wait>(
         t,
     );
     match made {
-        Ok(chunk) => (pass, write_walk(out, fields, &[chunk])),
+        Ok(chunk) => (pass, write_walk(out, fields, &[Reply::Chunk(chunk)])),
         Err(e) => (pass, Err(e)),
     }
 }

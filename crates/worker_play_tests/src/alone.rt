@@ -193,12 +193,63 @@ const TWO_REQUESTS: Alone = Alone {
     events: 4,
 };
 
+// Two pools on one cache. A key that comes again keeps its place; a default is numbered where it
+// stands; a time to live that is not positive deletes; clearing one pool spares the other one.
+const POOLS: Alone = Alone {
+    script: b"worker\n\
+        pool_set s:1:\"p\"; s:1:\"a\"; i:5;\n\
+        pool_set s:1:\"q\"; s:1:\"a\"; i:7; i:60;\n\
+        pool_get s:1:\"p\"; s:1:\"a\";\n\
+        pool_get s:1:\"q\"; s:1:\"b\"; i:9;\n\
+        pool_get s:1:\"q\"; s:1:\"b\";\n\
+        apcu_fetch s:4:\"{p}a\";\n\
+        pool_get_multiple s:1:\"p\"; a:3:{i:0;s:1:\"a\";i:1;s:1:\"5\";i:2;s:1:\"a\";} b:0;\n\
+        pool_set_multiple s:1:\"p\"; a:2:{s:1:\"b\";b:0;i:5;i:2;}\n\
+        pool_get_multiple s:1:\"p\"; a:3:{i:0;s:1:\"b\";i:1;s:1:\"c\";i:2;s:1:\"5\";} \
+        a:2:{i:0;a:1:{i:0;i:1;}i:1;R:2;}\n\
+        pool_has s:1:\"p\"; s:1:\"b\";\n\
+        pool_set s:1:\"p\"; s:1:\"b\"; i:1; i:0;\n\
+        pool_has s:1:\"p\"; s:1:\"b\";\n\
+        pool_delete s:1:\"p\"; s:1:\"b\";\n\
+        pool_delete_multiple s:1:\"p\"; a:2:{i:0;s:1:\"5\";i:1;s:1:\"x\";}\n\
+        pool_clear s:1:\"p\";\n\
+        pool_has s:1:\"p\"; s:1:\"a\";\n\
+        pool_has s:1:\"q\"; s:1:\"a\";\n\
+        pool_set_multiple s:1:\"q\"; a:2:{s:1:\"a\";i:1;s:1:\"b\";i:2;} i:-1;\n\
+        pool_has s:1:\"q\"; s:1:\"a\";\n",
+    clock: Clock::Line,
+    printed: Some(
+        b"b:1;\n\
+        b:1;\n\
+        i:5;\n\
+        i:9;\n\
+        N;\n\
+        i:5;b:1;\n\
+        a:2:{s:1:\"a\";i:5;i:5;b:0;}\n\
+        b:1;\n\
+        a:3:{s:1:\"b\";b:0;s:1:\"c\";a:2:{i:0;a:1:{i:0;i:1;}i:1;R:4;}i:5;i:2;}\n\
+        b:1;\n\
+        b:1;\n\
+        b:0;\n\
+        b:1;\n\
+        b:1;\n\
+        b:1;\n\
+        b:0;\n\
+        b:1;\n\
+        b:1;\n\
+        b:0;\n",
+    ),
+    budget: 58,
+    events: 27,
+};
+
 // A script without calls, and one whose only call makes no event, beside those with all calls.
 #[test]
 fn plays_alone_with_every_call(rt: HostRuntime) -> Result<(), Fail> {
     for case in [
         EVERY_CALL,
         ITERATORS,
+        POOLS,
         Alone {
             script: b"worker\n",
             clock: Clock::Line,

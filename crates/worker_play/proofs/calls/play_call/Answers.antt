@@ -1,7 +1,10 @@
-use Rattle.std.proofs.Common.{◌≡◌, ◌++◌, refl, sym, ap, ◌∙◌, rules}
+use Rattle.std.proofs.Common.{◌≡◌, ◌<◌, ◌++◌, refl, sym, ap, subst, ◌∙◌, rules}
 use Rattle.apcu_model.specs.declared.request.Reply.{Reply}
+use Rattle.script_read.specs.declared.call.Call.{Call}
+use Rattle.script_read.specs.Calls.{HasRanges, event_bound}
+use Rattle.script_read.specs.Patterns.{call_pattern}
 use Rattle.script_read.specs.declared.call.Call.TheVariants.{StoreMany, FetchMany, ExistsMany, DeleteMany, Enabled}
-use Rattle.reply_text.specs.Replies.{fetched_one}
+use Rattle.reply_text.specs.Replies.{fetched, fetched_one}
 use Rattle.worker_play.proofs.Going.{nothing_asked, nothing_made, on_ok, of_if_ok}
 use Rattle.worker_play.proofs.Forms.{call_asks, call_tells, told_once}
 use Rattle.worker_play.proofs.calls.play_call.Goals as goal
@@ -68,6 +71,24 @@ play_searching-requires-clause-ranges g c = c.requires.ranges
 pub play_searching-requires-clause-search : goal.play_searching-requires-clause-search
 play_searching-requires-clause-search g c = c.requires.search
 
+pub play_pool-requires-clause-table : goal.play_pool-requires-clause-table
+play_pool-requires-clause-table g c = c.requires.table
+
+pub play_pool-requires-clause-whole : goal.play_pool-requires-clause-whole
+play_pool-requires-clause-whole g c = c.requires.whole
+
+pub play_pool-requires-clause-slots : goal.play_pool-requires-clause-slots
+play_pool-requires-clause-slots g c = c.requires.slots
+
+pub play_pool-requires-clause-left : goal.play_pool-requires-clause-left
+play_pool-requires-clause-left g c = subst (λ (call : Call). event_bound g.N.TableName.conf.slots call < c.args.pass.known.left) c.in-Pool.is c.requires.left
+
+pub play_pool-requires-clause-good : goal.play_pool-requires-clause-good
+play_pool-requires-clause-good g c = subst HasRanges c.in-Pool.is c.requires.ranges
+
+pub play_pool-requires-clause-search : goal.play_pool-requires-clause-search
+play_pool-requires-clause-search g c = c.requires.search ∙ ap call_pattern c.in-Pool.is
+
 -- ---- one event
 
 pub returns-in-Inc-clause-line : goal.returns-in-Inc-clause-line
@@ -82,7 +103,7 @@ returns-in-Ok-value-clause-line g c = on_ok c.write_gave.result (λ e. told_once
 pub returns-in-Ok-clause-line : goal.returns-in-Ok-clause-line
 returns-in-Ok-clause-line g c =
     let found = of_if_ok _ c.fetch-pass.result.1 c.in-Ok.found c.in-Ok.is c.fetch-pass.ensures.2 in
-    on_ok c.write_fetched.result (λ e. told_once _ _ _ _ _ _ _ _ _ _ _ c.in-FetchOne.is c.fetch-pass.ensures.1 refl refl (e ∙ ap (λ (y : Reply). c.args.out.now ++ fetched_one y) found)) c.write_fetched.ensures
+    on_ok c.write_fetched.result (λ e. told_once _ _ _ _ _ _ _ _ _ _ _ c.in-FetchOne.is c.fetch-pass.ensures.1 refl refl (e ∙ ap (λ (y : Reply). c.args.out.now ++ fetched_one y) (ap fetched c.as_ref.ensures.value ∙ found))) c.write_fetched.ensures
 
 -- ---- an event for each key
 
@@ -109,6 +130,14 @@ returns-in-DeleteMany-clause-reaches g c = call_asks _ _ _ _ _ _ _ (c.in-DeleteM
 
 pub returns-in-DeleteMany-clause-line : goal.returns-in-DeleteMany-clause-line
 returns-in-DeleteMany-clause-line g c = on_ok c.delete_all.result.1 (λ told. call_tells _ _ _ _ _ _ _ _ _ (c.in-DeleteMany.is ∙ ap DeleteMany (sym c.as_slice-in-DeleteMany.ensures)) told) c.delete_all.ensures.line
+
+-- ---- a pool
+
+pub returns-in-Pool-clause-reaches : goal.returns-in-Pool-clause-reaches
+returns-in-Pool-clause-reaches g c = call_asks _ _ _ _ _ _ _ c.in-Pool.is c.play_pool.ensures.reaches
+
+pub returns-in-Pool-clause-line : goal.returns-in-Pool-clause-line
+returns-in-Pool-clause-line g c = on_ok c.play_pool.result.1 (λ told. call_tells _ _ _ _ _ _ _ _ _ c.in-Pool.is told) c.play_pool.ensures.line
 
 -- ---- no event
 

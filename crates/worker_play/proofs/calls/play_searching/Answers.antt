@@ -12,7 +12,7 @@ use Rattle.worker_play.specs.Turns.{turns_at, steps_at}
 use Rattle.script_read.specs.declared.call.Call.TheVariants.{Walk, WalkDelete, Totals}
 use Rattle.worker_play.proofs.Going.{nothing_made, on_ok, of_if_ok}
 use Rattle.worker_play.proofs.Forms.{call_asks, call_tells, told_once}
-use Rattle.worker_play.proofs.Iterators.{by_search, steps_told}
+use Rattle.worker_play.proofs.Iterators.{by_search, steps_reached, steps_told}
 use Rattle.worker_play.proofs.calls.play_searching.Goals as goal
 
 pub walk_active-requires-clause-table : goal.walk_active-requires-clause-table
@@ -38,13 +38,6 @@ walk_active-requires-clause-slots g c = c.requires.slots
 
 pub delete_found-requires-clause-slots : goal.delete_found-requires-clause-slots
 delete_found-requires-clause-slots g c = c.requires.slots
-
--- what its steps reach the call does
-steps_reached : (conf : Conf) (workers : ℕ) (p q : Bearer) (t slots : ℕ) (call form : Call) (ask : ℕ → Request) → call ≡ form → slots ≡ conf.slots → asking_of form ≡ Steps ask → Reaches conf workers p q (steps_at t slots ask 0)
-    → Reaches conf workers p q (turns_at t (next_of conf call))
-steps_reached conf workers p q t slots call form ask is same asks r =
-    call_asks conf workers p q t call form is
-    (subst (λ (a : Asking). Reaches conf workers p q (turns_at t (asks_so conf.slots a))) (sym asks) (subst (λ (n : ℕ). Reaches conf workers p q (steps_at t n ask 0)) same r))
 
 pub returns-in-Active-clause-reaches : goal.returns-in-Active-clause-reaches
 returns-in-Active-clause-reaches g c =

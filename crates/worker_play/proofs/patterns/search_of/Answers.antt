@@ -10,9 +10,3 @@ returns-in-Ok-clause-pattern c = grind (arith, common_steps)
 
 pub returns-in-Err-BadPattern : goal.returns-in-Err-BadPattern
 returns-in-Err-BadPattern c = grind (arith, common_steps)
-
-pub returns-in-Err-Memory-clause-made : goal.returns-in-Err-Memory-clause-made
-returns-in-Err-Memory-clause-made c = grind (arith, common_steps)
-
-pub returns-in-Err-Memory-clause-pattern : goal.returns-in-Err-Memory-clause-pattern
-returns-in-Err-Memory-clause-pattern c = grind (arith, common_steps)

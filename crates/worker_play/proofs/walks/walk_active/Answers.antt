@@ -14,14 +14,12 @@ use Rattle.worker_play.proofs.Iterators.{iterator_goes_on, iterator_breaks, aske
 use Rattle.worker_play.proofs.walks.walk_active.Goals as goal
 
 -- one step more was kept
-kept_more : (chunks new : List Chunk) (chunk : Chunk) → new ≡ chunks ++ chunk ∷ [] → (later : List Reply) → map reply.Chunk chunks ++ (reply.Chunk chunk ∷ later) ≡ map reply.Chunk new ++ later
-kept_more chunks new chunk is later =
-    sym (append_assoc (map reply.Chunk chunks) (reply.Chunk chunk ∷ []) later)
-    ∙ ap (λ (l : List Reply). l ++ later) (sym (map-append reply.Chunk chunks (chunk ∷ [])) ∙ ap (map reply.Chunk) (sym is))
+kept_more : (steps new : List Reply) (step : Reply) → new ≡ steps ++ step ∷ [] → (later : List Reply) → steps ++ (step ∷ later) ≡ new ++ later
+kept_more steps new step is later = sym (append_assoc steps (step ∷ []) later) ∙ ap (λ (l : List Reply). l ++ later) (sym is)
 
 -- no step was kept yet
-none_kept : (chunks : List Chunk) → chunks ≡ [] → (later : List Reply) → later ≡ map reply.Chunk chunks ++ later
-none_kept chunks none later = ap (λ (l : List Chunk). map reply.Chunk l ++ later) (sym none)
+none_kept : (steps : List Reply) → steps ≡ [] → (later : List Reply) → later ≡ steps ++ later
+none_kept steps none later = ap (λ (l : List Reply). l ++ later) (sym none)
 
 pub walking-init : goal.walking-init
 walking-init g c = record {
@@ -29,7 +27,7 @@ walking-init g c = record {
   whole = c.requires.whole;
   left = omega (arith, c.requires.left);
   search = refl;
-  midway = (nothing_asked _ _ _ _ c.requires.whole, λ later. refl, none_kept _ c.new-chunks.ensures.items);
+  midway = (nothing_asked _ _ _ _ c.requires.whole, λ later. refl, none_kept _ c.new-steps.ensures.items);
 }
 
 pub walking-preserved : goal.walking-preserved
@@ -42,16 +40,16 @@ walking-preserved g c =
       whole = asked.all_own;
       left = omega (arith, i.left, asked.left, c.next_slot-from.ensures.up, c.walking-test.true);
       search = c.chunk-next.ensures.search ∙ i.search;
-      midway = iterator_goes_on _ _ _ _ _ _ c.args.t c.args.slots (λ from. request.Chunk c.args.search.now from c.args.size Active c.args.fields) c.walking.from _ (reply.Chunk kept.0) (λ replies. replies) (λ later. map reply.Chunk c.walking.chunks.items ++ later) _ i.midway
+      midway = iterator_goes_on _ _ _ _ _ _ c.args.t c.args.slots (λ from. request.Chunk c.args.search.now from c.args.size Active c.args.fields) c.walking.from _ (reply.Chunk kept.0) (λ replies. replies) (λ later. c.walking.steps.items ++ later) _ i.midway
           (asked_so _ _ _ _ _ _ _ _ (ap (λ s. request.Chunk s c.walking.from c.args.size Active c.args.fields) i.search) asked) c.walking-test.true
-          (c.next_slot-from.ensures.is ∙ ap (λ (n : ℕ). slot_after c.args.slots c.walking.from (reply.Next n)) kept.2) (kept_more _ _ kept.0 kept.3);
+          (c.next_slot-from.ensures.is ∙ ap (λ (n : ℕ). slot_after c.args.slots c.walking.from (reply.Next n)) kept.2) (kept_more _ _ (reply.Chunk kept.0) kept.3);
     }
 
 pub returns-in-Err-clause-reaches : goal.returns-in-Err-clause-reaches
 returns-in-Err-clause-reaches g c =
     let i = c.walking.invariant in
     let ask : ℕ → Request = λ from. request.Chunk c.args.search.now from c.args.size Active c.args.fields in
-    iterator_breaks _ _ _ _ _ _ c.args.t c.args.slots ask c.walking.from reply.Chunk (λ replies. replies) (λ later. map reply.Chunk c.walking.chunks.items ++ later) c.chunk-next.result.1 i.midway c.walking-test.true
+    iterator_breaks _ _ _ _ _ _ c.args.t c.args.slots ask c.walking.from reply.Chunk (λ replies. replies) (λ later. c.walking.steps.items ++ later) c.chunk-next.result.1 i.midway c.walking-test.true
     (if_ok c.chunk-next.result.1 (λ chunk asked. asked_so _ _ _ _ _ _ _ _ (ap (λ s. request.Chunk s c.walking.from c.args.size Active c.args.fields) i.search) asked) c.chunk-next.ensures.told) c.chunk-next.ensures.same
 
 pub returns-clause-reaches : goal.returns-clause-reaches
@@ -60,8 +58,7 @@ returns-clause-reaches g c = c.walking.invariant.midway.0
 pub returns-clause-line : goal.returns-clause-line
 returns-clause-line g c =
     let ask : ℕ → Request = λ from. request.Chunk c.args.search.now from c.args.size Active c.args.fields in
-    let t = ends _ _ _ _ _ _ (λ replies. replies) (λ later. map reply.Chunk c.walking.chunks.items ++ later) c.walking.invariant.midway (steps_over c.args.t c.args.slots ask c.walking.from c.walking-test.false) in
+    let t = ends _ _ _ _ _ _ (λ replies. replies) (λ later. c.walking.steps.items ++ later) c.walking.invariant.midway (steps_over c.args.t c.args.slots ask c.walking.from c.walking-test.false) in
     let text = λ (replies : List Reply). c.args.out.now ++ walk_text c.args.fields replies in
-    let kept : map reply.Chunk c.deref.result.now ≡ map reply.Chunk c.walking.chunks.items ++ [] =
-    ap (map reply.Chunk) c.deref.ensures.value ∙ sym (append-nil (map reply.Chunk c.walking.chunks.items)) in
+    let kept : c.deref.result.now ≡ c.walking.steps.items ++ [] = c.deref.ensures.value ∙ sym (append-nil c.walking.steps.items) in
     on_ok c.write_walk.result (λ e. printed _ _ _ _ _ _ _ text _ t (e ∙ ap text kept)) c.write_walk.ensures

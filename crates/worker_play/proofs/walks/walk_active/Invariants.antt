@@ -14,7 +14,7 @@ invariant-walking g l = record {
   left : l.slots - l.from < l.held.known.left;
   search : l.search ≡ l.fn.search;
   midway : Midway g.N.TableName.conf (length g.N.TableName.budgets) l.fn.pass l.held (steps_at l.t l.slots (λ from. request.Chunk l.fn.search from l.size Active l.fields) 0) (steps_at l.t l.slots (λ from. request.Chunk l.fn.search from l.size Active l.fields) l.from)
-      (λ replies. replies) (λ later. map reply.Chunk l.chunks.items ++ later);
+      (λ replies. replies) (λ later. l.steps.items ++ later);
 }
 
 abbrev pub decreases-walking : goal.decreases-walking

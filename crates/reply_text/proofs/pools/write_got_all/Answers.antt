@@ -1,0 +1,22 @@
+use Rattle.std.proofs.Common.{ℕ, List, [], ◌++◌, length, ap, ◌∙◌, arith}
+use Rattle.std.specs.Borrow.{Bor}
+use Rattle.php_graph.specs.declared.kind.Kind.{Kind}
+use Rattle.reply_text.specs.Notes.{lent_notes}
+use Rattle.reply_text.specs.PoolReplies.{got_in}
+use Rattle.reply_text.specs.Replies.{array_text, value_members}
+use Rattle.reply_text.proofs.KeyByKey.{lent_len, told_len, both_read}
+use Rattle.reply_text.proofs.Printed.{all_noted_len, on_ok}
+use Rattle.reply_text.proofs.pools.write_got_all.Goals as goal
+
+pub write_values-requires : goal.write_values-requires
+write_values-requires c =
+    let few = all_noted_len (got_in c.args.default.now) [] c.args.keys.now c.args.replies.now in
+    let shown = ap (length {A = List ℕ × List Kind}) c.in_ok-notes.ensures in
+    let told = ap (length {A = List ℕ × Bor (List Kind)}) c.as_slice.ensures in
+    omega (arith, few, shown, told, lent_len c.in_ok-notes.notes, told_len c.as_slice.result.now, c.requires.few)
+
+pub returns : goal.returns
+returns c =
+    let same = both_read c.as_slice.result.now ∙ (ap lent_notes c.as_slice.ensures ∙ c.in_ok-notes.ensures) in
+    let text = λ (ns : List (List ℕ × List Kind)). c.args.out.now ++ array_text (value_members 1 ns) in
+    on_ok c.write_values.result (λ e. e ∙ ap text same) c.write_values.ensures
