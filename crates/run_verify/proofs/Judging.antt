@@ -1,8 +1,8 @@
 -- The outputs for which the verdict is yes.
-use Rattle.std.proofs.Common.{◌≡◌, ℕ, suc, ◌+◌, ◌<◌, ◌≤◌, ◌^◌, Bool, true, false, cond, List, [], ◌∷◌, ◌++◌, length, Option, Some, None, refl, ap, sym, ◌∙◌, subst, arith, append_assoc}
+use Rattle.std.proofs.Common.{◌≡◌, ℕ, ◌+◌, ◌≤◌, ◌^◌, Bool, true, false, cond, List, [], ◌∷◌, ◌++◌, length, Option, Some, None, refl, ap, sym, ◌∙◌, subst, arith, append_assoc}
 use Rattle.std.specs.Prelude.{◌==◌, ◌&&◌, ◌||◌, not, nat_lt, map, is_some, IsSome, IsTrue}
 use Rattle.std.specs.Option.{option_and_then}
-use Rattle.std.specs.List.{flat_map, list_all, range_with_len}
+use Rattle.std.specs.List.{list_all, range_with_len}
 use Rattle.std.proofs.lemmas.Bool.{ltb-true, eqb-true}
 use Rattle.std.proofs.lemmas.List.{append-nil}
 use Rattle.std.proofs.lemmas.Option.{slice_get_within}
@@ -10,13 +10,11 @@ use Rattle.apcu_model.specs.declared.conf.Conf.{Conf}
 use Rattle.apcu_model.specs.declared.journal.Mark.{Mark}
 use Rattle.apcu_model.specs.History.{is_in_mask, is_legal_mask, window_of}
 use Rattle.script_read.specs.declared.script.Step.{Step}
-use Rattle.script_read.specs.Play.{Wish, Play, wanted, replies_of, script_of, wish_of, after_wish, marked, played_from, played, nothing_played, are_done, is_complete_play, IsLegal, IsCompletePlay}
+use Rattle.script_read.specs.Play.{Wish, Play, wanted, replies_of, script_of, wish_of, after_wish, marked, played_from, played, nothing_played, are_done, is_complete_play}
 use Rattle.reply_text.specs.Lines.{texts_of}
-use Rattle.reply_text.specs.Output.{worker_texts, mark_line, journal_lines, play_text, output_of, IsOutput}
-use Rattle.run_verify.specs.declared.verdict.Verdict.{Verdict}
-use Rattle.run_verify.specs.declared.verdict.Verdict.TheVariants.{Yes, NoJournal, Event, Byte}
+use Rattle.reply_text.specs.Output.{worker_texts, mark_line, journal_lines, play_text, IsOutput}
+use Rattle.run_verify.specs.declared.verdict.Verdict.TheVariants.{Yes, Event}
 use Rattle.run_verify.specs.Verdicts.{first_difference, next_place, byte_verdict, judged_end, played_line, with_mark, go_on, judged, judged_part, verdict_of, journal_part, lines_of, mark_of_line}
-use Rattle.run_verify.specs.Reading.{IsInBits}
 use Rattle.run_verify.proofs.Telling.{read}
 use Rattle.run_verify.proofs.Spelled.{same_none}
 use Rattle.run_verify.proofs.Ending.{AllInBits, output_part, marks_lines}
@@ -41,7 +39,7 @@ same_text (x ∷ xs) (y ∷ ys) e = by (x == y) refl e (same_text xs ys)
         ap (λ (k : ℕ). k ∷ xs) head ∙ ap (λ (l : List ℕ). y ∷ l) tail
 
 -- one mark more is played
-played_more : (conf : Conf) (scripts : List (List Step)) (p : Play) (marks : List Mark) (mark : Mark) (q r : Play)
+pub played_more : (conf : Conf) (scripts : List (List Step)) (p : Play) (marks : List Mark) (mark : Mark) (q r : Play)
     → played_from conf scripts p marks ≡ Some q → marked conf scripts q mark ≡ Some r → played_from conf scripts p (marks ++ mark ∷ []) ≡ Some r
 played_more conf scripts p [] mark q r so_far goes =
     let one : p ≡ q = cc in

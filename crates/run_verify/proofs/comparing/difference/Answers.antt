@@ -1,4 +1,4 @@
-use Rattle.std.proofs.Common.{drop, map, sym, subst}
+use Rattle.std.proofs.Common.{drop, sym, subst}
 use Rattle.run_verify.specs.Comparing.{HasPiece, DiffersAt}
 use Rattle.reply_text.specs.Output.{worker_texts}
 use Rattle.run_verify.proofs.Differing.{to_end, none_more, some_more, differs_whole}

@@ -1,4 +1,4 @@
-use Rattle.std.proofs.Common.{◌≡◌, ◌+◌, ◌++◌, ℕ, List, take, drop, length, map, get_or, ap, sym, ◌∙◌, subst}
+use Rattle.std.proofs.Common.{◌≡◌, ◌+◌, ◌++◌, ℕ, List, take, drop, length, get_or, ap, sym, ◌∙◌, subst}
 use Rattle.run_verify.specs.Comparing.{HasPiece, DiffersAt, worker_text}
 use Rattle.reply_text.specs.Output.{worker_texts}
 use Rattle.run_verify.proofs.Differing.{later, sooner, joined, upto, all_texts}

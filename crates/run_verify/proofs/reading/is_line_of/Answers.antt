@@ -1,4 +1,3 @@
-use Rattle.std.proofs.Common.{sym, ◌∙◌}
 use Rattle.reply_text.specs.Output.{mark_line}
 use Rattle.run_verify.proofs.Spelled.{whole_piece, no_piece}
 use Rattle.run_verify.proofs.reading.is_line_of.Goals as goal

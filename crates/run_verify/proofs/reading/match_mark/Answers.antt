@@ -1,4 +1,4 @@
-use Rattle.std.proofs.Common.{◌≡◌, ◌++◌, List, ℕ, ap, ◌∙◌, subst, sym, append_assoc}
+use Rattle.std.proofs.Common.{◌≡◌, ◌++◌, List, ℕ, ◌∙◌, subst}
 use Rattle.std.specs.Fmt.{decimal}
 use Rattle.reply_text.specs.Output.{mask_text, mark_line}
 use Rattle.script_read.specs.Grammar.{ends_line}

@@ -1,0 +1,5 @@
+use Rattle.run_verify.proofs.Asks.{asks_at}
+use Rattle.run_verify.proofs.asking.key_at.Goals as goal
+
+pub returns-then-k-len : goal.returns-then-k-len
+returns-then-k-len c ask = asks_at ask c.args.keys.now c.args.k _ c.at.ensures

@@ -1,0 +1,21 @@
+ghost use Rattle.std.specs.Prelude.{◌≡◌};
+ghost use Rattle.run_verify.specs.declared.fault.VerifyFault.TheVariants.{Memory};
+
+use std::alloc::AllocError;
+
+/// Why an output was not judged.
+#[derive(Clone, Copy, Debug, PartialEq, Eq)]
+pub enum VerifyFault {
+    /// There was not enough memory.
+    Memory,
+    /// A search is for what is no pattern, or its maker refused it.
+    Pattern,
+}
+
+impl From<AllocError> for VerifyFault {
+    ghost from_gives = { λ _ e. e ≡ Memory };
+
+    fn from(_e: AllocError) -> VerifyFault {
+        VerifyFault::Memory
+    }
+}

@@ -1,0 +1,95 @@
+//! One mark of a journal.
+
+ghost use Rattle.std.specs.Prelude.{◌≡◌, ◌+◌, ◌<◌, List, option_map, IfOk, IfErr, IfSome};
+ghost use Rattle.apcu_model.specs.declared.request.Reply.{Reply};
+ghost use Rattle.script_read.specs.Clock.{timed, all_timed};
+ghost use Rattle.script_read.specs.Patterns.{HasRefusable, SomeRefusable};
+ghost use Rattle.script_read.specs.Play.{marked};
+ghost use Rattle.run_verify.specs.Games.{IsGame};
+ghost use Rattle.run_verify.specs.Marks.{IsMarked};
+ghost use Rattle.run_verify.specs.Seats.{IsAnySeat, IsSeat};
+ghost use Rattle.run_verify.specs.declared.fault.VerifyFault.TheVariants.{Pattern};
+
+use crate::fault::VerifyFault;
+use crate::patterns::search_for;
+use crate::played::Played;
+use crate::seat::{Seat, keep, settle, wish_of};
+use apcu_iter::Maker;
+use apcu_model::{Clock, Conf, Mark};
+use mark_play::Replay;
+use script_read::{Script, Scripts};
+use std::alloc::Global;
+use std::marker::Model;
+
+// Makes the event that the worker of a seat wants, with the mask of the mark; whether it wants one.
+fn play_wish<M: Maker>(
+    alloc: Global,
+    maker: &M,
+    conf: &Conf,
+    clock: Clock,
+    script: &Script,
+    seat: &mut Seat,
+    replay: &mut Replay,
+    mark: Mark,
+) -> Result<bool, VerifyFault>
+    requires seat { IsAnySeat conf.now (timed clock script.now) seat.old }
+    requires worker { mark.worker < 64 }
+    requires left { 0 < replay.old.left }
+    requires shape { replay.old.stage.cache.conf ≡ conf.now }
+    ensures marked { IfOk result (λ wants. (replies : List Reply)
+        → IsSeat conf.now (timed clock script.now) replies seat.old
+        → IsMarked conf.now (timed clock script.now) replies replay.old replay.new seat.new mark
+        wants) }
+    ensures pattern { IfErr result (λ fault. fault ≡ Pattern
+        → HasRefusable (M.may_refuse maker.now) script.now) }
+{
+    settle(conf, script, seat)?;
+    let Some((query, t)) = wish_of(alloc, script, conf, clock, seat)? else {
+        return Ok(false);
+    };
+    search_for(alloc, maker, script, seat)?;
+    let search = &mut seat.search;
+    let reply = replay.play(alloc, mark.worker, mark.mask, query.ask(), search, t)?;
+    keep(conf, seat, reply)?;
+    Ok(true)
+}
+
+/// Plays a mark, if it can be played: its mask is legal, and its worker wants something. Where it
+/// cannot, the replay stays where it is.
+///
+/// `Pattern` comes only where a call of the scripts has a pattern that may be refused.
+pub(crate) fn play_mark<M: Maker>(
+    alloc: Global,
+    maker: &M,
+    conf: &Conf,
+    clock: Clock,
+    scripts: &Scripts,
+    replay: &mut Replay,
+    seats: &mut [Seat],
+    played: &Played,
+    mark: Mark,
+) -> Result<Option<Played>, VerifyFault>
+    requires worker { mark.worker < 64 }
+    requires game { IsGame conf.now (all_timed clock scripts.now) replay.old seats.old
+        played.now.game }
+    requires left { 0 < replay.old.left }
+    ensures marked { IfOk result (λ q. option_map (λ (p : Played). p.game.play) q
+        ≡ marked conf.now (all_timed clock scripts.now) played.now.game.play mark) }
+    ensures game { IfOk result (λ q. IfSome q (λ p.
+        IsGame conf.now (all_timed clock scripts.now) replay.new seats.new p.game)) }
+    ensures left { IfOk result (λ q. IfSome q (λ p. replay.new.left + 1 ≡ replay.old.left)) }
+    ensures pattern { IfErr result (λ fault. fault ≡ Pattern
+        → SomeRefusable (M.may_refuse maker.now) scripts.now) }
+{
+    let count = scripts.len();
+    if mark.worker >= count || !replay.is_legal(count, mark.worker, mark.mask) {
+        return Ok(None);
+    }
+    let script = scripts.at(mark.worker);
+    let seat = &mut seats[mark.worker as usize];
+    let wants = play_wish(alloc, maker, conf, clock, script, seat, replay, mark)?;
+    if !wants {
+        return Ok(None);
+    }
+    Ok(Some(played.then(&mark)))
+}

@@ -1,0 +1,49 @@
+//! The searches for the patterns that calls are made with.
+
+ghost use Rattle.std.specs.Prelude.{◌≡◌, IfOk, IfErr, OnOk};
+ghost use Rattle.script_read.specs.Calls.{HasRanges};
+ghost use Rattle.script_read.specs.Patterns.{call_pattern, MayBeRefused, HasRefusable};
+ghost use Rattle.run_verify.specs.Seats.{IsSearching, KnowsPattern};
+ghost use Rattle.run_verify.specs.declared.fault.VerifyFault.TheVariants as faults;
+
+use crate::fault::VerifyFault;
+use crate::seat::Seat;
+use apcu_iter::{Maker, Search, SearchFault};
+use script_read::{Call, Script};
+use std::alloc::Global;
+
+// The search of a call, for each step that it makes. A call without a pattern has one for all keys,
+// and takes no memory for it.
+fn search_of<M: Maker>(alloc: Global, maker: &M, call: &Call) -> Result<Search, VerifyFault>
+    requires { HasRanges call.now }
+    ensures made { IfOk result (λ search. search ≡ call_pattern call.now) }
+    ensures pattern { IfErr result (λ fault. fault ≡ faults.Pattern
+        → MayBeRefused (M.may_refuse maker.now) (call_pattern call.now)) }
+{
+    let pattern = call.pattern(alloc)?;
+    match Search::new(alloc, maker, pattern.as_ref()) {
+        Ok(search) => Ok(search),
+        Err(SearchFault::BadPattern | SearchFault::TooBig) => Err(VerifyFault::Pattern),
+        Err(SearchFault::Memory) => Err(VerifyFault::Memory),
+    }
+}
+
+// Makes the search for the call that the seat is at, where it has asked nothing yet.
+pub(crate) fn search_for<M: Maker>(
+    alloc: Global,
+    maker: &M,
+    script: &Script,
+    seat: &mut Seat,
+) -> Result<(), VerifyFault>
+    requires { KnowsPattern script.now seat.old }
+    ensures made { OnOk result (IsSearching script.now seat.old seat.new) }
+    ensures pattern { IfErr result (λ fault. fault ≡ faults.Pattern
+        → HasRefusable (M.may_refuse maker.now) script.now) }
+{
+    if seat.step >= script.len() || !seat.replies.is_empty() {
+        return Ok(());
+    }
+    let search = search_of(alloc, maker, &script.at(seat.step).call)?;
+    seat.search = search;
+    Ok(())
+}

@@ -1,0 +1,127 @@
+//! Judging an output: its journal part is played line by line, and then the output is compared with
+//! what those events print.
+
+ghost use Rattle.std.specs.Prelude.{◌≡◌, ◌≤◌, ◌-◌, ◌++◌, length, drop, Some, IfOk, IfErr};
+ghost use Rattle.apcu_model.specs.Conf.{IsGood};
+ghost use Rattle.reply_text.specs.Output.{worker_texts};
+ghost use Rattle.script_read.specs.Budgets.{all_events, most_events};
+ghost use Rattle.script_read.specs.Clock.{all_timed};
+ghost use Rattle.script_read.specs.Patterns.{SomeRefusable};
+ghost use Rattle.run_verify.specs.Verdicts.{verdict_of, journal_part, byte_verdict};
+ghost use Rattle.run_verify.specs.Verdicts.{first_difference};
+ghost use Rattle.run_verify.specs.declared.fault.VerifyFault.TheVariants.{Pattern};
+
+use crate::budget::event_count;
+use crate::comparing::difference;
+use crate::fault::VerifyFault;
+use crate::marks::play_mark;
+use crate::played::Played;
+use crate::reading::{journal_at, line_end, read_mark};
+use crate::seats::{all_done, into_texts, seats_for};
+use crate::verdict::Verdict;
+use apcu_iter::Maker;
+use apcu_model::{Clock, Conf};
+use mark_play::Replay;
+use notation::ByteOut;
+use script_read::Scripts;
+use std::alloc::Global;
+use std::marker::Model;
+
+// What a comparison tells.
+fn compared(output: &[u8], texts: &[ByteOut], part: usize) -> Verdict
+    requires { part ≤ length output.now }
+    ensures { result ≡ byte_verdict (first_difference output.now
+        (worker_texts 0 texts.now ++ drop part output.now)) }
+{
+    match difference(output, texts, part) {
+        None => Verdict::Yes,
+        Some(place) => Verdict::Byte(place as u64),
+    }
+}
+
+// Judges an output whose journal part begins at `part`.
+fn judge<M: Maker>(
+    alloc: Global,
+    maker: &M,
+    conf: &Conf,
+    clock: Clock,
+    scripts: &Scripts,
+    output: &[u8],
+    part: usize,
+) -> Result<Verdict, VerifyFault>
+    requires good { IsGood conf.now }
+    requires few { all_events conf.now.slots scripts.now ≤ most_events }
+    requires within { part ≤ length output.now }
+    requires part { journal_part output.now ≡ Some (drop part output.now) }
+    ensures verdict { IfOk result (λ v.
+        v ≡ verdict_of conf.now (all_timed clock scripts.now) output.now) }
+    ensures pattern { IfErr result (λ fault. fault ≡ Pattern
+        → SomeRefusable (M.may_refuse maker.now) scripts.now) }
+{
+    let Some(events) = event_count(conf.slots, scripts) else {
+        unreachable!();
+    };
+    let mut replay = Replay::new(alloc, conf, events)?;
+    let mut seats = seats_for(alloc, scripts)?;
+    let mut played = Played::start(conf, &clock, scripts);
+    let mut at = part;
+    let mut k = 0u32;
+    'lines: while at < output.len() {
+        let end = line_end(output, at);
+        let Some(mark) = read_mark(&output[at..end]) else {
+            return Ok(Verdict::Event(k));
+        };
+        // No more events can come: not even one can be played.
+        if k == events {
+            return Ok(Verdict::Event(k));
+        }
+        let Some(next) = play_mark(
+            alloc,
+            maker,
+            conf,
+            clock,
+            scripts,
+            &mut replay,
+            &mut seats,
+            &played,
+            mark,
+        )?
+        else {
+            return Ok(Verdict::Event(k));
+        };
+        played = next;
+        at = end;
+        k += 1;
+    }
+    if !all_done(scripts, &seats) {
+        return Ok(Verdict::Event(k));
+    }
+    let texts = into_texts(alloc, seats)?;
+    Ok(compared(output, texts.as_slice(), part - 8))
+}
+
+/// What an output is, beside the scripts that it is said to come from, for a cache of this shape
+/// and this clock. It is gone over once. Its journal is played by one thread, and its events are
+/// no more than those of the scripts.
+///
+/// `Pattern` comes only where a call of the scripts has a pattern that may be refused.
+pub fn verify<M: Maker>(
+    alloc: Global,
+    maker: &M,
+    conf: &Conf,
+    clock: Clock,
+    scripts: &Scripts,
+    output: &[u8],
+) -> Result<Verdict, VerifyFault>
+    requires good { IsGood conf.now }
+    requires few { all_events conf.now.slots scripts.now ≤ most_events }
+    ensures verdict { IfOk result (λ v.
+        v ≡ verdict_of conf.now (all_timed clock scripts.now) output.now) }
+    ensures pattern { IfErr result (λ fault. fault ≡ Pattern
+        → SomeRefusable (M.may_refuse maker.now) scripts.now) }
+{
+    let Some(part) = journal_at(output) else {
+        return Ok(Verdict::NoJournal);
+    };
+    judge(alloc, maker, conf, clock, scripts, output, part)
+}
