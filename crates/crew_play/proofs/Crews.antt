@@ -1,16 +1,19 @@
 -- The last of several workers.
-use Rattle.std.proofs.Common.{◌≡◌, ℕ, zero, suc, ◌+◌, ◌-◌, ◌<◌, ◌⊎◌, inl, inr, List, [], ◌∷◌, ◌++◌, length, map, slice_get, slice_index, Some, refl, sym, ap, ◌∙◌, subst, arith, length-append}
+use Rattle.std.proofs.Common.{◌≡◌, ℕ, zero, suc, ◌+◌, ◌-◌, ◌<◌, ◌⊎◌, inl, inr, Bool, List, [], ◌∷◌, ◌++◌, length, map, slice_get, slice_index, Some, refl, sym, ap, ◌∙◌, subst, arith, length-append}
 use Rattle.std.specs.Prelude.{Result, Err, IfErr, Contains}
 use Rattle.std.specs.Result.{result_ok}
 use Rattle.std.proofs.lemmas.List.{same_from_push}
 use Rattle.std.proofs.lemmas.List.Elements.{Contains-append_cases}
 use Rattle.std.proofs.lemmas.Option.{slice_get_within, get_or_from_slice_get}
 use Rattle.atomic_table.specs.Seated.{TableId}
+use Rattle.apcu_model.specs.declared.clock.Clock.{Clock}
 use Rattle.apcu_model.specs.declared.conf.Conf.{Conf}
 use Rattle.pin_table.specs.Values.{Bearer}
 use Rattle.pin_table.specs.Lists.{fresh, fresh_pass}
 use Rattle.script_read.specs.declared.script.Step.{Step}
 use Rattle.script_read.specs.Budgets.{events_in, budgets_of}
+use Rattle.script_read.specs.Clock.{timed, all_timed}
+use Rattle.script_read.specs.Patterns.{HasRefusable, SomeRefusable}
 use Rattle.worker_play.specs.Ends.{Ends}
 use Rattle.worker_play.specs.declared.script.PlayFault.{PlayFault}
 use Rattle.worker_play.specs.declared.script.PlayFault.TheVariants.{Pattern}
@@ -101,6 +104,16 @@ all_more t conf scripts n ended texts script b text is all one = record {
   ];
 }
 
+-- so it is where lists have grown by it
+pub all_with : (t : TableId) (conf : Conf) (clock : Clock) (scripts : List (List Step)) (n count : ℕ) (front ended : List Bearer) (fronts texts : List (Result (List ℕ) PlayFault)) (script : List Step) (b : Bearer) (text : Result (List ℕ) PlayFault)
+    → suc n ≡ count → slice_get scripts n ≡ Some script → AllEnd t conf (all_timed clock scripts) n front fronts → Ends t conf n (timed clock script) b (result_ok text) → ended ≡ front ++ b ∷ [] → texts ≡ fronts ++ text ∷ []
+    → AllEnd t conf (all_timed clock scripts) count ended texts
+all_with t conf clock scripts n count front ended fronts texts script b text is there all one more told =
+    let whole = all_more t conf (all_timed clock scripts) n front fronts (timed clock script) b text (get-map (timed clock) scripts n script there) all one in
+    subst (λ (l : List Bearer). AllEnd t conf (all_timed clock scripts) count l texts) (sym more)
+    (subst (λ (l : List (Result (List ℕ) PlayFault)). AllEnd t conf (all_timed clock scripts) count (front ++ b ∷ []) l) (sym told)
+    (subst (λ v. AllEnd t conf (all_timed clock scripts) v (front ++ b ∷ []) (fronts ++ text ∷ [])) is whole))
+
 -- ---- faults
 
 -- what stands at a place is in the list
@@ -121,3 +134,12 @@ by_more xs x y front last there = elim (Contains-append_cases xs (x ∷ []) y th
 -- why a worker ended for a pattern
 pub cause_of : {P : Type 0} (text : Result (List ℕ) PlayFault) → IfErr text (λ e. e ≡ Pattern → P) → text ≡ Err Pattern → P
 cause_of {P} text cause is = subst (λ (r : Result (List ℕ) PlayFault). IfErr r (λ e. e ≡ Pattern → P)) is cause refl
+
+-- a pattern for which one of several workers ended
+pub refusable_with : (may_refuse : Bool → List ℕ → Type 0) (scripts : List (List Step)) (n : ℕ) (fronts texts : List (Result (List ℕ) PlayFault)) (script : List Step) (text : Result (List ℕ) PlayFault)
+    → slice_get scripts n ≡ Some script → (Contains fronts (Err Pattern) → SomeRefusable may_refuse scripts) → IfErr text (λ e. e ≡ Pattern → HasRefusable may_refuse script) → texts ≡ fronts ++ text ∷ []
+    → Contains texts (Err Pattern) → SomeRefusable may_refuse scripts
+refusable_with may_refuse scripts n fronts texts script text is before cause told there =
+    by_more fronts text (Err Pattern) before
+    (λ same. record { script = script; among = contains_at scripts n script is; has = cause_of text cause same })
+    (subst (λ (l : List (Result (List ℕ) PlayFault)). Contains l (Err Pattern)) {x = texts} told there)

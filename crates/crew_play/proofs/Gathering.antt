@@ -6,6 +6,9 @@ use Rattle.std.proofs.lemmas.List.{length-map, nil_from_length}
 use Rattle.std.proofs.lemmas.Bool.{or_left, or_right, or_cases, eqb-true, eq-eqb, false≢true, cases_Bool}
 use mathlib.Core.List.{IsPrefix}
 use Rattle.atomic_table.specs.Seated.{TableId}
+use Rattle.seg_words.specs.declared.vec_words.VecWords.{VecWords}
+use Rattle.cache_core.specs.declared.cache.Core.{Core}
+use Rattle.apcu_model.specs.declared.clock.Clock.{Clock}
 use Rattle.apcu_model.specs.declared.conf.Conf.{Conf}
 use Rattle.apcu_model.specs.declared.event.Event.{Event}
 use Rattle.apcu_model.specs.declared.request.Reply.{Reply}
@@ -15,16 +18,18 @@ use Rattle.pin_table.specs.Events.{events_of}
 use Rattle.pin_table.specs.Lists.{AllOf, known_list}
 use Rattle.pin_table.specs.Views.{is_among}
 use Rattle.script_read.specs.declared.script.Step.{Step}
+use Rattle.script_read.specs.Budgets.{events_in, budgets_of}
+use Rattle.script_read.specs.Clock.{timed, all_timed}
 use Rattle.script_read.specs.Play.{played, IsCompletePlay}
 use Rattle.reply_text.specs.Lines.{script_lines, texts_of}
 use Rattle.play_laws.specs.Own.{own_replies, wish_in, HasPlayed}
 use Rattle.play_laws.specs.Parts.{events-append}
 use Rattle.play_laws.specs.Whole.{IsPlayedOut, replies_from, told_by}
 use Rattle.shared_cache.specs.declared.closed.Closed.{Closed}
-use Rattle.shared_cache.specs.Closing.{IsClosed}
+use Rattle.shared_cache.specs.Closing.{IsClosed, IsClosedWhole}
 use Rattle.worker_play.specs.declared.script.PlayFault.{PlayFault}
 use Rattle.crew_play.specs.Crew.{AllEnd}
-use Rattle.crew_play.specs.Played.{IsPlayed}
+use Rattle.crew_play.specs.Played.{IsPlayed, IsLeft}
 use Rattle.crew_play.proofs.Crews.{get-map}
 
 -- what stands at a place of a list
@@ -68,7 +73,7 @@ every t conf scripts ended texts all w few =
     let b = get_some ended w (omega (arith, few, all.have_ended)) in
     among_at ended w w b.0 b.1 (its_place t conf scripts ended texts all w b.0 b.1).1
 
-none_else : (t : TableId) (conf : Conf) (scripts : List (List Step)) (ended : List Bearer) (texts : List (Result (List ℕ) PlayFault)) → AllEnd t conf scripts (length scripts) ended texts
+pub none_else : (t : TableId) (conf : Conf) (scripts : List (List Step)) (ended : List Bearer) (texts : List (Result (List ℕ) PlayFault)) → AllEnd t conf scripts (length scripts) ended texts
     → (w : ℕ) → length scripts ≤ w → is_among w (known_list ended) ≡ false
 none_else t conf scripts ended texts all w past = elim (cases_Bool (is_among w (known_list ended))) [
   | inl h ↦
@@ -77,6 +82,15 @@ none_else t conf scripts ended texts all w past = elim (cases_Bool (is_among w (
       absurd (omega (arith, past, p.2, p.1, s.3))
   | inr h ↦ h
 ]
+
+-- ---- a clock changes no number of them
+
+pub all_seen : (t : TableId) (conf : Conf) (clock : Clock) (scripts : List (List Step)) (ended : List Bearer) (texts : List (Result (List ℕ) PlayFault)) → AllEnd t conf (all_timed clock scripts) (length scripts) ended texts
+    → AllEnd t conf (all_timed clock scripts) (length (all_timed clock scripts)) ended texts
+all_seen t conf clock scripts ended texts all = subst (λ n. AllEnd t conf (all_timed clock scripts) n ended texts) (sym (length-map scripts (timed clock))) all
+
+pub budgets_for_each : (slots : ℕ) (clock : Clock) (scripts : List (List Step)) (budgets : List ℕ) → budgets ≡ budgets_of slots scripts → length budgets ≡ length (all_timed clock scripts)
+budgets_for_each slots clock scripts budgets are = ap length are ∙ (length-map scripts (λ (script : List Step). events_in slots script + 1) ∙ sym (length-map scripts (timed clock)))
 
 -- ---- what each was answered
 
@@ -160,3 +174,13 @@ is_played law laws t conf workers scripts ended texts closed count all c =
           (o k script text hs ht).lines ∙ ap (λ v. script_lines conf script (own_replies conf v c.history)) here);
       counts_are = c.counts;
     }
+
+-- and the cache that is left is the one after that play
+pub is_left : OthersLaw → PlayLaws → (t : TableId) (conf : Conf) (workers : ℕ) (scripts : List (List Step)) (ended : List Bearer) (texts : List (List ℕ)) (closed : Closed) (core : Core) (words : VecWords) → workers ≡ length scripts
+    → AllEnd t conf scripts (length scripts) ended (map Ok texts) → IsClosedWhole conf workers ended closed core words → IsLeft conf scripts closed.journal.marks texts closed.counts core words
+unfolding is_played
+is_left law laws t conf workers scripts ended texts closed core words count all c = record {
+  is_played = is_played law laws t conf workers scripts ended texts closed count all c.is_closed;
+  cache = c.cache;
+  stand = c.stand;
+}

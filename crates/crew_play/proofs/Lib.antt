@@ -6,3 +6,4 @@ pub mod Drawn
 pub mod Observing
 pub mod Watching
 pub mod Learning
+pub mod Firsts

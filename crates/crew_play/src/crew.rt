@@ -1,7 +1,8 @@
-//! Workers on threads of their own.
+//! Workers on threads of their own, all at once or behind the last one.
 
 ghost use Rattle.std.specs.Prelude.{◌≡◌, ℕ, List, ◌+◌, ◌-◌, ◌<◌, ◌≤◌, [], length, slice_get};
-ghost use Rattle.std.specs.Prelude.{slice_index, vec_capacity, Some, Err, Contains, IfErr};
+ghost use Rattle.std.specs.Prelude.{slice_index, vec_capacity, Some, Err, Contains};
+ghost use Rattle.std.specs.Prelude.{IfErr, IfSome};
 ghost use Rattle.std.specs.Thread.{IsSync};
 ghost use Rattle.std.specs.Result.{result_ok};
 ghost use Rattle.script_read.specs.declared.script.Step.{Step};
@@ -9,7 +10,8 @@ ghost use Rattle.script_read.specs.Budgets.{events_in, budgets_of};
 ghost use Rattle.script_read.specs.Clock.{timed, all_timed};
 ghost use Rattle.script_read.specs.Patterns.{HasRefusable, SomeRefusable};
 ghost use Rattle.pin_table.specs.Lists.{fresh};
-ghost use Rattle.crew_play.specs.Crew.{AllEnd};
+ghost use Rattle.pin_table.specs.Events.{events_of};
+ghost use Rattle.crew_play.specs.Crew.{AllEnd, EndsBefore};
 ghost use Rattle.worker_play.specs.Ends.{Ends};
 ghost use Rattle.worker_play.specs.Goes.{KnowsOwnEvents};
 ghost use Rattle.worker_play.specs.declared.script.PlayFault.TheVariants as faults;
@@ -52,8 +54,38 @@ pub(crate) fn last_worker<'a, N: TableName>(
     (pass, scripts.at(count - 1))
 }
 
+// Has a worker that has not begun learn of the end of the one that came first, if one did.
+fn behind<N: TableName, R: Wait>(
+    rt: &R,
+    shared: &Shared<N>,
+    pass: Pass,
+    first: Option<Ended>,
+) -> (Pass, Option<Ended>)
+    requires table { pass.table ≡ N.table }
+    requires no_event { pass.known.own ≡ [] }
+    requires whole { KnowsOwnEvents pass }
+    requires left { 1 ≤ pass.known.left }
+    requires ended { IfSome first (λ e. e.table ≡ N.table) }
+    ensures table { result.0.table ≡ N.table }
+    ensures worker { result.0.known.worker ≡ pass.known.worker }
+    ensures no_event { result.0.known.own ≡ [] }
+    ensures whole { KnowsOwnEvents result.0 }
+    ensures left { result.0.known.left ≡ pass.known.left }
+    ensures same { result.1 ≡ first }
+    ensures first { IfSome first (λ e. events_of pass.known.worker e.known.seen ≡ []) }
+{
+    match first {
+        None => (pass, None),
+        Some(ended) => {
+            let (pass, ended) = shared.learn(rt, pass, ended);
+            (pass, Some(ended))
+        }
+    }
+}
+
 // Plays the scripts of the first `count` workers, each on a thread of its own. They end in their
-// order, and one that finds no memory, or whose pattern is refused, holds nobody up.
+// order, and one that finds no memory, or whose pattern is refused, holds nobody up. Where one came
+// first, each learns of its end before it starts.
 pub(crate) fn play_crew<
     N: TableName + Send + Sync,
     M: Maker + Sync,
@@ -67,12 +99,13 @@ pub(crate) fn play_crew<
     mut passes: Passes,
     mut ended: EndedList,
     mut texts: Vec<Result<ByteOut, PlayFault>>,
+    first: Option<Ended>,
     scripts: &Scripts,
     count: u32,
     maker: &M,
     gate: &G,
     clock: Clock,
-) -> (EndedList, Vec<Result<ByteOut, PlayFault>>)
+) -> (Option<Ended>, EndedList, Vec<Result<ByteOut, PlayFault>>)
     requires conf { conf.now ≡ N.conf }
     requires budgets { N.budgets ≡ budgets_of N.conf.slots scripts.now }
     requires some { count ≤ length scripts.now }
@@ -81,38 +114,46 @@ pub(crate) fn play_crew<
     requires seats { count ≤ ended.room }
     requires no_text { texts.items ≡ [] }
     requires places { count ≤ vec_capacity texts }
-    ensures all { AllEnd N.table N.conf (all_timed clock scripts.now) count result.0.ended
-        result.1.items }
-    ensures pattern { Contains result.1.items (Err faults.Pattern)
+    requires first { IfSome first (λ e. e.table ≡ N.table) }
+    ensures all { AllEnd N.table N.conf (all_timed clock scripts.now) count result.1.ended
+        result.2.items }
+    ensures pattern { Contains result.2.items (Err faults.Pattern)
         → SomeRefusable (M.may_refuse maker.now) scripts.now }
-    ensures seats { result.0.room + count ≡ ended.room }
-    ensures places { vec_capacity result.1 ≡ vec_capacity texts }
+    ensures seats { result.1.room + count ≡ ended.room }
+    ensures places { vec_capacity result.2 ≡ vec_capacity texts }
+    ensures same { result.0 ≡ first }
+    ensures first { IfSome first (λ e. EndsBefore count e) }
 {
     if count == 0 {
-        return (ended, texts);
+        return (first, ended, texts);
     }
     scripts_cross();
     let before = count - 1;
     let (pass, script) = last_worker::<N>(&mut passes, scripts, count);
+    let (pass, first) = behind(rt, shared, pass, first);
     let (front, last) = join(
         rt,
-        || -> (EndedList, Vec<Result<ByteOut, PlayFault>>)
+        || -> (Option<Ended>, EndedList, Vec<Result<ByteOut, PlayFault>>)
             requires { IsSync R.row × IsSync M.row × IsSync G.row
                 × (conf.now ≡ N.conf)
                 × (N.budgets ≡ budgets_of N.conf.slots scripts.now)
                 × (before ≤ length scripts.now)
                 × (passes ≡ fresh N.table N.budgets before)
                 × (ended.ended ≡ []) × (before ≤ ended.room)
-                × (texts.items ≡ []) × (before ≤ vec_capacity texts) }
+                × (texts.items ≡ []) × (before ≤ vec_capacity texts)
+                × IfSome first (λ e. e.table ≡ N.table) }
             ensures { AllEnd N.table N.conf (all_timed clock scripts.entry.now) before
-                result.0.ended result.1.items
-                × (Contains result.1.items (Err faults.Pattern)
+                result.1.ended result.2.items
+                × (Contains result.2.items (Err faults.Pattern)
                 → SomeRefusable (M.may_refuse maker.entry.now) scripts.entry.now)
-                × (result.0.room + before ≡ ended.room)
-                × (vec_capacity result.1 ≡ vec_capacity texts) }
+                × (result.1.room + before ≡ ended.room)
+                × (vec_capacity result.2 ≡ vec_capacity texts)
+                × (result.0 ≡ first)
+                × IfSome first (λ e. EndsBefore before e) }
         {
             play_crew(
-                rt, alloc, conf, shared, passes, ended, texts, scripts, before, maker, gate, clock,
+                rt, alloc, conf, shared, passes, ended, texts, first, scripts, before, maker, gate,
+                clock,
             )
         },
         || -> (Ended, Result<ByteOut, PlayFault>)
@@ -125,9 +166,9 @@ pub(crate) fn play_crew<
                 → HasRefusable (M.may_refuse maker.entry.now) script.entry.now) }
         { play_out(rt, alloc, conf, shared, pass, script, maker, gate, clock) },
     );
-    let (mut ended, mut texts) = front;
+    let (first, mut ended, mut texts) = front;
     let (end, text) = last;
     ended.push(end);
     texts.push_reserved(text);
-    (ended, texts)
+    (first, ended, texts)
 }

@@ -31,10 +31,10 @@ fn try_script<M: Maker>(alloc: Global, maker: &M, script: &Script) -> Result<(),
     ensures few { IfErr result (λ e. e ≢ faults.TooMany) }
 {
     for number in 0..script.len() {
-        let Some(pattern) = script.at(number).call.pattern() else {
+        let Some(pattern) = script.at(number).call.pattern(alloc)? else {
             continue;
         };
-        try_pattern(alloc, maker, pattern)?;
+        try_pattern(alloc, maker, &pattern)?;
     }
     Ok(())
 }

@@ -1,25 +1,28 @@
 //! All scripts on one cache.
 
-ghost use Rattle.std.specs.Prelude.{◌≡◌, ◌≢◌, ◌<◌, ◌≤◌, [], length, map, vec_capacity};
+ghost use Rattle.std.specs.Prelude.{◌≡◌, ◌≢◌, ◌-◌, ◌<◌, ◌≤◌, [], length, map, vec_capacity};
 ghost use Rattle.std.specs.Prelude.{Contains, Ok, Err, IfOk, IfErr};
 ghost use Rattle.apcu_model.specs.Conf.{IsGood};
 ghost use Rattle.script_read.specs.Budgets.{budgets_of, all_events, most_events};
 ghost use Rattle.script_read.specs.Clock.{all_timed};
 ghost use Rattle.script_read.specs.Patterns.{SomeRefusable};
-ghost use Rattle.crew_play.specs.Played.{IsPlayed};
+ghost use Rattle.crew_play.specs.Played.{IsPlayed, IsLeft, ComeFirst};
+ghost use Rattle.crew_play.specs.declared.order.Order.TheVariants.{LastFirst};
 ghost use Rattle.crew_play.specs.declared.play.CrewFault.TheVariants.{Memory, TooMany, Pattern};
 ghost use Rattle.worker_play.specs.declared.script.PlayFault.TheVariants as faults;
 
 use crate::budgets::budgets;
-use crate::crew::play_crew;
+use crate::order::{Order, play_all};
 use crate::patterns::try_patterns;
 use apcu_iter::Maker;
 use apcu_model::{Clock, Conf, Counts, Journal};
+use cache_core::Core;
 use io_edges::Gate;
 use notation::ByteOut;
 use pin_table::TableName;
 use play_laws::{histories_are_plays, one_event_own};
 use script_read::Scripts;
+use seg_words::VecWords;
 use shared_cache::{Closed, Fresh, open_cache};
 use std::alloc::{AllocError, Global};
 use std::marker::Brand;
@@ -55,6 +58,10 @@ pub struct Played {
     pub texts: Vec<ByteOut>,
     /// What the cache counted.
     pub counts: Counts,
+    /// The cache as it then is.
+    pub core: Core,
+    /// The words that stand for it.
+    pub words: VecWords,
 }
 
 // The texts, where all workers have one. Want of memory is told before a pattern, whoever had it.
@@ -98,6 +105,7 @@ fn play_named<
     maker: &M,
     gate: &G,
     clock: Clock,
+    order: Order,
 ) -> Result<Played, CrewFault>
     requires table { N.table ≡ fresh.table }
     requires conf { N.conf ≡ fresh.conf }
@@ -106,30 +114,74 @@ fn play_named<
     requires events { fresh.budgets ≡ budgets_of conf.now.slots scripts.now }
     requires no_text { texts.items ≡ [] }
     requires places { length scripts.now ≤ vec_capacity texts }
+    requires some { order ≡ LastFirst → 1 ≤ length scripts.now }
     ensures played { IfOk result (λ p. IsPlayed conf.now (all_timed clock scripts.now)
         p.journal.marks p.texts.items p.counts) }
+    ensures left { IfOk result (λ p. IsLeft conf.now (all_timed clock scripts.now)
+        p.journal.marks p.texts.items p.counts p.core p.words) }
+    ensures first { IfOk result (λ p. order ≡ LastFirst
+        → ComeFirst (length scripts.now - 1) p.journal.marks) }
     ensures pattern { IfErr result (λ e. e ≡ Pattern
         → SomeRefusable (M.may_refuse maker.now) scripts.now) }
     ensures few { IfErr result (λ e. e ≢ TooMany) }
 {
     one_event_own();
     histories_are_plays();
-    let count = scripts.len();
     let (shared, passes, ended) = fresh.name::<N>();
-    let (ended, texts) = play_crew(
-        rt, alloc, conf, &shared, passes, ended, texts, scripts, count, maker, gate, clock,
+    let (ended, texts) = play_all(
+        rt, alloc, conf, &shared, passes, ended, texts, scripts, maker, gate, clock, order,
     );
-    let Closed { journal, counts } = shared.close(rt, ended);
+    let (Closed { journal, counts }, core, words) = shared.close_all(rt, ended);
     let texts = whole(alloc, texts)?;
     Ok(Played {
         journal,
         texts,
         counts,
+        core,
+        words,
     })
 }
 
+// Plays the scripts in this order on a cache of this shape.
+fn play_opened<M: Maker + Sync, G: Gate + Sync, R: Threads + Wait + Sync>(
+    rt: &R,
+    alloc: Global,
+    conf: &Conf,
+    scripts: &Scripts,
+    maker: &M,
+    gate: &G,
+    clock: Clock,
+    order: Order,
+) -> Result<Played, CrewFault>
+    requires good { IsGood conf.now }
+    requires some { order ≡ LastFirst → 1 ≤ length scripts.now }
+    ensures played { IfOk result (λ p. IsPlayed conf.now (all_timed clock scripts.now)
+        p.journal.marks p.texts.items p.counts) }
+    ensures left { IfOk result (λ p. IsLeft conf.now (all_timed clock scripts.now)
+        p.journal.marks p.texts.items p.counts p.core p.words) }
+    ensures first { IfOk result (λ p. order ≡ LastFirst
+        → ComeFirst (length scripts.now - 1) p.journal.marks) }
+    ensures few { IfOk result (λ _. all_events conf.now.slots scripts.now ≤ most_events) }
+    ensures many { IfErr result (λ e. e ≡ TooMany
+        → most_events < all_events conf.now.slots scripts.now) }
+    // A pattern of the scripts may be refused, and they are not too many.
+    ensures pattern { IfErr result (λ e. e ≡ Pattern
+        → (all_events conf.now.slots scripts.now ≤ most_events)
+        × SomeRefusable (M.may_refuse maker.now) scripts.now) }
+{
+    let budgets = budgets(alloc, conf.slots, scripts)?;
+    try_patterns(alloc, maker, scripts)?;
+    let texts = Vec::with_capacity(alloc, scripts.len() as usize)?;
+    match open_cache(rt, alloc, conf, &budgets) {
+        Ok(fresh) => play_named::<Brand, M, G, R>(
+            rt, alloc, conf, fresh, texts, scripts, maker, gate, clock, order,
+        ),
+        Err(_) => Err(CrewFault::Memory),
+    }
+}
+
 /// Plays the scripts on a cache of this shape, each worker on a thread of its own, and gives the
-/// journal, the lines of each worker's calls, and what the cache counted. `maker` makes the regexes
+/// journal, the lines of each worker's calls, and the cache that is left. `maker` makes the regexes
 /// of patterns. The gate is told of each call of each worker, of each value that is copied, between
 /// its fetch and its copy, and of each step of an iterator.
 ///
@@ -137,8 +189,8 @@ fn play_named<
 /// which it is made, or that at which its request began.
 ///
 /// The journal is a play of the scripts as the clock sees them: each call stands in it once, in its
-/// worker's order, and each reply is the one that a cache of one thread gives at that place. The
-/// counts are those of that cache after it.
+/// worker's order, and each reply is the one that a cache of one thread gives at that place. What is
+/// left is that cache after it, with its counts and its words.
 ///
 /// Nothing is played where the calls may make more than 4,194,304 events, each worker's end
 /// included. Nor is it where the regex of a pattern can't be made: each is made once before the
@@ -157,6 +209,8 @@ pub fn play_scripts<M: Maker + Sync, G: Gate + Sync, R: Threads + Wait + Sync>(
     requires good { IsGood conf.now }
     ensures played { IfOk result (λ p. IsPlayed conf.now (all_timed clock scripts.now)
         p.journal.marks p.texts.items p.counts) }
+    ensures left { IfOk result (λ p. IsLeft conf.now (all_timed clock scripts.now)
+        p.journal.marks p.texts.items p.counts p.core p.words) }
     ensures few { IfOk result (λ _. all_events conf.now.slots scripts.now ≤ most_events) }
     ensures many { IfErr result (λ e. e ≡ TooMany
         → most_events < all_events conf.now.slots scripts.now) }
@@ -165,13 +219,56 @@ pub fn play_scripts<M: Maker + Sync, G: Gate + Sync, R: Threads + Wait + Sync>(
         → (all_events conf.now.slots scripts.now ≤ most_events)
         × SomeRefusable (M.may_refuse maker.now) scripts.now) }
 {
-    let budgets = budgets(alloc, conf.slots, scripts)?;
-    try_patterns(alloc, maker, scripts)?;
-    let texts = Vec::with_capacity(alloc, scripts.len() as usize)?;
-    match open_cache(rt, alloc, conf, &budgets) {
-        Ok(fresh) => play_named::<Brand, M, G, R>(
-            rt, alloc, conf, fresh, texts, scripts, maker, gate, clock,
-        ),
-        Err(_) => Err(CrewFault::Memory),
-    }
+    play_opened(
+        rt,
+        alloc,
+        conf,
+        scripts,
+        maker,
+        gate,
+        clock,
+        Order::Together,
+    )
+}
+
+/// Plays the scripts as `play_scripts` does, with all that it promises, but those of the last worker
+/// first: it is a loader, which plays alone and comes to its end before another one starts. Each of
+/// the others learns of that end before it starts. So the journal begins with the loader's marks,
+/// and has none of it behind them.
+///
+/// Where the loader finds no memory, or its pattern is refused, the others play on.
+pub fn play_loaded<M: Maker + Sync, G: Gate + Sync, R: Threads + Wait + Sync>(
+    rt: &R,
+    alloc: Global,
+    conf: &Conf,
+    scripts: &Scripts,
+    maker: &M,
+    gate: &G,
+    clock: Clock,
+) -> Result<Played, CrewFault>
+    requires good { IsGood conf.now }
+    requires some { 1 ≤ length scripts.now }
+    ensures played { IfOk result (λ p. IsPlayed conf.now (all_timed clock scripts.now)
+        p.journal.marks p.texts.items p.counts) }
+    ensures left { IfOk result (λ p. IsLeft conf.now (all_timed clock scripts.now)
+        p.journal.marks p.texts.items p.counts p.core p.words) }
+    ensures first { IfOk result (λ p. ComeFirst (length scripts.now - 1) p.journal.marks) }
+    ensures few { IfOk result (λ _. all_events conf.now.slots scripts.now ≤ most_events) }
+    ensures many { IfErr result (λ e. e ≡ TooMany
+        → most_events < all_events conf.now.slots scripts.now) }
+    // A pattern of the scripts may be refused, and they are not too many.
+    ensures pattern { IfErr result (λ e. e ≡ Pattern
+        → (all_events conf.now.slots scripts.now ≤ most_events)
+        × SomeRefusable (M.may_refuse maker.now) scripts.now) }
+{
+    play_opened(
+        rt,
+        alloc,
+        conf,
+        scripts,
+        maker,
+        gate,
+        clock,
+        Order::LastFirst,
+    )
 }

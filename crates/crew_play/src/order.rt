@@ -1,0 +1,93 @@
+//! Which workers play at the same time.
+
+ghost use Rattle.std.specs.Prelude.{◌≡◌, ◌-◌, ◌≤◌, [], length, vec_capacity, Err, Contains};
+ghost use Rattle.script_read.specs.Budgets.{budgets_of};
+ghost use Rattle.script_read.specs.Clock.{all_timed};
+ghost use Rattle.script_read.specs.Patterns.{SomeRefusable};
+ghost use Rattle.pin_table.specs.Lists.{fresh};
+ghost use Rattle.crew_play.specs.Crew.{AllEnd, LastEndsFirst};
+ghost use Rattle.crew_play.specs.declared.order.Order.TheVariants.{LastFirst};
+ghost use Rattle.worker_play.specs.declared.script.PlayFault.TheVariants as faults;
+
+use crate::crew::{last_worker, play_crew};
+use apcu_iter::Maker;
+use apcu_model::{Clock, Conf};
+use io_edges::Gate;
+use notation::ByteOut;
+use pin_table::{EndedList, Passes, TableName};
+use script_read::Scripts;
+use shared_cache::Shared;
+use std::alloc::Global;
+use std::sync::Wait;
+use std::thread::Threads;
+use worker_play::{PlayFault, play_out};
+
+// When workers start.
+#[derive(Clone, Copy)]
+pub(crate) enum Order {
+    // All at once.
+    Together,
+    // The last one alone. The others learn of its end and start then.
+    LastFirst,
+}
+
+// Plays all scripts in this order. Whether a worker comes to its script's end or not, all others
+// play theirs.
+pub(crate) fn play_all<
+    N: TableName + Send + Sync,
+    M: Maker + Sync,
+    G: Gate + Sync,
+    R: Threads + Wait + Sync,
+>(
+    rt: &R,
+    alloc: Global,
+    conf: &Conf,
+    shared: &Shared<N>,
+    mut passes: Passes,
+    ended: EndedList,
+    texts: Vec<Result<ByteOut, PlayFault>>,
+    scripts: &Scripts,
+    maker: &M,
+    gate: &G,
+    clock: Clock,
+    order: Order,
+) -> (EndedList, Vec<Result<ByteOut, PlayFault>>)
+    requires conf { conf.now ≡ N.conf }
+    requires budgets { N.budgets ≡ budgets_of N.conf.slots scripts.now }
+    requires some { order ≡ LastFirst → 1 ≤ length scripts.now }
+    requires passes { passes ≡ fresh N.table N.budgets (length scripts.now) }
+    requires none_ended { ended.ended ≡ [] }
+    requires seats { length scripts.now ≤ ended.room }
+    requires no_text { texts.items ≡ [] }
+    requires places { length scripts.now ≤ vec_capacity texts }
+    ensures all { AllEnd N.table N.conf (all_timed clock scripts.now) (length scripts.now)
+        result.0.ended result.1.items }
+    ensures pattern { Contains result.1.items (Err faults.Pattern)
+        → SomeRefusable (M.may_refuse maker.now) scripts.now }
+    ensures first { order ≡ LastFirst → LastEndsFirst (length scripts.now) result.0.ended }
+{
+    let count = scripts.len();
+    match order {
+        Order::Together => {
+            let (_, ended, texts) = play_crew(
+                rt, alloc, conf, shared, passes, ended, texts, None, scripts, count, maker, gate,
+                clock,
+            );
+            (ended, texts)
+        }
+        Order::LastFirst => {
+            let before = count - 1;
+            let (pass, script) = last_worker::<N>(&mut passes, scripts, count);
+            let (end, text) = play_out(rt, alloc, conf, shared, pass, script, maker, gate, clock);
+            let first = Some(end);
+            let (first, mut ended, mut texts) = play_crew(
+                rt, alloc, conf, shared, passes, ended, texts, first, scripts, before, maker, gate,
+                clock,
+            );
+            let Some(end) = first else { unreachable!() };
+            ended.push(end);
+            texts.push_reserved(text);
+            (ended, texts)
+        }
+    }
+}
