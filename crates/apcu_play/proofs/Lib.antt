@@ -1,7 +1,13 @@
 pub mod Masks
 pub mod Written
 pub mod Parts
-pub mod Whole
-pub mod Coming
-pub mod Unmet
 pub mod Taken
+pub mod Crews
+pub mod Fronts
+pub mod Unmet
+pub mod Spelling
+pub mod Whole
+pub mod Causes
+pub mod Answered
+pub mod Endings
+pub mod Coming

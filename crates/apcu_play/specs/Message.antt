@@ -6,7 +6,7 @@ use Rattle.notation.specs.declared.fault.Reason.TheVariants as reasons
 use Rattle.apcu_play.specs.declared.status.Status.{Status}
 use Rattle.apcu_play.specs.declared.status.Status.TheVariants.{Done, Usage, Script, ReadFault}
 use Rattle.apcu_play.specs.declared.status.Status.TheVariants.{WriteFault, NoMemory, TooLong}
-use Rattle.apcu_play.specs.declared.status.Status.TheVariants.{TooMany, Pattern}
+use Rattle.apcu_play.specs.declared.status.Status.TheVariants.{TooMany, Pattern, Differs, Bundle}
 
 abbrev pub code_of : Status → ℕ
 code_of Done = 0
@@ -18,8 +18,10 @@ code_of NoMemory = 5
 code_of TooLong = 6
 code_of TooMany = 7
 code_of Pattern = 8
+code_of Differs = 9
+code_of Bundle = 10
 
--- what is told of each status but that of a script with a fault
+-- what is told of each status but those of a script and of a bundle with a fault
 abbrev pub message_of : Status → List ℕ
 message_of Done = []
 message_of Usage = codes "apcu_run: usage\n"
@@ -30,6 +32,8 @@ message_of NoMemory = codes "apcu_run: out of memory\n"
 message_of TooLong = codes "apcu_run: input too long\n"
 message_of TooMany = codes "apcu_run: too many events\n"
 message_of Pattern = codes "apcu_run: pattern\n"
+message_of Differs = codes "apcu_run: differs\n"
+message_of Bundle = []
 
 -- how a message ends that tells a reason
 abbrev pub reason_text : Reason → List ℕ
@@ -54,3 +58,8 @@ reason_text reasons.Generator = codes ": generator\n"
 unfoldable pub script_message : ℕ → Reason → List ℕ
 script_message place reason =
     codes "apcu_run: script: byte " ++ (decimal place ++ reason_text reason)
+
+-- what is told of the first fault of a bundle
+unfoldable pub bundle_message : ℕ → Reason → List ℕ
+bundle_message place reason =
+    codes "apcu_run: bundle: byte " ++ (decimal place ++ reason_text reason)

@@ -7,17 +7,18 @@ use Rattle.io_edges.specs.Faults.{Rose}
 use Rattle.apcu_model.specs.declared.conf.Conf.{Conf}
 use Rattle.conf_read.specs.declared.settings.Settings.{Settings}
 use Rattle.conf_read.specs.declared.task.Task.{Task}
-use Rattle.conf_read.specs.declared.task.Task.TheVariants.{Play, Generate}
+use Rattle.conf_read.specs.declared.task.Task.TheVariants.{Play, Generate, Verify}
 use Rattle.script_read.specs.declared.script.Step.{Step}
 use Rattle.apcu_play.specs.declared.status.Status.{Status}
 use Rattle.apcu_play.specs.declared.status.Status.TheVariants.{Done, Script, NoMemory, TooLong}
-use Rattle.apcu_play.specs.declared.status.Status.TheVariants.{TooMany}
+use Rattle.apcu_play.specs.declared.status.Status.TheVariants.{TooMany, Differs, Bundle}
 use Rattle.notation.specs.declared.fault.Reason.{Reason}
-use Rattle.apcu_play.specs.Message.{script_message}
-use Rattle.script_read.specs.Grammar.{AreScripts}
-use Rattle.script_read.specs.Budgets.{all_events, most_events}
+use Rattle.apcu_play.specs.Message.{script_message, bundle_message}
+use Rattle.script_read.specs.Budgets.{most_events}
 use Rattle.script_read.specs.Patterns.{SomeRefusable}
-use Rattle.apcu_play.specs.Tasks.{longest_input, AnswersTask, IsRefusedAt, generated_events}
+use Rattle.apcu_play.specs.Inputs.{AreTooMany, AreFew, Spells, SpellsNone, LacksBundle, bundle_of}
+use Rattle.apcu_play.specs.Tasks.{longest_input, AnswersTask, IsRefusedAt, IsUnloadedAt}
+use Rattle.apcu_play.specs.Tasks.{generated_events}
 
 -- ---- what is written
 
@@ -37,17 +38,23 @@ pub record WritesPart
   pub fewer : count < length printed
   pub written : held_after ≡ append_known held_before (take count printed)
 
--- all of what the settings ask for was written
-abbrev pub Replays : Settings → Option (List ℕ) → Option (List ℕ) → Option (List ℕ)
+-- all of what the settings ask for was written, and a run that has written it ends so
+abbrev pub Replays : Settings → Status → Option (List ℕ) → Option (List ℕ) → Option (List ℕ)
     → Option (List ℕ) → Type 0
-Replays s left_before left_after held_before held_after =
-    WritesAll (AnswersTask s s.task left_before left_after) held_before held_after
+Replays s ends left_before left_after held_before held_after =
+    WritesAll (AnswersTask s s.task ends left_before left_after) held_before held_after
 
--- only the first of it was
+-- what the settings ask for, however a run ends that has written it
+abbrev pub AnswersSome
+    : Settings → Option (List ℕ) → Option (List ℕ) → List ℕ → Type 0
+AnswersSome s left_before left_after printed =
+    (ends : Status) × AnswersTask s s.task ends left_before left_after printed
+
+-- only the first of it was written
 abbrev pub ReplaysPart : Settings → Option (List ℕ) → Option (List ℕ) → Option (List ℕ)
     → Option (List ℕ) → Type 0
 ReplaysPart s left_before left_after held_before held_after =
-    WritesPart (AnswersTask s s.task left_before left_after) held_before held_after
+    WritesPart (AnswersSome s left_before left_after) held_before held_after
 
 -- whether all of a text was written: it stands behind what was held, or only the first of it and a
 -- write failed
@@ -68,41 +75,61 @@ pub record TellsMessage
   pub told : WasWritten all message held_before held_after faults_before faults_after
 
 -- a script's first fault was told
-pub record TellsRefusal
+pub record TellsRefusal (task : Task)
     (left_before left_after held_before held_after : Option (List ℕ))
     (faults_before faults_after : ℕ)
     : Type 0 where
   pub place : ℕ
   pub reason : Reason
-  pub refused : IsRefusedAt left_before left_after place reason
+  pub refused : IsRefusedAt task left_before left_after place reason
   pub told :
       TellsMessage (script_message place reason) held_before held_after faults_before faults_after
+
+-- a bundle's first fault was told
+pub record TellsUnloaded (task : Task)
+    (left_before left_after held_before held_after : Option (List ℕ))
+    (faults_before faults_after : ℕ)
+    : Type 0 where
+  pub place : ℕ
+  pub reason : Reason
+  pub unloaded : IsUnloadedAt task left_before left_after place reason
+  pub told :
+      TellsMessage (bundle_message place reason) held_before held_after faults_before faults_after
 
 -- this status, if memory was found
 abbrev pub IsUnlessMemory : Status → Status → Type 0
 IsUnlessMemory expected status = (status ≡ expected) ⊎ (status ≡ NoMemory)
 
--- What a run of the input's scripts on this cache must come to where its source tells and no fault
--- was counted. It is done only where no pattern of the scripts may be refused.
+-- an answer was written whole, if memory was found: a verdict is that of an output, or of none
+abbrev pub IsAnswered : Task → Status → Type 0
+IsAnswered (Play bundle map) status = IsUnlessMemory Done status
+IsAnswered (Generate seed crew each) status = IsUnlessMemory Done status
+IsAnswered (Verify len) status = (status ≡ Differs) ⊎ IsUnlessMemory Done status
+
+-- What a run that reads its input must come to on this cache, where its source tells and no fault
+-- was counted. It is answered only where no pattern of the scripts may be refused.
 pub record CompletesInput
-    (may_refuse : Bool → List ℕ → Type 0) (conf : Conf) (status : Status)
+    (may_refuse : Bool → List ℕ → Type 0) (conf : Conf) (task : Task) (status : Status)
     (left_before : Option (List ℕ)) (reads_before reads_after writes_before writes_after : ℕ)
     : Type 0 where
   pub done : (input : List ℕ) (scripts : List (List Step))
-      → left_before ≡ Some input → length input ≤ longest_input → AreScripts input scripts
-      → all_events conf.slots scripts ≤ most_events → ¬ SomeRefusable may_refuse scripts
+      → left_before ≡ Some input → length input ≤ longest_input → Spells task input scripts
+      → AreFew (bundle_of task) conf scripts → ¬ SomeRefusable may_refuse scripts
       → ¬ Rose reads_before reads_after → ¬ Rose writes_before writes_after
-      → IsUnlessMemory Done status
+      → IsAnswered task status
   pub too_many : (input : List ℕ) (scripts : List (List Step))
-      → left_before ≡ Some input → length input ≤ longest_input → AreScripts input scripts
-      → most_events < all_events conf.slots scripts
+      → left_before ≡ Some input → length input ≤ longest_input → Spells task input scripts
+      → AreTooMany (bundle_of task) conf scripts
       → ¬ Rose reads_before reads_after
       → IsUnlessMemory TooMany status
   pub refused : (input : List ℕ)
-      → left_before ≡ Some input → length input ≤ longest_input
-      → ((scripts : List (List Step)) → ¬ AreScripts input scripts)
+      → left_before ≡ Some input → length input ≤ longest_input → SpellsNone task input
       → ¬ Rose reads_before reads_after
       → IsUnlessMemory Script status
+  pub unloaded : (input : List ℕ)
+      → left_before ≡ Some input → length input ≤ longest_input → LacksBundle task input
+      → ¬ Rose reads_before reads_after
+      → IsUnlessMemory Bundle status
   pub too_long : (input : List ℕ)
       → left_before ≡ Some input → longest_input < length input
       → ¬ Rose reads_before reads_after
@@ -118,13 +145,17 @@ pub record CompletesSeed
 -- what a run for this task must come to
 abbrev pub CompletesTask
     : (Bool → List ℕ → Type 0) → Conf → Task → Status → Option (List ℕ) → ℕ → ℕ → ℕ → ℕ → Type 0
-CompletesTask may_refuse conf Play status left_before
+CompletesTask may_refuse conf (Play bundle map) status left_before
     reads_before reads_after writes_before writes_after =
-    CompletesInput may_refuse conf status left_before
+    CompletesInput may_refuse conf (Play bundle map) status left_before
     reads_before reads_after writes_before writes_after
 CompletesTask may_refuse conf (Generate seed crew each) status left_before
     reads_before reads_after writes_before writes_after =
     CompletesSeed crew each status writes_before writes_after
+CompletesTask may_refuse conf (Verify len) status left_before
+    reads_before reads_after writes_before writes_after =
+    CompletesInput may_refuse conf (Verify len) status left_before
+    reads_before reads_after writes_before writes_after
 
 -- what the settings ask for must be come to
 abbrev pub Completes

@@ -1,17 +1,18 @@
 //! How a run ended.
 
-ghost use Rattle.std.specs.Prelude.{◌≡◌, ◌≢◌, ◌⊎◌, ℕ, List, Err};
-ghost use Rattle.script_read.specs.Gives.{IsFirstScriptFault, ReadsScripts};
-ghost use Rattle.apcu_play.specs.Message.{message_of, script_message};
+ghost use Rattle.std.specs.Prelude.{◌≡◌, ◌≢◌, ℕ, ◌+◌, ◌<◌, ◌^◌};
+ghost use Rattle.notation.specs.declared.fault.Reason.{Reason};
+ghost use Rattle.apcu_play.specs.Causes.{ending_by};
+ghost use Rattle.apcu_play.specs.Message.{message_of, script_message, bundle_message};
 ghost use Rattle.apcu_play.specs.Run.{TellsMessage};
 
-use crate::messages::{tell, tell_fault};
+use crate::messages::{tell, tell_fault, tell_unloaded};
 use crate::status::Status;
 use io_edges::Sink;
 use notation::Reason;
 use script_read::ScriptFault;
 
-// How a run ended, with the first fault of a script that has one.
+// How a run ended, with the first fault of a script or a bundle that has one.
 #[derive(Clone, Copy)]
 pub(crate) struct Ending {
     pub(crate) status: Status,
@@ -32,20 +33,24 @@ impl Ending {
     }
 }
 
-// How a run ends whose input spells no scripts, or finds no memory for them.
-pub(crate) fn ending_of(fault: &ScriptFault) -> Ending
-    ensures script { (bytes : List ℕ) → ReadsScripts bytes (Err fault.now)
-        → result.status ≡ Status.Script → IsFirstScriptFault bytes result.place result.reason }
-    ensures bad { result.status ≡ Status.Script → fault.now ≢ ScriptFault.Memory }
-    ensures others { (result.status ≡ Status.Script) ⊎ (result.status ≡ Status.NoMemory) }
+// How a run ends for a fault of what stands behind so many bytes of its input, or for want of
+// memory to read it.
+pub(crate) fn ending_by(status: Status, ahead: u64, fault: &ScriptFault) -> Ending
+    requires { (place : ℕ) (reason : Reason) → fault.now ≡ ScriptFault.Bad place reason
+        → ahead + place < 2 ^ 64 }
+    ensures { result ≡ ending_by status ahead fault.now }
 {
     match fault {
         ScriptFault::Bad { place, reason } => Ending {
-            status: Status::Script,
-            place: *place,
+            status,
+            place: ahead + *place,
             reason: *reason,
         },
-        ScriptFault::Memory => Ending::of(Status::NoMemory),
+        ScriptFault::Memory => Ending {
+            status: Status::NoMemory,
+            place: 0,
+            reason: Reason::End,
+        },
     }
 }
 
@@ -54,15 +59,19 @@ pub(crate) fn tell_ending<E: Sink>(err: &mut E, ending: Ending)
     ensures silent { ending.status ≡ Status.Done
         → (E.held err.new ≡ E.held err.old) × (E.faults err.new ≡ E.faults err.old) }
     ensures told { ending.status ≢ Status.Done → ending.status ≢ Status.Script
-        → TellsMessage (message_of ending.status)
+        → ending.status ≢ Status.Bundle → TellsMessage (message_of ending.status)
         (E.held err.old) (E.held err.new) (E.faults err.old) (E.faults err.new) }
     ensures script { ending.status ≡ Status.Script
         → TellsMessage (script_message ending.place ending.reason)
+        (E.held err.old) (E.held err.new) (E.faults err.old) (E.faults err.new) }
+    ensures bundle { ending.status ≡ Status.Bundle
+        → TellsMessage (bundle_message ending.place ending.reason)
         (E.held err.old) (E.held err.new) (E.faults err.old) (E.faults err.new) }
 {
     match ending.status {
         Status::Done => {}
         Status::Script => tell_fault(err, ending.place, ending.reason),
+        Status::Bundle => tell_unloaded(err, ending.place, ending.reason),
         status => tell(err, status),
     }
 }

@@ -1,13 +1,16 @@
 //! Plays scripts of apcu calls, and prints what each call answers and the order in which they took
-//! effect; or plays scripts that are made from a number, and prints their summary.
+//! effect; or plays scripts that are made from a number, and prints their summary; or judges an
+//! output.
 #![tactic(auto)]
 
 mod answering;
 mod ending;
 mod journal;
+mod judging;
 mod messages;
 mod play;
 mod printing;
+mod reading;
 mod running;
 mod status;
 mod summary;

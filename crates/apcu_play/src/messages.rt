@@ -1,5 +1,6 @@
-ghost use Rattle.std.specs.Prelude.{◌≡◌};
-ghost use Rattle.apcu_play.specs.Message.{message_of, reason_text, script_message};
+ghost use Rattle.std.specs.Prelude.{◌≡◌, ◌++◌};
+ghost use Rattle.std.specs.Fmt.{decimal};
+ghost use Rattle.apcu_play.specs.Message.{message_of, reason_text, script_message, bundle_message};
 ghost use Rattle.apcu_play.specs.Run.{TellsMessage};
 
 use crate::status::Status;
@@ -16,13 +17,12 @@ pub fn tell<E: Sink>(err: &mut E, status: Status)
     let _all = write_text(err, status.message());
 }
 
-/// Tells the first fault of a script on `err`, a line with its byte, from 0, and its reason. It
-/// takes no memory.
-pub fn tell_fault<E: Sink>(err: &mut E, place: u64, reason: Reason)
-    ensures { TellsMessage (script_message place reason)
+// Tells a fault on `err`, a line that begins so, with the fault's byte, from 0, and its reason.
+fn tell_place<E: Sink>(err: &mut E, begins: &[u8], place: u64, reason: Reason)
+    ensures { TellsMessage (begins.now ++ (decimal place ++ reason_text reason))
         (E.held err.old) (E.held err.new) (E.faults err.old) (E.faults err.new) }
 {
-    if !write_text(err, b"apcu_run: script: byte ") {
+    if !write_text(err, begins) {
         return;
     }
     let mut digits = Buffer::new();
@@ -30,6 +30,24 @@ pub fn tell_fault<E: Sink>(err: &mut E, place: u64, reason: Reason)
         return;
     }
     let _all = write_text(err, ending_of(reason));
+}
+
+/// Tells the first fault of a script on `err`, a line with its byte, from 0, and its reason. It
+/// takes no memory.
+pub fn tell_fault<E: Sink>(err: &mut E, place: u64, reason: Reason)
+    ensures { TellsMessage (script_message place reason)
+        (E.held err.old) (E.held err.new) (E.faults err.old) (E.faults err.new) }
+{
+    tell_place(err, b"apcu_run: script: byte ", place, reason);
+}
+
+/// Tells the first fault of a bundle on `err`, a line with its byte, from 0, and its reason. It
+/// takes no memory.
+pub fn tell_unloaded<E: Sink>(err: &mut E, place: u64, reason: Reason)
+    ensures { TellsMessage (bundle_message place reason)
+        (E.held err.old) (E.held err.new) (E.faults err.old) (E.faults err.new) }
+{
+    tell_place(err, b"apcu_run: bundle: byte ", place, reason);
 }
 
 // How the message ends.

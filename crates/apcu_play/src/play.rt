@@ -1,50 +1,89 @@
-ghost use Rattle.std.specs.Prelude.{◌≡◌, ◌≢◌, ◌<◌, ◌≤◌, ◌++◌, IfOk, IfErr, OnOk};
+//! What is printed of a play.
+
+ghost use Rattle.std.specs.Prelude.{◌≡◌, ◌≢◌, ◌<◌, ◌≤◌, ◌++◌, length, IfOk, IfErr, IfSome, OnOk};
+ghost use Rattle.seg_words.specs.contracts.vec_words.VecWordsWordsIn.TheImpl as held;
 ghost use Rattle.apcu_model.specs.Conf.{IsGood};
+ghost use Rattle.cache_core.specs.Caching.{cache_of, CacheStands};
 ghost use Rattle.script_read.specs.Budgets.{all_events, most_events};
-ghost use Rattle.script_read.specs.Clock.{all_timed};
 ghost use Rattle.script_read.specs.Patterns.{SomeRefusable};
 ghost use Rattle.crew_play.specs.declared.play.CrewFault.TheVariants.{TooMany, Pattern};
 ghost use Rattle.generated_laws.specs.Summary.{IsLarge};
 ghost use Rattle.apcu_play.specs.Tasks.{AnswersSeed, generated_events};
-ghost use Rattle.reply_text.specs.Output.{worker_texts, IsOutput};
+ghost use Rattle.apcu_play.specs.Printing.{PrintsCrew, rest_of};
+ghost use Rattle.reply_text.specs.Output.{worker_texts};
 
 use crate::journal::write_journal;
+use crate::status::Status;
 use crate::summary::write_summary;
 use apcu_iter::Maker;
 use apcu_model::{Clock, Conf};
-use crew_play::{CrewFault, Played, play_generated, play_scripts};
+use crew_play::{CrewFault, Played, play_generated, play_loaded, play_scripts};
 use io_edges::Gate;
 use notation::ByteOut;
 use script_read::Scripts;
-use std::alloc::Global;
+use seg_report::map_text;
+use std::alloc::{AllocError, Global};
 use std::sync::Wait;
 use std::thread::Threads;
 
-/// What a run prints: the lines of each worker, and then the rest: the journal's lines, or those of
-/// a summary. They are written one after the other from where they are, so no reply is copied once
-/// more.
+/// What a run prints: the lines of each worker, and then the rest: the journal's lines with a map
+/// behind them or without, those of a summary, or that of a verdict. They are written one after the
+/// other from where they are, so no reply is copied once more.
 #[derive(Drop)]
 pub(crate) struct Printed {
     pub(crate) texts: Vec<ByteOut>,
     pub(crate) rest: ByteOut,
+    /// How a run ends that has written all of it.
+    pub(crate) ends: Status,
+}
+
+// What is printed of scripts that were played, with a map of the cache that is left or without.
+fn printed_of(alloc: Global, played: Played, map: bool) -> Result<Printed, AllocError>
+    requires stand { CacheStands held.ghosts played.core played.words }
+    ensures texts { IfOk result (λ p. p.texts.items ≡ played.texts.items) }
+    ensures rest { IfOk result (λ p.
+        p.rest ≡ rest_of map played.journal.marks (cache_of played.core)) }
+    ensures ends { IfOk result (λ p. p.ends ≡ Status.Done) }
+{
+    let Played {
+        journal,
+        texts,
+        counts: _,
+        mut core,
+        mut words,
+    } = played;
+    let mut rest = ByteOut::new(alloc);
+    write_journal(&mut rest, &journal)?;
+    if map {
+        map_text(alloc, &mut core, &mut words, &mut rest)?;
+    }
+    Ok(Printed {
+        texts,
+        rest,
+        ends: Status::Done,
+    })
 }
 
 /// Plays the scripts under a clock, each worker on a thread of its own, and gathers what is
-/// printed: the lines of each worker, then the journal. Nothing is played where the calls may make
-/// more than 4,194,304 events, each worker's end included.
+/// printed: the lines of each worker, the journal, and the map where it is wanted. Where a bundle
+/// is loaded, the last script is its loader's, which ends before any other begins. Nothing is
+/// played where the calls may make more than 4,194,304 events, each worker's end included.
 pub(crate) fn play<R: Threads + Wait + Sync, M: Maker + Sync, G: Gate + Sync>(
     rt: &R,
     alloc: Global,
     conf: &Conf,
     scripts: &Scripts,
+    preload: Option<u64>,
+    map: bool,
     maker: &M,
     gate: &G,
     clock: Clock,
 ) -> Result<Printed, CrewFault>
     requires good { IsGood conf.now }
-    ensures output { IfOk result (λ p.
-        IsOutput conf.now (all_timed clock scripts.now)
+    requires some { IfSome preload (λ _. 1 ≤ length scripts.now) }
+    ensures output { IfOk result (λ p. PrintsCrew conf.now clock preload map scripts.now
         (worker_texts 0 p.texts.items ++ p.rest)) }
+    ensures ends { IfOk result (λ p. p.ends ≡ Status.Done) }
     ensures few { OnOk result (all_events conf.now.slots scripts.now ≤ most_events) }
     ensures many { IfErr result (λ e. e ≡ TooMany
         → most_events < all_events conf.now.slots scripts.now) }
@@ -52,14 +91,16 @@ pub(crate) fn play<R: Threads + Wait + Sync, M: Maker + Sync, G: Gate + Sync>(
         → (all_events conf.now.slots scripts.now ≤ most_events)
         × SomeRefusable (M.may_refuse maker.now) scripts.now) }
 {
-    let Played {
-        journal,
-        texts,
-        counts: _,
-    } = play_scripts(rt, alloc, conf, scripts, maker, gate, clock)?;
-    let mut lines = ByteOut::new(alloc);
-    write_journal(&mut lines, &journal)?;
-    Ok(Printed { texts, rest: lines })
+    match preload {
+        None => {
+            let played = play_scripts(rt, alloc, conf, scripts, maker, gate, clock)?;
+            Ok(printed_of(alloc, played, map)?)
+        }
+        Some(_) => {
+            let played = play_loaded(rt, alloc, conf, scripts, maker, gate, clock)?;
+            Ok(printed_of(alloc, played, map)?)
+        }
+    }
 }
 
 /// Plays scripts that are made from a number, and gathers the summary that is printed of them.
@@ -83,6 +124,7 @@ pub(crate) fn watch<R: Threads + Wait + Sync, M: Maker + Sync, G: Gate + Sync>(
     ensures many { IfErr result (λ e. e ≡ TooMany
         → most_events < generated_events workers calls) }
     ensures patterns { IfErr result (λ e. e ≢ Pattern) }
+    ensures ends { IfOk result (λ p. p.ends ≡ Status.Done) }
 {
     let watched = play_generated(rt, alloc, conf, seed, workers, calls, maker, gate)?;
     let mut lines = ByteOut::new(alloc);
@@ -90,5 +132,6 @@ pub(crate) fn watch<R: Threads + Wait + Sync, M: Maker + Sync, G: Gate + Sync>(
     Ok(Printed {
         texts: Vec::new(alloc),
         rest: lines,
+        ends: Status::Done,
     })
 }

@@ -4,11 +4,12 @@ ghost use Rattle.io_edges.specs.Reading.{HasTaken, HasTakenWithin};
 ghost use Rattle.apcu_model.specs.Conf.{IsGood};
 ghost use Rattle.conf_read.specs.Options.{settings_of};
 ghost use Rattle.conf_read.specs.Tasks.{SuitsTask};
+ghost use Rattle.apcu_play.specs.Ended.{sourced, sunk, IsEnding, HasEnded};
 ghost use Rattle.apcu_play.specs.Message.{message_of};
-ghost use Rattle.apcu_play.specs.Tasks.{longest_input, IsRefusedAt, IsRefused, IsCrowdedTask};
+ghost use Rattle.apcu_play.specs.Tasks.{longest_input, IsRefused, IsUnloaded, IsCrowdedTask};
 ghost use Rattle.apcu_play.specs.Tasks.{IsUnsearchable, LeavesInput};
 ghost use Rattle.apcu_play.specs.Run.{Replays, ReplaysPart, TellsMessage, TellsRefusal};
-ghost use Rattle.apcu_play.specs.Run.{IsUnlessMemory, Completes};
+ghost use Rattle.apcu_play.specs.Run.{TellsUnloaded, IsUnlessMemory, Completes};
 
 use crate::answering::answer;
 use crate::ending::{Ending, tell_ending};
@@ -17,6 +18,7 @@ use crate::status::Status;
 use apcu_iter::Maker;
 use conf_read::{ConfFault, Settings, read_settings};
 use io_edges::{Gate, Sink, Source};
+use preload_set::readings_are_bundles;
 use script_read::readings_are_scripts;
 use std::alloc::Global;
 use std::sync::Wait;
@@ -34,38 +36,19 @@ fn outcome_on<R: Threads + Wait + Sync, S: Source, K: Sink, M: Maker + Sync, G: 
 ) -> Ending
     requires good { IsGood settings.now.conf }
     requires suits { SuitsTask settings.now.conf settings.now.task }
-    ensures replayed { result.status ≡ Status.Done → Replays settings.now
-        (S.left input.old) (S.left input.new) (K.held out.old) (K.held out.new) }
-    ensures no_usage { result.status ≢ Status.Usage }
-    ensures script { result.status ≡ Status.Script
-        → IsRefusedAt (S.left input.old) (S.left input.new) result.place result.reason }
-    ensures too_many { result.status ≡ Status.TooMany
-        → IsCrowdedTask settings.now.conf settings.now.task
-        (S.left input.old) (S.left input.new) }
-    ensures pattern { result.status ≡ Status.Pattern
-        → IsUnsearchable (M.may_refuse maker.now) settings.now.conf
-        (S.left input.old) (S.left input.new) }
-    ensures too_long { result.status ≡ Status.TooLong
-        → HasTaken (S.left input.old) (S.left input.new) (longest_input + 1) }
-    ensures longer { result.status ≡ Status.TooLong
-        → IfSome (S.left input.old) (λ left. longest_input < length left) }
+    ensures ending { IsEnding (M.may_refuse maker.now) settings.now
+        (sourced (S.left input.old) (S.left input.new) (S.faults input.old) (S.faults input.new))
+        (sunk (K.held out.old) (K.held out.new) (K.faults out.old) (K.faults out.new))
+        result.status result.place result.reason }
     ensures within { result.status ≢ Status.TooLong
         → HasTakenWithin (S.left input.old) (S.left input.new) longest_input }
-    ensures read_fault { result.status ≡ Status.ReadFault
-        → Rose (S.faults input.old) (S.faults input.new) }
     ensures unread { LeavesInput settings.now.task result.status
         (S.left input.old) (S.left input.new) (S.faults input.old) (S.faults input.new) }
-    ensures write_fault { result.status ≡ Status.WriteFault
-        → Rose (K.faults out.old) (K.faults out.new) }
-    ensures cut { result.status ≡ Status.WriteFault → ReplaysPart settings.now
-        (S.left input.old) (S.left input.new) (K.held out.old) (K.held out.new) }
-    ensures unchanged { result.status ≢ Status.Done → result.status ≢ Status.WriteFault
-        → (K.held out.new ≡ K.held out.old) × (K.faults out.new ≡ K.faults out.old) }
 {
     match answer(rt, alloc, settings, input, maker, gate) {
         Ok(printed) => {
             if print(out, &printed) {
-                Ending::of(Status::Done)
+                Ending::of(printed.ends)
             } else {
                 Ending::of(Status::WriteFault)
             }
@@ -84,34 +67,9 @@ fn outcome<R: Threads + Wait + Sync, S: Source, K: Sink, M: Maker + Sync, G: Gat
     maker: &M,
     gate: &G,
 ) -> Ending
-    ensures replayed { IfSome (settings_of words.now) (λ s. result.status ≡ Status.Done
-        → Replays s (S.left input.old) (S.left input.new) (K.held out.old) (K.held out.new)) }
-    ensures usage { result.status ≡ Status.Usage → settings_of words.now ≡ None }
-    ensures faulty_words { settings_of words.now ≡ None
-        → IsUnlessMemory Status.Usage result.status }
-    ensures script { result.status ≡ Status.Script
-        → IsRefusedAt (S.left input.old) (S.left input.new) result.place result.reason }
-    ensures too_many { IfSome (settings_of words.now) (λ s. result.status ≡ Status.TooMany
-        → IsCrowdedTask s.conf s.task (S.left input.old) (S.left input.new)) }
-    ensures pattern { IfSome (settings_of words.now) (λ s. result.status ≡ Status.Pattern
-        → IsUnsearchable (M.may_refuse maker.now) s.conf (S.left input.old) (S.left input.new)) }
-    ensures too_long { result.status ≡ Status.TooLong
-        → HasTaken (S.left input.old) (S.left input.new) (longest_input + 1) }
-    ensures longer { result.status ≡ Status.TooLong
-        → IfSome (S.left input.old) (λ left. longest_input < length left) }
-    ensures within { result.status ≢ Status.TooLong
-        → HasTakenWithin (S.left input.old) (S.left input.new) longest_input }
-    ensures read_fault { result.status ≡ Status.ReadFault
-        → Rose (S.faults input.old) (S.faults input.new) }
-    ensures unread { IfSome (settings_of words.now) (λ s. LeavesInput s.task result.status
-        (S.left input.old) (S.left input.new) (S.faults input.old) (S.faults input.new)) }
-    ensures write_fault { result.status ≡ Status.WriteFault
-        → Rose (K.faults out.old) (K.faults out.new) }
-    ensures cut { IfSome (settings_of words.now) (λ s. result.status ≡ Status.WriteFault
-        → ReplaysPart s (S.left input.old) (S.left input.new)
-        (K.held out.old) (K.held out.new)) }
-    ensures unchanged { result.status ≢ Status.Done → result.status ≢ Status.WriteFault
-        → (K.held out.new ≡ K.held out.old) × (K.faults out.new ≡ K.faults out.old) }
+    ensures { HasEnded (M.may_refuse maker.now) (settings_of words.now)
+        (sourced (S.left input.old) (S.left input.new) (S.faults input.old) (S.faults input.new))
+        (sunk (K.held out.old) (K.held out.new) (K.faults out.old) (K.faults out.new)) result }
 {
     match read_settings(alloc, words) {
         Ok(settings) => outcome_on(rt, alloc, &settings, input, out, maker, gate),
@@ -121,9 +79,12 @@ fn outcome<R: Threads + Wait + Sync, S: Source, K: Sink, M: Maker + Sync, G: Gat
 }
 
 /// Plays the scripts of `input`, each worker on a thread of its own, and prints on `out` what each
-/// worker's calls answer and the journal: the order in which the calls took effect. With the option
-/// `--generate` it plays scripts that are made from a number, leaves `input` as it is, and prints
-/// their summary. What went wrong is told on `err`, a line.
+/// worker's calls answer and the journal: the order in which the calls took effect. What went wrong
+/// is told on `err`, a line. With the option `--preload` a bundle in front of the scripts is loaded
+/// before any of them begins, by a worker behind theirs; with `--map 1` the map of the cache's words
+/// follows the journal. With `--generate` it plays scripts that are made from a number, leaves
+/// `input` as it is, and prints their summary. With `--verify` it plays nothing: it prints the
+/// verdict on an output that stands behind its scripts.
 ///
 /// `words` are the program's words with its name first, options as `conf_read::read_settings` reads
 /// them. A script's calls are those of PHP's APCu functions, one on a line, with their
@@ -146,18 +107,27 @@ pub fn run<R: Threads + Wait + Sync, S: Source, K: Sink, E: Sink, M: Maker + Syn
 ) -> Status
     // What is printed is the output of a journal that is legal and complete for the scripts of the
     // whole input, on the cache and by the clock that the words ask for; of a generated run it is
-    // the summary of such a journal for the generated scripts.
+    // the summary of such a journal for the generated scripts; and of an output that is one, yes.
     ensures replayed { IfSome (settings_of words.now) (λ s. result ≡ Status.Done
-        → Replays s (S.left input.old) (S.left input.new) (K.held out.old) (K.held out.new)) }
+        → Replays s Status.Done
+        (S.left input.old) (S.left input.new) (K.held out.old) (K.held out.new)) }
+    // Of an output that is none, it is what it is not.
+    ensures differs { IfSome (settings_of words.now) (λ s. result ≡ Status.Differs
+        → Replays s Status.Differs
+        (S.left input.old) (S.left input.new) (K.held out.old) (K.held out.new)) }
 
     // Each other status, and when it comes.
     ensures usage { result ≡ Status.Usage → settings_of words.now ≡ None }
     ensures faulty_words { settings_of words.now ≡ None → IsUnlessMemory Status.Usage result }
-    ensures script { result ≡ Status.Script → IsRefused (S.left input.old) (S.left input.new) }
+    ensures script { IfSome (settings_of words.now) (λ s. result ≡ Status.Script
+        → IsRefused s.task (S.left input.old) (S.left input.new)) }
+    ensures bundle { IfSome (settings_of words.now) (λ s. result ≡ Status.Bundle
+        → IsUnloaded s.task (S.left input.old) (S.left input.new)) }
     ensures too_many { IfSome (settings_of words.now) (λ s. result ≡ Status.TooMany
         → IsCrowdedTask s.conf s.task (S.left input.old) (S.left input.new)) }
     ensures pattern { IfSome (settings_of words.now) (λ s. result ≡ Status.Pattern
-        → IsUnsearchable (M.may_refuse maker.now) s.conf (S.left input.old) (S.left input.new)) }
+        → IsUnsearchable (M.may_refuse maker.now) s.conf s.task
+        (S.left input.old) (S.left input.new)) }
     ensures too_long { result ≡ Status.TooLong
         → HasTaken (S.left input.old) (S.left input.new) (longest_input + 1) }
     ensures longer { result ≡ Status.TooLong
@@ -178,17 +148,23 @@ pub fn run<R: Threads + Wait + Sync, S: Source, K: Sink, E: Sink, M: Maker + Syn
     ensures cut { IfSome (settings_of words.now) (λ s. result ≡ Status.WriteFault
         → ReplaysPart s (S.left input.old) (S.left input.new)
         (K.held out.old) (K.held out.new)) }
-    ensures unchanged { result ≢ Status.Done → result ≢ Status.WriteFault
+    ensures unchanged { result ≢ Status.Done → result ≢ Status.Differs
+        → result ≢ Status.WriteFault
         → (K.held out.new ≡ K.held out.old) × (K.faults out.new ≡ K.faults out.old) }
     ensures silent { result ≡ Status.Done
         → (E.held err.new ≡ E.held err.old) × (E.faults err.new ≡ E.faults err.old) }
-    ensures told { result ≢ Status.Done → result ≢ Status.Script → TellsMessage (message_of result)
+    ensures told { result ≢ Status.Done → result ≢ Status.Script → result ≢ Status.Bundle
+        → TellsMessage (message_of result)
         (E.held err.old) (E.held err.new) (E.faults err.old) (E.faults err.new) }
-    ensures told_script { result ≡ Status.Script → TellsRefusal
-        (S.left input.old) (S.left input.new)
-        (E.held err.old) (E.held err.new) (E.faults err.old) (E.faults err.new) }
+    ensures told_script { IfSome (settings_of words.now) (λ s. result ≡ Status.Script
+        → TellsRefusal s.task (S.left input.old) (S.left input.new)
+        (E.held err.old) (E.held err.new) (E.faults err.old) (E.faults err.new)) }
+    ensures told_bundle { IfSome (settings_of words.now) (λ s. result ≡ Status.Bundle
+        → TellsUnloaded s.task (S.left input.old) (S.left input.new)
+        (E.held err.old) (E.held err.new) (E.faults err.old) (E.faults err.new)) }
 {
     readings_are_scripts();
+    readings_are_bundles();
     let ending = outcome(rt, alloc, words, input, out, maker, gate);
     tell_ending(err, ending);
     ending.status

@@ -25,10 +25,15 @@ pub enum Status {
     TooMany,
     /// An iterator's pattern is none, or its regex is refused.
     Pattern,
+    /// The output that was judged is none of its scripts. The verdict was printed.
+    Differs,
+    /// The input begins with no bundle, though one is asked for. The message has the first fault's
+    /// place and reason.
+    Bundle,
 }
 
 impl Status {
-    /// The exit status, from 0 to 8.
+    /// The exit status, from 0 to 10.
     pub fn code(self) -> u8
         ensures { result ≡ code_of self }
     {
@@ -42,6 +47,8 @@ impl Status {
             Status::TooLong => 6,
             Status::TooMany => 7,
             Status::Pattern => 8,
+            Status::Differs => 9,
+            Status::Bundle => 10,
         }
     }
 
@@ -53,12 +60,12 @@ impl Status {
     }
 
     /// What is told of it on standard error, a line; nothing where the run is done, and nothing
-    /// here of a script with a fault, of which place and reason are told.
+    /// here of a script or a bundle with a fault, of which place and reason are told.
     pub fn message(self) -> &'static [u8]
         ensures { result.now ≡ message_of self }
     {
         match self {
-            Status::Done | Status::Script => b"",
+            Status::Done | Status::Script | Status::Bundle => b"",
             Status::Usage => b"apcu_run: usage\n",
             Status::ReadFault => b"apcu_run: read fault\n",
             Status::WriteFault => b"apcu_run: write fault\n",
@@ -66,6 +73,7 @@ impl Status {
             Status::TooLong => b"apcu_run: input too long\n",
             Status::TooMany => b"apcu_run: too many events\n",
             Status::Pattern => b"apcu_run: pattern\n",
+            Status::Differs => b"apcu_run: differs\n",
         }
     }
 }

@@ -14,8 +14,6 @@ mod faults;
 #[cfg(test)]
 mod gates;
 #[cfg(test)]
-mod generated;
-#[cfg(test)]
 mod iterators;
 #[cfg(test)]
 mod iterators_that_differ;

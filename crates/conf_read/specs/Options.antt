@@ -14,7 +14,7 @@ use Rattle.conf_read.specs.declared.options.Reader.{Reader}
 use Rattle.conf_read.specs.declared.options.Reader.TheVariants.{Size, Number}
 use Rattle.conf_read.specs.Command.{with_options}
 use Rattle.conf_read.specs.Numbers.{number_from, words_told}
-use Rattle.conf_read.specs.Tasks.{task_by}
+use Rattle.conf_read.specs.Tasks.{most_input, task_by}
 
 -- ---- the table
 
@@ -57,9 +57,22 @@ workers = record { name = codes "workers"; default = Some 4; read = number_from 
 abbrev pub calls : ProgramOption
 calls = record { name = codes "calls"; default = Some 1000; read = number_from 0 1000000 }
 
+-- how many bytes of a bundle stand in front of the scripts; nothing stands for it
+abbrev pub preload : ProgramOption
+preload = record { name = codes "preload"; default = None; read = number_from 0 most_input }
+
+-- how many bytes of scripts stand in front of an output that is to be judged
+abbrev pub verify : ProgramOption
+verify = record { name = codes "verify"; default = None; read = number_from 0 most_input }
+
+-- whether the map of the cache's words is printed behind a play: 1 where it is
+abbrev pub map_wanted : ProgramOption
+map_wanted = record { name = codes "map"; default = Some 0; read = number_from 0 1 }
+
 abbrev pub options : List ProgramOption
 options =
-    shm_size ∷ segments ∷ slots ∷ ttl ∷ use_request_time ∷ generate ∷ workers ∷ calls ∷ []
+    shm_size ∷ segments ∷ slots ∷ ttl ∷ use_request_time ∷ generate ∷ workers ∷ calls
+    ∷ preload ∷ verify ∷ map_wanted ∷ []
 
 abbrev pub names : List Text
 names = map (λ o. o.name) options
@@ -110,13 +123,16 @@ conf_in rows = do
 abbrev pub clock_of : ℕ → Clock
 clock_of number = if number == 0 then Line else Request
 
--- what the run is for, on a cache of this shape; the numbers of a generated run are read in any run
+-- what the run is for, on a cache of this shape; every option is read in any run
 abbrev pub task_in : Conf → List Row → Option Task
 task_in shape rows = do
   seed ← told_if generate rows
   crew ← told workers rows
   each ← told calls rows
-  task_by shape seed crew each
+  bundle ← told_if preload rows
+  judged ← told_if verify rows
+  drawn ← told map_wanted rows
+  task_by shape seed crew each judged (record { bundle = bundle; map = drawn })
 
 -- what clap's rows ask for: nothing where they ask for no shape, another value is out of its form
 -- or range, or the shape does not suit the task

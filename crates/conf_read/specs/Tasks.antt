@@ -1,25 +1,42 @@
 -- What the program is called for, beside the shape of its cache and its clock.
-use Rattle.std.specs.Prelude.{◌≡◌, ℕ, ◌≤◌, Bool, ◌&&◌, ◌==◌, nat_le, if◌then◌else◌, Option, Some}
-use Rattle.std.specs.Prelude.{None}
+use Rattle.std.specs.Prelude.{◌≡◌, ℕ, ◌≤◌, Bool, true, false, not, ◌&&◌, ◌==◌, nat_le}
+use Rattle.std.specs.Prelude.{if◌then◌else◌, Option, Some, None, is_none, IfSome}
 use Rattle.apcu_model.specs.declared.conf.Conf.{Conf}
 use Rattle.conf_read.specs.declared.task.Task.{Task}
-use Rattle.conf_read.specs.declared.task.Task.TheVariants.{Play, Generate}
+use Rattle.conf_read.specs.declared.task.Task.TheVariants.{Play, Generate, Verify}
+use Rattle.conf_read.specs.declared.task.Choices.{Choices}
+
+-- the most bytes of an input, so of what stands in front of one
+abbrev pub most_input : ℕ
+most_input = 67108864
 
 -- one segment of at least 8 MB, of which the slots take 32 KB at most: what generated scripts store
 -- has room in it
 abbrev pub is_large : Conf → Bool
 is_large conf = conf.segments == 1 && (nat_le 1048576 conf.words && nat_le conf.slots 4096)
 
--- a number makes scripts of so many workers with so many calls each; without one the input's are
--- played
-abbrev pub task_by : Conf → Option ℕ → ℕ → ℕ → Option Task
-task_by conf None crew each = Some Play
-task_by conf (Some seed) crew each =
-    if is_large conf then Some (Generate seed crew each) else None
+-- no bundle and no map, which belong to a play of the input's scripts
+abbrev pub is_plain : Choices → Bool
+is_plain choices = is_none choices.bundle && choices.map == 0
+
+-- a task where nothing is against it
+abbrev pub task_if : Bool → Task → Option Task
+task_if true task = Some task
+task_if false task = None
+
+-- A number makes scripts of so many workers with so many calls each; a length tells how many bytes
+-- of scripts an output is judged by; without either the input's scripts are played. Of the three
+-- one alone is asked for, and what belongs to a play is asked for with no other.
+abbrev pub task_by : Conf → Option ℕ → ℕ → ℕ → Option ℕ → Choices → Option Task
+task_by conf None crew each None choices = Some (Play choices.bundle (not (choices.map == 0)))
+task_by conf None crew each (Some scripts) choices = task_if (is_plain choices) (Verify scripts)
+task_by conf (Some seed) crew each judged choices =
+    task_if (is_large conf && (is_none judged && is_plain choices)) (Generate seed crew each)
 
 -- the cache's shape suits the task, and its numbers are in their bounds
 abbrev pub SuitsTask : Conf → Task → Type 0
-SuitsTask conf Play = Unit {0}
+SuitsTask conf (Play bundle map) = IfSome bundle (λ n. n ≤ most_input)
 SuitsTask conf (Generate seed crew each) =
     (conf.segments ≡ 1) × (1048576 ≤ conf.words) × (conf.slots ≤ 4096)
     × (1 ≤ crew) × (crew ≤ 64) × (each ≤ 1000000)
+SuitsTask conf (Verify scripts) = scripts ≤ most_input

@@ -8,6 +8,9 @@ use crate::numbers::{number_in, words_told};
 use apcu_model::{MOST_SEGMENTS, MOST_SLOTS};
 use clap::ArgMatches;
 
+// The most bytes of input.
+const MOST_INPUT: u64 = 67_108_864;
+
 /// How the value of an option is read.
 #[derive(Clone, Copy)]
 pub(crate) enum Reader {
@@ -97,8 +100,35 @@ pub(crate) const CALLS: Row = Row {
     },
 };
 
+/// How many bytes of a bundle stand in front of the scripts.
+pub(crate) const PRELOAD: Row = Row {
+    name: "preload",
+    default: None,
+    reader: Reader::Number {
+        low: 0,
+        high: MOST_INPUT,
+    },
+};
+
+/// How many bytes of scripts stand in front of an output that is to be judged.
+pub(crate) const VERIFY: Row = Row {
+    name: "verify",
+    default: None,
+    reader: Reader::Number {
+        low: 0,
+        high: MOST_INPUT,
+    },
+};
+
+/// Whether the map of the cache's words is printed behind a play.
+pub(crate) const MAP: Row = Row {
+    name: "map",
+    default: Some(0),
+    reader: Reader::Number { low: 0, high: 1 },
+};
+
 /// All options, by which the command is built.
-pub(crate) const OPTIONS: [Row; 8] = [
+pub(crate) const OPTIONS: [Row; 11] = [
     SHM_SIZE,
     SEGMENTS,
     SLOTS,
@@ -107,6 +137,9 @@ pub(crate) const OPTIONS: [Row; 8] = [
     GENERATE,
     WORKERS,
     CALLS,
+    PRELOAD,
+    VERIFY,
+    MAP,
 ];
 
 impl Reader {

@@ -19,7 +19,8 @@ pub struct Settings {
     pub conf: Conf,
     /// What a call's moment is: `--use-request-time`.
     pub clock: Clock,
-    /// What the run is for: `--generate`, with `--workers` and `--calls`.
+    /// What the run is for: `--generate` with `--workers` and `--calls`, `--verify`, or a play of
+    /// the input with `--preload` and `--map`.
     pub task: Task,
 }
 
@@ -81,9 +82,12 @@ fn settings_in(matches: &ArgMatches<'_>) -> Option<Settings>
 /// `--slots N` the number of hash chains (4096), `--ttl N` PHP's `apc.ttl` in seconds (0), and
 /// `--use-request-time B` PHP's `apc.use_request_time` (0): whether a call's moment is the second
 /// of the call (0) or its request's start (1). `--generate N` asks for a run of scripts that are
-/// made from the number N, for `--workers N` workers (4) of `--calls N` calls each (1000); without
-/// it the input's scripts are played, and the two are read all the same. The options stand in any
-/// order, each at most once.
+/// made from the number N, for `--workers N` workers (4) of `--calls N` calls each (1000).
+/// `--verify N` asks for a verdict: the first N bytes of the input are scripts, and the rest is an
+/// output that is judged. Without either the input's scripts are played: with `--preload N` its
+/// first N bytes are a bundle whose values are loaded before the scripts behind it begin, and with
+/// `--map B` (0) the map of the cache's words stands behind what is printed (1) or does not (0).
+/// Every option is read in any run. The options stand in any order, each at most once.
 ///
 /// A size is one to ten digits and at most one of `K M G k m g` behind them, times 1024, 1024^2 or
 /// 1024^3; it is a multiple of 16 bytes from 256 to 134,217,728. The other numbers are one to
@@ -91,7 +95,9 @@ fn settings_in(matches: &ArgMatches<'_>) -> Option<Settings>
 /// even, from 2 to 1,048,576, and leave 16 words of 8 bytes in the first segment. A time limit is
 /// below 2^32, and `--use-request-time` is 0 or 1. N of `--generate` is below 2^64; workers are
 /// from 1 to 64, and calls at most 1,000,000. A generated run has one segment of 8,388,608 bytes or
-/// more and at most 4096 slots.
+/// more and at most 4096 slots. N of `--verify` and `--preload` is at most 67,108,864, and `--map`
+/// is 0 or 1. `--generate` and `--verify` do not stand together, and neither stands with `--preload`
+/// or with a map.
 ///
 /// The answer is `Usage` exactly where there is no word, clap finds a fault in them (a call for
 /// help is one), a value is none of these, or two do not agree, if there is memory to read the

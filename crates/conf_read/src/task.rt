@@ -1,9 +1,9 @@
 ghost use Rattle.std.specs.Prelude.{◌≡◌, ◌≤◌, true, IfSome};
 ghost use Rattle.clap.specs.Words.{found_of, rows_of};
 ghost use Rattle.conf_read.specs.Options.{task_in};
-ghost use Rattle.conf_read.specs.Tasks.{is_large, task_by, SuitsTask};
+ghost use Rattle.conf_read.specs.Tasks.{is_large, is_plain, most_input, task_by, SuitsTask};
 
-use crate::options::{CALLS, GENERATE, WORKERS, told, told_if};
+use crate::options::{CALLS, GENERATE, MAP, PRELOAD, VERIFY, WORKERS, told, told_if};
 use apcu_model::Conf;
 use clap::ArgMatches;
 
@@ -11,7 +11,13 @@ use clap::ArgMatches;
 #[derive(Clone, Copy, Debug, PartialEq, Eq)]
 pub enum Task {
     /// To play the scripts of the input.
-    Play,
+    Play {
+        /// How many bytes of a bundle stand in front of the scripts, `--preload`: its values are
+        /// loaded before any script begins. `None` where there is no bundle.
+        preload: Option<u64>,
+        /// Whether the map of the cache's words is printed behind the journal, `--map`.
+        map: bool,
+    },
     /// To play scripts that are made from a number, and to sum them up; the input is not read.
     Generate {
         /// The number, `--generate`.
@@ -21,6 +27,25 @@ pub enum Task {
         /// How many calls each of them makes, `--calls`.
         calls: u32,
     },
+    /// To judge an output of the scripts that stand in front of it; nothing is played.
+    Verify {
+        /// How many bytes of the input are scripts, `--verify`.
+        scripts: u64,
+    },
+}
+
+// What the words choose of a play: how many bytes of a bundle, and whether a map is printed.
+#[derive(Clone, Copy)]
+struct Choices {
+    bundle: Option<u64>,
+    map: u64,
+}
+
+// Whether they choose neither.
+fn is_plain(choices: Choices) -> bool
+    ensures { result ≡ is_plain choices }
+{
+    choices.bundle.is_none() && choices.map == 0
 }
 
 // Whether generated scripts have room in a cache of this shape.
@@ -32,25 +57,49 @@ fn is_large(conf: &Conf) -> bool
     conf.segments == 1 && conf.words >= 1_048_576 && conf.slots <= 4096
 }
 
-// The task by what stands behind `--generate`, if anything does, and these numbers.
-fn task_by(conf: &Conf, seed: Option<u64>, workers: u32, calls: u32) -> Option<Task>
+// The task by what stands behind `--generate` and `--verify`, if anything does, the numbers of a
+// generated run, and what is chosen of a play.
+fn task_by(
+    conf: &Conf,
+    seed: Option<u64>,
+    workers: u32,
+    calls: u32,
+    judged: Option<u64>,
+    choices: Choices,
+) -> Option<Task>
     requires some { 1 ≤ workers }
     requires few { workers ≤ 64 }
     requires short { calls ≤ 1000000 }
-    ensures is { result ≡ task_by conf.now seed workers calls }
+    requires judged { IfSome judged (λ n. n ≤ most_input) }
+    requires bundle { IfSome choices.bundle (λ n. n ≤ most_input) }
+    ensures is { result ≡ task_by conf.now seed workers calls judged choices }
     ensures suits { IfSome result (λ task. SuitsTask conf.now task) }
 {
-    let Some(seed) = seed else {
-        return Some(Task::Play);
-    };
-    if is_large(conf) {
-        Some(Task::Generate {
-            seed,
-            workers,
-            calls,
-        })
-    } else {
-        None
+    match seed {
+        None => match judged {
+            None => Some(Task::Play {
+                preload: choices.bundle,
+                map: choices.map != 0,
+            }),
+            Some(scripts) => {
+                if is_plain(choices) {
+                    Some(Task::Verify { scripts })
+                } else {
+                    None
+                }
+            }
+        },
+        Some(seed) => {
+            if is_large(conf) && judged.is_none() && is_plain(choices) {
+                Some(Task::Generate {
+                    seed,
+                    workers,
+                    calls,
+                })
+            } else {
+                None
+            }
+        }
     }
 }
 
@@ -62,5 +111,8 @@ pub(crate) fn task_in(matches: &ArgMatches<'_>, conf: &Conf) -> Option<Task>
     let seed = told_if(matches, GENERATE)?;
     let workers = told(matches, WORKERS)? as u32;
     let calls = told(matches, CALLS)? as u32;
-    task_by(conf, seed, workers, calls)
+    let bundle = told_if(matches, PRELOAD)?;
+    let judged = told_if(matches, VERIFY)?;
+    let map = told(matches, MAP)?;
+    task_by(conf, seed, workers, calls, judged, Choices { bundle, map })
 }

@@ -1,6 +1,6 @@
 //! What a run is for, by the program's words.
 
-use crate::tests::expect;
+use crate::tests::{PLAY, expect};
 use apcu_model::{Clock, Conf};
 use conf_read::{ConfFault, Settings, Task};
 use std::test::Fail;
@@ -44,8 +44,8 @@ fn generated_runs(rt: HostRuntime) -> Result<(), Fail> {
             generate(7, 8, 1000),
         ),
         // Without the number the other two are read, and the input is played.
-        (&["--workers", "8"], Task::Play),
-        (&["--calls", "0", "--workers", "64"], Task::Play),
+        (&["--workers", "8"], PLAY),
+        (&["--calls", "0", "--workers", "64"], PLAY),
     ] {
         expect(&rt, rt.alloc(), options, Ok(for_task(task)))?;
     }
@@ -141,6 +141,75 @@ fn caches_of_no_generated_run(rt: HostRuntime) -> Result<(), Fail> {
             segments,
         ];
         expect(&rt, rt.alloc(), options.as_slice(), Err(ConfFault::Usage))?;
+    }
+    Ok(())
+}
+
+fn play(preload: Option<u64>, map: bool) -> Task {
+    Task::Play { preload, map }
+}
+
+fn verify(scripts: u64) -> Task {
+    Task::Verify { scripts }
+}
+
+#[test]
+fn bundles_maps_and_verdicts(rt: HostRuntime) -> Result<(), Fail> {
+    for (options, task) in [
+        (["--map", "0"].as_slice(), PLAY),
+        (&["--map=1"], play(None, true)),
+        (&["--preload", "0"], play(Some(0), false)),
+        (&["--preload=67108864"], play(Some(67_108_864), false)),
+        (&["--map=1", "--preload", "014"], play(Some(14), true)),
+        (&["--verify", "0"], verify(0)),
+        (&["--verify=67108864"], verify(67_108_864)),
+        (&["--map=0", "--verify=52"], verify(52)),
+        // The numbers of a generated run are read in any run.
+        (&["--verify=52", "--workers=9", "--calls=0"], verify(52)),
+        (&["--map=0", "--generate=3"], generate(3, 4, 1000)),
+    ] {
+        expect(&rt, rt.alloc(), options, Ok(for_task(task)))?;
+    }
+    Ok(())
+}
+
+#[test]
+fn tasks_that_do_not_stand_together(rt: HostRuntime) -> Result<(), Fail> {
+    for options in [
+        ["--generate", "0", "--verify", "0"].as_slice(),
+        &["--generate=0", "--preload=0"],
+        &["--generate=0", "--map=1"],
+        &["--verify=0", "--preload=0"],
+        &["--verify=0", "--map=1"],
+        &["--verify=0", "--preload=0", "--map=1"],
+    ] {
+        expect(&rt, rt.alloc(), options, Err(ConfFault::Usage))?;
+    }
+    Ok(())
+}
+
+#[test]
+fn numbers_of_no_bundle_map_or_verdict(rt: HostRuntime) -> Result<(), Fail> {
+    for options in [
+        ["--map", "2"].as_slice(),
+        &["--map", "yes"],
+        &["--map="],
+        &["--map"],
+        &["--map=1", "--map=1"],
+        &["--preload", "67108865"],
+        &["--preload", "4294967296"],
+        &["--preload", "-1"],
+        &["--preload"],
+        &["--preload=1", "--preload=1"],
+        &["--verify", "67108865"],
+        &["--verify", "1K"],
+        &["--verify"],
+        &["--verify=1", "--verify=1"],
+        // They are looked at in a run of another task too.
+        &["--generate=0", "--map=2"],
+        &["--verify=0", "--workers=0"],
+    ] {
+        expect(&rt, rt.alloc(), options, Err(ConfFault::Usage))?;
     }
     Ok(())
 }

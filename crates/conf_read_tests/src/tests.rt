@@ -20,12 +20,18 @@ pub(crate) fn expect<R: Abort>(
     Ok(())
 }
 
+// The input's scripts are played, without a bundle and without a map.
+pub(crate) const PLAY: Task = Task::Play {
+    preload: None,
+    map: false,
+};
+
 // The settings where nothing is said of the clock and the task.
 fn by_line(conf: Conf) -> Settings {
     Settings {
         conf,
         clock: Clock::Line,
-        task: Task::Play,
+        task: PLAY,
     }
 }
 

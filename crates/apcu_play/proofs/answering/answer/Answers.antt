@@ -1,18 +1,21 @@
-use Rattle.std.proofs.Common.{◌++◌, ◌≢◌}
-use Rattle.reply_text.specs.Output.{worker_texts}
-use Rattle.apcu_play.specs.declared.ending.Ending.{Ending}
-use Rattle.apcu_play.specs.declared.play.Printed.{Printed}
-use Rattle.apcu_play.specs.declared.status.Status.TheVariants.{TooLong}
-use Rattle.apcu_play.proofs.Taken.{none_taken_err, none_taken_ok, taken_for}
+use Rattle.std.proofs.Common.{rules}
+use Rattle.std.proofs.lemmas.Result.{err_from_is_err_and}
+use Rattle.apcu_play.proofs.Causes.{cause_for, seed_cause}
 use Rattle.apcu_play.proofs.answering.answer.Goals as goal
 
-pub returns-in-Play-clause-within_ok : goal.returns-in-Play-clause-within_ok
-returns-in-Play-clause-within_ok g c =
-    taken_for c.args.settings.now _ _ (λ (p : Printed). worker_texts 0 p.texts.items ++ p.rest) c.answer_input.result c.answer_input.ensures.answer
+pub returns-in_err-bytes-in-Play-clause-cause : goal.returns-in_err-bytes-in-Play-clause-cause
+returns-in_err-bytes-in-Play-clause-cause g c =
+    let p = err_from_is_err_and c.from_residual.result c.from_residual.ensures.1 in
+    let s = c.args.settings.now in
+    rw (p.1, p.2) (cause_for (g.M.Maker.may_refuse c.args.maker.now) s.conf s.task _ _ _ _ _ _ _ (c.in_err-bytes-in-Play.ensures.cause s.conf s.task))
 
--- generated scripts leave the input
-pub returns-in-Generate-clause-within_ok : goal.returns-in-Generate-clause-within_ok
-returns-in-Generate-clause-within_ok g c = none_taken_ok _ _ c.answer_seed.result
+pub returns-in_err-bytes-in-Verify-clause-cause : goal.returns-in_err-bytes-in-Verify-clause-cause
+returns-in_err-bytes-in-Verify-clause-cause g c =
+    let p = err_from_is_err_and c.from_residual-in_err-bytes-in-Verify.result c.from_residual-in_err-bytes-in-Verify.ensures.1 in
+    let s = c.args.settings.now in
+    rw (p.1, p.2) (cause_for (g.M.Maker.may_refuse c.args.maker.now) s.conf s.task _ _ _ _ _ _ _ (c.in_err-bytes-in-Verify.ensures.cause s.conf s.task))
 
-pub returns-in-Generate-clause-within : goal.returns-in-Generate-clause-within
-returns-in-Generate-clause-within g c = none_taken_err (λ (e : Ending). e.status ≢ TooLong) _ _ c.answer_seed.result
+pub returns-in-Generate-clause-cause : goal.returns-in-Generate-clause-cause
+returns-in-Generate-clause-cause g c =
+    let w = c.in-Generate in
+    seed_cause _ c.args.settings.now.conf c.args.settings.now.task w.seed w.workers w.calls _ _ c.answer_seed.result (search rules) c.answer_seed.ensures.too_many c.answer_seed.ensures.others

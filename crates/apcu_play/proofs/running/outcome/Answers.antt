@@ -1,32 +1,14 @@
-use Rattle.std.proofs.Common.{arith}
-use Rattle.std.proofs.lemmas.Grind.{common_steps}
+use Rattle.std.proofs.Common.{rules}
 use Rattle.conf_read.specs.Options.{settings_of}
-use Rattle.apcu_play.proofs.Coming.{unread_for_memory}
-use Rattle.apcu_play.proofs.Taken.{none_taken}
-use Rattle.apcu_play.proofs.Unmet.{unmet}
+use Rattle.apcu_play.proofs.Endings.{ended_for, ended_for_memory, ended_for_usage}
 use Rattle.apcu_play.proofs.running.outcome.Goals as goal
 
-pub returns-in-Ok-clause-replayed : goal.returns-in-Ok-clause-replayed
-returns-in-Ok-clause-replayed g c = grind (arith, common_steps)
+pub returns-in-Ok : goal.returns-in-Ok
+returns-in-Ok g c =
+    ended_for _ (settings_of c.args.words.now) c.in-Ok.settings _ _ c.outcome_on.result c.in-Ok.ensures.told c.outcome_on.ensures.ending c.outcome_on.ensures.within c.outcome_on.ensures.unread
 
-pub returns-in-Ok-clause-cut : goal.returns-in-Ok-clause-cut
-returns-in-Ok-clause-cut g c = grind (arith, common_steps)
+pub returns-in-Err-Usage : goal.returns-in-Err-Usage
+returns-in-Err-Usage g c = ended_for_usage _ (settings_of c.args.words.now) _ _ _ _ c.of.result c.of.ensures (c.in-Err-Usage.ensures.usage (search rules))
 
--- where no memory was found for the words, it is not known what they call for
-pub returns-in-Err-Memory-clause-replayed : goal.returns-in-Err-Memory-clause-replayed
-returns-in-Err-Memory-clause-replayed g c = unmet _ (settings_of c.args.words.now) (λ is. cc)
-
-pub returns-in-Err-Memory-clause-too_many : goal.returns-in-Err-Memory-clause-too_many
-returns-in-Err-Memory-clause-too_many g c = unmet _ (settings_of c.args.words.now) (λ is. cc)
-
-pub returns-in-Err-Memory-clause-cut : goal.returns-in-Err-Memory-clause-cut
-returns-in-Err-Memory-clause-cut g c = unmet _ (settings_of c.args.words.now) (λ is. cc)
-
-pub returns-in-Err-Memory-clause-pattern : goal.returns-in-Err-Memory-clause-pattern
-returns-in-Err-Memory-clause-pattern g c = unmet _ (settings_of c.args.words.now) (λ is. cc)
-
-pub returns-in-Err-Memory-clause-within : goal.returns-in-Err-Memory-clause-within
-returns-in-Err-Memory-clause-within g c = λ _. none_taken _ _
-
-pub returns-in-Err-Memory-clause-unread : goal.returns-in-Err-Memory-clause-unread
-returns-in-Err-Memory-clause-unread g c = unread_for_memory (settings_of c.args.words.now) _ _ _ (c.of-in-Err-Memory.ensures)
+pub returns-in-Err-Memory : goal.returns-in-Err-Memory
+returns-in-Err-Memory g c = ended_for_memory _ (settings_of c.args.words.now) _ _ _ _ c.of-in-Err-Memory.result c.of-in-Err-Memory.ensures

@@ -1,44 +1,11 @@
 //! Runs of scripts that are made from a number: their summary, and that the input is left alone.
 
-use crate::runs::{STORE_AND_FETCH, Streams, played, smooth};
-use apcu_iter::RegexMaker;
+use crate::runs::{STORE_AND_FETCH, Streams, USAGE, expect_cut, expect_on, smooth};
 use apcu_play::Status;
-use io_edges::NoGate;
 use notation::ByteOut;
 use script_read::{Call, Scripts, generate};
 use std::alloc::Global;
-use std::process::Abort;
-use std::sync::Wait;
 use std::test::Fail;
-use std::thread::Threads;
-
-// The program's name, and these options.
-fn words_of(alloc: Global, options: &[&str]) -> Result<Vec<String>, Fail> {
-    let mut words = Vec::new(alloc);
-    words.push(String::from_str(alloc, "apcu_run")?)?;
-    for option in options {
-        words.push(String::from_str(alloc, option)?)?;
-    }
-    Ok(words)
-}
-
-// A run with these options on these streams.
-fn expect_on<R: Threads + Wait + Sync + Abort>(
-    rt: &R,
-    alloc: Global,
-    options: &[&str],
-    streams: Streams<'_>,
-    wanted: (Status, &[u8], &[u8]),
-) -> Result<(), Fail> {
-    assert!(rt; streams.piece > 0);
-    let words = words_of(alloc, options)?;
-    let ended = played(rt, alloc, &words, streams, &RegexMaker, &NoGate)?;
-    let (status, printed, told) = wanted;
-    assert_eq!(rt; ended.status, status);
-    assert_eq!(rt; ended.printed(), printed);
-    assert_eq!(rt; ended.told(), told);
-    Ok(())
-}
 
 const ONE_CALL: &[&str] = &["--generate", "0", "--workers", "1", "--calls", "1"];
 
@@ -149,7 +116,6 @@ fn too_many_generated_events(rt: HostRuntime) -> Result<(), Fail> {
 
 #[test]
 fn faulty_words_of_generated_runs(rt: HostRuntime) -> Result<(), Fail> {
-    let told = b"apcu_run: usage\n".as_slice();
     for options in [
         ["--shm-size", "4096", "--slots", "32", "--generate", "0"].as_slice(),
         &["--generate", "0", "--segments", "2"],
@@ -158,8 +124,7 @@ fn faulty_words_of_generated_runs(rt: HostRuntime) -> Result<(), Fail> {
         &["--workers", "0"],
         &["--calls", "1000001"],
     ] {
-        let wanted = (Status::Usage, b"".as_slice(), told);
-        expect_on(&rt, rt.alloc(), options, smooth(b""), wanted)?;
+        expect_on(&rt, rt.alloc(), options, smooth(b""), USAGE)?;
     }
     Ok(())
 }
@@ -178,7 +143,6 @@ fn inputs_are_left_alone(rt: HostRuntime) -> Result<(), Fail> {
     Ok(())
 }
 
-// Each write of 16 bytes fails in turn: what was written is the first of the summary.
 #[test]
 fn summaries_that_are_cut(rt: HostRuntime) -> Result<(), Fail> {
     let options = [
@@ -188,16 +152,5 @@ fn summaries_that_are_cut(rt: HostRuntime) -> Result<(), Fail> {
         "--shm-size=8M",
         "--slots=32",
     ];
-    for at in 0..OF_ONE_CALL.len() / 16 {
-        let fails = [at as u64];
-        let streams = Streams {
-            piece: 16,
-            fails: [[].as_slice(), &fails],
-            ..smooth(b"")
-        };
-        let told = b"apcu_run: write fault\n".as_slice();
-        let wanted = (Status::WriteFault, &OF_ONE_CALL[..16 * at], told);
-        expect_on(&rt, rt.alloc(), &options, streams, wanted)?;
-    }
-    Ok(())
+    expect_cut(&rt, rt.alloc(), &options, b"", OF_ONE_CALL, 16)
 }

@@ -1,0 +1,39 @@
+-- What is printed of a play.
+use Rattle.std.specs.Prelude.{◌≡◌, ℕ, Bool, true, false, List, ◌++◌, Option}
+use Rattle.apcu_model.specs.declared.clock.Clock.{Clock}
+use Rattle.apcu_model.specs.declared.conf.Conf.{Conf}
+use Rattle.apcu_model.specs.declared.journal.Mark.{Mark}
+use Rattle.apcu_model.specs.Cache.{Cache}
+use Rattle.script_read.specs.declared.script.Step.{Step}
+use Rattle.script_read.specs.Clock.{all_timed}
+use Rattle.script_read.specs.Play.{IsLegal, IsCompletePlay}
+use Rattle.reply_text.specs.Output.{journal_lines}
+use Rattle.seg_report.specs.Lines.{map_text}
+use Rattle.run_verify.specs.declared.verdict.Verdict.{Verdict}
+use Rattle.run_verify.specs.Verdicts.{verdict_of}
+use Rattle.apcu_play.specs.declared.status.Status.{Status}
+use Rattle.apcu_play.specs.Tasks.{LoadsFirst, played_text, verdict_text, ending_for}
+
+-- what stands behind the workers' lines: the journal's, and the map of this cache where it is wanted
+abbrev pub rest_of : Bool → List Mark → Cache → List ℕ
+rest_of false marks cache = journal_lines marks
+rest_of true marks cache = journal_lines marks ++ map_text cache
+
+-- This is printed of some journal of the crew that is legal and complete, with a loader first where
+-- a bundle is loaded, and with a map behind it or without.
+pub record PrintsCrew (conf : Conf) (clock : Clock) (bundle : Option ℕ) (map : Bool)
+    (crew : List (List Step)) (printed : List ℕ) : Type 0 where
+  pub journal : List Mark
+  pub legal : IsLegal conf (all_timed clock crew) journal
+  pub complete : IsCompletePlay conf (all_timed clock crew) journal
+  pub first : LoadsFirst bundle crew journal
+  pub text : printed ≡ played_text map conf (all_timed clock crew) journal
+
+-- This is the line of the verdict on an output, and a run that has written it ends so. The scripts
+-- are as the clock sees them.
+pub record PrintsVerdict (conf : Conf) (scripts : List (List Step)) (output : List ℕ)
+    (ends : Status) (printed : List ℕ) : Type 0 where
+  pub verdict : Verdict
+  pub judged : verdict ≡ verdict_of conf scripts output
+  pub text : printed ≡ verdict_text verdict
+  pub ended : ends ≡ ending_for verdict
