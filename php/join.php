@@ -25,11 +25,14 @@ if ($files === []) {
 // Of what a folder of the recorder has.
 $scripts = in_order(array_filter($files, fn (string $path): bool => preg_match('/\.(left|replies)$/D', $path) !== 1));
 $taken = taken($scripts, $is_one ? PHP_INT_MAX : MOST_WORKERS);
+if ($taken === []) {
+    give_up('none of these files is a script');
+}
 if ($is_one) {
     write_merged($taken);
 } else {
     foreach ($taken as $path) {
-        stream_copy_to_stream(opened($path), STDOUT);
+        copied($path);
     }
 }
 tell(count($taken) . ' of ' . count($scripts) . ' scripts');
@@ -76,6 +79,14 @@ function taken(array $scripts, int $most): array
     return $taken;
 }
 
+function copied(string $path): void
+{
+    $file = opened($path);
+    while (($text = (string) fread($file, 1 << 20)) !== '') {
+        put(STDOUT, $text);
+    }
+}
+
 /** All calls in the order of their seconds. In one second those of each process are spread evenly. */
 function write_merged(array $paths): void
 {
@@ -86,9 +97,9 @@ function write_merged(array $paths): void
         }
     }
     ksort($seconds);
-    fwrite(STDOUT, "worker\n");
+    put(STDOUT, "worker\n");
     foreach ($seconds as $scripts) {
-        fwrite(STDOUT, implode(spread($scripts)));
+        put(STDOUT, implode(spread($scripts)));
     }
 }
 

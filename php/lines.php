@@ -79,11 +79,29 @@ function members_of(string $text, int $at = 0): ?int
     return preg_match('/\Ga:([0-9]+):/', $text, $found, 0, $at) === 1 ? (int) $found[1] : null;
 }
 
-/** A file that must be there. */
+/** A file that must be there, and may be read or written. */
 function opened(string $path, string $mode = 'rb')
 {
+    if ($path === '' || is_dir($path)) {
+        give_up($path === '' ? 'a file without a name cannot be opened' : "$path is a folder");
+    }
     $file = @fopen($path, $mode);
-    return $file === false ? give_up("$path: " . (error_get_last()['message'] ?? 'no such file')) : $file;
+    return $file === false ? give_up("$path: " . reason()) : $file;
+}
+
+/** Writes all of a text on a stream that is told by a name. */
+function put($stream, string $text, string $name = 'the output'): void
+{
+    if (@fwrite($stream, $text) !== strlen($text)) {
+        give_up("$name: " . reason());
+    }
+}
+
+/** Why PHP could not do what was asked last, in the system's words. */
+function reason(): string
+{
+    $words = explode(': ', error_get_last()['message'] ?? 'it failed');
+    return preg_replace('/^.* errno=[0-9]+ /', '', end($words));
 }
 
 function tell(string $text): void

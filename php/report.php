@@ -1,13 +1,15 @@
 <?php
 
 // php report.php [--program PATH] [--html FILE] [--try "OPTIONS"].. INPUT
-// Plays an input of apcu_run once for each setting, and prints what came of it, as a table and as an HTML page.
+// Plays an input of apcu_run once for each setting, and prints what came of it, as a table and as an HTML page, which also
+// has a picture of each cache's words at the end.
 
 declare(strict_types=1);
 
 namespace ApcuRecord;
 
 require __DIR__ . '/lines.php';
+require __DIR__ . '/report/map.php';
 require __DIR__ . '/report/play.php';
 require __DIR__ . '/report/page.php';
 
@@ -17,17 +19,24 @@ const SETTINGS = [
     '--shm-size 16M --segments 2', '--shm-size 8M --segments 4',
 ];
 
+const USAGE = 'usage: php report.php [--program PATH] [--html FILE] [--try "OPTIONS"].. INPUT';
+
 [$program, $page, $settings, $input] = asked(array_slice($argv, 1));
 $played = with_questions($input);
-$rows = [];
-echo line('setting', array_values(COLUMNS));
+[$rows, $pictures] = [[], []];
+put(STDOUT, line('setting', array_values(COLUMNS)));
 foreach ($settings as $setting) {
     [$output, $message] = play($program, $setting, $played);
-    $rows[$setting] = $output === null ? $message : told($played, $output);
-    echo line($setting, is_array($rows[$setting]) ? shown_all($rows[$setting]) : $rows[$setting]);
+    if ($output === null) {
+        $rows[$setting] = $message;
+    } else {
+        [$rows[$setting], $cells] = told($played, $output);
+        $pictures[$setting] = $page === null ? '' : map_picture($cells);
+    }
+    put(STDOUT, line($setting, is_array($rows[$setting]) ? shown_all($rows[$setting]) : $rows[$setting]));
 }
 if ($page !== null) {
-    @file_put_contents($page, page(basename($input), $rows)) !== false || give_up("$page cannot be written");
+    put(opened($page, 'wb'), page(basename($input), $rows, $pictures), $page);
 }
 
 /** The program, the page, the settings and the input. */
@@ -37,17 +46,21 @@ function asked(array $words): array
     while ($words !== []) {
         $word = array_shift($words);
         match ($word) {
-            '--program' => $program = (string) array_shift($words),
-            '--html' => $page = (string) array_shift($words),
-            '--try' => $settings[] = (string) array_shift($words),
+            '--program' => $program = array_shift($words) ?? give_up(USAGE),
+            '--html' => $page = array_shift($words) ?? give_up(USAGE),
+            '--try' => $settings[] = array_shift($words) ?? give_up(USAGE),
             default => $inputs[] = $word,
         };
     }
-    if (count($inputs) !== 1 || $inputs[0][0] === '-') {
-        give_up('usage: php report.php [--program PATH] [--html FILE] [--try "OPTIONS"].. INPUT');
+    if (count($inputs) !== 1 || ($inputs[0][0] ?? '-') === '-') {
+        give_up(USAGE);
     }
-    if (!is_executable($program)) {
+    if (!is_file($program) || !is_executable($program)) {
         give_up("$program is no program: say where it is with --program");
+    }
+    if ($page !== null) {
+        // Told before minutes of play, and what stands there is kept until there is something new.
+        opened($page, 'cb');
     }
     return [$program, $page, $settings ?: SETTINGS, $inputs[0]];
 }
@@ -57,7 +70,7 @@ function line(string $setting, array|string $cells): string
 {
     return is_string($cells)
         ? sprintf("%-28s %s\n", $setting, $cells)
-        : vsprintf("%-28s %9s %8s %8s %8s %8s %10s %11s\n", [$setting, ...$cells]);
+        : vsprintf("%-28s %9s %8s %8s %8s %8s %10s %16s\n", [$setting, ...$cells]);
 }
 
 function shown_all(array $row): array
@@ -69,7 +82,7 @@ function shown(string $name, int|float $value): string
 {
     return match ($name) {
         'rate' => sprintf('%.2f %%', 100 * $value),
-        'used', 'gap' => sprintf('%.2f MB', $value / 1_048_576),
+        'used', 'free' => sprintf('%.2f MB', $value / 1_048_576),
         default => (string) $value,
     };
 }

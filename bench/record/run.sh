@@ -1,7 +1,8 @@
 #!/usr/bin/env bash
 # Debian's suites for PSR-6 and PSR-16 over Symfony's cache on PHP's APCu, with and without php/record.php: the results
-# are the same. Where a program is given, it plays what was recorded, random calls too, and each reply is compared with
-# APCu's. Then what recording costs.
+# are the same. What the recorder, join.php, report.php and map.php can't read or write is one line. Where a program is
+# given, it plays what was recorded, random calls too, and each reply is compared with APCu's; and a report is made of
+# it. Then what recording costs.
 # Usage: bench/record/run.sh [PROGRAM]; it needs php-apcu, php-uopz, phpunit, php-symfony-cache, php-psr-simple-cache
 # and php-cache-integration-tests. KEEP=FOLDER in the environment keeps what was recorded.
 set -eu
@@ -81,6 +82,32 @@ check_faults() {
     php "$here/../../php/join.php" "$work/full"/* >/dev/null 2>&1 || { echo 'full disk: no script' >&2; return 1; }
 }
 
+# A program ends with one line that has these words, and prints nothing else on the file.
+message() {
+    local words=$1 file=$2 of="$work/message"
+    shift 2
+    if php "$@" >"$file" 2>"$of" || [ "$(wc -l <"$of")" != 1 ] || ! grep -q "$words" "$of" || [ -s "$file" ]; then
+        echo "$1, '$words': another message: $(cat "$of")" >&2
+        return 1
+    fi
+    cat "$of"
+}
+
+check_messages() {
+    local folder="$here/../../php" out="$work/nothing" script
+    script=$work/script
+    printf 'worker\nrequest i:0;\napcu_enabled\n' >"$script"
+    message 'No such file' "$out" "$folder/join.php" "$work/none"
+    message 'is a folder' "$out" "$folder/join.php" "$work"
+    message 'No space left' /dev/full "$folder/join.php" "$script"
+    message 'No such file' "$out" "$folder/map.php" "$work/none"
+    message 'has no map' "$out" "$folder/map.php" "$script"
+    message 'No such file' "$out" "$folder/report.php" --program "$folder/../apcu_run" "$work/none"
+    message 'is a folder' "$out" "$folder/report.php" --program "$folder/../apcu_run" --html "$work" "$script"
+    message 'is no program' "$out" "$folder/report.php" --program "$work/none" "$script"
+    message 'no place' "$out" -d sys_temp_dir="$work/none" "$folder/report.php" --program "$folder/../apcu_run" "$script"
+}
+
 # The script of one process is taken by the program, and its replies are APCu's.
 check_script() {
     local name=$1 of
@@ -106,6 +133,18 @@ check_replies() {
     # Each script of the odd calls is taken, too.
     php "$here/../../php/join.php" "$work/answers"/* 2>/dev/null | "$program" --shm-size 64M >/dev/null || failed=1
     return "$failed"
+}
+
+# A report has a line for each setting, and the page a picture of each cache.
+check_report() {
+    local page="$work/page.html" script
+    script=$(ls "$work"/Simple.recorded/*.apcu)
+    php "$here/../../php/report.php" --program "$program" --html "$page" --try '--shm-size 1M' \
+        --try '--shm-size 1M --segments 2 --ttl 60' "$script" >"$work/table"
+    if [ "$(grep -c ' MB$' "$work/table")" != 2 ] || [ "$(grep -c '<svg' "$page")" != 2 ]; then
+        echo 'report: another table or page' >&2
+        return 1
+    fi
 }
 
 # Milliseconds of processor time of a whole program.
@@ -139,6 +178,10 @@ status=0
 check_suites || status=1
 check_answers || status=1
 check_faults || status=1
-[ -z "$program" ] || check_replies || status=1
+check_messages || status=1
+if [ -n "$program" ]; then
+    check_replies || status=1
+    check_report || status=1
+fi
 cost
 exit "$status"

@@ -1,6 +1,6 @@
 <?php
 
-// The report as one HTML file: a section for each column, with a bar for each setting.
+// The report as one HTML file: a section for each column, with a bar for each setting, and the map of each.
 
 declare(strict_types=1);
 
@@ -15,14 +15,21 @@ td:first-child { width: 17em; white-space: nowrap; font-family: monospace; }
 td:last-child { width: 7em; text-align: right; white-space: nowrap; }
 .bar { background: #4a7ab5; height: 1em; min-width: 1px; }
 .fault { color: #a00; }
+figure { margin: 0 0 1.2em; }
+figcaption { font-family: monospace; padding: .15em .5em; }
+svg { width: 100%; }
 CSS;
 
-function page(string $name, array $rows): string
+function page(string $name, array $rows, array $pictures): string
 {
     $title = 'The cache of ' . htmlspecialchars($name);
     $sections = '';
     foreach (COLUMNS as $column => $words) {
         $sections .= section($column, $words, $rows);
+    }
+    $sections .= $pictures === [] ? '' : "<h2>The words of each cache at the end</h2>\n";
+    foreach ($pictures as $setting => $picture) {
+        $sections .= '<figure><figcaption>' . htmlspecialchars($setting) . "</figcaption>\n$picture</figure>\n";
     }
     return "<!DOCTYPE html>\n<html lang=\"en\">\n<meta charset=\"utf-8\">\n<title>$title</title>\n<style>\n" . STYLE
         . "\n</style>\n<h1>$title</h1>\n$sections</html>\n";

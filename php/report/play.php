@@ -8,50 +8,56 @@ namespace ApcuRecord;
 
 const COLUMNS = [
     'rate' => 'hit rate', 'inserts' => 'inserts', 'refused' => 'refused', 'expunges' => 'expunges',
-    'entries' => 'entries', 'used' => 'in use', 'gap' => 'largest gap',
+    'entries' => 'entries', 'used' => 'in use', 'free' => 'largest free run',
 ];
-/** They change nothing and count nothing. */
-const QUESTIONS = "apcu_cache_info b:1;\napcu_sma_info b:0;\n";
+/** It changes nothing and counts nothing. */
+const QUESTION = "apcu_cache_info b:1;\n";
 
 /**
  * A copy of an input with questions in it: before each entry whether its row is there, which the entry's reply does not
- * tell; and at the end of each worker what the cache and its segments have come to.
+ * tell; and at the end of each worker what the cache has come to.
  */
 function with_questions(string $path): string
 {
-    $copy = (string) tempnam(sys_get_temp_dir(), 'apcu');
+    $from = opened($path);
+    $copy = @tempnam(sys_get_temp_dir(), 'apcu');
+    $copy !== false || give_up(sys_get_temp_dir() . ': there is no place for a copy of the input');
     register_shutdown_function(static fn () => unlink($copy));
     $out = opened($copy, 'wb');
+    $text = '';
     $is_first = true;
-    foreach (lines_of(opened($path)) as $line) {
+    foreach (lines_of($from) as $line) {
         $word = word_of($line);
         $key = $word === 'apcu_entry' ? key_of($line) : null;
-        $before = match (true) {
-            $word === 'worker' && !$is_first => QUESTIONS,
+        $text .= match (true) {
+            $word === 'worker' && !$is_first => QUESTION,
             $key !== null => 'apcu_exists s:' . strlen($key) . ":\"$key\";\n",
             default => '',
-        };
+        } . $line;
         $is_first = false;
-        fwrite($out, $before . $line);
+        if (strlen($text) > 65_536) {
+            put($out, $text, $copy);
+            $text = '';
+        }
     }
-    fwrite($out, $is_first ? '' : QUESTIONS);
-    fclose($out);
+    put($out, $text . ($is_first ? '' : QUESTION), $copy);
     return $copy;
 }
 
-/** What the program prints with these options, as a stream; or none, and its message. */
+/** What the program prints with these options and a map, as a stream; or none, and its message. */
 function play(string $program, string $setting, string $input): array
 {
-    $output = tmpfile();
+    $output = @tmpfile() ?: give_up(sys_get_temp_dir() . ': there is no place for an output');
     $words = preg_split('/ +/', $setting, -1, PREG_SPLIT_NO_EMPTY);
     $ends = [opened($input), $output, ['pipe', 'w']];
-    $process = proc_open([$program, ...$words], $ends, $pipes);
+    $process = @proc_open([$program, ...$words, '--map', '1'], $ends, $pipes);
     if ($process === false) {
-        give_up("$program cannot be started");
+        give_up("$program cannot be started: " . reason());
     }
     $message = trim((string) stream_get_contents($pipes[2]));
-    if (proc_close($process) !== 0) {
-        return [null, $message];
+    $status = proc_close($process);
+    if ($status !== 0) {
+        return [null, $message === '' ? "the program ended with status $status" : $message];
     }
     rewind($output);
     return [$output, ''];
@@ -59,9 +65,10 @@ function play(string $program, string $setting, string $input): array
 
 /**
  * What the replies tell: hits and stores in all of the play, for the cache's own counts begin anew at each expunge; and
- * the cache's shape at the end.
+ * the cache's shape and words at the end.
  *
  * @param resource $output
+ * @return array{array<string, int|float>, Cells} the row of a setting, and its map
  */
 function told(string $input, $output): array
 {
@@ -79,13 +86,15 @@ function told(string $input, $output): array
         $replies->next();
         match ($word) {
             'worker' => $worker++,
-            'apcu_cache_info', 'apcu_sma_info' => $ends[$worker][$word] = $reply,
+            'apcu_cache_info' => $ends[$worker] = $reply,
             'apcu_exists' => $exists = $reply,
             default => count_call($sums, $word, $line, $reply, $exists),
         };
     }
-    [$cache, $segments] = last_of($ends, $replies);
-    return summed($sums, $cache, $segments);
+    $cache = last_of($ends, $replies);
+    $replies->next();
+    [$cells, $largest] = map_of($replies);
+    return [summed($sums, $cache, $largest), $cells];
 }
 
 function count_call(array &$sums, string $word, string $line, string $reply, string $exists): void
@@ -107,37 +116,30 @@ function count_call(array &$sums, string $word, string $line, string $reply, str
 }
 
 /**
- * Of the last replies of each worker, those that came last: behind them there is no call but questions and ends. The
- * last event of a worker is its end, and the two before it are its questions.
+ * Of the last replies of each worker, the one that came last: behind it there is no call but questions and ends. The
+ * last event of a worker is its end, and the one before it is its question. The journal is read up to the map.
  */
 function last_of(array $ends, \Generator $journal): array
 {
     $places = [];
-    for ($place = 0; $journal->valid(); $journal->next(), $place++) {
+    for ($place = 0; $journal->valid() && $journal->current() !== "map\n"; $journal->next(), $place++) {
         $worker = (int) $journal->current();
         if ($place > 0) {
-            $places[$worker] = [...array_slice($places[$worker] ?? [], -2), $place];
+            $places[$worker] = [$places[$worker][1] ?? $place, $place];
         }
     }
-    [$cache, $segments, $at] = ['a:0:{}', 'a:0:{}', [-1, -1]];
-    foreach ($ends as $worker => $replies) {
-        if ($places[$worker][0] > $at[0]) {
-            [$cache, $at[0]] = [$replies['apcu_cache_info'], $places[$worker][0]];
-        }
-        if ($places[$worker][1] > $at[1]) {
-            [$segments, $at[1]] = [$replies['apcu_sma_info'], $places[$worker][1]];
+    [$cache, $at] = ['a:0:{}', -1];
+    foreach ($ends as $worker => $reply) {
+        if ($places[$worker][0] > $at) {
+            [$cache, $at] = [$reply, $places[$worker][0]];
         }
     }
-    return [unserialize($cache), unserialize($segments)];
+    return unserialize($cache);
 }
 
-/** The row of a setting, in the order of the columns. */
-function summed(array $sums, array $cache, array $segments): array
+/** The row of a setting, in the order of the columns. A word has eight bytes. */
+function summed(array $sums, array $cache, int $largest): array
 {
-    $gaps = [0];
-    foreach ($segments['block_lists'] ?? [] as $list) {
-        array_push($gaps, ...array_column($list, 'size'));
-    }
     $asked = $sums['hits'] + $sums['misses'];
     return [
         'rate' => $asked === 0 ? 0.0 : $sums['hits'] / $asked,
@@ -146,6 +148,6 @@ function summed(array $sums, array $cache, array $segments): array
         'expunges' => $cache['expunges'] ?? 0,
         'entries' => $cache['num_entries'] ?? 0,
         'used' => $cache['mem_size'] ?? 0,
-        'gap' => max($gaps),
+        'free' => 8 * $largest,
     ];
 }
