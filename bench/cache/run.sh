@@ -7,7 +7,9 @@
 # generator is made for each call, where PHP's is a closure that is there. Each figure is the least of the batches of
 # 10,000 calls or less of several runs of both, without what a loop takes that makes the key alone. Then milliseconds of
 # dropping 100,000 rows that fill a cache: by a clear, and by a store that finds no room while all rows' time is over;
-# and of telling of 10,000 rows, of which each tenth left a gap.
+# and of telling of 10,000 rows, of which each tenth left a gap. At last microseconds of a store of a new row, with a
+# text of 16 to 2,000 bytes, in 32 MB of which four fifths are taken: the median, that of each hundredth and thousandth,
+# and the worst.
 # Usage: bench/cache/run.sh [PROGRAM [RUNS [ROWS..]]], where PROGRAM is the built apcu_bench. SEGMENTS=N in the
 # environment cuts our words into so many segments.
 set -eu
@@ -72,3 +74,13 @@ for work in "clear 100000" "info 10000"; do
     printf '\n%-18s %9s %9s %7s\n' "$rows rows" ms php ratio
     table "" 1e9
 done
+
+: >"$scratch/ours" && : >"$scratch/php"
+for _ in $(seq "$runs"); do
+    "$program" cache churn 65536 "$segments" >>"$scratch/ours"
+    if [ -n "$php" ]; then
+        php -d apc.enable_cli=1 -d apc.shm_size=32M -d apc.entries_hint=65536 -d apc.ttl=3600 "$here/churn.php" 100000 >>"$scratch/php"
+    fi
+done
+printf '\n%-18s %9s %9s %7s\n' "stores at 80 %" us php ratio
+table "" 1e6

@@ -2,7 +2,8 @@
 // The calls of a generated run, with PHP's APCu in forked processes that share one segment: each draws its numbers
 // first, and then all make their calls. Prints the counters, a line each as `apcu_run --generate` prints them, and last
 // the nanoseconds a call, from the first start to the last end.
-// Usage: apcu.php SEED WORKERS CALLS
+// With the word `script` behind them it makes no call, and prints the calls as a script.
+// Usage: apcu.php SEED WORKERS CALLS [script]
 [, $seed, $workers, $calls] = array_map('intval', $argv);
 
 // The numbers of a worker: the upper 31 bits of states of 64 bits, each the one before times a constant and another one
@@ -26,6 +27,31 @@ function numbers(int $seed, int $worker, int $calls): array
         $drawn[] = $high >> 1;
     }
     return $drawn;
+}
+
+// A line of a script.
+function line(string $word, ...$args): string
+{
+    return implode(' ', [$word, ...array_map('serialize', $args)]) . "\n";
+}
+
+function call_of(int $r, int $worker, int $workers): string
+{
+    return match ($r & 3) {
+        3 => line('apcu_inc', 'c' . ($r >> 2 & 7), ($r >> 5) % 100),
+        2 => line('apcu_store', "p$worker." . ($r >> 2 & 15), str_repeat('x', ($r >> 6) % 200)),
+        default => line('apcu_fetch', 'p' . ($r >> 6) % $workers . '.' . ($r >> 2 & 15)),
+    };
+}
+
+if (($argv[4] ?? '') === 'script') {
+    for ($w = 0; $w < $workers; $w++) {
+        echo "worker\n";
+        foreach (numbers($seed, $w, $calls) as $r) {
+            echo call_of($r, $w, $workers);
+        }
+    }
+    return;
 }
 
 // All begin at once: each waits until the last has drawn its numbers.
@@ -57,7 +83,8 @@ for ($w = 0; $w < $workers; $w++) {
         }
         apcu_store("begun$w", $begin);
         apcu_store("ended$w", hrtime(true));
-        exit(0);
+        // A signal ends the child also where an extension has PHP ignore `exit`.
+        posix_kill(posix_getpid(), SIGKILL);
     }
 }
 for ($w = 0; $w < $workers; $w++) {

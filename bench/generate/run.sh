@@ -14,6 +14,8 @@ most=${3:-65000}
 seed=7
 scratch=$(mktemp -d)
 trap 'rm -rf "$scratch"' EXIT
+# The large pages that the wrapper asks for.
+export GLIBC_TUNABLES=glibc.malloc.hugetlb=1
 
 now() { date +%s%N; }
 

@@ -2,15 +2,16 @@
 // What `run.sh` plays, with PHP's APCu in forked processes that share one segment.
 // Usage: apcu.php apart|one|counter|text WORKERS CALLS BYTES EVERY
 [, $kind, $workers, $calls, $bytes, $every] = $argv;
-$text = str_repeat('z', (int) $bytes);
-apcu_store('k', $kind === 'text' ? $text : 1);
+$texts = [str_repeat('x', (int) $bytes), str_repeat('y', (int) $bytes), str_repeat('z', (int) $bytes)];
+apcu_store('k', $kind === 'text' ? $texts[2] : 1);
 $begin = hrtime(true);
 for ($w = 0; $w < $workers; $w++) {
     if (pcntl_fork() === 0) {
+        $stored = 0;
         for ($i = 0; $i < $calls; $i++) {
             if ($kind === 'text') {
                 if ($every && $i % $every == $every - 1) {
-                    apcu_store('k', $text);
+                    apcu_store('k', $texts[$stored++ % 3]);
                 } else {
                     $value = apcu_fetch('k');
                 }
@@ -29,7 +30,8 @@ for ($w = 0; $w < $workers; $w++) {
                 apcu_fetch($key);
             }
         }
-        exit(0);
+        // A signal ends the child also where an extension has PHP ignore `exit`.
+        posix_kill(posix_getpid(), SIGKILL);
     }
 }
 for ($w = 0; $w < $workers; $w++) {

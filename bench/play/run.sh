@@ -5,13 +5,16 @@
 # calls count on one counter (`counter`). apcu_run is the whole program, from a script to its output; `calls` leaves
 # out what as many lines `apcu_enabled` take, which are read and printed and are no events. PHP's figure is that of its
 # loop alone. Then microseconds of a fetch of one text of 100 bytes to 1 MB, printed whole, without the start of the
-# program, and beside stores of it.
+# program, and beside stores of such texts, of which each changes all words; at last seconds of one million calls of one
+# worker, half of them fetches, a quarter stores and a quarter counts, from a script to its output, beside PHP's loop.
 # Usage: bench/play/run.sh [PROGRAM]
 set -eu
 here=$(cd "$(dirname "${BASH_SOURCE[0]}")" && pwd)
 program=${1:-$here/../../crates/apcu_run/out/apcu_run}
 scratch=$(mktemp -d)
 trap 'rm -rf "$scratch"' EXIT
+# The large pages that the wrapper asks for.
+export GLIBC_TUNABLES=glibc.malloc.hugetlb=1
 . "$here/scripts.sh"
 
 # The least of three times of the program on a script, in microseconds.
@@ -69,3 +72,12 @@ for row in "100 200000" "10000 5000" "65536 800" "1000000 50"; do
         done
     done
 done
+
+if [ -n "$php" ]; then
+    generated 7 1000000 >"$scratch/script"
+    whole=$(spent "$scratch/script")
+    beside=$(php -d apc.enable_cli=1 -d apc.shm_size=32M -d apc.use_request_time=0 "$here/../generate/apcu.php" 7 1 1000000 |
+        tail -n 1)
+    echo
+    echo "$whole $beside" | awk '{ printf "a million calls: %.2f s from script to output, %.2f s in PHP'"'"'s loop\n", $1 / 1e6, $2 / 1e3 }'
+fi

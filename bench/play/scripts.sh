@@ -25,20 +25,29 @@ idle() {
 }
 
 # Scripts of workers that fetch a text of so many bytes, which the first call of worker 0 stores; one of so many calls
-# (0: none) stores it again.
+# (0: none) stores another one of that length: three texts in turn, so that each store changes all of its words.
 texts() {
-    awk -v workers="$1" -v calls="$2" -v bytes="$3" -v every="$4" 'BEGIN {
-        text = "z"
-        while (length(text) * 2 <= bytes) text = text text
-        text = text substr(text, 1, bytes - length(text))
-        value = "s:" bytes ":\"" text "\";"
-        for (w = 0; w < workers; w++) {
-            print "worker"
-            if (w == 0) print "apcu_store s:1:\"k\"; " value
-            for (i = 0; i < calls; i++) {
-                if (every && i % every == every - 1) print "apcu_store s:1:\"k\"; " value
-                else print "apcu_fetch s:1:\"k\";"
-            }
+    awk -v workers="$1" -v calls="$2" -v bytes="$3" -v every="$4" '
+        function of(letter, text) {
+            text = letter
+            while (length(text) * 2 <= bytes) text = text text
+            return "apcu_store s:1:\"k\"; s:" bytes ":\"" text substr(text, 1, bytes - length(text)) "\";"
         }
-    }'
+        BEGIN {
+            store[0] = of("x"); store[1] = of("y"); store[2] = of("z")
+            for (w = 0; w < workers; w++) {
+                print "worker"
+                if (w == 0) print store[2]
+                for (i = 0; i < calls; i++) {
+                    if (every && i % every == every - 1) print store[n++ % 3]
+                    else print "apcu_fetch s:1:\"k\";"
+                }
+            }
+        }'
+}
+
+# A script of the calls of one worker of a generated run: so many, with the program's own numbers from this seed. Half of
+# them fetch a text of 0 to 199 bytes, a quarter stores one, a quarter counts.
+generated() {
+    php "$(dirname "${BASH_SOURCE[0]}")/../generate/apcu.php" "$1" 1 "$2" script
 }

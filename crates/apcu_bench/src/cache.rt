@@ -2,9 +2,11 @@
 //! [SEGMENTS]` fills a cache with so many rows and as many slots, and prints for each kind of call
 //! several times the picoseconds of one, and how many calls answered true. `apcu_bench cache clear
 //! ROWS [SEGMENTS]` prints that of dropping all rows, and of dropping them because they are
-//! expired, and `apcu_bench cache info ROWS [SEGMENTS]` that of telling of them. Without arguments
-//! it does the same over few rows, and prints nothing.
+//! expired, and `apcu_bench cache info ROWS [SEGMENTS]` that of telling of them. `apcu_bench cache
+//! churn SLOTS [SEGMENTS]` prints what stores of new rows take in a cache of 64 words a slot that is
+//! kept at four fifths. Without arguments it does the same over few rows, and prints nothing.
 
+mod churning;
 mod keys;
 mod leaving;
 mod plan;
@@ -15,12 +17,16 @@ mod values;
 mod word_cache;
 
 use crate::args::{number_at, word_at};
+use crate::cache::churning::measure_churn;
 use crate::cache::leaving::measure_leaving;
 use crate::cache::plan::Plan;
 use crate::cache::staying::measure_staying;
 use crate::cache::telling::measure_telling;
 use crate::cache::values::Values;
 use std::io;
+
+// How many stores of new rows are measured.
+const CHURNED: u32 = 200_000;
 
 // Measures each kind of work over few rows, and prints nothing.
 fn measure_few(rt: &HostRuntime, values: &Values) -> io::Result<()> {
@@ -32,7 +38,8 @@ fn measure_few(rt: &HostRuntime, values: &Values) -> io::Result<()> {
     };
     measure_staying(rt, plan, values)?;
     measure_leaving(rt, plan, values)?;
-    measure_telling(rt, plan, values)
+    measure_telling(rt, plan, values)?;
+    measure_churn(rt, plan, 100)
 }
 
 // Measures the work of this name over so many rows.
@@ -56,6 +63,7 @@ fn measure_named(
     match what {
         "calls" => measure_staying(rt, plan, values),
         "info" => measure_telling(rt, plan, values),
+        "churn" => measure_churn(rt, plan, CHURNED),
         _ => measure_leaving(rt, plan, values),
     }
 }
