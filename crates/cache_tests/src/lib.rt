@@ -13,6 +13,8 @@ mod pair;
 #[cfg(test)]
 mod plainly;
 #[cfg(test)]
+mod readme;
+#[cfg(test)]
 mod small;
 #[cfg(test)]
 mod storing;
