@@ -1,12 +1,13 @@
 #!/usr/bin/env bash
-# Writes the table of crates of ARCHITECTURE.md, between its two marks: what each crate is, by the first sentence of its
-# own comment, what it stands on, by crates.txt, and the clauses that carry it, by the lines 'carries:' of claims.txt.
+# Writes the tables of crates of ARCHITECTURE.md, between its two marks: what each crate is, by the first sentence of its
+# own comment, what it stands on, by crates.txt, and the clauses that carry it, by the lines 'carries:' of claims.txt; and
+# whose proofs cite lemmas out of the proofs of a lower crate, by their imports.
 # With --check it writes nothing, and ends with status 1 where ARCHITECTURE.md is not what it would write.
 # Usage: docs/crates.sh [--check]
 set -eu
 cd "$(dirname "$0")/.."
 exec python3 - "$@" <<'PYTHON'
-import os, re, sys
+import glob, os, re, sys
 
 PAGE = "docs/ARCHITECTURE.md"
 BEGIN, END = "<!-- what stands from here on is written by crates.sh -->", "<!-- up to here -->"
@@ -56,9 +57,20 @@ def clauses(name):
                      for function, labels in carried.get(name, {}).items()) or "none"
 
 
+def cited(name):
+    """The files of other crates' proofs that its own proofs import."""
+    found = {}
+    for path in sorted(glob.glob(f"crates/{name}/proofs/**/*.antt", recursive=True)):
+        for crate, file in re.findall(r"^(?:pub )?use Rattle\.(\w+)\.proofs\.(\w+)", open(path, encoding="utf-8").read(), re.M):
+            if crate in below and crate != name:
+                found.setdefault(crate, set()).add(file)
+    return "; ".join(f"`{crate}`: {', '.join(f'`{file}`' for file in sorted(files))}" for crate, files in found.items())
+
+
 rows = "".join(f"| `{name}` | {about(name)} | {stands_on(name)} | {clauses(name)} |\n"
                for name in below if not name.endswith("_tests"))
 tests = "".join(f"| `{name}` | {about(name)} | {stands_on(name)} |\n" for name in below if name.endswith("_tests"))
+proofs = "".join(f"| `{name}` | {cited(name)} |\n" for name in below if cited(name))
 made = f"""
 | crate | what it is | stands on | clauses that carry it |
 |---|---|---|---|
@@ -66,6 +78,9 @@ made = f"""
 | crate of tests | what it is | stands on |
 |---|---|---|
 {tests}
+| crate whose proofs | cite proofs of |
+|---|---|
+{proofs}
 """
 page = open(PAGE, encoding="utf-8").read()
 before, begin, rest = page.partition(BEGIN)
