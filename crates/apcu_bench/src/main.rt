@@ -1,5 +1,7 @@
-//! Measures parts of the cache: `apcu_bench image ..`, `apcu_bench sma ..`, `apcu_bench pins ..` or
-//! `apcu_bench cache ..`. Without arguments it does a little of each, and prints nothing.
+//! Measures parts of the cache, and promises nothing to anybody.
+//!
+//! It is called as `apcu_bench image ..`, `apcu_bench sma ..`, `apcu_bench pins ..` or `apcu_bench
+//! cache ..`. Without arguments it does a little of each, and prints nothing.
 #![tactic(auto)]
 
 mod args;

@@ -1,4 +1,4 @@
-//! Plays scripts of apcu calls.
+//! The program: `main`, which hands its words and the standard streams to `apcu_play::run`.
 #![tactic(auto)]
 
 use apcu_iter::RegexMaker;

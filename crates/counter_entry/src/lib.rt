@@ -1,5 +1,5 @@
-//! Integers under keys of the cache over words: counters, and values that are set where they are as
-//! expected, which take no memory. And values by generators, of which one copy is made.
+//! Counters, compare-and-swap and values by generators, on the cache over words. What is counted or
+//! set takes no memory; of a generator's value one copy is made.
 #![tactic(auto)]
 
 mod answer;

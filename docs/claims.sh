@@ -1,0 +1,221 @@
+#!/usr/bin/env bash
+# Writes the tables of CLAIMS.md, between its two marks, from the rows of claims.txt and the lines 'clause:' of the edits.
+# It writes nothing and ends with status 1 where a row names a clause or a test that is not there, where an edit names no
+# clause, or one that stands in no row. With --check it writes nothing in any case, and ends with status 1 where CLAIMS.md
+# is not what it would write.
+# Usage: docs/claims.sh [--check]
+set -eu
+cd "$(dirname "$0")/.."
+exec python3 - "$@" <<'PYTHON'
+import glob, os, re, sys
+
+BEGIN, END = "<!-- what stands from here on is written by claims.sh -->", "<!-- up to here -->"
+HEAD = "| promise | clause | edits of the gate | further edits | tests |\n|---|---|---|---|---|\n"
+OWNER = re.compile(r"^( *)(?:pub(?:\([a-z ]+\))? )?(?:unsafe )?(impl|trait)\b(.*)")
+FUNCTION = re.compile(r"^( *)(?:pub(?:\([a-z ]+\))? )?(?:const )?(?:unsafe )?fn (\w+)")
+CLAUSE = re.compile(r"^ *(?:ensures|requires)\*? (?:(\w+) )?\{")
+DEFINED = re.compile(r"^(?=(?:\w+ )*(?:abbrev|record|data) )", re.M)
+faults = []
+
+
+# ---- the source
+
+def named(kind, rest):
+    """The trait, or none, and the type that an item 'impl' or 'trait' is about."""
+    depth = 0
+    for at, letter in enumerate(rest):
+        depth += (letter == "<") - (letter == ">" and rest[at - 1] != "-")
+        if depth == 0 and letter not in "<>":
+            break
+    words = rest[at + (rest[at] == ">"):] if rest.startswith("<") else rest
+    one, both, other = words.strip().partition(" for ")
+    names = [re.sub(r"^&?(?:'\w+ )?(?:mut )?(?:\w+::)*(\w+).*", r"\1", text.strip(), flags=re.S) for text in (one, other)]
+    if kind == "trait":
+        return None, re.match(r"\w+", words.strip()).group()
+    return (names[0], names[1]) if both else (None, names[0])
+
+
+def functions_in(path):
+    """Each function: the trait and type of its block, its name, its clauses by their labels, and whether it is a test."""
+    found, owner, indent, open_head, test = [], (None, None), None, False, False
+    for line in open(path, encoding="utf-8").read().split("\n"):
+        bare = line.strip()
+        if indent is not None and line == " " * indent + "}":
+            owner, indent = (None, None), None
+        block, function = OWNER.match(line), FUNCTION.match(line)
+        if block and not bare.endswith((";", "{}")):
+            owner, indent = named(block.group(2), block.group(3).strip()), len(block.group(1))
+        elif function and not open_head:
+            found.append((owner[0], owner[1], function.group(2), {}, test))
+            margin, test, open_head = function.group(1), False, not bare.endswith(("{", ";", "{}"))
+        elif open_head:
+            clause, clauses = CLAUSE.match(line), found[-1][3]
+            label = (clause.group(1) or "") if clause else next(reversed(clauses), None)
+            if label is not None:
+                clauses[label] = clauses.get(label, "") + line
+            open_head = line not in (margin + "{", margin + "{}") and not bare.endswith(";") \
+                and not (line.startswith(margin + ")") and bare.endswith("{"))
+        elif bare == "#[test]":
+            test = True
+    return found
+
+
+class Source:
+    """What the crates have: functions with their clauses, tests, and the definitions of specs/."""
+
+    def __init__(self):
+        self.functions, self.tests, self.traits, self.definitions = {}, set(), {}, {}
+        for path in sorted(glob.glob("crates/*/src/**/*.rt", recursive=True)):
+            crate = path.split("/")[1]
+            for trait, owner, name, clauses, test in functions_in(path):
+                if test:
+                    self.tests.add(f"{crate}::{name}")
+                key = f"{crate}::{owner}::{name}" if owner else f"{crate}::{name}"
+                self.functions.setdefault(key, []).append((trait, name, clauses))
+                if owner and not trait:
+                    self.traits.setdefault((owner, name), {}).update(clauses)
+        for path in glob.glob("crates/*/specs/*.antt"):
+            for text in DEFINED.split(open(path, encoding="utf-8").read())[1:]:
+                word = re.match(r"(?:\w+ )*?(?:abbrev|record|data) (?:pub )?(\S+)", text).group(1)
+                self.definitions[word] = self.definitions.get(word, "") + text
+
+    def clauses(self, path):
+        """A function's clauses by their labels. A method of a trait that has none of its own has the trait's."""
+        found = {}
+        for trait, name, clauses in self.functions.get(path, []):
+            found.update(clauses or (self.traits.get((trait, name), {"": ""}) if trait else {}))
+        return found
+
+    def fields(self, text):
+        """The fields of the records that a clause says, itself or by the types that it names."""
+        names, seen = re.findall(r"\b[A-Z]\w+", text), set()
+        while names:
+            name = names.pop()
+            if name in self.definitions and name not in seen:
+                seen.add(name)
+                names += re.findall(r"\b[A-Z]\w+", self.definitions[name])
+        return {field for name in seen for field in re.findall(r"^ +pub (\w+) :", self.definitions[name], re.M)}
+
+    def has_clause(self, path, label):
+        """A label, and behind a dot a field of what the clause says; of a clause without a label a field alone."""
+        clauses = self.clauses(path)
+        first, *rest = label.split(".")
+        if first not in clauses:
+            first, rest = "", label.split(".")
+        return first in clauses and set(rest) <= self.fields(clauses[first]) | {""}
+
+    def has_test(self, name):
+        """A test, or a crate: all its tests, or the stored run of a program."""
+        return name in self.tests or "::" not in name \
+            and (any(test.startswith(f"{name}::") for test in self.tests) or os.path.isfile(f"crates/{name}/stdin"))
+
+
+# ---- rows and edits
+
+class Clauses:
+    """A line of a row: a function's clauses, and the word by which they are meant, if one is named."""
+
+    def __init__(self, text, source, row):
+        text, _, self.by = text.partition(" by ")
+        self.path, *self.labels = text.split()
+        self.keys = [self.path + ("." + label if label else "") + (f" by {self.by}" if self.by else "")
+                     for label in self.labels or [""]]
+        for label in self.labels or [""]:
+            if not source.has_clause(self.path, label):
+                faults.append(f"claims.txt: no clause {self.path} {label}: {row}")
+        if self.by and self.by not in source.definitions:
+            faults.append(f"claims.txt: no definition {self.by}: {row}")
+
+    def __str__(self):
+        words = [f"`{label}`" for label in self.labels] + ([f"by `{self.by}`"] if self.by else [])
+        return f"`{self.path}`" + (f" ({', '.join(words)})" if words else "")
+
+
+def rows_of(source):
+    """The tables by their names, each a list of rows: a promise, its clauses, those that are alike, and its tests."""
+    tables = {}
+    for part in re.split(r"\n\s*\n", open("docs/claims.txt", encoding="utf-8").read()):
+        lines = [line.split(": ", 1) for line in part.split("\n") if line and not line.startswith("#")]
+        if lines and lines[0][0] == "table":
+            rows = tables.setdefault(lines[0][1], [])
+        elif lines:
+            row = {"promise": "", "clause": [], "alike": [], "test": []}
+            for word, text in lines:
+                if word == "promise":
+                    row["promise"] = text
+                elif word == "test":
+                    row["test"] += text.split()
+                else:
+                    row["alike" if word == "alike" else "clause"].append(Clauses(text, source, row["promise"]))
+            rows.append(row)
+    return tables
+
+
+def edits_of(source):
+    """By their clauses: the tier, crate and name of each edit."""
+    found = {}
+    for path in sorted(glob.glob("crates/*/must-fail/*.edit") + glob.glob("crates/*/more-edits/*.edit")):
+        _, crate, tier, name = path.split("/")
+        head = open(path, encoding="utf-8").read().split("file: ")[0]
+        keys = re.findall(r"^clause: (.*)$", head, re.M)
+        if not keys:
+            faults.append(f"{path}: no line 'clause:' before its line 'file:'")
+        for key in keys:
+            found.setdefault(key, []).append((tier, crate, name[:-len(".edit")], path))
+    return found
+
+
+def check(tables, edits, source):
+    rows = [row for table in tables.values() for row in table]
+    known = {key for row in rows for clauses in row["clause"] for key in clauses.keys}
+    for key, named_by in edits.items():
+        if key not in known:
+            faults.extend(f"{path}: no row has the clause {key}" for _, _, _, path in named_by)
+    for row in rows:
+        if not row["clause"]:
+            faults.append(f"claims.txt: no clause: {row['promise']}")
+        faults.extend(f"claims.txt: no test {test}: {row['promise']}" for test in row["test"] if not source.has_test(test))
+        faults.extend(f"claims.txt: no row has the clause {key}, which is said to be alike: {row['promise']}"
+                      for clauses in row["alike"] for key in clauses.keys if key not in known)
+
+
+# ---- the tables
+
+def names(clauses, tier, edits, home):
+    """The edits of one tier that name one of these clauses, each once, without the crate where it is the row's."""
+    found = [(crate, name) for each in clauses for key in each.keys for at, crate, name, _ in edits.get(key, []) if at == tier]
+    return [f"`{name}`" if crate == home else f"`{crate}::{name}`" for crate, name in dict.fromkeys(found)]
+
+
+def line_of(row, edits):
+    home = row["clause"][0].path.split("::")[0]
+    gate, further = (names(row["clause"], tier, edits, home) for tier in ("must-fail", "more-edits"))
+    others = [name for name in names(row["alike"], "must-fail", edits, home) if name not in gate]
+    tried = [", ".join(gate)] * bool(gate) + ["alike: " + ", ".join(others)] * bool(others)
+    cells = [row["promise"], "; ".join(str(each) for each in row["clause"]), "; ".join(tried) or "none",
+             ", ".join(further), ", ".join(f"`{test}`" for test in row["test"])]
+    return "| " + " | ".join(cells) + " |\n"
+
+
+def main(words):
+    source = Source()
+    tables, edits = rows_of(source), edits_of(source)
+    check(tables, edits, source)
+    if faults:
+        sys.exit("\n".join(dict.fromkeys(faults)))
+    text = "\n\n".join(f"## {name}\n\n{HEAD}{''.join(line_of(row, edits) for row in rows)}".rstrip()
+                       for name, rows in tables.items())
+    page = open("docs/CLAIMS.md", encoding="utf-8").read()
+    before, begin, rest = page.partition(BEGIN)
+    _, end, after = rest.partition(END)
+    if not begin or not end:
+        sys.exit("docs/CLAIMS.md: the two marks are not there")
+    made = f"{before}{BEGIN}\n\n{text}\n\n{END}{after}"
+    if words == ["--check"] and made != page:
+        sys.exit("docs/CLAIMS.md is not what docs/claims.sh writes")
+    if words == []:
+        open("docs/CLAIMS.md", "w", encoding="utf-8").write(made)
+
+
+main(sys.argv[1:])
+PYTHON
