@@ -13,12 +13,7 @@ use std::test::Fail;
 fn stored(alloc: Global, key: &[u8], number: i64) -> Result<Look, AllocError>
     requires short { length key.now < 2 ^ 32 }
 {
-    let conf = Conf {
-        words: 8192,
-        slots: 64,
-        ttl: 0,
-        segments: 1,
-    };
+    let conf = Conf::usual();
     let mut words = VecWords::new(alloc, conf.words)?;
     let gaps = MaxRow::new(alloc, conf.words as usize / 4)?;
     let mut cache = Core::format(&mut words, &conf, gaps);
