@@ -1,5 +1,5 @@
 -- What taking and giving leave, with the index, the chain and the count.
-use Rattle.std.proofs.Common.{◌≡◌, ◌≢◌, inl, inr, ℕ, ◌+◌, ◌-◌, ◌*◌, ◌/◌, ◌%◌, ◌^◌, ◌<◌, ◌≤◌, false, List, length, get_or, set, slice_index, Option, Some, None, [], ◌∷◌, zero, suc, MatchOption, sym, ap, ◌∙◌, subst, arith}
+use Rattle.std.proofs.Common.{◌≡◌, ◌≢◌, inl, inr, ℕ, ◌+◌, ◌-◌, ◌*◌, ◌/◌, ◌%◌, ◌^◌, ◌<◌, ◌≤◌, false, List, length, get_or, slice_index, Option, Some, None, MatchOption, sym, ap, ◌∙◌, subst, arith}
 use Rattle.std.proofs.lemmas.Bool.{cases_lt}
 use Rattle.max_tree.specs.Halves.{other_half, MayStand}
 use Rattle.seg_words.specs.Windows.{Aside}
@@ -21,12 +21,6 @@ use Rattle.sma_blocks.proofs.Finding.{take_found}
 use Rattle.sma_blocks.proofs.Relinking.{IsLastTold, Relinked, relinked, relinked_same, relinked_at, link_inside, link_apart}
 use Rattle.sma_blocks.proofs.Cutting.{inside, size_even, index_inside, rest_inside, rest_stands, take_indexed, take_counted, next_small, take_linked}
 use Rattle.sma_blocks.proofs.Readying.{ready_by}
-
--- a word that is right already is the same after a store
-pub set_own : (xs : List ℕ) (i v : ℕ) → i < length xs → get_or xs i 0 ≡ v → set xs i v ≡ xs
-set_own [] i v inside same = absurd (omega arith)
-set_own (x ∷ xs) zero v inside same = ap (λ (y : ℕ). y ∷ xs) (sym same)
-set_own (x ∷ xs) (suc i) v inside same = ap (λ (ys : List ℕ). x ∷ ys) (set_own xs i v (omega arith) same)
 
 pub may_store_seen : (ws ws' : List ℕ) (one two : Aside) (i : ℕ) → ws' ≡ ws → two ≡ one → MayStore ws one.windows i → MayStore ws' two.windows i
 may_store_seen ws ws' one two i words aside h =

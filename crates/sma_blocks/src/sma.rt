@@ -32,8 +32,9 @@ struct Part {
 /// The shared memory allocator: blocks and gaps that fill the words of a segment from a place on.
 ///
 /// All places and sizes are even numbers of words. The second word of a gap is the place of the
-/// next one, or 0. An index in plain memory finds the gap that a call needs, so that no call walks;
-/// it is made from the row that `format` is handed, and no call takes memory.
+/// next one, or 0. A call that needs a gap tries a few of them, and an index in plain memory then
+/// finds it, so that no call walks; the index is made from the row that `format` is handed, and no
+/// call takes memory.
 pub struct Sma {
     /// The place of the first block or gap.
     pub from: u32,
