@@ -10,6 +10,8 @@ use std::marker::Model;
 
 // How many numbers a page has: two lines of the processor's cache.
 pub const PAGE: usize = 32;
+// How many numbers are tested at once where the last one is asked for.
+pub const HALF: usize = 16;
 
 /// A row of numbers in pages, with the largest number of each page in a tree.
 ///
@@ -123,8 +125,7 @@ impl MaxRow {
         ensures last { MatchOption result (Unit {0})
             (λ q. (k : ℕ) → q < k → k < p → slice_index self.now k ≡ 0) }
     {
-        let start = p / PAGE * PAGE;
-        if let Some(q) = pages::last_in(self.numbers.as_slice(), start, p) {
+        if let Some(q) = pages::last_near(self.numbers.as_slice(), p) {
             return Some(q);
         }
         let Some(k) = self.tops.last_nonzero_before(p / PAGE) else {

@@ -109,6 +109,30 @@ past_some (p ∷ ps) at v some low e = elim (cases_Bool p.live) [
   ]
 ]
 
+abbrev place_of : Option Extent → ℕ
+place_of None = 0
+place_of (Some e) = e.place
+
+-- where a gap begins at or past the place the first one begins no later
+past_least : (ws : List ℕ) (a : ℕ) (ps : List Tile) (b at q : ℕ) (e : Extent) → Fill ws a ps b → size_at ps q ≢ 0 → at ≤ q → past at ps ≡ Some e → e.place ≤ q
+past_least ws a [] b at q e h some low is = absurd (some refl)
+past_least ws a (p ∷ ps) b at q e h some low is = elim (cases_Bool p.live) [
+  | inl live ↦
+      past_least ws (a + p.size) ps b at q e h.1 (λ z. some (omega (arith, here_live p q live))) low (sym (past_live at p ps live) ∙ is)
+  | inr gap ↦ elim (cases_lt p.place at) [
+    | inl under ↦
+        let skip : past at (p ∷ ps) ≡ past at ps = past_gap at p ps gap ∙ ap (λ (t : Bool). cond t (Some (tile_extent p)) (past at ps)) (lt-leb at p.place under) in
+        past_least ws (a + p.size) ps b at q e h.1 (λ z. some (omega (arith, here_other p q (λ x. omega arith)))) low (sym skip ∙ is)
+    | inr high ↦
+        let found : past at (p ∷ ps) ≡ Some (tile_extent p) = past_gap at p ps gap ∙ ap (λ (t : Bool). cond t (Some (tile_extent p)) (past at ps)) (le-leb at p.place high) in
+        let place : e.place ≡ p.place = ap place_of (sym is ∙ found) in
+        elim (cases_lt q a) [
+          | inl before ↦ absurd (some (size_outside ws a (p ∷ ps) b q h (inl before)))
+          | inr behind ↦ omega (arith, h.0.place)
+        ]
+  ]
+]
+
 abbrev pub pair_of : Extent → ℕ × ℕ
 pair_of run = (run.place, run.size)
 
@@ -145,7 +169,7 @@ module _ {sma : Sma} {ws : List ℕ} {aside : Aside} (ready : IsReady sma ws asi
   answer : (r : Option Extent) → past at all ≡ r → option_map pair_of r ≡ option_map pair_of (find (λ (run : Extent). nat_le at run.place) (free_runs sma.from sma.to sma.piece (live_blocks ws sma.from)))
   answer r is = ap (option_map pair_of) (sym is ∙ ap (find (λ (run : Extent). nat_le at run.place)) (sym runs))
 
-  pub ask_small : at + 2 ≤ length ws → (v ≤ length ws) × (v / 2 < length sma.sizes)
+  pub ask_small : 2 ≤ length ws → (v ≤ length ws) × (v / 2 < length sma.sizes)
   ask_small inside =
       let room = ready.indexed.room in
       elim first [
@@ -185,6 +209,29 @@ module _ {sma : Sma} {ws : List ℕ} {aside : Aside} (ready : IsReady sma ws asi
         absurd (past_some all at 0 (λ e. some (told_zero ∙ e)) (omega arith) nothing.0)
     | inr found ↦
         ap (λ (n : ℕ). Some (v, n)) (size_is size is found.2) ∙ answer (Some (record { place = v; size = size_at all v })) found.0
+  ]
+
+  -- what the index tells of that gap and of the places before it
+  pub ask_next : (size : ℕ) → size ≡ get_or sma.sizes (v / 2) 0 → size ≢ 0 → at ≤ v → (v % 2 ≡ 0) × ((k : ℕ) → at ≤ k + k → k < v / 2 → get_or sma.sizes k 0 ≡ 0)
+  ask_next size is some low = elim first [
+    | inl nothing ↦
+        let zero : v ≡ 0 = nothing.1 in
+        let half_zero : v / 2 ≡ 0 = omega arith in
+        let told_zero : size ≡ size_at all 0 = is ∙ ap (λ (k : ℕ). get_or sma.sizes k 0) half_zero ∙ ready.indexed.told 0 in
+        absurd (past_some all at 0 (λ e. some (told_zero ∙ e)) (omega arith) nothing.0)
+    | inr found ↦
+        let even_place : v % 2 ≡ 0 = elim (cases_eq (v % 2) 0) [
+          | inr odd ↦ absurd (omega (arith, found.2, size_odd ws sma.from all (length ws) v ready.formatted.full even (omega arith)))
+          | inl is_even ↦ is_even
+        ] in (
+          even_place,
+          λ k from under. elim (cases_eq (size_at all (k + k)) 0) [
+            | inl none ↦ ready.indexed.told k ∙ none
+            | inr gap ↦
+                let least : v ≤ k + k = past_least ws sma.from all (length ws) at (k + k) _ ready.formatted.full gap from found.0 in
+                absurd (omega arith)
+          ],
+        )
   ]
 
 -- no gap begins in the last two words

@@ -1,18 +1,18 @@
 -- What taking and giving leave, with the index, the chain and the count.
-use Rattle.std.proofs.Common.{◌≡◌, ◌≢◌, inl, inr, ℕ, ◌+◌, ◌-◌, ◌*◌, ◌/◌, ◌%◌, ◌^◌, ◌<◌, ◌≤◌, false, List, length, get_or, set, slice_index, Option, Some, None, [], ◌∷◌, zero, suc, MatchOption, sym, ap, ◌∙◌, subst, arith}
+use Rattle.std.proofs.Common.{◌≡◌, ◌≢◌, inl, inr, ℕ, ◌+◌, ◌-◌, ◌*◌, ◌/◌, ◌%◌, ◌^◌, ◌<◌, ◌≤◌, false, List, length, get_or, slice_index, Option, Some, None, MatchOption, sym, ap, ◌∙◌, subst, arith}
 use Rattle.std.proofs.lemmas.Bool.{cases_lt}
-use Rattle.std.specs.Prelude.{nat_le}
-use Rattle.std.specs.List.{position}
 use Rattle.max_tree.specs.Halves.{other_half, MayStand}
 use Rattle.seg_words.specs.Windows.{Aside}
 use Rattle.seg_words.specs.Blocks.{MayStore}
 use Rattle.seg_words.specs.Gaps.{fits}
 use Rattle.sma_blocks.specs.declared.sma.Sma.{Sma}
+use Rattle.sma_blocks.specs.declared.sma.near.Fit.{Fit}
 use Rattle.sma_blocks.specs.Tiles.{tiles}
 use Rattle.sma_blocks.specs.Live.{lives, gap_words, live_blocks, with_block, SameBlocks}
 use Rattle.sma_blocks.specs.Index.{size_at, IsIndexed, IsShort}
 use Rattle.sma_blocks.specs.Chain.{AreLinked}
 use Rattle.sma_blocks.specs.Ready.{IsReady}
+use Rattle.sma_blocks.specs.Fits.{IsFit}
 use Rattle.sma_blocks.specs.Walk.{cut_words, relinked_words, relinked_head}
 use Rattle.sma_blocks.proofs.Spans.{span_of, filled_of}
 use Rattle.sma_blocks.proofs.Places.{FitParts}
@@ -21,12 +21,6 @@ use Rattle.sma_blocks.proofs.Finding.{take_found}
 use Rattle.sma_blocks.proofs.Relinking.{IsLastTold, Relinked, relinked, relinked_same, relinked_at, link_inside, link_apart}
 use Rattle.sma_blocks.proofs.Cutting.{inside, size_even, index_inside, rest_inside, rest_stands, take_indexed, take_counted, next_small, take_linked}
 use Rattle.sma_blocks.proofs.Readying.{ready_by}
-
--- a word that is right already is the same after a store
-pub set_own : (xs : List ℕ) (i v : ℕ) → i < length xs → get_or xs i 0 ≡ v → set xs i v ≡ xs
-set_own [] i v inside same = absurd (omega arith)
-set_own (x ∷ xs) zero v inside same = ap (λ (y : ℕ). y ∷ xs) (sym same)
-set_own (x ∷ xs) (suc i) v inside same = ap (λ (ys : List ℕ). x ∷ ys) (set_own xs i v (omega arith) same)
 
 pub may_store_seen : (ws ws' : List ℕ) (one two : Aside) (i : ℕ) → ws' ≡ ws → two ≡ one → MayStore ws one.windows i → MayStore ws' two.windows i
 may_store_seen ws ws' one two i words aside h =
@@ -55,23 +49,23 @@ pub record Seen (sma : Sma) (ws : List ℕ) (aside : Aside) (n index size : ℕ)
   pub next : slice_index ws (2 * index + 1) ≤ length ws
   pub left : n ≤ sma.free
 
-pub seen : FitParts → (sma : Sma) (ws : List ℕ) (aside : Aside) (n index size : ℕ) (found : Option ℕ) → IsReady sma ws aside → found ≡ position (λ value. nat_le n value) sma.sizes → found ≡ Some index → n % 2 ≡ 0 → 2 ≤ n → size ≡ get_or sma.sizes index 0 → Seen sma ws aside n index size
-seen parts sma ws aside n index size found ready first is even some same =
-    let twice : 2 * index ≡ index + index = omega arith in
-    let there = take_found parts (span_of sma) ws aside sma.sizes n index (2 * index) (filled_of ready) ready.indexed (sym first ∙ is) even some twice in
-    let room : Room (span_of sma) ws aside (2 * index) size n = subst (λ (x : ℕ). Room (span_of sma) ws aside (2 * index) x n) (sym same) there.0 in
+pub seen : FitParts → (sma : Sma) (ws : List ℕ) (aside : Aside) (n : ℕ) (fit : Fit) → IsReady sma ws aside → IsFit sma.sizes n fit → n % 2 ≡ 0 → 2 ≤ n → Seen sma ws aside n fit.index fit.size
+seen parts sma ws aside n fit ready is even some =
+    let twice : 2 * fit.index ≡ fit.index + fit.index = omega arith in
+    let there = take_found parts (span_of sma) ws aside sma.sizes n fit.index (2 * fit.index) (filled_of ready) ready.indexed is.first even some twice in
+    let room : Room (span_of sma) ws aside (2 * fit.index) fit.size n = subst (λ (x : ℕ). Room (span_of sma) ws aside (2 * fit.index) x n) (sym is.size) there.0 in
     let enough = room.enough in
     record {
       room = room;
       none = there.1;
-      inside_is = inside room sma.sizes index ready.indexed twice;
-      even = size_even room sma.sizes index ready.indexed twice;
-      there = index_inside room sma.sizes index ready.indexed twice;
-      rest_there = rest_inside room sma.sizes index ready.indexed twice;
-      some = λ e. omega arith;
-      stands = rest_stands room sma.sizes index ready.indexed twice;
-      next = next_small room sma.sizes index ready.indexed twice sma.head ready.linked;
-      left = (take_counted room sma.sizes index ready.indexed twice sma.free ready.counted).0;
+      inside_is = inside room sma.sizes fit.index ready.indexed twice;
+      even = size_even room sma.sizes fit.index ready.indexed twice;
+      there = index_inside room sma.sizes fit.index ready.indexed twice;
+      rest_there = rest_inside room sma.sizes fit.index ready.indexed twice;
+      some = λ e. omega (arith, is.size);
+      stands = rest_stands room sma.sizes fit.index ready.indexed twice;
+      next = next_small room sma.sizes fit.index ready.indexed twice sma.head ready.linked;
+      left = (take_counted room sma.sizes fit.index ready.indexed twice sma.free ready.counted).0;
     }
 
 pub small_rest : (v at size n : ℕ) (ws : List ℕ) → (n < size → v ≡ at + n) → (size ≤ n → v ≡ slice_index ws (at + 1)) → at + size ≤ length ws → slice_index ws (at + 1) ≤ length ws → length ws < 2 ^ 32 → v < 2 ^ 32

@@ -30,3 +30,8 @@ ready_by sma words aside short even filled indexed linked counted = record {
   linked = linked;
   counted = counted;
 }
+
+-- words and windows that stayed are as ready
+pub ready_kept : {sma : Sma} {words words' : List ℕ} {aside aside' : Aside} → words' ≡ words → aside' ≡ aside → IsReady sma words aside → IsReady sma words' aside'
+ready_kept {sma} {words} {words'} {aside} {aside'} same beside h =
+    subst (λ (a : Aside). IsReady sma words' a) (sym beside) (subst (λ (xs : List ℕ). IsReady sma xs aside) (sym same) h)

@@ -16,6 +16,8 @@ ghost use Rattle.sma_blocks.specs.Walk.{IsEdge, IsFreeBefore, IsFreeAfter, merge
 ghost use Rattle.max_tree.specs.Halves.{other_half, MayStand};
 ghost use Rattle.sma_blocks.specs.Index.{IsShort, IsJoined};
 
+mod near;
+
 use crate::stores::{cut, link_new, link_of, merge, next_of, relink, rest_of};
 use max_tree::{MaxRow, PairRow};
 use seg_words::{Segment, begins_segment, fit_laws, segment_of};
@@ -30,8 +32,9 @@ struct Part {
 /// The shared memory allocator: blocks and gaps that fill the words of a segment from a place on.
 ///
 /// All places and sizes are even numbers of words. The second word of a gap is the place of the
-/// next one, or 0. An index in plain memory finds the gap that a call needs, so that no call walks;
-/// it is made from the row that `format` is handed, and no call takes memory.
+/// next one, or 0. A call that needs a gap tries a few of them, and an index in plain memory then
+/// finds it, so that no call walks; the index is made from the row that `format` is handed, and no
+/// call takes memory.
 pub struct Sma {
     /// The place of the first block or gap.
     pub from: u32,
@@ -120,16 +123,14 @@ impl Sma {
         ensures beside { KeptBeside S.WordsIn seg.old seg.new }
     {
         fit_laws();
-        let Some(index) = self.sizes.first_at_least(n) else {
+        let Some(fit) = self.fit(seg, n) else {
             return None;
         };
-        let size = self.sizes.get(index);
-        let at = 2 * index as u32;
-        let before = self.sizes.last_nonzero_before(index);
-        let rest = rest_of(seg, at, size, n);
-        shorten(&mut self.sizes, index, size, n);
-        cut(seg, at, size, n);
-        relink(seg, &mut self.head, before, rest);
+        let at = 2 * fit.index as u32;
+        let rest = rest_of(seg, at, fit.size, n);
+        shorten(&mut self.sizes, fit.index, fit.size, n);
+        cut(seg, at, fit.size, n);
+        relink(seg, &mut self.head, fit.before, rest);
         self.free -= n;
         Some(at)
     }

@@ -7,19 +7,6 @@ ghost use Rattle.sma_blocks.specs.Walk.{link_before};
 
 use seg_words::Segment;
 
-// Makes `w` the word at place `i`. A word that is right already is not stored again, since a store
-// into words that others read costs ten loads.
-pub fn put<S: Segment>(seg: &mut S, i: u32, w: u64)
-    requires place { i < length (S.words seg.old) }
-    requires apart { MayStore (S.words seg.old) (S.aside seg.old).windows i }
-    ensures words { S.words seg.new ≡ slice_set (S.words seg.old) i w }
-    ensures beside { KeptBeside S.WordsIn seg.old seg.new }
-{
-    if seg.load(i) != w {
-        seg.store(i, w);
-    }
-}
-
 // Makes a block of the first `n` words of the gap at `at`, and a gap of what is left of it, with
 // its link.
 pub fn cut<S: Segment>(seg: &mut S, at: u32, size: u32, n: u32)
@@ -32,10 +19,10 @@ pub fn cut<S: Segment>(seg: &mut S, at: u32, size: u32, n: u32)
 {
     if n < size {
         let next = seg.load(at + 1);
-        put(seg, at + n, u64::from(size - n) + 1);
-        put(seg, at + n + 1, next);
+        seg.store(at + n, u64::from(size - n) + 1);
+        seg.store(at + n + 1, next);
     }
-    put(seg, at, u64::from(n));
+    seg.store(at, u64::from(n));
 }
 
 // Makes a gap of the words from `first` up to `last`, with the link `next`.
@@ -46,8 +33,8 @@ pub fn merge<S: Segment>(seg: &mut S, first: u32, last: u32, next: u64)
     ensures words { S.words seg.new ≡ merged_words (S.words seg.old) first last next }
     ensures beside { KeptBeside S.WordsIn seg.old seg.new }
 {
-    put(seg, first, u64::from(last - first) + 1);
-    put(seg, first + 1, next);
+    seg.store(first, u64::from(last - first) + 1);
+    seg.store(first + 1, next);
 }
 
 // The link of the gap at the even place of that number, or the head where there is no such gap.
@@ -141,7 +128,7 @@ pub fn relink<S: Segment>(seg: &mut S, head: &mut u32, before: Option<usize>, ne
     ensures beside { KeptBeside S.WordsIn seg.old seg.new }
 {
     match before {
-        Some(q) => put(seg, 2 * q as u32 + 1, next),
+        Some(q) => seg.store(2 * q as u32 + 1, next),
         None => *head = next as u32,
     }
 }

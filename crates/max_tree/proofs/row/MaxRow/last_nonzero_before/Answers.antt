@@ -15,12 +15,12 @@ pub returns-clause-found : goal.returns-clause-found
 returns-clause-found c =
     let first : c.as_slice.result.now ≡ c.self.inside.numbers.items = cc in
     let found = c.in-Some-last_nonzero_before.ensures in
-    let is = last_seen c.self.inside.numbers.items c.as_slice.result.now c.as_slice-2.result.now c.args.self.now c.self.inside.tops c.args.p c.in-Some-last_nonzero_before.k c.last_in-2.result first c.as_slice-2.ensures.value c.self.view_is c.self.invariant found.found found.last c.in_default.ensures.none c.last_in-2.ensures.none c.last_in-2.ensures.found in
+    let is = last_seen c.self.inside.numbers.items c.as_slice.result.now c.as_slice-2.result.now c.args.self.now c.self.inside.tops c.args.p c.in-Some-last_nonzero_before.k c.last_in.result first c.as_slice-2.ensures.value c.self.view_is c.self.invariant found.found found.last c.in_default.ensures.none c.last_in.ensures.none c.last_in.ensures.found in
     is.found
 
 pub returns-clause-last : goal.returns-clause-last
 returns-clause-last c =
     let first : c.as_slice.result.now ≡ c.self.inside.numbers.items = cc in
     let found = c.in-Some-last_nonzero_before.ensures in
-    let is = last_seen c.self.inside.numbers.items c.as_slice.result.now c.as_slice-2.result.now c.args.self.now c.self.inside.tops c.args.p c.in-Some-last_nonzero_before.k c.last_in-2.result first c.as_slice-2.ensures.value c.self.view_is c.self.invariant found.found found.last c.in_default.ensures.none c.last_in-2.ensures.none c.last_in-2.ensures.found in
+    let is = last_seen c.self.inside.numbers.items c.as_slice.result.now c.as_slice-2.result.now c.args.self.now c.self.inside.tops c.args.p c.in-Some-last_nonzero_before.k c.last_in.result first c.as_slice-2.ensures.value c.self.view_is c.self.invariant found.found found.last c.in_default.ensures.none c.last_in.ensures.none c.last_in.ensures.found in
     is.last
