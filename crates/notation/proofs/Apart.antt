@@ -1,10 +1,9 @@
 -- No text of a value is the front of another, whatever is added to the numbers of places: two texts that
 -- begin alike have the same first token, and so on.
-use Rattle.std.proofs.Common.{◌≡◌, ℕ, zero, suc, ◌+◌, ◌-◌, ◌^◌, ◌<◌, ◌≤◌, Bool, true, false, cond, eqb, List, [], ◌∷◌, ◌++◌, length, map, Option, Some, None, Result, Ok, Err, ℤ, pos, negsuc, FitsSigned, w64, refl, sym, ap, ap₂, subst, ◌∙◌, append_assoc, arith, codes, add-one}
-use Rattle.std.specs.Prelude.{nat_le, slice_get, if◌then◌else◌}
-use Rattle.std.specs.Fmt.{decimal, signed_decimal}
+use Rattle.std.proofs.Common.{◌≡◌, ℕ, zero, suc, ◌+◌, ◌^◌, ◌<◌, ◌≤◌, Bool, true, false, cond, eqb, List, [], ◌∷◌, ◌++◌, length, map, Option, Some, None, Result, Ok, ℤ, pos, negsuc, FitsSigned, w64, refl, sym, ap, ap₂, subst, ◌∙◌, append_assoc, arith, codes}
+use Rattle.std.specs.Prelude.{nat_le, if◌then◌else◌}
+use Rattle.std.specs.Fmt.{decimal}
 use Rattle.std.specs.List.{AllByRecursion}
-use Rattle.std.proofs.lemmas.List.{append-nil}
 use Rattle.php_graph.specs.declared.key.Key.{Key}
 use Rattle.php_graph.specs.declared.key.Key.TheVariants as keys
 use Rattle.php_graph.specs.declared.child.Child.{Child}
@@ -16,14 +15,14 @@ use Rattle.php_graph.specs.declared.item.Item.TheVariants as items
 use Rattle.php_graph.specs.Graph.{kind_at, levels, child_end, ends_after, children_of, end_of, IsGraph, FitsKind, FitsKey}
 use Rattle.php_graph.specs.Building.{named, is_container}
 use Rattle.notation.specs.declared.fault.Fault.{Fault}
-use Rattle.notation.specs.declared.fault.Reason.TheVariants.{End, Tag}
+use Rattle.notation.specs.declared.fault.Reason.TheVariants.{End}
 use Rattle.notation.specs.Marks.{◌>>=◌, fail, mark_at, number_as, as_truth, sized_at, string_at, integer_at, count_at}
-use Rattle.notation.specs.Notation.{key_text, array_head, object_head, member_texts, kind_text, child_text, text_from}
-use Rattle.notation.specs.Parts.{members_of, start_text, members_rest_text}
+use Rattle.notation.specs.Notation.{key_text, member_texts, kind_text, child_text, text_from}
+use Rattle.notation.specs.Parts.{members_of, start_text}
 use Rattle.notation.specs.Reading.{key_tagged_at}
 use Rattle.notation.proofs.Again.{ReadBack, as_read, truth_read, sized_read, string_read, integer_read, count_read}
 use Rattle.notation.proofs.Takes.{item_text, int_text, str_text, same_text, back_text, array_text, object_text, truth_text}
-use Rattle.notation.proofs.Texts.{held_by, kind_split, IsOwn, own_at, no_level, then_some, some_same, back_text as back_words}
+use Rattle.notation.proofs.Texts.{held_by, kind_split, own_at, no_level, then_some, some_same, back_text as back_words}
 use Rattle.notation.proofs.Spelled.{own_from, shared_at, ends_up, child_up, few_members, all_at, names_fit, held_len, within_at}
 use Rattle.notation.proofs.Fields.{ok_is}
 

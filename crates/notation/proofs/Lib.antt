@@ -10,3 +10,4 @@ pub mod Spelled
 pub mod Bounds
 pub mod Graphs
 pub mod Apart
+pub mod Alone

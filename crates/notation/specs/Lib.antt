@@ -3,6 +3,7 @@ pub mod Keys
 pub mod Place
 pub mod Marks
 pub mod Reading
+pub mod Plain
 pub mod Appending
 pub mod Parts
 pub mod Writing

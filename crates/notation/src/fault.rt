@@ -1,5 +1,5 @@
 ghost use Rattle.std.specs.Prelude.{◌≡◌};
-ghost use Rattle.notation.specs.declared.fault.Stop.TheVariants.{Memory};
+ghost use Rattle.notation.specs.declared.fault.Stop.TheVariants.{Memory, Fault as Found};
 
 use std::alloc::AllocError;
 use thiserror::Error;
@@ -88,5 +88,13 @@ impl From<AllocError> for Stop {
 
     fn from(_e: AllocError) -> Stop {
         Stop::Memory
+    }
+}
+
+impl From<Fault> for Stop {
+    ghost from_gives = { λ fault e. e ≡ Found fault };
+
+    fn from(fault: Fault) -> Stop {
+        Stop::Fault(fault)
     }
 }

@@ -15,6 +15,7 @@ ghost use Rattle.notation.specs.Outer.{outer_stack};
 use crate::cursor::Cursor;
 use crate::fault::{ReadFault, Stop};
 use crate::items::{begun, close, key};
+use crate::plain::{integer_graph, read_integer, read_string, string_graph};
 use php_graph::{Builder, Graph, Wants, graphs_are_written, integer_texts};
 use std::alloc::{AllocError, Global};
 
@@ -52,10 +53,24 @@ pub fn read_value(alloc: Global, from: &mut Cursor) -> Result<Graph, ReadFault>
     }
 }
 
-// A whole value. The open containers are kept here, each with the number of members that are to
-// come in the one around it; those of the innermost are in `members`.
-#[tactic(auto, unfolding(crate::specs::Reading::reading_of))]
+// A whole value. A string or an integer needs nothing beside its graph.
 fn whole(alloc: Global, bytes: &[u8]) -> Result<(Graph, &[u8]), Stop>
+    ensures read { Gives (λ x. (x.0, x.1.now)) result (reading_of bytes.now) }
+    ensures sealed { IfOk result (λ x. IsGraph x.0) }
+{
+    if let Some((text, rest)) = read_string(bytes)? {
+        return Ok((string_graph(alloc, text)?, rest));
+    }
+    if let Some((number, rest)) = read_integer(bytes)? {
+        return Ok((integer_graph(alloc, number), rest));
+    }
+    built(alloc, bytes)
+}
+
+// A whole value, place by place. The open containers are kept here, each with the number of members
+// that are to come in the one around it; those of the innermost are in `members`.
+#[tactic(auto, unfolding(crate::specs::Reading::reading_of))]
+fn built(alloc: Global, bytes: &[u8]) -> Result<(Graph, &[u8]), Stop>
     ensures read { Gives (λ x. (x.0, x.1.now)) result (reading_of bytes.now) }
     ensures sealed { IfOk result (λ x. IsGraph x.0) }
 {

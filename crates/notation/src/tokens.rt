@@ -1,6 +1,7 @@
 //! The parts of the notation that lie in no other: marks, numbers, and byte strings.
 
-ghost use Rattle.std.specs.Prelude.{◌≡◌, ◌<◌, ◌≤◌, ◌^◌, length, IfOk};
+ghost use Rattle.std.specs.Prelude.{◌≡◌, ◌≢◌, ◌<◌, ◌≤◌, ◌^◌, length, IfOk, IfErr};
+ghost use Rattle.notation.specs.declared.fault.Stop.TheVariants.{Memory};
 ghost use Rattle.notation.specs.Marks.{Gives, found, mark_at, ends_number, number_len, number_at};
 ghost use Rattle.notation.specs.Marks.{number_as, as_natural, as_truth, natural_at, quoted_at};
 ghost use Rattle.notation.specs.Marks.{sized_at, string_at, integer_at, count_at};
@@ -22,6 +23,7 @@ pub(crate) fn stop(reason: Reason, bytes: &[u8]) -> Stop
 pub(crate) fn mark(due: u8, bytes: &[u8]) -> Result<&[u8], Stop>
     ensures read { Gives (λ rest. rest.now) result (mark_at due bytes.now) }
     ensures less { IfOk result (λ x. length x.now < length bytes.now) }
+    ensures fault { IfErr result (λ e. e ≢ Memory) }
 {
     match bytes {
         [] => Err(stop(Reason::End, bytes)),
@@ -54,6 +56,7 @@ fn ends_run(b: u8) -> bool
 pub(crate) fn number(bytes: &[u8]) -> Result<(i64, &[u8]), Stop>
     ensures read { Gives (λ x. (x.0, x.1.now)) result (number_at bytes.now) }
     ensures less { IfOk result (λ x. length x.1.now ≤ length bytes.now) }
+    ensures fault { IfErr result (λ e. e ≢ Memory) }
 {
     if bytes.is_empty() {
         return Err(stop(Reason::End, bytes));
@@ -69,6 +72,7 @@ pub(crate) fn number(bytes: &[u8]) -> Result<(i64, &[u8]), Stop>
 pub(crate) fn natural(bytes: &[u8]) -> Result<(u32, &[u8]), Stop>
     ensures read { Gives (λ x. (x.0, x.1.now)) result (natural_at bytes.now) }
     ensures less { IfOk result (λ x. length x.1.now ≤ length bytes.now) }
+    ensures fault { IfErr result (λ e. e ≢ Memory) }
 {
     let (n, rest) = number(bytes)?;
     if n < 0 || n > 4_294_967_295 {
@@ -81,6 +85,7 @@ pub(crate) fn natural(bytes: &[u8]) -> Result<(u32, &[u8]), Stop>
 pub(crate) fn truth(bytes: &[u8]) -> Result<(bool, &[u8]), Stop>
     ensures read { Gives (λ x. (x.0, x.1.now)) result (number_as as_truth bytes.now) }
     ensures less { IfOk result (λ x. length x.1.now ≤ length bytes.now) }
+    ensures fault { IfErr result (λ e. e ≢ Memory) }
 {
     let (n, rest) = number(bytes)?;
     match n {
@@ -95,6 +100,7 @@ fn quoted<'a>(len: u32, number: &[u8], bytes: &'a [u8]) -> Result<(&'a [u8], &'a
     ensures read { Gives (λ x. (x.0.now, x.1.now)) result (quoted_at len number.now bytes.now) }
     ensures length { IfOk result (λ x. length x.0.now ≡ len) }
     ensures less { IfOk result (λ x. length x.1.now < length bytes.now) }
+    ensures fault { IfErr result (λ e. e ≢ Memory) }
 {
     let len = len as usize;
     if len < bytes.len() && bytes[len] == b'"' {
@@ -110,6 +116,7 @@ pub(crate) fn sized(bytes: &[u8]) -> Result<(&[u8], &[u8]), Stop>
     ensures read { Gives (λ x. (x.0.now, x.1.now)) result (sized_at bytes.now) }
     ensures short { IfOk result (λ x. length x.0.now < 2 ^ 32) }
     ensures less { IfOk result (λ x. length x.1.now < length bytes.now) }
+    ensures fault { IfErr result (λ e. e ≢ Memory) }
 {
     let number = mark(b':', bytes)?;
     let (len, rest) = natural(number)?;
@@ -124,6 +131,7 @@ pub(crate) fn string(bytes: &[u8]) -> Result<(&[u8], &[u8]), Stop>
     ensures read { Gives (λ x. (x.0.now, x.1.now)) result (string_at bytes.now) }
     ensures short { IfOk result (λ x. length x.0.now < 2 ^ 32) }
     ensures less { IfOk result (λ x. length x.1.now < length bytes.now) }
+    ensures fault { IfErr result (λ e. e ≢ Memory) }
 {
     let (text, rest) = sized(bytes)?;
     let rest = mark(b';', rest)?;
@@ -135,6 +143,7 @@ pub(crate) fn string(bytes: &[u8]) -> Result<(&[u8], &[u8]), Stop>
 pub(crate) fn integer(bytes: &[u8]) -> Result<(i64, &[u8]), Stop>
     ensures read { Gives (λ x. (x.0, x.1.now)) result (integer_at bytes.now) }
     ensures less { IfOk result (λ x. length x.1.now < length bytes.now) }
+    ensures fault { IfErr result (λ e. e ≢ Memory) }
 {
     let rest = mark(b':', bytes)?;
     let (n, rest) = number(rest)?;
@@ -147,6 +156,7 @@ pub(crate) fn integer(bytes: &[u8]) -> Result<(i64, &[u8]), Stop>
 pub(crate) fn count(bytes: &[u8]) -> Result<(u32, &[u8]), Stop>
     ensures read { Gives (λ x. (x.0, x.1.now)) result (count_at bytes.now) }
     ensures less { IfOk result (λ x. length x.1.now < length bytes.now) }
+    ensures fault { IfErr result (λ e. e ≢ Memory) }
 {
     let rest = mark(b':', bytes)?;
     let (n, rest) = natural(rest)?;

@@ -1,4 +1,5 @@
 pub mod Values
+pub mod Tables
 pub mod Binding
 pub mod GenSpelled
 pub mod GenSteps

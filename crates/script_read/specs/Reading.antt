@@ -1,7 +1,7 @@
 -- Reading scripts from left to right, to their end or to the first fault.
 use Rattle.std.specs.Prelude.{ℕ, zero, suc, Bool, false, ◌&&◌, ◌||◌, not, ◌==◌, nat_le, nat_lt}
 use Rattle.std.specs.Prelude.{if◌then◌else◌, List, [], ◌∷◌, length, take, drop, codes, Option, Some}
-use Rattle.std.specs.Prelude.{None, Result, Ok}
+use Rattle.std.specs.Prelude.{None, Result, Ok, ℤ}
 use Rattle.std.specs.List.{position_or_len}
 use Rattle.std.specs.Str.{bytes_eq}
 use Rattle.php_graph.specs.declared.kind.Kind.{Kind}
@@ -14,7 +14,7 @@ use Rattle.script_read.specs.declared.effect.Effect.{Effect}
 use Rattle.script_read.specs.declared.effect.Effect.TheVariants.{Sets, Begins, Calls}
 use Rattle.script_read.specs.declared.effect.Moments.{Moments}
 use Rattle.script_read.specs.declared.script.Step.{Step}
-use Rattle.script_read.specs.Arguments.{key, ttl}
+use Rattle.script_read.specs.Arguments.{key, integer, ttl}
 use Rattle.script_read.specs.Clock.{at_first, request_at, step_at}
 use Rattle.script_read.specs.GenParts.{literal_gen, entry_round}
 use Rattle.script_read.specs.Table.{Form, Done, Need, May, Make, Refuse, form_of}
@@ -73,6 +73,10 @@ chosen None argument rest = fail reasons.Argument argument
 
 abbrev pub choice_at : {A : Type 0} → (List Kind → Option A) → List ℕ → Result (A × List ℕ) Fault
 choice_at choose argument = reading_of argument >>= λ v. chosen (choose v.0) argument v.1
+
+-- the integer that the value is, if it is one
+abbrev pub numbers_at : List ℕ → Result (Option ℤ × List ℕ) Fault
+numbers_at bytes = reading_of bytes >>= λ v. Ok (integer v.0, v.1)
 
 -- an argument that is due, and one that may be left out
 abbrev pub argument_at : {A : Type 0} → (List Kind → Option A) → List ℕ → Result (A × List ℕ) Fault

@@ -1,8 +1,11 @@
 //! The arguments of lines: values, and what is made of them.
 
-ghost use Rattle.std.specs.Prelude.{◌≡◌, ℕ, ◌≤◌, ◌<◌, false, List, length, pos, Err, IfOk};
+ghost use Rattle.std.specs.Prelude.{◌≡◌, ℕ, ◌≤◌, ◌<◌, false, List, [], ◌∷◌, length, pos, Ok, Err};
+ghost use Rattle.std.specs.Prelude.{IfOk, IfErr, IfSome, IfNone};
+ghost use Rattle.php_graph.specs.declared.kind.Kind.TheVariants.{Str};
 ghost use Rattle.notation.specs.Marks.{fail};
 ghost use Rattle.notation.specs.Reading.{reading_of};
+ghost use Rattle.notation.specs.Plain.{begins_string};
 ghost use Rattle.apcu_model.specs.declared.searching.List.TheVariants.{Active};
 ghost use Rattle.script_read.specs.Calls.{last_moment, most_items};
 ghost use Rattle.script_read.specs.Arguments.{any_value, key, integer, truth, null, ttl, moment};
@@ -10,15 +13,15 @@ ghost use Rattle.script_read.specs.Arguments.{asked_of, stored, search_for, fiel
 ghost use Rattle.script_read.specs.Arguments.{chunk_size, which_list};
 ghost use Rattle.script_read.specs.Table.{usual_size};
 ghost use Rattle.script_read.specs.Reading.{space_at, end_at, one_more_at, ends_here, choice_at};
-ghost use Rattle.script_read.specs.Reading.{argument_at, optional_at};
-ghost use Rattle.script_read.specs.Gives.{GivesItem};
+ghost use Rattle.script_read.specs.Reading.{argument_at, optional_at, numbers_at};
+ghost use Rattle.script_read.specs.Gives.{GivesItem, Stops};
 
 use crate::choices::{asked_of, integer_of, is_null, moment_of, stored_of, truth_of, ttl_of};
 use crate::fault::Stop;
 use crate::given::{Asked, Stored};
 use crate::searches::{chunk_size_of, fields_of, list_of, search_of};
 use apcu_model::{Fields, List as Which, Pattern};
-use notation::{Cursor, Fault, ReadFault, Reason, read_value};
+use notation::{Cursor, Fault, ReadFault, Reason, read_integer, read_string, read_value};
 use php_graph::{Bytes, Graph};
 use std::alloc::Global;
 
@@ -95,6 +98,36 @@ pub(crate) fn value(alloc: Global, bytes: &[u8]) -> Result<(Graph, &[u8]), Stop>
     }
 }
 
+// The string that begins there; nothing where none does. No graph is made of it.
+fn string_in(alloc: Global, bytes: &[u8]) -> Result<Option<(Bytes, &[u8])>, Stop>
+    ensures found { IfOk result (λ read. IfSome read (λ x.
+        reading_of bytes.now ≡ Ok (Str x.0 ∷ [], x.1.now))) }
+    ensures fewer { IfOk result (λ read. IfSome read (λ x. length x.1.now < length bytes.now)) }
+    ensures other { IfOk result (λ read. IfNone read (begins_string bytes.now ≡ false)) }
+    ensures fault { IfErr result (λ e. Stops e (reading_of bytes.now)) }
+{
+    match read_string(bytes) {
+        Ok(Some((text, rest))) => Ok(Some((Bytes::of(alloc, text)?, rest))),
+        Ok(None) => Ok(None),
+        Err(fault) => Err(Stop::Fault(fault)),
+    }
+}
+
+// The integer that a value is, and what follows the value.
+fn number_in(alloc: Global, bytes: &[u8]) -> Result<(Option<i64>, &[u8]), Stop>
+    ensures read { GivesItem (λ x. (x.0, x.1.now)) result (numbers_at bytes.now) }
+    ensures no_more { IfOk result (λ x. length x.1.now ≤ length bytes.now) }
+{
+    match read_integer(bytes) {
+        Ok(Some((number, rest))) => Ok((Some(number), rest)),
+        Ok(None) => {
+            let (graph, rest) = value(alloc, bytes)?;
+            Ok((integer_of(&graph), rest))
+        }
+        Err(fault) => Err(Stop::Fault(fault)),
+    }
+}
+
 // Any value.
 pub(crate) fn value_argument(alloc: Global, bytes: &[u8]) -> Result<(Graph, &[u8]), Stop>
     ensures read { GivesItem (λ x. (x.0, x.1.now)) result (argument_at any_value bytes.now) }
@@ -109,6 +142,9 @@ pub(crate) fn key_choice(alloc: Global, argument: &[u8]) -> Result<(Bytes, &[u8]
     ensures read { GivesItem (λ x. (x.0, x.1.now)) result (choice_at key argument.now) }
     ensures no_more { IfOk result (λ x. length x.1.now ≤ length argument.now) }
 {
+    if let Some((key, rest)) = string_in(alloc, argument)? {
+        return Ok((key, rest));
+    }
     let (graph, rest) = value(alloc, argument)?;
     match graph.into_string() {
         Ok(key) => Ok((key, rest)),
@@ -131,8 +167,8 @@ pub(crate) fn integer_argument(alloc: Global, bytes: &[u8]) -> Result<(i64, &[u8
     ensures fewer { IfOk result (λ x. length x.1.now < length bytes.now) }
 {
     let argument = space(bytes)?;
-    let (graph, rest) = value(alloc, argument)?;
-    match integer_of(&graph) {
+    let (number, rest) = number_in(alloc, argument)?;
+    match number {
         Some(n) => Ok((n, rest)),
         None => Err(fault(Reason::Argument, argument)),
     }
@@ -155,6 +191,9 @@ pub(crate) fn asked_argument(alloc: Global, bytes: &[u8]) -> Result<(Asked, &[u8
     ensures fewer { IfOk result (λ x. length x.1.now < length bytes.now) }
 {
     let argument = space(bytes)?;
+    if let Some((key, rest)) = string_in(alloc, argument)? {
+        return Ok((Asked::One(key), rest));
+    }
     let (graph, rest) = value(alloc, argument)?;
     match asked_of(alloc, graph)? {
         Some(asked) => Ok((asked, rest)),
@@ -168,6 +207,9 @@ pub(crate) fn stored_argument(alloc: Global, bytes: &[u8]) -> Result<(Stored, &[
     ensures fewer { IfOk result (λ x. length x.1.now < length bytes.now) }
 {
     let argument = space(bytes)?;
+    if let Some((key, rest)) = string_in(alloc, argument)? {
+        return Ok((Stored::One(key), rest));
+    }
     let (graph, rest) = value(alloc, argument)?;
     match stored_of(alloc, graph)? {
         Some(stored) => Ok((stored, rest)),
@@ -182,8 +224,8 @@ pub(crate) fn moment_argument(alloc: Global, bytes: &[u8]) -> Result<(u64, &[u8]
     ensures soon { IfOk result (λ x. x.0 ≤ last_moment) }
 {
     let argument = space(bytes)?;
-    let (graph, rest) = value(alloc, argument)?;
-    match moment_of(&graph) {
+    let (number, rest) = number_in(alloc, argument)?;
+    match moment_of(number) {
         Some(t) => Ok((t, rest)),
         None => Err(fault(Reason::Argument, argument)),
     }
@@ -194,8 +236,8 @@ pub(crate) fn ttl_choice(alloc: Global, argument: &[u8]) -> Result<(u32, &[u8]),
     ensures read { GivesItem (λ x. (x.0, x.1.now)) result (choice_at ttl argument.now) }
     ensures no_more { IfOk result (λ x. length x.1.now ≤ length argument.now) }
 {
-    let (graph, rest) = value(alloc, argument)?;
-    match ttl_of(&graph) {
+    let (number, rest) = number_in(alloc, argument)?;
+    match ttl_of(number) {
         Some(ttl) => Ok((ttl, rest)),
         None => Err(fault(Reason::Argument, argument)),
     }

@@ -2,10 +2,10 @@
 
 ghost use Rattle.std.specs.Prelude.{◌≡◌, ◌≤◌, true, ◌↔◌, List, [], ◌∷◌, ◌++◌, length, take, Option};
 ghost use Rattle.std.specs.Prelude.{Some, None, IfOk, IfSome, IsSome};
-ghost use Rattle.std.specs.Option.{is_some, option_map};
+ghost use Rattle.std.specs.Option.{is_some, option_map, option_and_then};
 ghost use Rattle.php_graph.specs.Graph.{IsGraph, kind_at};
 ghost use Rattle.script_read.specs.Calls.{last_moment};
-ghost use Rattle.script_read.specs.Arguments.{key, integer, truth, null, ttl, moment, keys, pairs};
+ghost use Rattle.script_read.specs.Arguments.{key, integer, truth, null, from_to, keys, pairs};
 ghost use Rattle.script_read.specs.Arguments.{member_string, member_value, key_bytes, asked_of};
 ghost use Rattle.script_read.specs.Arguments.{stored, IsThere};
 
@@ -28,22 +28,22 @@ pub(crate) fn integer_of(graph: &Graph) -> Option<i64>
     }
 }
 
-// The limit of time that a value is.
-pub(crate) fn ttl_of(graph: &Graph) -> Option<u32>
-    ensures { result ≡ ttl graph.now }
+// The limit of time that an integer is.
+pub(crate) fn ttl_of(number: Option<i64>) -> Option<u32>
+    ensures { result ≡ option_and_then (from_to 0 4294967295) number }
 {
-    match integer_of(graph) {
+    match number {
         Some(n) if 0 <= n && n <= 4294967295 => Some(n as u32),
         _ => None,
     }
 }
 
-// The moment that a value is.
-pub(crate) fn moment_of(graph: &Graph) -> Option<u64>
-    ensures is { result ≡ moment graph.now }
+// The moment that an integer is.
+pub(crate) fn moment_of(number: Option<i64>) -> Option<u64>
+    ensures is { result ≡ option_and_then (from_to 0 last_moment) number }
     ensures soon { IfSome result (λ t. t ≤ last_moment) }
 {
-    match integer_of(graph) {
+    match number {
         Some(n) if 0 <= n && n <= 999999999999 => Some(n as u64),
         _ => None,
     }

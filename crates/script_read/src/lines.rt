@@ -49,6 +49,7 @@ fn moment(alloc: Global, begins: bool, bytes: &[u8]) -> Result<(Effect, &[u8]), 
 }
 
 // A call whose last argument is read, or that has none: its line ends here.
+#[inline(always)]
 #[tactic(auto, unfolding(crate::specs::Reading::rest_at))]
 pub(crate) fn bare(call: Call, bytes: &[u8]) -> Result<(Effect, &[u8]), Stop>
     requires { HasRanges call }
@@ -119,10 +120,32 @@ pub(crate) fn word_len(bytes: &[u8]) -> usize
     bytes.len()
 }
 
+// Whether a byte ends a word, by the byte: all but letters and `_` do. Each byte of a word is asked
+// for, and a row is quicker than three ranges.
+static ENDS_WORD: [bool; 256] = [
+    true, true, true, true, true, true, true, true, true, true, true, true, true, true, true, true,
+    true, true, true, true, true, true, true, true, true, true, true, true, true, true, true, true,
+    true, true, true, true, true, true, true, true, true, true, true, true, true, true, true, true,
+    true, true, true, true, true, true, true, true, true, true, true, true, true, true, true, true,
+    true, false, false, false, false, false, false, false, false, false, false, false, false,
+    false, false, false, false, false, false, false, false, false, false, false, false, false,
+    false, true, true, true, true, false, true, false, false, false, false, false, false, false,
+    false, false, false, false, false, false, false, false, false, false, false, false, false,
+    false, false, false, false, false, false, true, true, true, true, true, true, true, true, true,
+    true, true, true, true, true, true, true, true, true, true, true, true, true, true, true, true,
+    true, true, true, true, true, true, true, true, true, true, true, true, true, true, true, true,
+    true, true, true, true, true, true, true, true, true, true, true, true, true, true, true, true,
+    true, true, true, true, true, true, true, true, true, true, true, true, true, true, true, true,
+    true, true, true, true, true, true, true, true, true, true, true, true, true, true, true, true,
+    true, true, true, true, true, true, true, true, true, true, true, true, true, true, true, true,
+    true, true, true, true, true, true, true, true, true, true, true, true, true, true, true, true,
+    true, true, true, true, true, true, true, true, true, true, true, true,
+];
+
 fn ends_word(byte: u8) -> bool
     ensures { result ≡ ends_word byte }
 {
-    !((65 <= byte && byte <= 90) || ((97 <= byte && byte <= 122) || byte == 95))
+    ENDS_WORD[byte as usize]
 }
 
 // The line `worker`, where so many scripts have begun.

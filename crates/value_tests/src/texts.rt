@@ -1,6 +1,8 @@
 //! Texts of values, read and written.
 
-use notation::{ByteOut, Cursor, ReadFault, Reason, read_value, write_key, write_value};
+use notation::{
+    ByteOut, Cursor, ReadFault, Reason, read_integer, read_string, read_value, write_key, write_value,
+};
 use php_graph::{Graph, Kind};
 use std::alloc::Global;
 use std::process::Abort;
@@ -156,4 +158,31 @@ fn cuts(rt: HostRuntime) -> Result<(), Fail> {
     out.cut(1);
     assert_eq!(rt; out.as_slice(), b"a".as_slice());
     Ok(())
+}
+
+#[test]
+fn reads_plain_values(rt: HostRuntime) {
+    match read_string(b"s:2:\"ab\";i:7;") {
+        Ok(Some((text, rest))) => {
+            assert_eq!(rt; text, b"ab".as_slice());
+            assert_eq!(rt; rest, b"i:7;".as_slice());
+        }
+        _ => assert!(rt; false),
+    }
+    match read_integer(b"i:-7;N;") {
+        Ok(Some((number, rest))) => {
+            assert_eq!(rt; number, -7);
+            assert_eq!(rt; rest, b"N;".as_slice());
+        }
+        _ => assert!(rt; false),
+    }
+    assert!(rt; matches!(read_string(b"i:7;"), Ok(None)));
+    assert!(rt; matches!(read_integer(b"s:0:\"\";"), Ok(None)));
+    match read_string(b"s:2:\"ab") {
+        Err(fault) => {
+            assert_eq!(rt; fault.reason, Reason::Length);
+            assert_eq!(rt; fault.left, 5);
+        }
+        _ => assert!(rt; false),
+    }
 }
