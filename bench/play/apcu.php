@@ -29,7 +29,7 @@ for ($w = 0; $w < $workers; $w++) {
                 apcu_fetch($key);
             }
         }
-        exit(0);
+        return; // an extension may make PHP go on behind `exit`
     }
 }
 for ($w = 0; $w < $workers; $w++) {
