@@ -1,20 +1,23 @@
 #!/usr/bin/env bash
 # The commands of examples/README.md print what stands there behind them.
-# Usage: bench/examples.sh; it needs php.
+# Usage: bench/examples.sh [PROGRAM]; it needs php with apcu and pcntl.
 set -eu
+program=${1:+$(realpath "$1")}
 cd "$(dirname "${BASH_SOURCE[0]}")/.."
-command='' wanted='' count=0
+program=${program:-./apcu_run}
+command='' wanted='' count=0 others=0
 
 # Runs the command that was read, and compares.
 check() {
     local printed
     [ -n "$command" ] || return 0
     # A command may end with another status than 0, and say so.
-    printed=$(bash -c "$command" 2>&1) || true
-    if [ "$printed" != "${wanted%$'\n'}" ]; then
+    printed=$(program=$program bash -c "${command//.\/apcu_run/\"\$program\"}" 2>&1 </dev/null) || true
+    wanted=$(printf '%s' "$wanted")
+    if [ "$printed" != "$wanted" ]; then
         echo "another output: $command" >&2
-        diff <(echo "${wanted%$'\n'}") <(echo "$printed") >&2
-        exit 1
+        diff <(echo "$wanted") <(echo "$printed") >&2 || true
+        others=1
     fi
     count=$((count + 1))
     command='' wanted=''
@@ -27,8 +30,11 @@ while IFS= read -r line; do
             command=${line#'    $ '}
             ;;
         '    '*) [ -z "$command" ] || wanted+="${line#'    '}"$'\n' ;;
+        # An empty line may stand within what is printed.
+        '') [ -z "$command" ] || wanted+=$'\n' ;;
         *) check ;;
     esac
 done <examples/README.md
 check
+[ "$others" = 0 ] || exit 1
 echo "$count commands of examples/README.md print what stands there"

@@ -30,8 +30,7 @@ for ($w = 0; $w < $workers; $w++) {
                 apcu_fetch($key);
             }
         }
-        // A signal ends the child also where an extension has PHP ignore `exit`.
-        posix_kill(posix_getpid(), SIGKILL);
+        return; // an extension may make PHP go on behind `exit`
     }
 }
 for ($w = 0; $w < $workers; $w++) {

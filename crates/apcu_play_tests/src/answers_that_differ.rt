@@ -1,4 +1,4 @@
-//! `docs/DIFFERENCES.md`, its sections Settings, Keys and arguments, and Values.
+//! Cases of `docs/differences/`: settings, keys and arguments, and values.
 
 use crate::shown::{expect_shown, usual, with};
 use std::test::Fail;

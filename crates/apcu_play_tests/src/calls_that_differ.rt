@@ -1,4 +1,4 @@
-//! `docs/DIFFERENCES.md`, its sections Expiry, Room, Counters, Entries and information, and Several
+//! Cases of `docs/differences/`: expiry, room, counters, entries and information, and several
 //! workers.
 
 use crate::shown::{expect_shown, usual, with};

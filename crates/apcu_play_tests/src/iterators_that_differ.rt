@@ -1,4 +1,4 @@
-//! `docs/DIFFERENCES.md`, its section Iterators.
+//! Cases of `docs/differences/`: iterators.
 
 use crate::shown::{expect_shown, usual};
 use std::test::Fail;

@@ -1,0 +1,82 @@
+#!/usr/bin/env bash
+# Plays each case of docs/differences/ on PHP's APCu and on the program, and tells each that prints something else than
+# its folder says. Where several workers meet, what stands there is judged as an output of the case's script, and so is
+# what the program prints of it. The page that is made of the cases has to be up to date.
+# Usage: bench/differences.sh [PROGRAM]; it needs php with apcu and pcntl.
+set -eu
+here=$(cd "$(dirname "${BASH_SOURCE[0]}")" && pwd)
+program=$(realpath "${1:-$here/../crates/apcu_run/out/apcu_run}")
+cases=$(cd "$here/../docs/differences" && pwd)
+scratch=$(mktemp -d)
+trap 'rm -rf "$scratch"' EXIT
+others=0
+
+# The settings in the first line of a script for PHP, a line each.
+settings() {
+    sed -n -e '2s/^\/\/ apc/apc/' -e '2s/, /\n/g' -e '2{/^apc/p' -e '}' "$1"
+}
+
+# What PHP prints for a case, without its warnings.
+ask_php() {
+    local words=() setting
+    while IFS= read -r setting; do words+=(-d "$setting"); done < <(settings "$1/case.php")
+    cd "$1"
+    php -d apc.enable_cli=1 -d apc.use_request_time=0 "${words[@]}" -d display_errors=0 -d log_errors=0 case.php \
+        2>/dev/null || true
+}
+
+# What the program prints for a case, with its message.
+ask_program() {
+    local options=()
+    if [ -e "$1/case.sh" ]; then
+        (cd "$scratch" && bash "$1/case.sh" 2>&1) || true
+        return
+    fi
+    [ ! -e "$1/options" ] || read -ra options <"$1/options"
+    "$program" "${options[@]}" <"$1/case.apcu" 2>&1 || true
+}
+
+# Whether an output of several workers is one of the case's script.
+is_output() {
+    local options=()
+    [ ! -e "$1/options" ] || read -ra options <"$1/options"
+    cat "$1/case.apcu" "$2" |
+        "$program" "${options[@]}" --verify "$(wc -c <"$1/case.apcu")" >/dev/null 2>&1
+}
+
+# Tells of a case and a side what it prints beside what it has to.
+tell() {
+    others=$((others + 1))
+    echo "${1##*/}: $2 prints something else" >&2
+    diff "$3" "$4" >&2 || true
+}
+
+# The side of the program.
+try_program() {
+    local printed=$scratch/${1##*/}.program
+    ask_program "$1" >"$printed"
+    if ! grep -qx journal "$1/prints"; then
+        sed -i -e '/^journal$/,$d' "$printed"
+    elif [ "$(grep -cx worker "$1/case.apcu")" -gt 1 ]; then
+        is_output "$1" "$1/prints" && is_output "$1" "$printed" || tell "$1" 'the program' "$1/prints" "$printed"
+        return
+    fi
+    cmp -s "$1/prints" "$printed" || tell "$1" 'the program' "$1/prints" "$printed"
+}
+
+"$here/../docs/differences.sh" --check || others=1
+ln -s "$program" "$scratch/apcu_run"
+# Most of PHP's time is waiting.
+for folder in "$cases"/[0-9]*; do ask_php "$folder" >"$scratch/${folder##*/}.php" & done
+for folder in "$cases"/[0-9]*; do [ ! -e "$folder/prints" ] || try_program "$folder"; done
+wait
+count=0
+for folder in "$cases"/[0-9]*; do
+    count=$((count + 1))
+    printed=$scratch/${folder##*/}.php
+    cmp -s "$folder/apcu_prints" "$printed" && continue
+    [ -e "$folder/apcu_may_print" ] && cmp -s "$folder/apcu_may_print" "$printed" && continue
+    tell "$folder" PHP "$folder/apcu_prints" "$printed"
+done
+[ "$others" = 0 ] || exit 1
+echo "$count cases of docs/differences print on both sides what stands there"

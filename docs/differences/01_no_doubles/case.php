@@ -1,0 +1,3 @@
+<?php
+apcu_store('a', 1.5);
+var_dump(apcu_fetch('a'));

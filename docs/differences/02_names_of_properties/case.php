@@ -1,0 +1,3 @@
+<?php
+apcu_store('a', new ArrayObject([1, 2]));
+echo serialize(apcu_fetch('a')), "\n";

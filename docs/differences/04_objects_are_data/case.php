@@ -1,0 +1,7 @@
+<?php
+class A {
+    public $x = 1;
+    function __wakeup() { $this->x = 2; }
+}
+apcu_store('a', new A);
+echo serialize(apcu_fetch('a')), "\n";

@@ -1,0 +1,9 @@
+<?php
+// apc.shm_size=1M, apc.ttl=100
+for ($i = 0; apcu_sma_info(true)['avail_mem'] > 2000; $i++)
+    apcu_store("k$i", str_repeat('x', 1000), 2);
+for ($j = 0; $j < $i; $j++)
+    if ($j % 3) apcu_delete("k$j");
+sleep(4);
+var_dump(apcu_exists('k0'));
+var_dump(apcu_store('big', str_repeat('x', 5000)));

@@ -1,0 +1,3 @@
+<?php
+foreach (['aa', 'ab'] as $key) apcu_store($key, 1);
+foreach (new APCUIterator('/^(.)\1$/') as $key => $row) echo $key, "\n";

@@ -1,0 +1,3 @@
+<?php
+echo serialize(apcu_store('a', 1)), "\n";
+foreach (new APCUIterator('/(/') as $key => $row) echo $key, "\n";

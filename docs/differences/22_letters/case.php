@@ -1,0 +1,4 @@
+<?php
+apcu_store("\u{e9}", 1);
+foreach (['/^.$/', '/^..$/', "/^\u{c9}\$/i"] as $pattern)
+    echo (new APCUIterator($pattern))->getTotalCount(), "\n";

@@ -1,0 +1,6 @@
+<?php
+apcu_store('a', 1);
+sleep(2);
+var_dump(apcu_cas('a', 7, 8));
+$row = apcu_key_info('a');
+echo $row['mtime'] - $row['creation_time'], "\n";

@@ -1,0 +1,5 @@
+<?php
+$v = null;
+for ($i = 0; $i < 600; $i++) $v = [$v];
+var_dump(apcu_store('a', $v));
+var_dump(apcu_fetch('a') === $v);

@@ -1,0 +1,3 @@
+<?php
+apcu_store('a', 1);
+echo implode(' ', array_keys(apcu_key_info('a'))), "\n";

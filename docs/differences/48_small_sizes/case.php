@@ -1,0 +1,3 @@
+<?php
+// apc.shm_size=512
+echo apcu_sma_info(true)['seg_size'], "\n";

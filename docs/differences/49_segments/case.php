@@ -1,0 +1,3 @@
+<?php
+// apc.shm_segments=2
+echo apcu_sma_info(true)['num_seg'], "\n";

@@ -1,0 +1,1 @@
+yes worker | head -65 | ./apcu_run

@@ -1,0 +1,3 @@
+<?php
+// apc.preload_path=data
+var_dump(apcu_fetch('a'), apcu_fetch('b'));

@@ -1,0 +1,4 @@
+<?php
+apcu_store('news', 'hello', 1);
+sleep(3);
+var_dump(apcu_fetch('news'));
