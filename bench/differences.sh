@@ -36,12 +36,11 @@ ask_program() {
     "$program" "${options[@]}" <"$1/case.apcu" 2>&1 || true
 }
 
-# Whether an output of several workers is one of the case's script.
-is_output() {
+# The verdict on an output of the case's script.
+judge() {
     local options=()
     [ ! -e "$1/options" ] || read -ra options <"$1/options"
-    cat "$1/case.apcu" "$2" |
-        "$program" "${options[@]}" --verify "$(wc -c <"$1/case.apcu")" >/dev/null 2>&1
+    cat "$1/case.apcu" "$2" | "$program" "${options[@]}" --verify "$(wc -c <"$1/case.apcu")" 2>&1 || true
 }
 
 # Tells of a case and a side what it prints beside what it has to.
@@ -51,6 +50,15 @@ tell() {
     diff "$3" "$4" >&2 || true
 }
 
+# Tells of an output of several workers that is none of the case's script.
+try_output() {
+    local verdict
+    verdict=$(judge "$1" "$3")
+    [ "$verdict" != yes ] || return 0
+    others=$((others + 1))
+    echo "${1##*/}: $2 is no output of its script: $verdict" >&2
+}
+
 # The side of the program.
 try_program() {
     local printed=$scratch/${1##*/}.program
@@ -58,7 +66,8 @@ try_program() {
     if ! grep -qx journal "$1/prints"; then
         sed -i -e '/^journal$/,$d' "$printed"
     elif [ "$(grep -cx worker "$1/case.apcu")" -gt 1 ]; then
-        is_output "$1" "$1/prints" && is_output "$1" "$printed" || tell "$1" 'the program' "$1/prints" "$printed"
+        try_output "$1" 'what stands there' "$1/prints"
+        try_output "$1" 'what the program prints' "$printed"
         return
     fi
     cmp -s "$1/prints" "$printed" || tell "$1" 'the program' "$1/prints" "$printed"

@@ -3,4 +3,4 @@ apcu_store('a', 1);
 sleep(2);
 var_dump(apcu_cas('a', 7, 8));
 $row = apcu_key_info('a');
-echo $row['mtime'] - $row['creation_time'], "\n";
+var_dump($row['mtime'] > $row['creation_time']);
