@@ -38,3 +38,4 @@ pub mod Emptying
 pub mod Spotting
 pub mod Besides
 pub mod KeyCopies
+pub mod Looked
