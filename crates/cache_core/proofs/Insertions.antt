@@ -1,5 +1,5 @@
 -- A value is stored: the tests before, and the ways of an insertion.
-use Rattle.std.proofs.Common.{◌≡◌, ℕ, ◌-◌, Bool, true, false, ◌&&◌, List, length, filter, Option, sym, ap, ◌∙◌}
+use Rattle.std.proofs.Common.{◌≡◌, ℕ, Bool, true, false, ◌&&◌, List, length, filter, Option, sym, ap, ◌∙◌}
 use Rattle.std.specs.Prelude.{nat_lt, is_some, if◌then◌else◌}
 use Rattle.php_graph.specs.declared.kind.Kind.{Kind}
 use Rattle.php_graph.specs.Size.{block_size}

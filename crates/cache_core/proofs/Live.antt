@@ -1,14 +1,12 @@
 -- The row that a look-up finds is the one of its key.
 use Rattle.std.proofs.Common.{◌≡◌, ℕ, Bool, true, false, cond, not, ◌&&◌, List, [], ◌∷◌, find, Option, Some, None, refl, sym, ap, ◌∙◌, subst}
 use Rattle.std.specs.Prelude.{is_some, option_map, IfSome, IfNone}
-use Rattle.std.specs.List.{list_any}
+use Rattle.std.specs.List.{Contains, list_any}
 use Rattle.std.proofs.lemmas.Bool.{and_parts, or_parts, not-true}
 use Rattle.apcu_model.specs.Cache.{Row, has_key}
 use Rattle.apcu_model.specs.Expiry.{is_hard_expired}
 use Rattle.apcu_model.specs.Rows.{are_apart}
-use Rattle.seg_words.specs.declared.segment.WordsIn.{Ghosts}
-use Rattle.entry_slots.specs.declared.head.Head.{Head}
-use Rattle.entry_slots.specs.declared.spots.Spot.{Spot}
+use Rattle.seg_words.specs.Members.{Contains-first, Contains-filter}
 use Rattle.apcu_model.specs.Cache.{Cache}
 use Rattle.apcu_model.specs.Expiry.{live_row}
 use Rattle.entry_slots.specs.Facts.{IsSound}
@@ -53,22 +51,35 @@ live_as key t (r ∷ rows) row apart h = go (has_key key r) refl h (live_as key 
     go false e q on = ap (λ b. cond (b && not (is_hard_expired t r)) (Some r) (found key t rows)) e ∙ on q
 
 -- whether one is found
-pub found_some : {X R : Type 0} (gh : Ghosts X R) (seg : X) (key : List ℕ) (t : ℕ) (c : Cache) (r : Option (ℕ × Head)) → IfSome r (λ p. IsFound gh seg key t c p.0 p.1) → IfNone r (live_row key t c ≡ None)
+pub found_some : (key : List ℕ) (t : ℕ) (c : Cache) (r : Option ℕ) → IfSome r (λ at. IsFound key t c at) → IfNone r (live_row key t c ≡ None)
     → is_some r ≡ is_some (live_row key t c)
-found_some gh seg key t c None some none = ap is_some (sym none)
-found_some gh seg key t c (Some p) some none = ap is_some (sym some.live)
+found_some key t c None some none = ap is_some (sym none)
+found_some key t c (Some at) some none = ap is_some (sym some.live)
 
 -- the one that is found is the one of its key
-pub old_found : {X R : Type 0} {gh : Ghosts X R} {seg : X} {key : List ℕ} {t at : ℕ} {c : Cache} {head : Head} {s : Entries} {words windows : List ℕ} → IsFound gh seg key t c at head → s.rows ≡ c.rows → IsSound s words windows
+pub old_found : {key : List ℕ} {t at : ℕ} {c : Cache} {s : Entries} {words windows : List ℕ} → IsFound key t c at → s.rows ≡ c.rows → IsSound s words windows
     → IsOld s key at
 old_found {key = key} {at = at} {s = s} f same sound =
-    old_is key at sound (sym (ap (λ rows. option_map (λ (row : Row). row.place) (find (has_key key) rows)) same ∙ (ap (option_map (λ (row : Row). row.place)) f.first ∙ ap (λ n. Some n) f.place)))
+    old_is key at sound (sym (ap (λ rows. option_map (λ (row : Row). row.place) (find (has_key key) rows)) same ∙ (ap (option_map (λ (row : Row). row.place)) f.first ∙ ap (λ n. Some n) f.is_row.place)))
 
--- whether one is found at a spot
-pub spot_found : {X R : Type 0} (gh : Ghosts X R) (seg : X) (key : List ℕ) (t : ℕ) (c : Cache) (r : Option Spot) → IfSome r (λ spot. (head : Head) × IsFound gh seg key t c spot.at head) → IfNone r (live_row key t c ≡ None)
-    → is_some r ≡ is_some (live_row key t c)
-spot_found gh seg key t c None some none = ap is_some (sym none)
-spot_found gh seg key t c (Some spot) some none = ap is_some (sym some.1.live)
+-- the row that is found, from the one of its key
+pub found_old : {key : List ℕ} {t at : ℕ} {c : Cache} {s : Entries} {words windows : List ℕ} → (o : IsOld s key at) → s.rows ≡ c.rows → IsSound s words windows
+    → is_hard_expired t o.row ≡ false → IsFound key t c at
+found_old {key = key} {t = t} {c = c} {s = s} o same sound over =
+    let first : find (has_key key) c.rows ≡ Some o.row = ap (find (has_key key)) (sym same) ∙ o.found in
+    let has = Contains-filter (has_key key) s.rows o.row (subst (λ l. Contains l o.row) (sym o.one) (Contains-first o.row [])) in
+    record {
+      row = o.row;
+      live = ap (found key t) (sym same) ∙ live_as key t s.rows o.row sound.apart o.found ∙ ap (λ b. cond (not b) (Some o.row) None) over;
+      first = first;
+      is_row = record { there = subst (λ rows. Contains rows o.row) same o.there; place = o.place; key_is = key_is key o.row has.1 };
+    }
+
+-- none is, where the time of that row is over
+pub over_old : {key : List ℕ} {at : ℕ} {s : Entries} {words windows : List ℕ} → (t : ℕ) → (o : IsOld s key at) → IsSound s words windows
+    → is_hard_expired t o.row ≡ true → found key t s.rows ≡ None
+over_old {key = key} {s = s} t o sound over =
+    live_as key t s.rows o.row sound.apart o.found ∙ ap (λ b. cond (not b) (Some o.row) None) over
 
 -- a row that a look-up finds is the first of its key
 pub live_first : (key : List ℕ) (t : ℕ) (rows : List Row) (row : Row) → are_apart rows ≡ true → found key t rows ≡ Some row → find (has_key key) rows ≡ Some row

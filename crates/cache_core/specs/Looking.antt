@@ -1,12 +1,11 @@
 -- What a look-up finds.
-use Rattle.std.specs.Prelude.{◌≡◌, ℕ, List, [], ◌∷◌, Option, Some, None, find, Contains}
+use Rattle.std.specs.Prelude.{◌≡◌, ℕ, ◌+◌, ◌<◌, ◌≤◌, List, [], ◌∷◌, Option, Some, None, find, Contains}
 use Rattle.php_graph.specs.declared.kind.Kind.{Kind}
 use Rattle.php_graph.specs.declared.kind.Kind.TheVariants as kinds
-use Rattle.seg_words.specs.declared.segment.WordsIn.{Ghosts}
+use Rattle.seg_words.specs.Blocks.{IsTold}
+use Rattle.value_image.specs.Image.{IsImageOf}
 use Rattle.apcu_model.specs.Cache.{Row, Cache, has_key}
 use Rattle.apcu_model.specs.Expiry.{live_row}
-use Rattle.entry_slots.specs.declared.head.Head.{Head}
-use Rattle.entry_slots.specs.Reading.{HeadIn}
 use Rattle.cache_core.specs.declared.scalar.Scalar.{Scalar}
 use Rattle.cache_core.specs.declared.scalar.Scalar.TheVariants as scalars
 use Rattle.cache_core.specs.declared.scalar.Look.{Look}
@@ -34,12 +33,22 @@ abbrev pub look_of : Option Row → Look
 look_of None = look.Miss
 look_of (Some row) = look_at row.place (scalar_of row.graph)
 
--- A look-up of the key finds the row at `at`, and this is what its first words say.
-pub record IsFound {X R : Type 0} (g : Ghosts X R) (seg : X) (key : List ℕ) (t : ℕ) (c : Cache)
-    (at : ℕ) (head : Head) : Type 0 where
+-- The row of the key is this one, and its block is at `at`.
+pub record IsRowOf (c : Cache) (key : List ℕ) (at : ℕ) (row : Row) : Type 0 where
+  pub there : Contains c.rows row
+  pub place : row.place ≡ at
+  pub key_is : row.key ≡ key
+
+-- A look-up of the key finds the row at `at`.
+pub record IsFound (key : List ℕ) (t : ℕ) (c : Cache) (at : ℕ) : Type 0 where
   pub row : Row
   pub live : live_row key t c ≡ Some row
   pub first : find (has_key key) c.rows ≡ Some row
-  pub there : Contains c.rows row
-  pub place : row.place ≡ at
-  pub head_is : HeadIn g seg head row
+  pub is_row : IsRowOf c key at row
+
+-- The image of some value stands from `at` on, and can be read.
+pub record HasImage (words windows : List ℕ) (at : ℕ) : Type 0 where
+  pub graph : List Kind
+  pub len : ℕ
+  pub stands : IsImageOf words at len graph
+  pub told : (i : ℕ) → at ≤ i → i < at + len → IsTold windows i

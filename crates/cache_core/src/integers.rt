@@ -13,7 +13,7 @@ ghost use Rattle.cache_core.specs.Events.{IsStep};
 ghost use Rattle.cache_core.specs.Looking.{scalar_of};
 
 use crate::cache::Core;
-use crate::scalar::{Scalar, read_scalar};
+use crate::scalar::Scalar;
 use entry_slots::standing_laws;
 use seg_words::{Segment, WordsIn};
 
@@ -28,10 +28,10 @@ impl Core {
             (live_row key.now t (cache_of self.now)) }
         ensures kept { Kept S.WordsIn seg.old seg.new }
     {
-        let Some((at, head)) = self.find_live(seg, key, t) else {
+        let Some(at) = self.find_live(seg, key, t) else {
             return None;
         };
-        Some((at, read_scalar(seg, head.image, head.image_len)))
+        Some((at, self.scalar_at(seg, key, at)))
     }
 
     /// Makes `n` the value of the row at `at`, which holds an integer, changed at the moment `t`.

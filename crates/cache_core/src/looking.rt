@@ -1,22 +1,22 @@
 //! Look-ups.
 
-ghost use Rattle.std.specs.Prelude.{◌≡◌, ℕ, ◌<◌, ◌^◌, true, length, None};
+ghost use Rattle.std.specs.Prelude.{◌≡◌, ℕ, ◌<◌, ◌^◌, true, false, length, None};
 ghost use Rattle.std.specs.Prelude.{is_some, IfSome, IfNone};
 ghost use Rattle.seg_words.specs.Kept.{Kept, KeptBeside};
-ghost use Rattle.apcu_model.specs.Expiry.{live_row, is_hard_expired};
+ghost use Rattle.apcu_model.specs.Cache.{Row};
+ghost use Rattle.apcu_model.specs.Expiry.{live_row};
 ghost use Rattle.apcu_model.specs.declared.request.Request.TheVariants.{Fetch};
 ghost use Rattle.apcu_model.specs.Sequential.{found_in};
 ghost use Rattle.apcu_model.specs.Walk.{slot_of};
-ghost use Rattle.entry_slots.specs.declared.head.Head.{Head};
 ghost use Rattle.entry_slots.specs.Spots.{IsSpot, IsSpotOf};
 ghost use Rattle.entry_slots.specs.Standing.{entries};
 ghost use Rattle.cache_core.specs.Caching.{cache_of, CacheStands};
 ghost use Rattle.cache_core.specs.Events.{Does};
-ghost use Rattle.cache_core.specs.Looking.{look_at, look_of, IsFound};
+ghost use Rattle.cache_core.specs.Looking.{look_at, look_of, scalar_of, IsFound, IsRowOf};
 
 use crate::cache::Core;
 use crate::scalar::{Look, Scalar, read_scalar};
-use entry_slots::{Head, Spot, standing_laws};
+use entry_slots::{Spot, standing_laws};
 use seg_words::{Segment, WordsIn};
 
 // What a look-up answers that found the row at a place with this value.
@@ -30,17 +30,11 @@ fn answer(at: u32, scalar: Option<Scalar>) -> Look
 }
 
 impl Core {
-    // The place of the row that a look-up of the key finds, and what its first words say.
-    pub(crate) fn find_live<S: Segment>(
-        &self,
-        seg: &mut S,
-        key: &[u8],
-        t: u64,
-    ) -> Option<(u32, Head)>
+    // The place of the row that a look-up of the key finds.
+    pub(crate) fn find_live<S: Segment>(&self, seg: &mut S, key: &[u8], t: u64) -> Option<u32>
         requires short { length key.now < 2 ^ 32 }
         requires stand { CacheStands S.WordsIn self.now seg.old }
-        ensures found { IfSome result (λ r.
-            IsFound S.WordsIn seg.old key.now t (cache_of self.now) r.0 r.1) }
+        ensures found { IfSome result (λ at. IsFound key.now t (cache_of self.now) at) }
         ensures none { IfNone result (live_row key.now t (cache_of self.now) ≡ None) }
         ensures kept { Kept S.WordsIn seg.old seg.new }
     {
@@ -48,41 +42,47 @@ impl Core {
         let Some(at) = self.slots.find(seg, key) else {
             return None;
         };
-        let head = self.slots.head(seg, at);
-        if head.is_hard_expired(t) {
+        if self.slots.is_hard_expired(seg, at, t) {
             return None;
         }
-        Some((at, head))
+        Some(at)
     }
 
-    // Where the row of the key stands or a new one would, and what its first words say if a look-up
-    // finds it; `slot` is the key's.
-    fn seek_row<S: Segment>(
-        &self,
-        seg: &mut S,
-        key: &[u8],
-        slot: u32,
-        t: u64,
-    ) -> (Spot, Option<Head>)
+    // The value of the key's row, which is at `at`, if it is null, a truth value or an integer. No
+    // other word of the row is read.
+    pub(crate) fn scalar_at<S: Segment>(&self, seg: &mut S, key: &[u8], at: u32) -> Option<Scalar>
+        requires short { length key.now < 2 ^ 32 }
+        requires stand { CacheStands S.WordsIn self.now seg.old }
+        requires there { (row : Row) × IsRowOf (cache_of self.now) key.now at row }
+        ensures scalar { (row : Row) → IsRowOf (cache_of self.now) key.now at row
+            → result ≡ scalar_of row.graph }
+        ensures kept { Kept S.WordsIn seg.old seg.new }
+    {
+        let image = self.slots.image_at(seg, at, key.len() as u32);
+        read_scalar(seg, image)
+    }
+
+    // Where the row of the key stands or a new one would, and whether a look-up finds it; `slot` is
+    // the key's.
+    fn seek_row<S: Segment>(&self, seg: &mut S, key: &[u8], slot: u32, t: u64) -> (Spot, bool)
         requires short { length key.now < 2 ^ 32 }
         requires slot { slot ≡ slot_of self.now.conf key.now }
         requires stand { CacheStands S.WordsIn self.now seg.old }
         ensures spot { IsSpotOf (entries self.now.slots) key.now t result.0 }
-        ensures found { IfSome result.1 (λ head.
-            IsFound S.WordsIn seg.old key.now t (cache_of self.now) result.0.at head) }
-        ensures none { IfNone result.1 (live_row key.now t (cache_of self.now) ≡ None) }
+        ensures found { result.1 ≡ true
+            → IsFound key.now t (cache_of self.now) result.0.at }
+        ensures none { result.1 ≡ false → live_row key.now t (cache_of self.now) ≡ None }
         ensures kept { Kept S.WordsIn seg.old seg.new }
     {
         standing_laws();
         let spot = self.slots.seek(seg, key, slot, self.conf.ttl, t);
         if spot.at == 0 {
-            return (spot, None);
+            return (spot, false);
         }
-        let head = self.slots.head(seg, spot.at);
-        if head.is_hard_expired(t) {
-            return (spot, None);
+        if self.slots.is_hard_expired(seg, spot.at, t) {
+            return (spot, false);
         }
-        (spot, Some(head))
+        (spot, true)
     }
 
     // Where the row stands that a look-up of the key finds; `slot` is the key's.
@@ -96,17 +96,14 @@ impl Core {
         requires short { length key.now < 2 ^ 32 }
         requires slot { slot ≡ slot_of self.now.conf key.now }
         requires stand { CacheStands S.WordsIn self.now seg.old }
-        ensures found { IfSome result (λ spot. (head : Head)
-            × IsFound S.WordsIn seg.old key.now t (cache_of self.now) spot.at head) }
+        ensures found { IfSome result (λ spot.
+            IsFound key.now t (cache_of self.now) spot.at) }
         ensures spot { IfSome result (λ spot. IsSpot (entries self.now.slots) t spot) }
         ensures none { IfNone result (live_row key.now t (cache_of self.now) ≡ None) }
         ensures kept { Kept S.WordsIn seg.old seg.new }
     {
-        let (spot, found) = self.seek_row(seg, key, slot, t);
-        match found {
-            Some(_) => Some(spot),
-            None => None,
-        }
+        let (spot, is_live) = self.seek_row(seg, key, slot, t);
+        if is_live { Some(spot) } else { None }
     }
 
     // Where a new row of the key would stand, unless a look-up finds one; `slot` is the key's.
@@ -126,11 +123,8 @@ impl Core {
         ensures none { IfNone result (is_some (live_row key.now t (cache_of self.now)) ≡ true) }
         ensures kept { Kept S.WordsIn seg.old seg.new }
     {
-        let (spot, found) = self.seek_row(seg, key, slot, t);
-        match found {
-            Some(_) => None,
-            None => Some(spot),
-        }
+        let (spot, is_live) = self.seek_row(seg, key, slot, t);
+        if is_live { None } else { Some(spot) }
     }
 
     /// Whether a look-up of the key at the moment `t`, in seconds, finds a row. Nothing is counted.
@@ -155,11 +149,11 @@ impl Core {
         ensures beside { KeptBeside S.WordsIn seg.old seg.new }
     {
         standing_laws();
-        let Some((at, head)) = self.find_live(seg, key, t) else {
+        let Some(at) = self.find_live(seg, key, t) else {
             self.tally = self.tally.after_miss();
             return Look::Miss;
         };
-        let scalar = read_scalar(seg, head.image, head.image_len);
+        let scalar = self.scalar_at(seg, key, at);
         self.slots.touch(seg, at, t);
         self.tally = self.tally.after_hit();
         answer(at, scalar)

@@ -35,10 +35,12 @@ impl Core {
             (live_row key.now t (cache_of self.now))) }
         ensures kept { Kept S.WordsIn seg.old seg.new }
     {
-        let Some((at, head)) = self.find_live(seg, key, t) else {
+        let Some(at) = self.find_live(seg, key, t) else {
             return Ok(None);
         };
-        let value = unpersist(alloc, seg, head.image, head.image_len);
+        let image = self.slots.image_at(seg, at, key.len() as u32);
+        let len = self.slots.image_len(seg, at);
+        let value = unpersist(alloc, seg, image, len);
         Ok(Some((at, value?)))
     }
 

@@ -1,9 +1,8 @@
-ghost use Rattle.std.specs.Prelude.{◌≡◌, ℕ, ◌≤◌, ◌<◌, ◌+◌, List};
+ghost use Rattle.std.specs.Prelude.{◌≡◌, ℕ, List};
 ghost use Rattle.php_graph.specs.declared.kind.Kind.{Kind};
-ghost use Rattle.seg_words.specs.Blocks.{IsTold};
 ghost use Rattle.seg_words.specs.Kept.{Kept};
 ghost use Rattle.value_image.specs.Image.{IsImageOf};
-ghost use Rattle.cache_core.specs.Looking.{scalar_of};
+ghost use Rattle.cache_core.specs.Looking.{scalar_of, HasImage};
 
 use seg_words::WordsIn;
 use value_image::{BOOL, INT, NULL, images_are_runs, runs_stand};
@@ -28,11 +27,10 @@ pub enum Look {
 }
 
 // The value of which the image stands from place `at` on, if its first place is null, a truth value
-// or an integer.
-pub(crate) fn read_scalar<W: WordsIn>(from: &mut W, at: u32, _len: u32) -> Option<Scalar>
-    requires image { (g : List Kind) × IsImageOf (W.words from.old) at _len g }
-    requires told { (i : ℕ) → at ≤ i → i < at + _len → IsTold (W.aside from.old).windows i }
-    ensures scalar { (g : List Kind) → IsImageOf (W.words from.old) at _len g
+// or an integer. The first word says which, so that the image's length is not asked for.
+pub(crate) fn read_scalar<W: WordsIn>(from: &mut W, at: u32) -> Option<Scalar>
+    requires image { HasImage (W.words from.old) (W.aside from.old).windows at }
+    ensures scalar { (g : List Kind) (len : ℕ) → IsImageOf (W.words from.old) at len g
         → result ≡ scalar_of g }
     ensures kept { Kept W.WordsIn from.old from.new }
 {

@@ -1,5 +1,4 @@
 mod GapRuns
-mod RowWords
 mod Noted
 mod Listed
 mod Whole

@@ -4,7 +4,7 @@ use Rattle.std.proofs.Common.{Option, Some, None, Bool, not, ◌&&◌, inl, inr,
 use Rattle.std.proofs.lemmas.Bool.{eq-eqb, cases_Bool}
 use Rattle.std.proofs.lemmas.List.{map-append}
 use Rattle.std.proofs.lemmas.List.Elements.{Contains-append_left}
-use Rattle.std.specs.Prelude.{codes, find, option_map, Contains}
+use Rattle.std.specs.Prelude.{find, option_map, Contains}
 use Rattle.seg_words.specs.declared.extents.Extent.{Extent}
 use Rattle.seg_words.specs.Gaps.{free_runs}
 use Rattle.seg_words.specs.Members.{Contains-first, Contains-later, any_from}
@@ -16,8 +16,7 @@ use Rattle.apcu_model.specs.declared.counts.Counts.{Counts}
 use Rattle.apcu_model.specs.declared.noted.ListedRow.{ListedRow}
 use Rattle.apcu_model.specs.Cache.{Row, Cache, counts_of, extent_of, has_key}
 use Rattle.apcu_model.specs.Expiry.{live_row, is_hard_expired}
-use Rattle.apcu_model.specs.Infos.{told_field, told_number, told_array, told_counts, told_rows}
-use Rattle.apcu_model.specs.Infos.{number_kind, word_bytes, row_words, listed_of, gaps_of}
+use Rattle.apcu_model.specs.Infos.{told_array, told_counts, told_rows, row_words, listed_of, gaps_of}
 use Rattle.apcu_model.specs.Infos.{cache_info_of, sma_info_of, told_words, told_gaps, gap_words_of}
 use Rattle.apcu_model.specs.Walk.{in_slot_order}
 use Rattle.entry_slots.specs.declared.slots.EntrySlots.{EntrySlots}
@@ -28,36 +27,22 @@ use Rattle.cache_core.specs.declared.scalar.Scalar.{Scalar}
 use Rattle.cache_core.specs.Looking.{scalar_of}
 use Rattle.cache_info.proofs.GapRuns.{runs_alike}
 
-words_alike : (conf : Conf) (counts : Counts) (w v : ℕ)
-    → number_kind (word_bytes w) ≡ number_kind (word_bytes v)
-    → told_counts conf counts w ≡ told_counts conf counts v
-words_alike conf counts w v e = λ i.
-    told_field (codes "num_slots") (told_number conf.slots)
-    ∷ told_field (codes "ttl") (told_number conf.ttl)
-    ∷ told_field (codes "num_hits") (told_number counts.hits)
-    ∷ told_field (codes "num_misses") (told_number counts.misses)
-    ∷ told_field (codes "num_inserts") (told_number counts.inserts)
-    ∷ told_field (codes "num_entries") (told_number counts.entries)
-    ∷ told_field (codes "expunges") (told_number counts.expunges)
-    ∷ told_field (codes "mem_size") (λ place. e i ∷ [])
-    ∷ []
-
 counts_alike : (c : Cache) (conf : Conf) (counts : Counts) (w : ℕ) → conf ≡ c.conf
-    → counts ≡ counts_of c → number_kind (word_bytes w) ≡ number_kind (word_bytes (row_words c))
+    → counts ≡ counts_of c → w ≡ row_words c
     → told_counts conf counts w ≡ told_counts c.conf (counts_of c) (row_words c)
 counts_alike c conf counts w shape many words =
     ap (λ f. told_counts f counts w) shape ∙ ap (λ n. told_counts c.conf n w) many
-    ∙ words_alike c.conf (counts_of c) w (row_words c) words
+    ∙ ap (told_counts c.conf (counts_of c)) words
 
 pub limited_told : (c : Cache) (conf : Conf) (counts : Counts) (w : ℕ) → conf ≡ c.conf
-    → counts ≡ counts_of c → number_kind (word_bytes w) ≡ number_kind (word_bytes (row_words c))
+    → counts ≡ counts_of c → w ≡ row_words c
     → told_array (told_counts conf counts w) 1 ≡ cache_info_of true c
 limited_told c conf counts w shape many words =
     ap (λ l. told_array l 1) (counts_alike c conf counts w shape many words)
 
 pub whole_told : (c : Cache) (conf : Conf) (counts : Counts) (w : ℕ) (rows removed : List ListedRow)
     → conf ≡ c.conf → counts ≡ counts_of c
-    → number_kind (word_bytes w) ≡ number_kind (word_bytes (row_words c))
+    → w ≡ row_words c
     → rows ≡ map listed_of (in_slot_order c.conf c.rows) → removed ≡ map listed_of c.removed
     → told_array (told_counts conf counts w ++ told_rows rows removed) 1 ≡ cache_info_of false c
 whole_told c conf counts w rows removed shape many words are gone =

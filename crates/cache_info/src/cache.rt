@@ -5,7 +5,7 @@ ghost use Rattle.apcu_model.specs.Infos.{cache_info_of};
 ghost use Rattle.cache_core.specs.Caching.{cache_of, CacheStands};
 ghost use Rattle.cache_core.specs.Events.{IsUnchanged};
 
-use crate::rows::{list_removed, list_rows, words_of};
+use crate::rows::{list_removed, list_rows};
 use apcu_model::{tell_cache, tell_counts};
 use cache_core::Core;
 use php_graph::Graph;
@@ -16,7 +16,8 @@ use std::alloc::{AllocError, Global};
 /// whose time is over too. Unless `limited`, the rows are listed by slot and place, and then the
 /// removed rows in the order in which they were dropped. Nothing changes.
 ///
-/// It takes as long as there are slots and rows. Want of memory is the only refusal.
+/// It takes as long as there are slots and rows; where `limited`, as long as there are removed rows.
+/// Want of memory is the only refusal.
 pub fn cache_info<S: Segment>(
     alloc: Global,
     core: &mut Core,
@@ -30,7 +31,7 @@ pub fn cache_info<S: Segment>(
     let conf = *core.conf();
     let counts = core.counts();
     let slots = core.slots();
-    let words = words_of(slots, seg);
+    let words = u64::from(slots.row_words(seg));
     if limited {
         return tell_counts(alloc, conf, counts, words);
     }

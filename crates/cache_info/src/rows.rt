@@ -1,15 +1,13 @@
 //! Walks over the rows, by slot and place, and over the removed rows.
 
-ghost use Rattle.std.specs.Prelude.{◌≡◌, ◌+◌, ◌-◌, ◌^◌, ◌<◌, ◌++◌, map, min, sum_by};
-ghost use Rattle.std.specs.Prelude.{IfOk, OnOk};
+ghost use Rattle.std.specs.Prelude.{◌≡◌, ◌<◌, ◌++◌, map, IfOk, OnOk};
 ghost use Rattle.seg_words.specs.Kept.{Kept};
-ghost use Rattle.apcu_model.specs.Cache.{Row};
-ghost use Rattle.apcu_model.specs.Infos.{listed_of, number_kind, word_bytes};
+ghost use Rattle.apcu_model.specs.Infos.{listed_of};
 ghost use Rattle.apcu_model.specs.Walk.{in_slot_order};
 ghost use Rattle.entry_slots.specs.Entries.{chain_of};
 ghost use Rattle.entry_slots.specs.Standing.{Stand, entries};
 
-use crate::entry::{listed_at, noted_at};
+use crate::entry::listed_at;
 use apcu_model::ListedRow;
 use entry_slots::{EntrySlots, standing_laws};
 use seg_words::{Segment, WordsIn};
@@ -79,40 +77,4 @@ pub(crate) fn list_removed<S: Segment>(
         at = slots.after(seg, at);
     }
     Ok(list)
-}
-
-// The words of the blocks of a slot's rows are added to others.
-fn add_chain<S: Segment>(slots: &EntrySlots, seg: &mut S, slot: u32, words: u64) -> u64
-    requires stand { Stand S.WordsIn slots.now seg.old }
-    requires slot { slot < (entries slots.now).conf.slots }
-    ensures words { result ≡ min
-        (words + sum_by (λ (row : Row). row.size) (chain_of (entries slots.now) slot))
-        (2 ^ 64 - 1) }
-    ensures kept { Kept S.WordsIn seg.old seg.new }
-{
-    standing_laws();
-    let mut sum = words;
-    let mut at = slots.first_in(seg, slot);
-    for _passed in 0..slots.rows() {
-        if at == 0 {
-            return sum;
-        }
-        sum = sum.saturating_add(u64::from(noted_at(slots, seg, at).size));
-        at = slots.after(seg, at);
-    }
-    sum
-}
-
-// The words of the blocks of all rows, as many as are told.
-pub(crate) fn words_of<S: Segment>(slots: &EntrySlots, seg: &mut S) -> u64
-    requires stand { Stand S.WordsIn slots.now seg.old }
-    ensures words { number_kind (word_bytes result) ≡ number_kind (word_bytes
-        (sum_by (λ (row : Row). row.size) (entries slots.now).rows)) }
-    ensures kept { Kept S.WordsIn seg.old seg.new }
-{
-    let mut words = 0;
-    for slot in 0..slots.slots() {
-        words = add_chain(slots, seg, slot, words);
-    }
-    words
 }

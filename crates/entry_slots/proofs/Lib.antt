@@ -38,3 +38,5 @@ pub mod Emptying
 pub mod Spotting
 pub mod Besides
 pub mod KeyCopies
+pub mod RowWords
+pub mod Looked

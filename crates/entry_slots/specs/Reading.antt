@@ -37,3 +37,13 @@ pub record IsHeadOf (words windows : List ℕ) (head : Head) (row : Row) : Type 
 -- so do those of the segment
 abbrev pub HeadIn : {X R : Type 0} → Ghosts X R → X → Head → Row → Type 0
 HeadIn g seg head row = IsHeadOf (g.words seg) (g.aside seg).windows head row
+
+-- where the image of a row stands, and that it can be read
+pub record IsImageAt (words windows : List ℕ) (image : ℕ) (row : Row) : Type 0 where
+  pub place : image ≡ row.place + HEAD_WORDS + words_in (length row.key)
+  pub stands : IsImageOf words image (image_length row.graph) row.graph
+  pub told : (i : ℕ) → image ≤ i → i < image + image_length row.graph → IsTold windows i
+
+-- so in the words of the segment
+abbrev pub ImageIn : {X R : Type 0} → Ghosts X R → X → ℕ → Row → Type 0
+ImageIn g seg image row = IsImageAt (g.words seg) (g.aside seg).windows image row

@@ -1,11 +1,14 @@
-//! The shape of the slots, how many rows there are, and caches without rows.
+//! The shape of the slots, how many rows there are and how many words they take, and caches without
+//! rows.
 
 ghost use Rattle.std.specs.Prelude.{◌≡◌, ℕ, ◌<◌, ◌≤◌, ◌*◌, false, length, slice_index};
-ghost use Rattle.seg_words.specs.Kept.{KeptBeside};
+ghost use Rattle.std.specs.Prelude.{sum_by};
+ghost use Rattle.seg_words.specs.Kept.{Kept, KeptBeside};
 ghost use Rattle.seg_words.specs.Windows.{is_named};
 ghost use Rattle.sma_blocks.specs.Ready.{ChangesBefore};
 ghost use Rattle.apcu_model.specs.Conf.{IsGood};
-ghost use Rattle.entry_slots.specs.Entries.{no_entries};
+ghost use Rattle.apcu_model.specs.Cache.{Row};
+ghost use Rattle.entry_slots.specs.Entries.{IsWhole, no_entries};
 ghost use Rattle.entry_slots.specs.Standing.{Stand, IsStanding, entries};
 
 use crate::slots::EntrySlots;
@@ -68,6 +71,26 @@ impl EntrySlots {
         ensures rows { result ≡ length (entries self.now).rows }
     {
         self.count
+    }
+
+    /// How many words the blocks of all rows have. No block may be loose.
+    ///
+    /// Blocks and gaps fill the words behind the slots, so these are what the gaps and the removed
+    /// rows leave of them: it takes as long as there are removed rows, however many rows there are.
+    pub fn row_words<S: Segment>(&self, seg: &mut S) -> u32
+        requires stand { Stand S.WordsIn self.now seg.old }
+        requires whole { IsWhole (entries self.now) }
+        ensures words { result ≡ sum_by (λ (row : Row). row.size) (entries self.now).rows }
+        ensures kept { Kept S.WordsIn seg.old seg.new }
+    {
+        let free = self.sma.free_words(seg);
+        let mut words = self.sma.to - self.sma.from - free;
+        let mut at = self.removed;
+        while at != 0 {
+            words -= seg.load(at) as u32;
+            at = self.after(seg, at);
+        }
+        words
     }
 }
 

@@ -7,6 +7,7 @@ mod copying;
 mod head;
 mod keys;
 mod laws;
+mod looking;
 mod lower;
 mod reading;
 mod removed;

@@ -6,16 +6,15 @@ ghost use Rattle.std.specs.Prelude.{length, slice_index, Contains};
 ghost use Rattle.entry_slots.specs.declared.head.TheConstants.{NEXT};
 ghost use Rattle.std.specs.List.{list_any};
 ghost use Rattle.seg_words.specs.Kept.{Kept, KeptBeside};
-ghost use Rattle.apcu_model.specs.Cache.{Row};
 ghost use Rattle.apcu_model.specs.Expiry.{is_expired};
 ghost use Rattle.apcu_model.specs.Walk.{slot_of};
 ghost use Rattle.entry_slots.specs.Lists.{has_place};
-ghost use Rattle.entry_slots.specs.Entries.{chain_of, listed, block_for, IsListed};
+ghost use Rattle.entry_slots.specs.Entries.{chain_of, block_for};
 ghost use Rattle.entry_slots.specs.Entries.{linked, unlinked_at};
 ghost use Rattle.entry_slots.specs.Standing.{Stand, IsStanding, entries};
 ghost use Rattle.entry_slots.specs.Spots.{IsSpot, IsSpotOf};
 
-use crate::head::{ATIME, CTIME, NEXT, TTL, is_expired_by};
+use crate::head::NEXT;
 use crate::lower::lower_laws;
 use crate::reading::{count_after, next_of};
 use crate::slots::EntrySlots;
@@ -54,21 +53,6 @@ impl EntrySlots {
         (hash_of(key) % u64::from(self.sma.from)) as u32
     }
 
-    // Whether the row at a place is expired.
-    fn is_stale<S: Segment>(&self, seg: &mut S, at: u32, limit: u32, t: u64) -> bool
-        requires stand { Stand S.WordsIn self.now seg.old }
-        requires there { has_place at (listed (entries self.now)) ≡ true }
-        requires limit { limit ≡ (entries self.now).conf.ttl }
-        ensures stale { (row : Row) → IsListed (entries self.now) at row
-            → result ≡ is_expired (entries self.now).conf t row }
-        ensures kept { Kept S.WordsIn seg.old seg.new }
-    {
-        let own = seg.load(at + TTL);
-        let ctime = seg.load(at + CTIME);
-        let atime = seg.load(at + ATIME);
-        is_expired_by(own, ctime, atime, limit, t)
-    }
-
     /// Finds where the row of a key stands, by one walk along the chain of its slot as far as
     /// there. `limit` is the cache's time limit.
     pub fn seek<S: Segment>(&self, seg: &mut S, key: &[u8], slot: u32, limit: u32, t: u64) -> Spot
@@ -99,7 +83,7 @@ impl EntrySlots {
                     stale,
                 };
             }
-            let over = self.is_stale(seg, at, limit, t);
+            let over = self.is_expired(seg, at, limit, t);
             stale = either(stale, over);
             link = at + NEXT;
             at = next_of(seg, at);
@@ -130,7 +114,7 @@ impl EntrySlots {
             if at == 0 {
                 return false;
             }
-            if self.is_stale(seg, at, limit, t) {
+            if self.is_expired(seg, at, limit, t) {
                 return true;
             }
             at = next_of(seg, at);

@@ -28,6 +28,8 @@ fn sets_and_uses(rt: HostRuntime) -> Result<(), Fail> {
     };
     assert_eq!(rt; numbers_of(&read), [2, 45, 2, 16, 0, 9, 9, 0, 1, 0, 1]);
     assert!(rt; read.has_key && read.next == 0);
+    assert_eq!(rt; read.image, (45, 2));
+    assert!(rt; !read.is_over);
     assert_eq!(rt; words.into_words().get(46), Some(&u64::MAX));
     Ok(())
 }
@@ -38,6 +40,9 @@ struct Read {
     head: Head,
     has_key: bool,
     next: u32,
+    // The place of the image and its length.
+    image: (u32, u32),
+    is_over: bool,
 }
 
 // The key's length, the image's place and length, and the block's size; when it was created,
@@ -121,10 +126,15 @@ fn read_at<S: Segment>(slots: &EntrySlots, seg: &mut S, at: u32, key: &[u8]) -> 
     let head = slots.head(seg, at);
     let has_key = slots.key_is(seg, at, key);
     let next = slots.after(seg, at);
+    let place = slots.image_at(seg, at, key.len() as u32);
+    let len = slots.image_len(seg, at);
+    let is_over = slots.is_hard_expired(seg, at, 9);
     Read {
         head,
         has_key,
         next,
+        image: (place, len),
+        is_over,
     }
 }
 

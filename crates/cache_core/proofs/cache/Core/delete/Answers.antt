@@ -33,8 +33,8 @@ drop_row_at-requires-clause-spot g c = (c.args.t, c.in-Some.ensures.spot)
 
 pub drop_row_at-requires-clause-there : goal.drop_row_at-requires-clause-there
 drop_row_at-requires-clause-there g c =
-    let f = c.in-Some.ensures.found.1 in
-    subst (λ n. has_place n (entries c.args.self.now.slots).rows ≡ true) f.place (place_there (entries c.args.self.now.slots).rows f.row f.there)
+    let f = c.in-Some.ensures.found in
+    subst (λ n. has_place n (entries c.args.self.now.slots).rows ≡ true) f.is_row.place (place_there (entries c.args.self.now.slots).rows f.row f.is_row.there)
 
 pub returns-in_default : goal.returns-in_default
 returns-in_default g c =
@@ -51,7 +51,7 @@ returns g c =
     let core = c.args.self.now in
     let new : Core = record core { slots = c.drop_row_at.new.slots } in
     let s = entries core.slots in
-    let f = c.in-Some.ensures.found.1 in
+    let f = c.in-Some.ensures.found in
     let at = c.in-Some.spot.at in
     let laws = c.lower_laws.ensures in
     let drops = c.drop_row_at.ensures.drops in

@@ -4,4 +4,4 @@ use Rattle.cache_core.proofs.Live.{found_some}
 use Rattle.cache_core.proofs.cache.Core.exists.Goals as goal
 
 pub returns-clause-found : goal.returns-clause-found
-returns-clause-found g c = c.is_some.ensures ∙ found_some g.S.WordsIn c.args.seg.now c.args.key.now c.args.t (cache_of c.args.self.now) c.find_live.result c.find_live.ensures.found c.find_live.ensures.none
+returns-clause-found g c = c.is_some.ensures ∙ found_some c.args.key.now c.args.t (cache_of c.args.self.now) c.find_live.result c.find_live.ensures.found c.find_live.ensures.none

@@ -1,7 +1,4 @@
 use Rattle.std.proofs.Common.{◌≡◌, true, refl, sym, ap, ◌∙◌, subst}
-use Rattle.seg_words.specs.Windows.{Aside}
-use Rattle.seg_words.specs.Blocks.{IsTold}
-use Rattle.value_image.specs.Image.{IsImageOf}
 use Rattle.apcu_model.specs.Sequential.{looked_up}
 use Rattle.entry_slots.specs.Lists.{has_place}
 use Rattle.entry_slots.specs.Standing.{entries}
@@ -32,35 +29,29 @@ returns-in_default-clause-does g c =
       step = quiet (record { aside = kept.aside; rest = kept.rest }) (same_open (g.S.WordsIn.aside c.find_live.new.seg).windows (entries core.slots)) refl stands;
     }
 
-pub read_scalar-scalar-requires-clause-image : goal.read_scalar-scalar-requires-clause-image
-read_scalar-scalar-requires-clause-image g c =
-    let f = c.in-Some.ensures.found in
-    let head = c.in-Some.head in
-    (f.row.graph, subst (λ ws. IsImageOf ws head.image head.image_len f.row.graph) (sym c.find_live.ensures.kept.words) f.head_is.image_stands)
+pub scalar_at-scalar-requires-clause-stand : goal.scalar_at-scalar-requires-clause-stand
+scalar_at-scalar-requires-clause-stand g c = record { stand = stand_kept c.args.self.now.slots c.find_live.ensures.kept c.requires.stand.stand; whole = c.requires.stand.whole }
 
-pub read_scalar-scalar-requires-clause-told : goal.read_scalar-scalar-requires-clause-told
-read_scalar-scalar-requires-clause-told g c = λ i low high.
-    subst (λ (a : Aside). IsTold a.windows i) (sym c.find_live.ensures.kept.aside) (c.in-Some.ensures.found.head_is.image_told i low high)
+pub scalar_at-scalar-requires-clause-there : goal.scalar_at-scalar-requires-clause-there
+scalar_at-scalar-requires-clause-there g c = let f = c.in-Some.ensures.found in (f.row, f.is_row)
 
 pub touch-requires-clause-stand : goal.touch-requires-clause-stand
-touch-requires-clause-stand g c = stand_kept c.args.self.now.slots c.read_scalar-scalar.ensures.kept (stand_kept c.args.self.now.slots c.find_live.ensures.kept c.requires.stand.stand)
+touch-requires-clause-stand g c = stand_kept c.args.self.now.slots c.scalar_at-scalar.ensures.kept (stand_kept c.args.self.now.slots c.find_live.ensures.kept c.requires.stand.stand)
 
 pub touch-requires-clause-there : goal.touch-requires-clause-there
 touch-requires-clause-there g c =
     let f = c.in-Some.ensures.found in
-    subst (λ n. has_place n (entries c.args.self.now.slots).rows ≡ true) f.place (place_there (entries c.args.self.now.slots).rows f.row f.there)
+    subst (λ n. has_place n (entries c.args.self.now.slots).rows ≡ true) f.is_row.place (place_there (entries c.args.self.now.slots).rows f.row f.is_row.there)
 
 pub returns-clause-look : goal.returns-clause-look
 returns-clause-look g c =
     let f = c.in-Some.ensures.found in
-    let head = c.in-Some.head in
-    let image = subst (λ ws. IsImageOf ws head.image head.image_len f.row.graph) (sym c.find_live.ensures.kept.words) f.head_is.image_stands in
     c.answer.ensures
-    ∙ (ap (look_at c.in-Some.at) (c.read_scalar-scalar.ensures.scalar f.row.graph image)
-    ∙ (ap (λ n. look_at n (scalar_of f.row.graph)) (sym f.place) ∙ ap look_of (sym f.live)))
+    ∙ (ap (look_at c.in-Some.at) (c.scalar_at-scalar.ensures.scalar f.row f.is_row)
+    ∙ (ap (λ n. look_at n (scalar_of f.row.graph)) (sym f.is_row.place) ∙ ap look_of (sym f.live)))
 
 pub returns-clause-beside : goal.returns-clause-beside
-returns-clause-beside g c = beside_then c.find_live.ensures.kept (beside_then c.read_scalar-scalar.ensures.kept c.touch.ensures.beside)
+returns-clause-beside g c = beside_then c.find_live.ensures.kept (beside_then c.scalar_at-scalar.ensures.kept c.touch.ensures.beside)
 
 pub returns-clause-does : goal.returns-clause-does
 returns-clause-does g c =

@@ -16,8 +16,8 @@ loop-passed-init g c = record {
   kept = record { words = refl; aside = refl; rest = refl };
 }
 
-pub is_stale-requires : goal.is_stale-requires
-is_stale-requires g c =
+pub is_expired-requires : goal.is_expired-requires
+is_expired-requires g c =
     let s = entries c.args.self.now in
     let here = rest_at c.loop-passed.invariant.rest_of c.if-at-eq0.false in
     record {
@@ -29,18 +29,18 @@ is_stale-requires g c =
 pub returns-then-at-eq0-clause-expired : goal.returns-then-at-eq0-clause-expired
 returns-then-at-eq0-clause-expired g c = rest_end c.requires.stand c.loop-passed.invariant.rest_of c.if-at-eq0.true
 
-pub returns-then-is_stale-clause-expired : goal.returns-then-is_stale-clause-expired
-returns-then-is_stale-clause-expired g c =
+pub returns-then-is_expired-clause-expired : goal.returns-then-is_expired-clause-expired
+returns-then-is_expired-clause-expired g c =
     let here = rest_at c.loop-passed.invariant.rest_of c.if-at-eq0.false in
-    rest_expired here (sym c.if-is_stale.true ∙ c.is_stale.ensures.stale here.row (rest_listed here))
+    rest_expired here (sym c.if-is_expired.true ∙ c.is_expired.ensures.expired here.row (rest_listed here))
 
 pub next_of-at-requires : goal.next_of-at-requires
 next_of-at-requires g c =
     let s = entries c.args.self.now in
     let here = rest_at c.loop-passed.invariant.rest_of c.if-at-eq0.false in
-    let entry : HasEntryAt c.args.self.now (g.S.WordsIn.words c.is_stale.new.seg) (g.S.WordsIn.aside c.is_stale.new.seg) c.loop-passed.at = record {
+    let entry : HasEntryAt c.args.self.now (g.S.WordsIn.words c.is_expired.new.seg) (g.S.WordsIn.aside c.is_expired.new.seg) c.loop-passed.at = record {
       entries = s;
-      stand = stands_along (g.S.WordsIn.words c.is_stale.new.seg) (g.S.WordsIn.aside c.is_stale.new.seg) c.requires.stand (c.is_stale.ensures.kept.words ∙ c.loop-passed.invariant.kept.words) (c.is_stale.ensures.kept.aside ∙ c.loop-passed.invariant.kept.aside);
+      stand = stands_along (g.S.WordsIn.words c.is_expired.new.seg) (g.S.WordsIn.aside c.is_expired.new.seg) c.requires.stand (c.is_expired.ensures.kept.words ∙ c.loop-passed.invariant.kept.words) (c.is_expired.ensures.kept.aside ∙ c.loop-passed.invariant.kept.aside);
       there = listed_there s c.loop-passed.at here.row (rest_listed here);
     } in
     let r = row_there entry in
@@ -53,11 +53,11 @@ next_of-at-requires g c =
 
 pub loop-passed-preserved : goal.loop-passed-preserved
 loop-passed-preserved g c =
-    let words = c.is_stale.ensures.kept.words ∙ c.loop-passed.invariant.kept.words in
+    let words = c.is_expired.ensures.kept.words ∙ c.loop-passed.invariant.kept.words in
     let here = rest_at c.loop-passed.invariant.rest_of c.if-at-eq0.false in
     record {
-      rest_of = rest_next c.next_of-at.result here (sym c.if-is_stale.false ∙ c.is_stale.ensures.stale here.row (rest_listed here)) (c.next_of-at.ensures.next ∙ ap (λ (w : List ℕ). slice_index w (c.loop-passed.at + 1)) words);
-      kept = record { words = c.next_of-at.ensures.kept.words ∙ words; aside = c.next_of-at.ensures.kept.aside ∙ (c.is_stale.ensures.kept.aside ∙ c.loop-passed.invariant.kept.aside); rest = c.next_of-at.ensures.kept.rest ∙ (c.is_stale.ensures.kept.rest ∙ c.loop-passed.invariant.kept.rest) };
+      rest_of = rest_next c.next_of-at.result here (sym c.if-is_expired.false ∙ c.is_expired.ensures.expired here.row (rest_listed here)) (c.next_of-at.ensures.next ∙ ap (λ (w : List ℕ). slice_index w (c.loop-passed.at + 1)) words);
+      kept = record { words = c.next_of-at.ensures.kept.words ∙ words; aside = c.next_of-at.ensures.kept.aside ∙ (c.is_expired.ensures.kept.aside ∙ c.loop-passed.invariant.kept.aside); rest = c.next_of-at.ensures.kept.rest ∙ (c.is_expired.ensures.kept.rest ∙ c.loop-passed.invariant.kept.rest) };
     }
 
 pub returns-clause-expired : goal.returns-clause-expired

@@ -34,8 +34,8 @@ key_is-requires g c =
       short = c.requires.short;
     }
 
-pub is_stale-over-requires : goal.is_stale-over-requires
-is_stale-over-requires g c =
+pub is_expired-over-requires : goal.is_expired-over-requires
+is_expired-over-requires g c =
     let s = entries c.args.self.now in
     record {
       stand = stands_along (g.S.WordsIn.words c.key_is.new.seg) (g.S.WordsIn.aside c.key_is.new.seg) c.requires.stand (c.key_is.ensures.kept.words ∙ c.loop-passed.invariant.kept.words) (c.key_is.ensures.kept.aside ∙ c.loop-passed.invariant.kept.aside);
@@ -47,9 +47,9 @@ pub next_of-at-requires : goal.next_of-at-requires
 next_of-at-requires g c =
     let s = entries c.args.self.now in
     let step = path_step c.loop-passed.invariant.path c.if-at-eq0.false in
-    let entry : HasEntryAt c.args.self.now (g.S.WordsIn.words c.is_stale-over.new.seg) (g.S.WordsIn.aside c.is_stale-over.new.seg) c.loop-passed.at = record {
+    let entry : HasEntryAt c.args.self.now (g.S.WordsIn.words c.is_expired-over.new.seg) (g.S.WordsIn.aside c.is_expired-over.new.seg) c.loop-passed.at = record {
       entries = s;
-      stand = stands_along (g.S.WordsIn.words c.is_stale-over.new.seg) (g.S.WordsIn.aside c.is_stale-over.new.seg) c.requires.stand (c.is_stale-over.ensures.kept.words ∙ (c.key_is.ensures.kept.words ∙ c.loop-passed.invariant.kept.words)) (c.is_stale-over.ensures.kept.aside ∙ (c.key_is.ensures.kept.aside ∙ c.loop-passed.invariant.kept.aside));
+      stand = stands_along (g.S.WordsIn.words c.is_expired-over.new.seg) (g.S.WordsIn.aside c.is_expired-over.new.seg) c.requires.stand (c.is_expired-over.ensures.kept.words ∙ (c.key_is.ensures.kept.words ∙ c.loop-passed.invariant.kept.words)) (c.is_expired-over.ensures.kept.aside ∙ (c.key_is.ensures.kept.aside ∙ c.loop-passed.invariant.kept.aside));
       there = listed_there s c.loop-passed.at step.row (step_listed step);
     } in
     let r = row_there entry in
@@ -82,10 +82,10 @@ returns-clause-spot g c =
 pub loop-passed-preserved : goal.loop-passed-preserved
 loop-passed-preserved g c =
     let step = path_step c.loop-passed.invariant.path c.if-at-eq0.false in
-    let words = c.is_stale-over.ensures.kept.words ∙ (c.key_is.ensures.kept.words ∙ c.loop-passed.invariant.kept.words) in
+    let words = c.is_expired-over.ensures.kept.words ∙ (c.key_is.ensures.kept.words ∙ c.loop-passed.invariant.kept.words) in
     record {
-      path = subst (λ b. Path (g.S.WordsIn.words c.args.seg.now) (entries c.args.self.now) c.args.slot c.args.key.now c.args.t c.next_of-at.result (c.loop-passed.at + 1) (c.loop-passed._passed + 1) b) (sym c.either-stale.ensures) (path_next c.next_of-at.result c.is_stale-over.result step (sym c.if-key_is.false ∙ c.key_is.ensures.is step.row (step_listed step)) (c.is_stale-over.ensures.stale step.row (step_listed step)) (c.next_of-at.ensures.next ∙ ap (λ (w : List ℕ). slice_index w (c.loop-passed.at + 1)) words));
-      kept = record { words = c.next_of-at.ensures.kept.words ∙ words; aside = c.next_of-at.ensures.kept.aside ∙ (c.is_stale-over.ensures.kept.aside ∙ (c.key_is.ensures.kept.aside ∙ c.loop-passed.invariant.kept.aside)); rest = c.next_of-at.ensures.kept.rest ∙ (c.is_stale-over.ensures.kept.rest ∙ (c.key_is.ensures.kept.rest ∙ c.loop-passed.invariant.kept.rest)) };
+      path = subst (λ b. Path (g.S.WordsIn.words c.args.seg.now) (entries c.args.self.now) c.args.slot c.args.key.now c.args.t c.next_of-at.result (c.loop-passed.at + 1) (c.loop-passed._passed + 1) b) (sym c.either-stale.ensures) (path_next c.next_of-at.result c.is_expired-over.result step (sym c.if-key_is.false ∙ c.key_is.ensures.is step.row (step_listed step)) (c.is_expired-over.ensures.expired step.row (step_listed step)) (c.next_of-at.ensures.next ∙ ap (λ (w : List ℕ). slice_index w (c.loop-passed.at + 1)) words));
+      kept = record { words = c.next_of-at.ensures.kept.words ∙ words; aside = c.next_of-at.ensures.kept.aside ∙ (c.is_expired-over.ensures.kept.aside ∙ (c.key_is.ensures.kept.aside ∙ c.loop-passed.invariant.kept.aside)); rest = c.next_of-at.ensures.kept.rest ∙ (c.is_expired-over.ensures.kept.rest ∙ (c.key_is.ensures.kept.rest ∙ c.loop-passed.invariant.kept.rest)) };
     }
 
 pub overflow_add-link : goal.overflow_add-link
