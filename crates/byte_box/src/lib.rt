@@ -1,8 +1,9 @@
-//! Byte strings that take sixteen bytes where they are kept: an address and two numbers.
+//! Byte strings that take sixteen bytes where they are kept, and none elsewhere where they are short.
 #![tactic(auto)]
 
 mod block;
 mod laws;
+mod short;
 mod string;
 
 pub use laws::strings_cross;

@@ -9,67 +9,74 @@ ghost use Rattle.std.proofs.Common.{rules};
 ghost use Rattle.byte_box.specs.ByteStrings.{AreBytes};
 
 use crate::block::{Base, Deed};
+use crate::short::{self, Short};
 use std::alloc::{AllocError, Global};
 use std::cmp::Ordering;
 use std::fmt;
 use std::marker::Model;
 use std::mem::ManuallyDrop;
 
-/// A byte string of fewer than 2^32 bytes, in sixteen bytes: where its block begins, how many bytes
-/// it holds, and how many it has room for.
+/// A byte string of fewer than 2^32 bytes, in sixteen bytes: the bytes themselves where they are
+/// fourteen or fewer, and else where their block begins, how many there are, and how much more room
+/// it has.
 pub struct ByteBox {
-    base: Base<u8>,
-    len: u32,
-    cap: u32,
-    alloc: Global,
-    deed: Deed<u8, Global>,
+    form: Form,
+}
+
+// Where the bytes are. What stands before the address has to fit in eight bytes with the tag, or a
+// string takes 24: so the room is told in 16 bits, by what it has beyond the bytes.
+enum Form {
+    Short(Short),
+    Long {
+        room_is_told: bool,
+        spare: u16,
+        len: u32,
+        base: Base<u8>,
+        alloc: Global,
+        deed: Deed<u8, Global>,
+    },
 }
 
 impl Model for ByteBox {
     ghost use Rattle.std.specs.Prelude.{List, ℕ};
-    ghost use Rattle.byte_box.specs.Blocks.{IsInBlock};
 
     ghost Value = { List ℕ };
 
-    ghost view = { λ a. a.deed.items };
+    ghost use Rattle.byte_box.specs.Forms.{bytes_of, IsSound};
 
-    ghost invariant = { IsInBlock };
+    ghost view = { λ a. bytes_of a.form };
+
+    ghost invariant = { λ a. IsSound a.form };
 }
 
 impl ByteBox {
-    /// These bytes. It takes no memory. A block with room for 2^32 bytes or more is first cut down
-    /// to what it holds; where the allocator refuses even that, it is never given back.
+    /// These bytes. It takes no memory. Fourteen and fewer are copied into the string, and their
+    /// block goes back. A block with room for 2^16 bytes or more that it does not hold is first cut
+    /// down to what it holds; where the allocator refuses even that, it is never given back.
     pub fn from_vec(items: Vec<u8>) -> ByteBox
         requires { length items.items < 2 ^ 32 }
         ensures { result ≡ items.items }
     {
-        let items = narrowed(items);
-        let base = Base {
-            ptr: items.as_ptr(),
-        };
-        let len = items.len() as u32;
-        let cap = match u32::try_from(items.capacity()) {
-            Ok(cap) => cap,
-            Err(_) => 0,
-        };
-        let alloc = *items.allocator();
-        let deed = Deed::of(items);
-        ByteBox {
-            base,
-            len,
-            cap,
-            alloc,
-            deed,
+        if items.len() <= short::MOST {
+            return ByteBox {
+                form: Form::Short(Short::of(items.as_slice())),
+            };
         }
+        in_block(items)
     }
 
-    /// A copy of these bytes. None take no memory.
+    /// A copy of these bytes. Fourteen and fewer take no memory.
     pub fn of(alloc: Global, from: &[u8]) -> Result<ByteBox, AllocError>
         requires { length from.now < 2 ^ 32 }
         ensures { IfOk result (λ bytes. bytes ≡ from.now) }
     {
+        if from.len() <= short::MOST {
+            return Ok(ByteBox {
+                form: Form::Short(Short::of(from)),
+            });
+        }
         let items = Vec::from_slice(alloc, from)?;
-        Ok(ByteBox::from_vec(items))
+        Ok(in_block(items))
     }
 
     /// The bytes.
@@ -77,29 +84,69 @@ impl ByteBox {
         ensures bytes { result.now ≡ self.now }
         ensures fits { AreBytes self.now }
     {
-        self.deed.read(self.base, self.len as usize)
+        match &self.form {
+            Form::Short(short) => short.as_slice(),
+            Form::Long {
+                len,
+                base,
+                deed,
+                ..
+            } => deed.read(*base, *len as usize),
+        }
     }
 
     /// How many bytes there are.
     pub fn len(&self) -> usize
         ensures { result ≡ length self.now }
     {
-        self.len as usize
+        match &self.form {
+            Form::Short(short) => short.len(),
+            Form::Long { len, .. } => *len as usize,
+        }
     }
 
     /// Whether there is none.
     pub fn is_empty(&self) -> bool
         ensures { result ≡ (length self.now == 0) }
     {
-        self.len == 0
+        self.len() == 0
     }
 }
 
-// The same bytes, where it can be had in a block that is counted in 32 bits.
+// The string that keeps the block of these bytes.
+fn in_block(items: Vec<u8>) -> ByteBox
+    requires many { 14 < length items.items }
+    requires few { length items.items < 2 ^ 32 }
+    ensures { result ≡ items.items }
+{
+    let items = narrowed(items);
+    let base = Base {
+        ptr: items.as_ptr(),
+    };
+    let len = items.len() as u32;
+    let (room_is_told, spare) = match u16::try_from(items.capacity() - items.len()) {
+        Ok(spare) => (true, spare),
+        Err(_) => (false, 0),
+    };
+    let alloc = *items.allocator();
+    let deed = Deed::of(items);
+    ByteBox {
+        form: Form::Long {
+            room_is_told,
+            spare,
+            len,
+            base,
+            alloc,
+            deed,
+        },
+    }
+}
+
+// The same bytes, where it can be had in a block whose further room is counted in 16 bits.
 fn narrowed(mut items: Vec<u8>) -> Vec<u8>
     ensures { result.items ≡ items.items }
 {
-    if items.capacity() > u32::MAX as usize {
+    if items.capacity() - items.len() > usize::from(u16::MAX) {
         items.shrink_to_fit();
     }
     items
@@ -107,18 +154,23 @@ fn narrowed(mut items: Vec<u8>) -> Vec<u8>
 
 impl Drop for ByteBox {
     fn drop(self) {
-        let cap = self.cap as usize;
-        let ByteBox {
-            base,
-            len: _,
-            cap: _,
-            alloc,
-            deed,
-        } = self;
-        if cap != 0 {
-            deed.free(&alloc, base, cap);
-        } else {
-            let _nothing = unsafe { ManuallyDrop::new_unchecked(deed) };
+        let ByteBox { form } = self;
+        match form {
+            Form::Short(_) => {}
+            Form::Long {
+                room_is_told,
+                spare,
+                len,
+                base,
+                alloc,
+                deed,
+            } => {
+                if room_is_told {
+                    deed.free(&alloc, base, len as usize + usize::from(spare));
+                } else {
+                    let _nothing = unsafe { ManuallyDrop::new_unchecked(deed) };
+                }
+            }
         }
     }
 }

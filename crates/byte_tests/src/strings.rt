@@ -16,6 +16,10 @@ fn copies(rt: HostRuntime) -> Result<(), Fail> {
         &b""[..],
         b"a",
         b"\x00\xff\x80",
+        b"fourteen bytes",
+        b"a fifteenth one",
+        b"of sixteen bytes",
+        b"of seventeen byte",
         b"a text of some thirty bytes, and one",
     ] {
         let copy = ByteBox::of(rt.alloc(), text)?;
@@ -26,7 +30,8 @@ fn copies(rt: HostRuntime) -> Result<(), Fail> {
     Ok(())
 }
 
-// A block that fits, one with room to spare, room alone, none, and one that grew.
+// A block that fits, one with room to spare, room alone, none, and one that grew, of few bytes and
+// of many; and those whose further room is told in 16 bits just so, or not.
 #[test]
 fn takes_blocks(rt: HostRuntime) -> Result<(), Fail> {
     let rows = [
@@ -35,6 +40,14 @@ fn takes_blocks(rt: HostRuntime) -> Result<(), Fail> {
         (5, b""),
         (0, b""),
         (2, b"some bytes"),
+        (14, b"fourteen bytes"),
+        (15, b"fourteen bytes"),
+        (15, b"a fifteenth one"),
+        (16, b"a fifteenth one"),
+        (0, b"of sixteen bytes"),
+        (64, b"of seventeen byte"),
+        (65_550, b"a fifteenth one"),
+        (65_551, b"a fifteenth one"),
     ];
     for (room, text) in rows {
         let mut bytes = Vec::with_capacity(rt.alloc(), room)?;
@@ -48,11 +61,12 @@ fn takes_blocks(rt: HostRuntime) -> Result<(), Fail> {
 // process has addresses for 128 TiB. Nothing but the first bytes of a block is ever touched.
 #[test]
 fn gives_blocks_back(rt: HostRuntime) -> Result<(), Fail> {
-    for number in 0..50_000_u32 {
-        let byte = (number % 256) as u8;
-        let mut bytes = Vec::with_capacity(rt.alloc(), 3 << 30)?;
-        bytes.push(byte)?;
-        assert_eq!(rt; ByteBox::from_vec(bytes).as_slice(), [byte].as_slice());
+    for _ in 0..25_000 {
+        for text in [&b"a"[..], b"more than fourteen bytes"] {
+            let mut bytes = Vec::with_capacity(rt.alloc(), 3 << 30)?;
+            bytes.extend_from_slice(text)?;
+            assert_eq!(rt; ByteBox::from_vec(bytes).as_slice(), text);
+        }
     }
     Ok(())
 }
@@ -66,6 +80,9 @@ fn compares(rt: HostRuntime) -> Result<(), Fail> {
         (b"ab", b"abc", Ordering::Less),
         (b"b", b"abc", Ordering::Greater),
         (b"\xff", b"\x00", Ordering::Greater),
+        (b"fourteen bytes", b"fourteen bytes.", Ordering::Less),
+        (b"a fifteenth one", b"a fifteenth one", Ordering::Equal),
+        (b"zwei", b"a text of some thirty bytes", Ordering::Greater),
     ];
     for (left, right, order) in rows {
         let (left, right) = (
