@@ -1,7 +1,8 @@
 //! Texts of values, read and written.
 
 use notation::{
-    ByteOut, Cursor, ReadFault, Reason, read_integer, read_string, read_value, write_key, write_value,
+    ByteOut, Cursor, ReadFault, Reason, read_integer, read_string, read_value, write_key,
+    write_value,
 };
 use php_graph::{Graph, Kind};
 use std::alloc::Global;
