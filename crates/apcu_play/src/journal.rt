@@ -1,7 +1,8 @@
 //! What is printed of a journal.
 
-ghost use Rattle.std.specs.Prelude.{◌≡◌, ◌++◌, ◌≤◌, OnOk};
+ghost use Rattle.std.specs.Prelude.{◌≡◌, ◌++◌, ◌<◌, ◌≤◌, OnOk};
 ghost use Rattle.std.specs.Fmt.{decimal};
+ghost use Rattle.script_read.specs.Grammar.{ends_line};
 ghost use Rattle.reply_text.specs.Output.{journal_lines, mark_line, mask_text};
 
 use apcu_model::{Journal, Mark};
@@ -24,9 +25,21 @@ pub(crate) fn write_journal(out: &mut ByteOut, journal: &Journal) -> Result<(), 
 fn write_mark(out: &mut ByteOut, mark: Mark) -> Result<(), AllocError>
     ensures { OnOk result (out.new ≡ out.old ++ mark_line mark) }
 {
+    // Most events are of one of the first ten workers, and meet nobody.
+    if mark.mask == 0 && mark.worker < 10 {
+        return write_digit(out, mark.worker);
+    }
     write_number(out, mark.worker)?;
     write_mask(out, mark.mask, 64)?;
     out.push(b"\n")
+}
+
+// The line of one of the first ten workers that met nobody.
+fn write_digit(out: &mut ByteOut, worker: u32) -> Result<(), AllocError>
+    requires { worker < 10 }
+    ensures { OnOk result (out.new ≡ out.old ++ (decimal worker ++ ends_line)) }
+{
+    out.push(&[b'0' + worker as u8, b'\n'])
 }
 
 // The workers of a mask that come before this one.
