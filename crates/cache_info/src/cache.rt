@@ -16,7 +16,7 @@ use std::alloc::{AllocError, Global};
 /// whose time is over too. Unless `limited`, the rows are listed by slot and place, and then the
 /// removed rows in the order in which they were dropped. Nothing changes.
 ///
-/// It takes as long as there are slots and rows; where `limited`, as long as there are removed rows.
+/// It takes as long as there are slots and rows, where `limited` as long as there are removed rows.
 /// Want of memory is the only refusal.
 pub fn cache_info<S: Segment>(
     alloc: Global,

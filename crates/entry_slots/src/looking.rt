@@ -32,9 +32,9 @@ impl EntrySlots {
         has_passed(own, ctime, t)
     }
 
-    /// Whether the own time of the entry at a place is over at the moment `t` or, where it has none,
-    /// it was not used for longer than `limit`, the cache's, both in seconds. Only the moment that
-    /// decides it is read.
+    /// Whether the own time of the entry at a place is over at the moment `t` or, where it has
+    /// none, it was not used for longer than `limit`, the cache's, both in seconds. Only the moment
+    /// that decides it is read.
     pub fn is_expired<S: Segment>(&self, seg: &mut S, at: u32, limit: u32, t: u64) -> bool
         requires stand { Stand S.WordsIn self.now seg.old }
         requires there { has_place at (listed (entries self.now)) ≡ true }
