@@ -14,7 +14,7 @@ use std::marker::Model;
 use std::process::Abort;
 use std::test::Fail;
 
-fn string(rt: &impl Abort, alloc: Global, len: usize) -> Result<Graph, Fail> {
+pub(crate) fn string(rt: &impl Abort, alloc: Global, len: usize) -> Result<Graph, Fail> {
     assert!(rt; len < 1 << 20);
     let item = Item::Str(Bytes::from_vec(vec![in alloc; b'z'; len]?));
     let mut builder = Builder::new(alloc);
@@ -109,7 +109,7 @@ fn tells(
     Ok(())
 }
 
-const ONE: Conf = Conf {
+pub(crate) const ONE: Conf = Conf {
     words: 512,
     slots: 32,
     ttl: 0,

@@ -24,9 +24,9 @@ use php_graph::Graph;
 use pin_table::{Copying, Ended, EndedList, Image, Pass, PinTable, TableName};
 use seg_words::VecWords;
 use std::alloc::{AllocError, Global};
-use std::hint::spin_loop;
 use std::marker::Model;
 use std::sync::{Mutex, MutexGuard, Wait};
+use std::thread::yield_now;
 use value_image::unpersist;
 
 /// A cache that many workers share. Its table, its shape and its budgets are those of its name.
@@ -66,20 +66,21 @@ impl<N: TableName> Model for Shared<N> {
 }
 
 // How often the lock is tried before its queue is joined.
-const TRIES: u32 = 100;
+const TRIES: u32 = 40;
 
 // The most turns between two tries.
-const LONGEST_GAP: u32 = 512;
+const LONGEST_GAP: u32 = 64;
 
-// Lets so many turns go by.
+// Lets other threads run, so many times.
 fn idle(turns: u32) {
     for _ in 0..turns {
-        spin_loop();
+        yield_now();
     }
 }
 
 // Takes the lock. It is tried with longer and longer gaps first: a thread that has just had it, and
-// has what it guards in its processor's cache, then mostly goes on, and nobody sleeps.
+// has what it guards in its processor's cache, then mostly goes on, and nobody sleeps. In the gaps
+// others may run, whoever has the lock among them.
 pub(crate) fn locked<'a, N: TableName, R: Wait>(
     lock: &'a Mutex<Cabinet<N>>,
     rt: &R,
