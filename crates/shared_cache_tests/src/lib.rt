@@ -10,4 +10,6 @@ mod meeting;
 #[cfg(test)]
 mod steps;
 #[cfg(test)]
+mod texts;
+#[cfg(test)]
 mod works;
