@@ -1,11 +1,16 @@
 -- The parts of a place's text: what stands before its members, and from a member on.
 use Rattle.std.specs.Prelude.{ℕ, List, [], ◌++◌, length, map, drop, codes, Option, Some, None}
+use Rattle.std.specs.Fmt.{decimal}
 use Rattle.php_graph.specs.declared.key.Key.{Key}
 use Rattle.php_graph.specs.declared.child.Child.{Child}
 use Rattle.php_graph.specs.declared.kind.Kind.{Kind}
 use Rattle.php_graph.specs.declared.kind.Kind.TheVariants as kinds
 use Rattle.php_graph.specs.Building.{named}
 use Rattle.notation.specs.Notation.{kind_text, member_texts, array_head, object_head}
+
+-- what stands before the bytes of a string: how many there are
+abbrev pub string_head : ℕ → List ℕ
+string_head count = codes "s:" ++ decimal count ++ codes ":\""
 
 -- the members of a container, each name as a key
 abbrev pub members_of : Kind → List (Key × Child)

@@ -2,6 +2,7 @@ ghost use Rattle.std.specs.Prelude.{◌≡◌, ℕ, ◌≤◌, List, [], ◌++�
 
 use std::alloc::{AllocError, Global};
 use std::marker::Model;
+use std::mem::replace;
 
 /// Bytes that are being written. Contracts see them as a list.
 #[derive(Debug, Drop)]
@@ -33,6 +34,22 @@ impl ByteOut {
         ensures err { OnErr result (self.new ≡ self.old) }
     {
         self.bytes.extend_from_slice(from)
+    }
+
+    /// Bytes that were written elsewhere.
+    pub fn from_vec(bytes: Vec<u8>) -> ByteOut
+        ensures { result ≡ bytes.items }
+    {
+        ByteOut { bytes }
+    }
+
+    /// Hands the bytes out, for one that writes into their memory and gives them back.
+    pub fn take(&mut self) -> Vec<u8>
+        ensures bytes { result.items ≡ self.old }
+        ensures left { self.new ≡ [] }
+    {
+        let none = Vec::new(self.alloc());
+        replace(&mut self.bytes, none)
     }
 
     /// The bytes.

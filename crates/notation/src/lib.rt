@@ -16,7 +16,7 @@ pub use byte_out::ByteOut;
 pub use cursor::Cursor;
 pub use fault::{Fault, ReadFault, Reason};
 pub use laws::{readings_are_spellings, readings_stay_inside, texts_tell_values_apart};
-pub use pieces::write_key;
+pub use pieces::{write_key, write_string_head};
 pub use plain::{read_integer, read_string};
 pub use reading::read_value;
 pub use writing::write_value;

@@ -12,7 +12,7 @@ ghost use Rattle.php_graph.specs.declared.child.Child.{Child};
 ghost use Rattle.notation.specs.Notation.{integer_text, string_text, key_text, array_head};
 ghost use Rattle.notation.specs.Notation.{object_head};
 ghost use Rattle.notation.specs.Keys.{written_key};
-ghost use Rattle.notation.specs.Parts.{start_text, members_of};
+ghost use Rattle.notation.specs.Parts.{start_text, members_of, string_head};
 ghost use Rattle.notation.specs.Appending.{Extends, MemberStep};
 
 use crate::byte_out::ByteOut;
@@ -145,14 +145,23 @@ fn put_integer(n: i64, out: &mut ByteOut) -> Result<(), AllocError>
     out.push(b";")
 }
 
-fn put_string(bytes: &[u8], out: &mut ByteOut) -> Result<(), AllocError>
-    ensures ok { OnOk result (out.new ≡ out.old ++ string_text bytes.now) }
+/// Appends what stands before the bytes of a string that has so many. Without memory some first of
+/// it may stand there.
+pub fn write_string_head(count: usize, out: &mut ByteOut) -> Result<(), AllocError>
+    ensures ok { OnOk result (out.new ≡ out.old ++ string_head count) }
     ensures err { OnErr result (Extends out.old out.new) }
 {
     let mut buffer = Buffer::new();
     out.push(b"s:")?;
-    out.push(buffer.format(bytes.len()).as_bytes())?;
-    out.push(b":\"")?;
+    out.push(buffer.format(count).as_bytes())?;
+    out.push(b":\"")
+}
+
+fn put_string(bytes: &[u8], out: &mut ByteOut) -> Result<(), AllocError>
+    ensures ok { OnOk result (out.new ≡ out.old ++ string_text bytes.now) }
+    ensures err { OnErr result (Extends out.old out.new) }
+{
+    write_string_head(bytes.len(), out)?;
     out.push(bytes)?;
     out.push(b"\";")
 }

@@ -9,3 +9,4 @@ pub mod Fetches
 pub mod Copies
 pub mod Undone
 mod Left
+pub mod Strings

@@ -4,7 +4,8 @@
 //! pass for each worker, and room for those that end. Each call of a worker is one event: it takes
 //! the worker's pass, waits for the lock, and gives the pass back with one event less left. What it
 //! answers is what the cache of one thread answers at that place of the history. A value that a
-//! fetch finds is copied by `Shared::copy_out` without the lock. A call that finds no memory for
+//! fetch finds is copied by `Shared::copy_out` without the lock, or as its text by
+//! `Shared::copy_text`. A call that finds no memory for
 //! its answer is no event, and its pass comes back as it was. Once every worker has ended,
 //! `Shared::close` gives the journal of all events.
 #![tactic(auto)]
@@ -18,6 +19,7 @@ mod noting;
 mod opening;
 mod pinned;
 mod shared;
+mod texts;
 mod turn;
 
 pub use closed::Closed;

@@ -1,7 +1,9 @@
 //! The cache that workers share, and how it is opened.
 
-ghost use Rattle.std.specs.Prelude.{◌≡◌, ℕ, ◌<◌, ◌^◌, true, List, length, IfOk};
+ghost use Rattle.std.specs.Prelude.{◌≡◌, ℕ, ◌<◌, ◌^◌, ◌++◌, true, List, length, IfOk, OnOk};
+ghost use Rattle.std.specs.Prelude.{OnErr, IfSome, IfNone};
 ghost use Rattle.php_graph.specs.declared.kind.Kind.{Kind};
+ghost use Rattle.notation.specs.Notation.{text_of};
 ghost use Rattle.value_image.specs.Image.{IsImageOf};
 ghost use Rattle.apcu_model.specs.declared.request.Request.TheVariants as request;
 ghost use Rattle.apcu_model.specs.declared.request.Reply.TheVariants as reply;
@@ -18,8 +20,10 @@ ghost use Rattle.shared_cache.specs.Closing.{IsClosed, IsClosedWhole};
 use crate::cabinet::Cabinet;
 use crate::closed::Closed;
 use crate::pinned::Pinned;
+use crate::texts::{write_copy, write_string};
 use cache_core::Core;
 use counter_entry::IncAnswer;
+use notation::ByteOut;
 use php_graph::Graph;
 use pin_table::{Copying, Ended, EndedList, Image, Pass, PinTable, TableName};
 use seg_words::VecWords;
@@ -248,6 +252,60 @@ impl<N: TableName> Shared<N> {
             first: _,
         } = image;
         (copying.release(&self.table), value)
+    }
+
+    /// Appends the text of the value that a fetch found, and gives its block free. It waits for
+    /// nobody, and is no event. A string goes from its words into `out` without a copy between
+    /// them. Without memory the fetch stands all the same, the block is free, and `out` stays as
+    /// it was.
+    pub fn copy_text(
+        &self,
+        alloc: Global,
+        copying: Copying,
+        out: &mut ByteOut,
+    ) -> (Pass, Result<(), AllocError>)
+        requires table { copying.table ≡ N.table }
+        requires image { (g : List Kind)
+            × IsImageOf copying.copy.content 0 (length copying.copy.content) g }
+        ensures table { result.0.table ≡ copying.table }
+        ensures known { result.0.known ≡ copying.copy.known }
+        ensures text { (g : List Kind)
+            → IsImageOf copying.copy.content 0 (length copying.copy.content) g
+            → OnOk result.1 (out.new ≡ out.old ++ text_of g) }
+        ensures same { OnErr result.1 (out.new ≡ out.old) }
+    {
+        let mut copying = copying;
+        if let Some(written) = self.copy_string(&mut copying, out) {
+            return (copying.release(&self.table), written);
+        }
+        let (pass, value) = self.copy_out(alloc, copying);
+        (pass, write_copy(value, out))
+    }
+
+    // Appends the text of the value that is copied, where it is a string.
+    fn copy_string(
+        &self,
+        copying: &mut Copying,
+        out: &mut ByteOut,
+    ) -> Option<Result<(), AllocError>>
+        requires table { copying.old.table ≡ N.table }
+        requires image { (g : List Kind)
+            × IsImageOf copying.old.copy.content 0 (length copying.old.copy.content) g }
+        ensures text { (g : List Kind)
+            → IsImageOf copying.old.copy.content 0 (length copying.old.copy.content) g
+            → IfSome result (λ written. OnOk written (out.new ≡ out.old ++ text_of g)) }
+        ensures same { IfSome result (λ written. OnErr written (out.new ≡ out.old)) }
+        ensures other { IfNone result (out.new ≡ out.old) }
+        ensures kept { copying.new ≡ copying.old }
+    {
+        let mut image = copying.image(&self.table);
+        let written = write_string(&mut image, 0, out);
+        let Image {
+            table: _,
+            copying: _,
+            first: _,
+        } = image;
+        written
     }
 
     /// Ends a worker: its last event, at the moment 0.

@@ -12,4 +12,6 @@ mod meeting;
 #[cfg(test)]
 mod steps;
 #[cfg(test)]
+mod texts;
+#[cfg(test)]
 mod works;

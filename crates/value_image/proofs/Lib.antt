@@ -12,3 +12,4 @@ pub mod Walk
 pub mod OneGraph
 pub mod Counts
 pub mod Alone
+pub mod Texts

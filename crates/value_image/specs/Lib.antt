@@ -4,3 +4,4 @@ pub mod Places
 pub mod Image
 pub mod Reading
 pub mod Laws
+pub mod Texts

@@ -113,21 +113,19 @@ fn push_eight(out: &mut Vec<u8>, words: &[u64; 8])
     }
 }
 
-// So many bytes of the words from place `at` on. Each word is loaded once, eight at a time while
-// there are eight, and goes from there into the memory that is handed out.
-pub(crate) fn bytes_at<W: WordsIn>(
-    alloc: Global,
-    from: &mut W,
-    at: u32,
-    len: u32,
-) -> Result<Vec<u8>, AllocError>
+// Appends so many bytes of the words from place `at` on. There is room for them. Each word is
+// loaded once, eight at a time while there are eight, and goes from there into the memory that is
+// handed out. The memory comes by value: where its length is known to nobody else, the bytes of a
+// word become a single store.
+#[inline(always)]
+pub(crate) fn push_bytes<W: WordsIn>(out: Vec<u8>, from: &mut W, at: u32, len: u32) -> Vec<u8>
+    requires room { vec_len out + len ≤ vec_capacity out }
     requires inside { at + words_in len ≤ length (W.words from.old) }
     requires told { (i : ℕ) → at ≤ i → i < at + words_in len → IsTold (W.aside from.old).windows i }
-    ensures bytes { IfOk result (λ bytes.
-        bytes.items ≡ take len (bytes_of (drop at (W.words from.old)))) }
+    ensures bytes { result.items ≡ out.items ++ take len (bytes_of (drop at (W.words from.old))) }
     ensures kept { Kept W.WordsIn from.old from.new }
 {
-    let mut bytes = Vec::with_capacity(alloc, len as usize)?;
+    let mut bytes = out;
     let full = len / 8;
     'eights: for i in 0..full / 8 {
         let words = from.load_eight(at + 8 * i);
@@ -142,5 +140,22 @@ pub(crate) fn bytes_at<W: WordsIn>(
         let word = from.load(at + full);
         push_part(&mut bytes, word, left);
     }
-    Ok(bytes)
+    bytes
+}
+
+// So many bytes of the words from place `at` on.
+pub(crate) fn bytes_at<W: WordsIn>(
+    alloc: Global,
+    from: &mut W,
+    at: u32,
+    len: u32,
+) -> Result<Vec<u8>, AllocError>
+    requires inside { at + words_in len ≤ length (W.words from.old) }
+    requires told { (i : ℕ) → at ≤ i → i < at + words_in len → IsTold (W.aside from.old).windows i }
+    ensures bytes { IfOk result (λ bytes.
+        bytes.items ≡ take len (bytes_of (drop at (W.words from.old)))) }
+    ensures kept { Kept W.WordsIn from.old from.new }
+{
+    let bytes = Vec::with_capacity(alloc, len as usize)?;
+    Ok(push_bytes(bytes, from, at, len))
 }
