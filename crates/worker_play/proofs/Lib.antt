@@ -8,3 +8,4 @@ pub mod Iterators
 pub mod Refusing
 pub mod Looking
 pub mod PoolKeys
+pub mod Scalars

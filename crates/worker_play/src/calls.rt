@@ -16,7 +16,8 @@ ghost use Rattle.worker_play.specs.Turns.{turns_at, asks_at};
 
 use crate::chunks::totals;
 use crate::events::{
-    cache_info, cas, clear, delete, entry, exists, fetch, inc, key_info, sma_info, store,
+    cache_info, cas, clear, delete, entry, exists, fetch, fetch_text, inc, key_info, sma_info,
+    store,
 };
 use crate::noting::{note_there, note_undone, note_value, write_found};
 use crate::pools::play_pool;
@@ -28,8 +29,8 @@ use notation::ByteOut;
 use php_graph::{Bytes, Graph};
 use pin_table::{Pass, TableName};
 use reply_text::{
-    Notes, write_each, write_fetched, write_flag, write_flags, write_gave, write_info,
-    write_number, write_numbered, write_totals,
+    Notes, write_each, write_flag, write_flags, write_gave, write_info, write_number,
+    write_numbered, write_totals,
 };
 use script_read::Call;
 use shared_cache::Shared;
@@ -82,13 +83,7 @@ pub(crate) fn play_call<N: TableName, G: Gate, R: Wait>(
             t,
             out,
         ),
-        Call::FetchOne(key) => {
-            let (pass, found) = fetch(rt, alloc, shared, gate, number, pass, key, t);
-            match found {
-                Ok(found) => (pass, write_fetched(out, found.as_ref())),
-                Err(e) => (pass, Err(e)),
-            }
-        }
+        Call::FetchOne(key) => fetch_text(rt, alloc, shared, gate, number, pass, key, t, out),
         Call::FetchMany(keys) => {
             let count = keys.len();
             prove!(count <= u32::MAX);

@@ -1,22 +1,26 @@
 //! The events of a worker, each on one key: the pass goes on by one wish and its reply.
 
-ghost use Rattle.std.specs.Prelude.{◌≡◌, ◌≤◌, ◌<◌, true, List, [], ◌∷◌, length, IfOk, OnErr};
+ghost use Rattle.std.specs.Prelude.{◌≡◌, ◌≤◌, ◌<◌, ◌++◌, true, ℕ, List, [], ◌∷◌, length, IfOk};
+ghost use Rattle.std.specs.Prelude.{OnOk, OnErr};
 ghost use Rattle.php_graph.specs.declared.kind.Kind.{Kind};
 ghost use Rattle.apcu_model.specs.declared.request.Request.TheVariants as request;
 ghost use Rattle.apcu_model.specs.declared.request.Reply.{Reply};
 ghost use Rattle.apcu_model.specs.declared.request.Reply.TheVariants.{Flag, Found, Gave, Info};
 ghost use Rattle.apcu_model.specs.Levels.{most_levels};
 ghost use Rattle.apcu_model.specs.Sequential.{info_reply, number_reply};
-ghost use Rattle.reply_text.specs.Replies.{fetched};
+ghost use Rattle.notation.specs.Notation.{text_of};
+ghost use Rattle.reply_text.specs.Replies.{fetched, fetched_one};
 ghost use Rattle.shared_cache.specs.Asking.{MayAsk};
 ghost use Rattle.worker_play.specs.Goes.{wish, KnowsOwnEvents, GoesOn};
 
-use crate::scalar::graph_of_scalar;
+use crate::scalar::{graph_of_scalar, write_scalar};
 use apcu_model::Gen;
 use io_edges::{Gate, Point};
+use notation::ByteOut;
 use php_graph::{Bytes, Graph};
 use pin_table::{Pass, TableName};
 use play_laws::one_event_own;
+use reply_text::{write_fetched, write_flag};
 use shared_cache::{Pinned, Shared};
 use std::alloc::{AllocError, Global};
 use std::sync::Wait;
@@ -244,4 +248,47 @@ fn some_of(value: Result<Graph, AllocError>) -> Result<Option<Graph>, AllocError
         → IfOk result (λ found. fetched found ≡ Found g) }
 {
     Ok(Some(value?))
+}
+
+// The value of a key, printed as it is copied without the lock, and that it was there, or that it
+// was not. The fetch stands where memory is missing for the text. `number` is that of the call in
+// its script.
+pub(crate) fn fetch_text<N: TableName, G: Gate, R: Wait>(
+    rt: &R,
+    alloc: Global,
+    shared: &Shared<N>,
+    gate: &G,
+    number: u32,
+    pass: Pass,
+    key: &Bytes,
+    t: u64,
+    out: &mut ByteOut,
+) -> (Pass, Result<(), AllocError>)
+    requires pass { MayAsk N.table 2 pass }
+    requires whole { KnowsOwnEvents pass }
+    ensures { (y : Reply) × GoesOn N.conf (length N.budgets) pass result.0
+        (wish t (request.Fetch key.now) ∷ []) (y ∷ [])
+        × OnOk result.1 (out.new ≡ out.old ++ fetched_one y) }
+{
+    one_event_own();
+    let worker = pass.worker();
+    let pinned = shared.pin(rt, pass, key.as_slice(), t);
+    match pinned {
+        Pinned::Miss(pass) => (pass, write_fetched(out, None)),
+        Pinned::Scalar(pass, scalar) => (pass, write_scalar(out, scalar)),
+        Pinned::Hit(copying) => {
+            gate.reached(worker, Point::Pinned(number));
+            let (pass, copied) = shared.copy_text(alloc, copying, out);
+            (pass, write_there(out, copied))
+        }
+    }
+}
+
+// Behind a value's text, that it was there.
+fn write_there(out: &mut ByteOut, copied: Result<(), AllocError>) -> Result<(), AllocError>
+    ensures { (g : List Kind) (before : List ℕ) → OnOk copied (out.old ≡ before ++ text_of g)
+        → OnOk result (out.new ≡ before ++ fetched_one (Found g)) }
+{
+    copied?;
+    write_flag(out, true)
 }

@@ -1,12 +1,16 @@
-//! The graph of a value that a fetch answers at once.
+//! A value that a fetch answers at once: its graph, and its text.
 
-ghost use Rattle.std.specs.Prelude.{◌≡◌, IsTrue, IfOk};
+ghost use Rattle.std.specs.Prelude.{◌≡◌, ◌++◌, IsTrue, IfOk, OnOk};
 ghost use Rattle.php_graph.specs.Building.{nothing_drafted, item_fits, pushed, wants_of};
 ghost use Rattle.php_graph.specs.declared.item.Wants.TheVariants.{Value, Done};
+ghost use Rattle.apcu_model.specs.declared.request.Reply.TheVariants.{Found};
+ghost use Rattle.reply_text.specs.Replies.{fetched_one};
 ghost use Rattle.shared_cache.specs.Pinned.{graph_of};
 
 use cache_core::Scalar;
+use notation::ByteOut;
 use php_graph::{Builder, Graph, Item};
+use reply_text::{write_flag, write_number};
 use std::alloc::{AllocError, Global};
 
 // A graph of one place.
@@ -29,5 +33,19 @@ pub(crate) fn graph_of_scalar(alloc: Global, scalar: Scalar) -> Result<Graph, Al
         Scalar::Null => one_place(alloc, Item::Null),
         Scalar::Bool(b) => one_place(alloc, Item::Bool(b)),
         Scalar::Int(n) => one_place(alloc, Item::Int(n)),
+    }
+}
+
+// Appends the value's text, and that it was there.
+pub(crate) fn write_scalar(out: &mut ByteOut, scalar: Scalar) -> Result<(), AllocError>
+    ensures { OnOk result (out.new ≡ out.old ++ fetched_one (Found (graph_of scalar))) }
+{
+    match scalar {
+        Scalar::Null => out.push(b"N;b:1;"),
+        Scalar::Bool(b) => {
+            write_flag(out, b)?;
+            write_flag(out, true)
+        }
+        Scalar::Int(n) => write_number(out, Some(n)),
     }
 }

@@ -1,10 +1,8 @@
 use Rattle.std.proofs.Common.{◌≡◌, ◌<◌, ◌++◌, refl, sym, ap, subst, ◌∙◌, rules}
-use Rattle.apcu_model.specs.declared.request.Reply.{Reply}
 use Rattle.script_read.specs.declared.call.Call.{Call}
 use Rattle.script_read.specs.Calls.{HasRanges, event_bound}
 use Rattle.script_read.specs.Patterns.{call_pattern}
 use Rattle.script_read.specs.declared.call.Call.TheVariants.{StoreMany, FetchMany, ExistsMany, DeleteMany, Enabled}
-use Rattle.reply_text.specs.Replies.{fetched, fetched_one}
 use Rattle.worker_play.proofs.Going.{nothing_asked, nothing_made, on_ok, of_if_ok}
 use Rattle.worker_play.proofs.Forms.{call_asks, call_tells, told_once}
 use Rattle.worker_play.proofs.calls.play_call.Goals as goal
@@ -20,8 +18,8 @@ store_all-requires-clause-table g c = c.requires.table
 pub store_all-requires-clause-whole : goal.store_all-requires-clause-whole
 store_all-requires-clause-whole g c = c.requires.whole
 
-pub fetch-pass-requires-clause-whole : goal.fetch-pass-requires-clause-whole
-fetch-pass-requires-clause-whole g c = c.requires.whole
+pub fetch_text-requires-clause-whole : goal.fetch_text-requires-clause-whole
+fetch_text-requires-clause-whole g c = c.requires.whole
 
 pub fetch_all-requires-clause-table : goal.fetch_all-requires-clause-table
 fetch_all-requires-clause-table g c = c.requires.table
@@ -97,13 +95,11 @@ returns-in-Inc-clause-line g c = on_ok c.write_number.result (λ e. told_once _ 
 pub returns-in-Clear-clause-line : goal.returns-in-Clear-clause-line
 returns-in-Clear-clause-line g c = on_ok c.write_flag.result (λ e. told_once _ _ _ _ _ _ _ _ _ _ _ c.in-Clear.is c.clear-pass.ensures refl refl e) c.write_flag.ensures
 
-pub returns-in-Ok-value-clause-line : goal.returns-in-Ok-value-clause-line
-returns-in-Ok-value-clause-line g c = on_ok c.write_gave.result (λ e. told_once _ _ _ _ _ _ _ _ _ _ _ c.in-Entry.is (of_if_ok _ c.entry-pass.result.1 c.in-Ok-value.value c.in-Ok-value.is c.entry-pass.ensures.given) refl refl e) c.write_gave.ensures
-
 pub returns-in-Ok-clause-line : goal.returns-in-Ok-clause-line
-returns-in-Ok-clause-line g c =
-    let found = of_if_ok _ c.fetch-pass.result.1 c.in-Ok.found c.in-Ok.is c.fetch-pass.ensures.2 in
-    on_ok c.write_fetched.result (λ e. told_once _ _ _ _ _ _ _ _ _ _ _ c.in-FetchOne.is c.fetch-pass.ensures.1 refl refl (e ∙ ap (λ (y : Reply). c.args.out.now ++ fetched_one y) (ap fetched c.as_ref.ensures.value ∙ found))) c.write_fetched.ensures
+returns-in-Ok-clause-line g c = on_ok c.write_gave.result (λ e. told_once _ _ _ _ _ _ _ _ _ _ _ c.in-Entry.is (of_if_ok _ c.entry-pass.result.1 c.in-Ok.value c.in-Ok.is c.entry-pass.ensures.given) refl refl e) c.write_gave.ensures
+
+pub returns-in-FetchOne-clause-line : goal.returns-in-FetchOne-clause-line
+returns-in-FetchOne-clause-line g c = on_ok c.fetch_text.result.1 (λ e. told_once _ _ _ _ _ _ _ _ _ _ _ c.in-FetchOne.is c.fetch_text.ensures.1 refl refl e) c.fetch_text.ensures.2
 
 -- ---- an event for each key
 
@@ -148,6 +144,6 @@ pub returns-in-Enabled-clause-line : goal.returns-in-Enabled-clause-line
 returns-in-Enabled-clause-line g c =
     on_ok c.write_flag-in-Enabled.result (λ e. call_tells _ _ _ _ _ _ Enabled _ _ c.in-Enabled.is (record { asked = nothing_asked _ _ _ _ c.requires.whole; over = refl; is = e })) c.write_flag-in-Enabled.ensures
 
-pub returns-in-Err-value-clause-reaches : goal.returns-in-Err-value-clause-reaches
-returns-in-Err-value-clause-reaches g c =
-    nothing_made _ _ _ _ _ c.entry-pass.result.1 c.in-Err-value.e c.in-Err-value.is c.entry-pass.ensures.same c.requires.whole
+pub returns-in-Err-clause-reaches : goal.returns-in-Err-clause-reaches
+returns-in-Err-clause-reaches g c =
+    nothing_made _ _ _ _ _ c.entry-pass.result.1 c.in-Err.e c.in-Err.is c.entry-pass.ensures.same c.requires.whole
