@@ -1,4 +1,4 @@
-use Rattle.std.proofs.Common.{◌≡◌, ◌++◌, ℕ, List, true, codes, OnOk, append_assoc, ap, subst, sym, ◌∙◌}
+use Rattle.std.proofs.Common.{rules, ◌≡◌, ◌++◌, ℕ, List, true, codes, OnOk, append_assoc, ap, subst, sym, ◌∙◌}
 use Rattle.cache_core.specs.declared.scalar.Scalar.{Scalar}
 use Rattle.notation.specs.Notation.{integer_text, text_of}
 use Rattle.reply_text.specs.Replies.{flag_text}
@@ -21,4 +21,5 @@ returns-in_ok-write_flag-in-Bool c =
 pub returns-in-Int : goal.returns-in-Int
 returns-in-Int c =
     let text : text_of (graph_of c.args.scalar) ≡ integer_text c.in-Int.n = ap (λ (s : Scalar). text_of (graph_of s)) c.in-Int.is ∙ number-text c.in-Int.n in
-    subst (λ (t : List ℕ). OnOk c.write_number.result (c.write_number.new.out ≡ c.args.out.now ++ (t ++ codes "b:1;"))) (sym text) c.write_number.ensures
+    let written : OnOk c.write_number.result (c.write_number.new.out ≡ c.args.out.now ++ (integer_text c.in-Int.n ++ codes "b:1;")) = search rules in
+    subst (λ (t : List ℕ). OnOk c.write_number.result (c.write_number.new.out ≡ c.args.out.now ++ (t ++ codes "b:1;"))) (sym text) written
