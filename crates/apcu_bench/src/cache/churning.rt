@@ -44,18 +44,19 @@ struct Rows {
 
 impl Rows {
     // The next random number below `most`, or 0 where that is 0.
-    fn draw(&mut self, most: usize) -> usize {
+    fn draw(&mut self, most: u32) -> u32 {
         self.state = drawn(self.state);
         if most == 0 {
             0
         } else {
-            (self.state >> 33) as usize % most
+            (self.state >> 33) as u32 % most
         }
     }
 
     // Takes a random row out of those that stand.
     fn take_one(&mut self) -> Option<Standing> {
-        let at = self.draw(self.standing.len());
+        let many = u32::try_from(self.standing.len()).unwrap_or(u32::MAX);
+        let at = self.draw(many) as usize;
         if at >= self.standing.len() {
             return None;
         }
@@ -66,7 +67,7 @@ impl Rows {
 
     // A new key and a text for it.
     fn new_one(&mut self) -> (Standing, u32) {
-        let text = self.draw(TEXTS as usize) as u32 % TEXTS;
+        let text = self.draw(TEXTS) % TEXTS;
         let words = (BESIDE + (LEAST + STEP * text).div_ceil(8)).next_multiple_of(2);
         let row = Standing {
             key: self.next,
