@@ -160,7 +160,7 @@ pub fn measure_churn(rt: &HostRuntime, plan: Plan, stores: u32) -> io::Result<()
         return Ok(());
     }
     let mut cache = WordCache::new(rt.alloc(), &conf)?;
-    let most = (conf.words - conf.slots) / 5 * 4;
+    let most = conf.words.saturating_sub(conf.slots) / 5 * 4;
     let times = times(rt, &mut cache, most, stores)?;
     for (name, part) in [
         ("median", 500),
