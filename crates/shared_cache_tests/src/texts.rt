@@ -75,8 +75,10 @@ fn values_are_copied_as_texts(rt: HostRuntime) -> Result<(), Fail> {
             return Err(Fail::new("open_cache"));
         };
         assert!(rt; printed::<Brand, _>(&rt, rt.alloc(), fresh, &value, &mut out));
-        let (line, copied) = out.as_slice().split_at(5);
-        assert!(rt; line == b"line ".as_slice());
+        let copied = out
+            .as_slice()
+            .strip_prefix(b"line ".as_slice())
+            .unwrap_or(&[]);
         assert!(rt; copied == text);
     }
     Ok(())
