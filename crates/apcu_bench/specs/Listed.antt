@@ -1,6 +1,6 @@
 -- Places of live blocks, from which one is picked to be given.
 use Rattle.std.specs.Prelude.{◌≡◌, ℕ, ◌<◌, List, length, slice_index}
-use Rattle.seg_words.specs.declared.extents.Extent.{Extent}
+use Rattle.seg_words.specs.declared.gaps.Extent.{Extent}
 use Rattle.sma_blocks.specs.Live.{IsLive}
 
 -- a live block stands at each of the places

@@ -1,6 +1,6 @@
 -- Histories that are one event longer.
 use Rattle.std.proofs.Common.{◌≡◌, ℕ, ◌&&◌, Bool, true, false, List, [], ◌∷◌, ◌++◌, refl, ap, ◌∙◌}
-use Rattle.apcu_model.specs.declared.event.Event.{Event}
+use Rattle.apcu_model.specs.declared.request.Event.{Event}
 use Rattle.apcu_model.specs.History.{Stage, after_event, after_events, all_legal, is_legal_mask, is_shallow, are_shallow, mark_of, marks_of}
 
 pub after-more : (m : Stage) (events : List Event) (e : Event) → after_events m (events ++ e ∷ []) ≡ after_event (after_events m events) e

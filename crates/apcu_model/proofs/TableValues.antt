@@ -12,9 +12,9 @@ use Rattle.php_graph.specs.declared.kind.Kind.TheVariants as kinds
 use Rattle.php_graph.specs.ByteStrings.{AreBytes}
 use Rattle.php_graph.specs.Numbers.{int_of_text}
 use Rattle.php_graph.specs.Graph.{is_array_key, are_distinct, holds_key, FitsKey}
-use Rattle.seg_words.specs.declared.extents.Extent.{Extent}
+use Rattle.seg_words.specs.declared.gaps.Extent.{Extent}
 use Rattle.apcu_model.specs.declared.conf.Conf.{Conf}
-use Rattle.apcu_model.specs.declared.counts.Counts.{Counts}
+use Rattle.apcu_model.specs.declared.noted.Counts.{Counts}
 use Rattle.apcu_model.specs.declared.noted.Noted.{Noted}
 use Rattle.apcu_model.specs.declared.noted.ListedRow.{ListedRow}
 use Rattle.apcu_model.specs.Infos.{Told, told_number, number_kind, told_string, told_numbered}

@@ -3,7 +3,7 @@ use Rattle.std.specs.List.{range_with_len}
 use Rattle.std.specs.Prelude.{◌/◌, ◌%◌, ◌==◌, filter}
 use Rattle.std.specs.Prelude.{ℕ, ◌+◌, ◌-◌, ◌*◌, ◌^◌, min, pos, Bool, if◌then◌else◌, List, [], ◌∷◌}
 use Rattle.std.specs.Prelude.{◌++◌, length, map, sum_by, codes, Option, option_map}
-use Rattle.seg_words.specs.declared.extents.Extent.{Extent}
+use Rattle.seg_words.specs.declared.gaps.Extent.{Extent}
 use Rattle.seg_words.specs.Gaps.{free_runs}
 use Rattle.php_graph.specs.declared.key.Key.{Key}
 use Rattle.php_graph.specs.declared.key.Key.TheVariants as keys
@@ -13,7 +13,7 @@ use Rattle.php_graph.specs.declared.kind.Kind.{Kind}
 use Rattle.php_graph.specs.declared.kind.Kind.TheVariants as kinds
 use Rattle.apcu_model.specs.Conf.{piece_of}
 use Rattle.apcu_model.specs.declared.conf.Conf.{Conf}
-use Rattle.apcu_model.specs.declared.counts.Counts.{Counts}
+use Rattle.apcu_model.specs.declared.noted.Counts.{Counts}
 use Rattle.apcu_model.specs.declared.noted.Noted.{Noted}
 use Rattle.apcu_model.specs.declared.noted.ListedRow.{ListedRow}
 use Rattle.apcu_model.specs.Cache.{Row, Cache, counts_of, extent_of}

@@ -10,7 +10,7 @@ use Rattle.apcu_model.specs.Numbers.{AreBelow, IsIn, IsStill, KeepsNumbers}
 use Rattle.apcu_model.specs.Rows.{are_apart}
 use Rattle.apcu_model.specs.Sequential.{cache_after, reply_to}
 use Rattle.apcu_model.specs.declared.conf.Conf.{Conf}
-use Rattle.apcu_model.specs.declared.event.Event.{Event}
+use Rattle.apcu_model.specs.declared.request.Event.{Event}
 use Rattle.apcu_model.specs.declared.journal.TheConstants.{MOST_EVENTS}
 use Rattle.apcu_model.specs.declared.request.Request.{Request}
 use Rattle.std.specs.Prelude.{Bool, List, [], false, filter, length, map, true, ℕ, ◌&&◌, ◌+◌}

@@ -27,6 +27,15 @@ pub struct Conf {
     pub segments: u32,
 }
 
+/// What a call's moment is, PHP's `apc.use_request_time`.
+#[derive(Clone, Copy, Debug, PartialEq, Eq)]
+pub enum Clock {
+    /// The second at which the call is made (`0`).
+    Line,
+    /// The second at which the call's request began (`1`).
+    Request,
+}
+
 // The words of 32 MB.
 const USUAL_WORDS: u32 = 4_194_304;
 

@@ -6,7 +6,7 @@ ghost use Rattle.apcu_model.specs.Rows.{touched_at};
 ghost use Rattle.apcu_model.specs.Walk.{is_in_slot};
 
 use crate::conf::Conf;
-use crate::value::integer;
+use crate::integers::integer;
 use php_graph::{Bytes, Graph, hash_of};
 use seg_words::Extent;
 use std::alloc::Global;

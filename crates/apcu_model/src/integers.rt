@@ -1,6 +1,8 @@
 //! Integers under keys: counted with, and set where they are as expected.
 
-ghost use Rattle.std.specs.Prelude.{◌≡◌, ◌<◌, ◌^◌, [], length, option_map, IfOk, OnOk, OnErr};
+ghost use Rattle.std.specs.Prelude.{◌≡◌, ◌<◌, ◌^◌, [], ◌∷◌, length, option_map, IfOk, OnOk};
+ghost use Rattle.std.specs.Prelude.{OnErr};
+ghost use Rattle.php_graph.specs.declared.kind.Kind.TheVariants.{Int};
 ghost use Rattle.apcu_model.specs.Cache.{Row};
 ghost use Rattle.apcu_model.specs.Counters.{counted, integer_in, integer_set, is_expected, swapped};
 ghost use Rattle.apcu_model.specs.Expiry.{live_row};
@@ -8,9 +10,15 @@ ghost use Rattle.apcu_model.specs.Rows.{IsValid, cache_in};
 
 use crate::rows::{live_in, set_in};
 use crate::state::State;
-use crate::value::integer;
 use php_graph::{Bytes, Graph, Kind};
-use std::alloc::AllocError;
+use std::alloc::{AllocError, Global};
+
+/// The value that is this integer. It takes no memory: the list of its further places is empty.
+pub fn integer(alloc: Global, n: i64) -> Graph
+    ensures { result ≡ Int n ∷ [] }
+{
+    Graph::from_places(Kind::Int(n), Vec::new(alloc), 2)
+}
 
 // The integer that a value is, if its first place is one.
 fn integer_of(value: &Graph) -> Option<i64>

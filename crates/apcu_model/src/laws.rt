@@ -3,7 +3,7 @@ ghost use Rattle.apcu_model.specs.Laws.{RowsKeepNumbers, RowsStayApart};
 ghost use Rattle.std.specs.Prelude.{◌≡◌, ◌↔◌, ◌<◌, ◌≤◌, ◌&&◌, ℕ, Bool, true, false, List, [], ◌∷◌};
 ghost use Rattle.std.specs.Prelude.{◌++◌, length, map, filter, Contains, IsTrue};
 ghost use Rattle.apcu_model.specs.declared.conf.Conf.{Conf};
-ghost use Rattle.apcu_model.specs.declared.event.Event.{Event};
+ghost use Rattle.apcu_model.specs.declared.request.Event.{Event};
 ghost use Rattle.apcu_model.specs.declared.journal.TheConstants.{MOST_EVENTS};
 ghost use Rattle.apcu_model.specs.declared.request.Request.{Request};
 ghost use Rattle.apcu_model.specs.Cache.{Row, Cache};

@@ -2,11 +2,8 @@
 #![tactic(auto)]
 
 mod ask;
-mod clock;
 mod conf;
-mod counts;
 mod entry;
-mod event;
 mod generating;
 mod generator;
 mod infos;
@@ -24,14 +21,11 @@ mod searching;
 mod state;
 mod tables;
 mod telling;
-mod value;
 
 pub use ask::Ask;
-pub use clock::Clock;
-pub use conf::{Conf, MOST_SEGMENTS, MOST_SLOTS, MOST_WORDS};
-pub use counts::Counts;
-pub use event::Event;
+pub use conf::{Clock, Conf, MOST_SEGMENTS, MOST_SLOTS, MOST_WORDS};
 pub use generator::{Gen, GenKind};
+pub use integers::integer;
 pub use items::{Chunk, ItemRow, Items};
 pub use journal::{Journal, MOST_EVENTS, Mark};
 pub use keys::Keys;
@@ -39,10 +33,9 @@ pub use laws::{
     count_laws, events_keep, held_alike, numbered, one_event_more, rows_keep_numbers,
     rows_stay_apart, works_alone,
 };
-pub use noted::{ListedRow, Noted};
+pub use noted::{Counts, ListedRow, Noted};
 pub use pairs::Pairs;
 pub use plain::Plain;
-pub use request::{Reply, Request, StoreAnswer};
+pub use request::{Event, Reply, Request, StoreAnswer};
 pub use searching::{Fields, List, Pattern};
 pub use tables::{tell_cache, tell_counts, tell_gaps, tell_key, tell_words};
-pub use value::integer;

@@ -9,7 +9,7 @@ ghost use Rattle.apcu_model.specs.declared.request.Reply.TheVariants.{Flag, Foun
 ghost use Rattle.apcu_model.specs.Sequential.{number_reply};
 
 use crate::conf::Conf;
-use crate::counts::Counts;
+use crate::noted::Counts;
 use crate::request::{Reply, Request};
 use crate::state::State;
 use php_graph::{Bytes, Graph};

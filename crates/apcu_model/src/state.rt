@@ -11,8 +11,8 @@ ghost use Rattle.apcu_model.specs.Lookups.{looked_up};
 ghost use Rattle.apcu_model.specs.Sequential.{found_in, is_stored};
 
 use crate::conf::Conf;
-use crate::counts::Counts;
 use crate::entry::Entry;
+use crate::noted::Counts;
 use crate::rows::{
     drop_expired, drop_expired_in, drop_key, list_extents, live_in, put_row, touch_in,
 };

@@ -15,8 +15,7 @@ ghost use Rattle.apcu_model.specs.Telling.{IsTellable};
 ghost use Rattle.apcu_model.specs.Infos.{told_notes, told_row, told_rows, told_words, word_bytes};
 
 use crate::conf::Conf;
-use crate::counts::Counts;
-use crate::noted::{ListedRow, Noted};
+use crate::noted::{Counts, ListedRow, Noted};
 use crate::telling::{Telling, array_of, item, list_of};
 use php_graph::{Graph, Kind, MOST_VALUES, Members};
 use seg_words::Extent;

@@ -1,6 +1,6 @@
 -- What is printed of a play.
 use Rattle.std.specs.Prelude.{◌≡◌, ℕ, Bool, true, false, List, ◌++◌, Option}
-use Rattle.apcu_model.specs.declared.clock.Clock.{Clock}
+use Rattle.apcu_model.specs.declared.conf.Clock.{Clock}
 use Rattle.apcu_model.specs.declared.conf.Conf.{Conf}
 use Rattle.apcu_model.specs.declared.journal.Mark.{Mark}
 use Rattle.apcu_model.specs.Cache.{Cache}

@@ -6,7 +6,7 @@ use Rattle.std.specs.List.{Contains, list_any, count_by}
 use Rattle.std.proofs.lemmas.List.{append-nil}
 use Rattle.std.proofs.lemmas.List.Elements.{Contains-append_left, Contains-append_right, Contains-append_cases}
 use Rattle.std.proofs.lemmas.Slice.Eq.{bytes_eq-Decides}
-use Rattle.seg_words.specs.declared.extents.Extent.{Extent}
+use Rattle.seg_words.specs.declared.gaps.Extent.{Extent}
 use Rattle.seg_words.specs.Windows.{Aside, has, is_named, held_blocks}
 use Rattle.seg_words.specs.Probing.{Goes, IsDecided, Met, goes_on, goes_nowhere}
 use Rattle.php_graph.specs.declared.kind.Kind.{Kind}

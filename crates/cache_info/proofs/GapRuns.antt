@@ -6,7 +6,7 @@ use Rattle.std.specs.Prelude.{nat_le, find, option_map}
 use Rattle.std.specs.List.{count_by, range_with_len}
 use Rattle.std.proofs.lemmas.Bool.{cases_Bool, and_parts, eqb-true, ne_eqb}
 use Rattle.std.proofs.lemmas.Bool.Decides.{nat_tests}
-use Rattle.seg_words.specs.declared.extents.Extent.{Extent}
+use Rattle.seg_words.specs.declared.gaps.Extent.{Extent}
 use Rattle.seg_words.specs.Gaps.{meets, is_free, is_whole, free_runs, runs_of, with_word}
 use Rattle.seg_words.specs.Members.{count-cons, filter_alike}
 use Rattle.entry_slots.specs.Lists.{HaveSame}

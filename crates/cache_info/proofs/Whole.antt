@@ -5,14 +5,14 @@ use Rattle.std.proofs.lemmas.Bool.{eq-eqb, cases_Bool}
 use Rattle.std.proofs.lemmas.List.{map-append}
 use Rattle.std.proofs.lemmas.List.Elements.{Contains-append_left}
 use Rattle.std.specs.Prelude.{find, option_map, Contains}
-use Rattle.seg_words.specs.declared.extents.Extent.{Extent}
+use Rattle.seg_words.specs.declared.gaps.Extent.{Extent}
 use Rattle.seg_words.specs.Gaps.{free_runs}
 use Rattle.seg_words.specs.Members.{Contains-first, Contains-later, any_from}
 use Rattle.seg_words.specs.Windows.{Aside}
 use Rattle.sma_blocks.specs.Live.{live_blocks}
 use Rattle.apcu_model.specs.Conf.{piece_of}
 use Rattle.apcu_model.specs.declared.conf.Conf.{Conf}
-use Rattle.apcu_model.specs.declared.counts.Counts.{Counts}
+use Rattle.apcu_model.specs.declared.noted.Counts.{Counts}
 use Rattle.apcu_model.specs.declared.noted.ListedRow.{ListedRow}
 use Rattle.apcu_model.specs.Cache.{Row, Cache, counts_of, extent_of, has_key}
 use Rattle.apcu_model.specs.Expiry.{live_row, is_hard_expired}

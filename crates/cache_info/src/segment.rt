@@ -1,7 +1,7 @@
 //! What is told of the segments.
 
 ghost use Rattle.std.specs.Prelude.{◌≡◌, ℕ, sum_by, IfOk};
-ghost use Rattle.seg_words.specs.declared.extents.Extent.{Extent};
+ghost use Rattle.seg_words.specs.declared.gaps.Extent.{Extent};
 ghost use Rattle.seg_words.specs.Gaps.{free_runs};
 ghost use Rattle.seg_words.specs.Kept.{Kept};
 ghost use Rattle.apcu_model.specs.Infos.{sma_info_of};

@@ -4,8 +4,8 @@ use Rattle.std.specs.Prelude.{nat_le, if◌then◌else◌, List, [], ◌∷◌, 
 use Rattle.std.specs.Prelude.{String, string_bytes}
 use Rattle.std.specs.Option.{option_map}
 use Rattle.clap.specs.Words.{App, Row, Text, fault_of, first_of, matches_of, new_app}
-use Rattle.apcu_model.specs.declared.clock.Clock.{Clock}
-use Rattle.apcu_model.specs.declared.clock.Clock.TheVariants.{Line, Request}
+use Rattle.apcu_model.specs.declared.conf.Clock.{Clock}
+use Rattle.apcu_model.specs.declared.conf.Clock.TheVariants.{Line, Request}
 use Rattle.apcu_model.specs.declared.conf.Conf.{Conf}
 use Rattle.conf_read.specs.declared.settings.Settings.{Settings}
 use Rattle.conf_read.specs.declared.task.Task.{Task}

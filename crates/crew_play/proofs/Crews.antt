@@ -6,7 +6,7 @@ use Rattle.std.proofs.lemmas.List.{same_from_push}
 use Rattle.std.proofs.lemmas.List.Elements.{Contains-append_cases}
 use Rattle.std.proofs.lemmas.Option.{slice_get_within, get_or_from_slice_get}
 use Rattle.atomic_table.specs.Seated.{TableId}
-use Rattle.apcu_model.specs.declared.clock.Clock.{Clock}
+use Rattle.apcu_model.specs.declared.conf.Clock.{Clock}
 use Rattle.apcu_model.specs.declared.conf.Conf.{Conf}
 use Rattle.pin_table.specs.Values.{Bearer}
 use Rattle.pin_table.specs.Lists.{fresh, fresh_pass}

@@ -4,7 +4,7 @@ use Rattle.std.specs.Prelude.{replicate, slice_set}
 use Rattle.std.specs.List.{range_with_len}
 use Rattle.std.proofs.lemmas.List.{length-map}
 use Rattle.std.proofs.lemmas.Option.{slice_get_within}
-use Rattle.apcu_model.specs.declared.clock.Clock.TheVariants as clocks
+use Rattle.apcu_model.specs.declared.conf.Clock.TheVariants as clocks
 use Rattle.script_read.specs.declared.script.Step.{Step}
 use Rattle.script_read.specs.Budgets.{events_in}
 use Rattle.script_read.specs.Clock.{timed, timed_step, all_timed}

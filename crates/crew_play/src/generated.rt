@@ -5,7 +5,7 @@ ghost use Rattle.std.specs.Prelude.{IsTrue, IsFalse, is_ok, ◌&&◌};
 ghost use Rattle.std.specs.Thread.{IsSync};
 ghost use Rattle.script_read.specs.Budgets.{events_in, most_events};
 ghost use Rattle.script_read.specs.Clock.{timed, all_timed};
-ghost use Rattle.apcu_model.specs.declared.clock.Clock.TheVariants.{Line};
+ghost use Rattle.apcu_model.specs.declared.conf.Clock.TheVariants.{Line};
 ghost use Rattle.pin_table.specs.Lists.{fresh};
 ghost use Rattle.generated_laws.specs.Summary.{IsLarge};
 ghost use Rattle.worker_play.specs.Ends.{HasEnded, PlaysAll};

@@ -5,7 +5,7 @@ use Rattle.std.proofs.Common.{arith, ◌^◌}
 use Rattle.std.specs.Prelude.{sum_by, Contains}
 use Rattle.std.specs.List.{count_by}
 use Rattle.std.proofs.lemmas.List.Sums.{sum_by-cons, sum_by-append}
-use Rattle.seg_words.specs.declared.extents.Extent.{Extent}
+use Rattle.seg_words.specs.declared.gaps.Extent.{Extent}
 use Rattle.seg_words.specs.Blocks.{IsTold}
 use Rattle.seg_words.specs.Gaps.{free_runs}
 use Rattle.seg_words.specs.Members.{none_in_nil, Contains-cases, Contains-first, count-cons, count-append}

@@ -1,7 +1,7 @@
 -- Which words may be stored.
 use Rattle.std.proofs.Common.{◌≡◌, ◌≢◌, inl, inr, ℕ, ◌+◌, ◌<◌, ◌≤◌, true, List, sym, ap, subst, arith}
 use Rattle.std.specs.List.{Contains}
-use Rattle.seg_words.specs.declared.extents.Extent.{Extent}
+use Rattle.seg_words.specs.declared.gaps.Extent.{Extent}
 use Rattle.seg_words.specs.Windows.{Aside, is_named}
 use Rattle.seg_words.specs.Blocks.{IsApart, MayStore}
 use Rattle.sma_blocks.specs.declared.sma.Sma.{Sma}

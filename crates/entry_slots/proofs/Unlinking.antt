@@ -4,7 +4,7 @@ use Rattle.std.proofs.lemmas.Bool.{cases_eq, eq-eqb, eqb-true, ne_eqb}
 use Rattle.std.proofs.lemmas.List.Elements.{Contains-append_cases, filter-append}
 use Rattle.std.proofs.lemmas.List.Sums.{length-filter}
 use Rattle.std.specs.List.{Contains, filter, count_by}
-use Rattle.seg_words.specs.declared.extents.Extent.{Extent}
+use Rattle.seg_words.specs.declared.gaps.Extent.{Extent}
 use Rattle.seg_words.specs.Windows.{Aside}
 use Rattle.apcu_model.specs.Cache.{Row, extent_of}
 use Rattle.apcu_model.specs.Walk.{is_in_slot, slot_of}

@@ -1,7 +1,7 @@
 -- What follows from it that words stand for entries.
 use Rattle.std.specs.Prelude.{◌≡◌, ◌⊎◌, ℕ, ◌+◌, ◌<◌, ◌≤◌, true, false, List, ◌++◌, length}
 use Rattle.std.specs.Prelude.{slice_index, count_by, Contains}
-use Rattle.seg_words.specs.declared.extents.Extent.{Extent}
+use Rattle.seg_words.specs.declared.gaps.Extent.{Extent}
 use Rattle.seg_words.specs.Windows.{Aside, is_named}
 use Rattle.seg_words.specs.declared.layout.TheConstants.{PIN_COUNT}
 use Rattle.seg_words.specs.Blocks.{IsTold, MayProbe, image_place, image_end}

@@ -3,7 +3,7 @@
 ghost use Rattle.entry_slots.specs.Laws.{StandingLaws, WindowLaws};
 ghost use Rattle.std.specs.Prelude.{◌≡◌, ◌≢◌, ℕ, ◌<◌, ◌≤◌, ◌+◌, true, false, List, [], ◌∷◌, ◌++◌};
 ghost use Rattle.std.specs.Prelude.{length, Contains, Some};
-ghost use Rattle.seg_words.specs.declared.extents.Extent.{Extent};
+ghost use Rattle.seg_words.specs.declared.gaps.Extent.{Extent};
 ghost use Rattle.seg_words.specs.Blocks.{MayProbe};
 ghost use Rattle.seg_words.specs.Windows.{Aside};
 ghost use Rattle.apcu_model.specs.Cache.{Row};

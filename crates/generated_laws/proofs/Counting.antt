@@ -9,7 +9,7 @@ use Rattle.seg_words.specs.Members.{map_there, none_in_nil}
 use Rattle.php_graph.specs.declared.kind.Kind.TheVariants as kinds
 use Rattle.php_graph.specs.Size.{block_size}
 use Rattle.apcu_model.specs.declared.conf.Conf.{Conf}
-use Rattle.apcu_model.specs.declared.event.Event.{Event}
+use Rattle.apcu_model.specs.declared.request.Event.{Event}
 use Rattle.apcu_model.specs.declared.request.Request.{Request}
 use Rattle.apcu_model.specs.declared.request.Request.TheVariants as request
 use Rattle.apcu_model.specs.declared.request.StoreAnswer.TheVariants as answers

@@ -8,7 +8,7 @@ use Rattle.std.proofs.lemmas.Bool.{and_parts, false≢true, false_from_ne_true, 
 use Rattle.std.proofs.lemmas.List.{length-append, length-map, append-nil}
 use Rattle.std.proofs.lemmas.List.Sums.{length-filter, count_by-le-length}
 use Rattle.std.proofs.lemmas.List.Elements.{Contains-append_left, Contains-append_right, Contains-append_cases}
-use Rattle.seg_words.specs.declared.extents.Extent.{Extent}
+use Rattle.seg_words.specs.declared.gaps.Extent.{Extent}
 use Rattle.seg_words.specs.Gaps.{meets, is_free, is_whole, fits, first_fit}
 use Rattle.seg_words.specs.Members.{Contains-cases, Contains-filter, Contains-map, any_there, none_in_nil, count-append, filter_none, map_there}
 use Rattle.php_graph.specs.declared.kind.Kind.{Kind}

@@ -4,7 +4,7 @@ use Rattle.std.specs.Prelude.{◌==◌, ◌/◌, nat_le, min, max, find, is_some
 use Rattle.std.specs.List.{Contains, count_by, range_with_len}
 use Rattle.std.proofs.lemmas.Bool.{cases_Bool, false≢true, and_parts, and_from, ltb-true, lt-ltb, le-leb, eq-eqb, eqb-true, not-true, false_from_ne_true, not_from_false}
 use Rattle.std.proofs.lemmas.List.FromFn.{length-range_with_len}
-use Rattle.seg_words.specs.declared.extents.Extent.{Extent}
+use Rattle.seg_words.specs.declared.gaps.Extent.{Extent}
 use Rattle.seg_words.specs.Gaps.{meets, is_free, is_whole, fits, first_fit}
 use Rattle.seg_words.specs.Segments.{whole_below}
 use Rattle.std.proofs.Math.Nat as nat

@@ -2,8 +2,8 @@
 use Rattle.std.proofs.Common.{◌≡◌, ℕ, ◌+◌, List, [], ◌∷◌, ◌++◌, map, refl, ap, ◌∙◌}
 use Rattle.std.specs.List.{range_with_len}
 use Rattle.std.proofs.lemmas.List.{map-append}
-use Rattle.apcu_model.specs.declared.clock.Clock.{Clock}
-use Rattle.apcu_model.specs.declared.clock.Clock.TheVariants as clocks
+use Rattle.apcu_model.specs.declared.conf.Clock.{Clock}
+use Rattle.apcu_model.specs.declared.conf.Clock.TheVariants as clocks
 use Rattle.script_read.specs.declared.call.Call.{Call}
 use Rattle.script_read.specs.declared.call.Call.TheVariants.{FetchOne}
 use Rattle.script_read.specs.declared.script.Step.{Step}

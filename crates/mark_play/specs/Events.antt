@@ -1,6 +1,6 @@
 -- Events whose requests are lent.
 use Rattle.std.specs.Prelude.{ℕ}
-use Rattle.apcu_model.specs.declared.event.Event.{Event}
+use Rattle.apcu_model.specs.declared.request.Event.{Event}
 use Rattle.apcu_model.specs.declared.request.Request.{Request}
 use Rattle.apcu_model.specs.Asking.{asked}
 use Rattle.mark_play.specs.declared.reached.Asked.{Asked}

@@ -1,7 +1,7 @@
 -- What the crates below promise of all windows, entries and histories: see their public laws.
 use Rattle.std.specs.Prelude.{◌≡◌, ◌≤◌, true, List, length}
 use Rattle.apcu_model.specs.declared.conf.Conf.{Conf}
-use Rattle.apcu_model.specs.declared.event.Event.{Event}
+use Rattle.apcu_model.specs.declared.request.Event.{Event}
 use Rattle.apcu_model.specs.declared.journal.TheConstants.{MOST_EVENTS}
 use Rattle.apcu_model.specs.History.{IsNumbered, are_shallow, stage_of}
 use Rattle.apcu_model.specs.Laws.{EventsKeep, HeldAlike, OneEventMore, RowsKeepNumbers}

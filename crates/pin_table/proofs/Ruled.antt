@@ -5,7 +5,7 @@ use lib.ListN.{get_elem?}
 use Rattle.atomic_table.specs.Table.{State, step, Allows, Splits, Joins, opening}
 use Rattle.seg_words.specs.Windows.{has}
 use Rattle.seg_words.specs.Blocks.{MayProbe}
-use Rattle.apcu_model.specs.declared.event.Event.{Event}
+use Rattle.apcu_model.specs.declared.request.Event.{Event}
 use Rattle.pin_table.specs.declared.views.Known.{Known}
 use Rattle.pin_table.specs.declared.views.Reader.{Reader}
 use Rattle.pin_table.specs.declared.views.Desk.{Desk}

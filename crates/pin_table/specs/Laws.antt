@@ -1,5 +1,5 @@
 -- The laws of this crate, as records that callers hand on.
-use Rattle.apcu_model.specs.declared.event.Event.{Event}
+use Rattle.apcu_model.specs.declared.request.Event.{Event}
 use Rattle.pin_table.specs.Events.{events_of, fetched_last, is_fetch}
 use Rattle.pin_table.specs.Order.{Carried}
 use Rattle.pin_table.specs.Rule.{Rule}

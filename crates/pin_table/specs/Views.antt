@@ -3,7 +3,7 @@ use Rattle.std.specs.Prelude.{ℕ, ◌+◌, ◌-◌, Bool, false, ◌==◌, ◌|
 use Rattle.std.specs.Prelude.{length, slice_index, slice_set, replicate, bit_or, Option, Some, None}
 use Rattle.seg_words.specs.Windows.{Aside, closed_on, holders}
 use Rattle.seg_words.specs.Blocks.{image_place}
-use Rattle.apcu_model.specs.declared.event.Event.{Event}
+use Rattle.apcu_model.specs.declared.request.Event.{Event}
 use Rattle.pin_table.specs.declared.views.Known.{Known}
 use Rattle.pin_table.specs.declared.views.Book.{Book}
 use Rattle.pin_table.specs.declared.views.Reader.{Reader}

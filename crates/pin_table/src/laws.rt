@@ -4,7 +4,7 @@ ghost use mathlib.Core.Option.{some};
 ghost use lib.ListN.{get_elem?};
 ghost use Rattle.std.specs.Int.{bit_at};
 ghost use Rattle.seg_words.specs.Windows.{has, is_named, held_by};
-ghost use Rattle.apcu_model.specs.declared.event.Event.{Event};
+ghost use Rattle.apcu_model.specs.declared.request.Event.{Event};
 ghost use Rattle.pin_table.specs.Events.{events_of, fetched_last, is_fetch};
 ghost use Rattle.pin_table.specs.declared.views.View.{View};
 ghost use Rattle.pin_table.specs.Order.{Carried};

@@ -115,7 +115,7 @@ impl Join<View> for Close {
 
 // Which event it is. The caller of a step picks it.
 pub trait Saying {
-    ghost use Rattle.apcu_model.specs.declared.event.Event.{Event};
+    ghost use Rattle.apcu_model.specs.declared.request.Event.{Event};
 
     ghost event: { Event };
 }

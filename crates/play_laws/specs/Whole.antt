@@ -1,7 +1,7 @@
 -- Histories in which workers play their scripts, and the play that such a history tells.
 use Rattle.std.specs.Prelude.{◌≡◌, ℕ, ◌+◌, ◌≤◌, true, List, [], ◌∷◌, length, map, slice_get, Some}
 use Rattle.apcu_model.specs.declared.conf.Conf.{Conf}
-use Rattle.apcu_model.specs.declared.event.Event.{Event}
+use Rattle.apcu_model.specs.declared.request.Event.{Event}
 use Rattle.apcu_model.specs.declared.request.Reply.{Reply}
 use Rattle.apcu_model.specs.History.{start_of, stage_of, all_legal}
 use Rattle.pin_table.specs.Events.{events_of}

@@ -1,6 +1,6 @@
 ghost use Rattle.std.specs.Prelude.{◌≡◌, ℕ, ◌<◌, ◌==◌, cond, List, [], ◌∷◌, ◌++◌, length, Some};
 ghost use Rattle.apcu_model.specs.declared.conf.Conf.{Conf};
-ghost use Rattle.apcu_model.specs.declared.event.Event.{Event};
+ghost use Rattle.apcu_model.specs.declared.request.Event.{Event};
 ghost use Rattle.apcu_model.specs.History.{stage_of, reply_in, marks_of};
 ghost use Rattle.pin_table.specs.Events.{events_of};
 ghost use Rattle.script_read.specs.declared.script.Step.{Step};

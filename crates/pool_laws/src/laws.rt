@@ -1,6 +1,6 @@
 ghost use Rattle.std.specs.Prelude.{◌≡◌, ℕ, List, Some};
 ghost use Rattle.apcu_model.specs.declared.conf.Conf.{Conf};
-ghost use Rattle.apcu_model.specs.declared.event.Event.{Event};
+ghost use Rattle.apcu_model.specs.declared.request.Event.{Event};
 ghost use Rattle.apcu_model.specs.declared.journal.Mark.{Mark};
 ghost use Rattle.apcu_model.specs.declared.request.Request.{Request};
 ghost use Rattle.script_read.specs.declared.script.Step.{Step};

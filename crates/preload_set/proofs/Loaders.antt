@@ -2,8 +2,8 @@
 use Rattle.std.proofs.Common.{◌≡◌, ℕ, zero, suc, ◌+◌, false, List, [], ◌∷◌, ◌++◌, length, drop, Some, None, slice_get, append_assoc, refl, sym, ap, ◌∙◌, arith}
 use Rattle.std.specs.List.{Contains}
 use Rattle.seg_words.specs.Members.{map_there}
-use Rattle.apcu_model.specs.declared.clock.Clock.{Clock}
-use Rattle.apcu_model.specs.declared.clock.Clock.TheVariants as clocks
+use Rattle.apcu_model.specs.declared.conf.Clock.{Clock}
+use Rattle.apcu_model.specs.declared.conf.Clock.TheVariants as clocks
 use Rattle.script_read.specs.declared.call.Call.TheVariants.{StoreOne}
 use Rattle.script_read.specs.declared.script.Step.{Step}
 use Rattle.script_read.specs.Budgets.{events_in}

@@ -5,7 +5,7 @@ use Rattle.std.specs.List.{Contains, range_with_len}
 use Rattle.std.proofs.lemmas.Bool.{cases_Bool, false≢true, and_from, ltb-true, le-leb, eq-eqb, false_from_ne_true, not_from_false}
 use Rattle.std.proofs.lemmas.List.Sums.{sum_by-cons}
 use Rattle.std.proofs.Math.Nat as nat
-use Rattle.seg_words.specs.declared.extents.Extent.{Extent}
+use Rattle.seg_words.specs.declared.gaps.Extent.{Extent}
 use Rattle.seg_words.specs.Gaps.{meets, is_free, is_whole, fits, first_fit}
 use Rattle.seg_words.specs.Members.{Contains-first, Contains-later}
 use Rattle.seg_words.specs.Segments.{whole_below}

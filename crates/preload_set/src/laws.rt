@@ -2,7 +2,7 @@
 
 ghost use Rattle.std.specs.Prelude.{◌≡◌, ◌≤◌, ◌+◌, ◌-◌, ◌++◌, ℕ, List, length, Contains, Some, None};
 ghost use Rattle.std.specs.List.{AllByRecursion};
-ghost use Rattle.apcu_model.specs.declared.clock.Clock.{Clock};
+ghost use Rattle.apcu_model.specs.declared.conf.Clock.{Clock};
 ghost use Rattle.apcu_model.specs.declared.conf.Conf.{Conf};
 ghost use Rattle.apcu_model.specs.declared.journal.Mark.{Mark};
 ghost use Rattle.apcu_model.specs.Conf.{IsGood};

@@ -3,7 +3,7 @@ use Rattle.std.proofs.Common.{◌≡◌, ℕ, ◌+◌, List, [], ◌∷◌, drop
 use Rattle.std.proofs.lemmas.List.{drop_more}
 use Rattle.std.proofs.lemmas.Option.{get_or_from_slice_get, slice_get_within}
 use Rattle.script_read.specs.declared.script.Step.{Step}
-use Rattle.apcu_model.specs.declared.clock.Clock.{Clock}
+use Rattle.apcu_model.specs.declared.conf.Clock.{Clock}
 use Rattle.script_read.specs.Budgets.{events_in, all_events, timed_events}
 use Rattle.script_read.specs.Calls.{event_bound}
 use Rattle.script_read.specs.Clock.{all_timed}

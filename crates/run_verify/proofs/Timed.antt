@@ -1,7 +1,7 @@
 -- Scripts as a clock sees them.
 use Rattle.std.proofs.Common.{◌≡◌, ℕ, zero, suc, List, [], ◌∷◌, ◌++◌, length, map, Some, refl, ap, sym, ◌∙◌}
 use Rattle.std.specs.Prelude.{slice_get}
-use Rattle.apcu_model.specs.declared.clock.Clock.{Clock}
+use Rattle.apcu_model.specs.declared.conf.Clock.{Clock}
 use Rattle.apcu_model.specs.declared.conf.Conf.{Conf}
 use Rattle.apcu_model.specs.declared.request.Reply.{Reply}
 use Rattle.script_read.specs.declared.script.Step.{Step}

@@ -1,6 +1,6 @@
 -- How far a journal was played.
 use Rattle.std.specs.Prelude.{◌≡◌, ℕ, Bool, true, List, length, unwrap_or, slice_get, Some}
-use Rattle.apcu_model.specs.declared.clock.Clock.{Clock}
+use Rattle.apcu_model.specs.declared.conf.Clock.{Clock}
 use Rattle.apcu_model.specs.declared.conf.Conf.{Conf}
 use Rattle.apcu_model.specs.declared.journal.Mark.{Mark}
 use Rattle.script_read.specs.declared.script.Step.{Step}

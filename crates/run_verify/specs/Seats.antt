@@ -3,7 +3,7 @@ use Rattle.std.specs.Prelude.{◌≡◌, ◌≢◌, ℕ, ◌+◌, ◌≤◌, Lis
 use Rattle.std.specs.Prelude.{Option, Some, None, Bool, true, false, is_none, slice_get, map}
 use Rattle.std.specs.Prelude.{option_map}
 use Rattle.php_graph.specs.declared.kind.Kind.{Kind}
-use Rattle.apcu_model.specs.declared.clock.Clock.{Clock}
+use Rattle.apcu_model.specs.declared.conf.Clock.{Clock}
 use Rattle.apcu_model.specs.declared.conf.Conf.{Conf}
 use Rattle.apcu_model.specs.Asking.{asked}
 use Rattle.apcu_model.specs.declared.request.Request.{Request}

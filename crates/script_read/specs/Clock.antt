@@ -1,7 +1,7 @@
 -- The moments of calls, as a clock sees them.
 use Rattle.std.specs.Prelude.{ℕ, List, map}
-use Rattle.apcu_model.specs.declared.clock.Clock.{Clock}
-use Rattle.apcu_model.specs.declared.clock.Clock.TheVariants as clocks
+use Rattle.apcu_model.specs.declared.conf.Clock.{Clock}
+use Rattle.apcu_model.specs.declared.conf.Clock.TheVariants as clocks
 use Rattle.script_read.specs.declared.call.Call.{Call}
 use Rattle.script_read.specs.declared.effect.Moments.{Moments}
 use Rattle.script_read.specs.declared.script.Step.{Step}

@@ -4,7 +4,7 @@ use Rattle.std.specs.Prelude.{◌++◌, length, map, Option, Some, None, slice_g
 use Rattle.std.specs.Prelude.{unwrap_or, is_none, IsTrue, IsSome}
 use Rattle.std.specs.Option.{option_and_then}
 use Rattle.apcu_model.specs.declared.conf.Conf.{Conf}
-use Rattle.apcu_model.specs.declared.event.Event.{Event}
+use Rattle.apcu_model.specs.declared.request.Event.{Event}
 use Rattle.apcu_model.specs.declared.journal.Mark.{Mark}
 use Rattle.apcu_model.specs.declared.request.Request.{Request}
 use Rattle.apcu_model.specs.declared.request.Request.TheVariants as requests

@@ -1,7 +1,7 @@
 -- The pieces of a map, put together.
 use Rattle.std.proofs.Common.{◌≡◌, ◌∙◌, ℕ, List, ◌++◌, length, ap, append_assoc}
 use Rattle.std.specs.Prelude.{codes, sum_by}
-use Rattle.seg_words.specs.declared.extents.Extent.{Extent}
+use Rattle.seg_words.specs.declared.gaps.Extent.{Extent}
 use Rattle.sma_blocks.specs.Live.{largest_of}
 use Rattle.seg_report.specs.Lines.{fits_text, free_text, number_line}
 

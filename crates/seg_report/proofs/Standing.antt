@@ -4,7 +4,7 @@ use Rattle.std.proofs.Common.{Option, sym, ap, ◌∙◌, subst, append-nil, ari
 use Rattle.std.proofs.lemmas.List.{map-append}
 use Rattle.std.specs.Prelude.{sum_by, nat_le, find, option_map}
 use Rattle.std.specs.List.{count_by, flat_map, range_with_len}
-use Rattle.seg_words.specs.declared.extents.Extent.{Extent}
+use Rattle.seg_words.specs.declared.gaps.Extent.{Extent}
 use Rattle.seg_words.specs.Gaps.{free_runs, is_free, runs_of}
 use Rattle.seg_words.specs.Members.{filter_alike}
 use Rattle.seg_words.specs.Windows.{Aside}

@@ -5,7 +5,7 @@ use Rattle.std.proofs.Common.{arith, append_assoc}
 use Rattle.std.specs.Prelude.{codes, option_map}
 use Rattle.std.specs.List.{flat_map}
 use Rattle.std.proofs.lemmas.Bool.{cases_Bool, eq-eqb, ne_eqb}
-use Rattle.seg_words.specs.declared.extents.Extent.{Extent}
+use Rattle.seg_words.specs.declared.gaps.Extent.{Extent}
 use Rattle.seg_words.specs.Members.{any_from}
 use Rattle.sma_blocks.specs.Live.{gaps}
 use Rattle.sma_blocks.specs.Tiles.{tiles, Fill}

@@ -9,7 +9,7 @@ use Rattle.std.proofs.lemmas.List.Elements.{Contains-append_left, Contains-appen
 use Rattle.seg_words.specs.Members.{Contains-filter}
 use Rattle.std.proofs.lemmas.List.Elements.{filter-append}
 use Rattle.std.proofs.lemmas.List.Sums.{length-filter, sum_by-append, sum_by-cons}
-use Rattle.seg_words.specs.declared.extents.Extent.{Extent}
+use Rattle.seg_words.specs.declared.gaps.Extent.{Extent}
 use Rattle.seg_words.specs.Members.{Contains-first, any_from, count-cons, counted_some}
 use Rattle.seg_words.specs.Members.{none_counted}
 use Rattle.sma_blocks.specs.Tiles.{Tile, Fill}

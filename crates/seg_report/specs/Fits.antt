@@ -1,6 +1,6 @@
 -- How many blocks of one size can be taken one after the other.
 use Rattle.std.specs.Prelude.{◌≡◌, ℕ, zero, suc, ◌/◌, List, ◌∷◌, ◌++◌, map, sum_by, Some, None}
-use Rattle.seg_words.specs.declared.extents.Extent.{Extent}
+use Rattle.seg_words.specs.declared.gaps.Extent.{Extent}
 use Rattle.seg_words.specs.Gaps.{first_fit}
 use Rattle.apcu_model.specs.Cache.{Cache, extent_of}
 use Rattle.apcu_model.specs.Conf.{piece_of}

@@ -3,7 +3,7 @@ use Rattle.std.specs.Prelude.{ℕ, ◌^◌, Bool, true, false, if◌then◌else�
 use Rattle.std.specs.Prelude.{length, sum_by, codes}
 use Rattle.std.specs.List.{flat_map, range_with_len}
 use Rattle.std.specs.Fmt.{decimal}
-use Rattle.seg_words.specs.declared.extents.Extent.{Extent}
+use Rattle.seg_words.specs.declared.gaps.Extent.{Extent}
 use Rattle.sma_blocks.specs.Live.{largest_of}
 use Rattle.php_graph.specs.Numbers.{int_of_text}
 use Rattle.notation.specs.Keys.{written_key}

@@ -1,7 +1,7 @@
 -- What stands in the words of a cache behind its slots.
 use Rattle.std.specs.Prelude.{ℕ, ◌-◌, Bool, if◌then◌else◌, List, ◌++◌, map, filter}
 use Rattle.std.specs.List.{flat_map, range_with_len}
-use Rattle.seg_words.specs.declared.extents.Extent.{Extent}
+use Rattle.seg_words.specs.declared.gaps.Extent.{Extent}
 use Rattle.seg_words.specs.Gaps.{free_runs}
 use Rattle.apcu_model.specs.declared.conf.Conf.{Conf}
 use Rattle.apcu_model.specs.Cache.{Row, Cache, extent_of}

@@ -2,7 +2,7 @@
 use Rattle.std.specs.Prelude.{◌≡◌, ℕ, ◌+◌, ◌<◌, ◌≤◌, ◌==◌, ◌&&◌, Bool, if◌then◌else◌, List, [], ◌∷◌}
 use Rattle.std.specs.Prelude.{◌++◌, length, map, filter, Option, Some, None, option_map}
 use Rattle.std.specs.List.{count_by, flat_map}
-use Rattle.seg_words.specs.declared.extents.Extent.{Extent}
+use Rattle.seg_words.specs.declared.gaps.Extent.{Extent}
 use Rattle.sma_blocks.specs.Live.{gaps, lives}
 use Rattle.sma_blocks.specs.Tiles.{Tile, tiles}
 use Rattle.sma_blocks.specs.Walk.{IsEdge}

@@ -4,7 +4,7 @@ use mathlib.Core.List.{IsPrefix}
 use Rattle.seg_words.specs.declared.vec_words.VecWords.{VecWords}
 use Rattle.seg_words.specs.contracts.vec_words.VecWordsWordsIn.TheImpl as held
 use Rattle.apcu_model.specs.declared.conf.Conf.{Conf}
-use Rattle.apcu_model.specs.declared.event.Event.{Event}
+use Rattle.apcu_model.specs.declared.request.Event.{Event}
 use Rattle.apcu_model.specs.Cache.{counts_of}
 use Rattle.apcu_model.specs.History.{start_of, stage_of, all_legal, marks_of}
 use Rattle.cache_core.specs.declared.cache.Core.{Core}

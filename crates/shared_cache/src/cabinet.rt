@@ -51,7 +51,7 @@ impl<N: TableName> Drop for Cabinet<N> {
 
 impl<N: TableName> Model for Cabinet<N> {
     ghost use Rattle.std.specs.Prelude.{List};
-    ghost use Rattle.apcu_model.specs.declared.event.Event.{Event};
+    ghost use Rattle.apcu_model.specs.declared.request.Event.{Event};
     ghost use Rattle.shared_cache.specs.Settled.{Settled};
 
     ghost Value = { List Event };

@@ -4,7 +4,7 @@ use Rattle.std.proofs.lemmas.Bool.{cases_lt, cases_eq, cases_Bool, eq-eqb, ne_eq
 use Rattle.std.proofs.lemmas.List.Sums.{sum_by-cons}
 use Rattle.max_tree.specs.Pages.{largest}
 use Rattle.max_tree.proofs.Largest.{largest_bound, largest_least}
-use Rattle.seg_words.specs.declared.extents.Extent.{Extent}
+use Rattle.seg_words.specs.declared.gaps.Extent.{Extent}
 use Rattle.sma_blocks.specs.Tiles.{Tile, tiles, Fill}
 use Rattle.sma_blocks.specs.Live.{lives, gaps, gap_words, largest_of}
 use Rattle.sma_blocks.specs.Index.{size_at, IsIndexed}

@@ -8,7 +8,7 @@ use Rattle.std.proofs.lemmas.List.{get_or_past}
 use Rattle.std.proofs.lemmas.List.Quantifiers.{position-Some}
 use Rattle.seg_words.specs.Gaps.{fits, first_fit}
 use Rattle.seg_words.specs.Windows.{Aside}
-use Rattle.seg_words.specs.declared.extents.Extent.{Extent}
+use Rattle.seg_words.specs.declared.gaps.Extent.{Extent}
 use Rattle.sma_blocks.proofs.Spans.{Span, IsFilled}
 use Rattle.sma_blocks.specs.Tiles.{Tile, tiles, Fill, IsFormatted}
 use Rattle.sma_blocks.specs.Live.{live_blocks}

@@ -8,7 +8,7 @@ use Rattle.sma_blocks.specs.Tiles.{Tile, tiles, Fill, gaps_touch, are_whole}
 use Rattle.sma_blocks.specs.Live.{lives, gap_words}
 use Rattle.sma_blocks.specs.Index.{size_at, IsJoined}
 use Rattle.sma_blocks.specs.Chain.{IsChain, AreLinked}
-use Rattle.seg_words.specs.declared.extents.Extent.{Extent}
+use Rattle.seg_words.specs.declared.gaps.Extent.{Extent}
 use Rattle.sma_blocks.proofs.FreeRuns.{free_runs-gaps}
 use Rattle.sma_blocks.specs.Walk.{merged_words}
 use Rattle.sma_blocks.specs.Laid.{IsLaid}

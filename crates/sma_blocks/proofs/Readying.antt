@@ -1,6 +1,6 @@
 -- Words that are ready, from what is known of their parts.
 use Rattle.std.proofs.Common.{◌≡◌, ℕ, ◌%◌, ◌^◌, ◌<◌, List, length, sym, subst}
-use Rattle.seg_words.specs.declared.extents.Extent.{Extent}
+use Rattle.seg_words.specs.declared.gaps.Extent.{Extent}
 use Rattle.seg_words.specs.Windows.{Aside}
 use Rattle.seg_words.specs.Gaps.{free_runs}
 use Rattle.sma_blocks.specs.declared.sma.Sma.{Sma}

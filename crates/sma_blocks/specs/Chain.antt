@@ -1,6 +1,6 @@
 -- The chain of gaps: the second word of each is the place of the next one.
 use Rattle.std.specs.Prelude.{◌≡◌, ℕ, ◌+◌, MatchBool, List, [], ◌∷◌, slice_index}
-use Rattle.seg_words.specs.declared.extents.Extent.{Extent}
+use Rattle.seg_words.specs.declared.gaps.Extent.{Extent}
 use Rattle.sma_blocks.specs.Tiles.{Tile}
 
 -- The places from `first` on by the second word of each, up to 0, are the places of these runs, and

@@ -1,7 +1,7 @@
 -- What one worker of many asks for one call, in some events of a history.
 use Rattle.std.specs.Prelude.{ℕ, List, map, Option, None}
 use Rattle.apcu_model.specs.declared.conf.Conf.{Conf}
-use Rattle.apcu_model.specs.declared.event.Event.{Event}
+use Rattle.apcu_model.specs.declared.request.Event.{Event}
 use Rattle.apcu_model.specs.declared.request.Reply.{Reply}
 use Rattle.apcu_model.specs.History.{stage_of}
 use Rattle.pin_table.specs.Events.{events_of}

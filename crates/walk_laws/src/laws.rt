@@ -6,7 +6,7 @@ ghost use Rattle.apcu_model.specs.declared.searching.Pattern.{Pattern};
 ghost use Rattle.apcu_model.specs.declared.searching.List.TheVariants.{Active, Deleted};
 ghost use Rattle.apcu_model.specs.declared.searching.Fields.{Fields};
 ghost use Rattle.apcu_model.specs.declared.items.ItemRow.{ItemRow};
-ghost use Rattle.apcu_model.specs.declared.event.Event.{Event};
+ghost use Rattle.apcu_model.specs.declared.request.Event.{Event};
 ghost use Rattle.apcu_model.specs.Cache.{Cache};
 ghost use Rattle.apcu_model.specs.Chunks.{chunk_of};
 ghost use Rattle.apcu_model.specs.History.{stage_of};

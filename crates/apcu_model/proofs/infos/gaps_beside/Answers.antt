@@ -1,6 +1,6 @@
 use Rattle.std.proofs.Common.{◌<◌, arith, sym, ap, ◌∙◌}
 use Rattle.std.specs.Prelude.{sum_by}
-use Rattle.seg_words.specs.declared.extents.Extent.{Extent}
+use Rattle.seg_words.specs.declared.gaps.Extent.{Extent}
 use Rattle.apcu_model.proofs.Gaps.{run_goes_on_below, sum-reverse}
 use Rattle.apcu_model.proofs.infos.gaps_beside.Goals as goal
 

@@ -1,5 +1,5 @@
 use Rattle.std.proofs.Common.{length, arith}
-use Rattle.seg_words.specs.declared.extents.Extent.{Extent}
+use Rattle.seg_words.specs.declared.gaps.Extent.{Extent}
 use Rattle.block_tests.proofs.Listing.{with_block-insert}
 use Rattle.block_tests.proofs.listed.index_past.Goals as goal
 

@@ -1,6 +1,6 @@
 use Rattle.std.proofs.Common.{ℕ, List, sym, slice_index, subst}
 use Rattle.std.specs.List.{All}
-use Rattle.seg_words.specs.declared.extents.Extent.{Extent}
+use Rattle.seg_words.specs.declared.gaps.Extent.{Extent}
 use Rattle.sma_blocks.specs.Live.{IsLive}
 use Rattle.block_tests.proofs.listed.keep_listed.Goals as goal
 

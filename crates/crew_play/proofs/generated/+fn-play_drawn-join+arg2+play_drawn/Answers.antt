@@ -1,5 +1,5 @@
 use Rattle.std.proofs.Common.{◌≡◌, ◌+◌, ◌-◌, ◌≤◌, true, suc, ℕ, List, [], ◌∷◌, ◌++◌, Some, length, slice_get, slice_index, sym, ap, ◌∙◌, subst, arith}
-use Rattle.apcu_model.specs.declared.clock.Clock.TheVariants.{Line}
+use Rattle.apcu_model.specs.declared.conf.Clock.TheVariants.{Line}
 use Rattle.apcu_model.specs.declared.conf.Conf.{Conf}
 use Rattle.pin_table.specs.Values.{Bearer}
 use Rattle.script_read.specs.declared.script.Step.{Step}

@@ -1,7 +1,7 @@
 use Rattle.std.proofs.Common.{◌≡◌, ℕ, ◌+◌, ◌++◌, ◌∷◌, [], inl, inr, true, List, length, sym, ap, subst, ◌∙◌, arith}
 use Rattle.std.specs.Prelude.{IfOk}
 use Rattle.std.proofs.lemmas.Bool.{cases_Bool}
-use Rattle.apcu_model.specs.declared.clock.Clock.TheVariants.{Line}
+use Rattle.apcu_model.specs.declared.conf.Clock.TheVariants.{Line}
 use Rattle.apcu_model.specs.declared.conf.Conf.{Conf}
 use Rattle.pin_table.specs.Values.{Bearer}
 use Rattle.script_read.specs.declared.script.Step.{Step}

@@ -1,6 +1,6 @@
 use Rattle.std.proofs.Common.{◌∙◌, ◌+◌, length, ap, sym, arith}
 use Rattle.std.proofs.Math.Nat as nat
-use Rattle.seg_words.specs.declared.extents.Extent.{Extent}
+use Rattle.seg_words.specs.declared.gaps.Extent.{Extent}
 use Rattle.sma_blocks.specs.Live.{gaps}
 use Rattle.sma_blocks.specs.Tiles.{tiles}
 use Rattle.sma_blocks.proofs.Spans.{span_of, filled_of}

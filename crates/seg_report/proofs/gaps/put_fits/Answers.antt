@@ -1,7 +1,7 @@
 use Rattle.std.proofs.Common.{◌≡◌, ◌∙◌, ◌+◌, ◌-◌, suc, List, ◌++◌, ap, arith}
 use Rattle.std.specs.Prelude.{ℕ}
 use Rattle.std.specs.List.{flat_map, range_with_len}
-use Rattle.seg_words.specs.declared.extents.Extent.{Extent}
+use Rattle.seg_words.specs.declared.gaps.Extent.{Extent}
 use Rattle.seg_words.specs.Gaps.{free_runs}
 use Rattle.sma_blocks.specs.Live.{live_blocks}
 use Rattle.seg_report.specs.Lines.{fits_text, power_line}

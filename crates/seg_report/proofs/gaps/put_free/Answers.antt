@@ -1,6 +1,6 @@
 use Rattle.std.proofs.Common.{◌∙◌, ℕ, List, ap}
 use Rattle.std.specs.Prelude.{codes, sum_by}
-use Rattle.seg_words.specs.declared.extents.Extent.{Extent}
+use Rattle.seg_words.specs.declared.gaps.Extent.{Extent}
 use Rattle.seg_words.specs.Gaps.{free_runs}
 use Rattle.sma_blocks.specs.Live.{largest_of, live_blocks}
 use Rattle.seg_report.specs.Lines.{number_line}

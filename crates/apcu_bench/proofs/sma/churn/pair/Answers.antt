@@ -1,6 +1,6 @@
 use Rattle.std.proofs.Common.{ℕ, sym, ap, ◌∙◌, subst, arith}
 use Rattle.std.proofs.lemmas.List.{get_or_read}
-use Rattle.seg_words.specs.declared.extents.Extent.{Extent}
+use Rattle.seg_words.specs.declared.gaps.Extent.{Extent}
 use Rattle.sma_blocks.specs.Live.{IsLive, live_blocks}
 use Rattle.apcu_bench.proofs.Listing.{pair_listed, fresh}
 use Rattle.apcu_bench.proofs.sma.churn.pair.Goals as goal

@@ -1,5 +1,5 @@
 use Rattle.std.proofs.Common.{List}
-use Rattle.seg_words.specs.declared.extents.Extent.{Extent}
+use Rattle.seg_words.specs.declared.gaps.Extent.{Extent}
 use Rattle.apcu_bench.specs.Listed.{AreLive}
 use Rattle.apcu_bench.proofs.sma.fill.every_so_many.Given as goal
 

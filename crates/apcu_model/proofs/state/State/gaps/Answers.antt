@@ -1,6 +1,6 @@
 use Rattle.std.proofs.Common.{◌≡◌, ◌∙◌, ap, sym, append-nil, map}
 use Rattle.std.specs.Prelude.{sum_by}
-use Rattle.seg_words.specs.declared.extents.Extent.{Extent}
+use Rattle.seg_words.specs.declared.gaps.Extent.{Extent}
 use Rattle.seg_words.specs.Gaps.{free_runs}
 use Rattle.apcu_model.specs.Conf.{piece_of}
 use Rattle.apcu_model.specs.Cache.{extent_of}

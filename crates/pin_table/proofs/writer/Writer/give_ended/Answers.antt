@@ -3,7 +3,7 @@ use Rattle.pin_table.specs.declared.views.Known.{Known}
 use Rattle.pin_table.specs.declared.views.Book.{Book}
 use Rattle.pin_table.specs.Views.{in_hand}
 use Rattle.pin_table.proofs.Lists.{alike}
-use Rattle.apcu_model.specs.declared.event.Event.{Event}
+use Rattle.apcu_model.specs.declared.request.Event.{Event}
 use Rattle.apcu_model.specs.declared.request.Request.TheVariants as request
 use Rattle.pin_table.specs.Events.{event, fetched_last}
 use Rattle.pin_table.specs.Views.{known_after}

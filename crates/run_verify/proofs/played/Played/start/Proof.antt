@@ -30,7 +30,7 @@ use Rattle.run_verify.specs.contracts.played.Played as Log
 use Rattle.run_verify.specs.Games.{game_begun}
 use Rattle.script_read.specs.Clock.{all_timed}
 use Rattle.apcu_model.specs.contracts.conf.Conf as First
-use Rattle.apcu_model.specs.contracts.clock.Clock as Second
+use Rattle.apcu_model.specs.contracts.conf.Clock as Second
 use Rattle.script_read.specs.contracts.script.Scripts as Third
 use Rattle.run_verify.specs.contracts.played.Played.start as F
 use Rattle.run_verify.specs.contracts.played.Played.start.Key.{name as #self}
