@@ -16,13 +16,13 @@ mod telling;
 mod values;
 mod word_cache;
 
-use crate::args::{number_at, word_at};
 use crate::cache::churning::measure_churn;
 use crate::cache::leaving::measure_leaving;
 use crate::cache::plan::Plan;
 use crate::cache::staying::measure_staying;
 use crate::cache::telling::measure_telling;
 use crate::cache::values::Values;
+use crate::common::{number_at, word_at};
 use std::io;
 
 // How many stores of new rows are measured.

@@ -6,7 +6,7 @@
 pub mod often;
 mod texts;
 
-use crate::args::{number_at, word_at};
+use crate::common::{number_at, word_at};
 use crate::graphs;
 use crate::image::often::{copy_often, graph_often, persist_often, row_of, unpersist_often};
 use crate::image::texts::{read_often, write_often};

@@ -4,10 +4,8 @@
 //! cache ..`. Without arguments it does a little of each, and prints nothing.
 #![tactic(auto)]
 
-mod args;
 mod cache;
-mod clock;
-mod draws;
+mod common;
 mod graphs;
 mod image;
 mod pins;

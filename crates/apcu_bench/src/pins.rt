@@ -6,7 +6,7 @@
 mod often;
 mod pinned;
 
-use crate::args::{number_at, word_at};
+use crate::common::{number_at, word_at};
 use crate::graphs;
 use crate::image::often::{row_of, unpersist_often};
 use crate::pins::often::{fetch_often, load_often, reserve_often, store_often};

@@ -13,7 +13,7 @@ mod churn;
 mod fill;
 mod walk;
 
-use crate::args::number_at;
+use crate::common::number_at;
 use max_tree::MaxRow;
 use seg_words::{Segment, VecWords, WordsIn};
 use sma_blocks::Sma;

@@ -4,8 +4,7 @@
 use crate::cache::keys::{FIRST, key_of};
 use crate::cache::plan::Plan;
 use crate::cache::word_cache::{Act, WordCache};
-use crate::clock::since;
-use crate::draws::drawn;
+use crate::common::{drawn, since};
 use crate::graphs::string;
 use php_graph::Graph;
 use std::alloc::{AllocError, Global};

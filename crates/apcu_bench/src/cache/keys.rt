@@ -2,7 +2,7 @@
 
 ghost use Rattle.std.specs.Prelude.{◌≡◌, ◌≤◌, length};
 
-use crate::draws::drawn;
+use crate::common::drawn;
 use std::alloc::{AllocError, Global};
 
 /// The number of the first key.

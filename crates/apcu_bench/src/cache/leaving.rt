@@ -4,7 +4,7 @@ use crate::cache::keys::{FIRST, key_of};
 use crate::cache::plan::Plan;
 use crate::cache::values::Values;
 use crate::cache::word_cache::{Act, WordCache};
-use crate::clock::since;
+use crate::common::since;
 use apcu_model::Conf;
 use std::io;
 use std::time::Instant;

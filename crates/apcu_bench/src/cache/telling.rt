@@ -5,7 +5,7 @@ use crate::cache::plan::Plan;
 use crate::cache::staying::shape;
 use crate::cache::values::Values;
 use crate::cache::word_cache::{Act, Told, WordCache};
-use crate::clock::since;
+use crate::common::since;
 use std::alloc::{AllocError, Global};
 use std::io;
 use std::time::Instant;

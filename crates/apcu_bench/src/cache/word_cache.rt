@@ -10,7 +10,7 @@ ghost use Rattle.entry_slots.specs.Standing.{Stand, entries};
 
 use crate::cache::keys::{FIRST, key_of};
 use crate::cache::values::Values;
-use crate::clock::since;
+use crate::common::since;
 use apcu_model::{Conf, Gen, StoreAnswer};
 use cache_core::{Core, Look};
 use cache_info::{cache_info, key_info, sma_info};

@@ -5,8 +5,7 @@ ghost use Rattle.sma_blocks.specs.Ready.{IsReady};
 ghost use Rattle.apcu_bench.specs.Listed.{AreListed};
 
 use super::fill::BLOCK;
-use crate::clock::since;
-use crate::draws::drawn;
+use crate::common::{drawn, since};
 use seg_words::{Segment, fit_laws, gap_laws};
 use sma_blocks::{Sma, block_laws, list_laws};
 use std::io;

@@ -6,7 +6,7 @@ ghost use Rattle.sma_blocks.specs.Live.{live_blocks};
 ghost use Rattle.sma_blocks.specs.Ready.{IsReady};
 ghost use Rattle.apcu_bench.specs.Listed.{AreLive, AreListed};
 
-use crate::clock::since;
+use crate::common::since;
 use seg_words::Segment;
 use sma_blocks::{Sma, list_laws};
 use std::alloc::{AllocError, Global};

@@ -3,8 +3,7 @@
 ghost use Rattle.std.specs.Prelude.{◌≡◌, ◌<◌, ◌≤◌, ◌^◌, length};
 
 use super::fill::BLOCK;
-use crate::clock::since;
-use crate::draws::drawn;
+use crate::common::{drawn, since};
 use seg_words::{Segment, VecWords, WordsIn};
 use std::io;
 use std::time::Instant;
