@@ -8,7 +8,7 @@ use Rattle.apcu_model.specs.Cache.{Row, Cache, has_key}
 use Rattle.apcu_model.specs.Expiry.{live_row, is_hard_expired}
 use Rattle.apcu_model.specs.History.{is_scalar}
 use Rattle.entry_slots.specs.Lists.{is_at, has_place}
-use Rattle.mark_play.specs.declared.window.Window.{Window}
+use Rattle.mark_play.specs.declared.answering.Window.{Window}
 use Rattle.mark_play.specs.Windows.{window_on}
 
 -- where a row is and what it holds

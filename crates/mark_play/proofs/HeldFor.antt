@@ -5,7 +5,7 @@ use Rattle.std.specs.Int.{bit_at}
 use Rattle.std.proofs.lemmas.Nat.Bits.{shr_and_one}
 use Rattle.std.proofs.lemmas.Bool.{cases_eq}
 use Rattle.apcu_model.specs.Cache.{Row}
-use Rattle.mark_play.specs.declared.window.Window.{Window}
+use Rattle.mark_play.specs.declared.answering.Window.{Window}
 use Rattle.mark_play.specs.Holding.{IsHeldFor}
 
 abbrev pub HoldsBelow : List Row → List (Option Window) → ℕ → ℕ → List ℕ → Type 0

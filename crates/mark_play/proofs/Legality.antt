@@ -4,7 +4,7 @@ use Rattle.std.specs.Prelude.{nat_lt, is_some, slice_index_or}
 use Rattle.std.specs.List.{list_all, range_with_len}
 use Rattle.std.proofs.lemmas.Bool.{and_from, lt-ltb, cases_eq}
 use Rattle.apcu_model.specs.History.{Stage, is_in_mask, is_legal_mask, window_of}
-use Rattle.mark_play.specs.declared.window.Window.{Window}
+use Rattle.mark_play.specs.declared.answering.Window.{Window}
 use Rattle.mark_play.specs.Legal.{may_meet, is_legal_by}
 use Rattle.mark_play.specs.Reaching.{number_in}
 

@@ -13,7 +13,7 @@ use Rattle.apcu_model.specs.Cache.{Row}
 use Rattle.apcu_model.specs.Change.{AreAlike}
 use Rattle.apcu_model.specs.History.{Stage, IsNumbered, window_of, is_in_mask, is_copied, is_scalar, held_places}
 use Rattle.entry_slots.specs.Lists.{is_at, has_place}
-use Rattle.mark_play.specs.declared.window.Window.{Window}
+use Rattle.mark_play.specs.declared.answering.Window.{Window}
 use Rattle.mark_play.specs.Holding.{IsHeldFor}
 use Rattle.mark_play.specs.Reaching.{number_in}
 use Rattle.mark_play.proofs.Beginning.{opened_held, named_there, held_same}

@@ -11,7 +11,7 @@ use Rattle.apcu_model.specs.Rows.{are_apart}
 use Rattle.entry_slots.specs.Lists.{is_at, has_place, first_place}
 use Rattle.entry_slots.specs.Entries.{Entries, place_of, listed}
 use Rattle.entry_slots.specs.Passing.{left_here}
-use Rattle.mark_play.specs.declared.window.Window.{Window}
+use Rattle.mark_play.specs.declared.answering.Window.{Window}
 use Rattle.mark_play.specs.Holding.{HasKeyIn, IsPlaceOf}
 use Rattle.mark_play.proofs.Finding.{found_there}
 

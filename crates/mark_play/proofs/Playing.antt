@@ -21,7 +21,7 @@ use Rattle.cache_core.specs.declared.cache.Core.{Core}
 use Rattle.cache_core.specs.Caching.{cache_of, CacheStands}
 use Rattle.cache_core.specs.Integers.{NameNoScalar}
 use Rattle.apcu_model.specs.Numbers.{AreBelow, KeepsNumbers}
-use Rattle.mark_play.specs.declared.window.Window.{Window}
+use Rattle.mark_play.specs.declared.answering.Window.{Window}
 use Rattle.mark_play.specs.Holding.{IsHeldFor, HasKeyIn}
 use Rattle.mark_play.specs.Begun.{Begins}
 use Rattle.mark_play.specs.Laws.{PlayLaws}

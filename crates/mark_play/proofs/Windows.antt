@@ -16,7 +16,7 @@ use Rattle.apcu_model.specs.Expiry.{live_row, is_hard_expired}
 use Rattle.apcu_model.specs.Levels.{most_levels}
 use Rattle.apcu_model.specs.History.{Stage, window_of, is_scalar, is_shallow, opened, opened_at, after_event}
 use Rattle.apcu_model.specs.Numbers.{AreBelow, KeepsNumbers}
-use Rattle.mark_play.specs.declared.window.Window.{Window}
+use Rattle.mark_play.specs.declared.answering.Window.{Window}
 use Rattle.mark_play.specs.Asks.{MayAsk}
 use Rattle.mark_play.specs.Windows.{window_on, window_by}
 use Rattle.mark_play.specs.Reaching.{number_in, IsWindowIn}

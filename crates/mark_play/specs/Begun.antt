@@ -8,7 +8,7 @@ use Rattle.apcu_model.specs.History.{Stage}
 use Rattle.entry_slots.specs.Entries.{listed}
 use Rattle.entry_slots.specs.Standing.{entries}
 use Rattle.cache_core.specs.declared.cache.Core.{Core}
-use Rattle.mark_play.specs.declared.window.Window.{Window}
+use Rattle.mark_play.specs.declared.answering.Window.{Window}
 use Rattle.mark_play.specs.Holding.{IsHeldFor}
 use Rattle.mark_play.specs.Laws.{PlayLaws}
 use Rattle.mark_play.specs.Reaching.{IsReached}

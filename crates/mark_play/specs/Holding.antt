@@ -1,7 +1,7 @@
 -- Which block is held for a worker.
 use Rattle.std.specs.Prelude.{◌≡◌, ◌≢◌, ℕ, List, Option, Some, None, Contains}
 use Rattle.apcu_model.specs.Cache.{Row}
-use Rattle.mark_play.specs.declared.window.Window.{Window}
+use Rattle.mark_play.specs.declared.answering.Window.{Window}
 
 -- the row of the window's number, if it is among these rows, has the window's key
 abbrev pub HasKeyIn : List Row → Window → Type 0

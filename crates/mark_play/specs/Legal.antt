@@ -3,7 +3,7 @@ use Rattle.std.specs.Prelude.{ℕ, ◌==◌, ◌&&◌, ◌||◌, not, nat_lt, Bo
 use Rattle.std.specs.Prelude.{is_some, slice_index_or}
 use Rattle.std.specs.List.{list_all, range_with_len}
 use Rattle.apcu_model.specs.History.{is_in_mask}
-use Rattle.mark_play.specs.declared.window.Window.{Window}
+use Rattle.mark_play.specs.declared.answering.Window.{Window}
 
 -- the worker v is not in the mask, or it is another one that has a window
 abbrev pub may_meet : ℕ → ℕ → ℕ → ℕ → Option Window → Bool

@@ -9,7 +9,7 @@ use Rattle.apcu_model.specs.Cache.{Cache}
 use Rattle.apcu_model.specs.History.{Stage, stage_of, are_shallow, window_of}
 use Rattle.cache_core.specs.declared.cache.Core.{Core}
 use Rattle.cache_core.specs.Caching.{cache_of, CacheStands}
-use Rattle.mark_play.specs.declared.window.Window.{Window}
+use Rattle.mark_play.specs.declared.answering.Window.{Window}
 use Rattle.mark_play.specs.Holding.{HasKeyIn}
 
 -- what contracts see of it: where the events so far have led, and how many more it can play

@@ -18,7 +18,6 @@ ghost use Rattle.entry_slots.specs.Standing.{Stand, entries};
 ghost use Rattle.apcu_model.specs.Cache.{Row};
 ghost use Rattle.mark_play.specs.Windows.{window_by, window_on};
 
-use crate::window::Window;
 use apcu_iter::{Search, chunk, chunk_delete, totals};
 use apcu_model::{Ask, Reply, StoreAnswer};
 use cache_core::Core;
@@ -29,6 +28,13 @@ use php_graph::{Bytes, Graph, Kind};
 use seg_words::{Segment, WordsIn};
 use std::alloc::{AllocError, Global};
 use std::marker::Model;
+
+/// What a worker still copies: the row of this number, which its last event found under the key.
+#[derive(Drop)]
+pub struct Window {
+    pub key: Bytes,
+    pub number: u64,
+}
 
 // Whether a value was stored.
 fn was_stored(answer: StoreAnswer) -> Reply

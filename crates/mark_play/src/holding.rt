@@ -12,8 +12,8 @@ ghost use Rattle.mark_play.specs.Holding.{HasKeyIn, IsHeldFor, IsPlaceOf};
 ghost use Rattle.mark_play.specs.Begun.{HasReached, Begins};
 ghost use Rattle.mark_play.specs.Reaching.{IsReached};
 
+use crate::answering::Window;
 use crate::lower::lower_laws;
-use crate::window::Window;
 use cache_core::Core;
 use entry_slots::EntrySlots;
 use seg_words::{HeldWords, Segment, WordsIn};

@@ -3,7 +3,7 @@
 ghost use Rattle.std.specs.Prelude.{◌≡◌, ◌<◌, length};
 ghost use Rattle.mark_play.specs.Legal.{may_meet, is_legal_by};
 
-use crate::window::Window;
+use crate::answering::Window;
 
 // Whether the event of a worker may meet the worker `v`, which has this window.
 fn may_meet(workers: u32, worker: u32, mask: u64, v: u32, window: &Option<Window>) -> bool

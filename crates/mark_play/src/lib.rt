@@ -8,6 +8,5 @@ mod legal;
 mod lower;
 mod reached;
 mod replay;
-mod window;
 
 pub use replay::Replay;

@@ -7,11 +7,10 @@ ghost use Rattle.apcu_model.specs.History.{start_of, is_legal_mask, reply_in, af
 ghost use Rattle.mark_play.specs.Asks.{MayAsk};
 ghost use Rattle.mark_play.specs.Events.{event_by};
 
-use crate::answering::answer;
+use crate::answering::{Window, answer};
 use crate::holding::begin_event;
 use crate::legal::is_legal;
 use crate::reached::{Asked, Reached};
-use crate::window::Window;
 use apcu_iter::Search;
 use apcu_model::{Ask, Conf, Reply};
 use cache_core::Core;

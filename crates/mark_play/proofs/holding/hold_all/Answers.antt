@@ -6,7 +6,7 @@ use Rattle.seg_words.specs.contracts.held_words.HeldWordsWordsIn.TheImpl.{ghosts
 use Rattle.seg_words.specs.declared.held_words.HeldWords.{HeldWords}
 use Rattle.entry_slots.specs.Entries.{listed}
 use Rattle.entry_slots.specs.Standing.{entries}
-use Rattle.mark_play.specs.declared.window.Window.{Window}
+use Rattle.mark_play.specs.declared.answering.Window.{Window}
 use Rattle.mark_play.specs.Holding.{IsHeldFor}
 use Rattle.mark_play.proofs.HeldFor.{HoldsBelow, held_next, held_skip, same_default}
 use Rattle.mark_play.proofs.holding.hold_all.Goals as goal

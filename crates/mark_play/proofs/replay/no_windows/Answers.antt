@@ -1,6 +1,6 @@
 use Rattle.std.proofs.Common.{◌≡◌, ◌∙◌, ℕ, zero, suc, List, [], ◌∷◌, ◌++◌, Option, None, refl, ap, length-append, get_or, length, arith}
 use Rattle.std.specs.Prelude.{slice_index_or}
-use Rattle.mark_play.specs.declared.window.Window.{Window}
+use Rattle.mark_play.specs.declared.answering.Window.{Window}
 use Rattle.mark_play.proofs.replay.no_windows.Goals as goal
 
 none_more : (l : List (Option Window)) → ((v : ℕ) → slice_index_or l v None ≡ None) → (v : ℕ) → slice_index_or (l ++ None ∷ []) v None ≡ None

@@ -1,6 +1,6 @@
 use Rattle.std.proofs.Common.{◌∙◌, ◌<◌, ◌^◌, List, Option, ap, arith}
 use Rattle.apcu_model.specs.History.{is_legal_mask}
-use Rattle.mark_play.specs.declared.window.Window.{Window}
+use Rattle.mark_play.specs.declared.answering.Window.{Window}
 use Rattle.mark_play.specs.Legal.{is_legal_by}
 use Rattle.mark_play.specs.Reaching.{Replayed}
 use Rattle.mark_play.proofs.Legality.{legal_alike}

@@ -9,7 +9,7 @@ use Rattle.apcu_model.specs.History.{Stage, reply_in, after_event}
 use Rattle.apcu_model.specs.Sequential.{cache_after, reply_to}
 use Rattle.cache_core.specs.Caching.{cache_of}
 use Rattle.cache_core.proofs.Events.{by_now, may_insert, stays}
-use Rattle.mark_play.specs.declared.window.Window.{Window}
+use Rattle.mark_play.specs.declared.answering.Window.{Window}
 use Rattle.mark_play.specs.Events.{event_by}
 use Rattle.mark_play.specs.Reaching.{Replayed, IsReached}
 use Rattle.mark_play.proofs.Playing.{begun_stand, begun_fresh, begun_unnamed, begun_again, reply_is, reached, shape_after}
