@@ -12,7 +12,6 @@
 mod copying;
 mod image;
 mod laws;
-mod masks;
 mod named;
 mod pass;
 mod passes;

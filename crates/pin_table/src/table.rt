@@ -1,8 +1,8 @@
-ghost use Rattle.std.specs.Prelude.{cond, ◌==◌, ◌≡◌, ℕ, ◌+◌, ◌-◌, ◌<◌, ◌≤◌, ◌^◌, true, false, []};
-ghost use Rattle.std.specs.Prelude.{◌∷◌, length, List, replicate, slice_index, slice_set, Some};
+ghost use Rattle.std.specs.Prelude.{cond, ◌==◌, ◌≡◌, ℕ, ◌+◌, ◌-◌, ◌*◌, ◌<◌, ◌≤◌, ◌^◌, true, false};
+ghost use Rattle.std.specs.Prelude.{[], ◌∷◌, length, List, replicate, slice_index, slice_set, Some};
 ghost use Rattle.std.specs.Prelude.{None, IfOk, MatchBool};
 ghost use Rattle.seg_words.specs.declared.layout.TheConstants.{IMAGE_LENGTH};
-ghost use Rattle.seg_words.specs.Windows.{has, is_named, closed_on, held_by};
+ghost use Rattle.seg_words.specs.Windows.{has, is_named, closed_on, held_by, holders};
 ghost use Rattle.seg_words.specs.Blocks.{IsTold, MayStore, MayProbe, image_place};
 ghost use Rattle.pin_table.specs.Events.{is_fetch};
 ghost use Rattle.pin_table.specs.Pins.{IsBlock, MeetsNone, refused_in};
@@ -14,7 +14,6 @@ ghost use Rattle.pin_table.specs.Order.{DeskInOrder};
 ghost use Rattle.std.specs.Mem.Slots.{slots_items, slots_len, IsFull};
 
 use crate::copying::Copying;
-use crate::masks::holders;
 use crate::pass::Pass;
 use crate::rule::{
     Close, CopyOut, Give, GiveBack, GiveSeen, Look, Make, Pin, Probe, Read, Saying, SharedWords,
@@ -113,6 +112,21 @@ fn close_windows(windows: &mut Vec<u32>, at: u32)
         windows[v] = unless_at(kept, at);
         v += 1;
     }
+}
+
+// The workers whose window is this place, a bit each, the worker 0 lowest.
+fn holders(windows: &[u32], at: u32) -> u64
+    requires { length windows.now ≤ 64 }
+    ensures { result ≡ holders windows.now at }
+{
+    let mut mask = 0u64;
+    let mut v = windows.len();
+    while v > 0 {
+        v -= 1;
+        let one = if windows[v] == at { 1 } else { 0 };
+        mask = mask * 2 + one;
+    }
+    mask
 }
 
 fn copy_back(closed: &Closed<u64, Global>, row: &mut Vec<u64>)

@@ -1,7 +1,7 @@
 use Rattle.std.proofs.Common.{arith}
 use Rattle.pin_table.proofs.Holdings.{holders_room}
-use Rattle.pin_table.proofs.masks.holders.Goals as goal
-use Rattle.pin_table.proofs.masks.holders.Goals.{then-windows-v, else-windows-v}
+use Rattle.pin_table.proofs.table.holders.Goals as goal
+use Rattle.pin_table.proofs.table.holders.Goals.{then-windows-v, else-windows-v}
 
 pub overflow_mul-mask : goal.overflow_mul-mask
 overflow_mul-mask c =

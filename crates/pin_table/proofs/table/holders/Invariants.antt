@@ -1,6 +1,6 @@
 use Rattle.std.proofs.Common.{length, ◌≡◌, ◌≤◌, drop}
 use Rattle.seg_words.specs.Windows.{holders}
-use Rattle.pin_table.proofs.masks.holders.Given as goal
+use Rattle.pin_table.proofs.table.holders.Given as goal
 
 abbrev pub invariant-loop-v : goal.invariant-loop-v
 invariant-loop-v l = record { within : l.v ≤ length l.windows; mask : l.mask ≡ holders (drop l.v l.windows) l.at }
