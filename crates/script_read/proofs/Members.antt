@@ -10,8 +10,8 @@ use Rattle.php_graph.specs.declared.child.Child.TheVariants.{Own, Back}
 use Rattle.php_graph.specs.declared.kind.Kind.{Kind}
 use Rattle.php_graph.specs.declared.kind.Kind.TheVariants as kinds
 use Rattle.php_graph.specs.Graph.{kind_at, children_of, child_end, ends_after, end_of, IsGraph}
-use Rattle.script_read.specs.declared.given.Asked.TheVariants as asks
-use Rattle.script_read.specs.declared.given.Stored.TheVariants as stores
+use Rattle.script_read.specs.declared.choices.Asked.TheVariants as asks
+use Rattle.script_read.specs.declared.choices.Stored.TheVariants as stores
 use Rattle.script_read.specs.Arguments.{each, key, members, keys, pairs, asked_of, stored, or_else, IsThere}
 use Rattle.script_read.proofs.Binding.{some_is, then_some}
 

@@ -11,8 +11,8 @@ use Rattle.apcu_model.specs.declared.searching.List.TheVariants.{Active}
 use Rattle.script_read.specs.declared.call.Call.TheVariants.{StoreOne, StoreMany, Inc, Cas, Entry, KeyInfo, CacheInfo, SmaInfo, Walk, WalkDelete, Totals}
 use Rattle.script_read.specs.declared.effect.Effect.{Effect}
 use Rattle.script_read.specs.declared.effect.Effect.TheVariants.{Calls}
-use Rattle.script_read.specs.declared.given.Stored.{Stored}
-use Rattle.script_read.specs.declared.given.Stored.TheVariants as stores
+use Rattle.script_read.specs.declared.choices.Stored.{Stored}
+use Rattle.script_read.specs.declared.choices.Stored.TheVariants as stores
 use Rattle.script_read.specs.Arguments.{any_value, key, integer, truth, null, ttl, moment, asked_of, stored, search_for, fields, all_fields, chunk_size, which_list}
 use Rattle.script_read.specs.Table.{Form, Done, Need, May, Make, Refuse, or_refuse, taken, needs, may, calls, timing, moment_form, store_one, store_many, store_by, fetch_of, exists_of, delete_of, step_by, count_form, cas_form, entry_form, key_info_form, info_form, usual_size, walk_form, walk_delete_form, totals_form, form_in, form_of}
 use Rattle.script_read.specs.GenParts.{entry_round}

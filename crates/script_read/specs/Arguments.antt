@@ -13,10 +13,10 @@ use Rattle.php_graph.specs.declared.child.Child.TheVariants.{Own, Back}
 use Rattle.php_graph.specs.declared.kind.Kind.{Kind}
 use Rattle.php_graph.specs.declared.kind.Kind.TheVariants as kinds
 use Rattle.php_graph.specs.Graph.{kind_at, part_of}
-use Rattle.script_read.specs.declared.given.Asked.{Asked}
-use Rattle.script_read.specs.declared.given.Asked.TheVariants as asks
-use Rattle.script_read.specs.declared.given.Stored.{Stored}
-use Rattle.script_read.specs.declared.given.Stored.TheVariants as stores
+use Rattle.script_read.specs.declared.choices.Asked.{Asked}
+use Rattle.script_read.specs.declared.choices.Asked.TheVariants as asks
+use Rattle.script_read.specs.declared.choices.Stored.{Stored}
+use Rattle.script_read.specs.declared.choices.Stored.TheVariants as stores
 use Rattle.apcu_model.specs.declared.searching.Pattern.{Pattern}
 use Rattle.apcu_model.specs.declared.searching.Fields.{Fields}
 use Rattle.apcu_model.specs.declared.searching.List.{List as Which}

@@ -18,10 +18,10 @@ use Rattle.script_read.specs.declared.call.Call.TheVariants.{SmaInfo, Walk, Walk
 use Rattle.script_read.specs.declared.call.Call.TheVariants.{Pool}
 use Rattle.script_read.specs.declared.effect.Effect.{Effect}
 use Rattle.script_read.specs.declared.effect.Effect.TheVariants.{Sets, Begins, Calls}
-use Rattle.script_read.specs.declared.given.Asked.{Asked}
-use Rattle.script_read.specs.declared.given.Asked.TheVariants as asks
-use Rattle.script_read.specs.declared.given.Stored.{Stored}
-use Rattle.script_read.specs.declared.given.Stored.TheVariants as stores
+use Rattle.script_read.specs.declared.choices.Asked.{Asked}
+use Rattle.script_read.specs.declared.choices.Asked.TheVariants as asks
+use Rattle.script_read.specs.declared.choices.Stored.{Stored}
+use Rattle.script_read.specs.declared.choices.Stored.TheVariants as stores
 use Rattle.script_read.specs.Arguments.{any_value, key, integer, truth, null, ttl, moment}
 use Rattle.script_read.specs.Arguments.{asked_of, stored, search_for, fields, all_fields}
 use Rattle.script_read.specs.Arguments.{chunk_size, which_list, pool_name, own_key, own_keys}

@@ -16,9 +16,10 @@ ghost use Rattle.script_read.specs.Reading.{space_at, end_at, one_more_at, ends_
 ghost use Rattle.script_read.specs.Reading.{argument_at, optional_at, numbers_at};
 ghost use Rattle.script_read.specs.Gives.{GivesItem, Stops};
 
-use crate::choices::{asked_of, integer_of, is_null, moment_of, stored_of, truth_of, ttl_of};
+use crate::choices::{
+    Asked, Stored, asked_of, integer_of, is_null, moment_of, stored_of, truth_of, ttl_of,
+};
 use crate::fault::Stop;
-use crate::given::{Asked, Stored};
 use crate::searches::{chunk_size_of, fields_of, list_of, search_of};
 use apcu_model::{Fields, List as Which, Pattern};
 use notation::{Cursor, Fault, ReadFault, Reason, read_integer, read_string, read_value};

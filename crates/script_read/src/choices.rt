@@ -9,11 +9,24 @@ ghost use Rattle.script_read.specs.Arguments.{key, integer, truth, null, from_to
 ghost use Rattle.script_read.specs.Arguments.{member_string, member_value, key_bytes, asked_of};
 ghost use Rattle.script_read.specs.Arguments.{stored, IsThere};
 
-use crate::given::{Asked, Stored};
 use apcu_model::{Keys, Pairs};
 use itoa::Buffer;
 use php_graph::{Bytes, Child, Graph, Key, Kind};
 use std::alloc::{AllocError, Global};
+
+/// What is asked for: one key, or an array of keys.
+#[derive(Drop)]
+pub(crate) enum Asked {
+    One(Bytes),
+    Many(Keys),
+}
+
+/// What is stored: the value of one key, or an array of keys with their values.
+#[derive(Drop)]
+pub(crate) enum Stored {
+    One(Bytes),
+    Many(Pairs),
+}
 
 // The integer that a value is.
 pub(crate) fn integer_of(graph: &Graph) -> Option<i64>

@@ -9,7 +9,6 @@ mod drawing;
 mod effect;
 mod fault;
 mod generators;
-mod given;
 mod information;
 mod iterators;
 mod keyword;

@@ -8,9 +8,9 @@ ghost use Rattle.script_read.specs.Gives.{GivesItem, IsInRange};
 
 use crate::arguments::{asked_argument, end};
 use crate::call::Call;
+use crate::choices::Asked;
 use crate::effect::Effect;
 use crate::fault::Stop;
-use crate::given::Asked;
 use std::alloc::Global;
 
 // What is asked for, and the end of the line.

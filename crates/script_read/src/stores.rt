@@ -8,9 +8,9 @@ ghost use Rattle.script_read.specs.Gives.{GivesItem, IsInRange};
 
 use crate::arguments::{null_argument, stored_argument, ttl_argument, value_argument};
 use crate::call::Call;
+use crate::choices::Stored;
 use crate::effect::Effect;
 use crate::fault::Stop;
-use crate::given::Stored;
 use crate::lines::bare;
 use apcu_model::Pairs;
 use php_graph::Bytes;

@@ -2,8 +2,8 @@ use Rattle.std.proofs.Common.{ℕ, List, [], Ok, ap, ◌∙◌}
 use Rattle.std.specs.Prelude.{Result}
 use Rattle.std.proofs.lemmas.Result.{err_from_is_err_and}
 use Rattle.notation.specs.declared.fault.Fault.{Fault}
-use Rattle.script_read.specs.declared.given.Stored.{Stored}
-use Rattle.script_read.specs.declared.given.Stored.TheVariants as stores
+use Rattle.script_read.specs.declared.choices.Stored.{Stored}
+use Rattle.script_read.specs.declared.choices.Stored.TheVariants as stores
 use Rattle.script_read.proofs.Rows.{stored_at, stored_fails, moved}
 use Rattle.script_read.proofs.stores.store.Goals as goal
 
