@@ -15,7 +15,7 @@ use Rattle.pin_table.specs.Values.{Bearer}
 use Rattle.pin_table.specs.Events.{events_of}
 use Rattle.script_read.specs.declared.script.Step.{Step}
 use Rattle.play_laws.specs.Parts.{events-append}
-use Rattle.shared_cache.specs.declared.closed.Closed.{Closed}
+use Rattle.shared_cache.specs.declared.cabinet.Closed.{Closed}
 use Rattle.shared_cache.specs.Closing.{IsClosed}
 use Rattle.shared_cache.specs.Learned.{Learns}
 use Rattle.worker_play.specs.declared.script.PlayFault.{PlayFault}

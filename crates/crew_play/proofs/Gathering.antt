@@ -25,7 +25,7 @@ use Rattle.reply_text.specs.Lines.{script_lines, texts_of}
 use Rattle.play_laws.specs.Own.{own_replies, wish_in, HasPlayed}
 use Rattle.play_laws.specs.Parts.{events-append}
 use Rattle.play_laws.specs.Whole.{IsPlayedOut, replies_from, told_by}
-use Rattle.shared_cache.specs.declared.closed.Closed.{Closed}
+use Rattle.shared_cache.specs.declared.cabinet.Closed.{Closed}
 use Rattle.shared_cache.specs.Closing.{IsClosed, IsClosedWhole}
 use Rattle.worker_play.specs.declared.script.PlayFault.{PlayFault}
 use Rattle.crew_play.specs.Crew.{AllEnd}

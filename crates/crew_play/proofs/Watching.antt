@@ -26,7 +26,7 @@ use Rattle.play_laws.specs.Parts.{events-append, get_behind}
 use Rattle.play_laws.specs.Whole.{IsPlayedOut, told_by}
 use Rattle.generated_laws.specs.Observer.{IsObservedLast, counters_read, observed, wish_to_end, wishes_of_looks}
 use Rattle.generated_laws.specs.Summary.{IsLarge, Summary, number_found, summary_due, summary_of}
-use Rattle.shared_cache.specs.declared.closed.Closed.{Closed}
+use Rattle.shared_cache.specs.declared.cabinet.Closed.{Closed}
 use Rattle.shared_cache.specs.Closing.{IsClosed}
 use Rattle.worker_play.specs.Ends.{HasEnded, HasMade, PlaysAll}
 use Rattle.worker_play.specs.Goes.{KnowsOwnEvents}

@@ -13,7 +13,7 @@ use Rattle.pin_table.specs.Values.{Bearer}
 use Rattle.pin_table.specs.Events.{events_of}
 use Rattle.pin_table.specs.Lists.{known_list}
 use Rattle.pin_table.specs.Views.{is_among}
-use Rattle.shared_cache.specs.declared.closed.Closed.{Closed}
+use Rattle.shared_cache.specs.declared.cabinet.Closed.{Closed}
 
 -- The journal holds the marks of one legal history, which begins with what each of them has seen.
 -- The events of each in it are its own, and no other worker has one. The counts are those of the

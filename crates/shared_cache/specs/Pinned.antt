@@ -10,8 +10,8 @@ use Rattle.apcu_model.specs.History.{is_scalar}
 use Rattle.cache_core.specs.declared.scalar.Scalar.{Scalar}
 use Rattle.cache_core.specs.declared.scalar.Scalar.TheVariants as scalars
 use Rattle.pin_table.specs.Values.{Bearer, Copier}
-use Rattle.shared_cache.specs.declared.pinned.Pinned.{Pinned}
-use Rattle.shared_cache.specs.declared.pinned.Pinned.TheVariants as pinned
+use Rattle.shared_cache.specs.declared.cabinet.Pinned.{Pinned}
+use Rattle.shared_cache.specs.declared.cabinet.Pinned.TheVariants as pinned
 use Rattle.shared_cache.specs.Follows.{Follows}
 
 -- the pass of a worker that copies, as it is once the copy ends

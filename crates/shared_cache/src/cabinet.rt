@@ -14,20 +14,38 @@ ghost use Rattle.pin_table.specs.Lists.{AllOf, known_list};
 ghost use Rattle.pin_table.specs.Views.{is_among};
 ghost use Rattle.shared_cache.specs.Closing.{IsClosedWhole};
 
-use crate::closed::Closed;
 use crate::lower::lower_laws;
 use crate::noting::note;
-use crate::pinned::Pinned;
 use crate::turn::{begin, end};
-use apcu_model::{Ask, Journal, StoreAnswer};
-use cache_core::{Core, Look};
+use apcu_model::{Ask, Counts, Journal, StoreAnswer};
+use cache_core::{Core, Look, Scalar};
 use counter_entry::{IncAnswer, cas, inc};
 use php_graph::Graph;
-use pin_table::{Ended, EndedList, Pass, PinTable, TableName, WriterSeat};
+use pin_table::{Copying, Ended, EndedList, Pass, PinTable, TableName, WriterSeat};
 use seg_words::VecWords;
 use std::alloc::Global;
 use std::marker::{Model, PhantomData};
 use value_image::images_are_runs;
+
+/// What a fetch finds.
+#[derive(Drop)]
+pub enum Pinned {
+    /// A value that `Shared::copy_out` copies without the lock. Its block stays until then.
+    Hit(Copying),
+    /// Null, a truth value or an integer, which is answered at once.
+    Scalar(Pass, Scalar),
+    /// No live row has the key.
+    Miss(Pass),
+}
+
+/// What is left of a cache once all its workers have ended.
+#[derive(Drop)]
+pub struct Closed {
+    /// The marks of all events, in the order in which they took effect.
+    pub journal: Journal,
+    /// What was counted.
+    pub counts: Counts,
+}
 
 // The right to write, the journal, and what the cache keeps beside the words. Contracts see the
 // history.

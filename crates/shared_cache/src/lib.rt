@@ -13,16 +13,13 @@
 mod answering;
 mod asking;
 mod cabinet;
-mod closed;
 mod lower;
 mod noting;
 mod opening;
-mod pinned;
 mod shared;
 mod texts;
 mod turn;
 
-pub use closed::Closed;
+pub use cabinet::{Closed, Pinned};
 pub use opening::{Fresh, OpenFault, open_cache};
-pub use pinned::Pinned;
 pub use shared::Shared;

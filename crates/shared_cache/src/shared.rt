@@ -17,9 +17,7 @@ ghost use Rattle.pin_table.specs.Lists.{AllOf, known_list};
 ghost use Rattle.pin_table.specs.Views.{is_among};
 ghost use Rattle.shared_cache.specs.Closing.{IsClosed, IsClosedWhole};
 
-use crate::cabinet::Cabinet;
-use crate::closed::Closed;
-use crate::pinned::Pinned;
+use crate::cabinet::{Cabinet, Closed, Pinned};
 use crate::texts::{write_copy, write_string};
 use cache_core::Core;
 use counter_entry::IncAnswer;
