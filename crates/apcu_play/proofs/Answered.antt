@@ -9,8 +9,8 @@ use Rattle.notation.specs.declared.fault.Reason.{Reason}
 use Rattle.script_read.specs.declared.script.Step.{Step}
 use Rattle.script_read.specs.Budgets.{all_events, most_events}
 use Rattle.script_read.specs.Clock.{all_timed}
-use Rattle.run_verify.specs.declared.verdict.Verdict.{Verdict}
-use Rattle.run_verify.specs.declared.verdict.Verdict.TheVariants.{Yes, NoJournal, Event, Byte}
+use Rattle.run_verify.specs.declared.verifying.Verdict.{Verdict}
+use Rattle.run_verify.specs.declared.verifying.Verdict.TheVariants.{Yes, NoJournal, Event, Byte}
 use Rattle.run_verify.specs.Verdicts.{verdict_of}
 use Rattle.apcu_play.specs.declared.status.Status.{Status}
 use Rattle.apcu_play.specs.declared.status.Status.TheVariants.{Done, WriteFault, Differs}

@@ -10,8 +10,8 @@ use Rattle.notation.specs.declared.fault.Reason.{Reason}
 use Rattle.preload_set.specs.Ties.{BundlesAreOne}
 use Rattle.script_read.specs.Budgets.{most_events}
 use Rattle.script_read.specs.Ties.{ScriptsAreOne}
-use Rattle.run_verify.specs.declared.verdict.Verdict.{Verdict}
-use Rattle.run_verify.specs.declared.verdict.Verdict.TheVariants.{Yes, NoJournal, Event, Byte}
+use Rattle.run_verify.specs.declared.verifying.Verdict.{Verdict}
+use Rattle.run_verify.specs.declared.verifying.Verdict.TheVariants.{Yes, NoJournal, Event, Byte}
 use Rattle.apcu_play.specs.declared.ending.Ending.{Ending}
 use Rattle.apcu_play.specs.declared.status.Status.{Status}
 use Rattle.apcu_play.specs.declared.status.Status.TheVariants.{Done, Usage, Script, ReadFault, WriteFault, NoMemory, TooLong, TooMany, Pattern, Differs, Bundle}

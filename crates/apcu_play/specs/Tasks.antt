@@ -17,8 +17,8 @@ use Rattle.script_read.specs.Patterns.{SomeRefusable}
 use Rattle.script_read.specs.Play.{Play as Played, played, IsLegal, IsCompletePlay}
 use Rattle.reply_text.specs.Output.{output_of}
 use Rattle.generated_laws.specs.Summary.{Summary, summary_text}
-use Rattle.run_verify.specs.declared.verdict.Verdict.{Verdict}
-use Rattle.run_verify.specs.declared.verdict.Verdict.TheVariants.{Yes, NoJournal, Event, Byte}
+use Rattle.run_verify.specs.declared.verifying.Verdict.{Verdict}
+use Rattle.run_verify.specs.declared.verifying.Verdict.TheVariants.{Yes, NoJournal, Event, Byte}
 use Rattle.run_verify.specs.Verdicts.{verdict_of}
 use Rattle.seg_report.specs.Lines.{map_text}
 use Rattle.crew_play.specs.Played.{ComeFirst}

@@ -15,7 +15,7 @@ use Rattle.script_read.specs.Budgets.{all_events}
 use Rattle.script_read.specs.Play.{Play, nothing_played, marked, are_done}
 use Rattle.reply_text.specs.Lines.{texts_of}
 use Rattle.reply_text.specs.Output.{worker_texts, mark_line, journal_lines}
-use Rattle.run_verify.specs.declared.verdict.Verdict.TheVariants.{Event}
+use Rattle.run_verify.specs.declared.verifying.Verdict.TheVariants.{Event}
 use Rattle.run_verify.specs.Judging.{IsJudgedTo}
 use Rattle.run_verify.specs.Verdicts.{behind, journal_from, journal_part, first_difference, byte_verdict, judged_end, played_line, with_mark, go_on, judged, judged_part, verdict_of, lines_of, mark_of_line}
 use Rattle.run_verify.proofs.Telling.{told}

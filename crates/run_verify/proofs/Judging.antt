@@ -13,7 +13,7 @@ use Rattle.script_read.specs.declared.script.Step.{Step}
 use Rattle.script_read.specs.Play.{Wish, Play, wanted, replies_of, script_of, wish_of, after_wish, marked, played_from, played, nothing_played, are_done, is_complete_play}
 use Rattle.reply_text.specs.Lines.{texts_of}
 use Rattle.reply_text.specs.Output.{worker_texts, mark_line, journal_lines, play_text, IsOutput}
-use Rattle.run_verify.specs.declared.verdict.Verdict.TheVariants.{Yes, Event}
+use Rattle.run_verify.specs.declared.verifying.Verdict.TheVariants.{Yes, Event}
 use Rattle.run_verify.specs.Verdicts.{first_difference, next_place, byte_verdict, judged_end, played_line, with_mark, go_on, judged, judged_part, verdict_of, journal_part, lines_of, mark_of_line}
 use Rattle.run_verify.proofs.Telling.{read}
 use Rattle.run_verify.proofs.Spelled.{same_none}

@@ -10,7 +10,7 @@ use Rattle.apcu_model.specs.Conf.{piece_of}
 use Rattle.apcu_model.specs.declared.conf.Conf.{Conf}
 use Rattle.script_read.specs.declared.call.Call.TheVariants.{StoreOne, FetchOne}
 use Rattle.script_read.specs.declared.script.Step.{Step}
-use Rattle.run_verify.specs.declared.verdict.Verdict.TheVariants.{Yes, NoJournal, Event, Byte}
+use Rattle.run_verify.specs.declared.verifying.Verdict.TheVariants.{Yes, NoJournal, Event, Byte}
 use Rattle.run_verify.specs.Verdicts.{verdict_of, mark_of_line, first_difference, lines_of, journal_part}
 
 conf : Conf

@@ -10,8 +10,8 @@ use Rattle.script_read.specs.declared.script.Step.{Step}
 use Rattle.script_read.specs.Play.{Play, nothing_played, marked, are_done}
 use Rattle.reply_text.specs.Lines.{texts_of}
 use Rattle.reply_text.specs.Output.{worker_texts, mark_line, journal_lines}
-use Rattle.run_verify.specs.declared.verdict.Verdict.{Verdict}
-use Rattle.run_verify.specs.declared.verdict.Verdict.TheVariants.{Yes, NoJournal, Event, Byte}
+use Rattle.run_verify.specs.declared.verifying.Verdict.{Verdict}
+use Rattle.run_verify.specs.declared.verifying.Verdict.TheVariants.{Yes, NoJournal, Event, Byte}
 
 -- ---- the journal part
 

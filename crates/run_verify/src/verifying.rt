@@ -18,7 +18,6 @@ use crate::marks::play_mark;
 use crate::played::Played;
 use crate::reading::{journal_at, line_end, read_mark};
 use crate::seats::{all_done, into_texts, seats_for};
-use crate::verdict::Verdict;
 use apcu_iter::Maker;
 use apcu_model::{Clock, Conf};
 use mark_play::Replay;
@@ -26,6 +25,21 @@ use notation::ByteOut;
 use script_read::Scripts;
 use std::alloc::Global;
 use std::marker::Model;
+
+/// What an output is, beside the scripts that it is said to come from.
+#[derive(Clone, Copy, Debug, PartialEq, Eq)]
+pub enum Verdict {
+    /// It is the output of a legal journal that plays the scripts to their ends.
+    Yes,
+    /// It has no line `journal`.
+    NoJournal,
+    /// This line of its journal, counted from 0, is no event that can come there; or the journal
+    /// ends there, before all workers have ended.
+    Event(u32),
+    /// It first differs at this place from the output of its own journal. Where one of them ends
+    /// before the other, its end is such a place.
+    Byte(u64),
+}
 
 // What a comparison tells.
 fn compared(output: &[u8], texts: &[ByteOut], part: usize) -> Verdict

@@ -1,5 +1,5 @@
 use Rattle.run_verify.proofs.Telling.{told, read}
-use Rattle.run_verify.proofs.mark_laws.lines_tell_marks.Goals as goal
+use Rattle.run_verify.proofs.laws.lines_tell_marks.Goals as goal
 
 pub returns-clause-told : goal.returns-clause-told
 returns-clause-told c = told

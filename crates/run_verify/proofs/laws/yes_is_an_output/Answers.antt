@@ -1,5 +1,5 @@
 use Rattle.run_verify.proofs.Judging.{only_outputs, each_output}
-use Rattle.run_verify.proofs.verdict_laws.yes_is_an_output.Goals as goal
+use Rattle.run_verify.proofs.laws.yes_is_an_output.Goals as goal
 
 pub returns-clause-only : goal.returns-clause-only
 returns-clause-only c = only_outputs
