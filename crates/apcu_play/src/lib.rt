@@ -14,7 +14,6 @@ mod reading;
 mod running;
 mod status;
 mod summary;
-mod writing;
 
 pub use messages::tell;
 pub use running::run;

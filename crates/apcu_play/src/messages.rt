@@ -3,8 +3,8 @@ ghost use Rattle.std.specs.Fmt.{decimal};
 ghost use Rattle.apcu_play.specs.Message.{message_of, reason_text, script_message, bundle_message};
 ghost use Rattle.apcu_play.specs.Run.{TellsMessage};
 
+use crate::printing::write_text;
 use crate::status::Status;
-use crate::writing::write_text;
 use io_edges::Sink;
 use itoa::Buffer;
 use notation::Reason;

@@ -7,8 +7,7 @@ ghost use Rattle.reply_text.specs.Output.{worker_texts};
 ghost use Rattle.apcu_play.specs.Run.{WasWritten};
 
 use crate::play::Printed;
-use crate::writing::write_text;
-use io_edges::Sink;
+use io_edges::{Sink, write_all};
 use itoa::Buffer;
 use notation::ByteOut;
 
@@ -52,4 +51,15 @@ fn print_worker<K: Sink>(out: &mut K, worker: usize, text: &[u8]) -> bool
         return false;
     }
     write_text(out, text)
+}
+
+// Writes a text; whether all of it was written. It takes no memory.
+pub(crate) fn write_text<K: Sink>(out: &mut K, text: &[u8]) -> bool
+    ensures { WasWritten result text.now
+        (K.held out.old) (K.held out.new) (K.faults out.old) (K.faults out.new) }
+{
+    match write_all(out, text) {
+        Ok(()) => true,
+        Err(_) => false,
+    }
 }
