@@ -1,6 +1,6 @@
-//! Plays scripts of apcu calls, and prints what each call answers and the order in which they took
-//! effect; or plays scripts that are made from a number, and prints their summary; or judges an
-//! output.
+//! One run of the program: it plays scripts of apcu calls, and prints what each call answers and
+//! the order in which they took effect; or it plays scripts that are made from a number, and prints
+//! their summary; or it judges an output.
 #![tactic(auto)]
 
 mod answering;

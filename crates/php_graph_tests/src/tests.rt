@@ -1,4 +1,4 @@
-//! Worked rows.
+//! The worked cases.
 
 use php_graph::*;
 use std::alloc::Global;

@@ -1,5 +1,5 @@
-//! Judges outputs: whether the replies that stand there are those of one thread, at the places that
-//! the journal gives them.
+//! The judge of outputs: whether the replies that stand there are those of one thread, at the
+//! places that the journal gives them.
 #![tactic(auto)]
 
 mod asking;

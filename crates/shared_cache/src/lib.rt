@@ -5,9 +5,8 @@
 //! the worker's pass, waits for the lock, and gives the pass back with one event less left. What it
 //! answers is what the cache of one thread answers at that place of the history. A value that a
 //! fetch finds is copied by `Shared::copy_out` without the lock, or as its text by
-//! `Shared::copy_text`. A call that finds no memory for
-//! its answer is no event, and its pass comes back as it was. Once every worker has ended,
-//! `Shared::close` gives the journal of all events.
+//! `Shared::copy_text`. A call that finds no memory for its answer is no event, and its pass comes
+//! back as it was. Once every worker has ended, `Shared::close` gives the journal of all events.
 #![tactic(auto)]
 
 mod answering;

@@ -1,5 +1,5 @@
-//! One worker of many plays its script on a shared cache: the events of each call in order, and
-//! what each call prints for its own replies.
+//! One worker of many, which plays its script on a shared cache: the events of each call in order,
+//! and what each call prints for its own replies.
 #![tactic(auto)]
 
 mod answers;
