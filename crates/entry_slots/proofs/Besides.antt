@@ -2,6 +2,7 @@
 use Rattle.std.proofs.Common.{◌≡◌, inl, inr, ℕ, zero, suc, ◌+◌, ◌<◌, ◌≤◌, ◌==◌, Bool, true, false, cond, ◌&&◌, List, [], ◌∷◌, length, slice_index, refl, sym, ap, ◌∙◌, subst, arith}
 use Rattle.std.proofs.lemmas.Bool.{cases_Bool, eqb-true, eq-eqb, or_left, or_right, false≢true, false_from_ne_true}
 use Rattle.std.specs.List.{Contains, filter, count_by}
+use Rattle.entry_slots.specs.declared.head.TheConstants.{NEXT}
 use Rattle.seg_words.specs.declared.gaps.Extent.{Extent}
 use Rattle.seg_words.specs.Windows.{Aside, has, is_named}
 use Rattle.sma_blocks.specs.declared.sma.Sma.{Sma}
@@ -132,11 +133,11 @@ module _ {e : EntrySlots} {ws : List ℕ} {aside : Aside} (s : Entries) (h : Sta
           same = λ i low high one. last.same i low high one ∙ before.after i (omega (arith, w.low));
         })
 
-    link : (row : Row) → Contains s.removed row → slice_index ws' (row.place + 1) ≡ slice_index ws (row.place + 1)
+    link : (row : Row) → Contains s.removed row → slice_index ws' (row.place + NEXT) ≡ slice_index ws (row.place + NEXT)
     link row c =
         let w = room (home_removed row h c) in
-        kept.inside (row.place + 1) (not_free (row.place + 1) 1 (kept_blocks places (live_blocks ws1 e.sma.from)) (extent_of row) (in_kept row c) (omega arith) (omega arith) (omega (arith, w.enough)))
-        ∙ before.after (row.place + 1) (omega (arith, w.low))
+        kept.inside (row.place + NEXT) (not_free (row.place + NEXT) 1 (kept_blocks places (live_blocks ws1 e.sma.from)) (extent_of row) (in_kept row c) (omega arith) (omega arith) (omega (arith, w.enough)))
+        ∙ before.after (row.place + NEXT) (omega (arith, w.low))
 
 -- what is in a list by its number is in it
 pub has_indexed : (xs : List ℕ) (i : ℕ) → i < length xs → has (slice_index xs i) xs ≡ true

@@ -2,6 +2,7 @@
 use Rattle.std.proofs.Common.{◌≡◌, ◌≢◌, ◌⊎◌, inl, inr, ℕ, ◌+◌, ◌<◌, ◌≤◌, Bool, true, eqb, ltb, ◌&&◌, List, [], ◌∷◌, length, slice_index, sym, ap, ◌∙◌, subst, arith}
 use Rattle.std.proofs.lemmas.Bool.{and_parts, and_from, or_left, or_right, false_from_ne_true, eqb-true, eq-eqb}
 use Rattle.std.specs.List.{Contains, list_any}
+use Rattle.seg_words.specs.declared.layout.TheConstants.{PIN_COUNT}
 use Rattle.seg_words.specs.declared.gaps.Extent.{Extent}
 use Rattle.seg_words.specs.Windows.{Aside, has, is_named}
 use Rattle.seg_words.specs.Blocks.{IsTold}
@@ -71,24 +72,24 @@ has_there x (y ∷ ys) c = elim (Contains-cases y ys x c) [
   | inr later ↦ or_right (eqb x y) (has x ys) (has_there x ys later)
 ]
 
--- a word that is word 11 of no named block is told
-pub told_from : (windows : List ℕ) (i : ℕ) → ((x : ℕ) → is_named windows x ≡ true → i ≢ x + 11) → IsTold windows i
+-- a word that is no named block's pin count is told
+pub told_from : (windows : List ℕ) (i : ℕ) → ((x : ℕ) → is_named windows x ≡ true → i ≢ x + PIN_COUNT) → IsTold windows i
 told_from windows i other =
-    let pins : ℕ → Bool = λ at. ltb 0 at && eqb i (at + 11) in
+    let pins : ℕ → Bool = λ at. ltb 0 at && eqb i (at + PIN_COUNT) in
     false_from_ne_true (list_any pins windows) (λ t.
     let r = any_there pins windows t in
-    let parts = and_parts (ltb 0 r.0) (eqb i (r.0 + 11)) r.2 in
-    other r.0 (and_from (ltb 0 r.0) (has r.0 windows) parts.0 (has_there r.0 windows r.1)) (eqb-true i (r.0 + 11) parts.1))
+    let parts = and_parts (ltb 0 r.0) (eqb i (r.0 + PIN_COUNT)) r.2 in
+    other r.0 (and_from (ltb 0 r.0) (has r.0 windows) parts.0 (has_there r.0 windows r.1)) (eqb-true i (r.0 + PIN_COUNT) parts.1))
 
--- each word of a live block is told, but for its word 11
-pub told_in : (sma : Sma) (ws : List ℕ) (aside : Aside) (e : Extent) (i : ℕ) → IsReady sma ws aside → Contains (live_blocks ws sma.from) e → e.place ≤ i → i < e.place + e.size → i ≢ e.place + 11 → IsTold aside.windows i
+-- each word of a live block is told, but for its pin count
+pub told_in : (sma : Sma) (ws : List ℕ) (aside : Aside) (e : Extent) (i : ℕ) → IsReady sma ws aside → Contains (live_blocks ws sma.from) e → e.place ≤ i → i < e.place + e.size → i ≢ e.place + PIN_COUNT → IsTold aside.windows i
 unfolding Apart
 told_in sma ws aside e i ready live low high other =
     told_from aside.windows i (λ x named.
     let block = ready.windows x named in
     let f : Extent = record { place = x; size = block.size } in
     elim (live_apart sma ws aside e f ready live block.live) [
-      | inl same ↦ let place : e.place ≡ x = ap (λ (y : Extent). y.place) same in (λ q. other (q ∙ ap (λ (n : ℕ). n + 11) (sym place)))
+      | inl same ↦ let place : e.place ≡ x = ap (λ (y : Extent). y.place) same in (λ q. other (q ∙ ap (λ (n : ℕ). n + PIN_COUNT) (sym place)))
       | inr apart ↦ elim apart [
         | inl before ↦ (λ q. omega (arith, before))
         | inr after ↦ (λ q. omega (arith, after, block.inside))

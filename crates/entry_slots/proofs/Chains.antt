@@ -3,6 +3,7 @@ use Rattle.std.proofs.Common.{◌≡◌, inl, inr, ℕ, ◌+◌, ◌%◌, ◌<�
 use Rattle.std.proofs.lemmas.Bool.{eqb-true, eq-eqb, cases_Bool, or_cases, false≢true}
 use Rattle.std.specs.List.{Contains}
 use Rattle.std.proofs.lemmas.List.Folds.{list_any-append}
+use Rattle.entry_slots.specs.declared.head.TheConstants.{NEXT}
 use Rattle.seg_words.specs.Windows.{Aside}
 use Rattle.php_graph.specs.Numbers.{hash_of}
 use Rattle.apcu_model.specs.Cache.{Row}
@@ -20,15 +21,15 @@ chain_first ws at [] h = h
 chain_first ws at (row ∷ rows) h = h.0
 
 -- word 1 of a chain's block is the place of the next
-pub chain_next : (ws : List ℕ) (at first : ℕ) (rows : List Row) → IsRowChain ws first rows → has_place at rows ≡ true → slice_index ws (at + 1) ≡ place_after at rows
+pub chain_next : (ws : List ℕ) (at first : ℕ) (rows : List Row) → IsRowChain ws first rows → has_place at rows ≡ true → slice_index ws (at + NEXT) ≡ place_after at rows
 chain_next ws at first [] h there = absurd (false≢true there)
 chain_next ws at first (row ∷ rows) h there = elim (cases_Bool (is_at at row)) [
   | inl here ↦
       let place : row.place ≡ at = eqb-true row.place at here in
-      rw here (ap (λ (n : ℕ). slice_index ws (n + 1)) (sym place) ∙ chain_first ws (slice_index ws (row.place + 1)) rows h.1)
+      rw here (ap (λ (n : ℕ). slice_index ws (n + NEXT)) (sym place) ∙ chain_first ws (slice_index ws (row.place + NEXT)) rows h.1)
   | inr other ↦
       let later : has_place at rows ≡ true = elim (or_cases (is_at at row) (has_place at rows) there) [ inl here ↦ absurd (false≢true (sym other ∙ here)) | inr l ↦ l ] in
-      rw other (chain_next ws at (slice_index ws (row.place + 1)) rows h.1 later)
+      rw other (chain_next ws at (slice_index ws (row.place + NEXT)) rows h.1 later)
 ]
 
 -- each row of the list has its block
@@ -54,10 +55,10 @@ pub slot_small : (n slots : ℕ) → 2 ≤ slots → n % slots < slots
 slot_small n slots h = omega arith
 
 -- what follows in a chain, or among the removed rows
-pub next_row : {e : EntrySlots} {ws : List ℕ} {aside : Aside} (s : Entries) (at slot : ℕ) → Stands e ws aside s → slot < e.sma.from → has_place at (chain_of s slot) ≡ true → slice_index ws (at + 1) ≡ place_after at (chain_of s slot)
+pub next_row : {e : EntrySlots} {ws : List ℕ} {aside : Aside} (s : Entries) (at slot : ℕ) → Stands e ws aside s → slot < e.sma.from → has_place at (chain_of s slot) ≡ true → slice_index ws (at + NEXT) ≡ place_after at (chain_of s slot)
 next_row {ws = ws} s at slot h lt there = chain_next ws at (slice_index ws slot) (chain_of s slot) (h.chains slot (omega (arith, h.from))) there
 
-pub next_removed : {e : EntrySlots} {ws : List ℕ} {aside : Aside} (s : Entries) (at : ℕ) → Stands e ws aside s → has_place at s.removed ≡ true → slice_index ws (at + 1) ≡ place_after at s.removed
+pub next_removed : {e : EntrySlots} {ws : List ℕ} {aside : Aside} (s : Entries) (at : ℕ) → Stands e ws aside s → has_place at s.removed ≡ true → slice_index ws (at + NEXT) ≡ place_after at s.removed
 next_removed {e = e} {ws = ws} s at h there = chain_next ws at e.removed s.removed h.removed_chain there
 
 in_own_slot : (s : Entries) (at : ℕ) → has_place at s.rows ≡ true → (row : Row) × (has_place at (chain_of s (slot_of s.conf row.key)) ≡ true)
@@ -66,7 +67,7 @@ in_own_slot s at there =
     (r.0, any_from (is_at at) (chain_of s (slot_of s.conf r.0.key)) r.0 (Contains-kept (is_in_slot s.conf (slot_of s.conf r.0.key)) s.rows r.0 r.1 (eq-eqb (slot_of s.conf r.0.key) (slot_of s.conf r.0.key) refl)) r.2)
 
 -- word 1 of a row's or a removed row's block is a place
-pub small_after : {e : EntrySlots} {ws : List ℕ} {aside : Aside} {at : ℕ} → HasEntryAt e ws aside at → slice_index ws (at + 1) < 2 ^ 32
+pub small_after : {e : EntrySlots} {ws : List ℕ} {aside : Aside} {at : ℕ} → HasEntryAt e ws aside at → slice_index ws (at + NEXT) < 2 ^ 32
 small_after {e = e} {ws = ws} {aside = aside} {at = at} h =
     let s = h.entries in
     elim (or_cases (has_place at s.rows) (has_place at s.removed) (sym (any-append at s.rows s.removed) ∙ h.there)) [

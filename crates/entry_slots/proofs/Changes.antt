@@ -2,6 +2,8 @@
 use Rattle.std.proofs.Common.{◌≡◌, ◌≢◌, ◌⊎◌, inl, inr, ℕ, ◌+◌, ◌<◌, ◌≤◌, true, List, length, slice_index, slice_set, refl, ap, ◌∙◌, arith}
 use Rattle.std.specs.List.{Contains}
 use Rattle.std.proofs.lemmas.List.{get_or-set_other, length-set}
+use Rattle.seg_words.specs.declared.layout.TheConstants.{KEY_LENGTH, IMAGE_LENGTH}
+use Rattle.entry_slots.specs.declared.head.TheConstants.{TTL}
 use Rattle.seg_words.specs.declared.gaps.Extent.{Extent}
 use Rattle.seg_words.specs.Windows.{Aside, is_named}
 use Rattle.sma_blocks.specs.declared.sma.Sma.{Sma}
@@ -26,16 +28,16 @@ only_set ws ws' low high i v h l k = record {
 }
 
 -- the lengths in a block that a window names stay where words change from word 4 of a block on
-pub named_same : (sma : Sma) (ws : List ℕ) (aside : Aside) (e : Extent) → IsReady sma ws aside → Contains (live_blocks ws sma.from) e → (ws' : List ℕ) → OnlyIn ws ws' (e.place + 4) (e.place + e.size)
-    → (x : ℕ) → is_named aside.windows x ≡ true → (slice_index ws' (x + 2) ≡ slice_index ws (x + 2)) × (slice_index ws' (x + 3) ≡ slice_index ws (x + 3))
+pub named_same : (sma : Sma) (ws : List ℕ) (aside : Aside) (e : Extent) → IsReady sma ws aside → Contains (live_blocks ws sma.from) e → (ws' : List ℕ) → OnlyIn ws ws' (e.place + TTL) (e.place + e.size)
+    → (x : ℕ) → is_named aside.windows x ≡ true → (slice_index ws' (x + KEY_LENGTH) ≡ slice_index ws (x + KEY_LENGTH)) × (slice_index ws' (x + IMAGE_LENGTH) ≡ slice_index ws (x + IMAGE_LENGTH))
 unfolding Apart
 named_same sma ws aside e ready live ws' only x named =
     let block = ready.windows x named in
     let f : Extent = record { place = x; size = block.size } in
     elim (live_apart sma ws aside e f ready live block.live) [
-      | inl same ↦ (let place : e.place ≡ x = ap (λ (y : Extent). y.place) same in (only.same (x + 2) (inl (omega arith)), only.same (x + 3) (inl (omega arith))))
+      | inl same ↦ (let place : e.place ≡ x = ap (λ (y : Extent). y.place) same in (only.same (x + KEY_LENGTH) (inl (omega arith)), only.same (x + IMAGE_LENGTH) (inl (omega arith))))
       | inr apart ↦ elim apart [
-        | inl before ↦ (only.same (x + 2) (inr (omega arith)), only.same (x + 3) (inr (omega arith)))
-        | inr after ↦ (only.same (x + 2) (inl (omega (arith, block.inside))), only.same (x + 3) (inl (omega (arith, block.inside))))
+        | inl before ↦ (only.same (x + KEY_LENGTH) (inr (omega arith)), only.same (x + IMAGE_LENGTH) (inr (omega arith)))
+        | inr after ↦ (only.same (x + KEY_LENGTH) (inl (omega (arith, block.inside))), only.same (x + IMAGE_LENGTH) (inl (omega (arith, block.inside))))
       ]
     ]

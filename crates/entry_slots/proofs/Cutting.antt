@@ -4,6 +4,8 @@ use Rattle.std.proofs.lemmas.Bool.{cases_Bool, cases_eq}
 use Rattle.std.proofs.lemmas.List.{length-set, get_or-set_other}
 use Rattle.std.proofs.lemmas.List.Elements.{Contains-append_left, Contains-append_right}
 use Rattle.std.specs.List.{Contains, filter, count_by}
+use Rattle.seg_words.specs.declared.layout.TheConstants.{KEY_LENGTH, IMAGE_LENGTH}
+use Rattle.entry_slots.specs.declared.head.TheConstants.{NEXT}
 use Rattle.seg_words.specs.Windows.{Aside, is_named}
 use Rattle.seg_words.specs.Blocks.{IsTold, MayStore}
 use Rattle.apcu_model.specs.Conf.{room_of}
@@ -67,11 +69,11 @@ distinct_both (x ∷ xs) ys p q h cp cq = elim (Contains-cases x xs p cp) [
 
 -- a slot word, or word 1 of a row's block
 abbrev pub Spot : EntrySlots → List ℕ → Aside → ℕ → Type 0
-Spot e ws aside m = (m < e.sma.from) ⊎ ((q : Row) × IsHome e ws aside q × (m ≡ q.place + 1))
+Spot e ws aside m = (m < e.sma.from) ⊎ ((q : Row) × IsHome e ws aside q × (m ≡ q.place + NEXT))
 
 pub spot_after : {e : EntrySlots} {ws : List ℕ} {aside : Aside} (first : ℕ) (front : List Row) → Spot e ws aside first → AreHome e ws aside front → Spot e ws aside (link_after first front)
 spot_after first [] spot homes = spot
-spot_after first (row ∷ rows) spot homes = spot_after (row.place + 1) rows (inr (row, homes row (Contains-first row rows), refl)) (λ q c. homes q (Contains-later row rows q c))
+spot_after first (row ∷ rows) spot homes = spot_after (row.place + NEXT) rows (inr (row, homes row (Contains-first row rows), refl)) (λ q c. homes q (Contains-later row rows q c))
 
 -- it is read, and may be stored
 pub record IsLinkWord (ws windows : List ℕ) (m : ℕ) : Type 0 where
@@ -97,28 +99,28 @@ spot_word {e} {ws} {aside} {s} m h (inr q) =
     }
 
 -- such a word of a chain after at least one row is that of one of them
-link_in : (first m : ℕ) (row : Row) (rows : List Row) → m ≡ link_after first (row ∷ rows) → (q : Row) × Contains (row ∷ rows) q × (m ≡ q.place + 1)
+link_in : (first m : ℕ) (row : Row) (rows : List Row) → m ≡ link_after first (row ∷ rows) → (q : Row) × Contains (row ∷ rows) q × (m ≡ q.place + NEXT)
 link_in first m row [] e = (row, Contains-first row [], e)
-link_in first m row (next ∷ rows) e = let r = link_in (row.place + 1) m next rows e in (r.0, Contains-later row (next ∷ rows) r.0 r.1, r.2)
+link_in first m row (next ∷ rows) e = let r = link_in (row.place + NEXT) m next rows e in (r.0, Contains-later row (next ∷ rows) r.0 r.1, r.2)
 
 -- The front of a chain is kept, and another back joined to it.
 pub relink : (ws ws' : List ℕ) (first m : ℕ) (front back back' : List Row) → m ≡ link_after first front → IsRowChain ws (slice_index ws first) (front ++ back) → IsRowChain ws' (slice_index ws' m) back'
     → (first ≢ m → slice_index ws' first ≡ slice_index ws first)
-    → ((q : Row) → Contains front q → q.place + 1 ≢ m → slice_index ws' (q.place + 1) ≡ slice_index ws (q.place + 1))
-    → ((q : Row) → Contains front q → q.place + 1 ≢ first) → AreDistinct front
+    → ((q : Row) → Contains front q → q.place + NEXT ≢ m → slice_index ws' (q.place + NEXT) ≡ slice_index ws (q.place + NEXT))
+    → ((q : Row) → Contains front q → q.place + NEXT ≢ first) → AreDistinct front
     → IsRowChain ws' (slice_index ws' first) (front ++ back')
 relink ws ws' first m [] back back' e chain rest same kept other distinct = subst (λ (n : ℕ). IsRowChain ws' (slice_index ws' n) back') e rest
 relink ws ws' first m (row ∷ rows) back back' e chain rest same kept other distinct =
     let l = link_in first m row rows e in
     let apart : first ≢ m = λ q. other l.0 l.1 (sym l.2 ∙ sym q) in (
       same apart ∙ chain.0,
-      relink ws ws' (row.place + 1) m rows back back' e chain.1 rest (λ o. kept row (Contains-first row rows) o) (λ q c o. kept q (Contains-later row rows q c) o) (λ q c o. distinct.0 q c (omega arith)) distinct.1,
+      relink ws ws' (row.place + NEXT) m rows back back' e chain.1 rest (λ o. kept row (Contains-first row rows) o) (λ q c o. kept q (Contains-later row rows q c) o) (λ q c o. distinct.0 q c (omega arith)) distinct.1,
     )
 
 -- what a chain's words at its front lead to
 pub chain_rest : (ws : List ℕ) (first : ℕ) (front back : List Row) → IsRowChain ws (slice_index ws first) (front ++ back) → IsRowChain ws (slice_index ws (link_after first front)) back
 chain_rest ws first [] back h = h
-chain_rest ws first (row ∷ rows) back h = chain_rest ws (row.place + 1) rows back h.1
+chain_rest ws first (row ∷ rows) back h = chain_rest ws (row.place + NEXT) rows back h.1
 
 -- ---- one such word stored
 
@@ -133,9 +135,9 @@ module _ {e : EntrySlots} {ws : List ℕ} {aside : Aside} {s : Entries} (h : Sta
       ]
       | inr other ↦ inl (get_or-set_other ws m i v 0 other)
     ];
-    named = λ x named. let both = set_named x named in (get_or-set_other ws m (x + 2) v 0 both.0, get_or-set_other ws m (x + 3) v 0 both.1);
+    named = λ x named. let both = set_named x named in (get_or-set_other ws m (x + KEY_LENGTH) v 0 both.0, get_or-set_other ws m (x + IMAGE_LENGTH) v 0 both.1);
   } where
-    set_named : (x : ℕ) → is_named aside.windows x ≡ true → (x + 2 ≢ m) × (x + 3 ≢ m)
+    set_named : (x : ℕ) → is_named aside.windows x ≡ true → (x + KEY_LENGTH ≢ m) × (x + IMAGE_LENGTH ≢ m)
     set_named x named =
         let may = (spot_word m h spot).may x named in
         ((λ q. may.key_length (sym q)), (λ q. may.image_length (sym q)))
@@ -158,5 +160,5 @@ module _ {e : EntrySlots} {ws : List ℕ} {aside : Aside} {s : Entries} (h : Sta
   pub set_entry : Laws → (row : Row) → IsHome e ws aside row → IsEntry (slice_set ws m v) row
   set_entry law row home = entry_kept law ws (slice_set ws m v) row home.entry (set_row row home)
 
-  pub set_link : (row : Row) → row.place + 1 ≢ m → slice_index (slice_set ws m v) (row.place + 1) ≡ slice_index ws (row.place + 1)
-  set_link row other = get_or-set_other ws m (row.place + 1) v 0 other
+  pub set_link : (row : Row) → row.place + NEXT ≢ m → slice_index (slice_set ws m v) (row.place + NEXT) ≡ slice_index ws (row.place + NEXT)
+  set_link row other = get_or-set_other ws m (row.place + NEXT) v 0 other

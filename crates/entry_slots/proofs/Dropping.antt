@@ -3,6 +3,8 @@ use Rattle.std.proofs.Common.{◌≡◌, ◌≢◌, inl, inr, ℕ, ◌+◌, Bool
 use Rattle.std.proofs.lemmas.Bool.{cases_eq, eq-eqb, ne_eqb}
 use Rattle.std.proofs.lemmas.List.{length-set, get_or-set_same, get_or-set_other}
 use Rattle.std.specs.List.{Contains, count_by}
+use Rattle.seg_words.specs.declared.layout.TheConstants.{KEY_LENGTH, IMAGE_LENGTH}
+use Rattle.entry_slots.specs.declared.head.TheConstants.{NEXT, MTIME, ATIME, DTIME, HITS}
 use Rattle.seg_words.specs.declared.gaps.Extent.{Extent}
 use Rattle.seg_words.specs.Windows.{Aside}
 use Rattle.sma_blocks.specs.Ready.{ChangesInner}
@@ -23,31 +25,31 @@ use Rattle.entry_slots.proofs.Cutting.{Spot, set_change, set_entry, set_link}
 use Rattle.entry_slots.proofs.Relisting.{relisted, moved}
 
 -- an unlinked row names no other
-pub cleared_stands : Laws → {e : EntrySlots} {ws : List ℕ} {aside : Aside} (s : Entries) (h : Stands e ws aside s) (at v : ℕ) (q : Row) → Contains s.unlinked q → q.place ≡ at → Stands e (slice_set ws (at + 1) v) aside s
+pub cleared_stands : Laws → {e : EntrySlots} {ws : List ℕ} {aside : Aside} (s : Entries) (h : Stands e ws aside s) (at v : ℕ) (q : Row) → Contains s.unlinked q → q.place ≡ at → Stands e (slice_set ws (at + NEXT) v) aside s
 cleared_stands law {e} {ws} {aside} s h at v q there place =
-    let spot : Spot e ws aside (at + 1) = inr (q, home_unlinked q h there, ap (λ n. n + 1) (sym place)) in
-    relisted law s h (slice_set ws (at + 1) v) (set_change h (at + 1) v spot) (set_entry h (at + 1) v spot law)
+    let spot : Spot e ws aside (at + NEXT) = inr (q, home_unlinked q h there, ap (λ n. n + NEXT) (sym place)) in
+    relisted law s h (slice_set ws (at + NEXT) v) (set_change h (at + NEXT) v spot) (set_entry h (at + NEXT) v spot law)
     (λ slot lt.
-    let word : slice_index (slice_set ws (at + 1) v) slot ≡ slice_index ws slot = get_or-set_other ws (at + 1) slot v 0 (let w = room (home_unlinked q h there) in λ same. omega (arith, w.low, h.from)) in
-    subst (λ n. IsRowChain (slice_set ws (at + 1) v) n (chain_of s slot)) (sym word)
-    (chain_kept ws (slice_set ws (at + 1) v) (slice_index ws slot) (chain_of s slot) (λ row c. set_link h (at + 1) v spot row (λ same.
+    let word : slice_index (slice_set ws (at + NEXT) v) slot ≡ slice_index ws slot = get_or-set_other ws (at + NEXT) slot v 0 (let w = room (home_unlinked q h there) in λ same. omega (arith, w.low, h.from)) in
+    subst (λ n. IsRowChain (slice_set ws (at + NEXT) v) n (chain_of s slot)) (sym word)
+    (chain_kept ws (slice_set ws (at + NEXT) v) (slice_index ws slot) (chain_of s slot) (λ row c. set_link h (at + NEXT) v spot row (λ same.
     rows_unlinked h row q (Contains-filter (is_in_slot s.conf slot) s.rows row c).0 there (omega arith))) (h.chains slot lt)))
     e.removed s.removed s.unlinked
-    (chain_kept ws (slice_set ws (at + 1) v) e.removed s.removed (λ row c. set_link h (at + 1) v spot row (λ same. removed_unlinked h row q c there (omega arith))) h.removed_chain)
+    (chain_kept ws (slice_set ws (at + NEXT) v) e.removed s.removed (λ row c. set_link h (at + NEXT) v spot row (λ same. removed_unlinked h row q c there (omega arith))) h.removed_chain)
     (λ row c. home_removed row h c) (λ row c. home_unlinked row h c) (λ p. refl)
 
 module _ {e : EntrySlots} {ws : List ℕ} {aside : Aside} (s : Entries) (h : Stands e ws aside s) (at t : ℕ) (q : Row) (there : Contains s.unlinked q) (place : q.place ≡ at) where
   ws' : List ℕ
-  ws' = slice_set ws (at + 8) t
+  ws' = slice_set ws (at + DTIME) t
 
   own : IsHome e ws aside q
   own = home_unlinked q h there
 
-  other_word : (i : ℕ) → i ≢ at + 8 → slice_index (slice_set ws (at + 8) t) i ≡ slice_index ws i
-  other_word i other = get_or-set_other ws (at + 8) i t 0 other
+  other_word : (i : ℕ) → i ≢ at + DTIME → slice_index (slice_set ws (at + DTIME) t) i ≡ slice_index ws i
+  other_word i other = get_or-set_other ws (at + DTIME) i t 0 other
 
-  link_other : (row : Row) → IsHome e ws aside row → slice_index (slice_set ws (at + 8) t) (row.place + 1) ≡ slice_index ws (row.place + 1)
-  link_other row home = other_word (row.place + 1) (λ same. elim (cases_eq row.place q.place) [
+  link_other : (row : Row) → IsHome e ws aside row → slice_index (slice_set ws (at + DTIME) t) (row.place + NEXT) ≡ slice_index ws (row.place + NEXT)
+  link_other row home = other_word (row.place + NEXT) (λ same. elim (cases_eq row.place q.place) [
     | inl one ↦ omega arith
     | inr two ↦ elim (rows_apart row q home own two) [
       | inl before ↦ (let w = room home in omega (arith, w.enough))
@@ -55,39 +57,39 @@ module _ {e : EntrySlots} {ws : List ℕ} {aside : Aside} (s : Entries) (h : Sta
     ]
   ])
 
-  row_other : (row : Row) → IsHome e ws aside row → row.place ≢ q.place → SameRow ws (slice_set ws (at + 8) t) row
+  row_other : (row : Row) → IsHome e ws aside row → row.place ≢ q.place → SameRow ws (slice_set ws (at + DTIME) t) row
   row_other row home other = record {
-    count = length-set ws (at + 8) t;
+    count = length-set ws (at + DTIME) t;
     same = λ i low high one. other_word i (λ same. elim (rows_apart row q home own other) [
       | inl before ↦ omega arith
       | inr after ↦ (let w = room own in omega (arith, w.enough))
     ]);
   }
 
-  noted_change : ChangesInner e.sma ws (slice_set ws (at + 8) t) aside
+  noted_change : ChangesInner e.sma ws (slice_set ws (at + DTIME) t) aside
   noted_change = record {
-    count = length-set ws (at + 8) t;
-    inner = λ i low. elim (cases_eq i (at + 8)) [
+    count = length-set ws (at + DTIME) t;
+    inner = λ i low. elim (cases_eq i (at + DTIME)) [
       | inl same ↦ (let w = room own in inr (record { block = extent_of q; live = own.live; low = omega arith; high = omega (arith, w.enough) }))
       | inr other ↦ inl (other_word i other)
     ];
     named = λ x named.
         let may = may_note q own at 8 place (omega arith) (omega arith) (omega arith) x named in
-        (other_word (x + 2) (λ same. may.key_length (sym same)), other_word (x + 3) (λ same. may.image_length (sym same)));
+        (other_word (x + KEY_LENGTH) (λ same. may.key_length (sym same)), other_word (x + IMAGE_LENGTH) (λ same. may.image_length (sym same)));
   }
 
-  noted_entry : Laws → (row : Row) → IsHome e ws aside row → row.place ≡ at → IsEntry (slice_set ws (at + 8) t) (record row { dtime = t })
+  noted_entry : Laws → (row : Row) → IsHome e ws aside row → row.place ≡ at → IsEntry (slice_set ws (at + DTIME) t) (record row { dtime = t })
   noted_entry law row home same =
       let w = room home in
-      let but : SameBut ws (slice_set ws (at + 8) t) row = record {
-        count = length-set ws (at + 8) t;
+      let but : SameBut ws (slice_set ws (at + DTIME) t) row = record {
+        count = length-set ws (at + DTIME) t;
         first = λ k few o. other_word (row.place + k) (omega arith);
         later = λ i low high. other_word i (omega arith);
       } in
-      entry_noted law ws (slice_set ws (at + 8) t) row row.mtime row.atime t row.hits home.entry but
-      (other_word (row.place + 6) (omega arith) ∙ home.entry.mtime) (other_word (row.place + 7) (omega arith) ∙ home.entry.atime)
-      (ap (slice_index (slice_set ws (at + 8) t)) (ap (λ n. n + 8) same) ∙ get_or-set_same ws (at + 8) t 0 (omega (arith, w.high, w.enough)))
-      (other_word (row.place + 9) (omega arith) ∙ home.entry.hits)
+      entry_noted law ws (slice_set ws (at + DTIME) t) row row.mtime row.atime t row.hits home.entry but
+      (other_word (row.place + MTIME) (omega arith) ∙ home.entry.mtime) (other_word (row.place + ATIME) (omega arith) ∙ home.entry.atime)
+      (ap (slice_index (slice_set ws (at + DTIME) t)) (ap (λ n. n + DTIME) same) ∙ get_or-set_same ws (at + DTIME) t 0 (omega (arith, w.high, w.enough)))
+      (other_word (row.place + HITS) (omega arith) ∙ home.entry.hits)
 
   extents_same : (test : Extent → Bool) (rows : List Row) → count_by (λ row. test (extent_of row)) (map (noted_row at t) rows) ≡ count_by (λ row. test (extent_of row)) rows
   extents_same test [] = refl
@@ -97,30 +99,30 @@ module _ {e : EntrySlots} {ws : List ℕ} {aside : Aside} (s : Entries) (h : Sta
       let p : Row → Bool = λ r. test (extent_of r) in
       omega (arith, one, count-cons p (noted_row at t row) (map (noted_row at t) rows), count-cons p row rows, extents_same test rows)
 
-  pub noted_stands : Laws → Stands e (slice_set ws (at + 8) t) aside (noted_at at t s)
+  pub noted_stands : Laws → Stands e (slice_set ws (at + DTIME) t) aside (noted_at at t s)
   noted_stands law = record {
     chains = λ slot lt.
         let w = room own in
-        let word : slice_index (slice_set ws (at + 8) t) slot ≡ slice_index ws slot = other_word slot (λ same. omega (arith, w.low, h.from)) in
-        subst (λ n. IsRowChain (slice_set ws (at + 8) t) n (chain_of s slot)) (sym word)
-        (chain_kept ws (slice_set ws (at + 8) t) (slice_index ws slot) (chain_of s slot) (λ row c. link_other row (home_row row h (Contains-filter (is_in_slot s.conf slot) s.rows row c).0)) (h.chains slot lt));
-    removed_chain = chain_kept ws (slice_set ws (at + 8) t) e.removed s.removed (λ row c. link_other row (home_removed row h c)) h.removed_chain;
-    rows = λ row c. entry_kept law ws (slice_set ws (at + 8) t) row (h.rows row c) (row_other row (home_row row h c) (λ same. rows_unlinked h row q c there (sym same)));
-    removed = λ row c. entry_kept law ws (slice_set ws (at + 8) t) row (h.removed row c) (row_other row (home_removed row h c) (λ same. removed_unlinked h row q c there (sym same)));
+        let word : slice_index (slice_set ws (at + DTIME) t) slot ≡ slice_index ws slot = other_word slot (λ same. omega (arith, w.low, h.from)) in
+        subst (λ n. IsRowChain (slice_set ws (at + DTIME) t) n (chain_of s slot)) (sym word)
+        (chain_kept ws (slice_set ws (at + DTIME) t) (slice_index ws slot) (chain_of s slot) (λ row c. link_other row (home_row row h (Contains-filter (is_in_slot s.conf slot) s.rows row c).0)) (h.chains slot lt));
+    removed_chain = chain_kept ws (slice_set ws (at + DTIME) t) e.removed s.removed (λ row c. link_other row (home_removed row h c)) h.removed_chain;
+    rows = λ row c. entry_kept law ws (slice_set ws (at + DTIME) t) row (h.rows row c) (row_other row (home_row row h c) (λ same. rows_unlinked h row q c there (sym same)));
+    removed = λ row c. entry_kept law ws (slice_set ws (at + DTIME) t) row (h.removed row c) (row_other row (home_removed row h c) (λ same. removed_unlinked h row q c there (sym same)));
     unlinked = λ x c.
         let r = map_there (noted_row at t) s.unlinked x c in
         let home = home_unlinked r.0 h r.1 in
         elim (cases_eq r.0.place at) [
           | inl same ↦
               let here : noted_row at t r.0 ≡ record r.0 { dtime = t } = ap (λ (b : Bool). let y : Row = cond b (record r.0 { dtime = t }) r.0 in y) (eq-eqb r.0.place at same) in
-              subst (λ y. IsEntry (slice_set ws (at + 8) t) y) (sym here ∙ r.2) (noted_entry law r.0 home same)
+              subst (λ y. IsEntry (slice_set ws (at + DTIME) t) y) (sym here ∙ r.2) (noted_entry law r.0 home same)
           | inr other ↦
               let here : noted_row at t r.0 ≡ r.0 = ap (λ (b : Bool). let y : Row = cond b (record r.0 { dtime = t }) r.0 in y) (ne_eqb r.0.place at other) in
-              subst (λ y. IsEntry (slice_set ws (at + 8) t) y) (sym here ∙ r.2) (entry_kept law ws (slice_set ws (at + 8) t) r.0 home.entry (row_other r.0 home (λ same. other (same ∙ place))))
+              subst (λ y. IsEntry (slice_set ws (at + DTIME) t) y) (sym here ∙ r.2) (entry_kept law ws (slice_set ws (at + DTIME) t) r.0 home.entry (row_other r.0 home (λ same. other (same ∙ place))))
         ];
     taken = h.taken;
-    ready = (law.blocks e.sma ws (slice_set ws (at + 8) t) aside h.ready noted_change).ready;
-    blocks = record { count = λ test. ap (count_by test) (law.blocks e.sma ws (slice_set ws (at + 8) t) aside h.ready noted_change).blocks ∙ omega (arith, h.blocks.count test, count_blocks test s, count_blocks test (noted_at at t s), extents_same test s.unlinked) };
+    ready = (law.blocks e.sma ws (slice_set ws (at + DTIME) t) aside h.ready noted_change).ready;
+    blocks = record { count = λ test. ap (count_by test) (law.blocks e.sma ws (slice_set ws (at + DTIME) t) aside h.ready noted_change).blocks ∙ omega (arith, h.blocks.count test, count_blocks test s, count_blocks test (noted_at at t s), extents_same test s.unlinked) };
     apart = h.apart;
     number = h.number;
     count = h.count;

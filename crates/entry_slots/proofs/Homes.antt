@@ -3,6 +3,7 @@ use Rattle.std.proofs.Common.{◌≡◌, ◌≢◌, inl, inr, ℕ, ◌+◌, ◌%
 use Rattle.std.proofs.lemmas.Bool.{eqb-true}
 use Rattle.std.specs.List.{Contains}
 use Rattle.std.proofs.lemmas.List.Elements.{Contains-append_left, Contains-append_right, Contains-append_cases}
+use Rattle.seg_words.specs.declared.layout.TheConstants.{HEAD_WORDS, PIN_COUNT}
 use Rattle.seg_words.specs.Windows.{Aside}
 use Rattle.seg_words.specs.Blocks.{IsTold}
 use Rattle.sma_blocks.specs.Live.{live_blocks}
@@ -66,8 +67,8 @@ pub record IsRoom (from : ℕ) (ws windows : List ℕ) (row : Row) : Type 0 wher
   pub some : 2 ≤ row.place
   pub high : row.place + row.size ≤ length ws
   pub short : length ws ≤ 16777216
-  pub enough : 12 + words_in (length row.key) + image_length row.graph ≤ row.size
-  pub told : (i : ℕ) → row.place ≤ i → i < row.place + row.size → i ≢ row.place + 11 → IsTold windows i
+  pub enough : HEAD_WORDS + words_in (length row.key) + image_length row.graph ≤ row.size
+  pub told : (i : ℕ) → row.place ≤ i → i < row.place + row.size → i ≢ row.place + PIN_COUNT → IsTold windows i
 
 size_enough : (n size : ℕ) → size ≡ n + n % 2 → n ≤ size
 size_enough n size h = omega arith
@@ -80,7 +81,7 @@ room {e = e} {ws = ws} {aside = aside} {row = row} h =
       some = omega (arith, bounds.0, h.past);
       high = bounds.1;
       short = h.short;
-      enough = size_enough (12 + words_in (length row.key) + image_length row.graph) row.size h.entry.whole;
+      enough = size_enough (HEAD_WORDS + words_in (length row.key) + image_length row.graph) row.size h.entry.whole;
       told = λ i low high other. told_in e.sma ws aside (extent_of row) i h.ready h.live low high other;
     }
 
@@ -90,8 +91,8 @@ row_there {at = at} h =
     let r = any_there (is_at at) (h.entries.rows ++ h.entries.removed) h.there in
     (r.0, home_listed r.0 h.stand r.1, eqb-true r.0.place at r.2)
 
--- the words before the key are told, but for word 11
-pub told_at : {e : EntrySlots} {ws : List ℕ} {aside : Aside} {row : Row} → IsHome e ws aside row → (at k : ℕ) → row.place ≡ at → k < 12 → k ≢ 11 → IsTold aside.windows (at + k)
+-- the words before the key are told, but for the pin count
+pub told_at : {e : EntrySlots} {ws : List ℕ} {aside : Aside} {row : Row} → IsHome e ws aside row → (at k : ℕ) → row.place ≡ at → k < HEAD_WORDS → k ≢ PIN_COUNT → IsTold aside.windows (at + k)
 told_at h at k e few other =
     let w = room h in
     w.told (at + k) (omega arith) (omega (arith, w.enough)) (λ q. other (omega arith))

@@ -2,6 +2,7 @@
 use Rattle.std.proofs.Common.{◌≡◌, ◌∙◌, ℕ, ◌+◌, ◌<◌, ◌≤◌, true, List, ◌++◌, length, take, drop}
 use Rattle.std.proofs.Common.{sym, ap, subst, arith}
 use Rattle.std.proofs.lemmas.List.{take-append-drop}
+use Rattle.seg_words.specs.declared.layout.TheConstants.{HEAD_WORDS}
 use Rattle.seg_words.specs.Blocks.{IsTold}
 use Rattle.seg_words.specs.Layout.{words_in}
 use Rattle.seg_words.specs.Windows.{Aside}
@@ -15,9 +16,9 @@ use Rattle.entry_slots.proofs.Homes.{IsHome, room}
 
 -- so many bytes of the words behind the head of the block at this place are the key
 pub record IsKeyAt (ws windows : List ℕ) (at : ℕ) (key : List ℕ) : Type 0 where
-  pub back : take (length key) (bytes_of (drop (at + 12) ws)) ≡ key
-  pub inside : at + 12 + words_in (length key) ≤ length ws
-  pub told : (i : ℕ) → at + 12 ≤ i → i < at + 12 + words_in (length key) → IsTold windows i
+  pub back : take (length key) (bytes_of (drop (at + HEAD_WORDS) ws)) ≡ key
+  pub inside : at + HEAD_WORDS + words_in (length key) ≤ length ws
+  pub told : (i : ℕ) → at + HEAD_WORDS ≤ i → i < at + HEAD_WORDS + words_in (length key) → IsTold windows i
   pub short : length ws ≤ 16777216
 
 bytes_back : BytesArePacked → (ws : List ℕ) (at : ℕ) (key : List ℕ) → AreBytes key → StandsAt ws at (words_of key) → take (length key) (bytes_of (drop at ws)) ≡ key
@@ -31,7 +32,7 @@ pub key_at : BytesArePacked → {e : EntrySlots} {ws : List ℕ} {aside : Aside}
 key_at law {e} {ws} {aside} row h at place =
     let w = room h in
     record {
-      back = bytes_back law ws (at + 12) row.key h.entry.bytes (subst (λ (n : ℕ). StandsAt ws (n + 12) (words_of row.key)) place h.entry.key);
+      back = bytes_back law ws (at + HEAD_WORDS) row.key h.entry.bytes (subst (λ (n : ℕ). StandsAt ws (n + HEAD_WORDS) (words_of row.key)) place h.entry.key);
       inside = omega (arith, w.high, w.enough, place);
       told = λ i low high. w.told i (omega arith) (omega (arith, w.enough)) (omega arith);
       short = w.short;

@@ -4,6 +4,7 @@ use Rattle.std.proofs.lemmas.Bool.{false_from_ne_true}
 use Rattle.std.proofs.lemmas.List.{same_lists}
 use Rattle.std.proofs.lemmas.List.FromFn.{get_or-map-range_with_len}
 use Rattle.std.proofs.lemmas.Slice.Eq.{bytes_eq-Decides}
+use Rattle.seg_words.specs.declared.layout.TheConstants.{HEAD_WORDS, KEY_LENGTH}
 use Rattle.seg_words.specs.Windows.{Aside}
 use Rattle.php_graph.specs.ByteStrings.{AreBytes}
 use Rattle.seg_words.specs.Layout.{words_in}
@@ -25,14 +26,14 @@ same_bytes law a b len sa sb each =
     ∙ (each k too ∙ sym (get_or-map-range_with_len (word_at b) 0 (words_in (length b)) k k d too (omega arith)))))
 
 -- the words of a row's key
-pub key_at : Laws → {e : EntrySlots} {ws : List ℕ} {aside : Aside} {row : Row} → IsHome e ws aside row → (at j : ℕ) → row.place ≡ at → j < words_in (length row.key) → slice_index ws (at + 12 + j) ≡ word_at row.key j
+pub key_at : Laws → {e : EntrySlots} {ws : List ℕ} {aside : Aside} {row : Row} → IsHome e ws aside row → (at j : ℕ) → row.place ≡ at → j < words_in (length row.key) → slice_index ws (at + HEAD_WORDS + j) ≡ word_at row.key j
 key_at law {ws = ws} {row = row} h at j e lt =
     let len = words_long row.key in
-    ap (λ n. slice_index ws (n + 12 + j)) (sym e) ∙ (law.runs.words ws (row.place + 12) (words_of row.key) j h.entry.key (omega (arith, len, lt)) ∙ word_there row.key j lt)
+    ap (λ n. slice_index ws (n + HEAD_WORDS + j)) (sym e) ∙ (law.runs.words ws (row.place + HEAD_WORDS) (words_of row.key) j h.entry.key (omega (arith, len, lt)) ∙ word_there row.key j lt)
 
 -- the length of a row's key
-pub key_length_at : {e : EntrySlots} {ws : List ℕ} {aside : Aside} {row : Row} → IsHome e ws aside row → (at : ℕ) → row.place ≡ at → slice_index ws (at + 2) ≡ length row.key
-key_length_at {ws = ws} h at e = ap (λ n. slice_index ws (n + 2)) (sym e) ∙ h.entry.key_length
+pub key_length_at : {e : EntrySlots} {ws : List ℕ} {aside : Aside} {row : Row} → IsHome e ws aside row → (at : ℕ) → row.place ≡ at → slice_index ws (at + KEY_LENGTH) ≡ length row.key
+key_length_at {ws = ws} h at e = ap (λ n. slice_index ws (n + KEY_LENGTH)) (sym e) ∙ h.entry.key_length
 
 pub key_differs : (row : Row) (key : List ℕ) → (row.key ≡ key → ⊥) → false ≡ has_key key row
 key_differs row key other = sym (false_from_ne_true (has_key key row) (λ t. other ((bytes_eq-Decides row.key key).0 t)))
@@ -44,12 +45,12 @@ pub key_of : (row : Row) (key : List ℕ) → has_key key row ≡ true → row.k
 key_of row key t = (bytes_eq-Decides row.key key).0 t
 
 -- a word that differs
-pub differs_at : Laws → {e : EntrySlots} {ws : List ℕ} {aside : Aside} (row : Row) (key : List ℕ) → IsHome e ws aside row → (at j w : ℕ) → row.place ≡ at → j < words_in (length key) → slice_index ws (at + 12 + j) ≢ word_at key j → false ≡ has_key key row
+pub differs_at : Laws → {e : EntrySlots} {ws : List ℕ} {aside : Aside} (row : Row) (key : List ℕ) → IsHome e ws aside row → (at j w : ℕ) → row.place ≡ at → j < words_in (length key) → slice_index ws (at + HEAD_WORDS + j) ≢ word_at key j → false ≡ has_key key row
 differs_at law row key h at j w e lt other =
     key_differs row key (λ same. other (key_at law h at j e (subst (λ k. j < words_in (length k)) (sym same) lt) ∙ ap (λ k. word_at k j) same))
 
 -- all words are the same
-pub equal_at : Laws → {e : EntrySlots} {ws : List ℕ} {aside : Aside} (row : Row) (key : List ℕ) → IsHome e ws aside row → (at : ℕ) → row.place ≡ at → slice_index ws (at + 2) ≡ length key → AreBytes key → ((j : ℕ) → j < words_in (length key) → slice_index ws (at + 12 + j) ≡ word_at key j) → true ≡ has_key key row
+pub equal_at : Laws → {e : EntrySlots} {ws : List ℕ} {aside : Aside} (row : Row) (key : List ℕ) → IsHome e ws aside row → (at : ℕ) → row.place ≡ at → slice_index ws (at + KEY_LENGTH) ≡ length key → AreBytes key → ((j : ℕ) → j < words_in (length key) → slice_index ws (at + HEAD_WORDS + j) ≡ word_at key j) → true ≡ has_key key row
 equal_at law row key h at e long small each =
     let len : length row.key ≡ length key = sym (key_length_at h at e) ∙ long in
     key_equal row key (same_bytes law row.key key len h.entry.bytes small (λ j lt. sym (key_at law h at j e (subst (λ n. j < words_in n) (sym len) lt)) ∙ each j lt))

@@ -3,6 +3,7 @@ use Rattle.std.proofs.Common.{◌≡◌, ◌≢◌, inl, inr, ℕ, ◌+◌, ◌<
 use Rattle.std.proofs.lemmas.Bool.{cases_eq, eq-eqb}
 use Rattle.std.proofs.lemmas.List.Elements.{Contains-append_cases}
 use Rattle.std.specs.List.{Contains, filter, count_by}
+use Rattle.entry_slots.specs.declared.head.TheConstants.{NEXT}
 use Rattle.seg_words.specs.declared.gaps.Extent.{Extent}
 use Rattle.seg_words.specs.Windows.{Aside}
 use Rattle.php_graph.specs.declared.kind.Kind.{Kind}
@@ -26,7 +27,7 @@ use Rattle.entry_slots.proofs.Linking.{count_split, only_passes, count_with_row,
 module _ {e : EntrySlots} {ws : List ℕ} {aside : Aside} (s : Entries) (h : Stands e ws aside s) (at : ℕ) (key : List ℕ) (g : List Kind) (ttl t : ℕ)
     (taken : Contains s.taken (extent_of (fresh_row key g ttl t at s.next_number))) (entry : IsEntry ws (fresh_row key g ttl t at s.next_number))
     (slot : ℕ) (lt : slot < e.sma.from) (is : slot_of s.conf key ≡ slot) (m : ℕ) (front back more : List Row) (split : chain_of s slot ≡ front ++ back) (follows : m ≡ link_after slot front)
-    (sub : (q : Row) → Contains more q → Contains back q) (rest : IsRowChain ws (slice_index ws (at + 1)) more)
+    (sub : (q : Row) → Contains more q → Contains back q) (rest : IsRowChain ws (slice_index ws (at + NEXT)) more)
     (own : filter (is_in_slot s.conf slot) (with_row (fresh_row key g ttl t at s.next_number) s.rows) ≡ front ++ fresh_row key g ttl t at s.next_number ∷ more) where
   new : Row
   new = fresh_row key g ttl t at s.next_number
@@ -43,7 +44,7 @@ module _ {e : EntrySlots} {ws : List ℕ} {aside : Aside} (s : Entries) (h : Sta
   row_elsewhere : (row : Row) → Contains s.rows row → row.place ≢ at
   row_elsewhere row c same = omega (arith, once h at, counted_some (is_at at) s.rows row c (at_itself row at same), counted_some (begins_at at) s.taken (extent_of (fresh_row key g ttl t at s.next_number)) taken (eq-eqb at at refl))
 
-  new_other : at + 1 ≢ m
+  new_other : at + NEXT ≢ m
   new_other = not_word h slot lt m at front back split follows (fresh_row key g ttl t at s.next_number) new_home (λ q c.
       row_elsewhere q (Contains-filter (is_in_slot s.conf slot) s.rows q (in_front h slot lt m at front back split follows q c)).0)
 
@@ -73,7 +74,7 @@ module _ {e : EntrySlots} {ws : List ℕ} {aside : Aside} (s : Entries) (h : Sta
           | inl same ↦
               let chain : IsRowChain (slice_set ws m at) (slice_index (slice_set ws m at) slot) (front ++ row ∷ more) =
               rejoined h slot lt m at front back split follows (row ∷ more) (refl, rest) (λ q c. elim (Contains-cases row more q c) [
-                | inl here ↦ subst (λ (r : Row). r.place + 1 ≢ m) here new_other
+                | inl here ↦ subst (λ (r : Row). r.place + NEXT ≢ m) here new_other
                 | inr later ↦ back_other h slot lt m at front back split follows q (sub q later)
               ]) in
               let whole : IsRowChain (slice_set ws m at) (slice_index (slice_set ws m at) slot) (filter (is_in_slot s.conf slot) (with_row row s.rows)) = subst (λ rs. IsRowChain (slice_set ws m at) (slice_index (slice_set ws m at) slot) rs) (sym own) chain in

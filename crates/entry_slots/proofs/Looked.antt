@@ -3,6 +3,7 @@ use Rattle.std.proofs.Common.{◌≡◌, ◌∙◌, ℕ, ◌+◌, ◌<◌, ◌/�
 use Rattle.std.proofs.Common.{length, refl, sym, ap, subst, arith}
 use Rattle.std.specs.Prelude.{nat_lt}
 use Rattle.std.proofs.lemmas.Bool.{ne_eqb}
+use Rattle.seg_words.specs.declared.layout.TheConstants.{HEAD_WORDS}
 use Rattle.seg_words.specs.Blocks.{image_place}
 use Rattle.seg_words.specs.Layout.{words_in}
 use Rattle.seg_words.specs.Windows.{Aside}
@@ -53,14 +54,14 @@ limit_decides row conf own limit t over is none limit_is h =
 
 pub image_is : {e : EntrySlots} {ws : List ℕ} {aside : Aside} (row : Row) → IsHome e ws aside row
     → (at key_len image : ℕ) → row.place ≡ at → key_len ≡ length row.key
-    → image ≡ at + 12 + words_in key_len → IsImageAt ws aside.windows image row
+    → image ≡ at + HEAD_WORDS + words_in key_len → IsImageAt ws aside.windows image row
 image_is {ws = ws} row h at key_len image place long is =
     let w = room h in
-    let start : image ≡ row.place + 12 + words_in (length row.key) =
-    is ∙ (ap (λ n. n + 12 + words_in key_len) (sym place)
-    ∙ ap (λ n. row.place + 12 + words_in n) long) in
+    let start : image ≡ row.place + HEAD_WORDS + words_in (length row.key) =
+    is ∙ (ap (λ n. n + HEAD_WORDS + words_in key_len) (sym place)
+    ∙ ap (λ n. row.place + HEAD_WORDS + words_in n) long) in
     let there : image_place ws row.place ≡ image =
-    ap (λ n. row.place + 12 + (n + 7) / 8) h.entry.key_length ∙ sym start in
+    ap (λ n. row.place + HEAD_WORDS + (n + 7) / 8) h.entry.key_length ∙ sym start in
     record {
       place = start;
       stands = subst (λ n. IsImageOf ws n (image_length row.graph) row.graph) there h.entry.image;

@@ -5,6 +5,8 @@ use Rattle.std.specs.Int.{w64, cast_unsigned}
 use Rattle.std.proofs.lemmas.Bool.{eq-eqb, ne_eqb}
 use Rattle.std.proofs.lemmas.List.{ext_get_or, get_or-take, get_or-drop, length-take, length-drop, length-set, get_or-set_same, get_or-set_other}
 use Rattle.std.specs.List.{Contains}
+use Rattle.seg_words.specs.declared.layout.TheConstants.{HEAD_WORDS, KEY_LENGTH}
+use Rattle.entry_slots.specs.declared.head.TheConstants.{TTL, MTIME}
 use Rattle.seg_words.specs.Windows.{Aside}
 use Rattle.seg_words.specs.Blocks.{image_place}
 use Rattle.php_graph.specs.declared.kind.Kind.{Kind}
@@ -80,7 +82,7 @@ two_words ws at a b inside ea eb = run_from ws at (a ∷ b ∷ []) inside each
 
 -- the words after another integer was written
 abbrev pub number_words : List ℕ → ℕ → ℕ → ℕ → ℕ → List ℕ
-number_words ws at i word t = slice_set (slice_set ws i word) (at + 6) t
+number_words ws at i word t = slice_set (slice_set ws i word) (at + MTIME) t
 
 pub number_entry : Laws → (ws : List ℕ) (row : Row) (at i t : ℕ) (n v : ℤ) → IsEntry ws row → row.graph ≡ kinds.Int v ∷ [] → FitsSigned w64 n → row.place ≡ at → at + row.size ≤ length ws → i ≡ at + 13 + words_in (length row.key)
     → IsEntry (number_words ws at i (cast_unsigned w64 n) t) (record row { graph = kinds.Int n ∷ []; mtime = t })
@@ -88,37 +90,37 @@ number_entry law ws row at i t n v h graph fits e inside ei =
     let once : List ℕ = slice_set ws i (cast_unsigned w64 n) in
     let ws' : List ℕ = number_words ws at i (cast_unsigned w64 n) t in
     let long : length once ≡ length ws = length-set ws i (cast_unsigned w64 n) in
-    let count : length ws' ≡ length ws = length-set once (at + 6) t ∙ long in
+    let count : length ws' ≡ length ws = length-set once (at + MTIME) t ∙ long in
     let two : image_length row.graph ≡ 2 = ap image_length graph in
-    let size : row.size ≡ block_size (length row.key) (kinds.Int n ∷ []) = h.whole ∙ ap (λ (k : ℕ). 12 + words_in (length row.key) + k + (12 + words_in (length row.key) + k) % 2) two in
+    let size : row.size ≡ block_size (length row.key) (kinds.Int n ∷ []) = h.whole ∙ ap (λ (k : ℕ). HEAD_WORDS + words_in (length row.key) + k + (HEAD_WORDS + words_in (length row.key) + k) % 2) two in
     let enough : 14 + words_in (length row.key) ≤ row.size = size_enough (length row.key) row.size size in
-    let other : (j : ℕ) → j ≢ i → j ≢ at + 6 → slice_index ws' j ≡ slice_index ws j = λ j p q. get_or-set_other once (at + 6) j t 0 q ∙ get_or-set_other ws i j (cast_unsigned w64 n) 0 p in
-    let word : (k : ℕ) → k < 12 → k ≢ 6 → slice_index ws' (row.place + k) ≡ slice_index ws (row.place + k) = λ k few o. other (row.place + k) (omega arith) (λ q. o (omega arith)) in
+    let other : (j : ℕ) → j ≢ i → j ≢ at + MTIME → slice_index ws' j ≡ slice_index ws j = λ j p q. get_or-set_other once (at + MTIME) j t 0 q ∙ get_or-set_other ws i j (cast_unsigned w64 n) 0 p in
+    let word : (k : ℕ) → k < HEAD_WORDS → k ≢ MTIME → slice_index ws' (row.place + k) ≡ slice_index ws (row.place + k) = λ k few o. other (row.place + k) (omega arith) (λ q. o (omega arith)) in
     let zero' : row.place + 0 ≡ row.place = omega arith in
     let klen = words_long row.key in
-    let start : image_place ws row.place ≡ row.place + 12 + words_in (length row.key) = ap (λ m. row.place + 12 + (m + 7) / 8) h.key_length in
-    let key_length : slice_index ws' (row.place + 2) ≡ length row.key = word 2 (omega arith) (omega arith) ∙ h.key_length in
-    let start' : image_place ws' row.place ≡ row.place + 12 + words_in (length row.key) = ap (λ m. row.place + 12 + (m + 7) / 8) key_length in
-    let old : IsImageOf ws (row.place + 12 + words_in (length row.key)) (image_length row.graph) row.graph = subst (λ m. IsImageOf ws m (image_length row.graph) row.graph) start h.image in
-    let run : StandsAt ws (row.place + 12 + words_in (length row.key)) (2 ∷ cast_unsigned w64 v ∷ []) = subst (λ r. StandsAt ws (row.place + 12 + words_in (length row.key)) r) (ap image_of graph ∙ int_words v) (law.images.run ws (row.place + 12 + words_in (length row.key)) (image_length row.graph) row.graph old) in
-    let tag : slice_index ws' (row.place + 12 + words_in (length row.key)) ≡ 2 = other (row.place + 12 + words_in (length row.key)) (omega arith) (omega arith) ∙ (ap (slice_index ws) (omega arith) ∙ law.runs.words ws (row.place + 12 + words_in (length row.key)) (2 ∷ cast_unsigned w64 v ∷ []) 0 run (omega arith)) in
-    let value : slice_index ws' (row.place + 12 + words_in (length row.key) + 1) ≡ cast_unsigned w64 n =
-    ap (slice_index ws') (omega arith) ∙ (get_or-set_other once (at + 6) i t 0 (omega arith) ∙ get_or-set_same ws i (cast_unsigned w64 n) 0 (omega arith)) in
-    let image : StandsAt ws' (row.place + 12 + words_in (length row.key)) (image_of (kinds.Int n ∷ [])) = subst (λ r. StandsAt ws' (row.place + 12 + words_in (length row.key)) r) (sym (int_words n)) (two_words ws' (row.place + 12 + words_in (length row.key)) 2 (cast_unsigned w64 n) (omega (arith, count)) tag value) in
+    let start : image_place ws row.place ≡ row.place + HEAD_WORDS + words_in (length row.key) = ap (λ m. row.place + HEAD_WORDS + (m + 7) / 8) h.key_length in
+    let key_length : slice_index ws' (row.place + KEY_LENGTH) ≡ length row.key = word 2 (omega arith) (omega arith) ∙ h.key_length in
+    let start' : image_place ws' row.place ≡ row.place + HEAD_WORDS + words_in (length row.key) = ap (λ m. row.place + HEAD_WORDS + (m + 7) / 8) key_length in
+    let old : IsImageOf ws (row.place + HEAD_WORDS + words_in (length row.key)) (image_length row.graph) row.graph = subst (λ m. IsImageOf ws m (image_length row.graph) row.graph) start h.image in
+    let run : StandsAt ws (row.place + HEAD_WORDS + words_in (length row.key)) (2 ∷ cast_unsigned w64 v ∷ []) = subst (λ r. StandsAt ws (row.place + HEAD_WORDS + words_in (length row.key)) r) (ap image_of graph ∙ int_words v) (law.images.run ws (row.place + HEAD_WORDS + words_in (length row.key)) (image_length row.graph) row.graph old) in
+    let tag : slice_index ws' (row.place + HEAD_WORDS + words_in (length row.key)) ≡ 2 = other (row.place + HEAD_WORDS + words_in (length row.key)) (omega arith) (omega arith) ∙ (ap (slice_index ws) (omega arith) ∙ law.runs.words ws (row.place + HEAD_WORDS + words_in (length row.key)) (2 ∷ cast_unsigned w64 v ∷ []) 0 run (omega arith)) in
+    let value : slice_index ws' (row.place + HEAD_WORDS + words_in (length row.key) + 1) ≡ cast_unsigned w64 n =
+    ap (slice_index ws') (omega arith) ∙ (get_or-set_other once (at + MTIME) i t 0 (omega arith) ∙ get_or-set_same ws i (cast_unsigned w64 n) 0 (omega arith)) in
+    let image : StandsAt ws' (row.place + HEAD_WORDS + words_in (length row.key)) (image_of (kinds.Int n ∷ [])) = subst (λ r. StandsAt ws' (row.place + HEAD_WORDS + words_in (length row.key)) r) (sym (int_words n)) (two_words ws' (row.place + HEAD_WORDS + words_in (length row.key)) 2 (cast_unsigned w64 n) (omega (arith, count)) tag value) in
     record {
       size = ap (slice_index ws') (sym zero') ∙ (word 0 (omega arith) (omega arith) ∙ (ap (slice_index ws) zero' ∙ h.size));
       key_length = key_length;
       value_length = word 3 (omega arith) (omega arith) ∙ (h.value_length ∙ two);
       ttl = word 4 (omega arith) (omega arith) ∙ h.ttl;
       ctime = word 5 (omega arith) (omega arith) ∙ h.ctime;
-      mtime = ap (slice_index ws') (ap (λ m. m + 6) e) ∙ get_or-set_same once (at + 6) t 0 (omega (arith, long));
+      mtime = ap (slice_index ws') (ap (λ m. m + MTIME) e) ∙ get_or-set_same once (at + MTIME) t 0 (omega (arith, long));
       atime = word 7 (omega arith) (omega arith) ∙ h.atime;
       dtime = word 8 (omega arith) (omega arith) ∙ h.dtime;
       hits = word 9 (omega arith) (omega arith) ∙ h.hits;
       number = word 10 (omega arith) (omega arith) ∙ h.number;
       pin_count = word 11 (omega arith) (omega arith) ∙ h.pin_count;
-      key = run_same ws ws' (row.place + 12) (words_of row.key) count (λ j low high. other j (omega arith) (omega arith)) h.key;
-      image = subst (λ m. IsImageOf ws' m 2 (kinds.Int n ∷ [])) (sym start') (law.images.image ws' (row.place + 12 + words_in (length row.key)) (kinds.Int n ∷ []) (int_graph n fits) image);
+      key = run_same ws ws' (row.place + HEAD_WORDS) (words_of row.key) count (λ j low high. other j (omega arith) (omega arith)) h.key;
+      image = subst (λ m. IsImageOf ws' m 2 (kinds.Int n ∷ [])) (sym start') (law.images.image ws' (row.place + HEAD_WORDS + words_in (length row.key)) (kinds.Int n ∷ []) (int_graph n fits) image);
       whole = size;
       bytes = h.bytes;
       short_ttl = h.short_ttl;
@@ -142,8 +144,8 @@ number_stands law {e} {ws} {aside} s h at i t n v own there place int fits ei =
     let graph : own.graph ≡ kinds.Int v ∷ [] = graph_one own.graph v home.entry.image.graph int in
     let two : image_length own.graph ≡ 2 = ap image_length graph in
     let ws' : List ℕ = number_words ws at i (cast_unsigned w64 n) t in
-    let only : OnlyIn ws ws' (own.place + 4) (own.place + own.size) =
-    only_set ws (slice_set ws i (cast_unsigned w64 n)) (own.place + 4) (own.place + own.size) (at + 6) t (only_set ws ws (own.place + 4) (own.place + own.size) i (cast_unsigned w64 n) (only_none ws (own.place + 4) (own.place + own.size)) (omega arith) (omega (arith, w.enough, two))) (omega arith) (omega (arith, w.enough)) in
+    let only : OnlyIn ws ws' (own.place + TTL) (own.place + own.size) =
+    only_set ws (slice_set ws i (cast_unsigned w64 n)) (own.place + TTL) (own.place + own.size) (at + MTIME) t (only_set ws ws (own.place + TTL) (own.place + own.size) i (cast_unsigned w64 n) (only_none ws (own.place + TTL) (own.place + own.size)) (omega arith) (omega (arith, w.enough, two))) (omega arith) (omega (arith, w.enough)) in
     rewritten h ws' own there only law (number_row at n t) (number_keeps at n t (λ row y. refl))
     (λ row other. let no' : is_at at row ≡ false = ne_eqb row.place at (λ q. other (q ∙ sym place)) in rw no' refl)
     (λ row c same.

@@ -3,6 +3,7 @@ use Rattle.std.proofs.Common.{◌≡◌, inl, inr, ℕ, ◌+◌, ◌/◌, ◌<�
 use Rattle.std.specs.List.{Contains}
 use Rattle.std.proofs.lemmas.Bool.{eqb-true, false≢true, false_from_ne_true}
 use Rattle.std.proofs.lemmas.List.Elements.{Contains-append_cases}
+use Rattle.seg_words.specs.declared.layout.TheConstants.{HEAD_WORDS, PIN_COUNT}
 use Rattle.seg_words.specs.declared.gaps.Extent.{Extent}
 use Rattle.seg_words.specs.Windows.{Aside, is_named}
 use Rattle.seg_words.specs.Blocks.{MayProbe, image_place, image_end}
@@ -29,7 +30,7 @@ listed_at s at h there = let r = any_there (is_at at) (listed s) there in (r.0, 
 image_inside : {e : EntrySlots} {ws : List ℕ} {aside : Aside} (row : Row) → IsHome e ws aside row → image_end ws row.place ≤ row.place + row.size
 image_inside {ws = ws} row h =
     let r = room h in
-    let p : image_place ws row.place ≡ row.place + 12 + (length row.key + 7) / 8 = ap (λ n. row.place + 12 + (n + 7) / 8) h.entry.key_length in
+    let p : image_place ws row.place ≡ row.place + HEAD_WORDS + (length row.key + 7) / 8 = ap (λ n. row.place + HEAD_WORDS + (n + 7) / 8) h.entry.key_length in
     omega (arith, p, h.entry.value_length, r.enough)
 
 -- a block that was taken is elsewhere
@@ -96,7 +97,7 @@ listed_probed e ws aside s at h there windows =
     let w = room own.3 in
     record {
       inside = omega (arith, w.high, w.enough, own.2);
-      count = λ none. ap (λ n. slice_index ws (n + 11)) (sym own.2) ∙ own.3.entry.pin_count;
+      count = λ none. ap (λ n. slice_index ws (n + PIN_COUNT)) (sym own.2) ∙ own.3.entry.pin_count;
     }
 
 row_copied : {e : EntrySlots} {ws : List ℕ} {aside : Aside} (row : Row) → IsHome e ws aside row → IsCopyable ws aside.windows row.place

@@ -4,6 +4,8 @@ use Rattle.std.proofs.lemmas.Bool.{cases_Bool, eq-eqb, or_from, ne_eqb}
 use Rattle.std.proofs.lemmas.List.Elements.{Contains-append_right}
 use Rattle.std.proofs.lemmas.List.{length-map, append-nil}
 use Rattle.std.specs.List.{Contains, find, list_any}
+use Rattle.seg_words.specs.declared.layout.TheConstants.{HEAD_WORDS}
+use Rattle.entry_slots.specs.declared.head.TheConstants.{NEXT}
 use Rattle.seg_words.specs.declared.gaps.Extent.{Extent}
 use Rattle.seg_words.specs.Windows.{Aside}
 use Rattle.php_graph.specs.declared.kind.Kind.{Kind}
@@ -93,13 +95,13 @@ module _ {e : EntrySlots} {ws : List ℕ} {aside : Aside} (s : Entries) (h : Sta
   block : Extent
   block = record { place = at; size = block_size (length key) g }
 
-  pub taken_room : (at + (12 + words_in (length key) + image_length g) ≤ length ws) × (length ws ≤ 16777216) × (12 + words_in (length key) + image_length g ≤ block_size (length key) g)
+  pub taken_room : (at + (HEAD_WORDS + words_in (length key) + image_length g) ≤ length ws) × (length ws ≤ 16777216) × (HEAD_WORDS + words_in (length key) + image_length g ≤ block_size (length key) g)
   taken_room =
       let bounds = live_bounds e.sma ws aside (record { place = at; size = block_size (length key) g }) h.ready (taken_live (record { place = at; size = block_size (length key) g }) h taken) in
-      let enough = block_enough (12 + words_in (length key) + image_length g) in
+      let enough = block_enough (HEAD_WORDS + words_in (length key) + image_length g) in
       (omega (arith, bounds.1, enough), omega (arith, h.to, h.good.words_most, h.ready.end), enough)
 
-  pub taken_write : MayWrite ws aside.windows (at + 1) (11 + words_in (length key) + image_length g)
+  pub taken_write : MayWrite ws aside.windows (at + NEXT) (11 + words_in (length key) + image_length g)
   taken_write = let r = taken_room in record {
     inside = omega (arith, r.0);
     apart = λ i low high. taken_may (record { place = at; size = block_size (length key) g }) h taken i (omega arith) (omega (arith, r.2));
@@ -108,21 +110,21 @@ module _ {e : EntrySlots} {ws : List ℕ} {aside : Aside} (s : Entries) (h : Sta
   entry_long : Laws → (note : Note) → length (entry_words key g note) ≡ 11 + words_in (length key) + image_length g
   entry_long law note = omega (arith, length-append (head_words key g note) (words_of key ++ image_of g), length-append (words_of key) (image_of g), words_long key, law.images.long g)
 
-  entry_only : Laws → (note : Note) → OnlyIn ws (written ws (at + 1) (entry_words key g note)) (at + 1) (at + block_size (length key) g)
-  entry_only law note = only_wider ws (written ws (at + 1) (entry_words key g note)) (at + 1) (at + 1 + length (entry_words key g note)) (at + block_size (length key) g) (written_only law ws (at + 1) (entry_words key g note)) (let r = taken_room in omega (arith, r.2, entry_long law note))
+  entry_only : Laws → (note : Note) → OnlyIn ws (written ws (at + NEXT) (entry_words key g note)) (at + NEXT) (at + block_size (length key) g)
+  entry_only law note = only_wider ws (written ws (at + NEXT) (entry_words key g note)) (at + NEXT) (at + NEXT + length (entry_words key g note)) (at + block_size (length key) g) (written_only law ws (at + NEXT) (entry_words key g note)) (let r = taken_room in omega (arith, r.2, entry_long law note))
 
-  pub entry_stands : Laws → (note : Note) → Stands e (written ws (at + 1) (entry_words key g note)) aside s
-  entry_stands law note = taken_stands h (record { place = at; size = block_size (length key) g }) taken (written ws (at + 1) (entry_words key g note)) (entry_only law note) law
+  pub entry_stands : Laws → (note : Note) → Stands e (written ws (at + NEXT) (entry_words key g note)) aside s
+  entry_stands law note = taken_stands h (record { place = at; size = block_size (length key) g }) taken (written ws (at + NEXT) (entry_words key g note)) (entry_only law note) law
 
   -- all of it, and the chain's word
   pub link_stands : Laws → (note : Note) → IsGraph g → AreBytes key → note.ttl < 2 ^ 32 → note.number ≡ e.next_number → (replaced slot m : ℕ) → replaced ≡ found_place (find (has_key key) s.rows) → slot ≡ slot_of s.conf key → slot < e.sma.from
-      → IsLinkTo ws slot (chain_of s slot) replaced m → (replaced ≢ 0 → note.next ≡ slice_index ws (replaced + 1)) → (replaced ≡ 0 → note.next ≡ 0)
+      → IsLinkTo ws slot (chain_of s slot) replaced m → (replaced ≢ 0 → note.next ≡ slice_index ws (replaced + NEXT)) → (replaced ≡ 0 → note.next ≡ 0)
       → (number count : ℕ) → number ≡ risen e.next_number → count ≡ cond (eqb replaced 0) (e.count + 1) e.count
-      → Stands (record e { next_number = number; count = count }) (slice_set (written ws (at + 1) (entry_words key g note)) m at) aside (linked at key g note.ttl note.now s)
+      → Stands (record e { next_number = number; count = count }) (slice_set (written ws (at + NEXT) (entry_words key g note)) m at) aside (linked at key g note.ttl note.now s)
   unfolding Old
   link_stands law note graph bytes ttl number_is replaced slot m er es lt link over none number count en ec =
       let b : Extent = record { place = at; size = block_size (length key) g } in
-      let ws1 : List ℕ = written ws (at + 1) (entry_words key g note) in
+      let ws1 : List ℕ = written ws (at + NEXT) (entry_words key g note) in
       let h1 : Stands e ws1 aside s = entry_stands law note in
       let r = taken_room in
       let size : slice_index ws at ≡ block_size (length key) g = live_word e.sma ws aside b h.ready (taken_live b h taken) in
@@ -148,8 +150,8 @@ module _ {e : EntrySlots} {ws : List ℕ} {aside : Aside} (s : Entries) (h : Sta
             let home = home_row old.0 h old.2 in
             let some : replaced ≢ 0 = (let w = room home in λ q. omega (arith, w.some, old.1)) in
             let in_rows : Contains s.rows row = subst (λ z. Contains s.rows z) (sym first.4) old.2 in
-            let word : slice_index ws1 (row.place + 1) ≡ slice_index ws (row.place + 1) = link_kept h b taken ws1 (entry_only law note) row (home_row row h in_rows) (rows_not h b taken ws1 (entry_only law note) row in_rows) in
-            let next : slice_index ws1 (at + 1) ≡ slice_index ws1 (row.place + 1) = made.1 ∙ (over some ∙ (ap (λ n. slice_index ws (n + 1)) (sym at_row) ∙ sym word)) in
+            let word : slice_index ws1 (row.place + NEXT) ≡ slice_index ws (row.place + NEXT) = link_kept h b taken ws1 (entry_only law note) row (home_row row h in_rows) (rows_not h b taken ws1 (entry_only law note) row in_rows) in
+            let next : slice_index ws1 (at + NEXT) ≡ slice_index ws1 (row.place + NEXT) = made.1 ∙ (over some ∙ (ap (λ n. slice_index ws (n + NEXT)) (sym at_row) ∙ sym word)) in
             let has : has_key key row ≡ true = ap (has_key key) first.4 ∙ old.3 in
             linked_stands s h1 at key g note.ttl note.now taken entry slot lt (sym es) m link.front (row ∷ more) more split link.follows (λ q c. Contains-later row more q c) (subst (λ n. IsRowChain ws1 n more) (sym next) chain1.1)
             (own_slot_over law s slot new link.front row more h.apart (any_from (has_key key) s.rows old.0 old.2 old.3) split has)

@@ -4,6 +4,7 @@ use Rattle.std.proofs.lemmas.Bool.{cases_Bool, eqb-true, ne_eqb}
 use Rattle.std.proofs.lemmas.List.{get_or-set_same, get_or-set_other}
 use Rattle.std.proofs.lemmas.List.Elements.{Contains-append_left, Contains-append_right}
 use Rattle.std.specs.List.{Contains, filter, count_by}
+use Rattle.entry_slots.specs.declared.head.TheConstants.{NEXT}
 use Rattle.seg_words.specs.Windows.{Aside}
 use Rattle.apcu_model.specs.Cache.{Row}
 use Rattle.apcu_model.specs.Walk.{is_in_slot, slot_of}
@@ -43,9 +44,9 @@ slots_apart {s = s} h one two other p q cp cq same =
       counted_some (is_at p.place) (chain_of s two) q cq (at_itself q p.place same),
     )
 
-after_cases : (first m : ℕ) (front : List Row) → m ≡ link_after first front → (m ≡ first) ⊎ ((q : Row) × Contains front q × (m ≡ q.place + 1))
+after_cases : (first m : ℕ) (front : List Row) → m ≡ link_after first front → (m ≡ first) ⊎ ((q : Row) × Contains front q × (m ≡ q.place + NEXT))
 after_cases first m [] e = inl e
-after_cases first m (row ∷ rows) e = elim (after_cases (row.place + 1) m rows e) [
+after_cases first m (row ∷ rows) e = elim (after_cases (row.place + NEXT) m rows e) [
   | inl here ↦ inr (row, Contains-first row rows, here)
   | inr q ↦ inr (q.0, Contains-later row rows q.0 q.1, q.2)
 ]
@@ -61,19 +62,19 @@ module _ {e : EntrySlots} {ws : List ℕ} {aside : Aside} {s : Entries} (h : Sta
   cut_spot = subst (λ n. Spot e ws aside n) (sym follows) (spot_after slot front (inl lt) (λ q c. home_chain slot h q (in_front q c)))
 
   -- the word of a row that is none of the front's
-  pub not_word : (row : Row) → IsHome e ws aside row → ((q : Row) → Contains front q → q.place ≢ row.place) → row.place + 1 ≢ m
+  pub not_word : (row : Row) → IsHome e ws aside row → ((q : Row) → Contains front q → q.place ≢ row.place) → row.place + NEXT ≢ m
   not_word row home other = elim (after_cases slot m front follows) [
     | inl here ↦ (let w = room home in (λ q. omega (arith, w.low)))
     | inr q ↦ (λ same. other q.0 q.1 (omega (arith, q.2)))
   ]
 
-  pub back_other : (row : Row) → Contains back row → row.place + 1 ≢ m
+  pub back_other : (row : Row) → Contains back row → row.place + NEXT ≢ m
   back_other row c =
       let distinct : AreDistinct (front ++ back) = subst AreDistinct split (chain_distinct h slot) in
       not_word row (home_chain slot h row (in_back row c)) (λ q cq same. distinct_both front back q row distinct cq c (sym same))
 
   -- the chain with another back
-  pub rejoined : (back' : List Row) → IsRowChain ws v back' → ((row : Row) → Contains back' row → row.place + 1 ≢ m) → IsRowChain (slice_set ws m v) (slice_index (slice_set ws m v) slot) (front ++ back')
+  pub rejoined : (back' : List Row) → IsRowChain ws v back' → ((row : Row) → Contains back' row → row.place + NEXT ≢ m) → IsRowChain (slice_set ws m v) (slice_index (slice_set ws m v) slot) (front ++ back')
   rejoined back' chain other =
       let w = spot_word m h cut_spot in
       let distinct : AreDistinct (front ++ back) = subst AreDistinct split (chain_distinct h slot) in

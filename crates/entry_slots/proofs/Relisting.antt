@@ -4,6 +4,7 @@ use Rattle.std.proofs.lemmas.Bool.{cases_eq, cases_Bool, eq-eqb, eqb-true, ne_eq
 use Rattle.std.proofs.lemmas.List.{append-nil}
 use Rattle.std.proofs.lemmas.List.Elements.{Contains-append_cases, Contains-append_left, Contains-append_right, filter-append}
 use Rattle.std.specs.List.{Contains, filter, count_by}
+use Rattle.entry_slots.specs.declared.head.TheConstants.{NEXT}
 use Rattle.seg_words.specs.declared.gaps.Extent.{Extent}
 use Rattle.seg_words.specs.Windows.{Aside}
 use Rattle.sma_blocks.specs.Order.{ready_blocks}
@@ -121,23 +122,23 @@ module _ {e : EntrySlots} {ws : List ℕ} {aside : Aside} (s : Entries) (h : Sta
   whole_front : (link : ℕ) (L : IsRemovedLink ws s.removed 0 link) → s.removed ≡ L.front
   whole_front link L = L.split ∙ (ap (λ rs. L.front ++ rs) (end_back link L) ∙ append-nil L.front)
 
-  pub moved_head : Laws → (q : Row) → Contains s.unlinked q → q.place ≡ at → slice_index ws (at + 1) ≡ 0 → (link : ℕ) → IsRemovedLink ws s.removed 0 link → link ≡ 0 → Stands (record e { removed = at }) ws aside (moved at s)
+  pub moved_head : Laws → (q : Row) → Contains s.unlinked q → q.place ≡ at → slice_index ws (at + NEXT) ≡ 0 → (link : ℕ) → IsRemovedLink ws s.removed 0 link → link ≡ 0 → Stands (record e { removed = at }) ws aside (moved at s)
   moved_head law q c place word link L none =
       let one = only_unlinked q c place in
       let empty : s.removed ≡ [] = whole_front link L ∙ removed_by_head s h 0 link L none in
       let list : s.removed ++ only_at at s.unlinked ≡ q ∷ [] = ap₂ (λ (a b : List Row). a ++ b) empty one in
-      let chain : IsRowChain ws at (q ∷ []) = (sym place, ap (λ n. slice_index ws (n + 1)) place ∙ word) in
+      let chain : IsRowChain ws at (q ∷ []) = (sym place, ap (λ n. slice_index ws (n + NEXT)) place ∙ word) in
       relisted law s h ws (no_change e ws aside) (λ row home. home.entry) h.chains at (s.removed ++ only_at at s.unlinked) (without_place at s.unlinked) (subst (λ rs. IsRowChain ws at rs) (sym list) chain) moved_removed moved_unlinked moved_same
 
-  pub moved_word : Laws → (q : Row) → Contains s.unlinked q → q.place ≡ at → slice_index ws (at + 1) ≡ 0 → (link : ℕ) → IsRemovedLink ws s.removed 0 link → link ≢ 0 → Stands e (slice_set ws link at) aside (moved at s)
+  pub moved_word : Laws → (q : Row) → Contains s.unlinked q → q.place ≡ at → slice_index ws (at + NEXT) ≡ 0 → (link : ℕ) → IsRemovedLink ws s.removed 0 link → link ≢ 0 → Stands e (slice_set ws link at) aside (moved at s)
   moved_word law q c place word link L some =
       let one = only_unlinked q c place in
       let list : s.removed ++ only_at at s.unlinked ≡ L.front ++ q ∷ [] = ap₂ (λ (a b : List Row). a ++ b) (whole_front link L) one in
       let spot : Spot e ws aside link = link_home s h 0 link L some in
       let own = link_spot s h 0 link L some in
-      let kept : slice_index (slice_set ws link at) (q.place + 1) ≡ slice_index ws (q.place + 1) = set_link h link at spot q (λ same.
+      let kept : slice_index (slice_set ws link at) (q.place + NEXT) ≡ slice_index ws (q.place + NEXT) = set_link h link at spot q (λ same.
       removed_unlinked h own.0 q (in_front s h 0 link L own.0 own.1) c (omega (arith, own.2))) in
-      let chain : IsRowChain (slice_set ws link at) at (q ∷ []) = (sym place, kept ∙ (ap (λ n. slice_index ws (n + 1)) place ∙ word)) in
+      let chain : IsRowChain (slice_set ws link at) at (q ∷ []) = (sym place, kept ∙ (ap (λ n. slice_index ws (n + NEXT)) place ∙ word)) in
       relisted law s h (slice_set ws link at) (set_change h link at spot) (set_entry h link at spot law) (λ slot lt. chains_kept s h 0 link L some at slot (omega (arith, lt, h.from)))
       e.removed (s.removed ++ only_at at s.unlinked) (without_place at s.unlinked) (subst (λ rs. IsRowChain (slice_set ws link at) e.removed rs) (sym list) (removed_by_word s h 0 link L some at (q ∷ []) chain)) moved_removed moved_unlinked moved_same
 
@@ -154,26 +155,26 @@ module _ {e : EntrySlots} {ws : List ℕ} {aside : Aside} (s : Entries) (h : Sta
   off_same p = omega (arith, count-append p (only_at at s.removed) s.unlinked, count_split p (is_at at) s.removed)
 
   -- the row and what follows it
-  pub off_back : at ≢ 0 → (link : ℕ) (L : IsRemovedLink ws s.removed at link) → (row : Row) × (more : List Row) × (L.back ≡ row ∷ more) × (row.place ≡ at) × IsRowChain ws (slice_index ws (at + 1)) more
+  pub off_back : at ≢ 0 → (link : ℕ) (L : IsRemovedLink ws s.removed at link) → (row : Row) × (more : List Row) × (L.back ≡ row ∷ more) × (row.place ≡ at) × IsRowChain ws (slice_index ws (at + NEXT)) more
   off_back some link L = go L.back L.rest
     where
-      go : (back : List Row) → IsRowChain ws at back → (row : Row) × (more : List Row) × (back ≡ row ∷ more) × (row.place ≡ at) × IsRowChain ws (slice_index ws (at + 1)) more
+      go : (back : List Row) → IsRowChain ws at back → (row : Row) × (more : List Row) × (back ≡ row ∷ more) × (row.place ≡ at) × IsRowChain ws (slice_index ws (at + NEXT)) more
       go [] rest = absurd (some rest)
-      go (row ∷ more) rest = (row, more, refl, sym rest.0, subst (λ n. IsRowChain ws (slice_index ws (n + 1)) more) (sym rest.0) rest.1)
+      go (row ∷ more) rest = (row, more, refl, sym rest.0, subst (λ n. IsRowChain ws (slice_index ws (n + NEXT)) more) (sym rest.0) rest.1)
 
   off_list : at ≢ 0 → (link : ℕ) (L : IsRemovedLink ws s.removed at link) (row : Row) (more : List Row) → L.back ≡ row ∷ more → row.place ≡ at → without_place at s.removed ≡ L.front ++ more
   off_list some link L row more eb place =
       let split : s.removed ≡ L.front ++ row ∷ more = L.split ∙ ap (λ rs. L.front ++ rs) eb in
       ap (without_place at) split ∙ without_middle at L.front row more (subst AreDistinct split (removed_distinct h)) place
 
-  pub off_head : Laws → at ≢ 0 → (link : ℕ) → IsRemovedLink ws s.removed at link → link ≡ 0 → (next : ℕ) → next ≡ slice_index ws (at + 1) → Stands (record e { removed = next }) ws aside (off at s)
+  pub off_head : Laws → at ≢ 0 → (link : ℕ) → IsRemovedLink ws s.removed at link → link ≡ 0 → (next : ℕ) → next ≡ slice_index ws (at + NEXT) → Stands (record e { removed = next }) ws aside (off at s)
   off_head law some link L none next en =
       let b = off_back some link L in
       let list : without_place at s.removed ≡ b.1 = off_list some link L b.0 b.1 b.2 b.3 ∙ ap (λ rs. rs ++ b.1) (removed_by_head s h at link L none) in
       relisted law s h ws (no_change e ws aside) (λ row home. home.entry) h.chains next (without_place at s.removed) (only_at at s.removed ++ s.unlinked)
       (subst (λ rs. IsRowChain ws next rs) (sym list) (subst (λ n. IsRowChain ws n b.1) (sym en) b.4)) off_removed off_unlinked off_same
 
-  pub off_word : Laws → at ≢ 0 → (link : ℕ) → IsRemovedLink ws s.removed at link → link ≢ 0 → (next : ℕ) → next ≡ slice_index ws (at + 1) → Stands e (slice_set ws link next) aside (off at s)
+  pub off_word : Laws → at ≢ 0 → (link : ℕ) → IsRemovedLink ws s.removed at link → link ≢ 0 → (next : ℕ) → next ≡ slice_index ws (at + NEXT) → Stands e (slice_set ws link next) aside (off at s)
   off_word law some link L word next en =
       let b = off_back some link L in
       let list : without_place at s.removed ≡ L.front ++ b.1 = off_list some link L b.0 b.1 b.2 b.3 in
@@ -196,7 +197,7 @@ given_stands law {e} {ws} {aside} s h at q there place sma' ws' live same ef et 
     let left : List Extent = without_block at blocks in
     let stays : (row : Row) → IsHome e ws aside row → row.place ≢ at → Contains left (extent_of row) = λ row home other. Contains-kept (λ b. not (eqb b.place at)) blocks (extent_of row) home.live (not_from_false (eqb row.place at) (ne_eqb row.place at other)) in
     let entry : (row : Row) → IsHome e ws aside row → row.place ≢ at → IsEntry ws' row = λ row home other. entry_kept law ws ws' row home.entry (row_same e ws ws' left row same (stays row home other)) in
-    let link : (row : Row) → IsHome e ws aside row → row.place ≢ at → slice_index ws' (row.place + 1) ≡ slice_index ws (row.place + 1) = λ row home other. link_same ws' left row home same (stays row home other) in
+    let link : (row : Row) → IsHome e ws aside row → row.place ≢ at → slice_index ws' (row.place + NEXT) ≡ slice_index ws (row.place + NEXT) = λ row home other. link_same ws' left row home same (stays row home other) in
     let not_row : (row : Row) → Contains s.rows row → row.place ≢ at = λ row c e. rows_unlinked h row q c there (place ∙ sym e) in
     let not_removed : (row : Row) → Contains s.removed row → row.place ≢ at = λ row c e. removed_unlinked h row q c there (place ∙ sym e) in
     record {
@@ -257,11 +258,11 @@ off_none {e} {ws} {aside} s h at none =
     subst (λ (x : Entries). Stands e ws aside x) (sym (ap₂ (λ (a b : List Row). let x : Entries = record s { removed = a; unlinked = b ++ s.unlinked } in x) left only)) h
 
 -- what follows a removed row is a place, or 0
-pub off_small : {e : EntrySlots} {ws : List ℕ} {aside : Aside} (s : Entries) (h : Stands e ws aside s) (at link : ℕ) → at ≢ 0 → (L : IsRemovedLink ws s.removed at link) → slice_index ws (at + 1) < 2 ^ 32
+pub off_small : {e : EntrySlots} {ws : List ℕ} {aside : Aside} (s : Entries) (h : Stands e ws aside s) (at link : ℕ) → at ≢ 0 → (L : IsRemovedLink ws s.removed at link) → slice_index ws (at + NEXT) < 2 ^ 32
 off_small {e} {ws} {aside} s h at link some L =
     let b = off_back s h at some link L in
     let small = small_first e ws aside b.1 (λ row c. home_removed row h (in_back s h at link L row (subst (λ rs. Contains rs row) (sym b.2) (Contains-later b.0 b.1 row c)))) in
-    omega (arith, chain_first ws (slice_index ws (at + 1)) b.1 b.4, small)
+    omega (arith, chain_first ws (slice_index ws (at + NEXT)) b.1 b.4, small)
 
 -- the row is an unlinked one then
 pub off_there : {e : EntrySlots} {ws : List ℕ} {aside : Aside} (s : Entries) → Stands e ws aside s → (at : ℕ) → has_place at (s.unlinked ++ s.removed) ≡ true → (q : Row) × Contains (only_at at s.removed ++ s.unlinked) q × (q.place ≡ at)

@@ -5,6 +5,7 @@ use Rattle.std.proofs.lemmas.List.{append_assoc, append-nil, get_or-set_same, ge
 use Rattle.std.proofs.lemmas.List.Folds.{list_any-append}
 use Rattle.std.proofs.lemmas.List.Elements.{Contains-append_left, Contains-append_right}
 use Rattle.std.specs.List.{Contains}
+use Rattle.entry_slots.specs.declared.head.TheConstants.{NEXT}
 use Rattle.seg_words.specs.Windows.{Aside}
 use Rattle.apcu_model.specs.Cache.{Row}
 use Rattle.apcu_model.specs.Walk.{is_in_slot}
@@ -29,7 +30,7 @@ homes_removed h row c = home_removed row h c
 -- ---- the walk
 
 abbrev pub Follows : List Row → ℕ → Type 0
-Follows front link = ((front ≡ []) × (link ≡ 0)) ⊎ ((first : Row) × (rows : List Row) × (front ≡ first ∷ rows) × (link ≡ link_after (first.place + 1) rows))
+Follows front link = ((front ≡ []) × (link ≡ 0)) ⊎ ((first : Row) × (rows : List Row) × (front ≡ first ∷ rows) × (link ≡ link_after (first.place + NEXT) rows))
 
 -- so many removed rows were passed, none at the target; `named` begins the rest, and `link` names it
 pub record Path (ws : List ℕ) (removed : List Row) (target link named passed : ℕ) : Type 0 where
@@ -61,7 +62,7 @@ pub record Stop (ws : List ℕ) (removed : List Row) (target named passed : ℕ)
   pub back : List Row
   pub split : removed ≡ front ++ row ∷ back
   pub place : named ≡ row.place
-  pub rest : IsRowChain ws (slice_index ws (row.place + 1)) back
+  pub rest : IsRowChain ws (slice_index ws (row.place + NEXT)) back
 
 pub path_stop : {ws : List ℕ} {removed : List Row} {target link named passed : ℕ} (h : Path ws removed target link named passed) → named ≢ 0 → Stop ws removed target named passed h.front
 path_stop {ws} {removed} {target} {link} {named} {passed} h some = go h.back h.split h.rest
@@ -73,19 +74,19 @@ path_stop {ws} {removed} {target} {link} {named} {passed} h some = go h.back h.s
 pub stop_in : {ws : List ℕ} {removed : List Row} {target named passed : ℕ} {front : List Row} (h : Stop ws removed target named passed front) → Contains removed h.row
 stop_in {front = front} h = subst (λ rs. Contains rs h.row) (sym h.split) (Contains-append_right front (h.row ∷ h.back) h.row (Contains-first h.row h.back))
 
-link_push : (first : ℕ) (front : List Row) (row : Row) → link_after first (front ++ row ∷ []) ≡ row.place + 1
+link_push : (first : ℕ) (front : List Row) (row : Row) → link_after first (front ++ row ∷ []) ≡ row.place + NEXT
 link_push first [] row = refl
-link_push first (x ∷ front) row = link_push (x.place + 1) front row
+link_push first (x ∷ front) row = link_push (x.place + NEXT) front row
 
-follows_next : (front : List Row) (link : ℕ) (row : Row) → Follows front link → Follows (front ++ row ∷ []) (row.place + 1)
+follows_next : (front : List Row) (link : ℕ) (row : Row) → Follows front link → Follows (front ++ row ∷ []) (row.place + NEXT)
 follows_next [] link row f = inr (row, [], refl, refl)
-follows_next (x ∷ front) link row f = inr (x, front ++ row ∷ [], refl, sym (link_push (x.place + 1) front row))
+follows_next (x ∷ front) link row f = inr (x, front ++ row ∷ [], refl, sym (link_push (x.place + NEXT) front row))
 
-pub path_next : {ws : List ℕ} {removed : List Row} {target link named passed : ℕ} (h : Path ws removed target link named passed) → named ≢ target → named ≢ 0 → (next : ℕ) → next ≡ slice_index ws (named + 1) → Path ws removed target (named + 1) next (passed + 1)
+pub path_next : {ws : List ℕ} {removed : List Row} {target link named passed : ℕ} (h : Path ws removed target link named passed) → named ≢ target → named ≢ 0 → (next : ℕ) → next ≡ slice_index ws (named + NEXT) → Path ws removed target (named + NEXT) next (passed + 1)
 path_next {ws} {removed} {target} {link} {named} {passed} h other some next en =
     let stop = path_stop h some in
     let at : is_at target stop.row ≡ false = ne_eqb stop.row.place target (λ q. other (stop.place ∙ q)) in
-    let word : named + 1 ≡ stop.row.place + 1 = ap (λ n. n + 1) stop.place in
+    let word : named + NEXT ≡ stop.row.place + NEXT = ap (λ n. n + NEXT) stop.place in
     record {
       front = h.front ++ stop.row ∷ [];
       back = stop.back;
@@ -110,15 +111,15 @@ module _ {e : EntrySlots} {ws : List ℕ} {aside : Aside} (s : Entries) (h : Sta
   pub in_back : (q : Row) → Contains L.back q → Contains s.removed q
   in_back q c = subst (λ rs. Contains rs q) (sym L.split) (Contains-append_right L.front L.back q c)
 
-  pub link_spot : link ≢ 0 → (q : Row) × Contains L.front q × (link ≡ q.place + 1)
+  pub link_spot : link ≢ 0 → (q : Row) × Contains L.front q × (link ≡ q.place + NEXT)
   link_spot some = elim L.follows [
     | inl none ↦ absurd (some none.1)
-    | inr more ↦ (let r = last (more.0.place + 1) link more.0 more.1 refl more.3 in (r.0, subst (λ rs. Contains rs r.0) (sym more.2) r.1, r.2))
+    | inr more ↦ (let r = last (more.0.place + NEXT) link more.0 more.1 refl more.3 in (r.0, subst (λ rs. Contains rs r.0) (sym more.2) r.1, r.2))
   ]
     where
-      last : (first m : ℕ) (row : Row) (rows : List Row) → first ≡ row.place + 1 → m ≡ link_after first rows → (q : Row) × Contains (row ∷ rows) q × (m ≡ q.place + 1)
+      last : (first m : ℕ) (row : Row) (rows : List Row) → first ≡ row.place + NEXT → m ≡ link_after first rows → (q : Row) × Contains (row ∷ rows) q × (m ≡ q.place + NEXT)
       last first m row [] ef e = (row, Contains-first row [], e ∙ ef)
-      last first m row (next ∷ rows) ef e = let r = last (next.place + 1) m next rows refl e in (r.0, Contains-later row (next ∷ rows) r.0 r.1, r.2)
+      last first m row (next ∷ rows) ef e = let r = last (next.place + NEXT) m next rows refl e in (r.0, Contains-later row (next ∷ rows) r.0 r.1, r.2)
 
   pub link_home : link ≢ 0 → Spot e ws aside link
   link_home some = let q = link_spot some in inr (q.0, home_removed q.0 h (in_front q.0 q.1), q.2)
@@ -136,9 +137,9 @@ module _ {e : EntrySlots} {ws : List ℕ} {aside : Aside} (s : Entries) (h : Sta
         let old : IsRowChain ws e.removed (first ∷ (rows ++ L.back)) = subst (λ rs. IsRowChain ws e.removed rs) whole h.removed_chain in
         let distinct : AreDistinct (first ∷ (rows ++ L.back)) = subst AreDistinct whole (removed_distinct h) in
         let word : slice_index ws' link ≡ v = get_or-set_same ws link v 0 w.inside in
-        let tail : IsRowChain ws' (slice_index ws' (first.place + 1)) (rows ++ back') =
-        relink ws ws' (first.place + 1) link rows L.back back' more.3 old.1 (subst (λ n. IsRowChain ws' n back') (sym word) chain)
-        (λ o. get_or-set_other ws link (first.place + 1) v 0 o)
+        let tail : IsRowChain ws' (slice_index ws' (first.place + NEXT)) (rows ++ back') =
+        relink ws ws' (first.place + NEXT) link rows L.back back' more.3 old.1 (subst (λ n. IsRowChain ws' n back') (sym word) chain)
+        (λ o. get_or-set_other ws link (first.place + NEXT) v 0 o)
         (λ q c o. set_link h link v (link_home some) q o)
         (λ q c same. distinct.0 q (Contains-append_left rows L.back q c) (omega arith))
         (distinct_front rows L.back distinct.1) in
@@ -149,13 +150,13 @@ module _ {e : EntrySlots} {ws : List ℕ} {aside : Aside} (s : Entries) (h : Sta
   pub removed_by_head : link ≡ 0 → L.front ≡ []
   removed_by_head none = elim L.follows [
     | inl empty ↦ empty.0
-    | inr more ↦ (let r = last (more.0.place + 1) link more.1 (inl (omega arith)) more.3 in absurd (omega (arith, r)))
+    | inr more ↦ (let r = last (more.0.place + NEXT) link more.1 (inl (omega arith)) more.3 in absurd (omega (arith, r)))
   ]
     where
       last : (first m : ℕ) (rows : List Row) → (1 ≤ first) ⊎ (1 ≤ first) → m ≡ link_after first rows → 1 ≤ m
       last first m [] (inl p) e = omega (arith, e)
       last first m [] (inr p) e = omega (arith, e)
-      last first m (row ∷ rows) p e = last (row.place + 1) m rows (inl (omega arith)) e
+      last first m (row ∷ rows) p e = last (row.place + NEXT) m rows (inl (omega arith)) e
 
   -- the other chains
   pub chains_kept : link ≢ 0 → (v slot : ℕ) → slot < e.sma.from → IsRowChain (slice_set ws link v) (slice_index (slice_set ws link v) slot) (chain_of s slot)
@@ -168,11 +169,11 @@ module _ {e : EntrySlots} {ws : List ℕ} {aside : Aside} (s : Entries) (h : Sta
       rows_removed h row q.0 (Contains-filter (is_in_slot s.conf slot) s.rows row c).0 place (omega (arith, q.2)))) (h.chains slot (omega (arith, h.from))))
 
 -- what a removed row names is a place, or 0
-pub stop_small : {e : EntrySlots} {ws : List ℕ} {aside : Aside} {removed : List Row} {target named passed : ℕ} {front : List Row} (h : Stop ws removed target named passed front) → AreHome e ws aside removed → slice_index ws (named + 1) < 2 ^ 32
+pub stop_small : {e : EntrySlots} {ws : List ℕ} {aside : Aside} {removed : List Row} {target named passed : ℕ} {front : List Row} (h : Stop ws removed target named passed front) → AreHome e ws aside removed → slice_index ws (named + NEXT) < 2 ^ 32
 stop_small {e} {ws} {aside} {removed} {target} {named} {passed} {front} h homes =
-    let word : slice_index ws (named + 1) ≡ slice_index ws (h.row.place + 1) = ap (λ n. slice_index ws (n + 1)) h.place in
+    let word : slice_index ws (named + NEXT) ≡ slice_index ws (h.row.place + NEXT) = ap (λ n. slice_index ws (n + NEXT)) h.place in
     omega (arith, word, go h.back h.split h.rest)
   where
-    go : (back : List Row) → removed ≡ front ++ h.row ∷ back → IsRowChain ws (slice_index ws (h.row.place + 1)) back → slice_index ws (h.row.place + 1) < 2 ^ 32
+    go : (back : List Row) → removed ≡ front ++ h.row ∷ back → IsRowChain ws (slice_index ws (h.row.place + NEXT)) back → slice_index ws (h.row.place + NEXT) < 2 ^ 32
     go [] split rest = omega (arith, rest)
     go (row ∷ back) split rest = let w = room (homes row (subst (λ rs. Contains rs row) (sym split) (Contains-append_right front (h.row ∷ row ∷ back) row (Contains-later h.row (row ∷ back) row (Contains-first row back))))) in omega (arith, rest.0, w.high, w.short, w.enough)

@@ -3,6 +3,7 @@ use Rattle.std.proofs.Common.{◌≡◌, ◌≢◌, inl, inr, ℕ, ◌+◌, eqb,
 use Rattle.std.proofs.lemmas.List.{length-map}
 use Rattle.std.proofs.lemmas.Bool.{cases_eq, cases_lt, cases_Bool}
 use Rattle.std.specs.List.{Contains, filter, count_by}
+use Rattle.entry_slots.specs.declared.head.TheConstants.{NEXT, TTL}
 use Rattle.seg_words.specs.declared.gaps.Extent.{Extent}
 use Rattle.seg_words.specs.Windows.{Aside}
 use Rattle.sma_blocks.specs.Ready.{ChangesInner}
@@ -33,7 +34,7 @@ map_there f (row ∷ rows) x c = elim (Contains-cases (f row) (map f rows) x c) 
 chain_map : (ws : List ℕ) (f : Row → Row) → Keeps f → (first : ℕ) (rows : List Row) → IsRowChain ws first rows → IsRowChain ws first (map f rows)
 chain_map ws f keeps first [] h = h
 chain_map ws f keeps first (row ∷ rows) h =
-    (h.0 ∙ sym (keeps.place row), subst (λ p. IsRowChain ws (slice_index ws (p + 1)) (map f rows)) (sym (keeps.place row)) (chain_map ws f keeps (slice_index ws (row.place + 1)) rows h.1))
+    (h.0 ∙ sym (keeps.place row), subst (λ p. IsRowChain ws (slice_index ws (p + NEXT)) (map f rows)) (sym (keeps.place row)) (chain_map ws f keeps (slice_index ws (row.place + NEXT)) rows h.1))
 
 slot_map : (s : Entries) (slot : ℕ) (f : Row → Row) → Keeps f → (rows : List Row) → filter (is_in_slot s.conf slot) (map f rows) ≡ map f (filter (is_in_slot s.conf slot) rows)
 slot_map s slot f keeps [] = refl
@@ -51,7 +52,7 @@ extents_map f keeps (row ∷ rows) =
     ap₂ (λ (x : Extent) (xs : List Extent). x ∷ xs) same (extents_map f keeps rows)
 
 -- only words from word 4 on of the block of `own` changed
-module _ {e : EntrySlots} {ws : List ℕ} {aside : Aside} {s : Entries} (h : Stands e ws aside s) (ws' : List ℕ) (own : Row) (there : Contains s.rows own) (only : OnlyIn ws ws' (own.place + 4) (own.place + own.size)) where
+module _ {e : EntrySlots} {ws : List ℕ} {aside : Aside} {s : Entries} (h : Stands e ws aside s) (ws' : List ℕ) (own : Row) (there : Contains s.rows own) (only : OnlyIn ws ws' (own.place + TTL) (own.place + own.size)) where
   home_own : IsHome e ws aside own
   home_own = home_row own h there
 
@@ -64,19 +65,19 @@ module _ {e : EntrySlots} {ws : List ℕ} {aside : Aside} {s : Entries} (h : Sta
     ];
   }
 
-  links_kept : (q : Row) → IsHome e ws aside q → slice_index ws' (q.place + 1) ≡ slice_index ws (q.place + 1)
+  links_kept : (q : Row) → IsHome e ws aside q → slice_index ws' (q.place + NEXT) ≡ slice_index ws (q.place + NEXT)
   links_kept q hq = elim (cases_eq q.place own.place) [
-    | inl same ↦ only.same (q.place + 1) (inl (omega arith))
+    | inl same ↦ only.same (q.place + NEXT) (inl (omega arith))
     | inr other ↦ elim (rows_apart q own hq home_own other) [
-      | inl before ↦ (let w = room hq in only.same (q.place + 1) (inl (omega (arith, w.enough))))
-      | inr after ↦ only.same (q.place + 1) (inr (omega arith))
+      | inl before ↦ (let w = room hq in only.same (q.place + NEXT) (inl (omega (arith, w.enough))))
+      | inr after ↦ only.same (q.place + NEXT) (inr (omega arith))
     ]
   ]
 
   rewriting : ChangesInner e.sma ws ws' aside
   rewriting = record {
     count = only.count;
-    inner = λ i low. elim (cases_lt i (own.place + 4)) [
+    inner = λ i low. elim (cases_lt i (own.place + TTL)) [
       | inl before ↦ inl (only.same i (inl before))
       | inr from ↦ elim (cases_lt i (own.place + own.size)) [
         | inl within ↦ inr (record { block = extent_of own; live = home_own.live; low = omega arith; high = within })

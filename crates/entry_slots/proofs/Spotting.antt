@@ -6,6 +6,7 @@ use Rattle.std.proofs.lemmas.List.Folds.{list_any-append}
 use Rattle.std.proofs.lemmas.List.Elements.{Contains-append_left, Contains-append_right}
 use Rattle.std.proofs.lemmas.List.Sums.{length-filter, count_by-le-length}
 use Rattle.std.specs.List.{list_any, find, Contains}
+use Rattle.entry_slots.specs.declared.head.TheConstants.{NEXT}
 use Rattle.seg_words.specs.Windows.{Aside}
 use Rattle.apcu_model.specs.Cache.{Row, has_key}
 use Rattle.apcu_model.specs.Expiry.{is_expired}
@@ -48,7 +49,7 @@ pub record Step (ws : List ℕ) (s : Entries) (slot : ℕ) (key : List ℕ) (t a
   pub stale_is : stale ≡ list_any (is_expired s.conf t) front
   pub link_is : link ≡ link_after slot front
   pub place : at ≡ row.place
-  pub rest : IsRowChain ws (slice_index ws (row.place + 1)) back
+  pub rest : IsRowChain ws (slice_index ws (row.place + NEXT)) back
 
 pub path_start : {e : EntrySlots} {ws : List ℕ} {aside : Aside} (s : Entries) (slot : ℕ) (key : List ℕ) (t at : ℕ) → Stands e ws aside s → slot < s.conf.slots → at ≡ first_place (chain_of s slot) → Path ws s slot key t at slot 0 false
 path_start {ws = ws} s slot key t at h lt first =
@@ -71,9 +72,9 @@ path_step {ws} {s} {slot} {key} {t} {at} {link} {passed} {stale} h some = go h.b
     go [] split rest = absurd (some rest)
     go (row ∷ back) split rest = record { front = h.front; row = row; back = back; split = split; many = h.many; none = h.none; stale_is = h.stale_is; link_is = h.link_is; place = rest.0; rest = rest.1 }
 
-link_push : (first : ℕ) (front : List Row) (row : Row) → link_after first (front ++ row ∷ []) ≡ row.place + 1
+link_push : (first : ℕ) (front : List Row) (row : Row) → link_after first (front ++ row ∷ []) ≡ row.place + NEXT
 link_push first [] row = refl
-link_push first (x ∷ front) row = link_push (x.place + 1) front row
+link_push first (x ∷ front) row = link_push (x.place + NEXT) front row
 
 any_push : (p : Row → Bool) (front : List Row) (row : Row) → list_any p (front ++ row ∷ []) ≡ (list_any p front || p row)
 any_push p front row = list_any-append p front (row ∷ []) ∙ ap (λ b. list_any p front || b) (or_none (p row))
@@ -83,7 +84,7 @@ any_push p front row = list_any-append p front (row ∷ []) ∙ ap (λ b. list_a
     or_none false = refl
 
 pub path_next : {ws : List ℕ} {s : Entries} {slot : ℕ} {key : List ℕ} {t at link passed : ℕ} {stale : Bool} (next : ℕ) (over : Bool) (h : Step ws s slot key t at link passed stale)
-    → false ≡ has_key key h.row → over ≡ is_expired s.conf t h.row → next ≡ slice_index ws (at + 1) → Path ws s slot key t next (at + 1) (passed + 1) (stale || over)
+    → false ≡ has_key key h.row → over ≡ is_expired s.conf t h.row → next ≡ slice_index ws (at + NEXT) → Path ws s slot key t next (at + NEXT) (passed + 1) (stale || over)
 path_next {ws} {s} {slot} {key} {t} {at} {link} {passed} {stale} next over h other is e = record {
   front = h.front ++ h.row ∷ [];
   back = h.back;
@@ -92,7 +93,7 @@ path_next {ws} {s} {slot} {key} {t} {at} {link} {passed} {stale} next over h oth
   none = any_push (has_key key) h.front h.row ∙ or_from (list_any (has_key key) h.front) (has_key key h.row) h.none (sym other);
   stale_is = ap (λ b. b || over) h.stale_is ∙ (ap (λ b. list_any (is_expired s.conf t) h.front || b) is ∙ sym (any_push (is_expired s.conf t) h.front h.row));
   link_is = ap (λ (n : ℕ). n + 1) h.place ∙ sym (link_push slot h.front h.row);
-  rest = subst (λ a. IsRowChain ws a h.back) (ap (λ n. slice_index ws (n + 1)) (sym h.place) ∙ sym e) h.rest;
+  rest = subst (λ a. IsRowChain ws a h.back) (ap (λ n. slice_index ws (n + NEXT)) (sym h.place) ∙ sym e) h.rest;
 }
 
 -- the row where the walk stands is in the chain
@@ -171,7 +172,7 @@ pub record RestAt (ws : List ℕ) (s : Entries) (slot t at passed : ℕ) : Type 
   pub many : passed ≤ length front
   pub none : list_any (is_expired s.conf t) front ≡ false
   pub place : at ≡ row.place
-  pub rest : IsRowChain ws (slice_index ws (row.place + 1)) back
+  pub rest : IsRowChain ws (slice_index ws (row.place + NEXT)) back
 
 -- the word of a spot names its row
 pub spot_link : {e : EntrySlots} {ws : List ℕ} {aside : Aside} {s : Entries} {t : ℕ} (spot : Spot) → Stands e ws aside s → IsSpot s t spot → IsLinkTo ws spot.slot (chain_of s spot.slot) spot.at spot.link
@@ -210,14 +211,14 @@ rest_at {ws} {s} {slot} {t} {at} {passed} h some = go h.back h.split h.rest
     go [] split rest = absurd (some rest)
     go (row ∷ back) split rest = record { front = h.front; row = row; back = back; split = split; many = h.many; none = h.none; place = rest.0; rest = rest.1 }
 
-pub rest_next : {ws : List ℕ} {s : Entries} {slot t at passed : ℕ} (next : ℕ) (h : RestAt ws s slot t at passed) → false ≡ is_expired s.conf t h.row → next ≡ slice_index ws (at + 1) → Rest ws s slot t next (passed + 1)
+pub rest_next : {ws : List ℕ} {s : Entries} {slot t at passed : ℕ} (next : ℕ) (h : RestAt ws s slot t at passed) → false ≡ is_expired s.conf t h.row → next ≡ slice_index ws (at + NEXT) → Rest ws s slot t next (passed + 1)
 rest_next {ws} {s} {slot} {t} {at} {passed} next h fresh e = record {
   front = h.front ++ h.row ∷ [];
   back = h.back;
   split = h.split ∙ sym (append_assoc h.front (h.row ∷ []) h.back);
   many = omega (arith, length-append h.front (h.row ∷ []), h.many);
   none = any_push (is_expired s.conf t) h.front h.row ∙ or_from (list_any (is_expired s.conf t) h.front) (is_expired s.conf t h.row) h.none (sym fresh);
-  rest = subst (λ a. IsRowChain ws a h.back) (ap (λ n. slice_index ws (n + 1)) (sym h.place) ∙ sym e) h.rest;
+  rest = subst (λ a. IsRowChain ws a h.back) (ap (λ n. slice_index ws (n + NEXT)) (sym h.place) ∙ sym e) h.rest;
 }
 
 pub rest_listed : {ws : List ℕ} {s : Entries} {slot t at passed : ℕ} (h : RestAt ws s slot t at passed) → IsListed s at h.row

@@ -1,6 +1,7 @@
 -- Which words may be stored.
 use Rattle.std.proofs.Common.{◌≡◌, ◌≢◌, inl, inr, ℕ, ◌+◌, ◌<◌, ◌≤◌, true, List, sym, ap, subst, arith}
 use Rattle.std.specs.List.{Contains}
+use Rattle.seg_words.specs.declared.layout.TheConstants.{KEY_LENGTH, IMAGE_LENGTH, PIN_COUNT}
 use Rattle.seg_words.specs.declared.gaps.Extent.{Extent}
 use Rattle.seg_words.specs.Windows.{Aside, is_named}
 use Rattle.seg_words.specs.Blocks.{IsApart, MayStore}
@@ -29,7 +30,7 @@ may_store_in sma ws aside e i ready live low high own x named =
     ]
 
 -- what is noted of a row, and its link
-pub may_note : {e : EntrySlots} {ws : List ℕ} {aside : Aside} (row : Row) → IsHome e ws aside row → (at k : ℕ) → row.place ≡ at → k < 11 → k ≢ 2 → k ≢ 3 → MayStore ws aside.windows (at + k)
+pub may_note : {e : EntrySlots} {ws : List ℕ} {aside : Aside} (row : Row) → IsHome e ws aside row → (at k : ℕ) → row.place ≡ at → k < PIN_COUNT → k ≢ KEY_LENGTH → k ≢ IMAGE_LENGTH → MayStore ws aside.windows (at + k)
 may_note {e} {ws} {aside} row h at k place few two three =
     let w = room h in
     may_store_in e.sma ws aside (extent_of row) (at + k) h.ready h.live (omega arith) (omega (arith, w.enough)) (λ named. record {

@@ -4,6 +4,7 @@ use Rattle.std.proofs.lemmas.Bool.{false≢true, false_from_ne_true}
 use Rattle.std.specs.List.{Contains, count_by}
 use Rattle.seg_words.specs.declared.gaps.Extent.{Extent}
 use Rattle.std.specs.Option.{IfSome}
+use Rattle.entry_slots.specs.declared.head.TheConstants.{NEXT}
 use Rattle.sma_blocks.specs.declared.sma.Sma.{Sma}
 use Rattle.seg_words.specs.Windows.{Aside, is_named}
 use Rattle.seg_words.specs.Gaps.{first_fit}
@@ -36,8 +37,8 @@ take_place {e} {ws} s n h =
 pub row_same : (e : EntrySlots) (ws ws' : List ℕ) (blocks : List Extent) (row : Row) → SameBlocks ws ws' e.sma.from blocks → Contains blocks (extent_of row) → SameRow ws ws' row
 row_same e ws ws' blocks row same c = record { count = same.count; same = λ i low high one. same.inside i (not_free i 1 blocks (extent_of row) c (omega arith) low high) }
 
-pub link_same : {e : EntrySlots} {ws : List ℕ} {aside : Aside} (ws' : List ℕ) (blocks : List Extent) (row : Row) → IsHome e ws aside row → SameBlocks ws ws' e.sma.from blocks → Contains blocks (extent_of row) → slice_index ws' (row.place + 1) ≡ slice_index ws (row.place + 1)
-link_same ws' blocks row h same c = let w = room h in same.inside (row.place + 1) (not_free (row.place + 1) 1 blocks (extent_of row) c (omega arith) (omega arith) (omega (arith, w.enough)))
+pub link_same : {e : EntrySlots} {ws : List ℕ} {aside : Aside} (ws' : List ℕ) (blocks : List Extent) (row : Row) → IsHome e ws aside row → SameBlocks ws ws' e.sma.from blocks → Contains blocks (extent_of row) → slice_index ws' (row.place + NEXT) ≡ slice_index ws (row.place + NEXT)
+link_same ws' blocks row h same c = let w = room h in same.inside (row.place + NEXT) (not_free (row.place + NEXT) 1 blocks (extent_of row) c (omega arith) (omega arith) (omega (arith, w.enough)))
 
 take_unnamed : (e : EntrySlots) (ws : List ℕ) (aside : Aside) (at n : ℕ) → IsReady e.sma ws aside → 2 ≤ n → first_fit e.sma.from e.sma.to e.sma.piece n (live_blocks ws e.sma.from) ≡ Some at → is_named aside.windows at ≡ false
 take_unnamed e ws aside at n ready some fit =
@@ -55,7 +56,7 @@ pub taken_stands : Laws → {e : EntrySlots} {ws : List ℕ} {aside : Aside} (s 
 taken_stands law {e} {ws} {aside} s at n sma' ws' h some fit live same ef et es ready =
     let blocks : List Extent = live_blocks ws e.sma.from in
     let new : Extent = record { place = at; size = n } in
-    let link : (row : Row) → IsHome e ws aside row → slice_index ws' (row.place + 1) ≡ slice_index ws (row.place + 1) = λ row home. link_same ws' blocks row home same home.live in
+    let link : (row : Row) → IsHome e ws aside row → slice_index ws' (row.place + NEXT) ≡ slice_index ws (row.place + NEXT) = λ row home. link_same ws' blocks row home same home.live in
     let kept : (row : Row) → IsHome e ws aside row → IsEntry ws' row = λ row home. entry_kept law ws ws' row home.entry (row_same e ws ws' blocks row same home.live) in
     record {
       chains = λ slot lt.

@@ -4,6 +4,7 @@ use Rattle.std.proofs.lemmas.Bool.{cases_eq, eq-eqb, eqb-true, ne_eqb}
 use Rattle.std.proofs.lemmas.List.Elements.{Contains-append_cases, filter-append}
 use Rattle.std.proofs.lemmas.List.Sums.{length-filter}
 use Rattle.std.specs.List.{Contains, filter, count_by}
+use Rattle.entry_slots.specs.declared.head.TheConstants.{NEXT}
 use Rattle.seg_words.specs.declared.gaps.Extent.{Extent}
 use Rattle.seg_words.specs.Windows.{Aside}
 use Rattle.apcu_model.specs.Cache.{Row, extent_of}
@@ -59,7 +60,7 @@ link_back {e} {ws} s h slot at m some link = go link.back link.rest
     go [] rest = absurd (some rest)
     go (row ∷ more) rest = (row, more, refl, sym rest.0)
 
-pub unlink_stands : Laws → {e : EntrySlots} {ws : List ℕ} {aside : Aside} (s : Entries) (h : Stands e ws aside s) (at slot m next : ℕ) → slot < e.sma.from → has_place at (chain_of s slot) ≡ true → IsLinkTo ws slot (chain_of s slot) at m → next ≡ slice_index ws (at + 1)
+pub unlink_stands : Laws → {e : EntrySlots} {ws : List ℕ} {aside : Aside} (s : Entries) (h : Stands e ws aside s) (at slot m next : ℕ) → slot < e.sma.from → has_place at (chain_of s slot) ≡ true → IsLinkTo ws slot (chain_of s slot) at m → next ≡ slice_index ws (at + NEXT)
     → (count : ℕ) → count + 1 ≡ e.count → Stands (record e { count = count }) (slice_set ws m next) aside (unlinked_at at s)
 unlink_stands law {e} {ws} {aside} s h at slot m next lt there link en count ec =
     let own = any_there (is_at at) (chain_of s slot) there in
@@ -70,7 +71,7 @@ unlink_stands law {e} {ws} {aside} s h at slot m next lt there link en count ec 
     let more : List Row = back.1 in
     let split : chain_of s slot ≡ link.front ++ row ∷ more = link.split ∙ ap (λ rs. link.front ++ rs) back.2 in
     let rest : IsRowChain ws at (row ∷ more) = subst (λ rs. IsRowChain ws at rs) back.2 link.rest in
-    let tail : IsRowChain ws next more = subst (λ n. IsRowChain ws n more) (ap (λ n. slice_index ws (n + 1)) back.3 ∙ sym en) rest.1 in
+    let tail : IsRowChain ws next more = subst (λ n. IsRowChain ws n more) (ap (λ n. slice_index ws (n + NEXT)) back.3 ∙ sym en) rest.1 in
     let spot : Spot e ws aside m = cut_spot h slot lt m next link.front (row ∷ more) split link.follows in
     let distinct : AreDistinct (link.front ++ row ∷ more) = subst AreDistinct split (chain_distinct h slot) in
     let in_rows : Contains s.rows own.0 = (Contains-filter (is_in_slot s.conf slot) s.rows own.0 own.1).0 in

@@ -6,6 +6,7 @@ use Rattle.std.specs.Option.{option_map, option_or}
 use Rattle.std.proofs.lemmas.List.{append_assoc, append-nil}
 use Rattle.std.proofs.lemmas.List.Folds.{find-append, list_any-append}
 use Rattle.std.proofs.lemmas.List.Elements.{Contains-append_left, Contains-append_right}
+use Rattle.entry_slots.specs.declared.head.TheConstants.{NEXT}
 use Rattle.seg_words.specs.Windows.{Aside}
 use Rattle.apcu_model.specs.Cache.{Row, has_key}
 use Rattle.apcu_model.specs.Walk.{is_in_slot, slot_of}
@@ -49,7 +50,7 @@ pub record Here (ws key : List ℕ) (chain : List Row) (at passed : ℕ) : Type 
   pub many : length front ≡ passed
   pub none : list_any (has_key key) front ≡ false
   pub place : at ≡ row.place
-  pub rest : IsRowChain ws (slice_index ws (row.place + 1)) back
+  pub rest : IsRowChain ws (slice_index ws (row.place + NEXT)) back
 
 pub walk_here : {ws key : List ℕ} {chain : List Row} {at passed : ℕ} → Walk ws key chain at passed → at ≢ 0 → Here ws key chain at passed
 walk_here {ws} {key} {chain} {at} {passed} h some = go h.back h.split h.rest
@@ -73,14 +74,14 @@ walk_whole {ws} {key} {chain} {at} {passed} h all = go h.back h.split
     go [] split = ap (list_any (has_key key)) (split ∙ append-nil h.front) ∙ h.none
     go (row ∷ back) split = absurd (omega (arith, ap (length {A = Row}) split, length-append h.front (row ∷ back), h.many))
 
-pub walk_next : {ws key : List ℕ} {chain : List Row} {at passed : ℕ} (next : ℕ) (h : Here ws key chain at passed) → false ≡ has_key key h.row → next ≡ slice_index ws (at + 1) → Walk ws key chain next (passed + 1)
+pub walk_next : {ws key : List ℕ} {chain : List Row} {at passed : ℕ} (next : ℕ) (h : Here ws key chain at passed) → false ≡ has_key key h.row → next ≡ slice_index ws (at + NEXT) → Walk ws key chain next (passed + 1)
 walk_next {ws} {key} {chain} {at} {passed} next h other e = record {
   front = h.front ++ h.row ∷ [];
   back = h.back;
   split = h.split ∙ sym (append_assoc h.front (h.row ∷ []) h.back);
   many = omega (arith, length-append h.front (h.row ∷ []), h.many);
   none = list_any-append (has_key key) h.front (h.row ∷ []) ∙ or_from (list_any (has_key key) h.front) (list_any (has_key key) (h.row ∷ [])) h.none (or_from (has_key key h.row) false (sym other) refl);
-  rest = subst (λ a. IsRowChain ws a h.back) (ap (λ n. slice_index ws (n + 1)) (sym h.place) ∙ sym e) h.rest;
+  rest = subst (λ a. IsRowChain ws a h.back) (ap (λ n. slice_index ws (n + NEXT)) (sym h.place) ∙ sym e) h.rest;
 }
 
 -- the row where the walk stands is in the chain

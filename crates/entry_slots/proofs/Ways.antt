@@ -5,6 +5,7 @@ use Rattle.std.proofs.lemmas.List.{append_assoc, append-nil}
 use Rattle.std.proofs.lemmas.List.Folds.{list_any-append}
 use Rattle.std.proofs.lemmas.List.Elements.{Contains-append_left, Contains-append_right}
 use Rattle.std.specs.List.{Contains}
+use Rattle.entry_slots.specs.declared.head.TheConstants.{NEXT}
 use Rattle.seg_words.specs.Windows.{Aside}
 use Rattle.apcu_model.specs.Cache.{Row}
 use Rattle.entry_slots.specs.declared.slots.EntrySlots.{EntrySlots}
@@ -37,18 +38,18 @@ way_none : {ws : List ℕ} {first : ℕ} {chain : List Row} {target link passed 
 way_none {target = target} h (inl zero') e = zero'
 way_none {target = target} h (inr there) e = absurd (false≢true (sym h.none ∙ (ap (has_place target) (sym (append-nil h.front) ∙ e) ∙ there)))
 
-link_push : (first : ℕ) (front : List Row) (row : Row) → link_after first (front ++ row ∷ []) ≡ row.place + 1
+link_push : (first : ℕ) (front : List Row) (row : Row) → link_after first (front ++ row ∷ []) ≡ row.place + NEXT
 link_push first [] row = refl
-link_push first (x ∷ front) row = link_push (x.place + 1) front row
+link_push first (x ∷ front) row = link_push (x.place + NEXT) front row
 
-pub way_next : {ws : List ℕ} {first : ℕ} {chain : List Row} {target link passed : ℕ} (h : Way ws first chain target link passed) → Target chain target → slice_index ws link ≢ target → Way ws first chain target (slice_index ws link + 1) (passed + 1)
+pub way_next : {ws : List ℕ} {first : ℕ} {chain : List Row} {target link passed : ℕ} (h : Way ws first chain target link passed) → Target chain target → slice_index ws link ≢ target → Way ws first chain target (slice_index ws link + NEXT) (passed + 1)
 way_next {ws} {first} {chain} {target} {link} {passed} h t other = go h.back h.split h.rest
   where
-    go : (back : List Row) → chain ≡ h.front ++ back → IsRowChain ws (slice_index ws link) back → Way ws first chain target (slice_index ws link + 1) (passed + 1)
+    go : (back : List Row) → chain ≡ h.front ++ back → IsRowChain ws (slice_index ws link) back → Way ws first chain target (slice_index ws link + NEXT) (passed + 1)
     go [] split rest = absurd (other (rest ∙ sym (way_none h t (sym split))))
     go (row ∷ back) split rest =
         let at : is_at target row ≡ false = ne_eqb row.place target (λ q. other (rest.0 ∙ q)) in
-        let link' : slice_index ws link + 1 ≡ row.place + 1 = ap (λ (n : ℕ). n + 1) rest.0 in
+        let link' : slice_index ws link + NEXT ≡ row.place + NEXT = ap (λ (n : ℕ). n + NEXT) rest.0 in
         record {
           front = h.front ++ row ∷ [];
           back = back;

@@ -4,6 +4,8 @@ use Rattle.std.proofs.lemmas.Bool.{cases_lt, eq-eqb, false≢true}
 use Rattle.std.proofs.lemmas.List.{get_or-set_other}
 use Rattle.std.proofs.lemmas.List.Elements.{Contains-append_right}
 use Rattle.std.specs.List.{Contains, count_by}
+use Rattle.seg_words.specs.declared.layout.TheConstants.{HEAD_WORDS, KEY_LENGTH, IMAGE_LENGTH}
+use Rattle.entry_slots.specs.declared.head.TheConstants.{NEXT}
 use Rattle.seg_words.specs.declared.gaps.Extent.{Extent}
 use Rattle.seg_words.specs.Windows.{Aside, is_named}
 use Rattle.seg_words.specs.Blocks.{MayStore, image_place}
@@ -43,7 +45,7 @@ written_only law ws at run = record { count = law.written.long ws at run; same =
     outside : (ws : List ℕ) (at : ℕ) (run : List ℕ) (i : ℕ) → (i < at) ⊎ (at + length run ≤ i) → slice_index (written ws at run) i ≡ slice_index ws i
     outside ws at [] i out = refl
     outside ws at (w ∷ run) i out =
-        outside (slice_set ws at w) (at + 1) run i (elim out [ inl low ↦ inl (omega arith) | inr past ↦ inr (omega arith) ])
+        outside (slice_set ws at w) (at + NEXT) run i (elim out [ inl low ↦ inl (omega arith) | inr past ↦ inr (omega arith) ])
         ∙ get_or-set_other ws at i w 0 (elim out [ inl low ↦ (λ q. omega arith) | inr past ↦ (λ q. omega arith) ])
 
 -- a block that was taken is live, and no row's
@@ -57,7 +59,7 @@ taken_may {e} {ws} {aside} b h c i low high =
     may_store_in e.sma ws aside b i h.ready (taken_live b h c) low high (λ named. absurd (false≢true (sym (h.taken b c) ∙ named)))
 
 -- inner words of a block that was taken changed
-module _ {e : EntrySlots} {ws : List ℕ} {aside : Aside} {s : Entries} (h : Stands e ws aside s) (b : Extent) (there : Contains s.taken b) (ws' : List ℕ) (only : OnlyIn ws ws' (b.place + 1) (b.place + b.size)) where
+module _ {e : EntrySlots} {ws : List ℕ} {aside : Aside} {s : Entries} (h : Stands e ws aside s) (b : Extent) (there : Contains s.taken b) (ws' : List ℕ) (only : OnlyIn ws ws' (b.place + NEXT) (b.place + b.size)) where
   row_other : (row : Row) → IsHome e ws aside row → row.place ≢ b.place → (row.place + row.size ≤ b.place) ⊎ (b.place + b.size ≤ row.place)
   unfolding Apart
   row_other row home other = elim (live_apart e.sma ws aside (extent_of row) b h.ready home.live (taken_live b h there)) [
@@ -74,14 +76,14 @@ module _ {e : EntrySlots} {ws : List ℕ} {aside : Aside} {s : Entries} (h : Sta
   row_kept : (row : Row) → IsHome e ws aside row → row.place ≢ b.place → SameRow ws ws' row
   row_kept row home other = record { count = only.count; same = λ i low high one. row_whole row home other i low high }
 
-  pub link_kept : (row : Row) → IsHome e ws aside row → row.place ≢ b.place → slice_index ws' (row.place + 1) ≡ slice_index ws (row.place + 1)
-  link_kept row home other = let w = room home in row_whole row home other (row.place + 1) (omega arith) (omega (arith, w.enough))
+  pub link_kept : (row : Row) → IsHome e ws aside row → row.place ≢ b.place → slice_index ws' (row.place + NEXT) ≡ slice_index ws (row.place + NEXT)
+  link_kept row home other = let w = room home in row_whole row home other (row.place + NEXT) (omega arith) (omega (arith, w.enough))
 
   taken_change : ChangesInner e.sma ws ws' aside
   unfolding Apart
   taken_change = record {
     count = only.count;
-    inner = λ i low. elim (cases_lt i (b.place + 1)) [
+    inner = λ i low. elim (cases_lt i (b.place + NEXT)) [
       | inl before ↦ inl (only.same i (inl before))
       | inr from ↦ elim (cases_lt i (b.place + b.size)) [
         | inl within ↦ inr (record { block = b; live = taken_live b h there; low = omega arith; high = within })
@@ -94,8 +96,8 @@ module _ {e : EntrySlots} {ws : List ℕ} {aside : Aside} {s : Entries} (h : Sta
         elim (live_apart e.sma ws aside b f h.ready (taken_live b h there) block.live) [
           | inl same ↦ absurd (false≢true (sym (h.taken b there) ∙ (ap (λ (y : Extent). is_named aside.windows y.place) same ∙ named)))
           | inr apart ↦ elim apart [
-            | inl before ↦ (only.same (x + 2) (inr (omega arith)), only.same (x + 3) (inr (omega arith)))
-            | inr after ↦ (only.same (x + 2) (inl (omega (arith, block.inside))), only.same (x + 3) (inl (omega (arith, block.inside))))
+            | inl before ↦ (only.same (x + KEY_LENGTH) (inr (omega arith)), only.same (x + IMAGE_LENGTH) (inr (omega arith)))
+            | inr after ↦ (only.same (x + KEY_LENGTH) (inl (omega (arith, block.inside))), only.same (x + IMAGE_LENGTH) (inl (omega (arith, block.inside))))
           ]
         ];
   }
@@ -132,26 +134,26 @@ module _ {e : EntrySlots} {ws : List ℕ} {aside : Aside} {s : Entries} (h : Sta
   }
 
 -- the words of a new entry are that entry's
-pub written_entry : Laws → (ws : List ℕ) (at : ℕ) (key : List ℕ) (g : List Kind) (note : Note) → IsGraph g → AreBytes key → note.ttl < 2 ^ 32 → slice_index ws at ≡ block_size (length key) g → at + (12 + words_in (length key) + image_length g) ≤ length ws
-    → IsEntry (written ws (at + 1) (entry_words key g note)) (fresh_row key g note.ttl note.now at note.number) × (slice_index (written ws (at + 1) (entry_words key g note)) (at + 1) ≡ note.next)
+pub written_entry : Laws → (ws : List ℕ) (at : ℕ) (key : List ℕ) (g : List Kind) (note : Note) → IsGraph g → AreBytes key → note.ttl < 2 ^ 32 → slice_index ws at ≡ block_size (length key) g → at + (HEAD_WORDS + words_in (length key) + image_length g) ≤ length ws
+    → IsEntry (written ws (at + NEXT) (entry_words key g note)) (fresh_row key g note.ttl note.now at note.number) × (slice_index (written ws (at + NEXT) (entry_words key g note)) (at + NEXT) ≡ note.next)
 written_entry law ws at key g note graph bytes ttl size inside =
-    let ws' : List ℕ = written ws (at + 1) (entry_words key g note) in
+    let ws' : List ℕ = written ws (at + NEXT) (entry_words key g note) in
     let klen = words_long key in
     let glen = law.images.long g in
     let first : List ℕ = head_words key g note in
     let tail : List ℕ = words_of key ++ image_of g in
     let long : length (entry_words key g note) ≡ 11 + words_in (length key) + image_length g = omega (arith, length-append first tail, length-append (words_of key) (image_of g)) in
-    let all : StandsAt ws' (at + 1) (first ++ tail) = law.written.there ws (at + 1) (entry_words key g note) (omega (arith, long)) in
-    let head : StandsAt ws' (at + 1) first = law.runs.front ws' (at + 1) first tail all in
-    let rest : StandsAt ws' (at + 12) tail = (let e : at + 1 + length first ≡ at + 12 = omega arith in subst (λ (n : ℕ). StandsAt ws' n tail) e (law.runs.back ws' (at + 1) first tail all)) in
-    let keys : StandsAt ws' (at + 12) (words_of key) = law.runs.front ws' (at + 12) (words_of key) (image_of g) rest in
-    let image : StandsAt ws' (at + 12 + words_in (length key)) (image_of g) = subst (λ (n : ℕ). StandsAt ws' (at + 12 + n) (image_of g)) klen (law.runs.back ws' (at + 12) (words_of key) (image_of g) rest) in
+    let all : StandsAt ws' (at + NEXT) (first ++ tail) = law.written.there ws (at + NEXT) (entry_words key g note) (omega (arith, long)) in
+    let head : StandsAt ws' (at + NEXT) first = law.runs.front ws' (at + NEXT) first tail all in
+    let rest : StandsAt ws' (at + HEAD_WORDS) tail = (let e : at + NEXT + length first ≡ at + HEAD_WORDS = omega arith in subst (λ (n : ℕ). StandsAt ws' n tail) e (law.runs.back ws' (at + NEXT) first tail all)) in
+    let keys : StandsAt ws' (at + HEAD_WORDS) (words_of key) = law.runs.front ws' (at + HEAD_WORDS) (words_of key) (image_of g) rest in
+    let image : StandsAt ws' (at + HEAD_WORDS + words_in (length key)) (image_of g) = subst (λ (n : ℕ). StandsAt ws' (at + HEAD_WORDS + n) (image_of g)) klen (law.runs.back ws' (at + HEAD_WORDS) (words_of key) (image_of g) rest) in
     let word : (k n : ℕ) → k < 11 → n ≡ k + 1 → slice_index ws' (at + n) ≡ slice_index first k = λ k n few e.
-    ap (λ (i : ℕ). slice_index ws' i) (omega arith) ∙ law.runs.words ws' (at + 1) first k head few in
-    let key_len : slice_index ws' (at + 2) ≡ length key = word 1 2 (omega arith) (omega arith) in
-    let start : image_place ws' at ≡ at + 12 + words_in (length key) = ap (λ n. at + 12 + (n + 7) / 8) key_len in (
+    ap (λ (i : ℕ). slice_index ws' i) (omega arith) ∙ law.runs.words ws' (at + NEXT) first k head few in
+    let key_len : slice_index ws' (at + KEY_LENGTH) ≡ length key = word 1 2 (omega arith) (omega arith) in
+    let start : image_place ws' at ≡ at + HEAD_WORDS + words_in (length key) = ap (λ n. at + HEAD_WORDS + (n + 7) / 8) key_len in (
       record {
-        size = (written_only law ws (at + 1) (entry_words key g note)).same at (inl (omega arith)) ∙ size;
+        size = (written_only law ws (at + NEXT) (entry_words key g note)).same at (inl (omega arith)) ∙ size;
         key_length = key_len;
         value_length = word 2 3 (omega arith) (omega arith);
         ttl = word 3 4 (omega arith) (omega arith);
@@ -163,7 +165,7 @@ written_entry law ws at key g note graph bytes ttl size inside =
         number = word 9 10 (omega arith) (omega arith);
         pin_count = word 10 11 (omega arith) (omega arith);
         key = keys;
-        image = subst (λ n. IsImageOf ws' n (image_length g) g) (sym start) (law.images.image ws' (at + 12 + words_in (length key)) g graph image);
+        image = subst (λ n. IsImageOf ws' n (image_length g) g) (sym start) (law.images.image ws' (at + HEAD_WORDS + words_in (length key)) g graph image);
         whole = refl;
         bytes = bytes;
         short_ttl = ttl;

@@ -3,6 +3,7 @@ use Rattle.std.proofs.Common.{◌≡◌, ◌≢◌, ℕ, zero, suc, ◌+◌, ◌
 use Rattle.std.proofs.lemmas.Bool.{false≢true, false_from_ne_true, or_left, or_right}
 use Rattle.std.proofs.lemmas.List.{get_or-set_other}
 use Rattle.std.proofs.lemmas.Nat.Bits.{bit_at-zero}
+use Rattle.seg_words.specs.declared.layout.TheConstants.{HEAD_WORDS, KEY_LENGTH, IMAGE_LENGTH, PIN_COUNT}
 use mathlib.Core.Option.{some, some-injective}
 use lib.ListN.{get_elem?}
 use Rattle.atomic_table.proofs.Lists.{at_set, set_here, set_else}
@@ -30,22 +31,22 @@ outside_from d i nothing may (suc j) at h pos = may at (named_there d.windows j 
 
 module _ (ws : List ℕ) (i x at : ℕ) (out : IsApart ws at i) where
   same_place : image_place (slice_set ws i x) at ≡ image_place ws at
-  same_place = ap (λ n. at + 12 + (n + 7) / 8) (get_or-set_other ws i (at + 2) x 0 (λ e. out.key_length (sym e)))
+  same_place = ap (λ n. at + HEAD_WORDS + (n + 7) / 8) (get_or-set_other ws i (at + KEY_LENGTH) x 0 (λ e. out.key_length (sym e)))
 
   pub same_end : image_end (slice_set ws i x) at ≡ image_end ws at
-  same_end = let l = get_or-set_other ws i (at + 3) x 0 (λ e. out.image_length (sym e)) in omega (arith, l, same_place)
+  same_end = let l = get_or-set_other ws i (at + IMAGE_LENGTH) x 0 (λ e. out.image_length (sym e)) in omega (arith, l, same_place)
 
   pub stands_set : IsBlock ws at → IsBlock (slice_set ws i x) at
   stands_set s = record {
     positive = s.positive;
-    zero_count = get_or-set_other ws i (at + 11) x 0 (λ e. out.pin_count (sym e)) ∙ s.zero_count;
+    zero_count = get_or-set_other ws i (at + PIN_COUNT) x 0 (λ e. out.pin_count (sym e)) ∙ s.zero_count;
     inside = omega (arith, same_end, length-set ws i x, s.inside);
   }
 
   pub content_set : content_of (slice_set ws i x) at ≡ content_of ws at
-  content_set = ap (λ n. take n (drop (image_place (slice_set ws i x) at) (slice_set ws i x))) (get_or-set_other ws i (at + 3) x 0 (λ e. out.image_length (sym e)))
-      ∙ (ap (λ m. take (slice_index ws (at + 3)) (drop m (slice_set ws i x))) same_place
-      ∙ range_set ws i x (image_place ws at) (slice_index ws (at + 3)) (⊎_elim (λ (a : i < image_place ws at). inl (omega arith)) (λ (a : image_end ws at ≤ i). inr (omega arith)) out.image))
+  content_set = ap (λ n. take n (drop (image_place (slice_set ws i x) at) (slice_set ws i x))) (get_or-set_other ws i (at + IMAGE_LENGTH) x 0 (λ e. out.image_length (sym e)))
+      ∙ (ap (λ m. take (slice_index ws (at + IMAGE_LENGTH)) (drop m (slice_set ws i x))) same_place
+      ∙ range_set ws i x (image_place ws at) (slice_index ws (at + IMAGE_LENGTH)) (⊎_elim (λ (a : i < image_place ws at). inl (omega arith)) (λ (a : image_end ws at ≤ i). inr (omega arith)) out.image))
 
 apart_set : (ws : List ℕ) (i x a b : ℕ) → IsApart ws a i → IsApart ws b i → AreApart ws a b → AreApart (slice_set ws i x) a b
 apart_set ws i x a b oa ob ap' =
@@ -82,7 +83,7 @@ copy_store d copying i x c ok out copy =
 pub none_outside : (d : Desk) (copying : List ℕ) (i : ℕ) → DeskInOrder d copying → Outside d i → pins_on i (d.pinning ∷ copying) ≡ 0
 none_outside d copying i ok out = pins_none i (d.pinning ∷ copying) go
   where
-    go : (v at : ℕ) → get_elem? (d.pinning ∷ copying) v ≡ some at → 0 < at → i ≢ at + 11
+    go : (v at : ℕ) → get_elem? (d.pinning ∷ copying) v ≡ some at → 0 < at → i ≢ at + PIN_COUNT
     go zero at h pos = (out 0 at h pos).pin_count
     go (suc v) at h pos = (out (suc v) at (ok.pins v at h pos) pos).pin_count
 

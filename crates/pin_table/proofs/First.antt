@@ -4,6 +4,7 @@ use Rattle.std.proofs.lemmas.Bool.{false≢true}
 use Rattle.std.proofs.lemmas.Nat.Bits.{bit_at-zero}
 use native.Mathlib.Decide.{dec_le}
 use Rattle.std.proofs.lemmas.List.{ext_get_or}
+use Rattle.seg_words.specs.declared.layout.TheConstants.{PIN_COUNT}
 use Rattle.pin_table.proofs.Books.{fetched_nothing}
 use mathlib.Core.Option.{some, some-injective, some-ne-none}
 use lib.ListN.{get_elem?}
@@ -197,13 +198,13 @@ dissolves s d kept at nothing every = ext_get_or 0 s.words d.words (at_desk s.wo
     a : At s.words s.views d
     a = at_desk s.words s.views d kept at
 
-    nobody : (i v b : ℕ) → get_elem? (d.pinning ∷ (at_desk s.words s.views d kept at).copying) v ≡ some b → 0 < b → i ≢ b + 11
+    nobody : (i v b : ℕ) → get_elem? (d.pinning ∷ (at_desk s.words s.views d kept at).copying) v ≡ some b → 0 < b → i ≢ b + PIN_COUNT
     nobody i zero b h pos = let e : d.pinning ≡ b = some-injective d.pinning b h in absurd (omega (arith, e, nothing))
     nobody i (suc v) b h pos = made (dec_le (suc v) d.book.made)
       where
         f : (is_in_hand v d.book.hand ≡ false) × (is_among v d.book.closed ≡ false) × (fetched_last v d.book.history false ≡ true)
         f = let x = at_desk s.words s.views d kept at in x.desk_ok.fetched v b (x.desk_ok.pins v b h pos) pos
 
-        made : Dec (suc v ≤ d.book.made) → i ≢ b + 11
+        made : Dec (suc v ≤ d.book.made) → i ≢ b + PIN_COUNT
         made (yes l) = absurd (false≢true (sym f.1 ∙ every v (omega arith)))
         made (no l) = absurd (false≢true (sym (fetched_nothing v d.book.history ((at_desk s.words s.views d kept at).desk_ok.book.none v (grind arith))) ∙ f.2))

@@ -6,6 +6,7 @@ use Rattle.std.proofs.lemmas.List.{get_or-take, get_or-drop}
 use Rattle.std.specs.Int.{bit_at}
 use Rattle.std.specs.List.{list_any}
 use Rattle.std.proofs.lemmas.Nat.Bits.{bit_at-zero, bit_at_lowest, bit_at-suc, bit_at_or}
+use Rattle.seg_words.specs.declared.layout.TheConstants.{PIN_COUNT}
 use mathlib.Core.Option.{some, some-injective, some-ne-none}
 use lib.ListN.{get_elem?}
 use Rattle.seg_words.specs.Windows.{has, is_named, closed_on, holders, held_by}
@@ -158,13 +159,13 @@ or_bit a b v h = go (bit_at a v) refl (sym (bit_at_or a b v) ∙ h)
     go (suc (suc n)) e q = absurd (omega (arith, q))
 
 -- pin counts
-pub counts : (i at : ℕ) → 0 < at → i ≡ at + 11 → is_count i at ≡ true
-counts i at pos e = and_from (ltb 0 at) (eqb i (at + 11)) (lt-ltb 0 at pos) (eq-eqb i (at + 11) e)
+pub counts : (i at : ℕ) → 0 < at → i ≡ at + PIN_COUNT → is_count i at ≡ true
+counts i at pos e = and_from (ltb 0 at) (eqb i (at + PIN_COUNT)) (lt-ltb 0 at pos) (eq-eqb i (at + PIN_COUNT) e)
 
-pub counted : (i at : ℕ) → is_count i at ≡ true → (0 < at) × (i ≡ at + 11)
-counted i at h = let p = and_parts (ltb 0 at) (eqb i (at + 11)) h in (ltb-true 0 at p.0, eqb-true i (at + 11) p.1)
+pub counted : (i at : ℕ) → is_count i at ≡ true → (0 < at) × (i ≡ at + PIN_COUNT)
+counted i at h = let p = and_parts (ltb 0 at) (eqb i (at + PIN_COUNT)) h in (ltb-true 0 at p.0, eqb-true i (at + PIN_COUNT) p.1)
 
-pub uncounted : (i at : ℕ) → (0 < at → i ≢ at + 11) → is_count i at ≡ false
+pub uncounted : (i at : ℕ) → (0 < at → i ≢ at + PIN_COUNT) → is_count i at ≡ false
 uncounted i at nix = false_from_ne_true (is_count i at) (λ h. let p = counted i at h in nix p.0 p.1)
 
 -- one place changes
@@ -181,35 +182,35 @@ pins_on-le i (y ∷ ys) = go (is_count i y) (pins_on-le i ys)
     go true ih = omega arith
     go false ih = omega arith
 
-pub pins_pos : (i : ℕ) (l : List ℕ) (v at : ℕ) → get_elem? l v ≡ some at → 0 < at → i ≡ at + 11 → 0 < pins_on i l
+pub pins_pos : (i : ℕ) (l : List ℕ) (v at : ℕ) → get_elem? l v ≡ some at → 0 < at → i ≡ at + PIN_COUNT → 0 < pins_on i l
 pins_pos i [] v at h pos e = absurd (some-ne-none at (sym h))
 pins_pos i (y ∷ ys) zero at h pos e = let c : is_count i y ≡ true = subst (λ z. is_count i z ≡ true) (sym (some-injective y at h)) (counts i at pos e) in rw c (omega arith)
 pins_pos i (y ∷ ys) (suc v) at h pos e = let ih = pins_pos i ys v at h pos e in omega arith
 
-pub pins_none : (i : ℕ) (l : List ℕ) → ((v at : ℕ) → get_elem? l v ≡ some at → 0 < at → i ≢ at + 11) → pins_on i l ≡ 0
+pub pins_none : (i : ℕ) (l : List ℕ) → ((v at : ℕ) → get_elem? l v ≡ some at → 0 < at → i ≢ at + PIN_COUNT) → pins_on i l ≡ 0
 pins_none i [] nix = refl
 pins_none i (y ∷ ys) nix =
     let c : is_count i y ≡ false = uncounted i y (λ pos. nix 0 y refl pos) in
     rw c (omega (arith, pins_none i ys (λ v at g. nix (suc v) at g)))
 
-pub pins_exists : (i : ℕ) (l : List ℕ) → 0 < pins_on i l → (v at : ℕ) × (get_elem? l v ≡ some at) × (0 < at) × (i ≡ at + 11)
+pub pins_exists : (i : ℕ) (l : List ℕ) → 0 < pins_on i l → (v at : ℕ) × (get_elem? l v ≡ some at) × (0 < at) × (i ≡ at + PIN_COUNT)
 pins_exists i [] h = absurd (omega arith)
 pins_exists i (y ∷ ys) h = go (is_count i y) refl (pins_exists i ys) h
   where
-    go : (b : Bool) → is_count i y ≡ b → (0 < pins_on i ys → (v at : ℕ) × (get_elem? ys v ≡ some at) × (0 < at) × (i ≡ at + 11)) → 0 < cond b 1 0 + pins_on i ys
-        → (v at : ℕ) × (get_elem? (y ∷ ys) v ≡ some at) × (0 < at) × (i ≡ at + 11)
+    go : (b : Bool) → is_count i y ≡ b → (0 < pins_on i ys → (v at : ℕ) × (get_elem? ys v ≡ some at) × (0 < at) × (i ≡ at + PIN_COUNT)) → 0 < cond b 1 0 + pins_on i ys
+        → (v at : ℕ) × (get_elem? (y ∷ ys) v ≡ some at) × (0 < at) × (i ≡ at + PIN_COUNT)
     go true is rest h = let p = counted i y is in (0, y, refl, p.0, p.1)
     go false is rest h = let r = rest (omega arith) in (suc r.0, r.1, r.2, r.3, r.4)
 
 -- a word that is told is the pin count of no block that a window names
-pub told_not : (ws : List ℕ) (i v at : ℕ) → IsTold ws i → get_elem? ws v ≡ some at → 0 < at → i ≢ at + 11
+pub told_not : (ws : List ℕ) (i v at : ℕ) → IsTold ws i → get_elem? ws v ≡ some at → 0 < at → i ≢ at + PIN_COUNT
 told_not [] i v at told h pos e = some-ne-none at (sym h)
 told_not (y ∷ ys) i zero at told h pos e =
     let c : is_count i y ≡ true = subst (λ z. is_count i z ≡ true) (sym (some-injective y at h)) (counts i at pos e) in
     false≢true (sym told ∙ or_left (is_count i y) (list_any (is_count i) ys) c)
 told_not (y ∷ ys) i (suc v) at told h pos e = told_not ys i v at (false_from_ne_true (list_any (is_count i) ys) (λ q. false≢true (sym told ∙ or_right (is_count i y) (list_any (is_count i) ys) q))) h pos e
 
-pub told_from : (ws : List ℕ) (i : ℕ) → ((v at : ℕ) → get_elem? ws v ≡ some at → 0 < at → i ≢ at + 11) → IsTold ws i
+pub told_from : (ws : List ℕ) (i : ℕ) → ((v at : ℕ) → get_elem? ws v ≡ some at → 0 < at → i ≢ at + PIN_COUNT) → IsTold ws i
 told_from [] i nix = refl
 told_from (y ∷ ys) i nix =
     let c : is_count i y ≡ false = uncounted i y (λ pos. nix 0 y refl pos) in

@@ -2,6 +2,7 @@
 use Rattle.std.proofs.Common.{◌≡◌, ◌≢◌, ℕ, zero, suc, ◌+◌, ◌-◌, ◌%◌, ◌<◌, ◌≤◌, ⊎_elim, true, false, cond, List, [], ◌∷◌, length, take, drop, set, slice_set, slice_index, refl, ap, sym, ◌∙◌, subst, arith, length-set}
 use Rattle.std.proofs.lemmas.List.{get_or-set_other, get_or-set_same}
 use Rattle.std.proofs.Math.Nat.{mod-eq_of_lt, add-mod_right}
+use Rattle.seg_words.specs.declared.layout.TheConstants.{IMAGE_LENGTH, PIN_COUNT}
 use native.Mathlib.Decide.{ℕ_discrete}
 use mathlib.Core.Option.{some, none, some-injective}
 use lib.ListN.{get_elem?}
@@ -26,14 +27,14 @@ use Rattle.pin_table.proofs.Steps.{At, at_desk, writer_goes, stays}
 wrap_up : (n : ℕ) → n ≤ 64 → (n + 1) % 18446744073709551616 ≡ n + 1
 wrap_up n h = mod-eq_of_lt (omega arith)
 
-pub pins : (slots : ℕ) (d : Desk) (x : ℕ) → d.pinning ≡ 0 → x + 11 < length d.words → IsBlock d.words x → ((j b : ℕ) → get_elem? d.windows j ≡ some b → 0 < b → AreApart d.words x b)
-    → Allows {S = ℕ} {V = View} IsCarried slots 0 (Writer d, []) (x + 11) (λ n. (n + 1) % 18446744073709551616) (Pins (step slots (x + 11) 1 0 none) (Writer d, []))
+pub pins : (slots : ℕ) (d : Desk) (x : ℕ) → d.pinning ≡ 0 → x + PIN_COUNT < length d.words → IsBlock d.words x → ((j b : ℕ) → get_elem? d.windows j ≡ some b → 0 < b → AreApart d.words x b)
+    → Allows {S = ℕ} {V = View} IsCarried slots 0 (Writer d, []) (x + PIN_COUNT) (λ n. (n + 1) % 18446744073709551616) (Pins (step slots (x + PIN_COUNT) 1 0 none) (Writer d, []))
 pins slots d x nothing less stands apart s kept _ at fits = (
   Writer (pinning_at d x),
   keeps,
   tt,
-  writer_goes (slice_set s.words (x + 11) up) s.views d (pinning_at d x) a.place a.copying a.some_view a.at a.placed a.copies (length-set s.words (x + 11) up ∙ a.count)
-      (λ k. word k (ℕ_discrete k (x + 11)))
+  writer_goes (slice_set s.words (x + PIN_COUNT) up) s.views d (pinning_at d x) a.place a.copying a.some_view a.at a.placed a.copies (length-set s.words (x + PIN_COUNT) up ∙ a.count)
+      (λ k. word k (ℕ_discrete k (x + PIN_COUNT)))
       (desk_pins d a.copying x a.desk_ok stands apart) a.idle (λ k c h. let r = a.copy k c h in (r.0, record { some_block = r.1.some_block; copies = r.1.copies; first = r.1.first; content = r.1.content })),
   ap (λ y. (Writer (pinning_at d y), [])) (omega arith),
 )
@@ -42,23 +43,23 @@ pins slots d x nothing less stands apart s kept _ at fits = (
     a = at_desk s.words s.views d kept at
 
     up : ℕ
-    up = (slice_index s.words (x + 11) + 1) % 18446744073709551616
+    up = (slice_index s.words (x + PIN_COUNT) + 1) % 18446744073709551616
 
     before : (k : ℕ) → pins_on k (d.pinning ∷ a.copying) ≡ pins_on k a.copying
     before k = let e : is_count k d.pinning ≡ false = uncounted k d.pinning (λ pos. absurd (omega (arith, nothing, pos))) in rw e (omega arith)
 
-    word : (k : ℕ) → Dec (k ≡ x + 11) → slice_index (slice_set s.words (x + 11) ((slice_index s.words (x + 11) + 1) % 18446744073709551616)) k ≡ slice_index d.words k + pins_on k (x ∷ a.copying)
+    word : (k : ℕ) → Dec (k ≡ x + PIN_COUNT) → slice_index (slice_set s.words (x + PIN_COUNT) ((slice_index s.words (x + PIN_COUNT) + 1) % 18446744073709551616)) k ≡ slice_index d.words k + pins_on k (x ∷ a.copying)
     word k (yes e) =
-        let l : slice_index s.words (x + 11) ≡ pins_on (x + 11) a.copying = omega (arith, a.each_word (x + 11), before (x + 11), stands.zero_count) in
-        let f = pins_on-le (x + 11) a.copying in
-        let w = wrap_up (slice_index s.words (x + 11)) (omega (arith, l, f, a.desk_ok.few)) in
-        let g = get_or-set_same s.words (x + 11) ((slice_index s.words (x + 11) + 1) % 18446744073709551616) 0 (omega (arith, a.count)) in
-        let b : is_count (x + 11) x ≡ true = counts (x + 11) x stands.positive refl in
-        subst (λ j. slice_index (slice_set s.words (x + 11) ((slice_index s.words (x + 11) + 1) % 18446744073709551616)) j ≡ slice_index d.words j + pins_on j (x ∷ a.copying)) (sym e)
+        let l : slice_index s.words (x + PIN_COUNT) ≡ pins_on (x + PIN_COUNT) a.copying = omega (arith, a.each_word (x + PIN_COUNT), before (x + PIN_COUNT), stands.zero_count) in
+        let f = pins_on-le (x + PIN_COUNT) a.copying in
+        let w = wrap_up (slice_index s.words (x + PIN_COUNT)) (omega (arith, l, f, a.desk_ok.few)) in
+        let g = get_or-set_same s.words (x + PIN_COUNT) ((slice_index s.words (x + PIN_COUNT) + 1) % 18446744073709551616) 0 (omega (arith, a.count)) in
+        let b : is_count (x + PIN_COUNT) x ≡ true = counts (x + PIN_COUNT) x stands.positive refl in
+        subst (λ j. slice_index (slice_set s.words (x + PIN_COUNT) ((slice_index s.words (x + PIN_COUNT) + 1) % 18446744073709551616)) j ≡ slice_index d.words j + pins_on j (x ∷ a.copying)) (sym e)
         (rw b (omega (arith, g, w, l, stands.zero_count)))
     word k (no ne) =
         let b : is_count k x ≡ false = uncounted k x (λ _ h. ne h) in
-        get_or-set_other s.words (x + 11) k ((slice_index s.words (x + 11) + 1) % 18446744073709551616) 0 ne ∙ (a.each_word k ∙ ap (λ t. slice_index d.words k + t) (before k ∙ (rw b (omega arith))))
+        get_or-set_other s.words (x + PIN_COUNT) k ((slice_index s.words (x + PIN_COUNT) + 1) % 18446744073709551616) 0 ne ∙ (a.each_word k ∙ ap (λ t. slice_index d.words k + t) (before k ∙ (rw b (omega arith))))
 
 length-take-le : (n : ℕ) (l : List ℕ) → length (take n l) ≤ n
 length-take-le zero [] = omega arith
@@ -82,8 +83,8 @@ copies slots id c i lo hi s kept _ at fits = (
         let n : pins_on i (d.pinning ∷ kept.copying) ≡ 0 = pins_none i (d.pinning ∷ kept.copying) others in
         let w = kept.each_word i in
         let m : c.first + (i - c.first) ≡ i = omega arith in
-        let r = range_index d.words c.first (slice_index d.words (c.block + 3)) (i - c.first) (omega (arith, inside, ok.first)) in
-        ap (λ l. slice_index l (i - c.first)) (ok.content ∙ ap (λ f. take (slice_index d.words (c.block + 3)) (drop f d.words)) (sym ok.first)) ∙ (r ∙ (ap (slice_index d.words) m ∙ omega (arith, w, n)))
+        let r = range_index d.words c.first (slice_index d.words (c.block + IMAGE_LENGTH)) (i - c.first) (omega (arith, inside, ok.first)) in
+        ap (λ l. slice_index l (i - c.first)) (ok.content ∙ ap (λ f. take (slice_index d.words (c.block + IMAGE_LENGTH)) (drop f d.words)) (sym ok.first)) ∙ (r ∙ (ap (slice_index d.words) m ∙ omega (arith, w, n)))
       where
         d : Desk
         d = kept.desk
@@ -93,17 +94,17 @@ copies slots id c i lo hi s kept _ at fits = (
 
         inside : i < image_end kept.desk.words c.block
         inside =
-            let t : length (take (slice_index kept.desk.words (c.block + 3)) (drop (image_place kept.desk.words c.block) kept.desk.words)) ≤ slice_index kept.desk.words (c.block + 3) = length-take-le (slice_index kept.desk.words (c.block + 3)) (drop (image_place kept.desk.words c.block) kept.desk.words) in
+            let t : length (take (slice_index kept.desk.words (c.block + IMAGE_LENGTH)) (drop (image_place kept.desk.words c.block) kept.desk.words)) ≤ slice_index kept.desk.words (c.block + IMAGE_LENGTH) = length-take-le (slice_index kept.desk.words (c.block + IMAGE_LENGTH)) (drop (image_place kept.desk.words c.block) kept.desk.words) in
             omega (arith, t, ap length ok.content, ok.first)
 
         own : get_elem? (named_blocks kept.desk) (suc c.known.worker) ≡ some c.block
         own = kept.desk_ok.pins c.known.worker c.block ok.copies ok.some_block
 
-        clash : (j b : ℕ) → get_elem? (named_blocks kept.desk) j ≡ some b → 0 < b → i ≢ b + 11
+        clash : (j b : ℕ) → get_elem? (named_blocks kept.desk) j ≡ some b → 0 < b → i ≢ b + PIN_COUNT
         clash j b h pos e = ⊎_elim (λ (q : c.block ≡ b). omega (arith, ok.first)) (λ r. ⊎_elim (λ (p : image_end kept.desk.words c.block ≤ b). omega (arith, inside)) (λ (p : image_end kept.desk.words b ≤ c.block). omega (arith, ok.first)) r)
             (kept.desk_ok.apart (suc c.known.worker) j c.block b own h ok.some_block pos)
 
-        others : (v b : ℕ) → get_elem? (kept.desk.pinning ∷ kept.copying) v ≡ some b → 0 < b → i ≢ b + 11
+        others : (v b : ℕ) → get_elem? (kept.desk.pinning ∷ kept.copying) v ≡ some b → 0 < b → i ≢ b + PIN_COUNT
         others zero b h pos = clash 0 b h pos
         others (suc v) b h pos = clash (suc v) b (kept.desk_ok.pins v b h pos) pos
 
@@ -113,7 +114,7 @@ wrap_down n m pos posm le =
     ap (λ k. k % m) e ∙ (add-mod_right (n - 1) m ∙ mod-eq_of_lt (omega arith))
 
 -- a copying pass releases its block
-pub releases : (slots id : ℕ) (c : Reader) → Allows {S = ℕ} {V = View} IsCarried slots id (Copying c, []) (c.block + 11) (λ n. (n + (18446744073709551616 - 1)) % 18446744073709551616) (Releases (step slots (c.block + 11) 1 0 none) (Copying c, []))
+pub releases : (slots id : ℕ) (c : Reader) → Allows {S = ℕ} {V = View} IsCarried slots id (Copying c, []) (c.block + PIN_COUNT) (λ n. (n + (18446744073709551616 - 1)) % 18446744073709551616) (Releases (step slots (c.block + PIN_COUNT) 1 0 none) (Copying c, []))
 releases slots id c s kept _ at fits = (
   Idle c.known,
   keeps,
@@ -123,8 +124,8 @@ releases slots id c s kept _ at fits = (
     place = kept.place;
     copying = free;
     at = set_else s.views id 0 (Idle c.known) away ∙ kept.at;
-    count = length-set s.words (c.block + 11) down ∙ kept.count;
-    each_word = λ k. word k (ℕ_discrete k (c.block + 11));
+    count = length-set s.words (c.block + PIN_COUNT) down ∙ kept.count;
+    each_word = λ k. word k (ℕ_discrete k (c.block + PIN_COUNT));
     desk_ok = desk_released kept.desk kept.copying c.known.worker kept.desk_ok less;
     idle = λ k p h. ⊎_elim (λ (t : (k ≡ id) × (Idle c.known ≡ Idle p)).
         let same : c.known ≡ p = cc (t.1) in
@@ -149,7 +150,7 @@ releases slots id c s kept _ at fits = (
     free = set kept.copying c.known.worker 0
 
     down : ℕ
-    down = (slice_index s.words (c.block + 11) + (18446744073709551616 - 1)) % 18446744073709551616
+    down = (slice_index s.words (c.block + PIN_COUNT) + (18446744073709551616 - 1)) % 18446744073709551616
 
     less : c.known.worker < length kept.copying
     less = at_less kept.copying c.known.worker c.block (kept.copy id c at).1.copies
@@ -163,9 +164,9 @@ releases slots id c s kept _ at fits = (
     changed : (k : ℕ) → pins_on k (set kept.copying c.known.worker 0) + cond (is_count k c.block) 1 0 ≡ pins_on k kept.copying + cond (is_count k 0) 1 0
     changed k = pins_on-set k kept.copying c.known.worker 0 c.block (kept.copy id c at).1.copies
 
-    word : (k : ℕ) → Dec (k ≡ c.block + 11) → slice_index (slice_set s.words (c.block + 11) ((slice_index s.words (c.block + 11) + (18446744073709551616 - 1)) % 18446744073709551616)) k ≡ slice_index kept.desk.words k + pins_on k (kept.desk.pinning ∷ set kept.copying c.known.worker 0)
+    word : (k : ℕ) → Dec (k ≡ c.block + PIN_COUNT) → slice_index (slice_set s.words (c.block + PIN_COUNT) ((slice_index s.words (c.block + PIN_COUNT) + (18446744073709551616 - 1)) % 18446744073709551616)) k ≡ slice_index kept.desk.words k + pins_on k (kept.desk.pinning ∷ set kept.copying c.known.worker 0)
     word k (yes e) =
-        let b = c.block + 11 in
+        let b = c.block + PIN_COUNT in
         let some_pin = pins_pos b kept.copying c.known.worker c.block (kept.copy id c at).1.copies stand.positive refl in
         let o : is_count b c.block ≡ true = counts b c.block stand.positive refl in
         let ch : pins_on b (set kept.copying c.known.worker 0) + 1 ≡ pins_on b kept.copying + 0 = rw o at (changed b) in
@@ -173,10 +174,10 @@ releases slots id c s kept _ at fits = (
         let l = wrap_down (slice_index s.words b) 18446744073709551616 (omega (arith, w, some_pin)) (omega arith) (omega arith) in
         let here : b < length s.words = omega (arith, stand.inside, kept.count) in
         let x = get_or-set_same s.words b ((slice_index s.words b + (18446744073709551616 - 1)) % 18446744073709551616) 0 here in
-        subst (λ j. slice_index (slice_set s.words (c.block + 11) ((slice_index s.words (c.block + 11) + (18446744073709551616 - 1)) % 18446744073709551616)) j ≡ slice_index kept.desk.words j + pins_on j (kept.desk.pinning ∷ set kept.copying c.known.worker 0)) (sym e)
+        subst (λ j. slice_index (slice_set s.words (c.block + PIN_COUNT) ((slice_index s.words (c.block + PIN_COUNT) + (18446744073709551616 - 1)) % 18446744073709551616)) j ≡ slice_index kept.desk.words j + pins_on j (kept.desk.pinning ∷ set kept.copying c.known.worker 0)) (sym e)
         (omega (arith, x, l, w, ch, some_pin))
     word k (no ne) =
         let o : is_count k c.block ≡ false = uncounted k c.block (λ _ h. ne h) in
         let ch : pins_on k (set kept.copying c.known.worker 0) + 0 ≡ pins_on k kept.copying + 0 = rw o at (changed k) in
         let w = kept.each_word k in
-        get_or-set_other s.words (c.block + 11) k ((slice_index s.words (c.block + 11) + (18446744073709551616 - 1)) % 18446744073709551616) 0 ne ∙ omega (arith, w, ch)
+        get_or-set_other s.words (c.block + PIN_COUNT) k ((slice_index s.words (c.block + PIN_COUNT) + (18446744073709551616 - 1)) % 18446744073709551616) 0 ne ∙ omega (arith, w, ch)

@@ -1,6 +1,7 @@
 -- What the steps carry gives the rule in all seven parts.
 use Rattle.std.proofs.Common.{◌≡◌, ◌≢◌, ℕ, zero, suc, ◌+◌, ◌<◌, ◌≤◌, ◌==◌, true, false, ◌⊎◌, inl, inr, List, [], ◌∷◌, length, take, drop, slice_index, Option, Some, None, refl, ap, sym, ◌∙◌, subst, arith}
 use Rattle.std.proofs.lemmas.Bool.{false≢true, eqb-true, or_cases}
+use Rattle.seg_words.specs.declared.layout.TheConstants.{IMAGE_LENGTH, PIN_COUNT}
 use mathlib.Core.Option.{some}
 use lib.ListN.{get_elem?}
 use Rattle.seg_words.specs.Windows.{is_named}
@@ -47,7 +48,7 @@ module _ (words : List ℕ) (views : List View) (kept : Carried words views) whe
     zero = λ at named. (block_named at named).zero_count;
   }
     where
-      others : (i : ℕ) → IsTold (named_blocks kept.desk) i → (v at : ℕ) → get_elem? (kept.desk.pinning ∷ kept.copying) v ≡ some at → 0 < at → i ≢ at + 11
+      others : (i : ℕ) → IsTold (named_blocks kept.desk) i → (v at : ℕ) → get_elem? (kept.desk.pinning ∷ kept.copying) v ≡ some at → 0 < at → i ≢ at + PIN_COUNT
       others i told zero at h pos = told_not (named_blocks kept.desk) i 0 at told h pos
       others i told (suc v) at h pos = told_not (named_blocks kept.desk) i (suc v) at told (kept.desk_ok.pins v at h pos) pos
 
@@ -103,7 +104,7 @@ module _ (words : List ℕ) (views : List View) (kept : Carried words views) whe
 
   counts_are : CountsAreCopies words views kept.desk
   counts_are = record {
-    count = λ at named. let z = (block_named at named).zero_count in omega (arith, kept.each_word (at + 11), z, kept.copies (at + 11));
+    count = λ at named. let z = (block_named at named).zero_count in omega (arith, kept.each_word (at + PIN_COUNT), z, kept.copies (at + PIN_COUNT));
   }
 
   blocks_apart : BlocksAreApart views kept.desk
@@ -114,7 +115,7 @@ module _ (words : List ℕ) (views : List View) (kept : Carried words views) whe
     range = λ k c h.
         let r = kept.copy k c h in
         let i = (kept.desk_ok.stand (suc c.known.worker) c.block (reader_named k c h) r.1.some_block).inside in
-        ap length r.1.content ∙ length_range kept.desk.words (image_place kept.desk.words c.block) (slice_index kept.desk.words (c.block + 3)) i;
+        ap length r.1.content ∙ length_range kept.desk.words (image_place kept.desk.words c.block) (slice_index kept.desk.words (c.block + IMAGE_LENGTH)) i;
   }
 
   pub rule_of : Rule words views

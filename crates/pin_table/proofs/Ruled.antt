@@ -1,5 +1,6 @@
 -- Each kind of step keeps the rule, all seven parts of it.
 use Rattle.std.proofs.Common.{◌≡◌, ℕ, ◌+◌, ◌-◌, ◌%◌, ◌<◌, ◌≤◌, true, false, [], length, Some, None}
+use Rattle.seg_words.specs.declared.layout.TheConstants.{PIN_COUNT}
 use mathlib.Core.Option.{some, none}
 use lib.ListN.{get_elem?}
 use Rattle.atomic_table.specs.Table.{State, step, Allows, Splits, Joins, opening}
@@ -65,12 +66,12 @@ pub closed_in : (d : Desk) (other : ℕ) (p : Known) → d.book.hand ≡ None �
 closed_in d other p nobody s rule at away there = rule_of _ _ (first.closed_in d other p nobody s rule.carried at away there)
 
 -- the writer loads a pin count
-pub probes : (slots : ℕ) (d : Desk) (x : ℕ) → MayProbe d.words d.windows x → has x (refused_in d.readings) ≡ false → d.pinning ≡ 0 → Allows {S = ℕ} {V = View} IsRuled slots 0 (Writer d, []) (x + 11) (λ n. n) (Probes (step slots (x + 11) 0 0 none) (Writer d, []))
+pub probes : (slots : ℕ) (d : Desk) (x : ℕ) → MayProbe d.words d.windows x → has x (refused_in d.readings) ≡ false → d.pinning ≡ 0 → Allows {S = ℕ} {V = View} IsRuled slots 0 (Writer d, []) (x + PIN_COUNT) (λ n. n) (Probes (step slots (x + PIN_COUNT) 0 0 none) (Writer d, []))
 probes slots d x may fresh nothing s rule count at fits = let r = steps.probes slots d x may fresh nothing s rule.carried count at fits in (r.0, r.1, r.2, rule_of _ _ r.3, r.4)
 
 -- the writer adds one to the pin count of a block
-pub pins : (slots : ℕ) (d : Desk) (x : ℕ) → d.pinning ≡ 0 → x + 11 < length d.words → IsBlock d.words x → ((j b : ℕ) → get_elem? d.windows j ≡ some b → 0 < b → AreApart d.words x b)
-    → Allows {S = ℕ} {V = View} IsRuled slots 0 (Writer d, []) (x + 11) (λ n. (n + 1) % 18446744073709551616) (Pins (step slots (x + 11) 1 0 none) (Writer d, []))
+pub pins : (slots : ℕ) (d : Desk) (x : ℕ) → d.pinning ≡ 0 → x + PIN_COUNT < length d.words → IsBlock d.words x → ((j b : ℕ) → get_elem? d.windows j ≡ some b → 0 < b → AreApart d.words x b)
+    → Allows {S = ℕ} {V = View} IsRuled slots 0 (Writer d, []) (x + PIN_COUNT) (λ n. (n + 1) % 18446744073709551616) (Pins (step slots (x + PIN_COUNT) 1 0 none) (Writer d, []))
 pins slots d x nothing less stands apart s rule count at fits = let r = more.pins slots d x nothing less stands apart s rule.carried count at fits in (r.0, r.1, r.2, rule_of _ _ r.3, r.4)
 
 -- the worker in the hand makes its event, and copies the pinned block
@@ -83,7 +84,7 @@ pub copies : (slots id : ℕ) (c : Reader) (i : ℕ) → c.first ≤ i → i < c
 copies slots id c i lo hi s rule count at fits = let r = more.copies slots id c i lo hi s rule.carried count at fits in (r.0, r.1, r.2, rule_of _ _ r.3, r.4)
 
 -- who copies releases its block
-pub releases : (slots id : ℕ) (c : Reader) → Allows {S = ℕ} {V = View} IsRuled slots id (Copying c, []) (c.block + 11) (λ n. (n + (18446744073709551616 - 1)) % 18446744073709551616) (Releases (step slots (c.block + 11) 1 0 none) (Copying c, []))
+pub releases : (slots id : ℕ) (c : Reader) → Allows {S = ℕ} {V = View} IsRuled slots id (Copying c, []) (c.block + PIN_COUNT) (λ n. (n + (18446744073709551616 - 1)) % 18446744073709551616) (Releases (step slots (c.block + PIN_COUNT) 1 0 none) (Copying c, []))
 releases slots id c s rule count at fits = let r = more.releases slots id c s rule.carried count at fits in (r.0, r.1, r.2, rule_of _ _ r.3, r.4)
 
 -- at the end the words are the writer's

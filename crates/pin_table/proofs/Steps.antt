@@ -3,6 +3,7 @@ use Rattle.std.proofs.Common.{◌≡◌, ◌≢◌, ℕ, zero, suc, ◌+◌, ◌
 use Rattle.std.proofs.lemmas.Bool.Decides.{nat_tests}
 use Rattle.std.proofs.lemmas.List.{get_or-set_other, get_or-set_same}
 use Rattle.std.specs.Int.{bit_at}
+use Rattle.seg_words.specs.declared.layout.TheConstants.{PIN_COUNT}
 use native.Mathlib.Decide.{ℕ_discrete}
 use mathlib.Core.Option.{some, none, some-injective}
 use lib.ListN.{get_elem?}
@@ -121,7 +122,7 @@ module _ (slots : ℕ) (d : Desk) where
           let n = pins_none i (d.pinning ∷ a.copying) (others a o) in
           omega (arith, a.each_word i, n)
         where
-          others : (a : At s.words s.views d) → IsTold (named_blocks d) i → (v at : ℕ) → get_elem? (d.pinning ∷ a.copying) v ≡ some at → 0 < at → i ≢ at + 11
+          others : (a : At s.words s.views d) → IsTold (named_blocks d) i → (v at : ℕ) → get_elem? (d.pinning ∷ a.copying) v ≡ some at → 0 < at → i ≢ at + PIN_COUNT
           others a o zero at h pos = told_not (named_blocks d) i 0 at o h pos
           others a o (suc v) at h pos = told_not (named_blocks d) i (suc v) at o (a.desk_ok.pins v at h pos) pos
 
@@ -150,48 +151,48 @@ module _ (slots : ℕ) (d : Desk) where
 -- a probe
 module _ (slots : ℕ) (d : Desk) (x : ℕ) (may : MayProbe d.words d.windows x) (fresh : has x (refused_in d.readings) ≡ false) (nothing : d.pinning ≡ 0) where
   -- the number found is how many copy the block
-  found : (s : State ℕ View) → (a : At s.words s.views d) → slice_index s.words (x + 11) ≡ pins_on (x + 11) a.copying
+  found : (s : State ℕ View) → (a : At s.words s.views d) → slice_index s.words (x + PIN_COUNT) ≡ pins_on (x + PIN_COUNT) a.copying
   found s a =
-      let e : is_count (x + 11) d.pinning ≡ false = uncounted (x + 11) d.pinning (λ pos. absurd (omega (arith, nothing, pos))) in
-      let t : pins_on (x + 11) (d.pinning ∷ a.copying) ≡ pins_on (x + 11) a.copying = rw e (omega arith) in
-      omega (arith, a.each_word (x + 11), t, zero_word (is_named d.windows x) refl)
+      let e : is_count (x + PIN_COUNT) d.pinning ≡ false = uncounted (x + PIN_COUNT) d.pinning (λ pos. absurd (omega (arith, nothing, pos))) in
+      let t : pins_on (x + PIN_COUNT) (d.pinning ∷ a.copying) ≡ pins_on (x + PIN_COUNT) a.copying = rw e (omega arith) in
+      omega (arith, a.each_word (x + PIN_COUNT), t, zero_word (is_named d.windows x) refl)
     where
-      zero_word : (b : Bool) → is_named d.windows x ≡ b → slice_index d.words (x + 11) ≡ 0
+      zero_word : (b : Bool) → is_named d.windows x ≡ b → slice_index d.words (x + PIN_COUNT) ≡ 0
       zero_word false is = may.count is
       zero_word true is = let t = there_named d.windows x is in (a.desk_ok.stand (suc t.1.0) x t.1.1 t.0).zero_count
 
-  probes_at : (s : State ℕ View) (a : At s.words s.views d) → (n : ℕ) → slice_index s.words (x + 11) ≡ n → (b : Bool) → (n == 0) ≡ b
-      → (w : View) × (y : Act ℕ) × Rattle.atomic_table.specs.Table.Valid s.homes [] y × Carried (slice_set s.words (x + 11) (slice_index s.words (x + 11))) (slice_set s.views 0 w)
+  probes_at : (s : State ℕ View) (a : At s.words s.views d) → (n : ℕ) → slice_index s.words (x + PIN_COUNT) ≡ n → (b : Bool) → (n == 0) ≡ b
+      → (w : View) × (y : Act ℕ) × Rattle.atomic_table.specs.Table.Valid s.homes [] y × Carried (slice_set s.words (x + PIN_COUNT) (slice_index s.words (x + PIN_COUNT))) (slice_set s.views 0 w)
       × (◌≡◌ {A = Me ℕ View} (w, Rattle.atomic_table.specs.Table.carried_after [] y) (Writer (cond b (freed d x) (met d x n)), [])
       × Rattle.std.specs.Prelude.MatchBool b (has x (held_by d.mask d.windows) ≡ false) (is_named d.windows x ≡ true))
   probes_at s a n e true is = (
     Writer (freed d x),
     keeps,
     tt,
-    same_words s d (freed d x) (x + 11) a refl refl refl (desk_freed d a.copying x a.desk_ok nobody fresh),
+    same_words s d (freed d x) (x + PIN_COUNT) a refl refl refl (desk_freed d a.copying x a.desk_ok nobody fresh),
     (refl, not_held d a.copying x a.desk_ok fresh),
   )
     where
       nobody : (v : ℕ) → 0 < x → get_elem? a.copying v ≡ some x → ⊥
       nobody v pos h =
-          let q = pins_pos (x + 11) a.copying v x h pos refl in
+          let q = pins_pos (x + PIN_COUNT) a.copying v x h pos refl in
           let z : n ≡ 0 = grind (arith, nat_tests) in
           omega (arith, q, e, z, found s a)
   probes_at s a n e false is =
       let nz : n ≢ 0 = grind (arith, nat_tests) in
       let f = found s a in
-      let t = pins_exists (x + 11) a.copying (grind (arith, e, f, nz)) in
+      let t = pins_exists (x + PIN_COUNT) a.copying (grind (arith, e, f, nz)) in
       let same : t.1 ≡ x = omega (arith, t.4) in
       let pos : 0 < x = omega (arith, t.3) in
       let h : get_elem? a.copying t.0 ≡ some x = t.2 ∙ ap some same in (
         Writer (met d x n),
         keeps,
         tt,
-        same_words s d (met d x n) (x + 11) a refl refl refl (desk_refused d a.copying x n a.desk_ok pos is),
+        same_words s d (met d x n) (x + PIN_COUNT) a refl refl refl (desk_refused d a.copying x n a.desk_ok pos is),
         (refl, named_there d.windows t.0 x (a.desk_ok.pins t.0 x h pos) pos),
       )
 
-  pub probes : Allows {S = ℕ} {V = View} IsCarried slots 0 (Writer d, []) (x + 11) (λ n. n) (Probes (step slots (x + 11) 0 0 none) (Writer d, []))
+  pub probes : Allows {S = ℕ} {V = View} IsCarried slots 0 (Writer d, []) (x + PIN_COUNT) (λ n. n) (Probes (step slots (x + PIN_COUNT) 0 0 none) (Writer d, []))
   probes s kept _ at fits =
-      let back : x + 11 - 11 ≡ x = omega arith in
-      rw back (probes_at s (at_desk s.words s.views d kept at) (slice_index s.words (x + 11)) refl (slice_index s.words (x + 11) == 0) refl)
+      let back : x + PIN_COUNT - 11 ≡ x = omega arith in
+      rw back (probes_at s (at_desk s.words s.views d kept at) (slice_index s.words (x + PIN_COUNT)) refl (slice_index s.words (x + PIN_COUNT) == 0) refl)

@@ -37,6 +37,7 @@ impl Drop for Copying {
 
 impl Model for Copying {
     ghost use Rattle.std.specs.Prelude.{◌≡◌, ◌+◌, ◌<◌, ◌≤◌, [], length};
+    ghost use Rattle.seg_words.specs.declared.layout.TheConstants.{HEAD_WORDS};
     ghost use Rattle.pin_table.specs.Values.{Copier};
     ghost use Rattle.pin_table.specs.Views.{reader_of};
     ghost use Rattle.pin_table.specs.declared.views.View.TheVariants as views;
@@ -51,7 +52,7 @@ impl Model for Copying {
         × (p.left ≡ (reader_of p.seat.me.0).known.left)
         × (p.block ≡ (reader_of p.seat.me.0).block)
         × (p.first + length (reader_of p.seat.me.0).content ≤ p.seat.table_id.words)
-        × (p.block + 12 ≤ p.first)
+        × (p.block + HEAD_WORDS ≤ p.first)
         × (p.len ≡ length (reader_of p.seat.me.0).content)
         × (p.first ≡ (reader_of p.seat.me.0).first) };
 }

@@ -8,6 +8,7 @@ use Rattle.std.proofs.lemmas.Map.Entries.{lookup-filter-keys}
 use mathlib.Core.Option.{some}
 use lib.ListN.{get_elem?}
 use Rattle.atomic_table.proofs.Lists.{at_set}
+use Rattle.seg_words.specs.declared.layout.TheConstants.{IMAGE_LENGTH}
 use Rattle.seg_words.specs.Members.{Contains-later, Contains-first, Contains-map, any_from}
 use Rattle.seg_words.specs.Windows.{Aside, is_named}
 use Rattle.seg_words.specs.Blocks.{image_place}
@@ -210,7 +211,7 @@ take_all (x ∷ xs) zero e = absurd (omega (arith, e))
 take_all (x ∷ xs) (suc n) e = ap (λ t. x ∷ t) (take_all xs n (omega (arith, e)))
 
 -- the words of a pinned block's image are an image from place 0 on
-content_image : ImagesAreRuns → (ws : List ℕ) (at len : ℕ) (g : List Kind) → IsImageOf ws (image_place ws at) len g → slice_index ws (at + 3) ≡ len → IsImageOf (content_of ws at) 0 (length (content_of ws at)) g
+content_image : ImagesAreRuns → (ws : List ℕ) (at len : ℕ) (g : List Kind) → IsImageOf ws (image_place ws at) len g → slice_index ws (at + IMAGE_LENGTH) ≡ len → IsImageOf (content_of ws at) 0 (length (content_of ws at)) g
 content_image laws ws at len g im size =
     let long : len ≡ length (image_of g) = im.length_is ∙ sym (laws.long g) in
     let is : content_of ws at ≡ image_of g = ap (λ n. take n (drop (image_place ws at) ws)) (size ∙ long) ∙ laws.run ws (image_place ws at) len g im in
