@@ -3,8 +3,8 @@
 //! several times the picoseconds of one, and how many calls answered true. `apcu_bench cache clear
 //! ROWS [SEGMENTS]` prints that of dropping all rows, and of dropping them because they are
 //! expired, and `apcu_bench cache info ROWS [SEGMENTS]` that of telling of them. `apcu_bench cache
-//! churn SLOTS [SEGMENTS]` prints what stores of new rows take in a cache of 64 words a slot that is
-//! kept at four fifths. Without arguments it does the same over few rows, and prints nothing.
+//! churn SLOTS [SEGMENTS]` prints what stores of new rows take in a cache of 64 words a slot that
+//! is kept at four fifths. Without arguments it does the same over few rows, and prints nothing.
 
 mod churning;
 mod keys;

@@ -81,8 +81,8 @@ fn outcome<R: Threads + Wait + Sync, S: Source, K: Sink, M: Maker + Sync, G: Gat
 /// Plays the scripts of `input`, each worker on a thread of its own, and prints on `out` what each
 /// worker's calls answer and the journal: the order in which the calls took effect. What went wrong
 /// is told on `err`, a line. With the option `--preload` a bundle in front of the scripts is loaded
-/// before any of them begins, by a worker behind theirs; with `--map 1` the map of the cache's words
-/// follows the journal. With `--generate` it plays scripts that are made from a number, leaves
+/// before any of them begins, by a worker behind theirs; with `--map 1` the cache's map follows the
+/// journal. With `--generate` it plays scripts that are made from a number, leaves
 /// `input` as it is, and prints their summary. With `--verify` it plays nothing: it prints the
 /// verdict on an output that stands behind its scripts.
 ///

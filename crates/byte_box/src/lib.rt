@@ -1,4 +1,5 @@
-//! Byte strings that take sixteen bytes where they are kept, and none elsewhere where they are short.
+//! Byte strings that take sixteen bytes where they are kept, and none elsewhere where they are
+//! short.
 #![tactic(auto)]
 
 mod block;

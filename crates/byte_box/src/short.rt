@@ -5,7 +5,7 @@ ghost use Rattle.byte_box.specs.ByteStrings.{AreBytes};
 
 use std::marker::Model;
 
-/// The most bytes of a `Short`: of the sixteen of a string, one tells its form and one their number.
+/// The most bytes of a `Short`: of a string's sixteen, one tells its form and one their number.
 pub(crate) const MOST: usize = 14;
 
 /// A byte string of fourteen bytes at most, where it stands.

@@ -71,7 +71,8 @@ impl Core {
         }
     }
 
-    /// The entries, for walks over them.
+    /// Lends the entries, for walks over chains and rows, as those of `cache_info` and `apcu_iter`.
+    /// The cache goes on with them as they are left.
     pub fn slots(&mut self) -> &mut EntrySlots
         ensures* lends { sem 𝓛 (LendsSlots self.entry result) }
         ensures value { result.now ≡ self.old.slots }

@@ -1,4 +1,9 @@
 //! The cache over the words of a segment: what it stores, finds, deletes and counts.
+//!
+//! `Core::format` makes one in any `seg_words::Segment`, which each call is handed again. Segments
+//! are `VecWords` of `seg_words`, words in memory for one thread; `HeldWords` beside it, such words
+//! with a window for each of 64 workers, all of which one thread plays; and `Writer` of
+//! `pin_table`, the words that workers on threads share, for one event of one of them.
 #![tactic(auto)]
 
 mod cache;

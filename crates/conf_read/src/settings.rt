@@ -96,8 +96,8 @@ fn settings_in(matches: &ArgMatches<'_>) -> Option<Settings>
 /// below 2^32, and `--use-request-time` is 0 or 1. N of `--generate` is below 2^64; workers are
 /// from 1 to 64, and calls at most 1,000,000. A generated run has one segment of 8,388,608 bytes or
 /// more and at most 4096 slots. N of `--verify` and `--preload` is at most 67,108,864, and `--map`
-/// is 0 or 1. `--generate` and `--verify` do not stand together, and neither stands with `--preload`
-/// or with a map.
+/// is 0 or 1. `--generate` and `--verify` do not stand together, and neither stands with
+/// `--preload` or with a map.
 ///
 /// The answer is `Usage` exactly where there is no word, clap finds a fault in them (a call for
 /// help is one), a value is none of these, or two do not agree, if there is memory to read the

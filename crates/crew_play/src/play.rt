@@ -189,8 +189,8 @@ fn play_opened<M: Maker + Sync, G: Gate + Sync, R: Threads + Wait + Sync>(
 /// which it is made, or that at which its request began.
 ///
 /// The journal is a play of the scripts as the clock sees them: each call stands in it once, in its
-/// worker's order, and each reply is the one that a cache of one thread gives at that place. What is
-/// left is that cache after it, with its counts and its words.
+/// worker's order, and each reply is the one that a cache of one thread gives at that place. What
+/// is left is that cache after it, with its counts and its words.
 ///
 /// Nothing is played where the calls may make more than 4,194,304 events, each worker's end
 /// included. Nor is it where the regex of a pattern can't be made: each is made once before the
@@ -231,7 +231,7 @@ pub fn play_scripts<M: Maker + Sync, G: Gate + Sync, R: Threads + Wait + Sync>(
     )
 }
 
-/// Plays the scripts as `play_scripts` does, with all that it promises, but those of the last worker
+/// Plays the scripts as `play_scripts` does, with all that it promises, but the last worker's
 /// first: it is a loader, which plays alone and comes to its end before another one starts. Each of
 /// the others learns of that end before it starts. So the journal begins with the loader's marks,
 /// and has none of it behind them.

@@ -1,4 +1,7 @@
 //! Value graphs as PHP's serialize notation numbers them, their keys, and PHP's string hash.
+//!
+//! A `Builder` makes a graph: `Builder::new`, `push` for each item in the order of the notation,
+//! and `seal` once nothing more is wanted. `notation::read_value` makes one of a text.
 #![tactic(auto)]
 
 mod builder;

@@ -3,7 +3,9 @@ use std::marker::Brand;
 /// The name of one shared table, as a type, so that what stands behind a lock is known by its type.
 ///
 /// It has no functions. Its members exist in contracts alone: which table it is, the cache's
-/// configuration, and how many events each worker may make.
+/// configuration, and how many events each worker may make. `std::marker::Brand` is such a name:
+/// what works on a table is a function over `N: TableName`, and its caller calls it with `Brand`
+/// and picks the members for that call, in the `Invariants.antt` of its proofs.
 pub trait TableName {
     ghost use Rattle.std.specs.Prelude.{ℕ, List};
     ghost use Rattle.atomic_table.specs.Seated.{TableId};

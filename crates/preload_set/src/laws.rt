@@ -1,6 +1,7 @@
 //! Laws of bundles.
 
-ghost use Rattle.std.specs.Prelude.{◌≡◌, ◌≤◌, ◌+◌, ◌-◌, ◌++◌, ℕ, List, length, Contains, Some, None};
+ghost use Rattle.std.specs.Prelude.{◌≡◌, ◌≤◌, ◌+◌, ◌-◌, ◌++◌, ℕ, List, length, Contains};
+ghost use Rattle.std.specs.Prelude.{Some, None};
 ghost use Rattle.std.specs.List.{AllByRecursion};
 ghost use Rattle.apcu_model.specs.declared.conf.Clock.{Clock};
 ghost use Rattle.apcu_model.specs.declared.conf.Conf.{Conf};

@@ -9,7 +9,7 @@ use std::alloc::{AllocError, Global};
 use std::collections::BTreeMap;
 use std::marker::Model;
 
-// Keys with their answers, in the order in which the keys first had one. Contracts see the list.
+/// Keys with their answers, in the order in which the keys first had one. Contracts see the list.
 pub struct Notes<'a, A> {
     notes: Vec<(&'a Bytes, A)>,
     places: BTreeMap<Bytes, usize>,
@@ -39,7 +39,7 @@ impl<'a, A> Model for Notes<'a, A> {
 }
 
 impl<'a, A: Drop> Notes<'a, A> {
-    // Nothing is noted.
+    /// Nothing is noted.
     pub fn new(alloc: Global) -> Notes<'a, A>
         ensures { result ≡ [] }
     {
@@ -50,7 +50,7 @@ impl<'a, A: Drop> Notes<'a, A> {
         }
     }
 
-    // Notes an answer for a key.
+    /// Notes an answer for a key.
     pub fn note(&mut self, key: &'a Bytes, answer: A) -> Result<(), AllocError>
         ensures { OnOk result (self.new ≡ noted key.now answer self.old) }
     {
@@ -69,7 +69,7 @@ impl<'a, A: Drop> Notes<'a, A> {
         }
     }
 
-    // All notes, in their order.
+    /// All notes, in their order.
     pub fn as_slice(&self) -> &[(&'a Bytes, A)]
         ensures { map (λ note. (note.0.now, note.1)) result.now ≡ self.now }
     {

@@ -19,7 +19,7 @@ use notation::{ByteOut, write_key, write_value};
 use php_graph::{Bytes, Graph};
 use std::alloc::AllocError;
 
-// A truth value.
+/// A truth value.
 pub fn write_flag(out: &mut ByteOut, done: bool) -> Result<(), AllocError>
     ensures { OnOk result (out.new ≡ out.old ++ flag_text done) }
 {
@@ -43,7 +43,7 @@ pub fn write_fetched(out: &mut ByteOut, found: Option<&Graph>) -> Result<(), All
     }
 }
 
-// The number that a counter came to and that it counted, or that it did not.
+/// The number that a counter came to and that it counted, or that it did not.
 pub fn write_number(out: &mut ByteOut, number: Option<i64>) -> Result<(), AllocError>
     ensures { OnOk result (out.new ≡ out.old ++ number_one (number_reply number)) }
 {
@@ -124,7 +124,7 @@ pub(crate) fn write_head(out: &mut ByteOut, count: usize) -> Result<(), AllocErr
     out.push(b":{")
 }
 
-// An array of these keys, each with the same answer.
+/// An array of these keys, each with the same answer.
 pub fn write_each(out: &mut ByteOut, keys: &[&Bytes], answer: &[u8]) -> Result<(), AllocError>
     ensures { OnOk result (out.new ≡ out.old ++ array_text
         (all_with answer.now (map (λ key. key.now) keys.now))) }
@@ -137,7 +137,7 @@ pub fn write_each(out: &mut ByteOut, keys: &[&Bytes], answer: &[u8]) -> Result<(
     out.push(b"}")
 }
 
-// An array of these keys, each with true.
+/// An array of these keys, each with true.
 pub fn write_flags(out: &mut ByteOut, notes: &[(&Bytes, ())]) -> Result<(), AllocError>
     ensures { OnOk result (out.new ≡ out.old
         ++ array_text (all_with (codes "b:1;")
@@ -152,7 +152,7 @@ pub fn write_flags(out: &mut ByteOut, notes: &[(&Bytes, ())]) -> Result<(), Allo
     out.push(b"}")
 }
 
-// An array of these strings, numbered from 0.
+/// An array of these strings, numbered from 0.
 #[tactic(auto, using(crate::proofs::Printed::numbered_len))]
 pub fn write_numbered(out: &mut ByteOut, strings: &[&Bytes]) -> Result<(), AllocError>
     ensures { OnOk result (out.new ≡ out.old ++ array_text
@@ -167,7 +167,7 @@ pub fn write_numbered(out: &mut ByteOut, strings: &[&Bytes]) -> Result<(), Alloc
     out.push(b"}")
 }
 
-// An array of these values under their keys, which is the first value of the reply.
+/// An array of these values under their keys, which is the first value of the reply.
 #[tactic(auto, using(crate::proofs::Printed::members_len))]
 pub fn write_values<V: Value>(out: &mut ByteOut, values: &[(&Bytes, V)]) -> Result<(), AllocError>
     requires { length values.now < 2 ^ 32 }

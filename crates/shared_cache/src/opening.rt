@@ -103,7 +103,8 @@ impl Model for Fresh {
 }
 
 /// Opens an empty cache of this shape for as many workers as there are budgets: how many events
-/// each may make, its end included.
+/// each may make, its end included. There are at most 64, and all together at most `MOST_EVENTS`
+/// of `apcu_model`.
 ///
 /// All memory that the cache ever needs is taken here, but for what is copied out of it. It is
 /// handed the runtime as the calls on the cache are, though it waits for nobody.
@@ -157,6 +158,16 @@ impl Fresh {
     /// The cache under a name of its table, shared by all who have it, with a pass for each worker,
     /// the last one's last, and a list that has room for the ends of all. The cache is empty and no
     /// worker has seen an event. It takes no memory.
+    ///
+    /// Call it in a function that is generic over `N: TableName` and requires that table, conf and
+    /// budgets of `N` are those of the `Fresh`. Call that function with `std::marker::Brand` for
+    /// `N`, and pick the three in the `Invariants.antt` of its caller. Where it is `f`, and `fresh`
+    /// its argument, that is
+    ///
+    ///     ghosts-f g a = record { table = a.fresh.table; conf = a.fresh.conf;
+    ///         budgets = a.fresh.budgets }
+    ///
+    /// `two_at_once`, in the tests of this crate, is such a function, and `meet` its caller.
     pub fn name<N: TableName>(self) -> (Shared<N>, Passes, EndedList)
         requires table { N.table ≡ self.table }
         requires conf { N.conf ≡ self.conf }

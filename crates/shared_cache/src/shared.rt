@@ -36,7 +36,8 @@ use value_image::unpersist;
 /// Each call of a worker takes the worker's pass, waits for the lock, is one event, and gives the
 /// pass back with one event less left. What it answers is what the cache of one thread answers at
 /// the end of the history that the pass has then seen. But for `retire` each leaves the worker at
-/// least one event for its end.
+/// least one event for its end, so it asks for two. A key has fewer than 2^32 bytes. A moment may
+/// be any second, also one before that of an earlier call.
 pub struct Shared<N: TableName> {
     // for the empty list of further places that a new counter's value has
     pub(crate) alloc: Global,
@@ -218,8 +219,8 @@ impl<N: TableName> Shared<N> {
     }
 
     /// Fetches the value of a key at the moment `t`, in seconds. Null, a truth value or an integer
-    /// is answered at once; any other value stays in its block until `copy_out` has copied it. It
-    /// takes no memory.
+    /// is answered at once; any other value stays in its block until `copy_out` or `copy_text` has
+    /// copied it. It takes no memory.
     pub fn pin<R: Wait>(&self, rt: &R, pass: Pass, key: &[u8], t: u64) -> Pinned
         requires pass { MayAsk N.table 2 pass }
         requires short { length key.now < 2 ^ 32 }
@@ -315,7 +316,8 @@ impl<N: TableName> Shared<N> {
     }
 
     /// Has a worker see all events so far, those of a worker that has ended among them. It is no
-    /// event, and the ended one comes back as it was.
+    /// event, and the ended one comes back as it was. It changes only what contracts say of the
+    /// pass: it is for proofs that what this worker does next comes after all of these.
     pub fn learn<R: Wait>(&self, rt: &R, pass: Pass, ended: Ended) -> (Pass, Ended)
         requires pass { MayAsk N.table 1 pass }
         requires other { ended.table ≡ N.table }
@@ -325,8 +327,8 @@ impl<N: TableName> Shared<N> {
         locked(&self.lock, rt).learn(&self.table, pass, ended)
     }
 
-    /// Gives the journal and the counts, once every worker has ended. It waits for nobody and takes
-    /// no memory.
+    /// Gives the journal and the counts, once every worker has ended: `ended` has the end of each,
+    /// in any order, which a caller has to prove. It waits for nobody and takes no memory.
     pub fn close<R: Wait>(self, rt: &R, ended: EndedList) -> Closed
         requires table { AllOf N.table ended.ended }
         requires every { (w : ℕ) → w < length N.budgets
