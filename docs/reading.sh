@@ -9,6 +9,8 @@ exec python3 - "$@" <<'PYTHON'
 import glob, os, re, sys
 
 CRATE, FUNCTION, MAIN = "apcu_play", "run", "replayed"
+# The definitions by which that clause comes to what it says of a part of the program alone.
+PARTS = {"AnswersSeed": "generated runs", "AnswersOutput": "verdicts", "map_after": "maps"}
 USE = re.compile(r"^ *(?:ghost |pub )*use Rattle\.([\w.]+?)(?:\.\{([^}]*)\}| as (\w+))?;?$", re.M)
 HEAD = re.compile(r"^(?:(?:pub|abbrev|record|data|unfoldable|irreducible) )+(\S+) ?(?::|\(|\{|where|$)", re.M)
 TYPE = r"^(?:pub )?(?:struct|enum|trait|const|type) {}\b"
@@ -74,9 +76,10 @@ def begin_of(lines, at):
 # ---- what a clause reaches
 
 class Reading:
-    def __init__(self):
+    def __init__(self, without=()):
         self.files, self.words, self.types, self.kit = {}, {}, {}, set()
         self.uses = {}
+        self.without, self.met = set(without), set()
 
     def file(self, path):
         if path not in self.files:
@@ -122,6 +125,9 @@ class Reading:
 
     def take(self, file, part):
         for other, word in self.cited(file, part):
+            if word in self.without:
+                self.met.add(word)
+                continue
             found = other.parts[word]
             if other is not file:
                 used = self.uses.setdefault(file.path, [])
@@ -145,13 +151,15 @@ def clauses_of(path):
     return signature, {re.match(r" (\w*)", clause).group(1): clause for clause in clauses}
 
 
-def read_clauses(path, labels):
-    reading, file = Reading(), File(path)
+def read_clauses(path, labels, without=()):
+    reading, file = Reading(without), File(path)
     signature, clauses = clauses_of(path)
     reading.words[path], file.parts = [], {}
     for label, clause in clauses.items():
         if labels is None or label in labels:
             reading.take(file, Part(clause.split("\n")))
+    if reading.met != reading.without:
+        sys.exit(f"docs/reading.sh: no clause reaches {', '.join(sorted(reading.without - reading.met))}")
     source = open(path, encoding="utf-8").read()
     for module, names in re.findall(r"^use (\w+)::(?:\w+::)*\{?([\w, ]+)\}?;", source, re.M):
         crate = CRATE if module == "crate" else module
@@ -191,6 +199,52 @@ def counts(reading, paths):
     return f"{len(paths)} files of {lines:,} lines, of which {needed:,} are definitions that it reaches"
 
 
+def few(number, word):
+    return f"{number} {word}" + ("" if number == 1 else "s")
+
+
+def lines_of(reading, paths):
+    return sum(part.lines for path in paths for part in reading.words[path])
+
+
+def listed(paths):
+    names = [f"`{crate_of(path)}` `{path.split('/specs/')[1]}`" for path in paths]
+    return ", ".join(names[:-1]) + " and " + names[-1] if len(names) > 1 else "".join(names)
+
+
+def leaving(reading, main, root):
+    """Which definitions a reader may leave out, and which files could be shorter."""
+    paths, own = in_order(reading, root), in_order(main, root)
+    behind = [path for path in paths if path not in main.words]
+    alone = []
+    for word, name in PARTS.items():
+        rest = read_clauses(root, [MAIN], [word])
+        whole = few(sum(path not in rest.words for path in own), "file")
+        count = lines_of(main, own) - lines_of(rest, in_order(rest, root))
+        alone.append(f"{count} lines ({whole} whole) for {name}")
+    rest = read_clauses(root, [MAIN], PARTS)
+    played = in_order(rest, root)
+    others = {}
+    for path in paths:
+        reached = {id(part) for part in reading.words[path]}
+        parts = {id(part): part for part in reading.files[path].parts.values()}
+        others[path] = sum(part.lines for key, part in parts.items() if key not in reached)
+    long = [path for path in paths if others[path] > lines_of(reading, [path])]
+    causes = lines_of(reading, paths) - lines_of(main, own)
+    return f"""## What of it can be left out
+
+While the clauses are these, no definition of the list can go: a clause reaches each. But not every reader needs all \
+of them. The other clauses, which tell faults and the causes of statuses, reach {causes:,} lines of definitions that \
+`{MAIN}` does not, and among them all that is reached of {few(len(behind), "file")}: those without a *yes*. Of what \
+`{MAIN}` reaches, {", ".join(alone[:-1])} and {alone[-1]} are there for these alone; so what a play of the input's \
+scripts prints without a map rests on {lines_of(rest, played):,} lines in {few(len(played), "file")}. The files \
+themselves could be shorter: {sum(others.values()):,} of their lines are definitions that no clause reaches, for \
+lemmas, laws and other functions. Where these are more than what is reached, a file could be cut in two: \
+{listed(long)}, with {sum(others[path] for path in long)} such lines.
+
+"""
+
+
 def row(path, reading, main):
     file, parts = reading.files[path], reading.words[path]
     reached = f"{len(parts)} of {len(set(map(id, file.parts.values())))}"
@@ -215,7 +269,7 @@ The clause `{MAIN}`, of what is printed, rests on {counts(main, in_order(main, r
 | crate | file of `specs/` | lines | reached | words | `{MAIN}` | what it defines |
 |---|---|---|---|---|---|---|
 {"".join(row(path, reading, main) for path in paths)}
-## Types
+{leaving(reading, main, root)}## Types
 
 These types and traits of `src/` are named in them: their fields and variants, the ghost members of a trait, and where there is one the `impl Model`, by which a clause sees a value.
 
