@@ -1,4 +1,4 @@
-//! Worked rows.
+//! Worked rows of value graphs.
 
 use php_graph::*;
 use std::alloc::Global;
@@ -198,7 +198,7 @@ fn shared_parts(rt: HostRuntime) -> Result<(), Fail> {
 }
 
 #[test]
-fn copies(rt: HostRuntime) -> Result<(), Fail> {
+fn graph_copies(rt: HostRuntime) -> Result<(), Fail> {
     let alloc = rt.alloc();
     let graph = built(&rt, alloc, &OBJECT)?;
     let copy = graph.try_copy(alloc)?;
@@ -394,7 +394,7 @@ fn tables(rt: HostRuntime) -> Result<(), Fail> {
 // A value of an array takes its place with its offset, and its member. A graph holds its first
 // place.
 #[test]
-fn small(rt: HostRuntime) {
+fn graph_is_small(rt: HostRuntime) {
     assert!(rt; size_of::<Place>() + size_of::<(Key, Child)>() <= 72);
     assert!(rt; size_of::<Graph>() <= 64);
 }

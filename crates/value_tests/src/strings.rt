@@ -5,13 +5,13 @@ use std::process::Abort;
 use std::test::Fail;
 
 #[test]
-fn small(rt: HostRuntime) {
+fn byte_box_is_small(rt: HostRuntime) {
     strings_cross();
     assert_eq!(rt; size_of::<ByteBox>(), 16);
 }
 
 #[test]
-fn copies(rt: HostRuntime) -> Result<(), Fail> {
+fn byte_box_copies(rt: HostRuntime) -> Result<(), Fail> {
     for text in [
         &b""[..],
         b"a",
