@@ -10,7 +10,7 @@ ghost use Rattle.entry_slots.specs.Lists.{has_place};
 ghost use Rattle.entry_slots.specs.Entries.{no_entries, chain_of, listed};
 ghost use Rattle.entry_slots.specs.Standing.{Stand, entries};
 
-use crate::steps::{FILL, insert, number, play, small};
+use crate::slots::{FILL, insert, number, play, small};
 use apcu_model::Conf;
 use entry_slots::{EntrySlots, Head, leaving_laws, place_laws, standing_laws};
 use max_tree::MaxRow;

@@ -1,6 +1,6 @@
 use Rattle.std.proofs.Common.{arith}
 use Rattle.apcu_model.specs.Conf.{good_one}
-use Rattle.entry_slots_tests.proofs.steps.small.Goals as goal
+use Rattle.block_tests.proofs.slots.small.Goals as goal
 
 pub returns-clause-good : goal.returns-clause-good
 returns-clause-good c =

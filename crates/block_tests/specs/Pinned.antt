@@ -1,4 +1,4 @@
--- The words of the tests.
+-- The words of the tests of pinned blocks.
 use Rattle.std.specs.Prelude.{ℕ, List, replicate, slice_set}
 
 -- 32 words with a block at 2: a key of three bytes, and an image of nine words from 15 on, of which

@@ -1,7 +1,7 @@
 ghost use Rattle.std.specs.Prelude.{◌≡◌, ℕ, ◌+◌, ◌<◌, ◌≤◌, length, slice_index, slice_set, Some, None, IfOk, IfSome};
 ghost use Rattle.pin_table.specs.Pins.{MayPin, content_of};
 ghost use Rattle.pin_table.specs.Lists.{fresh, fresh_pass};
-ghost use Rattle.pin_table_tests.specs.Words.{one_block};
+ghost use Rattle.block_tests.specs.Pinned.{one_block};
 
 use apcu_model::Ask;
 use pin_table::{Copying, Ended, Pass, Passes, PinTable, WriterSeat, rule_laws};
@@ -205,6 +205,6 @@ fn pins_probes_and_releases(rt: HostRuntime) -> Result<(), Fail> {
 }
 
 #[test]
-fn states_its_laws() {
+fn pin_table_states_its_laws() {
     rule_laws();
 }

@@ -1,6 +1,6 @@
 //! Rows in the chain of a slot and among the removed ones, and their words.
 
-use crate::steps::{FILL, Step, plays};
+use crate::slots::{FILL, Step, plays};
 use std::test::Fail;
 
 #[test]
