@@ -4,6 +4,7 @@ ghost use Rattle.std.specs.Prelude.{◌≡◌, ◌+◌, ◌≤◌, [], ◌∷◌
 ghost use Rattle.php_graph.specs.declared.kind.Kind.{Kind};
 ghost use Rattle.value_image.specs.Image.{IsImageOf};
 
+use crate::steps::put;
 use apcu_model::Conf;
 use notation::{Cursor, read_value};
 use php_graph::Graph;
@@ -42,22 +43,6 @@ pub(crate) fn opened<N: TableName>(fresh: Fresh) -> Option<(Shared<N>, Pass, Pas
     Some((shared, first, second))
 }
 
-// Stores a value under a key of this byte.
-pub(crate) fn store<N: TableName, R: Wait>(
-    rt: &R,
-    shared: &Shared<N>,
-    pass: Pass,
-    name: u8,
-    value: &Graph,
-) -> (Pass, bool)
-    requires table { pass.table ≡ N.table }
-    requires left { 2 ≤ pass.known.left }
-    ensures table { result.0.table ≡ N.table }
-    ensures left { result.0.known.left + 1 ≡ pass.known.left }
-{
-    shared.store(rt, pass, &[name], value, 0, false, 5)
-}
-
 // The first worker stores a value and begins to copy it.
 pub(crate) fn begin_copy<N: TableName, R: Wait>(
     rt: &R,
@@ -71,7 +56,7 @@ pub(crate) fn begin_copy<N: TableName, R: Wait>(
     ensures image { IfSome result (λ k. (g : List Kind)
         × IsImageOf k.copy.content 0 (length k.copy.content) g) }
 {
-    let (pass, _) = store(rt, shared, pass, b'a', value);
+    let (pass, _) = put(rt, shared, pass, b"a", value, false);
     match shared.pin(rt, pass, b"a", 0) {
         Pinned::Hit(copying) => Some(copying),
         Pinned::Scalar(_, _) | Pinned::Miss(_) => None,

@@ -2,7 +2,8 @@
 
 ghost use Rattle.std.specs.Prelude.{◌≡◌, ◌+◌, ◌≤◌, [], ◌∷◌};
 
-use crate::copies::{CONF, array, begin_copy, end_copy, opened, store};
+use crate::copies::{CONF, array, begin_copy, end_copy, opened};
+use crate::steps::put;
 use apcu_iter::{RefuseAll, Search};
 use apcu_model::{Chunk, Fields, List, integer};
 use php_graph::Graph;
@@ -102,7 +103,7 @@ fn iterate<N: TableName, R: Wait>(
     requires two { fresh.budgets ≡ 3 ∷ 5 ∷ [] }
 {
     let (shared, first, second) = opened::<N>(fresh)?;
-    let (first, _) = store(rt, &shared, first, b'a', value);
+    let (first, _) = put(rt, &shared, first, b"a", value, false);
     let (_, step) = one_step(rt, alloc, &shared, second, search, List::Active, ALL);
     let (_, sum) = sums(rt, alloc, &shared, first, search);
     Some(Told { step, sum })
@@ -186,7 +187,7 @@ fn act_meanwhile<N: TableName, R: Wait>(
     let (pass, next) = delete_step(rt, alloc, shared, pass, search);
     let list = List::Deleted;
     let (pass, deleted) = one_step(rt, alloc, shared, pass, search, list, KEY_AND_DELETION);
-    let (pass, stored) = store(rt, shared, pass, b'b', value);
+    let (pass, stored) = put(rt, shared, pass, b"b", value, false);
     let met = Meanwhile {
         next,
         deleted,
@@ -212,7 +213,7 @@ fn wait<N: TableName, R: Wait>(
     let copying = begin_copy(rt, &shared, first, value)?;
     let (second, met) = act_meanwhile(rt, alloc, &shared, second, search, value);
     let whole = end_copy(alloc, &shared, copying, value);
-    let (_, again) = store(rt, &shared, second, b'b', value);
+    let (_, again) = put(rt, &shared, second, b"b", value, false);
     Some(Waited {
         meanwhile: met,
         whole,
