@@ -1,19 +1,13 @@
 //! Verdicts on outputs, as tables.
 
+use crate::playing::CONF;
 use apcu_iter::{Maker, RefuseAll, RegexMaker};
-use apcu_model::{Clock, Conf};
+use apcu_model::Clock;
 use run_verify::{Verdict, VerifyFault, event_count, plays_are_short, verify};
 use script_read::read_scripts;
 use std::alloc::Global;
 use std::process::Abort;
 use std::test::Fail;
-
-const CONF: Conf = Conf {
-    words: 512,
-    slots: 32,
-    ttl: 0,
-    segments: 1,
-};
 
 // An output, and what it is.
 type Case = (&'static [u8], Verdict);

@@ -1,4 +1,4 @@
-use Rattle.worker_play_tests.proofs.beside.meet.Given as goal
+use Rattle.play_tests.proofs.beside.meet.Given as goal
 
 -- the name of the cache that was opened
 abbrev pub ghosts-plays_both : goal.ghosts-plays_both

@@ -6,7 +6,7 @@ use Rattle.std.proofs.Math.ListN.{drop_of_length-le}
 use Rattle.script_read.specs.declared.script.Step.{Step}
 use Rattle.script_read.specs.Budgets.{events_in}
 use Rattle.script_read.specs.Calls.{event_bound}
-use Rattle.worker_play_tests.proofs.playing.may_play.Goals as goal
+use Rattle.play_tests.proofs.playing.may_play.Goals as goal
 
 -- the events of a step, and those of the steps after it
 events_behind : (slots : ℕ) (steps : List Step) (i : ℕ) (step : Step) → slice_get steps i ≡ Some step → events_in slots (drop i steps) ≡ event_bound slots step.call + events_in slots (drop (i + 1) steps)

@@ -1,4 +1,4 @@
-use Rattle.worker_play_tests.proofs.alone.played_alone.Given as goal
+use Rattle.play_tests.proofs.alone.played_alone.Given as goal
 
 -- the name of the cache that was opened
 abbrev pub ghosts-plays_alone : goal.ghosts-plays_alone

@@ -5,7 +5,7 @@ use Rattle.pin_table.specs.Values.{Bearer}
 use Rattle.pin_table.specs.Lists.{known_list}
 use Rattle.pin_table.specs.Views.{is_among}
 use Rattle.worker_play.specs.Goes.{KnowsOwnEvents}
-use Rattle.worker_play_tests.proofs.beside.plays_both.Goals as goal
+use Rattle.play_tests.proofs.beside.plays_both.Goals as goal
 
 of_some : {A : Type 0} (P : A → Type 0) (r : Option A) (x : A) → r ≡ Some x → IfSome r P → P x
 of_some {A} P r x is p = subst (λ (r : Option A). IfSome r P) is p
