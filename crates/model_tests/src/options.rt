@@ -1,3 +1,5 @@
+//! The words that the program is called with, and the settings that they call for.
+
 use apcu_model::{Clock, Conf};
 use conf_read::{ConfFault, Settings, Task, read_settings};
 use std::alloc::Global;

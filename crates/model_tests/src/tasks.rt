@@ -1,6 +1,6 @@
 //! What a run is for, by the program's words.
 
-use crate::tests::{PLAY, expect};
+use crate::options::{PLAY, expect};
 use apcu_model::{Clock, Conf};
 use conf_read::{ConfFault, Settings, Task};
 use std::test::Fail;

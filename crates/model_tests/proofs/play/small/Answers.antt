@@ -1,6 +1,6 @@
 use Rattle.std.proofs.Common.{arith}
 use Rattle.apcu_model.specs.Conf.{good_one}
-use Rattle.apcu_model_tests.proofs.play.small.Goals as goal
+use Rattle.model_tests.proofs.play.small.Goals as goal
 
 pub returns : goal.returns
 returns c =
