@@ -12,7 +12,7 @@ use Rattle.entry_slots.specs.Standing.{Stands, entries}
 use Rattle.entry_slots.specs.Facts.{OnlyClose, OnlyOpensAt}
 use Rattle.cache_core.specs.declared.cache.Core.{Core}
 use Rattle.cache_core.specs.Caching.{CacheStands}
-use Rattle.seg_report_tests.specs.Resting.{Rests}
+use Rattle.cache_info_tests.specs.Resting.{Rests}
 
 has_zero : (n at : ℕ) → has at (replicate n 0) ≡ true → at ≡ 0
 has_zero zero at t = absurd (false≢true t)

@@ -1,6 +1,6 @@
 use Rattle.seg_words.specs.contracts.held_words.HeldWordsWordsIn.TheImpl.{ghosts}
-use Rattle.seg_report_tests.proofs.Windows.{free_begun}
-use Rattle.seg_report_tests.proofs.held.begin_free.Goals as goal
+use Rattle.cache_info_tests.proofs.Windows.{free_begun}
+use Rattle.cache_info_tests.proofs.map_held.begin_free.Goals as goal
 
 pub returns-clause-rests : goal.returns-clause-rests
 returns-clause-rests c =

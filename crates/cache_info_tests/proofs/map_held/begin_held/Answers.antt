@@ -1,6 +1,6 @@
 use Rattle.seg_words.specs.contracts.held_words.HeldWordsWordsIn.TheImpl.{ghosts}
-use Rattle.seg_report_tests.proofs.Windows.{held_begun}
-use Rattle.seg_report_tests.proofs.held.begin_held.Goals as goal
+use Rattle.cache_info_tests.proofs.Windows.{held_begun}
+use Rattle.cache_info_tests.proofs.map_held.begin_held.Goals as goal
 
 pub returns-clause-stand : goal.returns-clause-stand
 returns-clause-stand c =

@@ -8,9 +8,10 @@ ghost use Rattle.entry_slots.specs.Lists.{has_place};
 ghost use Rattle.entry_slots.specs.Entries.{listed};
 ghost use Rattle.entry_slots.specs.Standing.{entries};
 ghost use Rattle.cache_core.specs.Caching.{CacheStands};
-ghost use Rattle.seg_report_tests.specs.Resting.{Rests};
+ghost use Rattle.cache_info_tests.specs.Resting.{Rests};
 
-use crate::maps::{ONE, string};
+use crate::asking::string;
+use crate::maps::ONE;
 use apcu_model::{Conf, StoreAnswer};
 use cache_core::Core;
 use entry_slots::{place_laws, window_laws};
@@ -62,7 +63,7 @@ struct Held {
 impl Model for Held {
     ghost use Rattle.apcu_model.specs.Cache.{Cache};
     ghost use Rattle.cache_core.specs.Caching.{cache_of};
-    ghost use Rattle.seg_report_tests.specs.Resting.{Rests};
+    ghost use Rattle.cache_info_tests.specs.Resting.{Rests};
 
     ghost Value = { Cache };
 

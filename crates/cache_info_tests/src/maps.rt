@@ -1,73 +1,12 @@
 //! Caches after a few stores and deletions, with the map of each.
 
-ghost use Rattle.apcu_model.specs.Conf.{IsGood};
-
+use crate::asking::string;
+use crate::small::Small;
 use apcu_model::{Conf, StoreAnswer};
-use cache_core::Core;
-use max_tree::MaxRow;
 use notation::ByteOut;
-use php_graph::{Builder, Bytes, Graph, Item, Wants};
-use seg_report::{fits, map_text};
-use seg_words::{VecWords, WordsIn};
-use std::alloc::{AllocError, Global};
-use std::marker::Model;
+use std::alloc::Global;
 use std::process::Abort;
 use std::test::Fail;
-
-pub(crate) fn string(rt: &impl Abort, alloc: Global, len: usize) -> Result<Graph, Fail> {
-    assert!(rt; len < 1 << 20);
-    let item = Item::Str(Bytes::from_vec(vec![in alloc; b'z'; len]?));
-    let mut builder = Builder::new(alloc);
-    assert!(rt; builder.wants().permits(&item));
-    builder.push(item)?;
-    assert!(rt; builder.wants() == Wants::Done);
-    Ok(builder.seal())
-}
-
-// A cache over words in memory. Contracts see the cache.
-#[derive(Drop)]
-struct Small {
-    words: VecWords,
-    core: Core,
-}
-
-impl Model for Small {
-    ghost use Rattle.apcu_model.specs.Cache.{Cache};
-    ghost use Rattle.cache_core.specs.Caching.{cache_of, CacheStands};
-
-    ghost Value = { Cache };
-
-    ghost view = { λ s. cache_of s.core };
-
-    ghost invariant = { λ s. CacheStands ⟦<VecWords as WordsIn>⟧ s.core s.words };
-}
-
-impl Small {
-    fn new(alloc: Global, conf: &Conf) -> Result<Small, AllocError>
-        requires { IsGood conf.now }
-    {
-        let mut words = VecWords::new(alloc, conf.words)?;
-        let gaps = MaxRow::new(alloc, conf.words as usize / 4 + 1)?;
-        let core = Core::format(&mut words, conf, gaps);
-        Ok(Small { words, core })
-    }
-
-    fn store(&mut self, key: u8, value: &Graph) -> StoreAnswer {
-        self.core.store(&mut self.words, &[key], value, 0, false, 0)
-    }
-
-    fn delete(&mut self, key: u8) -> bool {
-        self.core.delete(&mut self.words, &[key], 0)
-    }
-
-    fn map(&mut self, alloc: Global, out: &mut ByteOut) -> Result<(), AllocError> {
-        map_text(alloc, &mut self.core, &mut self.words, out)
-    }
-
-    fn fits_of_16(&mut self) -> u32 {
-        fits(&mut self.core, &mut self.words, 16)
-    }
-}
 
 // What is done under a key of one letter.
 #[derive(Clone, Copy)]
