@@ -1,7 +1,7 @@
 //! Rows that are copied while they are dropped, and which masks are legal.
 
-use crate::requests::{Act, request_of};
-use crate::table::{Event, Table};
+use crate::mark_requests::{Act, request_of};
+use crate::marks::{Event, Table};
 use apcu_model::{Conf, Reply};
 use std::alloc::Global;
 use std::process::Abort;

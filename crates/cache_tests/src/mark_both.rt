@@ -1,7 +1,7 @@
 //! A play whose events meet nobody, and the plain cache, of which the same is asked.
 
-use crate::requests::{Act, request_of};
-use crate::table::{Event, Table};
+use crate::mark_requests::{Act, request_of};
+use crate::marks::{Event, Table};
 use apcu_model::{Conf, Plain, Reply};
 use std::alloc::Global;
 use std::process::Abort;

@@ -1,9 +1,10 @@
 //! Requests of several workers as they come, in events that meet nobody. The plain cache is the
 //! judge.
 
-use crate::both::Both;
-use crate::draws::Draw;
-use crate::requests::Act;
+use crate::draws::{Draw, Kinds};
+use crate::mark_both::Both;
+use crate::mark_draws::act_of;
+use crate::mark_requests::Act;
 use apcu_model::Conf;
 use std::alloc::Global;
 use std::process::Abort;
@@ -51,14 +52,20 @@ fn many(rt: &impl Abort, alloc: Global, conf: &Conf, requests: u32) -> Result<()
     let mut draw = Draw::new(u64::from(conf.ttl).wrapping_add(11));
     for request in 0..requests {
         draw = draw.next();
-        both.ask(rt, request % 5, draw.name(), draw.act(), draw.t)?;
+        both.ask(
+            rt,
+            request % 5,
+            draw.name(Kinds::Core),
+            act_of(draw),
+            draw.t,
+        )?;
     }
     both.ask(rt, 0, 0, Act::CacheInfo(false), 0)?;
     both.ask(rt, 0, 0, Act::SmaInfo(false), 0)
 }
 
 #[test]
-fn answers_as_the_plain_cache(rt: HostRuntime) -> Result<(), Fail> {
+fn mark_play_answers_as_the_plain_cache(rt: HostRuntime) -> Result<(), Fail> {
     many(&rt, rt.alloc(), &shape(4_096, 0, 1), 3_000)?;
     many(&rt, rt.alloc(), &shape(4_096, 3, 1), 3_000)?;
     many(&rt, rt.alloc(), &shape(16_384, 0, 16), 3_000)

@@ -1,17 +1,39 @@
-use crate::small::{Small, pattern, search_for};
+//! Steps and totals of iterators, what they delete, and what they search for.
+
+use crate::pair::shape;
+use crate::small::Small;
 use apcu_iter::{RefuseAll, RegexMaker, Search, SearchFault};
-use apcu_model::{Chunk, Fields, List};
+use apcu_model::{Chunk, Fields, List, Pattern};
+use php_graph::Bytes;
 use std::alloc::{AllocError, Global};
 use std::test::Fail;
 
-/// The bit of the key, and that of the value.
+// A pattern of a text of three bytes.
+fn pattern(alloc: Global, text: [u8; 3], fold: bool) -> Result<Pattern, AllocError> {
+    let text = Bytes::of(alloc, &text)?;
+    Ok(Pattern { text, fold })
+}
+
+// A search for such a pattern, by `regex`.
+fn search_for(alloc: Global, text: [u8; 3], fold: bool) -> Result<Search, SearchFault> {
+    let pattern = pattern(alloc, text, fold)?;
+    Search::new(alloc, &RegexMaker, Some(&pattern))
+}
+
+// The bit of the key, and that of the value.
 const KEY: Fields = Fields(1);
 
 const KEY_AND_VALUE: Fields = Fields(3);
 
+// A cache of 4096 words without rows.
+fn empty(alloc: Global) -> Result<Small, Fail> {
+    let conf = shape(4_096, 0);
+    Small::new(alloc, &conf)
+}
+
 // A cache with rows of the keys `a`, `A` and `b`, whose slots are 6, 6 and 7.
-fn three(alloc: Global) -> Result<Small, AllocError> {
-    let mut small = Small::new(alloc)?;
+fn three(alloc: Global) -> Result<Small, Fail> {
+    let mut small = empty(alloc)?;
     for key in [b'a', b'A', b'b'] {
         small.store(alloc, key, 0);
     }
@@ -115,7 +137,7 @@ fn told_at(
 fn tells_what_is_asked(rt: HostRuntime) -> Result<(), Fail> {
     let alloc = rt.alloc();
     let mut search = Search::new(alloc, &RefuseAll, None)?;
-    let mut small = Small::new(alloc)?;
+    let mut small = empty(alloc)?;
     small.store(alloc, b'a', 10);
     small.fetch(b'a', 105);
     let told = Told {
