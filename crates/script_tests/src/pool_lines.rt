@@ -1,8 +1,6 @@
 //! What is read of pools' lines.
 
-use apcu_model::{Keys, Pairs, Pattern};
-use notation::{Cursor, read_value};
-use php_graph::Graph;
+use crate::asked::{are_keys, are_pairs, is_search, is_value};
 use script_read::{Call, Script, read_scripts};
 use simple_pool::PoolAsk;
 use std::alloc::Global;
@@ -22,39 +20,6 @@ enum Asked {
     SetManyPlain(&'static [(&'static [u8], &'static [u8])]),
     DeleteMany(&'static [&'static [u8]]),
     Has(&'static [u8]),
-}
-
-fn is_value(alloc: Global, text: &[u8], value: &Graph) -> Result<bool, Fail> {
-    let mut from = Cursor::new(text);
-    let expected = read_value(alloc, &mut from)?;
-    Ok(expected.same(value))
-}
-
-fn are_keys(expected: &[&[u8]], keys: &Keys) -> bool {
-    if keys.len() as usize != expected.len() {
-        return false;
-    }
-    for (i, key) in keys.as_slice().iter().enumerate() {
-        if i >= expected.len() || key.as_slice() != expected[i] {
-            return false;
-        }
-    }
-    true
-}
-
-fn are_pairs(alloc: Global, expected: &[(&[u8], &[u8])], pairs: &Pairs) -> Result<bool, Fail> {
-    if pairs.len() as usize != expected.len() {
-        return Ok(false);
-    }
-    for (i, pair) in pairs.as_slice().iter().enumerate() {
-        if i >= expected.len() || pair.0.as_slice() != expected[i].0 {
-            return Ok(false);
-        }
-        if !is_value(alloc, expected[i].1, &pair.1)? {
-            return Ok(false);
-        }
-    }
-    Ok(true)
 }
 
 // Whether it is this ask, of those of one key, or of none.
@@ -185,16 +150,6 @@ fn calls_on_several_keys(rt: HostRuntime) -> Result<(), Fail> {
     expect_script(&rt, rt.alloc(), text, ROWS)
 }
 
-fn is_pattern(expected: Option<(&[u8], bool)>, made: Option<Pattern>) -> bool {
-    match (expected, made) {
-        (None, None) => true,
-        (Some((text, fold)), Some(pattern)) => {
-            pattern.text.as_slice() == text && pattern.fold == fold
-        }
-        _ => false,
-    }
-}
-
 #[test]
 fn patterns_of_calls(rt: HostRuntime) -> Result<(), Fail> {
     let text = b"worker\n\
@@ -206,10 +161,10 @@ fn patterns_of_calls(rt: HostRuntime) -> Result<(), Fail> {
     let script = scripts.at(0);
     assert_eq!(rt; script.len(), 3);
     let cleared = script.at(0).call.pattern(rt.alloc())?;
-    assert!(rt; is_pattern(Some((b"\\{p\\.q\\}", false)), cleared));
+    assert!(rt; is_search(Some((b"\\{p\\.q\\}", false)), &cleared));
     let walked = script.at(1).call.pattern(rt.alloc())?;
-    assert!(rt; is_pattern(Some((b"a+", true)), walked));
+    assert!(rt; is_search(Some((b"a+", true)), &walked));
     let deleted = script.at(2).call.pattern(rt.alloc())?;
-    assert!(rt; is_pattern(None, deleted));
+    assert!(rt; is_search(None, &deleted));
     Ok(())
 }

@@ -1,33 +1,16 @@
 //! Lines of pools that are refused: the place of the first fault.
 
+use crate::faults::refused;
 use notation::Reason;
-use script_read::{ScriptFault, read_scripts};
 use std::alloc::Global;
 use std::process::Abort;
-
-// The text is refused for an argument at this place.
-fn refused(rt: &impl Abort, alloc: Global, text: &[u8], place: u64) {
-    assert!(rt; text.len() < 1000);
-    match read_scripts(alloc, text) {
-        Err(
-            ScriptFault::Bad {
-                place: at,
-                reason: why,
-            },
-        ) => {
-            assert_eq!(rt; at, place);
-            assert_eq!(rt; why, Reason::Argument);
-        }
-        _ => assert!(rt; false),
-    }
-}
 
 // A text, and the place of its first fault, which is an argument.
 type Fault = (&'static [u8], u64);
 
 fn all_refused(rt: &impl Abort, alloc: Global, faults: &[Fault]) {
     for fault in faults {
-        refused(rt, alloc, fault.0, fault.1);
+        refused(rt, alloc, fault.0, fault.1, Reason::Argument);
     }
 }
 
@@ -92,7 +75,7 @@ fn names_at_fault(rt: HostRuntime) {
 }
 
 #[test]
-fn keys_at_fault(rt: HostRuntime) {
+fn pool_keys_at_fault(rt: HostRuntime) {
     const FAULTS: &[Fault] = &[
         (b"worker\npool_get s:1:\"p\"; s:0:\"\";\n", 25),
         (b"worker\npool_set s:1:\"p\"; s:3:\"{p}\"; i:1;\n", 25),

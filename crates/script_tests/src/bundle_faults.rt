@@ -1,28 +1,10 @@
 //! Bundles that are refused: the place of the first fault, and the reason.
 
+use crate::faults::{Fault, expect_fault};
 use notation::Reason;
 use preload_set::{read_bundle, read_front};
-use script_read::ScriptFault;
 use std::alloc::Global;
 use std::process::Abort;
-
-// Bytes, the place of their first fault, and the reason.
-type Fault = (&'static [u8], u64, Reason);
-
-fn expect_fault<R: Abort>(rt: &R, fault: Option<ScriptFault>, place: u64, reason: Reason) {
-    match fault {
-        Some(
-            ScriptFault::Bad {
-                place: at,
-                reason: why,
-            },
-        ) => {
-            assert_eq!(rt; at, place);
-            assert_eq!(rt; why, reason);
-        }
-        _ => assert!(rt; false),
-    }
-}
 
 fn all_refused<R: Abort>(rt: &R, alloc: Global, faults: &[Fault]) {
     for (bytes, place, reason) in faults {
@@ -49,7 +31,7 @@ fn ends_too_early(rt: HostRuntime) {
 }
 
 #[test]
-fn keys_at_fault(rt: HostRuntime) {
+fn bundle_keys_at_fault(rt: HostRuntime) {
     const FAULTS: &[Fault] = &[
         (b"i:5; N;\n", 0, Reason::Argument),
         (b"N; N;\n", 0, Reason::Argument),
@@ -69,7 +51,7 @@ fn keys_at_fault(rt: HostRuntime) {
 }
 
 #[test]
-fn values_at_fault(rt: HostRuntime) {
+fn bundle_values_at_fault(rt: HostRuntime) {
     const FAULTS: &[Fault] = &[
         (b"s:1:\"a\"; i:05;\n", 11, Reason::Number),
         (b"s:1:\"a\";  i:5;\n", 9, Reason::Tag),

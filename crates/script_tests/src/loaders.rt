@@ -1,6 +1,7 @@
 //! What a loader stores.
 
-use crate::reading::{Rows, is_value};
+use crate::asked::is_value;
+use crate::bundles::Rows;
 use preload_set::{loader, read_bundle};
 use script_read::{Call, Script};
 use std::alloc::Global;

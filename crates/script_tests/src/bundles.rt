@@ -1,7 +1,6 @@
 //! Bundles that are read.
 
-use notation::{Cursor, read_value};
-use php_graph::Graph;
+use crate::asked::is_value;
 use preload_set::{Bundle, read_bundle, read_front};
 use std::alloc::Global;
 use std::process::Abort;
@@ -9,12 +8,6 @@ use std::test::Fail;
 
 // Keys, and the texts of their values.
 pub(crate) type Rows = &'static [(&'static [u8], &'static [u8])];
-
-pub(crate) fn is_value(alloc: Global, text: &[u8], value: &Graph) -> Result<bool, Fail> {
-    let mut from = Cursor::new(text);
-    let expected = read_value(alloc, &mut from)?;
-    Ok(expected.same(value))
-}
 
 fn expect_rows<R: Abort>(rt: &R, alloc: Global, bundle: &Bundle, rows: Rows) -> Result<(), Fail> {
     assert_eq!(rt; bundle.len() as usize, rows.len());
