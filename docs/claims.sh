@@ -61,15 +61,16 @@ def functions_in(path):
 
 
 class Source:
-    """What the crates have: functions with their clauses, tests, and the definitions of specs/."""
+    """What the crates have: functions with their clauses, tests and their files, and the definitions of specs/."""
 
     def __init__(self):
-        self.functions, self.tests, self.traits, self.definitions = {}, set(), {}, {}
+        self.functions, self.tests, self.files, self.traits, self.definitions = {}, set(), set(), {}, {}
         for path in sorted(glob.glob("crates/*/src/**/*.rt", recursive=True)):
             crate = path.split("/")[1]
             for trait, owner, name, clauses, test in functions_in(path):
                 if test:
                     self.tests.add(f"{crate}::{name}")
+                    self.files.add(f"{crate}/{os.path.basename(path)[:-len('.rt')]}")
                 key = f"{crate}::{owner}::{name}" if owner else f"{crate}::{name}"
                 self.functions.setdefault(key, []).append((trait, name, clauses))
                 if owner and not trait:
@@ -105,8 +106,8 @@ class Source:
         return first in clauses and set(rest) <= self.fields(clauses[first]) | {""}
 
     def has_test(self, name):
-        """A test, or a crate: all its tests, or the stored run of a program."""
-        return name in self.tests or "::" not in name \
+        """A test; a file, which means its tests; or a crate: all its tests, or the stored run of a program."""
+        return name in self.tests or name in self.files or "::" not in name \
             and (any(test.startswith(f"{name}::") for test in self.tests) or os.path.isfile(f"crates/{name}/stdin"))
 
 

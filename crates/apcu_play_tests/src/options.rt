@@ -1,5 +1,5 @@
 //! The words that the program is called with. Their values have tests of their own in
-//! `conf_read_tests`.
+//! `model_tests`.
 
 use crate::runs::{PRINTED, STORE_AND_FETCH, expect_of, whole};
 use apcu_play::Status;

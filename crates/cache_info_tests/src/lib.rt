@@ -1,5 +1,5 @@
-//! Tests of what is told of the cache over words, and of the cache while blocks are held: the
-//! worked cases, and the plain cache as judge.
+//! Tests of what is told of the cache over words, in numbers and as the map of its words, and of
+//! the cache while blocks are held: the worked cases, and the plain cache as judge.
 #![tactic(auto)]
 
 #[cfg(test)]
@@ -10,6 +10,12 @@ mod both;
 mod draws;
 #[cfg(test)]
 mod held;
+#[cfg(test)]
+mod map_held;
+#[cfg(test)]
+mod maps;
+#[cfg(test)]
+mod small;
 #[cfg(test)]
 mod telling;
 #[cfg(test)]

@@ -1,5 +1,5 @@
-//! Tests of the cache over words, and of its counters and entries: the worked cases, and the plain
-//! cache as judge.
+//! Tests of the cache over words, of its counters and entries, of iterators over it and of the
+//! marks of journals that are played on it: the worked cases, and the plain cache as judge.
 #![tactic(auto)]
 
 #[cfg(test)]
@@ -8,6 +8,20 @@ mod calls;
 mod counting;
 #[cfg(test)]
 mod draws;
+#[cfg(test)]
+mod iterators;
+#[cfg(test)]
+mod mark_both;
+#[cfg(test)]
+mod mark_draws;
+#[cfg(test)]
+mod mark_held;
+#[cfg(test)]
+mod mark_random;
+#[cfg(test)]
+mod mark_requests;
+#[cfg(test)]
+mod marks;
 #[cfg(test)]
 mod pair;
 #[cfg(test)]

@@ -35,13 +35,13 @@ pub(crate) enum Asked {
     Totals(Search, List),
 }
 
-fn is_value(alloc: Global, text: &[u8], value: &Graph) -> Result<bool, Fail> {
+pub(crate) fn is_value(alloc: Global, text: &[u8], value: &Graph) -> Result<bool, Fail> {
     let mut from = Cursor::new(text);
     let expected = read_value(alloc, &mut from)?;
     Ok(expected.same(value))
 }
 
-fn are_keys(expected: &[&[u8]], keys: &Keys) -> bool {
+pub(crate) fn are_keys(expected: &[&[u8]], keys: &Keys) -> bool {
     if keys.len() as usize != expected.len() {
         return false;
     }
@@ -53,7 +53,11 @@ fn are_keys(expected: &[&[u8]], keys: &Keys) -> bool {
     true
 }
 
-fn are_pairs(alloc: Global, expected: &[(&[u8], &[u8])], pairs: &Pairs) -> Result<bool, Fail> {
+pub(crate) fn are_pairs(
+    alloc: Global,
+    expected: &[(&[u8], &[u8])],
+    pairs: &Pairs,
+) -> Result<bool, Fail> {
     if pairs.len() as usize != expected.len() {
         return Ok(false);
     }
@@ -93,7 +97,7 @@ fn is_generator(
     }
 }
 
-fn is_search(expected: Search, search: &Option<Pattern>) -> bool {
+pub(crate) fn is_search(expected: Search, search: &Option<Pattern>) -> bool {
     match (expected, search) {
         (None, None) => true,
         (Some((text, fold)), Some(pattern)) => {

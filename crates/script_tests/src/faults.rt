@@ -5,10 +5,14 @@ use script_read::{ScriptFault, read_scripts};
 use std::alloc::Global;
 use std::process::Abort;
 
-pub(crate) fn refused(rt: &impl Abort, alloc: Global, text: &[u8], place: u64, reason: Reason) {
-    assert!(rt; text.len() < 1000);
-    match read_scripts(alloc, text) {
-        Err(
+pub(crate) fn expect_fault(
+    rt: &impl Abort,
+    fault: Option<ScriptFault>,
+    place: u64,
+    reason: Reason,
+) {
+    match fault {
+        Some(
             ScriptFault::Bad {
                 place: at,
                 reason: why,
@@ -19,6 +23,11 @@ pub(crate) fn refused(rt: &impl Abort, alloc: Global, text: &[u8], place: u64, r
         }
         _ => assert!(rt; false),
     }
+}
+
+pub(crate) fn refused(rt: &impl Abort, alloc: Global, text: &[u8], place: u64, reason: Reason) {
+    assert!(rt; text.len() < 1000);
+    expect_fault(rt, read_scripts(alloc, text).err(), place, reason);
 }
 
 // A text, the place of its first fault, and the reason.

@@ -1,5 +1,10 @@
+//! The laws of plays, walks, counters, generated scripts, bundles and pools are called.
+
 use generated_laws::{counters_count, generated_wishes, looks_come_last, summaries_agree};
 use play_laws::{histories_are_plays, one_event_own};
+use pool_laws::{calls_are_tied, calls_stand_alone, pools_in_plays, pools_stand_alone};
+use preload_set::{bundles_load, loaders_only_store, readings_are_bundles};
+use simple_pool::keys_tell_pools_apart;
 use walk_laws::{calls_are_walks, steps_of_walks, walks_give_once, walks_in_histories};
 
 #[test]
@@ -14,4 +19,20 @@ fn states_its_laws() {
     generated_wishes();
     summaries_agree();
     looks_come_last();
+}
+
+#[test]
+fn preload_set_states_its_laws() {
+    readings_are_bundles();
+    loaders_only_store();
+    bundles_load();
+}
+
+#[test]
+fn pool_states_its_laws() {
+    pools_stand_alone();
+    calls_stand_alone();
+    calls_are_tied();
+    pools_in_plays();
+    keys_tell_pools_apart();
 }

@@ -1,0 +1,59 @@
+//! A play whose events meet nobody, and the plain cache, of which the same is asked.
+
+use crate::mark_requests::{Act, request_of};
+use crate::marks::{Event, Table};
+use apcu_model::{Conf, Plain, Reply};
+use std::alloc::Global;
+use std::process::Abort;
+use std::test::Fail;
+
+// Whether two answers are the same.
+fn is_same(one: &Reply, other: &Reply) -> bool {
+    match (one, other) {
+        (Reply::Flag(a), Reply::Flag(b)) => *a == *b,
+        (Reply::Found(a), Reply::Found(b)) => a.same(b),
+        (Reply::Gave(a), Reply::Gave(b)) => a.same(b),
+        (Reply::Info(a), Reply::Info(b)) => a.same(b),
+        (Reply::Number(a), Reply::Number(b)) => *a == *b,
+        (Reply::Absent, Reply::Absent) => true,
+        (Reply::NoNumber, Reply::NoNumber) => true,
+        (Reply::Ended, Reply::Ended) => true,
+        _ => false,
+    }
+}
+
+#[derive(Drop)]
+pub(crate) struct Both {
+    alloc: Global,
+    table: Table,
+    plain: Plain,
+}
+
+impl Both {
+    // Caches of this shape, which is a good one.
+    pub(crate) fn new(rt: &impl Abort, alloc: Global, conf: &Conf) -> Result<Both, Fail> {
+        assert!(rt; conf.good());
+        Ok(Both {
+            alloc,
+            table: Table::new(rt, alloc, conf)?,
+            plain: Plain::new(alloc, conf),
+        })
+    }
+
+    // Both are asked under a key at a moment. They answer the same.
+    pub(crate) fn ask(
+        &mut self,
+        rt: &impl Abort,
+        worker: u32,
+        name: u8,
+        act: Act,
+        t: u64,
+    ) -> Result<(), Fail> {
+        let request = request_of(rt, self.alloc, name, act)?;
+        let event = Event { worker, mask: 0, t };
+        let reply = self.table.ask(rt, event, &request)?;
+        let wanted = self.plain.ask(&request, t)?;
+        assert!(rt; is_same(&reply, &wanted));
+        Ok(())
+    }
+}

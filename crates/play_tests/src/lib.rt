@@ -1,0 +1,16 @@
+//! Tests of plays and of verdicts on them: a worker alone, one beside another, and the gate that
+//! both pass; and outputs, judged by `run_verify`.
+#![tactic(auto)]
+
+#[cfg(test)]
+mod alone;
+#[cfg(test)]
+mod beside;
+#[cfg(test)]
+mod gates;
+#[cfg(test)]
+mod outputs;
+#[cfg(test)]
+mod playing;
+#[cfg(test)]
+mod verdicts;
