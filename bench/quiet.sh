@@ -1,6 +1,7 @@
 # Figures that are kept only where the machine is quiet; scripts of bench/ read this file. A script sets `scratch`, a
 # folder of its own, before it measures, and calls `tell_of_quiet` at its end. NOISY=1 in the environment measures
-# without a test, which tries a script alone, and QUIET_SECONDS=N waits so long in all for a machine that is not quiet.
+# without a test, which tries a script alone, QUIET_SECONDS=N waits so long in all for a machine that is not quiet, and
+# ROUNDS=N measures each figure in so many rounds.
 shopt -s inherit_errexit
 
 # Rounds of which each figure is the least.
