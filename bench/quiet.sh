@@ -72,7 +72,8 @@ measured() {
     found=$(awk '
         { for (i = 1; i <= NF; i++) if ($i != "-" && (!(i in least) || $i + 0 < least[i] + 0)) least[i] = $i }
         NF > most { most = NF }
-        END { for (i = 1; i <= most; i++) printf "%s%s", (i > 1 ? " " : ""), (i in least ? least[i] : "-") }' "$scratch/kept")
+        END { for (i = 1; i <= most; i++) printf "%s%s", (i > 1 ? " " : ""), (i in least ? least[i] : "-") }' \
+        "$scratch/kept")
     found=${found:--}
 }
 
@@ -81,7 +82,8 @@ tell_of_quiet() {
     if [ -n "${NOISY:-}" ]; then
         echo "No test was made whether the machine is quiet: these are no figures."
     elif [ -n "$is_lacking" ]; then
-        echo "The machine was not quiet for ${QUIET_SECONDS:-300} seconds in all: - is a figure for which it was not, and others can be of fewer rounds."
+        echo "In ${QUIET_SECONDS:-300} seconds of waiting the machine was not quiet: - is a figure of no round," \
+            "and others can be of fewer rounds."
     else
         echo "The machine was quiet before and after each round."
     fi

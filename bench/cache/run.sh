@@ -13,11 +13,10 @@
 # Usage: bench/cache/run.sh [PROGRAM [RUNS [ROWS..]]], where PROGRAM is the built apcu_bench. SEGMENTS=N in the
 # environment cuts our words into so many segments, and DIVIDE=N makes so many times fewer rows, which tries the script
 # alone.
-set -eu
+set -eu -o pipefail
 here=$(cd "$(dirname "${BASH_SOURCE[0]}")" && pwd)
 program=${1:-$here/../../crates/apcu_bench/out/apcu_bench}
 runs=${2:-3}
-segments=${SEGMENTS:-1}
 shift $(($# < 2 ? $# : 2))
 sizes=${*:-1000 100000 1000000}
 scratch=$(mktemp -d)
@@ -30,7 +29,7 @@ if php_has apcu; then php=php; fi
 
 # One round of this work over so many rows or slots, each line with its side before it.
 both() {
-    "$program" cache "$1" "$2" "$segments" | sed 's/^/ours /'
+    cache_lines ours "$program" "$1" "$2"
     if [ -n "$php" ]; then cache_work_php "$@" | sed 's/^/php /'; fi
 }
 
@@ -55,7 +54,8 @@ table() {
                 name = names[i]
                 if (name == base) continue
                 if (("php", name) in best)
-                    printf "%-18s %7.2f %9.*f %9.*f\n", name, cost("ours", name) / cost("php", name), places, cost("ours", name), places, cost("php", name)
+                    printf "%-18s %7.2f %9.*f %9.*f\n", name, cost("ours", name) / cost("php", name),
+                        places, cost("ours", name), places, cost("php", name)
                 else
                     printf "%-18s %7s %9.*f\n", name, "-", places, cost("ours", name)
             }

@@ -10,12 +10,12 @@ generated_took() {
     echo $(($(now) - begin))
 }
 
-# Nanoseconds a call, less what a run of no calls takes.
+# Nanoseconds a call of a run, and what of them a run of no calls takes.
 generated_run() {
     local none some
     none=$(generated_took "$1" "$2" 0)
     some=$(generated_took "$1" "$2" "$3")
-    awk -v none="$none" -v some="$some" -v n=$(($2 * $3)) 'BEGIN { printf "%.1f\n", (some - none) / n }'
+    awk -v none="$none" -v some="$some" -v n=$(($2 * $3)) 'BEGIN { printf "%.1f %.1f\n", some / n, none / n }'
 }
 
 # Nanoseconds a call of PHP's loop; its counters stand in "$scratch/php".

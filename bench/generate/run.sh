@@ -35,9 +35,11 @@ echo "$calls calls of each worker"
 printf '%7s %7s %12s %12s\n' workers ratio run_ns/call php_ns/call
 for workers in 1 2 4; do
     measured "$workers" both "$workers"
-    echo "$found -" | awk -v workers="$workers" '{
-        ratio = $1 == "-" || $2 == "-" ? "-" : sprintf("%.2f", $1 / $2)
-        printf "%7d %7s %12s %12s\n", workers, ratio, $1, $2
+    echo "$found" | awk -v workers="$workers" '{
+        run = $1 == "-" ? "-" : sprintf("%.1f", $1 - $2)
+        php = $1 == "-" ? "-" : $3
+        ratio = php == "-" ? "-" : sprintf("%.2f", run / php)
+        printf "%7d %7s %12s %12s\n", workers, ratio, run, php
     }'
 done
 

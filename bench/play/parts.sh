@@ -1,5 +1,5 @@
-# What scripts take, ours and PHP's calls; run.sh and goals.sh read this file. They set `scratch`, a folder of their own,
-# and read quiet.sh before.
+# What scripts take, ours and PHP's calls; run.sh and goals.sh read this file. They set `scratch`, a folder of their
+# own, and read quiet.sh before.
 . "$(dirname "${BASH_SOURCE[0]}")/scripts.sh"
 
 # Microseconds of a program on a script.
@@ -17,5 +17,6 @@ both_took() {
 
 # Microseconds of PHP's loop: its kind, the workers, the calls of each, and for texts their bytes and stores.
 played_php() {
-    php -d apc.enable_cli=1 -d apc.shm_size=32M "$(dirname "${BASH_SOURCE[0]}")/apcu.php" "$1" "$2" "$3" "${4:-0}" "${5:-0}"
+    php -d apc.enable_cli=1 -d apc.shm_size=32M "$(dirname "${BASH_SOURCE[0]}")/apcu.php" \
+        "$1" "$2" "$3" "${4:-0}" "${5:-0}"
 }
