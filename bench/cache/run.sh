@@ -9,78 +9,63 @@
 # dropping 100,000 rows that fill a cache: by a clear, and by a store that finds no room while all rows' time is over;
 # and of telling of 10,000 rows, of which each tenth left a gap. At last microseconds of a store of a new row, with a
 # text of 16 to 2,000 bytes, in 32 MB of which four fifths are taken: the median, that of each hundredth and thousandth,
-# and the worst.
+# and the worst. A round is kept only where the machine is quiet (quiet.sh).
 # Usage: bench/cache/run.sh [PROGRAM [RUNS [ROWS..]]], where PROGRAM is the built apcu_bench. SEGMENTS=N in the
-# environment cuts our words into so many segments.
-set -eu
+# environment cuts our words into so many segments, and DIVIDE=N makes so many times fewer rows, which tries the script
+# alone.
+set -eu -o pipefail
 here=$(cd "$(dirname "${BASH_SOURCE[0]}")" && pwd)
 program=${1:-$here/../../crates/apcu_bench/out/apcu_bench}
 runs=${2:-3}
-segments=${SEGMENTS:-1}
 shift $(($# < 2 ? $# : 2))
 sizes=${*:-1000 100000 1000000}
 scratch=$(mktemp -d)
 trap 'rm -rf "$scratch"' EXIT
+. "$here/../quiet.sh"
+. "$here/parts.sh"
+divide=${DIVIDE:-1}
 php=
-if command -v php >/dev/null && php -m | grep -qx apcu; then php=php; fi
+if php_has apcu; then php=php; fi
 
-# PHP on a segment of so many megabytes and as many slots as rows.
-in_php() {
-    local size=$1 rows=$2
-    shift 2
-    php -d apc.enable_cli=1 -d apc.shm_size="${size}M" -d apc.entries_hint="$rows" -d apc.ttl=3600 "$here/apcu.php" "$@"
+# One round of this work over so many rows or slots, each line with its side before it.
+both() {
+    cache_lines ours "$program" "$1" "$2"
+    if [ -n "$php" ]; then cache_work_php "$@" | sed 's/^/php /'; fi
 }
 
-# The table of what both printed: name, least time, and ratio.
+# The table of rounds of this work: its heading, its unit's name and picoseconds, a line to take from the others or
+# nothing, and what `both` is told. It has name, least times, and their ratio.
 table() {
-    awk -v base="$1" -v unit="$2" '
-        { file = FILENAME ~ /ours$/ ? "ours" : "php" }
-        $1 == "rows" { next }
-        !((file, $1) in best) || $2 < best[file, $1] { best[file, $1] = $2 }
-        file == "ours" && !($1 in seen) { seen[$1]; names[++count] = $1 }
-        function cost(file, name) {
-            return (best[file, name] - (base == "" ? 0 : best[file, base])) / unit
+    local heading=$1 unit=$2 picoseconds=$3 base=$4
+    shift 4
+    keep_rounds "$runs" 1 both "$@"
+    printf '\n%-18s %7s %9s %9s\n' "$heading" ratio "$unit" php
+    awk -v base="$base" -v unit="$picoseconds" '
+        $2 == "rows" { next }
+        !(($1, $2) in best) || $3 < best[$1, $2] { best[$1, $2] = $3 }
+        $1 == "ours" && !($2 in seen) { seen[$2]; names[++count] = $2 }
+        function cost(side, name) {
+            return (best[side, name] - (base == "" ? 0 : best[side, base])) / unit
         }
         END {
             places = base == "" ? 3 : 1
+            if (!count) print "-"
             for (i = 1; i <= count; i++) {
                 name = names[i]
                 if (name == base) continue
                 if (("php", name) in best)
-                    printf "%-18s %9.*f %9.*f %7.2f\n", name, places, cost("ours", name), places, cost("php", name), cost("ours", name) / cost("php", name)
+                    printf "%-18s %7.2f %9.*f %9.*f\n", name, cost("ours", name) / cost("php", name),
+                        places, cost("ours", name), places, cost("php", name)
                 else
-                    printf "%-18s %9.*f\n", name, places, cost("ours", name)
+                    printf "%-18s %7s %9.*f\n", name, "-", places, cost("ours", name)
             }
-        }' "$scratch/ours" "$scratch/php"
+        }' "$scratch/kept"
 }
 
-for rows in $sizes; do
-    : >"$scratch/ours" && : >"$scratch/php"
-    for _ in $(seq "$runs"); do
-        "$program" cache calls "$rows" "$segments" >>"$scratch/ours"
-        if [ -n "$php" ]; then in_php $((64 + rows / 2000)) "$rows" "$rows" >>"$scratch/php"; fi
-    done
-    printf '\n%-18s %9s %9s %7s\n' "$rows rows" ns php ratio
-    table nothing 1000
-done
-
+for rows in $sizes; do table "$((rows / divide)) rows" ns 1000 nothing calls $((rows / divide)); done
 for work in "clear 100000" "info 10000"; do
     read -r what rows <<<"$work"
-    : >"$scratch/ours" && : >"$scratch/php"
-    for _ in $(seq "$runs"); do
-        "$program" cache "$what" "$rows" "$segments" >>"$scratch/ours"
-        if [ -n "$php" ]; then in_php 64 "$rows" "$what" "$rows" >>"$scratch/php"; fi
-    done
-    printf '\n%-18s %9s %9s %7s\n' "$rows rows" ms php ratio
-    table "" 1e9
+    table "$((rows / divide)) rows" ms 1e9 "" "$what" $((rows / divide))
 done
-
-: >"$scratch/ours" && : >"$scratch/php"
-for _ in $(seq "$runs"); do
-    "$program" cache churn 65536 "$segments" >>"$scratch/ours"
-    if [ -n "$php" ]; then
-        php -d apc.enable_cli=1 -d apc.shm_size=32M -d apc.entries_hint=65536 -d apc.ttl=3600 "$here/churn.php" 100000 >>"$scratch/php"
-    fi
-done
-printf '\n%-18s %9s %9s %7s\n' "stores at 80 %" us php ratio
-table "" 1e6
+table 'stores at 80 %' us 1e6 "" churn 65536 $((100000 / divide))
+tell_of_quiet

@@ -1,5 +1,5 @@
 <?php
-// What `run.sh` plays, with PHP's APCu in forked processes that share one segment.
+// What `run.sh` plays, with PHP's APCu in forked processes that share one segment. Prints the microseconds of all calls.
 // Usage: apcu.php apart|one|counter|text WORKERS CALLS BYTES EVERY
 [, $kind, $workers, $calls, $bytes, $every] = $argv;
 $texts = [str_repeat('x', (int) $bytes), str_repeat('y', (int) $bytes), str_repeat('z', (int) $bytes)];
@@ -36,5 +36,4 @@ for ($w = 0; $w < $workers; $w++) {
 for ($w = 0; $w < $workers; $w++) {
     pcntl_wait($status);
 }
-$spent = (hrtime(true) - $begin) / 1e9;
-echo $kind === 'text' ? sprintf('%.2f', $spent / $calls * 1e6) : (int) ($workers * $calls / $spent);
+printf("%.1f\n", (hrtime(true) - $begin) / 1e3);

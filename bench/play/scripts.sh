@@ -46,6 +46,14 @@ texts() {
         }'
 }
 
+# Writes two scripts of one worker to "$scratch": `script` with so many stores of texts of so many bytes, of which each
+# changes all of its words, and `idle` with as many lines that are read and find the row, so that they store nothing.
+stores() {
+    texts 1 "$1" "$2" 1 >"$scratch/script"
+    # The row itself is stored by the second line.
+    sed '3,$s/^apcu_store/apcu_add/' "$scratch/script" >"$scratch/idle"
+}
+
 # A script of the calls of one worker of a generated run: so many, with the program's own numbers from this seed. Half of
 # them fetch a text of 0 to 199 bytes, a quarter stores one, a quarter counts.
 generated() {

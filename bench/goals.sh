@@ -1,0 +1,158 @@
+#!/usr/bin/env bash
+# What the speed of this cache is to be, beside PHP's APCu in the same run, as one table with the ratio (ours / PHP's)
+# first: generated runs of one and of four workers, and of 64 beside four; a million calls from a script to its output,
+# beside PHP's loop; fetches that are printed whole; stores of texts that change, without what as many lines take that
+# are read and find the row; stores of new rows where four fifths of 32 MB are taken, over words in memory and without a
+# lock on our side; a limited cache_info and key_info, likewise. A goal stands on the ratio or on our own figure, and a
+# store of texts has none: each changed word of it is one locked instruction. How each figure is measured is told in
+# generate/run.sh, play/run.sh and cache/run.sh, which have these parts in common with this script. Each time is the
+# least of three rounds, in each of which ours and PHP's are measured in turn, and which is kept only where the machine
+# is quiet before and after (quiet.sh).
+# Usage: bench/goals.sh PROGRAM BENCH, where PROGRAM is the built apcu_run and BENCH the built apcu_bench; it needs php
+# with apcu and pcntl. BEFORE=PROGRAM and BEFORE_BENCH=BENCH in the environment are measured in turn with them, as a
+# column, and DIVIDE=N makes so many times fewer calls, which tries the script alone. It takes a few minutes, and up to
+# five more where it waits for a quiet machine.
+set -eu -o pipefail
+here=$(cd "$(dirname "${BASH_SOURCE[0]}")" && pwd)
+[ $# = 2 ] || { echo "usage: $0 PROGRAM BENCH" >&2; exit 1; }
+program=$1
+bench=$2
+divide=${DIVIDE:-1}
+scratch=$(mktemp -d)
+trap 'rm -rf "$scratch"' EXIT
+# The large pages that the wrapper asks for.
+export GLIBC_TUNABLES=glibc.malloc.hugetlb=1
+. "$here/quiet.sh"
+. "$here/generate/parts.sh"
+. "$here/play/parts.sh"
+. "$here/cache/parts.sh"
+php_has apcu pcntl || { echo "$0: php with apcu and pcntl is not there" >&2; exit 1; }
+for each in "$program" "$bench" ${BEFORE:+"$BEFORE"} ${BEFORE_BENCH:+"$BEFORE_BENCH"}; do
+    [ -x "$each" ] || { echo "$0: no program: $each" >&2; exit 1; }
+done
+
+# So many calls, or the part of them that is wanted.
+part() { echo $((($1 + divide - 1) / divide)); }
+
+# What is measured in turn: of our program, of the one before, and of PHP, each as many numbers. They are pairs, of
+# which the second is what does not belong to the first.
+in_turn() {
+    local of_ours=$1 of_php=$2 ours before beside
+    shift 2
+    ours=$("$of_ours" "$program" "$@")
+    before=$(sed 's/[^ ][^ ]*/-/g' <<<"$ours")
+    if [ -n "${BEFORE:-}" ]; then before=$("$of_ours" "$BEFORE" "$@"); fi
+    beside=$("$of_php" "$@")
+    echo "$ours $before $beside"
+}
+
+# The same of generated runs, whose last ones count alike.
+generated_in_turn() {
+    in_turn "$@"
+    check_counters 'generated runs'
+}
+
+# Writes a row of the table: what was measured, its unit and places, its goal (`ratio N`, `ours N`, or `none`), and the
+# figures of us, before and of PHP.
+row() { printf '%s|' "$@" >>"$scratch/rows" && echo >>"$scratch/rows"; }
+
+# Of the pairs in `found` number K of us, before and of PHP: the first less the second, divided by a number.
+figures() {
+    awk -v k="$1" -v unit="${2:-1}" '{
+        for (i = 0; i < 3; i++) {
+            first = i * NF / 3 + 2 * k - 1
+            told = NF > 1 && $first != "-"
+            printf "%s%s", (i ? "|" : ""), (told ? sprintf("%.6g", ($first - $(first + 1)) / unit) : "-")
+        }
+    }' <<<"$found"
+}
+
+say() { echo "$1 .." >&2; }
+
+say 'generated runs'
+loop_php() { echo "$(generated_php "$@") 0"; }
+measured 1 generated_in_turn generated_run loop_php 1 "$(part 1000000)"
+row 'a call of one generated worker' ns 0 'ratio 0.75' "$(figures 1)"
+
+# Four workers, and 64.
+four_and_64() { echo "$(generated_run "$1" 4 "$(part 1000000)") $(generated_run "$1" 64 "$(part 65000)")"; }
+four_and_64_php() { echo "$(loop_php 4 "$(part 1000000)") $(loop_php 64 "$(part 65000)")"; }
+measured 4 generated_in_turn four_and_64 four_and_64_php
+row 'a call of four generated workers' ns 0 'ratio 0.6' "$(figures 1)"
+row 'a call of 64 generated workers' ns 0 none "$(figures 2)"
+row '64 workers / four workers' times 2 'ours 1.2' "$(awk -F'|' '
+    NR == FNR { split($0, four); next }
+    {
+        for (i = 1; i <= 3; i++)
+            printf "%s%s", (i > 1 ? "|" : ""), (four[i] == "-" || $i == "-" ? "-" : $i / four[i])
+    }' \
+    <(figures 1) <(figures 2))"
+
+say 'a million calls'
+generated "$generated_seed" "$(part 1000000)" >"$scratch/script"
+million() { echo "$(script_took "$1" "$scratch/script") 0"; }
+# In microseconds.
+million_php() { generated_php 1 "$(part 1000000)" | awk -v n="$(part 1000000)" '{ printf "%.1f 0\n", $1 * n / 1000 }'; }
+measured 1 in_turn million million_php
+row 'a million calls, script to output (goal: 0.30 where PHP takes 0.5)' s 2 'ratio 0.6' "$(figures 1 1e6)"
+
+say 'texts'
+for line in '10 KB 10000 5000 2' '64 KB 65536 800 12' '1 MB 1000000 50 350'; do
+    read -r size unit bytes calls most <<<"$line"
+    calls=$(part "$calls")
+    texts 1 "$calls" "$bytes" 0 >"$scratch/script"
+    texts 1 0 "$bytes" 0 >"$scratch/idle"
+    fetches_php() { echo "$(played_php text 1 "$calls" "$bytes" 0) 0"; }
+    measured 1 in_turn both_took fetches_php
+    row "a fetch of $size $unit, printed" us 2 "ours $most" "$(figures 1 "$calls")"
+done
+for line in '10 KB 10000 4000' '64 KB 65536 600' '1 MB 1000000 40'; do
+    read -r size unit bytes calls <<<"$line"
+    calls=$(part "$calls")
+    stores "$calls" "$bytes"
+    stores_php() { echo "$(played_php text 1 "$calls" "$bytes" 1) 0"; }
+    measured 1 in_turn both_took stores_php
+    row "a store of $size $unit that changes all words" us 2 none "$(figures 1 "$calls")"
+done
+
+# One round of this work over so many rows or slots, each line with its side before it.
+cache_round() {
+    cache_lines ours "$bench" "$1" "$2"
+    if [ -n "${BEFORE_BENCH:-}" ]; then cache_lines before "$BEFORE_BENCH" "$1" "$2"; fi
+    cache_work_php "$@" | sed 's/^/php /'
+}
+
+# The figures of this name, less those of another one or of none, in so many picoseconds.
+cache_figures() {
+    local side
+    for side in ours before php; do cache_least "$side" "$@" <"$scratch/kept"; done | paste -sd '|'
+}
+
+say 'stores at four fifths'
+keep_rounds "$rounds" 1 cache_round churn 65536 "$(part 100000)"
+row 'a store at four fifths, one in a hundred' us 2 'ours 3' "$(cache_figures p99 '' 1e6)"
+row 'a store at four fifths, the worst' us 0 'ours 100' "$(cache_figures worst '' 1e6)"
+
+say 'what is told'
+keep_rounds "$rounds" 1 cache_round info "$(part 10000)"
+row 'cache_info, limited' us 2 'ratio 1' "$(cache_figures cache_info_limited '' 1e6)"
+keep_rounds "$rounds" 1 cache_round calls 1000
+row 'key_info of one of 1,000 rows' ns 0 'ratio 1' "$(cache_figures key_info nothing 1000)"
+
+echo "$(nproc) processors; PHP $(php -r 'echo PHP_VERSION, " with APCu ", phpversion("apcu");')"
+awk -F'|' '
+    function told(value, places) { return value == "-" ? "-" : sprintf("%.*f", places, value) }
+    BEGIN {
+        format = "%6s  %-7s  %-18s  %8s  %8s  %8s  %-5s  %s\n"
+        printf format, "ratio", "reached", "goal", "ours", "before", "php", "", "of"
+    }
+    {
+        ratio = $5 == "-" || $7 == "-" ? "-" : $5 / $7
+        split($4, goal, " ")
+        value = goal[1] == "ratio" ? ratio : $5
+        reached = goal[1] == "none" ? "-" : value == "-" ? "?" : value + 0 <= goal[2] + 0 ? "yes" : "no"
+        if (noisy && reached != "-") reached = "?"
+        wanted = goal[1] == "none" ? "none" : goal[1] " at most " goal[2]
+        printf format, told(ratio, 2), reached, wanted, told($5, $3), told($6, $3), told($7, $3), $2, $1
+    }' noisy="${NOISY:-}" "$scratch/rows"
+tell_of_quiet
