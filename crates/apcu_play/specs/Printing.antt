@@ -1,12 +1,13 @@
 -- What is printed of a play.
-use Rattle.std.specs.Prelude.{◌≡◌, ℕ, Bool, true, false, List, ◌++◌, Option}
+use Rattle.std.specs.Prelude.{◌≡◌, ℕ, Bool, List, ◌++◌, Option, Some, None}
 use Rattle.apcu_model.specs.declared.conf.Clock.{Clock}
 use Rattle.apcu_model.specs.declared.conf.Conf.{Conf}
 use Rattle.apcu_model.specs.declared.journal.Mark.{Mark}
-use Rattle.apcu_model.specs.Cache.{Cache}
+use Rattle.cache_core.specs.Caching.{cache_of}
 use Rattle.script_read.specs.declared.script.Step.{Step}
 use Rattle.script_read.specs.Clock.{all_timed}
 use Rattle.script_read.specs.Play.{IsLegal, IsCompletePlay}
+use Rattle.crew_play.specs.declared.play.Left.{Left}
 use Rattle.reply_text.specs.Output.{journal_lines}
 use Rattle.seg_report.specs.Lines.{map_text}
 use Rattle.run_verify.specs.declared.verifying.Verdict.{Verdict}
@@ -14,10 +15,10 @@ use Rattle.run_verify.specs.Verdicts.{verdict_of}
 use Rattle.apcu_play.specs.declared.status.Status.{Status}
 use Rattle.apcu_play.specs.Tasks.{LoadsFirst, played_text, verdict_text, ending_for}
 
--- what stands behind the workers' lines: the journal's, and the map of this cache where it is wanted
-abbrev pub rest_of : Bool → List Mark → Cache → List ℕ
-rest_of false marks cache = journal_lines marks
-rest_of true marks cache = journal_lines marks ++ map_text cache
+-- what stands behind the workers' lines: the journal's, and the map of the cache where one is left
+abbrev pub rest_of : List Mark → Option Left → List ℕ
+rest_of marks None = journal_lines marks
+rest_of marks (Some left) = journal_lines marks ++ map_text (cache_of left.core)
 
 -- This is printed of some journal of the crew that is legal and complete, with a loader first where
 -- a bundle is loaded, and with a map behind it or without.

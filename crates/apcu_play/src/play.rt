@@ -3,7 +3,7 @@
 ghost use Rattle.std.specs.Prelude.{◌≡◌, ◌≢◌, ◌<◌, ◌≤◌, ◌++◌, length, IfOk, IfErr, IfSome, OnOk};
 ghost use Rattle.seg_words.specs.contracts.vec_words.VecWordsWordsIn.TheImpl as held;
 ghost use Rattle.apcu_model.specs.Conf.{IsGood};
-ghost use Rattle.cache_core.specs.Caching.{cache_of, CacheStands};
+ghost use Rattle.cache_core.specs.Caching.{CacheStands};
 ghost use Rattle.script_read.specs.Budgets.{all_events, most_events};
 ghost use Rattle.script_read.specs.Patterns.{SomeRefusable};
 ghost use Rattle.crew_play.specs.declared.play.CrewFault.TheVariants.{TooMany, Pattern};
@@ -17,7 +17,7 @@ use crate::status::Status;
 use crate::summary::write_summary;
 use apcu_iter::Maker;
 use apcu_model::{Clock, Conf};
-use crew_play::{CrewFault, Played, play_generated, play_loaded, play_scripts};
+use crew_play::{CrewFault, Left, Played, play_generated, play_loaded, play_scripts};
 use io_edges::Gate;
 use notation::ByteOut;
 use script_read::Scripts;
@@ -37,24 +37,28 @@ pub(crate) struct Printed {
     pub(crate) ends: Status,
 }
 
-// What is printed of scripts that were played, with a map of the cache that is left or without.
-fn printed_of(alloc: Global, played: Played, map: bool) -> Result<Printed, AllocError>
-    requires stand { CacheStands held.ghosts played.core played.words }
+// What is printed of scripts that were played, with a map of the cache where one is left.
+fn printed_of(alloc: Global, played: Played) -> Result<Printed, AllocError>
+    requires stand { IfSome played.left (λ l. CacheStands held.ghosts l.core l.words) }
     ensures texts { IfOk result (λ p. p.texts.items ≡ played.texts.items) }
-    ensures rest { IfOk result (λ p.
-        p.rest ≡ rest_of map played.journal.marks (cache_of played.core)) }
+    ensures rest { IfOk result (λ p. p.rest ≡ rest_of played.journal.marks played.left) }
     ensures ends { IfOk result (λ p. p.ends ≡ Status.Done) }
 {
     let Played {
         journal,
         texts,
         counts: _,
-        mut core,
-        mut words,
+        left,
     } = played;
     let mut rest = ByteOut::new(alloc);
     write_journal(&mut rest, &journal)?;
-    if map {
+    if let Some(
+        Left {
+            mut core,
+            mut words,
+        },
+    ) = left
+    {
         map_text(alloc, &mut core, &mut words, &mut rest)?;
     }
     Ok(Printed {
@@ -93,12 +97,12 @@ pub(crate) fn play<R: Threads + Wait + Sync, M: Maker + Sync, G: Gate + Sync>(
 {
     match preload {
         None => {
-            let played = play_scripts(rt, alloc, conf, scripts, maker, gate, clock)?;
-            Ok(printed_of(alloc, played, map)?)
+            let played = play_scripts(rt, alloc, conf, scripts, maker, gate, clock, map)?;
+            Ok(printed_of(alloc, played)?)
         }
         Some(_) => {
-            let played = play_loaded(rt, alloc, conf, scripts, maker, gate, clock)?;
-            Ok(printed_of(alloc, played, map)?)
+            let played = play_loaded(rt, alloc, conf, scripts, maker, gate, clock, map)?;
+            Ok(printed_of(alloc, played)?)
         }
     }
 }

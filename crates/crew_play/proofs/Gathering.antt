@@ -1,6 +1,6 @@
 -- All workers have ended: their history is a play.
 use Rattle.std.proofs.Common.{◌≡◌, ℕ, zero, suc, ◌+◌, ◌<◌, ◌≤◌, inl, inr, true, false, List, [], ◌∷◌, ◌++◌, length, map, slice_get, Some, refl, sym, ap, ap₂, ◌∙◌, subst, arith, length-append}
-use Rattle.std.specs.Prelude.{◌==◌, Result, Ok}
+use Rattle.std.specs.Prelude.{◌==◌, Result, Ok, Option, None, IfSome}
 use Rattle.std.proofs.lemmas.Option.{slice_get_within}
 use Rattle.std.proofs.lemmas.List.{length-map, nil_from_length}
 use Rattle.std.proofs.lemmas.Bool.{or_left, or_right, or_cases, eqb-true, eq-eqb, false≢true, cases_Bool}
@@ -28,6 +28,7 @@ use Rattle.play_laws.specs.Whole.{IsPlayedOut, replies_from, told_by}
 use Rattle.shared_cache.specs.declared.cabinet.Closed.{Closed}
 use Rattle.shared_cache.specs.Closing.{IsClosed, IsClosedWhole}
 use Rattle.worker_play.specs.declared.script.PlayFault.{PlayFault}
+use Rattle.crew_play.specs.declared.play.Left.{Left}
 use Rattle.crew_play.specs.Crew.{AllEnd}
 use Rattle.crew_play.specs.Played.{IsPlayed, IsLeft}
 use Rattle.crew_play.proofs.Crews.{get-map}
@@ -184,3 +185,11 @@ is_left law laws t conf workers scripts ended texts closed core words count all 
   cache = c.cache;
   stand = c.stand;
 }
+
+-- where one is left
+pub any_left : OthersLaw → PlayLaws → (t : TableId) (conf : Conf) (workers : ℕ) (scripts : List (List Step)) (ended : List Bearer) (texts : List (List ℕ)) (closed : Closed) (left : Option Left) → workers ≡ length scripts
+    → AllEnd t conf scripts (length scripts) ended (map Ok texts) → IfSome left (λ l. IsClosedWhole conf workers ended closed l.core l.words)
+    → IfSome left (λ l. IsLeft conf scripts closed.journal.marks texts closed.counts l.core l.words)
+any_left law laws t conf workers scripts ended texts closed None count all whole = whole
+any_left law laws t conf workers scripts ended texts closed (Some left) count all whole =
+    is_left law laws t conf workers scripts ended texts closed left.core left.words count all whole

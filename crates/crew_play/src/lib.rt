@@ -14,4 +14,4 @@ mod patterns;
 mod play;
 
 pub use generated::{Watched, play_generated};
-pub use play::{CrewFault, Played, play_loaded, play_scripts};
+pub use play::{CrewFault, Left, Played, play_loaded, play_scripts};

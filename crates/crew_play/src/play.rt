@@ -1,14 +1,17 @@
 //! All scripts on one cache.
 
-ghost use Rattle.std.specs.Prelude.{◌≡◌, ◌≢◌, ◌-◌, ◌<◌, ◌≤◌, [], length, map, vec_capacity};
-ghost use Rattle.std.specs.Prelude.{Contains, Ok, Err, IfOk, IfErr};
+ghost use Rattle.std.specs.Prelude.{◌≡◌, ◌≢◌, ℕ, ◌-◌, ◌<◌, ◌≤◌, [], length, map, vec_capacity};
+ghost use Rattle.std.specs.Prelude.{Contains, Ok, Err, IfOk, IfErr, IfSome, is_some, true};
 ghost use Rattle.apcu_model.specs.Conf.{IsGood};
+ghost use Rattle.pin_table.specs.Lists.{AllOf, known_list};
+ghost use Rattle.pin_table.specs.Views.{is_among};
 ghost use Rattle.script_read.specs.Budgets.{budgets_of, all_events, most_events};
 ghost use Rattle.script_read.specs.Clock.{all_timed};
 ghost use Rattle.script_read.specs.Patterns.{SomeRefusable};
 ghost use Rattle.crew_play.specs.Played.{IsPlayed, IsLeft, ComeFirst};
 ghost use Rattle.crew_play.specs.declared.order.Order.TheVariants.{LastFirst};
 ghost use Rattle.crew_play.specs.declared.play.CrewFault.TheVariants.{Memory, TooMany, Pattern};
+ghost use Rattle.shared_cache.specs.Closing.{IsClosed, IsClosedWhole};
 ghost use Rattle.worker_play.specs.declared.script.PlayFault.TheVariants as faults;
 
 use crate::budgets::budgets;
@@ -19,11 +22,11 @@ use apcu_model::{Clock, Conf, Counts, Journal};
 use cache_core::Core;
 use io_edges::Gate;
 use notation::ByteOut;
-use pin_table::TableName;
+use pin_table::{EndedList, TableName};
 use play_laws::{histories_are_plays, one_event_own};
 use script_read::Scripts;
 use seg_words::VecWords;
-use shared_cache::{Closed, Fresh, open_cache};
+use shared_cache::{Closed, Fresh, Shared, open_cache};
 use std::alloc::{AllocError, Global};
 use std::marker::Brand;
 use std::sync::Wait;
@@ -58,7 +61,14 @@ pub struct Played {
     pub texts: Vec<ByteOut>,
     /// What the cache counted.
     pub counts: Counts,
-    /// The cache as it then is.
+    /// The cache as it then is, where it was to be kept.
+    pub left: Option<Left>,
+}
+
+/// A cache that is left when all workers have ended.
+#[derive(Drop)]
+pub struct Left {
+    /// What it keeps beside its words.
     pub core: Core,
     /// The words that stand for it.
     pub words: VecWords,
@@ -89,6 +99,30 @@ fn whole(alloc: Global, texts: Vec<Result<ByteOut, PlayFault>>) -> Result<Vec<By
     Ok(all)
 }
 
+// Closes the cache once all workers have ended. Only where it is to be kept are its words copied,
+// of which there are as many as the cache is large.
+fn close<N: TableName, R: Wait>(
+    rt: &R,
+    shared: Shared<N>,
+    ended: EndedList,
+    keep: bool,
+) -> (Closed, Option<Left>)
+    requires table { AllOf N.table ended.ended }
+    requires every { (w : ℕ) → w < length N.budgets
+        → is_among w (known_list ended.ended) ≡ true }
+    ensures closed { IsClosed N.conf (length N.budgets) ended.ended result.0 }
+    ensures left { IfSome result.1 (λ l.
+        IsClosedWhole N.conf (length N.budgets) ended.ended result.0 l.core l.words) }
+    ensures kept { is_some result.1 ≡ keep }
+{
+    if keep {
+        let (closed, core, words) = shared.close_all(rt, ended);
+        (closed, Some(Left { core, words }))
+    } else {
+        (shared.close(rt, ended), None)
+    }
+}
+
 // Plays the scripts on a cache under a name of its table.
 fn play_named<
     N: TableName + Send + Sync,
@@ -106,6 +140,7 @@ fn play_named<
     gate: &G,
     clock: Clock,
     order: Order,
+    keep: bool,
 ) -> Result<Played, CrewFault>
     requires table { N.table ≡ fresh.table }
     requires conf { N.conf ≡ fresh.conf }
@@ -117,8 +152,9 @@ fn play_named<
     requires some { order ≡ LastFirst → 1 ≤ length scripts.now }
     ensures played { IfOk result (λ p. IsPlayed conf.now (all_timed clock scripts.now)
         p.journal.marks p.texts.items p.counts) }
-    ensures left { IfOk result (λ p. IsLeft conf.now (all_timed clock scripts.now)
-        p.journal.marks p.texts.items p.counts p.core p.words) }
+    ensures left { IfOk result (λ p. IfSome p.left (λ l. IsLeft conf.now
+        (all_timed clock scripts.now) p.journal.marks p.texts.items p.counts l.core l.words)) }
+    ensures kept { IfOk result (λ p. is_some p.left ≡ keep) }
     ensures first { IfOk result (λ p. order ≡ LastFirst
         → ComeFirst (length scripts.now - 1) p.journal.marks) }
     ensures pattern { IfErr result (λ e. e ≡ Pattern
@@ -131,14 +167,13 @@ fn play_named<
     let (ended, texts) = play_all(
         rt, alloc, conf, &shared, passes, ended, texts, scripts, maker, gate, clock, order,
     );
-    let (Closed { journal, counts }, core, words) = shared.close_all(rt, ended);
+    let (Closed { journal, counts }, left) = close::<N, R>(rt, shared, ended, keep);
     let texts = whole(alloc, texts)?;
     Ok(Played {
         journal,
         texts,
         counts,
-        core,
-        words,
+        left,
     })
 }
 
@@ -152,13 +187,15 @@ fn play_opened<M: Maker + Sync, G: Gate + Sync, R: Threads + Wait + Sync>(
     gate: &G,
     clock: Clock,
     order: Order,
+    keep: bool,
 ) -> Result<Played, CrewFault>
     requires good { IsGood conf.now }
     requires some { order ≡ LastFirst → 1 ≤ length scripts.now }
     ensures played { IfOk result (λ p. IsPlayed conf.now (all_timed clock scripts.now)
         p.journal.marks p.texts.items p.counts) }
-    ensures left { IfOk result (λ p. IsLeft conf.now (all_timed clock scripts.now)
-        p.journal.marks p.texts.items p.counts p.core p.words) }
+    ensures left { IfOk result (λ p. IfSome p.left (λ l. IsLeft conf.now
+        (all_timed clock scripts.now) p.journal.marks p.texts.items p.counts l.core l.words)) }
+    ensures kept { IfOk result (λ p. is_some p.left ≡ keep) }
     ensures first { IfOk result (λ p. order ≡ LastFirst
         → ComeFirst (length scripts.now - 1) p.journal.marks) }
     ensures few { IfOk result (λ _. all_events conf.now.slots scripts.now ≤ most_events) }
@@ -174,16 +211,16 @@ fn play_opened<M: Maker + Sync, G: Gate + Sync, R: Threads + Wait + Sync>(
     let texts = Vec::with_capacity(alloc, scripts.len() as usize)?;
     match open_cache(rt, alloc, conf, &budgets) {
         Ok(fresh) => play_named::<Brand, M, G, R>(
-            rt, alloc, conf, fresh, texts, scripts, maker, gate, clock, order,
+            rt, alloc, conf, fresh, texts, scripts, maker, gate, clock, order, keep,
         ),
         Err(_) => Err(CrewFault::Memory),
     }
 }
 
 /// Plays the scripts on a cache of this shape, each worker on a thread of its own, and gives the
-/// journal, the lines of each worker's calls, and the cache that is left. `maker` makes the regexes
-/// of patterns. The gate is told of each call of each worker, of each value that is copied, between
-/// its fetch and its copy, and of each step of an iterator.
+/// journal, the lines of each worker's calls, and with `keep` the cache that is left. `maker` makes
+/// the regexes of patterns. The gate is told of each call of each worker, of each value that is
+/// copied, between its fetch and its copy, and of each step of an iterator.
 ///
 /// `clock` decides what a call's moment is, as PHP's `apc.use_request_time` does: the second at
 /// which it is made, or that at which its request began.
@@ -205,12 +242,14 @@ pub fn play_scripts<M: Maker + Sync, G: Gate + Sync, R: Threads + Wait + Sync>(
     maker: &M,
     gate: &G,
     clock: Clock,
+    keep: bool,
 ) -> Result<Played, CrewFault>
     requires good { IsGood conf.now }
     ensures played { IfOk result (λ p. IsPlayed conf.now (all_timed clock scripts.now)
         p.journal.marks p.texts.items p.counts) }
-    ensures left { IfOk result (λ p. IsLeft conf.now (all_timed clock scripts.now)
-        p.journal.marks p.texts.items p.counts p.core p.words) }
+    ensures left { IfOk result (λ p. IfSome p.left (λ l. IsLeft conf.now
+        (all_timed clock scripts.now) p.journal.marks p.texts.items p.counts l.core l.words)) }
+    ensures kept { IfOk result (λ p. is_some p.left ≡ keep) }
     ensures few { IfOk result (λ _. all_events conf.now.slots scripts.now ≤ most_events) }
     ensures many { IfErr result (λ e. e ≡ TooMany
         → most_events < all_events conf.now.slots scripts.now) }
@@ -228,6 +267,7 @@ pub fn play_scripts<M: Maker + Sync, G: Gate + Sync, R: Threads + Wait + Sync>(
         gate,
         clock,
         Order::Together,
+        keep,
     )
 }
 
@@ -245,13 +285,15 @@ pub fn play_loaded<M: Maker + Sync, G: Gate + Sync, R: Threads + Wait + Sync>(
     maker: &M,
     gate: &G,
     clock: Clock,
+    keep: bool,
 ) -> Result<Played, CrewFault>
     requires good { IsGood conf.now }
     requires some { 1 ≤ length scripts.now }
     ensures played { IfOk result (λ p. IsPlayed conf.now (all_timed clock scripts.now)
         p.journal.marks p.texts.items p.counts) }
-    ensures left { IfOk result (λ p. IsLeft conf.now (all_timed clock scripts.now)
-        p.journal.marks p.texts.items p.counts p.core p.words) }
+    ensures left { IfOk result (λ p. IfSome p.left (λ l. IsLeft conf.now
+        (all_timed clock scripts.now) p.journal.marks p.texts.items p.counts l.core l.words)) }
+    ensures kept { IfOk result (λ p. is_some p.left ≡ keep) }
     ensures first { IfOk result (λ p. ComeFirst (length scripts.now - 1) p.journal.marks) }
     ensures few { IfOk result (λ _. all_events conf.now.slots scripts.now ≤ most_events) }
     ensures many { IfErr result (λ e. e ≡ TooMany
@@ -270,5 +312,6 @@ pub fn play_loaded<M: Maker + Sync, G: Gate + Sync, R: Threads + Wait + Sync>(
         gate,
         clock,
         Order::LastFirst,
+        keep,
     )
 }

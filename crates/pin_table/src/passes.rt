@@ -171,6 +171,26 @@ impl PinTable {
         gather(&self, &mut seat, ended);
         VecWords::from_words(self.dissolve(seat))
     }
+
+    /// Ends the table as `close` does, but without its words: they are dropped where they are, and
+    /// none is copied.
+    pub fn end(self, mut seat: WriterSeat, ended: EndedList)
+        requires table { seat.table ≡ self }
+        requires ended { AllOf self ended.ended }
+        requires hand { seat.desk.book.hand ≡ None }
+        requires every { (w : ℕ) → w < seat.desk.book.made
+            → is_among w (known_list ended.ended) ≡ true }
+        ensures seen { (k : ℕ) (b : Bearer) → slice_get ended.ended k ≡ Some b
+            → IsPrefix b.known.seen seat.desk.book.history }
+        ensures own { (k : ℕ) (b : Bearer) → slice_get ended.ended k ≡ Some b
+            → events_of b.known.worker seat.desk.book.history ≡ b.known.own }
+        ensures made { (k : ℕ) (b : Bearer) → slice_get ended.ended k ≡ Some b
+            → events_of b.known.worker b.known.seen ≡ b.known.own }
+        ensures others { (w : ℕ) → is_among w (known_list ended.ended) ≡ false
+            → events_of w seat.desk.book.history ≡ [] }
+    {
+        gather(&self, &mut seat, ended);
+    }
 }
 
 fn gather(table: &PinTable, seat: &mut WriterSeat, mut ended: EndedList)

@@ -12,7 +12,7 @@ ghost use Rattle.shared_cache.specs.Pinned.{IsFetched};
 ghost use Rattle.shared_cache.specs.Learned.{Learns};
 ghost use Rattle.pin_table.specs.Lists.{AllOf, known_list};
 ghost use Rattle.pin_table.specs.Views.{is_among};
-ghost use Rattle.shared_cache.specs.Closing.{IsClosedWhole};
+ghost use Rattle.shared_cache.specs.Closing.{IsClosed, IsClosedWhole};
 
 use crate::lower::lower_laws;
 use crate::noting::note;
@@ -262,6 +262,25 @@ impl<N: TableName> Cabinet<N> {
         let ended = table.learn(&mut self.seat, ended);
         let w = table.writer(&mut self.seat, pass);
         (w.give_seen(), ended)
+    }
+
+    // The journal and the counts, once every worker has ended. No word is copied.
+    pub(crate) fn close(self, table: PinTable, ended: EndedList) -> Closed
+        requires table { table ≡ N.table }
+        requires ended { AllOf N.table ended.ended }
+        requires every { (w : ℕ) → w < length N.budgets
+            → is_among w (known_list ended.ended) ≡ true }
+        ensures { IsClosed N.conf (length N.budgets) ended.ended result }
+    {
+        let Cabinet {
+            seat,
+            journal,
+            core,
+            of: _,
+        } = self;
+        let counts = core.counts();
+        table.end(seat, ended);
+        Closed { journal, counts }
     }
 
     // The journal and the counts, once every worker has ended, and the cache with its words.

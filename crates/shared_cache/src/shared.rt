@@ -328,15 +328,21 @@ impl<N: TableName> Shared<N> {
     }
 
     /// Gives the journal and the counts, once every worker has ended: `ended` has the end of each,
-    /// in any order, which a caller has to prove. It waits for nobody and takes no memory.
+    /// in any order, which a caller has to prove. It waits for nobody, takes no memory, and copies no
+    /// word of the cache.
     pub fn close<R: Wait>(self, rt: &R, ended: EndedList) -> Closed
         requires table { AllOf N.table ended.ended }
         requires every { (w : ℕ) → w < length N.budgets
             → is_among w (known_list ended.ended) ≡ true }
         ensures { IsClosed N.conf (length N.budgets) ended.ended result }
     {
-        let (closed, _core, _words) = self.close_all(rt, ended);
-        closed
+        let _ = rt;
+        let Shared {
+            alloc: _,
+            table,
+            lock,
+        } = self;
+        lock.into_inner().close(table, ended)
     }
 
     /// Gives the journal and the counts, once every worker has ended, and beside them the cache and
