@@ -1,4 +1,4 @@
-pub mod Blocks
-pub mod Listing
-pub mod Told
-pub mod Used
+pub mod EmptyKeyBlock
+pub mod LiveBlocks
+pub mod UnchangedCache
+pub mod HitRows

@@ -7,7 +7,7 @@ ghost use Rattle.std.specs.Prelude.{◌≡◌, ℕ, false, ◌+◌, ◌*◌, ◌
 ghost use Rattle.seg_words.specs.Windows.{is_named};
 ghost use Rattle.sma_blocks.specs.Live.{live_blocks};
 ghost use Rattle.sma_blocks.specs.Ready.{IsReady};
-ghost use Rattle.apcu_bench.specs.Listed.{AreLive};
+ghost use Rattle.apcu_bench.specs.LivePlaces.{AreLive};
 
 mod churn;
 mod fill;

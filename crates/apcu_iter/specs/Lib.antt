@@ -1,3 +1,3 @@
-pub mod Searching
-pub mod Choosing
-pub mod Adding
+pub mod SearchFaults
+pub mod Choices
+pub mod RowSums

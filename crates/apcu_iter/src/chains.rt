@@ -6,7 +6,7 @@ ghost use Rattle.apcu_model.specs.Cache.{Row};
 ghost use Rattle.entry_slots.specs.Lists.{has_place};
 ghost use Rattle.entry_slots.specs.Entries.{IsListed, chain_of, listed};
 ghost use Rattle.entry_slots.specs.Standing.{Stand, entries};
-ghost use Rattle.apcu_iter.specs.Choosing.{chosen_items};
+ghost use Rattle.apcu_iter.specs.Choices.{chosen_items};
 
 use crate::entry::item_at;
 use crate::row_test::RowTest;

@@ -4,9 +4,9 @@ ghost use Rattle.std.specs.Prelude.{◌≡◌, ◌≤◌, IfOk};
 ghost use Rattle.seg_words.specs.Kept.{Kept};
 ghost use Rattle.apcu_model.specs.Chunks.{chunk_of};
 ghost use Rattle.entry_slots.specs.Standing.{Stand, entries};
-ghost use Rattle.cache_core.specs.Caching.{cache_of, CacheStands};
+ghost use Rattle.cache_core.specs.CoreCache.{cache_of, CacheStands};
 ghost use Rattle.cache_core.specs.Events.{IsUnchanged};
-ghost use Rattle.apcu_iter.specs.Choosing.{uncounted};
+ghost use Rattle.apcu_iter.specs.Choices.{uncounted};
 
 use crate::chains::{list_removed, list_slot};
 use crate::row_test::RowTest;

@@ -10,9 +10,9 @@ ghost use Rattle.entry_slots.specs.Lists.{has_place};
 ghost use Rattle.entry_slots.specs.Entries.{IsListed, chain_of, listed};
 ghost use Rattle.entry_slots.specs.Standing.{Stand, entries};
 ghost use Rattle.ttl_expunge.specs.Lists.{row_places};
-ghost use Rattle.cache_core.specs.Caching.{cache_of};
+ghost use Rattle.cache_core.specs.CoreCache.{cache_of};
 ghost use Rattle.cache_core.specs.Events.{MayDrop, DoesIf};
-ghost use Rattle.apcu_iter.specs.Choosing.{chosen_places, uncounted};
+ghost use Rattle.apcu_iter.specs.Choices.{chosen_places, uncounted};
 
 use crate::entry::head_at;
 use crate::row_test::RowTest;
@@ -25,7 +25,7 @@ use std::alloc::{AllocError, Global};
 use ttl_expunge::{drop_laws, drop_rows};
 
 // The place of the row at a place comes behind the places, if the row is chosen.
-fn note_row<S: Segment>(
+fn collect_row<S: Segment>(
     slots: &EntrySlots,
     seg: &mut S,
     test: &mut RowTest<'_>,
@@ -46,7 +46,7 @@ fn note_row<S: Segment>(
 }
 
 // So for the rows of a slot, by their place in the chain.
-fn note_slot<S: Segment>(
+fn collect_slot<S: Segment>(
     slots: &EntrySlots,
     seg: &mut S,
     test: &mut RowTest<'_>,
@@ -66,14 +66,14 @@ fn note_slot<S: Segment>(
         if at == 0 {
             return Ok(());
         }
-        note_row(slots, seg, test, at, places)?;
+        collect_row(slots, seg, test, at, places)?;
         at = slots.after(seg, at);
     }
     Ok(())
 }
 
 // Where a step over the active rows ends, and the places of its rows.
-fn note_chunk<S: Segment>(
+fn collect_chunk<S: Segment>(
     alloc: Global,
     slots: &EntrySlots,
     seg: &mut S,
@@ -95,7 +95,7 @@ fn note_chunk<S: Segment>(
     let end = slots.slots();
     let mut places = Vec::new(alloc);
     for slot in from..end {
-        note_slot(slots, seg, test, slot, &mut places)?;
+        collect_slot(slots, seg, test, slot, &mut places)?;
         if places.len() >= size as usize {
             return Ok((slot + 1, places));
         }
@@ -131,7 +131,7 @@ pub fn chunk_delete<S: Segment>(
     drop_laws();
     let mut test = search.test(List::Active, t)?;
     let slots = core.slots();
-    let (next, places) = note_chunk(alloc, slots, seg, &mut test, from, size)?;
+    let (next, places) = collect_chunk(alloc, slots, seg, &mut test, from, size)?;
     drop_rows(slots, seg, &places, t);
     Ok(next)
 }

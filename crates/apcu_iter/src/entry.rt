@@ -13,7 +13,7 @@ ghost use Rattle.entry_slots.specs.Lists.{has_place};
 ghost use Rattle.entry_slots.specs.Entries.{IsListed, listed};
 ghost use Rattle.entry_slots.specs.Reading.{HeadIn};
 ghost use Rattle.entry_slots.specs.Standing.{Stand, entries};
-ghost use Rattle.apcu_iter.specs.Choosing.{is_chosen};
+ghost use Rattle.apcu_iter.specs.Choices.{is_chosen};
 
 use crate::row_test::RowTest;
 use apcu_model::{Fields, ItemRow};

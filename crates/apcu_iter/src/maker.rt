@@ -1,9 +1,9 @@
 //! What makes a regex of a pattern.
 
 ghost use Rattle.std.specs.Prelude.{◌≡◌, true, IfOk, IfErr};
-ghost use Rattle.apcu_model.specs.Matching.{FindsAs, is_pattern};
+ghost use Rattle.apcu_model.specs.PatternMatches.{FindsAs, is_pattern};
 ghost use Rattle.regex.specs.Bytes.{regex_pattern};
-ghost use Rattle.apcu_iter.specs.Searching.{IsNoPattern};
+ghost use Rattle.apcu_iter.specs.SearchFaults.{IsNoPattern};
 
 use apcu_model::Pattern;
 use regex::RegexBuilder;

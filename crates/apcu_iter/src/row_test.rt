@@ -3,7 +3,7 @@
 ghost use Rattle.std.specs.Prelude.{◌≡◌, IfOk, is_some};
 ghost use Rattle.regex.specs.Bytes.{matcher_pattern};
 ghost use Rattle.apcu_model.specs.Cache.{Row};
-ghost use Rattle.apcu_model.specs.Matching.{FindsAs, key_matches};
+ghost use Rattle.apcu_model.specs.PatternMatches.{FindsAs, key_matches};
 
 use apcu_model::{List, Pattern};
 use entry_slots::Head;
@@ -30,7 +30,7 @@ pub(crate) struct RowTest<'r> {
 
 impl<'r> Model for RowTest<'r> {
     ghost use Rattle.std.specs.Prelude.{option_map};
-    ghost use Rattle.apcu_iter.specs.Choosing.{Choice};
+    ghost use Rattle.apcu_iter.specs.Choices.{Choice};
 
     ghost Value = { Choice };
 
@@ -42,7 +42,7 @@ impl<'r> Model for RowTest<'r> {
 }
 
 impl<'r> RowTest<'r> {
-    ghost use Rattle.apcu_iter.specs.Choosing.{is_left_out};
+    ghost use Rattle.apcu_iter.specs.Choices.{is_left_out};
 
     // Where keys that are only tested are read to.
     pub(crate) fn alloc(&self) -> Global {
@@ -56,7 +56,7 @@ impl<'r> RowTest<'r> {
         self.live.is_some()
     }
 
-    // Whether a row of which this is noted is left out, since its time is over.
+    // Whether a row with this head is left out, since its time is over.
     pub(crate) fn leaves_out(&self, head: Head) -> bool
         ensures { (row : Row) → head.ttl ≡ row.ttl → head.ctime ≡ row.ctime
             → result ≡ is_left_out self.now row }

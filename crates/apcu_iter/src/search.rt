@@ -3,8 +3,8 @@
 ghost use Rattle.std.specs.Prelude.{◌≡◌, IfOk, IfErr};
 ghost use Rattle.regex.specs.Bytes.{regex_pattern};
 ghost use Rattle.apcu_model.specs.Asking.{pattern_lent};
-ghost use Rattle.apcu_model.specs.Matching.{FindsAs};
-ghost use Rattle.apcu_iter.specs.Searching.{IsNoPattern, OfPattern};
+ghost use Rattle.apcu_model.specs.PatternMatches.{FindsAs};
+ghost use Rattle.apcu_iter.specs.SearchFaults.{IsNoPattern, OfPattern};
 
 use crate::maker::{Maker, SearchFault};
 use crate::row_test::{Live, RowTest};
@@ -76,7 +76,7 @@ fn built<M: Maker>(alloc: Global, maker: &M, pattern: &Pattern) -> Result<Box<Ne
 }
 
 impl Search {
-    ghost use Rattle.apcu_iter.specs.Choosing.{Choice};
+    ghost use Rattle.apcu_iter.specs.Choices.{Choice};
 
     /// A search for the pattern, or without one for every key. It keeps a copy of the pattern, and
     /// the allocator, from which matching takes its memory.

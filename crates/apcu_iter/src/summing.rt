@@ -9,10 +9,10 @@ ghost use Rattle.apcu_model.specs.Chunks.{all_items, totals_of};
 ghost use Rattle.entry_slots.specs.Lists.{has_place};
 ghost use Rattle.entry_slots.specs.Entries.{IsListed, chain_of, listed};
 ghost use Rattle.entry_slots.specs.Standing.{Stand, entries};
-ghost use Rattle.cache_core.specs.Caching.{cache_of, CacheStands};
+ghost use Rattle.cache_core.specs.CoreCache.{cache_of, CacheStands};
 ghost use Rattle.cache_core.specs.Events.{IsUnchanged};
-ghost use Rattle.apcu_iter.specs.Adding.{no_sums, with_rows, sums_of_both};
-ghost use Rattle.apcu_iter.specs.Choosing.{is_chosen, rows_in};
+ghost use Rattle.apcu_iter.specs.RowSums.{no_sums, with_rows, sums_of_both};
+ghost use Rattle.apcu_iter.specs.Choices.{is_chosen, rows_in};
 
 use crate::entry::head_at;
 use crate::row_test::RowTest;
@@ -46,7 +46,7 @@ impl Sums {
         }
     }
 
-    // With one row more, of which this is noted.
+    // With one row more, which has this head.
     fn with(self, head: Head) -> Sums
         ensures { (row : Row) → head.hits ≡ row.hits → head.size ≡ row.size
             → result ≡ with_rows self (row ∷ []) }

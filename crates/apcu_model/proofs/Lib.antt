@@ -1,17 +1,17 @@
-pub mod Alone
-pub mod Apart
-pub mod Counting
-pub mod OneKey
+pub mod ZeroMask
+pub mod RowsApart
+pub mod RoomCounts
+pub mod KeyLookups
 pub mod Scalars
-pub mod Held
+pub mod HeldPlaces
 pub mod Histories
-pub mod Numbering
+pub mod RowNumbers
 pub mod Windows
-pub mod Origins
-mod Tellings
-mod Laying
+pub mod RowOrigins
+mod ToldGraphs
+mod GraphLayout
 mod TableValues
-mod Runs
-mod Listing
+mod ValueRuns
+mod RowsBySlot
 mod Gaps
-pub mod Staying
+pub mod CacheInvariants

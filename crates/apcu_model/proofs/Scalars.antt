@@ -5,7 +5,7 @@ use Rattle.std.specs.Int.{w64}
 use Rattle.php_graph.specs.declared.kind.Kind.TheVariants as kinds
 use Rattle.php_graph.specs.declared.places.Place.{Place}
 use Rattle.php_graph.specs.Graph.{IsGraph, kind_at, end_of, child_end}
-use Rattle.php_graph.specs.Kept.{IsKept, kinds_at, offsets_at}
+use Rattle.php_graph.specs.PlaceOffsets.{IsKept, kinds_at, offsets_at}
 use Rattle.apcu_model.specs.Cache.{Row, has_key}
 use Rattle.apcu_model.specs.Counters.{with_integer, with_integer_at}
 

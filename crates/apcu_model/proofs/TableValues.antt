@@ -14,20 +14,20 @@ use Rattle.php_graph.specs.Numbers.{int_of_text}
 use Rattle.php_graph.specs.Graph.{is_array_key, are_distinct, holds_key, FitsKey}
 use Rattle.seg_words.specs.declared.gaps.Extent.{Extent}
 use Rattle.apcu_model.specs.declared.conf.Conf.{Conf}
-use Rattle.apcu_model.specs.declared.noted.Counts.{Counts}
-use Rattle.apcu_model.specs.declared.noted.Noted.{Noted}
-use Rattle.apcu_model.specs.declared.noted.ListedRow.{ListedRow}
-use Rattle.apcu_model.specs.Infos.{Told, told_number, number_kind, told_string, told_numbered}
-use Rattle.apcu_model.specs.Infos.{told_list, told_array, told_notes, told_row, told_rows, told_gap}
-use Rattle.apcu_model.specs.Infos.{told_counts, told_words, told_gaps, word_bytes}
+use Rattle.apcu_model.specs.declared.row_info.Counts.{Counts}
+use Rattle.apcu_model.specs.declared.row_info.RowInfo.{RowInfo}
+use Rattle.apcu_model.specs.declared.row_info.ListedRow.{ListedRow}
+use Rattle.apcu_model.specs.Infos.{Told, info_number, number_kind, info_string, info_numbered}
+use Rattle.apcu_model.specs.Infos.{info_list, info_array, info_of_key, info_row, info_rows, info_gap}
+use Rattle.apcu_model.specs.Infos.{info_counts, info_words, info_gaps, word_bytes}
 use Rattle.apcu_model.specs.Infos.{note_fields, row_fields, gap_fields}
-use Rattle.apcu_model.specs.Infos.{told_segment, gaps_in}
+use Rattle.apcu_model.specs.Infos.{info_segment, gaps_in}
 use Rattle.apcu_model.specs.Conf.{piece_of}
-use Rattle.apcu_model.proofs.Runs.{segment_few}
+use Rattle.apcu_model.proofs.ValueRuns.{segment_few}
 use Rattle.std.proofs.lemmas.List.FromFn.{length-range_with_len}
 use Rattle.std.specs.List.{range_with_len}
-use Rattle.apcu_model.specs.Telling.{IsTellable}
-use Rattle.apcu_model.proofs.Tellings.{IsValue, AreKeys, single, array, tellable}
+use Rattle.apcu_model.specs.InfoGraphs.{IsTellable}
+use Rattle.apcu_model.proofs.ToldGraphs.{IsValue, AreKeys, single, array, tellable}
 
 -- a value of fewer levels
 deeper : (d e : ℕ) (v : Told) → d ≤ e → IsValue d v → IsValue e v
@@ -38,7 +38,7 @@ deeper d e v up is = record {
   count = is.count;
 }
 
-number_value : (n : ℕ) → IsValue 1 (told_number n)
+number_value : (n : ℕ) → IsValue 1 (info_number n)
 number_value n =
     single (number_kind n) refl (record {
       well = refl;
@@ -47,7 +47,7 @@ number_value n =
       backs = refl;
     })
 
-string_value : (bytes : List ℕ) → AreBytes bytes → IsValue 1 (told_string bytes)
+string_value : (bytes : List ℕ) → AreBytes bytes → IsValue 1 (info_string bytes)
 string_value bytes are =
     single (kinds.Str bytes) refl (record {
       well = refl;
@@ -82,7 +82,7 @@ names_fit (name ∷ names) h =
 -- ---- lists
 
 abbrev keys_of_list : ℕ → List Told → List Key
-keys_of_list n values = map (λ m. m.0) (told_numbered n values)
+keys_of_list n values = map (λ m. m.0) (info_numbered n values)
 
 later_keys : (n m : ℕ) → n < m → (values : List Told)
     → holds_key (keys_of_list m values) (keys.Int (pos n)) ≡ false
@@ -110,23 +110,23 @@ keys_fit n (v ∷ vs) few =
     (record { sfits = omega (arith, few) }, keys_fit (n + 1) vs (omega (arith, few)))
 
 numbered_values : (d n : ℕ) (values : List Told) → AllByRecursion (IsValue d) values
-    → AllByRecursion (λ (m : Key × Told). IsValue d m.1) (told_numbered n values)
+    → AllByRecursion (λ (m : Key × Told). IsValue d m.1) (info_numbered n values)
 numbered_values d n [] all = tt
 numbered_values d n (v ∷ vs) all = (all.0, numbered_values d (n + 1) vs all.1)
 
 list_value : (d : ℕ) (values : List Told) → AllByRecursion (IsValue d) values
-    → length values ≤ 2 ^ 32 → IsValue (suc d) (told_list values)
+    → length values ≤ 2 ^ 32 → IsValue (suc d) (info_list values)
 list_value d values all few =
     let keys : AreKeys (keys_of_list 0 values) = record {
       distinct = keys_differ 0 values;
       keys = keys_allowed 0 values;
       fits = keys_fit 0 values (omega (arith, few));
     } in
-    array d (told_numbered 0 values) keys (numbered_values d 0 values all)
+    array d (info_numbered 0 values) keys (numbered_values d 0 values all)
 
 -- ---- the tables
 
-notes_keys : (row : Noted) → IsValue 2 (told_notes row)
+notes_keys : (row : RowInfo) → IsValue 2 (info_of_key row)
 unfolding int_of_text
 notes_keys row =
     let names = codes "hits" ∷ codes "access_time" ∷ codes "mtime" ∷ codes "creation_time"
@@ -135,7 +135,7 @@ notes_keys row =
     (record { distinct = refl; keys = refl; fits = names_fit names refl })
     (number_value row.hits, (number_value row.atime, (number_value row.mtime, (number_value row.ctime, (number_value row.dtime, (number_value row.ttl, tt))))))
 
-row_value : (row : ListedRow) → AreBytes row.key → IsValue 2 (told_row row)
+row_value : (row : ListedRow) → AreBytes row.key → IsValue 2 (info_row row)
 unfolding int_of_text
 row_value row are =
     let names = codes "info" ∷ codes "ttl" ∷ codes "num_hits" ∷ codes "mtime"
@@ -143,14 +143,14 @@ row_value row are =
     ∷ codes "mem_size" ∷ [] in
     array 1 (row_fields row)
     (record { distinct = refl; keys = refl; fits = names_fit names refl })
-    (string_value row.key are, (number_value row.noted.ttl, (number_value row.noted.hits, (number_value row.noted.mtime, (number_value row.noted.ctime, (number_value row.noted.dtime, (number_value row.noted.atime, (number_value (word_bytes row.noted.size), tt))))))))
+    (string_value row.key are, (number_value row.info.ttl, (number_value row.info.hits, (number_value row.info.mtime, (number_value row.info.ctime, (number_value row.info.dtime, (number_value row.info.atime, (number_value (word_bytes row.info.size), tt))))))))
 
 rows_values : (rows : List ListedRow) → AllByRecursion (λ (row : ListedRow). AreBytes row.key) rows
-    → AllByRecursion (IsValue 2) (map told_row rows)
+    → AllByRecursion (IsValue 2) (map info_row rows)
 rows_values [] are = tt
 rows_values (row ∷ rows) are = (row_value row are.0, rows_values rows are.1)
 
-gap_value : (gap : Extent) → IsValue 2 (told_gap gap)
+gap_value : (gap : Extent) → IsValue 2 (info_gap gap)
 unfolding int_of_text
 gap_value gap =
     let names = codes "size" ∷ codes "offset" ∷ [] in
@@ -158,31 +158,31 @@ gap_value gap =
     (record { distinct = refl; keys = refl; fits = names_fit names refl })
     (number_value (word_bytes gap.size), (number_value (word_bytes gap.place), tt))
 
-gaps_values : (gaps : List Extent) → AllByRecursion (IsValue 2) (map told_gap gaps)
+gaps_values : (gaps : List Extent) → AllByRecursion (IsValue 2) (map info_gap gaps)
 gaps_values [] = tt
 gaps_values (gap ∷ gaps) = (gap_value gap, gaps_values gaps)
 
 rows_list : (rows : List ListedRow) → AllByRecursion (λ (row : ListedRow). AreBytes row.key) rows
-    → length rows ≤ 2 ^ 32 → IsValue 3 (told_list (map told_row rows))
+    → length rows ≤ 2 ^ 32 → IsValue 3 (info_list (map info_row rows))
 rows_list rows are few =
-    list_value 2 (map told_row rows) (rows_values rows are)
-    (omega (arith, few, length-map rows told_row))
+    list_value 2 (map info_row rows) (rows_values rows are)
+    (omega (arith, few, length-map rows info_row))
 
-pub key_tellable : (row : Noted) → IsTellable (told_notes row 1)
-key_tellable row = tellable 2 (told_notes row) (notes_keys row) (omega arith)
+pub key_tellable : (row : RowInfo) → IsTellable (info_of_key row 1)
+key_tellable row = tellable 2 (info_of_key row) (notes_keys row) (omega arith)
 
 -- a number among values of three levels
-number_three : (n : ℕ) → IsValue 3 (told_number n)
-number_three n = deeper 1 3 (told_number n) (omega arith) (number_value n)
+number_three : (n : ℕ) → IsValue 3 (info_number n)
+number_three n = deeper 1 3 (info_number n) (omega arith) (number_value n)
 
 pub counts_tellable : (conf : Conf) (counts : Counts) (words : ℕ)
-    → IsTellable (told_array (told_counts conf counts words) 1)
+    → IsTellable (info_array (info_counts conf counts words) 1)
 unfolding int_of_text
 counts_tellable conf counts words =
     let names = codes "num_slots" ∷ codes "ttl" ∷ codes "num_hits" ∷ codes "num_misses"
     ∷ codes "num_inserts" ∷ codes "num_entries" ∷ codes "expunges" ∷ codes "mem_size" ∷ [] in
-    tellable 2 (told_array (told_counts conf counts words))
-    (array 1 (told_counts conf counts words)
+    tellable 2 (info_array (info_counts conf counts words))
+    (array 1 (info_counts conf counts words)
     (record { distinct = refl; keys = refl; fits = names_fit names refl })
     (number_value conf.slots, (number_value conf.ttl, (number_value counts.hits, (number_value counts.misses, (number_value counts.inserts, (number_value counts.entries, (number_value counts.expunges, (number_value (word_bytes words), tt)))))))))
     (omega arith)
@@ -191,52 +191,52 @@ pub cache_tellable : (conf : Conf) (counts : Counts) (words : ℕ) (rows removed
     → AllByRecursion (λ (row : ListedRow). AreBytes row.key) rows
     → AllByRecursion (λ (row : ListedRow). AreBytes row.key) removed
     → length rows ≤ 2 ^ 32 → length removed ≤ 2 ^ 32
-    → IsTellable (told_array (told_counts conf counts words ++ told_rows rows removed) 1)
+    → IsTellable (info_array (info_counts conf counts words ++ info_rows rows removed) 1)
 unfolding int_of_text
 cache_tellable conf counts words rows removed are gone few left =
     let names = codes "num_slots" ∷ codes "ttl" ∷ codes "num_hits" ∷ codes "num_misses"
     ∷ codes "num_inserts" ∷ codes "num_entries" ∷ codes "expunges" ∷ codes "mem_size"
     ∷ codes "cache_list" ∷ codes "deleted_list" ∷ [] in
-    tellable 4 (told_array (told_counts conf counts words ++ told_rows rows removed))
-    (array 3 (told_counts conf counts words ++ told_rows rows removed)
+    tellable 4 (info_array (info_counts conf counts words ++ info_rows rows removed))
+    (array 3 (info_counts conf counts words ++ info_rows rows removed)
     (record { distinct = refl; keys = refl; fits = names_fit names refl })
     (number_three conf.slots, (number_three conf.ttl, (number_three counts.hits, (number_three counts.misses, (number_three counts.inserts, (number_three counts.entries, (number_three counts.expunges, (number_three (word_bytes words), (rows_list rows are few, (rows_list removed gone left, tt)))))))))))
     (omega arith)
 
-pub words_tellable : (conf : Conf) (free : ℕ) → IsTellable (told_array (told_words conf free) 1)
+pub words_tellable : (conf : Conf) (free : ℕ) → IsTellable (info_array (info_words conf free) 1)
 unfolding int_of_text
 words_tellable conf free =
     let names = codes "num_seg" ∷ codes "seg_size" ∷ codes "avail_mem" ∷ [] in
-    tellable 2 (told_array (told_words conf free))
-    (array 1 (told_words conf free)
+    tellable 2 (info_array (info_words conf free))
+    (array 1 (info_words conf free)
     (record { distinct = refl; keys = refl; fits = names_fit names refl })
     (number_value conf.segments, (number_value (word_bytes (piece_of conf)), (number_value (word_bytes free), tt))))
     (omega arith)
 
 segments_values : (piece : ℕ) (gaps : List Extent) (ks : List ℕ) → length gaps ≤ 2 ^ 32
-    → AllByRecursion (IsValue 3) (map (told_segment piece gaps) ks)
+    → AllByRecursion (IsValue 3) (map (info_segment piece gaps) ks)
 segments_values piece gaps [] few = tt
 segments_values piece gaps (k ∷ ks) few = (
-  list_value 2 (map told_gap (gaps_in piece gaps k)) (gaps_values (gaps_in piece gaps k))
-      (omega (arith, few, length-map (gaps_in piece gaps k) told_gap, segment_few piece k gaps)),
+  list_value 2 (map info_gap (gaps_in piece gaps k)) (gaps_values (gaps_in piece gaps k))
+      (omega (arith, few, length-map (gaps_in piece gaps k) info_gap, segment_few piece k gaps)),
   segments_values piece gaps ks few,
 )
 
 pub gaps_tellable : (conf : Conf) (free : ℕ) (gaps : List Extent) → length gaps ≤ 2 ^ 32
     → conf.segments ≤ 64
-    → IsTellable (told_array (told_words conf free ++ told_gaps conf gaps) 1)
+    → IsTellable (info_array (info_words conf free ++ info_gaps conf gaps) 1)
 unfolding int_of_text
 gaps_tellable conf free gaps few segments =
     let names = codes "num_seg" ∷ codes "seg_size" ∷ codes "avail_mem" ∷ codes "block_lists"
     ∷ [] in
-    let lists = map (told_segment (piece_of conf) gaps) (range_with_len 0 conf.segments) in
+    let lists = map (info_segment (piece_of conf) gaps) (range_with_len 0 conf.segments) in
     let outer = list_value 3 lists
     (segments_values (piece_of conf) gaps (range_with_len 0 conf.segments) few)
-    (omega (arith, segments, length-map (range_with_len 0 conf.segments) (told_segment (piece_of conf) gaps), length-range_with_len 0 conf.segments)) in
-    let number : (n : ℕ) → IsValue 4 (told_number n) =
-    λ n. deeper 1 4 (told_number n) (omega arith) (number_value n) in
-    tellable 5 (told_array (told_words conf free ++ told_gaps conf gaps))
-    (array 4 (told_words conf free ++ told_gaps conf gaps)
+    (omega (arith, segments, length-map (range_with_len 0 conf.segments) (info_segment (piece_of conf) gaps), length-range_with_len 0 conf.segments)) in
+    let number : (n : ℕ) → IsValue 4 (info_number n) =
+    λ n. deeper 1 4 (info_number n) (omega arith) (number_value n) in
+    tellable 5 (info_array (info_words conf free ++ info_gaps conf gaps))
+    (array 4 (info_words conf free ++ info_gaps conf gaps)
     (record { distinct = refl; keys = refl; fits = names_fit names refl })
     (number conf.segments, (number (word_bytes (piece_of conf)), (number (word_bytes free), (outer, tt)))))
     (omega arith)

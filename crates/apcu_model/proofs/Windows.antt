@@ -13,8 +13,8 @@ use Rattle.apcu_model.specs.declared.request.Request.TheVariants as request
 use Rattle.apcu_model.specs.Cache.{Row, Cache, has_key}
 use Rattle.apcu_model.specs.Expiry.{is_hard_expired, live_row}
 use Rattle.apcu_model.specs.History.{Stage, start_of, is_scalar, is_shallow, are_shallow, opened, opened_at, held_places, after_event, after_events, IsNumbered, stage_of}
-use Rattle.apcu_model.proofs.OneKey.{found_there}
-use Rattle.apcu_model.proofs.Numbering.{Numbers, Grown, grown_after, numbers_start}
+use Rattle.apcu_model.proofs.KeyLookups.{found_there}
+use Rattle.apcu_model.proofs.RowNumbers.{Numbers, Grown, grown_after, numbers_start}
 use Rattle.seg_words.specs.Members.{Contains-cases, Contains-filter, none_in_nil}
 
 -- one window for each worker

@@ -6,7 +6,7 @@ use Rattle.seg_words.specs.declared.gaps.Extent.{Extent}
 use Rattle.seg_words.specs.Gaps.{first_fit}
 use Rattle.apcu_model.specs.declared.conf.Conf.{Conf}
 use Rattle.apcu_model.specs.Conf.{piece_of}
-use Rattle.apcu_model.specs.declared.noted.Counts.{Counts}
+use Rattle.apcu_model.specs.declared.row_info.Counts.{Counts}
 
 -- A key with its value. Times are in seconds, places and sizes in words.
 pub record Row : Type 0 where

@@ -12,7 +12,7 @@ use Rattle.apcu_model.specs.declared.request.StoreAnswer.TheVariants.{TooLarge, 
 use Rattle.apcu_model.specs.declared.request.StoreAnswer.TheVariants.{Stored}
 use Rattle.apcu_model.specs.Cache.{Row, Cache, risen, has_key, gap_of}
 use Rattle.apcu_model.specs.Expiry.{is_expired, live_row}
-use Rattle.apcu_model.specs.Walk.{is_in_slot, in_slot_order, slot_of}
+use Rattle.apcu_model.specs.SlotOrder.{is_in_slot, in_slot_order, slot_of}
 
 abbrev pub is_held : List ℕ → Row → Bool
 is_held held row = list_any (λ place. place == row.place) held
@@ -132,7 +132,7 @@ expired_in conf t slot rows = filter (is_expired conf t) (filter (is_in_slot con
 -- row of its key, in whose place it stands.
 abbrev pub placed : List ℕ → List ℕ → List Kind → ℕ → ℕ → ℕ → Cache → ℕ → Cache
 placed held key graph ttl t n c place =
-    let fresh = dropped held t (expired_in c.conf t (slot_of c.conf key) c.rows) c in
+    let after_sweep = dropped held t (expired_in c.conf t (slot_of c.conf key) c.rows) c in
     let new : Row = record {
       key = key;
       graph = graph;
@@ -146,8 +146,8 @@ placed held key graph ttl t n c place =
       size = n;
       number = c.next_number;
     } in
-    record (dropped held t (filter (has_key key) fresh.rows) fresh) {
-      rows = with_row new fresh.rows;
+    record (dropped held t (filter (has_key key) after_sweep.rows) after_sweep) {
+      rows = with_row new after_sweep.rows;
       next_number = risen c.next_number;
       inserts = risen c.inserts;
     }

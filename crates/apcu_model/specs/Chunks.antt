@@ -5,7 +5,7 @@ use Rattle.std.specs.Prelude.{unwrap_or, find}
 use Rattle.std.specs.Int.{bit_at}
 use Rattle.std.specs.List.{flat_map, range_with_len}
 use Rattle.apcu_model.specs.declared.searching.Pattern.{Pattern}
-use Rattle.apcu_model.specs.declared.searching.List.{List as Which}
+use Rattle.apcu_model.specs.declared.searching.List.{List as RowList}
 use Rattle.apcu_model.specs.declared.searching.List.TheVariants.{Active, Deleted}
 use Rattle.apcu_model.specs.declared.searching.Fields.{Fields}
 use Rattle.apcu_model.specs.declared.items.ItemRow.{ItemRow}
@@ -16,8 +16,8 @@ use Rattle.apcu_model.specs.Cache.{Row, Cache}
 use Rattle.apcu_model.specs.Expiry.{is_hard_expired}
 use Rattle.apcu_model.specs.Change.{dropped}
 use Rattle.apcu_model.specs.Infos.{word_bytes}
-use Rattle.apcu_model.specs.Matching.{key_matches}
-use Rattle.apcu_model.specs.Walk.{is_in_slot}
+use Rattle.apcu_model.specs.PatternMatches.{key_matches}
+use Rattle.apcu_model.specs.SlotOrder.{is_in_slot}
 
 -- the value is asked for
 abbrev pub tells_value : Fields → Bool
@@ -75,7 +75,7 @@ removed_items wanted c = filter (λ (row : Row). key_matches wanted row.key) c.r
 -- ---- the answers
 
 -- One step of an iterator. All removed rows are one step.
-abbrev pub chunk_of : Option Pattern → ℕ → ℕ → Which → Fields → ℕ → Cache → Chunk
+abbrev pub chunk_of : Option Pattern → ℕ → ℕ → RowList → Fields → ℕ → Cache → Chunk
 chunk_of wanted from size Active fields t c = record {
   next = chunk_end wanted t c from size;
   items = map (item_of fields) (chunk_rows wanted t c from size);
@@ -90,7 +90,7 @@ abbrev pub chunk_dropped : List ℕ → Option Pattern → ℕ → ℕ → ℕ �
 chunk_dropped held wanted from size t c = dropped held t (chunk_rows wanted t c from size) c
 
 -- all rows that an iterator goes over
-abbrev pub all_items : Option Pattern → Which → ℕ → Cache → List Row
+abbrev pub all_items : Option Pattern → RowList → ℕ → Cache → List Row
 all_items wanted Active t c = filter (is_item wanted t) c.rows
 all_items wanted Deleted t c = removed_items wanted c
 

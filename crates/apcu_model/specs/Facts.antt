@@ -16,7 +16,7 @@ use Rattle.apcu_model.specs.declared.conf.Conf.{Conf}
 use Rattle.apcu_model.specs.Cache.{Row, has_key}
 use Rattle.apcu_model.specs.Change.{is_among, is_held, leaving, left_of}
 use Rattle.apcu_model.specs.Rows.{are_apart}
-use Rattle.apcu_model.specs.Walk.{is_in_slot, in_slot_order, slot_of}
+use Rattle.apcu_model.specs.SlotOrder.{is_in_slot, in_slot_order, slot_of}
 
 -- a row is held exactly where its place is one of those that are
 pub held_is : (held : List ℕ) (row : Row) → is_held held row ≡ has row.place held

@@ -12,7 +12,7 @@ pub const MOST_SLOTS: u32 = 1_048_576;
 pub const MOST_SEGMENTS: u32 = 64;
 
 /// The shape of a cache: how many words its segments have, how many of them are slots, how long a
-/// row without a time limit of its own stays fresh, and how many segments there are.
+/// row without a ttl of its own stays unused before it expires, and how many segments there are.
 #[derive(Clone, Copy, Debug, PartialEq, Eq)]
 pub struct Conf {
     /// All words of the segments (`apc.shm_size` in units of 8 bytes, times their number).

@@ -3,7 +3,7 @@ ghost use Rattle.apcu_model.specs.Cache.{extent_of, has_key};
 ghost use Rattle.apcu_model.specs.Counters.{with_integer_at};
 ghost use Rattle.apcu_model.specs.Expiry.{is_expired, is_hard_expired};
 ghost use Rattle.apcu_model.specs.Rows.{touched_at};
-ghost use Rattle.apcu_model.specs.Walk.{is_in_slot};
+ghost use Rattle.apcu_model.specs.SlotOrder.{is_in_slot};
 
 use crate::conf::Conf;
 use crate::integers::integer;
@@ -12,7 +12,7 @@ use seg_words::Extent;
 use std::alloc::Global;
 use std::marker::Model;
 
-// A key with its value, and all that the cache notes of it. Contracts see the row.
+// A key with its value, and all that the cache keeps of it. Contracts see the row.
 #[derive(Drop)]
 pub(crate) struct Entry {
     pub(crate) key: Bytes,
@@ -59,7 +59,7 @@ impl Entry {
     pub(crate) fn is_hard_expired(&self, t: u64) -> bool
         ensures { result ≡ is_hard_expired t self.now }
     {
-        self.ttl > 0 && is_over(self.ctime, self.ttl, t)
+        self.ttl > 0 && has_elapsed(self.ctime, self.ttl, t)
     }
 
     // Whether its own time, or where it has none the cache's, is over.
@@ -67,7 +67,7 @@ impl Entry {
         ensures { result ≡ is_expired conf t self.now }
     {
         self.is_hard_expired(t)
-            || (self.ttl == 0 && conf.ttl > 0 && is_over(self.atime, conf.ttl, t))
+            || (self.ttl == 0 && conf.ttl > 0 && has_elapsed(self.atime, conf.ttl, t))
     }
 
     // Whether its key's hash chain is this one.
@@ -88,7 +88,7 @@ impl Entry {
         }
     }
 
-    // Notes that it was fetched, where this is the key's row.
+    // Counts that it was fetched, where this is the key's row.
     pub(crate) fn touch(&mut self, key: &[u8], t: u64)
         ensures { self.new ≡ touched_at key.now t self.old }
     {
@@ -112,7 +112,7 @@ impl Entry {
 }
 
 // Whether more than `ttl` seconds passed from `since` to `t`.
-fn is_over(since: u64, ttl: u32, t: u64) -> bool
+fn has_elapsed(since: u64, ttl: u32, t: u64) -> bool
     ensures { result ≡ nat_lt (since + ttl) t }
 {
     since.saturating_add(u64::from(ttl)) < t

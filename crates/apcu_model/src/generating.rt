@@ -25,8 +25,8 @@ impl State {
         }
     }
 
-    // Notes the look-ups of a generator's keys, as far as one has a live row.
-    fn note_levels(&mut self, generator: &Gen, t: u64)
+    // Counts the look-ups of a generator's keys, as far as one has a live row.
+    fn count_levels(&mut self, generator: &Gen, t: u64)
         requires { IsValid self.old }
         ensures cache { cache_in self.new
             ≡ looked_for generator.now.levels t (cache_in self.old) }
@@ -38,17 +38,17 @@ impl State {
             GenKind::Value(_) => {}
             GenKind::Entry(key, _, inner) => {
                 let found = self.is_live(key.as_slice(), t);
-                self.note_fetch(key.as_slice(), t);
+                self.count_fetch(key.as_slice(), t);
                 if !found {
-                    self.note_levels(inner, t);
+                    self.count_levels(inner, t);
                 }
             }
         }
     }
 
-    // Takes memory for so many new rows, and then notes the look-ups of the generator's keys. The
+    // Takes memory for so many new rows, and then counts the look-ups of the generator's keys. The
     // list has room for the blocks of all rows.
-    fn note_reserved(
+    fn count_reserved(
         &mut self,
         generator: &Gen,
         more: usize,
@@ -66,12 +66,12 @@ impl State {
         let rows = self.rows.len().checked_add(more).ok_or(AllocError)?;
         let extents = Vec::with_capacity(self.alloc, rows)?;
         self.rows.reserve(more)?;
-        self.note_levels(generator, t);
+        self.count_levels(generator, t);
         Ok(extents)
     }
 
     // Stores copies of the value under the missed keys of a generator, inner first, after the
-    // look-ups of the whole generator were noted. Memory, also for so many further rows, is taken
+    // look-ups of the whole generator were counted. Memory, also for so many further rows, is taken
     // before anything changes.
     fn fill(
         &mut self,
@@ -83,8 +83,8 @@ impl State {
     ) -> Result<Vec<Extent>, AllocError>
         requires { IsValid self.old }
         ensures cache { let missed = missed_levels generator.now.levels t (cache_in self.old) in
-            let noted = looked_for whole.now.levels t (cache_in self.old) in
-            OnOk result (cache_in self.new ≡ (filled [] value.now t missed noted).cache) }
+            let counted = looked_for whole.now.levels t (cache_in self.old) in
+            OnOk result (cache_in self.new ≡ (filled [] value.now t missed counted).cache) }
         ensures rows { OnOk result (vec_len self.new.rows + further ≤ vec_capacity self.new.rows) }
         ensures extents { IfOk result (λ extents.
             vec_len self.new.rows + further ≤ vec_capacity extents) }
@@ -92,10 +92,10 @@ impl State {
         ensures valid { IsValid self.new }
     {
         match generator.kind() {
-            GenKind::Value(_) => self.note_reserved(whole, further, t),
+            GenKind::Value(_) => self.count_reserved(whole, further, t),
             GenKind::Entry(key, ttl, inner) => {
                 if self.is_live(key.as_slice(), t) {
-                    return self.note_reserved(whole, further, t);
+                    return self.count_reserved(whole, further, t);
                 }
                 let own = Bytes::of(self.alloc, key.as_slice())?;
                 let copy = value.try_copy(self.alloc)?;

@@ -2,7 +2,7 @@
 
 ghost use Rattle.std.specs.Prelude.{◌≡◌, ◌-◌, ◌^◌, min, [], ◌∷◌, length};
 ghost use Rattle.apcu_model.specs.Levels.{EntryLevel, Generator};
-ghost use Rattle.apcu_model.specs.Nesting.{generator_of};
+ghost use Rattle.apcu_model.specs.GeneratorKinds.{generator_of};
 
 use php_graph::{Bytes, Graph};
 use std::marker::Model;
@@ -33,7 +33,7 @@ impl Model for Gen {
 
     ghost Value = { Generator };
 
-    ghost use Rattle.apcu_model.specs.Nesting.{generator_of};
+    ghost use Rattle.apcu_model.specs.GeneratorKinds.{generator_of};
 
     ghost view = { λ a. generator_of a.kind };
 

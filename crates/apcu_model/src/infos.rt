@@ -6,14 +6,14 @@ ghost use Rattle.seg_words.specs.Gaps.{free_runs, is_free, meets, with_word};
 ghost use Rattle.apcu_model.specs.Conf.{piece_of};
 ghost use Rattle.apcu_model.specs.Cache.{Row};
 ghost use Rattle.apcu_model.specs.Infos.{cache_info_of, gap_words_of, gaps_of, key_info_of};
-ghost use Rattle.apcu_model.specs.Infos.{listed_of, noted_of};
+ghost use Rattle.apcu_model.specs.Infos.{listed_of, info_of_row};
 ghost use Rattle.apcu_model.specs.Infos.{number_kind, sma_info_of, word_bytes};
 ghost use Rattle.apcu_model.specs.Rows.{IsValid, cache_in};
-ghost use Rattle.apcu_model.specs.Walk.{in_slot_order, is_in_slot};
+ghost use Rattle.apcu_model.specs.SlotOrder.{in_slot_order, is_in_slot};
 
 use crate::conf::Conf;
 use crate::entry::Entry;
-use crate::noted::{ListedRow, Noted};
+use crate::row_info::{ListedRow, RowInfo};
 use crate::rows::{list_extents, live_in};
 use crate::state::State;
 use crate::tables::{tell_cache, tell_counts, tell_gaps, tell_key, tell_words};
@@ -22,11 +22,11 @@ use seg_words::{Extent, begins_segment};
 use std::alloc::{AllocError, Global};
 
 impl Entry {
-    // What is noted of it beside its key and its value.
-    fn noted(&self) -> Noted
-        ensures { result ≡ noted_of self.now }
+    // What is told of it beside its key and its value.
+    fn info(&self) -> RowInfo
+        ensures { result ≡ info_of_row self.now }
     {
-        Noted {
+        RowInfo {
             ttl: self.ttl,
             ctime: self.ctime,
             mtime: self.mtime,
@@ -43,7 +43,7 @@ impl Entry {
     {
         Ok(ListedRow {
             key: Bytes::of(alloc, self.key.as_slice())?,
-            noted: self.noted(),
+            info: self.info(),
         })
     }
 }
@@ -192,7 +192,7 @@ impl State {
         ensures { IfOk result (λ g. g ≡ key_info_of key.now t (cache_in self.now)) }
     {
         match live_in(&self.rows, key, t) {
-            Some(row) => Ok(Some(tell_key(self.alloc, row.noted())?)),
+            Some(row) => Ok(Some(tell_key(self.alloc, row.info())?)),
             None => Ok(None),
         }
     }

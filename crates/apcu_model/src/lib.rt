@@ -12,7 +12,7 @@ mod items;
 mod journal;
 mod keys;
 mod laws;
-mod noted;
+mod row_info;
 mod pairs;
 mod plain;
 mod request;
@@ -33,7 +33,7 @@ pub use laws::{
     count_laws, events_keep, held_alike, numbered, one_event_more, rows_keep_numbers,
     rows_stay_apart, works_alone,
 };
-pub use noted::{Counts, ListedRow, Noted};
+pub use row_info::{Counts, ListedRow, RowInfo};
 pub use pairs::Pairs;
 pub use plain::Plain;
 pub use request::{Event, Reply, Request, StoreAnswer};

@@ -9,7 +9,7 @@ ghost use Rattle.apcu_model.specs.declared.request.Reply.TheVariants.{Flag, Foun
 ghost use Rattle.apcu_model.specs.Sequential.{number_reply};
 
 use crate::conf::Conf;
-use crate::noted::Counts;
+use crate::row_info::Counts;
 use crate::request::{Reply, Request};
 use crate::state::State;
 use php_graph::{Bytes, Graph};
@@ -131,7 +131,7 @@ impl Plain {
         Ok(Reply::Flag(self.store(key, value, ttl, exclusive, t)?))
     }
 
-    // Answers a copy of the value that it finds, and notes the fetch.
+    // Answers a copy of the value that it finds, and counts the fetch.
     fn fetch_copy(&mut self, key: &[u8], t: u64) -> Result<Reply, AllocError>
         ensures reply { IfOk result (λ r. r ≡ reply_to [] t (Fetch key.now) self.old) }
         ensures after { OnOk result (self.new ≡ cache_after [] t (Fetch key.now) self.old) }
@@ -141,7 +141,7 @@ impl Plain {
             Some(value) => Reply::Found(value.try_copy(self.state.alloc)?),
             None => Reply::Absent,
         };
-        self.note_fetch(key, t);
+        self.count_fetch(key, t);
         Ok(reply)
     }
 
@@ -169,7 +169,7 @@ impl Plain {
     }
 
     /// The value that a fetch of the key at the time `t` finds, lent and not copied; `None` where
-    /// it finds none. It takes no memory and counts nothing: `note_fetch` does.
+    /// it finds none. It takes no memory and counts nothing: `count_fetch` does.
     pub fn live_value(&self, key: &[u8], t: u64) -> Option<&Graph>
         ensures { MatchOption result (reply_to [] t (Fetch key.now) self.now ≡ Absent)
             (λ g. reply_to [] t (Fetch key.now) self.now ≡ Found g.now) }
@@ -177,12 +177,12 @@ impl Plain {
         self.state.live_value(key, t)
     }
 
-    /// Notes a fetch of the key at the time `t`: a hit and the row's use, or a miss. It takes no
+    /// Counts a fetch of the key at the time `t`: a hit and the row's use, or a miss. It takes no
     /// memory.
-    pub fn note_fetch(&mut self, key: &[u8], t: u64)
+    pub fn count_fetch(&mut self, key: &[u8], t: u64)
         ensures { self.new ≡ cache_after [] t (Fetch key.now) self.old }
     {
-        self.state.note_fetch(key, t);
+        self.state.count_fetch(key, t);
     }
 
     /// Whether a look-up of the key at the time `t` finds a row. It changes and counts nothing.

@@ -8,7 +8,7 @@ ghost use Rattle.apcu_model.specs.Change.{with_row};
 ghost use Rattle.apcu_model.specs.Counters.{with_integer_at};
 ghost use Rattle.apcu_model.specs.Expiry.{is_expired, is_hard_expired};
 ghost use Rattle.apcu_model.specs.Rows.{are_apart, touched_at};
-ghost use Rattle.apcu_model.specs.Walk.{is_in_slot};
+ghost use Rattle.apcu_model.specs.SlotOrder.{is_in_slot};
 
 use crate::conf::Conf;
 use crate::entry::Entry;
@@ -44,7 +44,7 @@ fn place_of(rows: &[Entry], key: &[u8]) -> Option<usize>
     None
 }
 
-// Notes that the key's row was fetched.
+// Counts that the key's row was fetched.
 pub(crate) fn touch_in(rows: &mut [Entry], key: &[u8], t: u64)
     ensures { rows.new ≡ map (touched_at key.now t) rows.old }
 {

@@ -12,7 +12,7 @@ ghost use Rattle.apcu_model.specs.Sequential.{found_in, is_stored};
 
 use crate::conf::Conf;
 use crate::entry::Entry;
-use crate::noted::Counts;
+use crate::row_info::Counts;
 use crate::rows::{
     drop_expired, drop_expired_in, drop_key, list_extents, live_in, put_row, touch_in,
 };
@@ -288,8 +288,8 @@ impl State {
         }
     }
 
-    // Notes a look-up: a hit and the row's use, or a miss.
-    pub(crate) fn note_fetch(&mut self, key: &[u8], t: u64)
+    // Counts a look-up: a hit and the row's use, or a miss.
+    pub(crate) fn count_fetch(&mut self, key: &[u8], t: u64)
         requires { IsValid self.old }
         ensures cache { cache_in self.new
             ≡ looked_up key.now t (live_row key.now t (cache_in self.old)) (cache_in self.old) }

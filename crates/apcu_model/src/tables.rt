@@ -3,19 +3,19 @@
 ghost use Rattle.std.specs.Prelude.{◌≡◌, ◌+◌, ◌++◌, ◌≤◌, ◌^◌, length, map, IfOk, OnOk};
 ghost use Rattle.std.specs.List.{AllByRecursion};
 ghost use Rattle.php_graph.specs.ByteStrings.{AreBytes};
-ghost use Rattle.apcu_model.specs.Infos.{told_array, told_counts, told_gap, told_gaps, told_list};
-ghost use Rattle.apcu_model.specs.Infos.{gaps_in, told_members, told_numbered, told_segment};
-ghost use Rattle.apcu_model.specs.Infos.{told_values};
+ghost use Rattle.apcu_model.specs.Infos.{info_array, info_counts, info_gap, info_gaps, info_list};
+ghost use Rattle.apcu_model.specs.Infos.{gaps_in, info_members, info_numbered, info_segment};
+ghost use Rattle.apcu_model.specs.Infos.{info_values};
 ghost use Rattle.apcu_model.specs.Conf.{IsGood};
 ghost use Rattle.php_graph.specs.Size.{cells_of};
 ghost use Rattle.php_graph.specs.declared.kind.Kind.TheVariants as kinds;
 ghost use Rattle.std.specs.List.{range_with_len};
 ghost use Rattle.std.specs.Prelude.{◌<◌};
-ghost use Rattle.apcu_model.specs.Telling.{IsTellable};
-ghost use Rattle.apcu_model.specs.Infos.{told_notes, told_row, told_rows, told_words, word_bytes};
+ghost use Rattle.apcu_model.specs.InfoGraphs.{IsTellable};
+ghost use Rattle.apcu_model.specs.Infos.{info_of_key, info_row, info_rows, info_words, word_bytes};
 
 use crate::conf::Conf;
-use crate::noted::{Counts, ListedRow, Noted};
+use crate::row_info::{Counts, ListedRow, RowInfo};
 use crate::telling::{Telling, array_of, item, list_of};
 use php_graph::{Graph, Kind, MOST_VALUES, Members};
 use seg_words::Extent;
@@ -29,8 +29,8 @@ fn bytes_in(words: u32) -> u64
 }
 
 /// What `apcu_key_info` tells of a row.
-pub fn tell_key(alloc: Global, row: Noted) -> Result<Graph, AllocError>
-    ensures { IfOk result (λ g. g ≡ told_notes row 1) }
+pub fn tell_key(alloc: Global, row: RowInfo) -> Result<Graph, AllocError>
+    ensures { IfOk result (λ g. g ≡ info_of_key row 1) }
 {
     let (first, cells) = array_of(
         alloc,
@@ -58,12 +58,12 @@ pub fn tell_key(alloc: Global, row: Noted) -> Result<Graph, AllocError>
 
 // The places of a row in a list.
 fn push_row(telling: &mut Telling, alloc: Global, row: ListedRow) -> Result<(), AllocError>
-    ensures told { OnOk result
-        (telling.new ≡ telling.old ++ told_row row (length telling.old + 1)) }
+    ensures info { OnOk result
+        (telling.new ≡ telling.old ++ info_row row (length telling.old + 1)) }
     ensures key { AreBytes row.key }
 {
     let place = telling.len() + 1;
-    let noted = row.noted;
+    let info = row.info;
     let _bytes = row.key.as_slice();
     let (kind, cells) = array_of(
         alloc,
@@ -82,13 +82,13 @@ fn push_row(telling: &mut Telling, alloc: Global, row: ListedRow) -> Result<(), 
     telling.push(kind, cells)?;
     telling.push_string(row.key)?;
     telling.push_numbers(&[
-        u64::from(noted.ttl),
-        noted.hits,
-        noted.mtime,
-        noted.ctime,
-        noted.dtime,
-        noted.atime,
-        bytes_in(noted.size),
+        u64::from(info.ttl),
+        info.hits,
+        info.mtime,
+        info.ctime,
+        info.dtime,
+        info.atime,
+        bytes_in(info.size),
     ])?;
     Ok(())
 }
@@ -98,8 +98,8 @@ const ROW_PLACES: u32 = 9;
 
 // A list of rows.
 fn push_rows(telling: &mut Telling, alloc: Global, rows: Vec<ListedRow>) -> Result<(), AllocError>
-    ensures told { OnOk result (telling.new
-        ≡ telling.old ++ told_list (map told_row rows.items) (length telling.old + 1)) }
+    ensures info { OnOk result (telling.new
+        ≡ telling.old ++ info_list (map info_row rows.items) (length telling.old + 1)) }
     ensures keys { OnOk result (AllByRecursion (λ (row : ListedRow). AreBytes row.key) rows.items) }
     ensures few { OnOk result (length rows.items ≤ 2 ^ 32) }
 {
@@ -120,7 +120,7 @@ const GAP_PLACES: u32 = 3;
 
 // The places of a gap in a list.
 fn push_gap(telling: &mut Telling, alloc: Global, gap: Extent) -> Result<(), AllocError>
-    ensures { OnOk result (telling.new ≡ telling.old ++ told_gap gap (length telling.old + 1)) }
+    ensures { OnOk result (telling.new ≡ telling.old ++ info_gap gap (length telling.old + 1)) }
 {
     let place = telling.len() + 1;
     let (kind, cells) = array_of(alloc, &[(b"size", 1), (b"offset", 1)], place + 1)?;
@@ -131,8 +131,8 @@ fn push_gap(telling: &mut Telling, alloc: Global, gap: Extent) -> Result<(), All
 
 // A list of gaps.
 fn push_gaps(telling: &mut Telling, alloc: Global, gaps: &[Extent]) -> Result<(), AllocError>
-    ensures told { OnOk result (telling.new
-        ≡ telling.old ++ told_list (map told_gap gaps.now) (length telling.old + 1)) }
+    ensures info { OnOk result (telling.new
+        ≡ telling.old ++ info_list (map info_gap gaps.now) (length telling.old + 1)) }
     ensures few { OnOk result (length gaps.now ≤ 2 ^ 32) }
 {
     if gaps.len() > MOST_VALUES as usize {
@@ -155,7 +155,7 @@ pub fn tell_counts(
     counts: Counts,
     words: u64,
 ) -> Result<Graph, AllocError>
-    ensures { IfOk result (λ g. g ≡ told_array (told_counts conf counts words) 1) }
+    ensures { IfOk result (λ g. g ≡ info_array (info_counts conf counts words) 1) }
 {
     let (first, cells) = array_of(
         alloc,
@@ -184,7 +184,7 @@ fn push_counts(
     words: u64,
 ) -> Result<(), AllocError>
     ensures { OnOk result
-        (telling.new ≡ telling.old ++ told_values 2 (told_counts conf counts words)) }
+        (telling.new ≡ telling.old ++ info_values 2 (info_counts conf counts words)) }
 {
     telling.push_numbers(&[
         u64::from(conf.slots),
@@ -207,8 +207,8 @@ pub fn tell_cache(
     rows: Vec<ListedRow>,
     removed: Vec<ListedRow>,
 ) -> Result<Graph, AllocError>
-    ensures { IfOk result (λ g. g ≡ told_array
-        (told_counts conf counts words ++ told_rows rows.items removed.items) 1) }
+    ensures { IfOk result (λ g. g ≡ info_array
+        (info_counts conf counts words ++ info_rows rows.items removed.items) 1) }
 {
     let telling = cache_places(alloc, conf, counts, words, rows, removed)?;
     Ok(telling.finish())
@@ -223,8 +223,8 @@ fn cache_places(
     rows: Vec<ListedRow>,
     removed: Vec<ListedRow>,
 ) -> Result<Telling, AllocError>
-    ensures told { IfOk result (λ t. t ≡ told_array
-        (told_counts conf counts words ++ told_rows rows.items removed.items) 1) }
+    ensures info { IfOk result (λ t. t ≡ info_array
+        (info_counts conf counts words ++ info_rows rows.items removed.items) 1) }
     ensures tellable { IfOk result (λ t. IsTellable t) }
 {
     if rows.len() > MOST_VALUES as usize {
@@ -281,8 +281,8 @@ fn segment_lists(
 ) -> Result<(Kind, u64), AllocError>
     requires some { 0 < piece }
     requires few { (length gaps.now ≤ 2 ^ 24) × (segments ≤ 64) × (place ≤ 2 ^ 25) }
-    ensures kind { IfOk result (λ r. r.0 ≡ kinds.Array (told_members place (told_numbered 0 (map
-        (told_segment piece gaps.now) (range_with_len 0 segments))))) }
+    ensures kind { IfOk result (λ r. r.0 ≡ kinds.Array (info_members place (info_numbered 0 (map
+        (info_segment piece gaps.now) (range_with_len 0 segments))))) }
     ensures cells { IfOk result (λ r. r.1 ≡ cells_of r.0) }
     ensures small { IfOk result (λ r. r.1 ≤ 2 ^ 34) }
 {
@@ -307,8 +307,8 @@ fn push_segments(
 ) -> Result<(), AllocError>
     requires some { 0 < piece }
     requires few { segments ≤ 64 }
-    ensures told { OnOk result (telling.new ≡ telling.old ++ told_list (map
-        (told_segment piece gaps.now) (range_with_len 0 segments)) (length telling.old + 1)) }
+    ensures info { OnOk result (telling.new ≡ telling.old ++ info_list (map
+        (info_segment piece gaps.now) (range_with_len 0 segments)) (length telling.old + 1)) }
     ensures few { OnOk result (length gaps.now ≤ 2 ^ 32) }
 {
     if gaps.len() > MOST_VALUES as usize {
@@ -327,7 +327,7 @@ fn push_segments(
 /// What `apcu_sma_info` tells of the segments without their gaps: how many there are, the words of
 /// each, and how many of all words are free.
 pub fn tell_words(alloc: Global, conf: Conf, free: u32) -> Result<Graph, AllocError>
-    ensures { IfOk result (λ g. g ≡ told_array (told_words conf free) 1) }
+    ensures { IfOk result (λ g. g ≡ info_array (info_words conf free) 1) }
 {
     let (first, cells) = array_of(
         alloc,
@@ -347,7 +347,7 @@ pub fn tell_words(alloc: Global, conf: Conf, free: u32) -> Result<Graph, AllocEr
 pub fn tell_gaps(alloc: Global, conf: Conf, free: u32, gaps: &[Extent]) -> Result<Graph, AllocError>
     requires { IsGood conf }
     ensures { IfOk result
-        (λ g. g ≡ told_array (told_words conf free ++ told_gaps conf gaps.now) 1) }
+        (λ g. g ≡ info_array (info_words conf free ++ info_gaps conf gaps.now) 1) }
 {
     let telling = segment_places(alloc, conf, free, gaps)?;
     Ok(telling.finish())
@@ -361,8 +361,8 @@ fn segment_places(
     gaps: &[Extent],
 ) -> Result<Telling, AllocError>
     requires { IsGood conf }
-    ensures told { IfOk result
-        (λ t. t ≡ told_array (told_words conf free ++ told_gaps conf gaps.now) 1) }
+    ensures info { IfOk result
+        (λ t. t ≡ info_array (info_words conf free ++ info_gaps conf gaps.now) 1) }
     ensures tellable { IfOk result (λ t. IsTellable t) }
 {
     let (first, cells) = array_of(

@@ -8,8 +8,8 @@ ghost use Rattle.php_graph.specs.declared.child.Child.TheVariants.{Own};
 ghost use Rattle.php_graph.specs.declared.kind.Kind.TheVariants as kinds;
 ghost use Rattle.php_graph.specs.Size.{cells_of};
 ghost use Rattle.apcu_model.specs.Infos.{number_kind};
-ghost use Rattle.apcu_model.specs.Telling.{IsTellable, sized_members, stepped_end};
-ghost use Rattle.apcu_model.specs.Telling.{stepped_members};
+ghost use Rattle.apcu_model.specs.InfoGraphs.{IsTellable, sized_members, stepped_end};
+ghost use Rattle.apcu_model.specs.InfoGraphs.{stepped_members};
 
 use php_graph::{Bytes, Child, Graph, Key, Kind, MOST_VALUES, Members, Place};
 use seg_words::words_in;
@@ -37,8 +37,8 @@ impl Drop for Telling {
 impl Model for Telling {
     ghost use Rattle.std.specs.Prelude.{List, ◌∷◌};
     ghost use Rattle.php_graph.specs.declared.kind.Kind.{Kind};
-    ghost use Rattle.php_graph.specs.Kept.{kinds_at};
-    ghost use Rattle.apcu_model.specs.Telling.{IsLaidOut};
+    ghost use Rattle.php_graph.specs.PlaceOffsets.{kinds_at};
+    ghost use Rattle.apcu_model.specs.InfoGraphs.{IsLaidOut};
 
     ghost Value = { List Kind };
 

@@ -24,8 +24,8 @@ use Rattle.apcu_play.specs.Causes.{IsCause, IsCauseIn, ending_by, refuses_none, 
 use Rattle.apcu_play.specs.Ended.{Sourced, Sunk, IsUnwritten, IsEnding}
 use Rattle.apcu_play.specs.Inputs.{AreTooMany, AreFew, Spells, SpellsNone, LacksBundle, IsFirstFault, IsFirstBundleFault, bundle_of}
 use Rattle.apcu_play.specs.Tasks.{longest_input, WasRead, IsCrowded, IsCrowdedTask, LeavesInput, generated_events}
-use Rattle.apcu_play.proofs.Fronts.{whole_fault}
-use Rattle.apcu_play.proofs.Taken.{was_taken, none_taken}
+use Rattle.apcu_play.proofs.InputFaults.{whole_fault}
+use Rattle.apcu_play.proofs.TakenInput.{was_taken, none_taken}
 
 -- nothing is taken from an input that is left
 left_taken : (before after : Option (List ℕ)) (most : ℕ) → after ≡ before → HasTakenWithin before after most

@@ -7,14 +7,14 @@ use Rattle.apcu_model.specs.declared.conf.Conf.{Conf}
 use Rattle.apcu_model.specs.declared.noted.Counts.{Counts}
 use Rattle.apcu_model.specs.declared.journal.Mark.{Mark}
 use Rattle.cache_core.specs.declared.cache.Core.{Core}
-use Rattle.cache_core.specs.Caching.{cache_of}
+use Rattle.cache_core.specs.CoreCache.{cache_of}
 use Rattle.script_read.specs.declared.script.Step.{Step}
 use Rattle.script_read.specs.Clock.{all_timed}
 use Rattle.script_read.specs.Play.{Play as Played, played}
 use Rattle.reply_text.specs.Output.{worker_texts, journal_lines, output_of, play_text}
 use Rattle.seg_report.specs.Lines.{map_text}
 use Rattle.crew_play.specs.declared.play.Left.{Left}
-use Rattle.crew_play.specs.Played.{IsPlayed, IsLeft, ComeFirst}
+use Rattle.crew_play.specs.PlayedScripts.{IsPlayed, IsLeft, ComeFirst}
 use Rattle.apcu_play.specs.Printing.{PrintsCrew, rest_of}
 use Rattle.apcu_play.specs.Tasks.{LoadsFirst, map_after, played_text}
 

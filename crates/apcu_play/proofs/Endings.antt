@@ -12,8 +12,8 @@ use Rattle.apcu_play.specs.declared.status.Status.TheVariants.{Done, Usage, Scri
 use Rattle.apcu_play.specs.Ended.{Sourced, Sunk, sourced, sunk, IsUnwritten, IsEnding, HasEnded}
 use Rattle.apcu_play.specs.Run.{IsUnlessMemory}
 use Rattle.apcu_play.specs.Tasks.{longest_input, LeavesInput}
-use Rattle.apcu_play.proofs.Taken.{none_taken}
-use Rattle.apcu_play.proofs.Unmet.{unmet}
+use Rattle.apcu_play.proofs.TakenInput.{none_taken}
+use Rattle.apcu_play.proofs.ExcludedCases.{unmet}
 
 module _ (may_refuse : Bool → List ℕ → Type 0) (s : Settings) (input : Sourced) (out : Sunk) (place : ℕ) (reason : Reason) where
   unwritten_by : (status : Status) → IsEnding may_refuse s input out status place reason → status ≢ Done → status ≢ Differs → status ≢ WriteFault → IsUnwritten out

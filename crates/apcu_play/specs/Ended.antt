@@ -76,21 +76,21 @@ IsEnding may_refuse s input out Pattern place reason =
 IsEnding may_refuse s input out Usage place reason = ⊥
 
 -- how a run has ended for these words, in order or not
-pub record HasEnded (may_refuse : Bool → List ℕ → Type 0) (told : Option Settings)
+pub record HasEnded (may_refuse : Bool → List ℕ → Type 0) (parsed : Option Settings)
     (input : Sourced) (out : Sunk) (ending : Ending) : Type 0 where
-  pub replayed : IfSome told (λ s. ending.status ≡ Done
+  pub replayed : IfSome parsed (λ s. ending.status ≡ Done
       → Replays s Done input.before input.after out.before out.after)
-  pub differs : IfSome told (λ s. ending.status ≡ Differs
+  pub differs : IfSome parsed (λ s. ending.status ≡ Differs
       → Replays s Differs input.before input.after out.before out.after)
-  pub usage : ending.status ≡ Usage → told ≡ None
-  pub faulty_words : told ≡ None → IsUnlessMemory Usage ending.status
-  pub script : IfSome told (λ s. ending.status ≡ Script
+  pub usage : ending.status ≡ Usage → parsed ≡ None
+  pub faulty_words : parsed ≡ None → IsUnlessMemory Usage ending.status
+  pub script : IfSome parsed (λ s. ending.status ≡ Script
       → IsRefusedAt s.task input.before input.after ending.place ending.reason)
-  pub bundle : IfSome told (λ s. ending.status ≡ Bundle
+  pub bundle : IfSome parsed (λ s. ending.status ≡ Bundle
       → IsUnloadedAt s.task input.before input.after ending.place ending.reason)
-  pub too_many : IfSome told (λ s. ending.status ≡ TooMany
+  pub too_many : IfSome parsed (λ s. ending.status ≡ TooMany
       → IsCrowdedTask s.conf s.task input.before input.after)
-  pub pattern : IfSome told (λ s. ending.status ≡ Pattern
+  pub pattern : IfSome parsed (λ s. ending.status ≡ Pattern
       → IsUnsearchable may_refuse s.conf s.task input.before input.after)
   pub too_long : ending.status ≡ TooLong
       → HasTaken input.before input.after (longest_input + 1)
@@ -99,10 +99,10 @@ pub record HasEnded (may_refuse : Bool → List ℕ → Type 0) (told : Option S
   pub within : ending.status ≢ TooLong
       → HasTakenWithin input.before input.after longest_input
   pub read_fault : ending.status ≡ ReadFault → Rose input.reads_before input.reads_after
-  pub unread : IfSome told (λ s. LeavesInput s.task ending.status
+  pub unread : IfSome parsed (λ s. LeavesInput s.task ending.status
       input.before input.after input.reads_before input.reads_after)
   pub write_fault : ending.status ≡ WriteFault → Rose out.writes_before out.writes_after
-  pub cut : IfSome told (λ s. ending.status ≡ WriteFault
+  pub cut : IfSome parsed (λ s. ending.status ≡ WriteFault
       → ReplaysPart s input.before input.after out.before out.after)
   pub unchanged : ending.status ≢ Done → ending.status ≢ Differs
       → ending.status ≢ WriteFault → IsUnwritten out

@@ -72,7 +72,7 @@ pub record TellsMessage
     (message : List ℕ) (held_before held_after : Option (List ℕ)) (faults_before faults_after : ℕ)
     : Type 0 where
   pub all : Bool
-  pub told : WasWritten all message held_before held_after faults_before faults_after
+  pub written : WasWritten all message held_before held_after faults_before faults_after
 
 -- a script's first fault was told
 pub record TellsRefusal (task : Task)
@@ -82,7 +82,7 @@ pub record TellsRefusal (task : Task)
   pub place : ℕ
   pub reason : Reason
   pub refused : IsRefusedAt task left_before left_after place reason
-  pub told :
+  pub written :
       TellsMessage (script_message place reason) held_before held_after faults_before faults_after
 
 -- a bundle's first fault was told
@@ -93,7 +93,7 @@ pub record TellsUnloaded (task : Task)
   pub place : ℕ
   pub reason : Reason
   pub unloaded : IsUnloadedAt task left_before left_after place reason
-  pub told :
+  pub written :
       TellsMessage (bundle_message place reason) held_before held_after faults_before faults_after
 
 -- this status, if memory was found

@@ -21,8 +21,8 @@ use Rattle.run_verify.specs.declared.verifying.Verdict.{Verdict}
 use Rattle.run_verify.specs.declared.verifying.Verdict.TheVariants.{Yes, NoJournal, Event, Byte}
 use Rattle.run_verify.specs.Verdicts.{verdict_of}
 use Rattle.seg_report.specs.Lines.{map_text}
-use Rattle.crew_play.specs.Played.{ComeFirst}
-use Rattle.crew_play.specs.Watched.{IsWatched}
+use Rattle.crew_play.specs.PlayedScripts.{ComeFirst}
+use Rattle.crew_play.specs.GeneratedRuns.{IsWatched}
 use Rattle.apcu_play.specs.declared.status.Status.{Status}
 use Rattle.apcu_play.specs.declared.status.Status.TheVariants.{Done, Script, ReadFault, TooLong}
 use Rattle.apcu_play.specs.declared.status.Status.TheVariants.{Pattern, Differs}

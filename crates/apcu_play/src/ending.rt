@@ -58,7 +58,7 @@ pub(crate) fn ending_by(status: Status, ahead: u64, fault: &ScriptFault) -> Endi
 pub(crate) fn tell_ending<E: Sink>(err: &mut E, ending: Ending)
     ensures silent { ending.status ≡ Status.Done
         → (E.held err.new ≡ E.held err.old) × (E.faults err.new ≡ E.faults err.old) }
-    ensures told { ending.status ≢ Status.Done → ending.status ≢ Status.Script
+    ensures message { ending.status ≢ Status.Done → ending.status ≢ Status.Script
         → ending.status ≢ Status.Bundle → TellsMessage (message_of ending.status)
         (E.held err.old) (E.held err.new) (E.faults err.old) (E.faults err.new) }
     ensures script { ending.status ≡ Status.Script

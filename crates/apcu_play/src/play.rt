@@ -3,7 +3,7 @@
 ghost use Rattle.std.specs.Prelude.{◌≡◌, ◌≢◌, ◌<◌, ◌≤◌, ◌++◌, length, IfOk, IfErr, IfSome, OnOk};
 ghost use Rattle.seg_words.specs.contracts.vec_words.VecWordsWordsIn.TheImpl as held;
 ghost use Rattle.apcu_model.specs.Conf.{IsGood};
-ghost use Rattle.cache_core.specs.Caching.{CacheStands};
+ghost use Rattle.cache_core.specs.CoreCache.{CacheStands};
 ghost use Rattle.script_read.specs.Budgets.{all_events, most_events};
 ghost use Rattle.script_read.specs.Patterns.{SomeRefusable};
 ghost use Rattle.crew_play.specs.declared.play.CrewFault.TheVariants.{TooMany, Pattern};

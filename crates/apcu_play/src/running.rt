@@ -153,13 +153,13 @@ pub fn run<R: Threads + Wait + Sync, S: Source, K: Sink, E: Sink, M: Maker + Syn
         → (K.held out.new ≡ K.held out.old) × (K.faults out.new ≡ K.faults out.old) }
     ensures silent { result ≡ Status.Done
         → (E.held err.new ≡ E.held err.old) × (E.faults err.new ≡ E.faults err.old) }
-    ensures told { result ≢ Status.Done → result ≢ Status.Script → result ≢ Status.Bundle
+    ensures message { result ≢ Status.Done → result ≢ Status.Script → result ≢ Status.Bundle
         → TellsMessage (message_of result)
         (E.held err.old) (E.held err.new) (E.faults err.old) (E.faults err.new) }
-    ensures told_script { IfSome (settings_of words.now) (λ s. result ≡ Status.Script
+    ensures script_message { IfSome (settings_of words.now) (λ s. result ≡ Status.Script
         → TellsRefusal s.task (S.left input.old) (S.left input.new)
         (E.held err.old) (E.held err.new) (E.faults err.old) (E.faults err.new)) }
-    ensures told_bundle { IfSome (settings_of words.now) (λ s. result ≡ Status.Bundle
+    ensures bundle_message { IfSome (settings_of words.now) (λ s. result ≡ Status.Bundle
         → TellsUnloaded s.task (S.left input.old) (S.left input.new)
         (E.held err.old) (E.held err.new) (E.faults err.old) (E.faults err.new)) }
 {

@@ -88,7 +88,7 @@ impl<'a, R: Wait> Holding<'a, R> {
     }
 
     // Whether all have come for whom the hold waits.
-    fn is_over(&self, hold: Hold) -> bool {
+    fn is_let_go(&self, hold: Hold) -> bool {
         let mut count = 0u32;
         for come in self.come.lock(self.rt).as_slice() {
             if hold.waits_for(*come) {
@@ -100,7 +100,7 @@ impl<'a, R: Wait> Holding<'a, R> {
 
     fn wait(&self, hold: Hold) {
         for _turn in 0..TURNS {
-            if self.is_over(hold) {
+            if self.is_let_go(hold) {
                 return;
             }
         }

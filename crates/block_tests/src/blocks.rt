@@ -6,7 +6,7 @@ use std::alloc::{AllocError, Global};
 use std::test::Fail;
 
 // Steps over so many words of one segment, from the word 32 on.
-fn play_fresh(alloc: Global, len: u32, steps: &[Step]) -> Result<usize, AllocError> {
+fn play_new(alloc: Global, len: u32, steps: &[Step]) -> Result<usize, AllocError> {
     let shape = Shape {
         len,
         from: 32,
@@ -41,7 +41,7 @@ fn takes_and_gives(rt: HostRuntime) -> Result<(), Fail> {
         Step::Free(0),
         Step::Largest(0),
     ];
-    assert_eq!(rt; play_fresh(rt.alloc(), 64, STEPS)?, 22);
+    assert_eq!(rt; play_new(rt.alloc(), 64, STEPS)?, 22);
     Ok(())
 }
 
@@ -70,7 +70,7 @@ fn links_gaps(rt: HostRuntime) -> Result<(), Fail> {
         Step::Take(8, Some(48)),
         Step::Word(35, 0),
     ];
-    assert_eq!(rt; play_fresh(rt.alloc(), 64, STEPS)?, 21);
+    assert_eq!(rt; play_new(rt.alloc(), 64, STEPS)?, 21);
     Ok(())
 }
 
@@ -92,8 +92,8 @@ fn merges_in_either_order(rt: HostRuntime) -> Result<(), Fail> {
         Step::Give(0),
         Step::Take(320, Some(32)),
     ];
-    assert_eq!(rt; play_fresh(rt.alloc(), 512, LATE)?, 6);
-    assert_eq!(rt; play_fresh(rt.alloc(), 512, EARLY)?, 6);
+    assert_eq!(rt; play_new(rt.alloc(), 512, LATE)?, 6);
+    assert_eq!(rt; play_new(rt.alloc(), 512, EARLY)?, 6);
     Ok(())
 }
 
@@ -153,7 +153,7 @@ fn keeps_blocks(rt: HostRuntime) -> Result<(), Fail> {
     for (i, then) in [SOME, NONE, ALL, GAPS_BEFORE].iter().enumerate() {
         let steps = joined(rt.alloc(), FULL, then)?;
         assert_eq!(rt;
-            play_fresh(rt.alloc(), 64, steps.as_slice())?,
+            play_new(rt.alloc(), 64, steps.as_slice())?,
             steps.len(),
             "row {i}"
         );
@@ -195,7 +195,7 @@ fn draw(alloc: Global, count: u32) -> Result<Vec<Step>, AllocError> {
 #[test]
 fn agrees_with_the_plain_list(rt: HostRuntime) -> Result<(), Fail> {
     let steps = draw(rt.alloc(), 10_000)?;
-    assert_eq!(rt; play_fresh(rt.alloc(), 512, &steps)?, 10_000);
+    assert_eq!(rt; play_new(rt.alloc(), 512, &steps)?, 10_000);
     Ok(())
 }
 

@@ -1,6 +1,7 @@
-ghost use Rattle.std.specs.Prelude.{◌≡◌, ℕ, ◌+◌, ◌<◌, ◌≤◌, length, slice_index, slice_set, Some, None, IfOk, IfSome};
+ghost use Rattle.std.specs.Prelude.{◌≡◌, ℕ, ◌+◌, ◌<◌, ◌≤◌, length, slice_index, slice_set};
+ghost use Rattle.std.specs.Prelude.{Some, None, IfOk, IfSome};
 ghost use Rattle.pin_table.specs.Pins.{MayPin, content_of};
-ghost use Rattle.pin_table.specs.Lists.{fresh, fresh_pass};
+ghost use Rattle.pin_table.specs.Lists.{first_passes, first_pass};
 ghost use Rattle.block_tests.specs.Pinned.{one_block};
 
 use apcu_model::Ask;
@@ -22,9 +23,9 @@ fn one_block(alloc: Global) -> Result<VecWords, AllocError>
 }
 
 fn two_passes(table: &PinTable, budgets: &[u32], passes: &mut Passes) -> Option<(Pass, Pass)>
-    requires { passes.old ≡ fresh table.now budgets.now 2 }
-    ensures first { IfSome result (λ p. p.0 ≡ fresh_pass table.now budgets.now 0) }
-    ensures second { IfSome result (λ p. p.1 ≡ fresh_pass table.now budgets.now 1) }
+    requires { passes.old ≡ first_passes table.now budgets.now 2 }
+    ensures first { IfSome result (λ p. p.0 ≡ first_pass table.now budgets.now 0) }
+    ensures second { IfSome result (λ p. p.1 ≡ first_pass table.now budgets.now 1) }
 {
     let second = passes.pop()?;
     let first = passes.pop()?;
@@ -42,14 +43,15 @@ fn crosses<C: Send, T: Sync>(copying: C, _table: &T) -> C
 fn writes(table: &PinTable, seat: &mut WriterSeat, pass: Pass, w: u64) -> (Pass, u64)
     requires table { seat.old.table ≡ table.now }
     requires pass { pass.table ≡ table.now }
-    requires hand { seat.old.desk.book.hand ≡ None }
+    requires hand { seat.old.state.log.hand ≡ None }
     requires left { 1 ≤ pass.known.left }
-    requires place { 1 < length seat.old.desk.words }
+    requires place { 1 < length seat.old.state.words }
     ensures table { seat.new.table ≡ seat.old.table }
-    ensures hand { seat.new.desk.book.hand ≡ None }
-    ensures made { seat.new.desk.book.made ≡ seat.old.desk.book.made }
-    ensures words { seat.new.desk.words ≡ slice_set seat.old.desk.words 1 w }
-    ensures windows { seat.new.desk.windows ≡ slice_set seat.old.desk.windows pass.known.worker 0 }
+    ensures hand { seat.new.state.log.hand ≡ None }
+    ensures made { seat.new.state.log.made ≡ seat.old.state.log.made }
+    ensures words { seat.new.state.words ≡ slice_set seat.old.state.words 1 w }
+    ensures windows { seat.new.state.windows
+        ≡ slice_set seat.old.state.windows pass.known.worker 0 }
     ensures pass { result.0.table ≡ pass.table }
     ensures worker { result.0.known.worker ≡ pass.known.worker }
     ensures left { result.0.known.left + 1 ≡ pass.known.left }
@@ -65,16 +67,16 @@ fn writes(table: &PinTable, seat: &mut WriterSeat, pass: Pass, w: u64) -> (Pass,
 fn pins(table: &PinTable, seat: &mut WriterSeat, pass: Pass) -> Copying
     requires table { seat.old.table ≡ table.now }
     requires pass { pass.table ≡ table.now }
-    requires hand { seat.old.desk.book.hand ≡ None }
+    requires hand { seat.old.state.log.hand ≡ None }
     requires left { 1 ≤ pass.known.left }
-    requires block { MayPin seat.old.desk.words
-        (slice_set seat.old.desk.windows pass.known.worker 0) 2 }
+    requires block { MayPin seat.old.state.words
+        (slice_set seat.old.state.windows pass.known.worker 0) 2 }
     ensures table { seat.new.table ≡ seat.old.table }
-    ensures hand { seat.new.desk.book.hand ≡ None }
-    ensures made { seat.new.desk.book.made ≡ seat.old.desk.book.made }
-    ensures words { seat.new.desk.words ≡ seat.old.desk.words }
+    ensures hand { seat.new.state.log.hand ≡ None }
+    ensures made { seat.new.state.log.made ≡ seat.old.state.log.made }
+    ensures words { seat.new.state.words ≡ seat.old.state.words }
     ensures copying { result.table ≡ pass.table }
-    ensures content { result.copy.content ≡ content_of seat.old.desk.words 2 }
+    ensures content { result.copy.content ≡ content_of seat.old.state.words 2 }
     ensures worker { result.copy.known.worker ≡ pass.known.worker }
     ensures left { result.copy.known.left + 1 ≡ pass.known.left }
 {
@@ -86,14 +88,14 @@ fn pins(table: &PinTable, seat: &mut WriterSeat, pass: Pass) -> Copying
 fn probes(table: &PinTable, seat: &mut WriterSeat, pass: Pass) -> (Pass, bool, u64)
     requires table { seat.old.table ≡ table.now }
     requires pass { pass.table ≡ table.now }
-    requires hand { seat.old.desk.book.hand ≡ None }
+    requires hand { seat.old.state.log.hand ≡ None }
     requires left { 1 ≤ pass.known.left }
-    requires inside { 14 ≤ length seat.old.desk.words }
-    requires count { slice_index seat.old.desk.words 13 ≡ 0 }
+    requires inside { 14 ≤ length seat.old.state.words }
+    requires count { slice_index seat.old.state.words 13 ≡ 0 }
     ensures table { seat.new.table ≡ seat.old.table }
-    ensures hand { seat.new.desk.book.hand ≡ None }
-    ensures made { seat.new.desk.book.made ≡ seat.old.desk.book.made }
-    ensures words { seat.new.desk.words ≡ seat.old.desk.words }
+    ensures hand { seat.new.state.log.hand ≡ None }
+    ensures made { seat.new.state.log.made ≡ seat.old.state.log.made }
+    ensures words { seat.new.state.words ≡ seat.old.state.words }
     ensures pass { result.0.table ≡ pass.table }
     ensures worker { result.0.known.worker ≡ pass.known.worker }
     ensures left { result.0.known.left + 1 ≡ pass.known.left }
@@ -108,12 +110,12 @@ fn probes(table: &PinTable, seat: &mut WriterSeat, pass: Pass) -> (Pass, bool, u
 fn ends(table: &PinTable, seat: &mut WriterSeat, pass: Pass) -> Ended
     requires table { seat.old.table ≡ table.now }
     requires pass { pass.table ≡ table.now }
-    requires hand { seat.old.desk.book.hand ≡ None }
+    requires hand { seat.old.state.log.hand ≡ None }
     requires left { 1 ≤ pass.known.left }
     ensures table { seat.new.table ≡ seat.old.table }
-    ensures hand { seat.new.desk.book.hand ≡ None }
-    ensures made { seat.new.desk.book.made ≡ seat.old.desk.book.made }
-    ensures words { seat.new.desk.words ≡ seat.old.desk.words }
+    ensures hand { seat.new.state.log.hand ≡ None }
+    ensures made { seat.new.state.log.made ≡ seat.old.state.log.made }
+    ensures words { seat.new.state.words ≡ seat.old.state.words }
     ensures pass { result.table ≡ pass.table }
     ensures worker { result.known.worker ≡ pass.known.worker }
 {

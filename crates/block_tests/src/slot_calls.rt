@@ -29,7 +29,7 @@ fn sets_and_uses(rt: HostRuntime) -> Result<(), Fail> {
     assert_eq!(rt; numbers_of(&read), [2, 45, 2, 16, 0, 9, 9, 0, 1, 0, 1]);
     assert!(rt; read.has_key && read.next == 0);
     assert_eq!(rt; read.image, (45, 2));
-    assert!(rt; !read.is_over);
+    assert!(rt; !read.is_expired);
     assert_eq!(rt; words.into_words().get(46), Some(&u64::MAX));
     Ok(())
 }
@@ -42,7 +42,7 @@ struct Read {
     next: u32,
     // The place of the image and its length.
     image: (u32, u32),
-    is_over: bool,
+    is_expired: bool,
 }
 
 // The key's length, the image's place and length, and the block's size; when it was created,
@@ -105,7 +105,7 @@ fn update<S: Segment>(
     requires short { length key.now < 2 ^ 32 }
     requires small { block_size (length key.now) g.now < 2 ^ 32 }
     requires stand { Stand S.WordsIn slots.old seg.old }
-    requires fresh { entries slots.old ≡ no_entries conf.now }
+    requires empty { entries slots.old ≡ no_entries conf.now }
     requires closed { (at : ℕ) → is_named (S.aside seg.old).windows at ≡ false }
     requires ints { 1 ≤ length g.now }
 {
@@ -128,13 +128,13 @@ fn read_at<S: Segment>(slots: &EntrySlots, seg: &mut S, at: u32, key: &[u8]) -> 
     let next = slots.after(seg, at);
     let place = slots.image_at(seg, at, key.len() as u32);
     let len = slots.image_len(seg, at);
-    let is_over = slots.is_hard_expired(seg, at, 9);
+    let is_expired = slots.is_hard_expired(seg, at, 9);
     Read {
         head,
         has_key,
         next,
         image: (place, len),
-        is_over,
+        is_expired,
     }
 }
 

@@ -222,7 +222,7 @@ fn give_up<S: Segment>(seg: &mut S, at: u32, w: u64) -> bool
     requires block { at + 12 ≤ length (S.words seg.old) }
     requires clear { (place : ℕ) → is_named (S.aside seg.old).windows place ≡ false }
     requires count { slice_index (S.words seg.old) (at + 11) ≡ 0 }
-    requires fresh { has at (S.aside seg.old).refused ≡ false }
+    requires unrefused { has at (S.aside seg.old).refused ≡ false }
     ensures { slice_index (S.words seg.new) at ≡ w }
 {
     if seg.mask() == 0 {

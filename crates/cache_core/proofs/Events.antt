@@ -17,12 +17,12 @@ use Rattle.apcu_model.specs.Lookups.{touched}
 use Rattle.entry_slots.specs.Entries.{Entries, touched_row, touched_in, number_row, with_number}
 use Rattle.entry_slots.specs.Lists.{is_at}
 use Rattle.entry_slots.specs.Standing.{entries}
-use Rattle.ttl_expunge.specs.Held.{AreHeld, AreRemoved, KeepsOpen}
-use Rattle.ttl_expunge.proofs.Open.{open_on}
+use Rattle.ttl_expunge.specs.ProbedRows.{AreHeld, AreRemoved, KeepsOpen}
+use Rattle.ttl_expunge.proofs.OpenWindows.{open_on}
 use Rattle.cache_core.specs.declared.cache.Core.{Core}
-use Rattle.cache_core.specs.Caching.{cache_of, CacheStands}
+use Rattle.cache_core.specs.CoreCache.{cache_of, CacheStands}
 use Rattle.cache_core.specs.Events.{MayDrop, MayInsert, IsBy, IsStep, Does, IsUnchanged, DoesIf}
-use Rattle.cache_core.proofs.Caching.{cache_kept}
+use Rattle.cache_core.proofs.CoreCacheLemmas.{cache_kept}
 
 -- as the call leaves the windows and the mask
 pub by_now : {A : Type 0} {aside : Aside} (f : List ℕ → A) {x : A} → IsBy aside f x → x ≡ f (held_blocks aside)
@@ -87,25 +87,25 @@ steps {g = g} {old} {mid} {new} {before} {between} {after} one two = record {
 
 -- no place is refused but those of removed rows, where none is
 pub none_removed : (aside : Aside) (removed : List Row) → ((b : ℕ) → has b aside.refused ≡ false) → AreRemoved aside removed
-none_removed aside removed fresh = record { each = λ b h. absurd (false≢true (sym (fresh b) ∙ h)) }
+none_removed aside removed unrefused = record { each = λ b h. absurd (false≢true (sym (unrefused b) ∙ h)) }
 
 -- the first call of an event may do either
 pub may_drop : {X R : Type 0} {g : Ghosts X R} {core : Core} {seg : X} → CacheStands g core seg → ((b : ℕ) → has b (g.aside seg).refused ≡ false) → MayDrop g core seg
-may_drop {g = g} {core} {seg} st fresh = record { stand = st; refused = none_removed (g.aside seg) (cache_of core).removed fresh }
+may_drop {g = g} {core} {seg} st unrefused = record { stand = st; refused = none_removed (g.aside seg) (cache_of core).removed unrefused }
 
 pub may_insert : {X R : Type 0} {g : Ghosts X R} {core : Core} {seg : X} → CacheStands g core seg → ((b : ℕ) → has b (g.aside seg).refused ≡ false) → MayInsert g false core seg
-may_insert {g = g} {core} {seg} st fresh = record {
+may_insert {g = g} {core} {seg} st unrefused = record {
   stand = st;
-  fresh = λ was b. fresh b;
+  unrefused = λ was b. unrefused b;
   held = λ was. absurd (false≢true was);
-  refused = none_removed (g.aside seg) (cache_of core).removed fresh;
+  refused = none_removed (g.aside seg) (cache_of core).removed unrefused;
 }
 
 -- it still may after a call that only reads
 pub insert_kept : {X R : Type 0} {g : Ghosts X R} {swept : Bool} {before after : X} (core : Core) → Kept g before after → MayInsert g swept core before → MayInsert g swept core after
 insert_kept {g = g} {before = before} {after} core kept may = record {
   stand = cache_kept core kept may.stand;
-  fresh = λ was b. ap (λ (a : Aside). has b a.refused) kept.aside ∙ may.fresh was b;
+  unrefused = λ was b. ap (λ (a : Aside). has b a.refused) kept.aside ∙ may.unrefused was b;
   held = λ was. subst (λ (a : Aside). AreHeld a (cache_of core).removed) (sym kept.aside) (may.held was);
   refused = subst (λ (a : Aside). AreRemoved a (cache_of core).removed) (sym kept.aside) may.refused;
 }

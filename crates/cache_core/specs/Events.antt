@@ -10,9 +10,9 @@ use Rattle.apcu_model.specs.declared.request.StoreAnswer.{StoreAnswer}
 use Rattle.apcu_model.specs.declared.request.StoreAnswer.TheVariants as answers
 use Rattle.apcu_model.specs.Sequential.{cache_after, reply_to}
 use Rattle.entry_slots.specs.Standing.{entries}
-use Rattle.ttl_expunge.specs.Held.{AreHeld, AreRemoved, KeepsOpen}
+use Rattle.ttl_expunge.specs.ProbedRows.{AreHeld, AreRemoved, KeepsOpen}
 use Rattle.cache_core.specs.declared.cache.Core.{Core}
-use Rattle.cache_core.specs.Caching.{cache_of, CacheStands}
+use Rattle.cache_core.specs.CoreCache.{cache_of, CacheStands}
 
 -- Rows may be dropped: no place is refused but those of removed rows.
 pub record MayDrop {X R : Type 0} (g : Ghosts X R) (core : Core) (seg : X) : Type 0 where
@@ -24,7 +24,7 @@ pub record MayDrop {X R : Type 0} (g : Ghosts X R) (core : Core) (seg : X) : Typ
 pub record MayInsert {X R : Type 0} (g : Ghosts X R) (swept : Bool) (core : Core) (seg : X)
     : Type 0 where
   pub stand : CacheStands g core seg
-  pub fresh : swept ≡ false → (b : ℕ) → has b (g.aside seg).refused ≡ false
+  pub unrefused : swept ≡ false → (b : ℕ) → has b (g.aside seg).refused ≡ false
   pub held : swept ≡ true → AreHeld (g.aside seg) (cache_of core).removed
   pub refused : AreRemoved (g.aside seg) (cache_of core).removed
 

@@ -1,10 +1,10 @@
 pub mod Laws
 pub mod Placing
 pub mod Looking
-pub mod Caching
+pub mod CoreCache
 pub mod Events
-pub mod Lending
+pub mod LentEntries
 pub mod Storing
 pub mod Integers
 pub mod Spots
-pub mod Noting
+pub mod Counting

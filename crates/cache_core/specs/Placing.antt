@@ -5,14 +5,14 @@ use Rattle.php_graph.specs.declared.kind.Kind.{Kind}
 use Rattle.php_graph.specs.Size.{block_size}
 use Rattle.apcu_model.specs.Cache.{Row, Cache, risen, has_key}
 use Rattle.apcu_model.specs.Change.{is_held, with_row, placed}
-use Rattle.entry_slots.specs.Entries.{Entries, entries_of, with_taken, fresh_row}
+use Rattle.entry_slots.specs.Entries.{Entries, entries_of, with_taken, stored_row}
 use Rattle.seg_words.specs.Probing.{Goes}
-use Rattle.ttl_expunge.specs.Held.{AreDecided, AreRemoved, AreHeld, KeepsOpen}
+use Rattle.ttl_expunge.specs.ProbedRows.{AreDecided, AreRemoved, AreHeld, KeepsOpen}
 
 -- the new row stands in the block that was taken for it, and the old row of the key was dropped
 abbrev pub replaced_in : List ℕ → ℕ → List ℕ → List Kind → ℕ → ℕ → Entries → Entries
 replaced_in held at key graph ttl t s = record s {
-  rows = with_row (fresh_row key graph ttl t at s.next_number) s.rows;
+  rows = with_row (stored_row key graph ttl t at s.next_number) s.rows;
   removed = s.removed
       ++ map {A = Row} (λ row. record row { dtime = t })
       (filter (is_held held) (filter (has_key key) s.rows));

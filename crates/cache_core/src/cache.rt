@@ -6,7 +6,7 @@ ghost use Rattle.apcu_model.specs.Cache.{empty_cache, counts_of};
 ghost use Rattle.entry_slots.specs.Standing.{IsStanding};
 ghost use Rattle.apcu_model.specs.Conf.{IsGood};
 
-use crate::tally::Tally;
+use crate::cache_counts::CacheCounts;
 use apcu_model::{Conf, Counts};
 use entry_slots::EntrySlots;
 use max_tree::MaxRow;
@@ -20,7 +20,7 @@ use seg_words::{Segment, WordsIn};
 pub struct Core {
     pub(crate) slots: EntrySlots,
     pub(crate) conf: Conf,
-    pub(crate) tally: Tally,
+    pub(crate) cache_counts: CacheCounts,
 }
 
 impl Drop for Core {
@@ -28,14 +28,14 @@ impl Drop for Core {
         let Core {
             slots: _,
             conf: _,
-            tally: _,
+            cache_counts: _,
         } = self;
     }
 }
 
 impl Core {
-    ghost use Rattle.cache_core.specs.Caching.{cache_of, CacheStands};
-    ghost use Rattle.cache_core.specs.Lending.{LendsSlots};
+    ghost use Rattle.cache_core.specs.CoreCache.{cache_of, CacheStands};
+    ghost use Rattle.cache_core.specs.LentEntries.{LendsSlots};
 
     /// Makes a cache of this shape without rows. No window may be open.
     ///
@@ -53,7 +53,7 @@ impl Core {
         Core {
             slots: EntrySlots::format(seg, conf, gaps),
             conf: *conf,
-            tally: Tally::new(),
+            cache_counts: CacheCounts::new(),
         }
     }
 
@@ -63,10 +63,10 @@ impl Core {
         ensures { result ≡ counts_of (cache_of self.now) }
     {
         Counts {
-            hits: self.tally.hits,
-            misses: self.tally.misses,
-            inserts: self.tally.inserts,
-            expunges: self.tally.expunges,
+            hits: self.cache_counts.hits,
+            misses: self.cache_counts.misses,
+            inserts: self.cache_counts.inserts,
+            expunges: self.cache_counts.expunges,
             entries: u64::from(self.slots.rows()),
         }
     }

@@ -7,7 +7,7 @@ ghost use Rattle.cache_core.specs.Events.{MayDrop, Does, IsUnchanged};
 
 use crate::cache::Core;
 use crate::lower::lower_laws;
-use crate::tally::Tally;
+use crate::cache_counts::CacheCounts;
 use seg_words::Segment;
 use ttl_expunge::{drop_row_at, expunge_at_once};
 
@@ -37,6 +37,6 @@ impl Core {
     {
         lower_laws();
         expunge_at_once(&mut self.slots, seg, t);
-        self.tally = Tally::new();
+        self.cache_counts = CacheCounts::new();
     }
 }

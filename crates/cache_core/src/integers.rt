@@ -8,7 +8,7 @@ ghost use Rattle.apcu_model.specs.Counters.{integer_set};
 ghost use Rattle.apcu_model.specs.Expiry.{live_row};
 ghost use Rattle.entry_slots.specs.Entries.{HoldsInt};
 ghost use Rattle.entry_slots.specs.Standing.{entries};
-ghost use Rattle.cache_core.specs.Caching.{cache_of, CacheStands};
+ghost use Rattle.cache_core.specs.CoreCache.{cache_of, CacheStands};
 ghost use Rattle.cache_core.specs.Events.{IsStep};
 ghost use Rattle.cache_core.specs.Looking.{scalar_of};
 

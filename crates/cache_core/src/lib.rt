@@ -11,11 +11,11 @@ mod dropping;
 mod integers;
 mod looking;
 mod lower;
-mod noting;
+mod counting;
 mod placing;
 mod scalar;
 mod storing;
-mod tally;
+mod cache_counts;
 
 pub use cache::Core;
 pub use scalar::{Look, Scalar};

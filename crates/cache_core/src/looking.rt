@@ -7,10 +7,10 @@ ghost use Rattle.apcu_model.specs.Cache.{Row};
 ghost use Rattle.apcu_model.specs.Expiry.{live_row};
 ghost use Rattle.apcu_model.specs.declared.request.Request.TheVariants.{Fetch};
 ghost use Rattle.apcu_model.specs.Sequential.{found_in};
-ghost use Rattle.apcu_model.specs.Walk.{slot_of};
+ghost use Rattle.apcu_model.specs.SlotOrder.{slot_of};
 ghost use Rattle.entry_slots.specs.Spots.{IsSpot, IsSpotOf};
 ghost use Rattle.entry_slots.specs.Standing.{entries};
-ghost use Rattle.cache_core.specs.Caching.{cache_of, CacheStands};
+ghost use Rattle.cache_core.specs.CoreCache.{cache_of, CacheStands};
 ghost use Rattle.cache_core.specs.Events.{Does};
 ghost use Rattle.cache_core.specs.Looking.{look_at, look_of, scalar_of, IsFound, IsRowOf};
 
@@ -138,8 +138,8 @@ impl Core {
     }
 
     /// Looks a key up at the moment `t`: a row that is found is used and counts a hit, else a miss
-    /// is counted. A row whose own time is over is not found; one that is only stale by the cache's
-    /// limit is, and is fresh again.
+    /// is counted. A hard expired row is not found; one that is only soft expired is, and its
+    /// use is counted from now on.
     pub fn look<S: Segment>(&mut self, seg: &mut S, key: &[u8], t: u64) -> Look
         requires short { length key.now < 2 ^ 32 }
         requires stand { CacheStands S.WordsIn self.old seg.old }
@@ -150,12 +150,12 @@ impl Core {
     {
         standing_laws();
         let Some(at) = self.find_live(seg, key, t) else {
-            self.tally = self.tally.after_miss();
+            self.cache_counts = self.cache_counts.after_miss();
             return Look::Miss;
         };
         let scalar = self.scalar_at(seg, key, at);
         self.slots.touch(seg, at, t);
-        self.tally = self.tally.after_hit();
+        self.cache_counts = self.cache_counts.after_hit();
         answer(at, scalar)
     }
 }

@@ -1,7 +1,7 @@
 //! A new row in a block that was taken for it.
 
 ghost use Rattle.std.specs.Prelude.{◌≡◌, ◌<◌, ◌^◌, length, Contains};
-ghost use Rattle.apcu_model.specs.Walk.{slot_of};
+ghost use Rattle.apcu_model.specs.SlotOrder.{slot_of};
 ghost use Rattle.entry_slots.specs.Entries.{block_for};
 ghost use Rattle.entry_slots.specs.Spots.{IsSpotOf};
 ghost use Rattle.entry_slots.specs.Standing.{Stand, entries};

@@ -9,9 +9,9 @@ ghost use Rattle.apcu_model.specs.declared.request.Reply.TheVariants.{Flag};
 ghost use Rattle.apcu_model.specs.Change.{inserted, swept};
 ghost use Rattle.apcu_model.specs.Expiry.{live_row};
 ghost use Rattle.apcu_model.specs.Sequential.{is_stored};
-ghost use Rattle.apcu_model.specs.Walk.{slot_of};
+ghost use Rattle.apcu_model.specs.SlotOrder.{slot_of};
 ghost use Rattle.entry_slots.specs.Standing.{entries};
-ghost use Rattle.cache_core.specs.Caching.{cache_of, CacheStands};
+ghost use Rattle.cache_core.specs.CoreCache.{cache_of, CacheStands};
 ghost use Rattle.cache_core.specs.Events.{MayInsert, Does, IsBy, IsStep, IsUnchanged};
 ghost use Rattle.cache_core.specs.Events.{makes_room};
 ghost use Rattle.cache_core.specs.Storing.{added};
@@ -175,14 +175,14 @@ impl Core {
         let limit = self.conf.ttl;
         let before = self.slots.rows();
         let (place, full) = make_room_next(&mut self.slots, seg, n as u32, limit, t);
-        self.tally = self.tally.after_room(full);
+        self.cache_counts = self.cache_counts.after_room(full);
         let Some(at) = place else {
             return StoreAnswer::NoRoom;
         };
         let after = self.slots.rows();
         let spot = if_still(spot, before, after);
         put_in(&mut self.slots, seg, at, key, slot, spot, g, ttl, limit, t);
-        self.tally = self.tally.after_insert();
+        self.cache_counts = self.cache_counts.after_insert();
         StoreAnswer::Stored
     }
 }

@@ -1,4 +1,4 @@
 mod GapRuns
-mod Noted
-mod Listed
-mod Whole
+mod EntryHeads
+mod ListedRows
+mod InfoAnswers

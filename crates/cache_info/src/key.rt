@@ -2,10 +2,10 @@
 
 ghost use Rattle.std.specs.Prelude.{◌≡◌, ◌<◌, ◌^◌, length, IfOk};
 ghost use Rattle.apcu_model.specs.Infos.{key_info_of};
-ghost use Rattle.cache_core.specs.Caching.{cache_of, CacheStands};
+ghost use Rattle.cache_core.specs.CoreCache.{cache_of, CacheStands};
 ghost use Rattle.cache_core.specs.Events.{IsUnchanged};
 
-use crate::entry::noted_at;
+use crate::entry::info_at;
 use apcu_model::tell_key;
 use cache_core::Core;
 use php_graph::Graph;
@@ -32,6 +32,6 @@ pub fn key_info<S: Segment>(
     let Some((at, _value)) = core.peek(seg, key, t) else {
         return Ok(None);
     };
-    let row = noted_at(core.slots(), seg, at);
+    let row = info_at(core.slots(), seg, at);
     Ok(Some(tell_key(alloc, row)?))
 }

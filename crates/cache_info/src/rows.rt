@@ -3,7 +3,7 @@
 ghost use Rattle.std.specs.Prelude.{◌≡◌, ◌<◌, ◌++◌, map, IfOk, OnOk};
 ghost use Rattle.seg_words.specs.Kept.{Kept};
 ghost use Rattle.apcu_model.specs.Infos.{listed_of};
-ghost use Rattle.apcu_model.specs.Walk.{in_slot_order};
+ghost use Rattle.apcu_model.specs.SlotOrder.{in_slot_order};
 ghost use Rattle.entry_slots.specs.Entries.{chain_of};
 ghost use Rattle.entry_slots.specs.Standing.{Stand, entries};
 

@@ -1,3 +1,3 @@
-mod Opening
-mod Starting
+mod OpenWindows
+mod TwoHeldBlocks
 mod Windows

@@ -4,15 +4,15 @@ use Rattle.std.specs.Prelude.{nat_lt}
 use Rattle.std.proofs.lemmas.Bool.{and_parts, or_cases, eqb-true, false≢true, false_from_ne_true}
 use Rattle.seg_words.specs.declared.segment.WordsIn.{Ghosts}
 use Rattle.seg_words.specs.Windows.{Aside, has, is_named}
-use Rattle.seg_words.specs.Holding.{event_begun}
+use Rattle.seg_words.specs.EventWindows.{event_begun}
 use Rattle.entry_slots.specs.declared.slots.EntrySlots.{EntrySlots}
 use Rattle.entry_slots.specs.Lists.{has_place}
 use Rattle.entry_slots.specs.Entries.{listed, Entries}
 use Rattle.entry_slots.specs.Standing.{Stands, entries}
 use Rattle.entry_slots.specs.Facts.{OnlyClose, OnlyOpensAt}
 use Rattle.cache_core.specs.declared.cache.Core.{Core}
-use Rattle.cache_core.specs.Caching.{CacheStands}
-use Rattle.cache_info_tests.specs.Resting.{Rests}
+use Rattle.cache_core.specs.CoreCache.{CacheStands}
+use Rattle.cache_info_tests.specs.UnheldCaches.{Rests}
 
 has_zero : (n at : ℕ) → has at (replicate n 0) ≡ true → at ≡ 0
 has_zero zero at t = absurd (false≢true t)

@@ -1,2 +1,2 @@
-pub mod Holding
-pub mod Resting
+pub mod TwoHolders
+pub mod UnheldCaches

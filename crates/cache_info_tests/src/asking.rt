@@ -3,7 +3,7 @@
 ghost use Rattle.std.specs.Prelude.{◌≡◌, ℕ, false, IfOk};
 ghost use Rattle.apcu_model.specs.Sequential.{is_iteration};
 ghost use Rattle.seg_words.specs.Windows.{has};
-ghost use Rattle.cache_core.specs.Caching.{CacheStands};
+ghost use Rattle.cache_core.specs.CoreCache.{CacheStands};
 
 use apcu_model::{Conf, Reply, Request, StoreAnswer, integer};
 use cache_core::{Core, Look, Scalar};
@@ -141,7 +141,7 @@ pub(crate) fn answer_of<S: Segment>(
     t: u64,
 ) -> Option<i64>
     requires stand { CacheStands S.WordsIn core.old words.old }
-    requires fresh { (b : ℕ) → has b (S.aside words.old).refused ≡ false }
+    requires unrefused { (b : ℕ) → has b (S.aside words.old).refused ≡ false }
     ensures stand { CacheStands S.WordsIn core.new words.new }
     ensures rest { S.rest words.new ≡ S.rest words.old }
 {

@@ -7,8 +7,8 @@ ghost use Rattle.seg_words.specs.Windows.{has};
 ghost use Rattle.entry_slots.specs.Lists.{has_place};
 ghost use Rattle.entry_slots.specs.Entries.{listed};
 ghost use Rattle.entry_slots.specs.Standing.{Stand, entries};
-ghost use Rattle.cache_core.specs.Caching.{CacheStands};
-ghost use Rattle.cache_info_tests.specs.Holding.{IsRowsPlace, HoldsTwo};
+ghost use Rattle.cache_core.specs.CoreCache.{CacheStands};
+ghost use Rattle.cache_info_tests.specs.TwoHolders.{IsRowsPlace, HoldsTwo};
 
 use crate::asking::answer_of;
 use apcu_model::{Conf, Counts, Request};
@@ -66,7 +66,7 @@ fn begin_with(core: &Core, words: &mut HeldWords, mask: u64, first: u32, second:
     requires first { IsRowsPlace core.now.slots first }
     requires second { IsRowsPlace core.now.slots second }
     ensures two { HoldsTwo ⟦<HeldWords as WordsIn>⟧ core.now words.new }
-    ensures fresh { (b : ℕ)
+    ensures unrefused { (b : ℕ)
         → has b (⟦<HeldWords as WordsIn>⟧.aside words.new).refused ≡ false }
 {
     window_laws();
@@ -98,8 +98,8 @@ pub(crate) struct Held {
 
 impl Model for Held {
     ghost use Rattle.apcu_model.specs.Cache.{Cache};
-    ghost use Rattle.cache_core.specs.Caching.{cache_of};
-    ghost use Rattle.cache_info_tests.specs.Holding.{HoldsTwo};
+    ghost use Rattle.cache_core.specs.CoreCache.{cache_of};
+    ghost use Rattle.cache_info_tests.specs.TwoHolders.{HoldsTwo};
 
     ghost Value = { Cache };
 

@@ -7,8 +7,8 @@ ghost use Rattle.seg_words.specs.Windows.{has};
 ghost use Rattle.entry_slots.specs.Lists.{has_place};
 ghost use Rattle.entry_slots.specs.Entries.{listed};
 ghost use Rattle.entry_slots.specs.Standing.{entries};
-ghost use Rattle.cache_core.specs.Caching.{CacheStands};
-ghost use Rattle.cache_info_tests.specs.Resting.{Rests};
+ghost use Rattle.cache_core.specs.CoreCache.{CacheStands};
+ghost use Rattle.cache_info_tests.specs.UnheldCaches.{Rests};
 
 use crate::asking::string;
 use crate::maps::ONE;
@@ -30,7 +30,7 @@ fn begin_held(core: &Core, words: &mut HeldWords, at: u32)
     requires rests { Rests ⟦<HeldWords as WordsIn>⟧ core.now words.old }
     requires there { has_place at (listed (entries core.now.slots)) ≡ true }
     ensures stand { CacheStands ⟦<HeldWords as WordsIn>⟧ core.now words.new }
-    ensures fresh { (b : ℕ)
+    ensures unrefused { (b : ℕ)
         → has b (⟦<HeldWords as WordsIn>⟧.aside words.new).refused ≡ false }
     ensures held { ⟦<HeldWords as WordsIn>⟧.rest words.new ≡ slice_set (replicate 64 0) 0 at }
 {
@@ -44,7 +44,7 @@ fn begin_free(core: &Core, words: &mut HeldWords, at: u32)
     requires stand { CacheStands ⟦<HeldWords as WordsIn>⟧ core.now words.old }
     requires held { ⟦<HeldWords as WordsIn>⟧.rest words.old ≡ slice_set (replicate 64 0) 0 at }
     ensures rests { Rests ⟦<HeldWords as WordsIn>⟧ core.now words.new }
-    ensures fresh { (b : ℕ)
+    ensures unrefused { (b : ℕ)
         → has b (⟦<HeldWords as WordsIn>⟧.aside words.new).refused ≡ false }
 {
     window_laws();
@@ -62,8 +62,8 @@ struct Held {
 
 impl Model for Held {
     ghost use Rattle.apcu_model.specs.Cache.{Cache};
-    ghost use Rattle.cache_core.specs.Caching.{cache_of};
-    ghost use Rattle.cache_info_tests.specs.Resting.{Rests};
+    ghost use Rattle.cache_core.specs.CoreCache.{cache_of};
+    ghost use Rattle.cache_info_tests.specs.UnheldCaches.{Rests};
 
     ghost Value = { Cache };
 

@@ -31,7 +31,7 @@ pub(crate) struct Small {
 
 impl Model for Small {
     ghost use Rattle.apcu_model.specs.Cache.{Cache};
-    ghost use Rattle.cache_core.specs.Caching.{cache_of, CacheStands};
+    ghost use Rattle.cache_core.specs.CoreCache.{cache_of, CacheStands};
 
     ghost Value = { Cache };
 

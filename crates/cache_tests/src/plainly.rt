@@ -47,7 +47,7 @@ pub(crate) fn act_plainly(
         }
         Act::Fetch => {
             let found = plain.live_value(key.as_slice(), t).map(number_of);
-            plain.note_fetch(key.as_slice(), t);
+            plain.count_fetch(key.as_slice(), t);
             Ok(Answer::Number(found))
         }
         Act::Exists => Ok(Answer::Flag(plain.exists(key.as_slice(), t))),

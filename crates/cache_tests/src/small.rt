@@ -4,7 +4,7 @@ ghost use Rattle.std.specs.Prelude.{◌≡◌, ℕ, ◌≤◌, false, length};
 ghost use Rattle.apcu_model.specs.Conf.{IsGood};
 ghost use Rattle.apcu_model.specs.Levels.{most_levels};
 ghost use Rattle.seg_words.specs.Windows.{has};
-ghost use Rattle.cache_core.specs.Caching.{CacheStands};
+ghost use Rattle.cache_core.specs.CoreCache.{CacheStands};
 
 use crate::calls::{Act, Answer, Call};
 use crate::values::{generator_of, told, value_of};
@@ -46,7 +46,7 @@ pub(crate) fn answer_of<S: Segment>(
     t: u64,
 ) -> Result<Answer, Fail>
     requires stand { CacheStands S.WordsIn core.old words.old }
-    requires fresh { (b : ℕ) → has b (S.aside words.old).refused ≡ false }
+    requires unrefused { (b : ℕ) → has b (S.aside words.old).refused ≡ false }
     ensures stand { CacheStands S.WordsIn core.new words.new }
     ensures rest { S.rest words.new ≡ S.rest words.old }
 {
@@ -79,7 +79,7 @@ pub(crate) struct Small {
 
 impl Model for Small {
     ghost use Rattle.apcu_model.specs.Cache.{Cache};
-    ghost use Rattle.cache_core.specs.Caching.{cache_of, CacheStands};
+    ghost use Rattle.cache_core.specs.CoreCache.{cache_of, CacheStands};
 
     ghost Value = { Cache };
 

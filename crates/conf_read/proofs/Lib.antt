@@ -1,3 +1,3 @@
 pub mod Digits
-pub mod Parsing
+pub mod CommandParse
 pub mod Shapes

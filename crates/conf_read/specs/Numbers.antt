@@ -52,8 +52,8 @@ words_by bytes =
     then Some (bytes / 8)
     else None
 
-abbrev pub words_told : List ℕ → Option ℕ
-words_told text = option_and_then words_by (bytes_in text)
+abbrev pub words_in_size : List ℕ → Option ℕ
+words_in_size text = option_and_then words_by (bytes_in text)
 
 -- ---- bounds
 

@@ -13,7 +13,7 @@ use Rattle.conf_read.specs.declared.options.Row.{Row as CodeRow}
 use Rattle.conf_read.specs.declared.options.Reader.{Reader}
 use Rattle.conf_read.specs.declared.options.Reader.TheVariants.{Size, Number}
 use Rattle.conf_read.specs.Command.{with_options}
-use Rattle.conf_read.specs.Numbers.{number_from, words_told}
+use Rattle.conf_read.specs.Numbers.{number_from, words_in_size}
 use Rattle.conf_read.specs.Tasks.{most_input, task_by}
 
 -- ---- the table
@@ -27,7 +27,7 @@ pub record ProgramOption : Type 0 where
 
 -- the size of each segment, in words of 8 bytes: 32 MB
 abbrev pub shm_size : ProgramOption
-shm_size = record { name = codes "shm-size"; default = Some 4194304; read = words_told }
+shm_size = record { name = codes "shm-size"; default = Some 4194304; read = words_in_size }
 
 abbrev pub segments : ProgramOption
 segments = record { name = codes "segments"; default = Some 1; read = number_from 1 64 }
@@ -93,12 +93,12 @@ read_or default read (Some text) = option_map Some (read text)
 
 -- what clap's rows tell of an option: `None` where its value is refused, and `Some None` where it
 -- is left out and has no default
-abbrev pub told_if : ProgramOption → List Row → Option (Option ℕ)
-told_if option rows = read_or option.default option.read (first_of option.name rows)
+abbrev pub given_if : ProgramOption → List Row → Option (Option ℕ)
+given_if option rows = read_or option.default option.read (first_of option.name rows)
 
 -- what they tell of an option that has a default
-abbrev pub told : ProgramOption → List Row → Option ℕ
-told option rows = told_if option rows >>= (λ n. n)
+abbrev pub given : ProgramOption → List Row → Option ℕ
+given option rows = given_if option rows >>= (λ n. n)
 
 -- so many slots leave 16 words of the first segment for blocks, and so many segments of so many
 -- words have 128 MB at most
@@ -113,10 +113,10 @@ cache_with words count chains seconds =
 -- the cache's shape: nothing where a value is out of its form or range, or two do not agree
 abbrev pub conf_in : List Row → Option Conf
 conf_in rows = do
-  words ← told shm_size rows
-  count ← told segments rows
-  chains ← told slots rows
-  seconds ← told ttl rows
+  words ← given shm_size rows
+  count ← given segments rows
+  chains ← given slots rows
+  seconds ← given ttl rows
   if is_in_order words count chains then Some (cache_with words count chains seconds) else None
 
 -- 0 is the second of the call
@@ -126,12 +126,12 @@ clock_of number = if number == 0 then Line else Request
 -- what the run is for, on a cache of this shape; every option is read in any run
 abbrev pub task_in : Conf → List Row → Option Task
 task_in shape rows = do
-  seed ← told_if generate rows
-  crew ← told workers rows
-  each ← told calls rows
-  bundle ← told_if preload rows
-  judged ← told_if verify rows
-  drawn ← told map_wanted rows
+  seed ← given_if generate rows
+  crew ← given workers rows
+  each ← given calls rows
+  bundle ← given_if preload rows
+  judged ← given_if verify rows
+  drawn ← given map_wanted rows
   task_by shape seed crew each judged (record { bundle = bundle; map = drawn })
 
 -- what clap's rows ask for: nothing where they ask for no shape, another value is out of its form
@@ -139,7 +139,7 @@ task_in shape rows = do
 abbrev pub settings_in : List Row → Option Settings
 settings_in rows = do
   shape ← conf_in rows
-  start ← told use_request_time rows
+  start ← given use_request_time rows
   task ← task_in shape rows
   Some (record { conf = shape; clock = clock_of start; task = task })
 
@@ -167,7 +167,7 @@ settings_of words = settings_told (as_texts words)
 -- ---- the code's rows
 
 abbrev pub reader_of : Reader → Text → Option ℕ
-reader_of Size text = words_told text
+reader_of Size text = words_in_size text
 reader_of (Number low high) text = number_from low high text
 
 abbrev pub option_of : CodeRow → ProgramOption

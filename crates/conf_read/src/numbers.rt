@@ -1,6 +1,6 @@
 // The numbers that the values of options write.
 ghost use Rattle.std.specs.Prelude.{◌≡◌, ◌<◌, ◌≤◌, ◌%◌, ◌^◌, IfSome};
-ghost use Rattle.conf_read.specs.Numbers.{number_in, unit_of, bytes_in, words_told};
+ghost use Rattle.conf_read.specs.Numbers.{number_in, unit_of, bytes_in, words_in_size};
 
 // The most bytes of a segment.
 const MOST_BYTES: u64 = 134_217_728;
@@ -49,8 +49,8 @@ fn bytes_in(text: &[u8]) -> Option<u64>
 }
 
 // The words of a segment of this size.
-pub(crate) fn words_told(text: &str) -> Option<u64>
-    ensures is { result ≡ words_told text.now }
+pub(crate) fn words_in_size(text: &str) -> Option<u64>
+    ensures is { result ≡ words_in_size text.now }
     ensures even { IfSome result (λ words. words % 2 ≡ 0) }
     ensures least { IfSome result (λ words. 32 ≤ words) }
     ensures most { IfSome result (λ words. words ≤ 16777216) }

@@ -2,9 +2,9 @@
 
 ghost use Rattle.std.specs.Prelude.{◌≡◌, IfSome};
 ghost use Rattle.clap.specs.Words.{found_of, rows_of};
-ghost use Rattle.conf_read.specs.Options.{option_of, reader_of, told, told_if, IsWithin};
+ghost use Rattle.conf_read.specs.Options.{option_of, reader_of, given, given_if, IsWithin};
 
-use crate::numbers::{number_in, words_told};
+use crate::numbers::{number_in, words_in_size};
 use apcu_model::{MOST_SEGMENTS, MOST_SLOTS};
 use clap::ArgMatches;
 
@@ -148,7 +148,7 @@ impl Reader {
         ensures within { IfSome result (λ n. IsWithin self n) }
     {
         match self {
-            Reader::Size => words_told(text),
+            Reader::Size => words_in_size(text),
             Reader::Number { low, high } => {
                 let number = number_in(text.as_bytes(), 20, high)?;
                 if low <= number { Some(number) } else { None }
@@ -159,9 +159,9 @@ impl Reader {
 
 // What the words tell of an option: `None` where its value is refused, and `Some(None)` where it
 // is left out and has no default.
-pub(crate) fn told_if(matches: &ArgMatches<'_>, row: Row) -> Option<Option<u64>>
+pub(crate) fn given_if(matches: &ArgMatches<'_>, row: Row) -> Option<Option<u64>>
     requires { IfSome row.default (λ n. IsWithin row.reader n) }
-    ensures is { result ≡ told_if (option_of row) (rows_of (found_of matches.now)) }
+    ensures is { result ≡ given_if (option_of row) (rows_of (found_of matches.now)) }
     ensures within { IfSome result (λ given. IfSome given (λ n. IsWithin row.reader n)) }
 {
     match matches.get_str(row.name) {
@@ -171,10 +171,10 @@ pub(crate) fn told_if(matches: &ArgMatches<'_>, row: Row) -> Option<Option<u64>>
 }
 
 // What the words tell of an option that has a default.
-pub(crate) fn told(matches: &ArgMatches<'_>, row: Row) -> Option<u64>
+pub(crate) fn given(matches: &ArgMatches<'_>, row: Row) -> Option<u64>
     requires { IfSome row.default (λ n. IsWithin row.reader n) }
-    ensures is { result ≡ told (option_of row) (rows_of (found_of matches.now)) }
+    ensures is { result ≡ given (option_of row) (rows_of (found_of matches.now)) }
     ensures within { IfSome result (λ n. IsWithin row.reader n) }
 {
-    told_if(matches, row)?
+    given_if(matches, row)?
 }

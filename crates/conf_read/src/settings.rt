@@ -6,7 +6,7 @@ ghost use Rattle.conf_read.specs.Tasks.{SuitsTask};
 
 use crate::command::matches_of;
 use crate::fault::ConfFault;
-use crate::options::{SEGMENTS, SHM_SIZE, SLOTS, TTL, USE_REQUEST_TIME, told};
+use crate::options::{SEGMENTS, SHM_SIZE, SLOTS, TTL, USE_REQUEST_TIME, given};
 use crate::task::{Task, task_in};
 use apcu_model::{Clock, Conf, MOST_WORDS};
 use clap::ArgMatches;
@@ -39,10 +39,10 @@ fn conf_in(matches: &ArgMatches<'_>) -> Option<Conf>
     ensures is { result ≡ conf_in (rows_of (found_of matches.now)) }
     ensures good { IfSome result (λ conf. IsGood conf) }
 {
-    let words = told(matches, SHM_SIZE)? as u32;
-    let segments = told(matches, SEGMENTS)? as u32;
-    let slots = told(matches, SLOTS)? as u32;
-    let ttl = told(matches, TTL)? as u32;
+    let words = given(matches, SHM_SIZE)? as u32;
+    let segments = given(matches, SEGMENTS)? as u32;
+    let slots = given(matches, SLOTS)? as u32;
+    let ttl = given(matches, TTL)? as u32;
     if !in_order(words, segments, slots) {
         return None;
     }
@@ -72,7 +72,7 @@ fn settings_in(matches: &ArgMatches<'_>) -> Option<Settings>
     ensures large { IfSome result (λ s. SuitsTask s.conf s.task) }
 {
     let conf = conf_in(matches)?;
-    let clock = clock_of(told(matches, USE_REQUEST_TIME)?);
+    let clock = clock_of(given(matches, USE_REQUEST_TIME)?);
     let task = task_in(matches, &conf)?;
     Some(Settings { conf, clock, task })
 }
@@ -103,7 +103,7 @@ fn settings_in(matches: &ArgMatches<'_>) -> Option<Settings>
 /// help is one), a value is none of these, or two do not agree, if there is memory to read the
 /// words.
 pub fn read_settings(alloc: Global, words: &[String]) -> Result<Settings, ConfFault>
-    ensures told { IfOk result (λ settings. settings_of words.now ≡ Some settings) }
+    ensures settings { IfOk result (λ settings. settings_of words.now ≡ Some settings) }
     ensures usage { IsErrOf result ConfFault.Usage → settings_of words.now ≡ None }
     ensures good { IfOk result (λ settings. IsGood settings.conf) }
     // A generated run's cache has room for what its scripts store, and its numbers are in bounds.

@@ -3,7 +3,7 @@ ghost use Rattle.clap.specs.Words.{found_of, rows_of};
 ghost use Rattle.conf_read.specs.Options.{task_in};
 ghost use Rattle.conf_read.specs.Tasks.{is_large, is_plain, most_input, task_by, SuitsTask};
 
-use crate::options::{CALLS, GENERATE, MAP, PRELOAD, VERIFY, WORKERS, told, told_if};
+use crate::options::{CALLS, GENERATE, MAP, PRELOAD, VERIFY, WORKERS, given, given_if};
 use apcu_model::Conf;
 use clap::ArgMatches;
 
@@ -108,11 +108,11 @@ pub(crate) fn task_in(matches: &ArgMatches<'_>, conf: &Conf) -> Option<Task>
     ensures is { result ≡ task_in conf.now (rows_of (found_of matches.now)) }
     ensures suits { IfSome result (λ task. SuitsTask conf.now task) }
 {
-    let seed = told_if(matches, GENERATE)?;
-    let workers = told(matches, WORKERS)? as u32;
-    let calls = told(matches, CALLS)? as u32;
-    let bundle = told_if(matches, PRELOAD)?;
-    let judged = told_if(matches, VERIFY)?;
-    let map = told(matches, MAP)?;
+    let seed = given_if(matches, GENERATE)?;
+    let workers = given(matches, WORKERS)? as u32;
+    let calls = given(matches, CALLS)? as u32;
+    let bundle = given_if(matches, PRELOAD)?;
+    let judged = given_if(matches, VERIFY)?;
+    let map = given(matches, MAP)?;
     task_by(conf, seed, workers, calls, judged, Choices { bundle, map })
 }

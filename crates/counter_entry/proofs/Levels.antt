@@ -9,7 +9,7 @@ use Rattle.apcu_model.specs.Expiry.{live_row}
 use Rattle.apcu_model.specs.Generators.{given_by, missed_levels, looked_for, Filling, filling_of, filled, entered}
 use Rattle.apcu_model.specs.Levels.{EntryLevel, Generator}
 use Rattle.apcu_model.specs.Sequential.{looked_up}
-use Rattle.cache_core.specs.Noting.{with_misses}
+use Rattle.cache_core.specs.Counting.{with_misses}
 use Rattle.counter_entry.specs.Generating.{first_row, row_under, place_under}
 
 -- the row is the first that is found, under this key

@@ -1,7 +1,7 @@
 ghost use Rattle.std.specs.Prelude.{◌≡◌, ◌<◌, ◌^◌, false, length};
 ghost use Rattle.apcu_model.specs.declared.request.Request.TheVariants.{Inc};
 ghost use Rattle.apcu_model.specs.Counters.{begun};
-ghost use Rattle.cache_core.specs.Caching.{cache_of};
+ghost use Rattle.cache_core.specs.CoreCache.{cache_of};
 ghost use Rattle.cache_core.specs.Events.{MayInsert, Does, IsBy, IsStep, IsUnchanged};
 ghost use Rattle.cache_core.specs.Integers.{NameNoScalar};
 ghost use Rattle.counter_entry.specs.declared.answer.IncAnswer.TheVariants as answers;

@@ -9,7 +9,7 @@ ghost use Rattle.apcu_model.specs.Change.{inserted};
 ghost use Rattle.apcu_model.specs.Generators.{given_by, missed_levels, looked_for, filled};
 ghost use Rattle.apcu_model.specs.Generators.{entered};
 ghost use Rattle.apcu_model.specs.Levels.{EntryLevel, most_levels};
-ghost use Rattle.cache_core.specs.Caching.{cache_of, CacheStands};
+ghost use Rattle.cache_core.specs.CoreCache.{cache_of, CacheStands};
 ghost use Rattle.cache_core.specs.Events.{MayInsert, DoesIf, IsBy, IsStep, makes_room};
 ghost use Rattle.counter_entry.specs.Generating.{place_under, fate_of};
 
@@ -63,7 +63,7 @@ pub fn entry<S: Segment>(
         (entered held generator.now t (cache_of core.old)).outermost) r.1) }
 {
     let origin = look_through(alloc, core, seg, generator, t)?;
-    note(core, seg, origin.missing, origin.at, t);
+    count_lookups(core, seg, origin.missing, origin.at, t);
     let progress = fill(core, seg, generator, origin.missing, &origin.value, t);
     Ok((origin.value, fate(progress.last)))
 }
@@ -112,8 +112,8 @@ fn look_through<S: Segment>(
     }
 }
 
-// Notes the look-ups: so many missed, and the row at this place was found, if there is one.
-fn note<S: Segment>(core: &mut Core, seg: &mut S, missing: u32, at: Option<u32>, t: u64)
+// Counts the look-ups: so many missed, and the row at this place was found, if there is one.
+fn count_lookups<S: Segment>(core: &mut Core, seg: &mut S, missing: u32, at: Option<u32>, t: u64)
     requires stand { CacheStands S.WordsIn core.old seg.old }
     requires there { (levels : List EntryLevel)
         × (at ≡ place_under levels t (cache_of core.old)) }
@@ -123,9 +123,9 @@ fn note<S: Segment>(core: &mut Core, seg: &mut S, missing: u32, at: Option<u32>,
     ensures step { IsStep S.WordsIn core.old core.new seg.old seg.new }
     ensures beside { KeptBeside S.WordsIn seg.old seg.new }
 {
-    core.note_misses(missing);
+    core.count_misses(missing);
     if let Some(at) = at {
-        core.note_hit(seg, at, t);
+        core.count_hit(seg, at, t);
     }
 }
 

@@ -1,7 +1,7 @@
 ghost use Rattle.std.specs.Prelude.{◌≡◌, ◌<◌, ◌^◌, length};
 ghost use Rattle.seg_words.specs.Kept.{Kept};
 ghost use Rattle.apcu_model.specs.Expiry.{live_row};
-ghost use Rattle.cache_core.specs.Caching.{cache_of, CacheStands};
+ghost use Rattle.cache_core.specs.CoreCache.{cache_of, CacheStands};
 ghost use Rattle.counter_entry.specs.Numbers.{found_at, found_of, integer_of};
 
 use cache_core::{Core, Scalar};

@@ -2,7 +2,7 @@ ghost use Rattle.std.specs.Prelude.{◌≡◌, ◌<◌, ◌^◌, false, length};
 ghost use Rattle.seg_words.specs.Kept.{KeptBeside};
 ghost use Rattle.apcu_model.specs.declared.request.Request.TheVariants.{Cas};
 ghost use Rattle.apcu_model.specs.declared.request.Reply.TheVariants.{Flag};
-ghost use Rattle.cache_core.specs.Caching.{cache_of, CacheStands};
+ghost use Rattle.cache_core.specs.CoreCache.{cache_of, CacheStands};
 ghost use Rattle.cache_core.specs.Events.{Does, IsUnchanged};
 ghost use Rattle.cache_core.specs.Integers.{NameNoScalar};
 

@@ -8,8 +8,8 @@ use Rattle.std.proofs.lemmas.Option.{slice_get_within, get_or_from_slice_get}
 use Rattle.atomic_table.specs.Seated.{TableId}
 use Rattle.apcu_model.specs.declared.conf.Clock.{Clock}
 use Rattle.apcu_model.specs.declared.conf.Conf.{Conf}
-use Rattle.pin_table.specs.Values.{Bearer}
-use Rattle.pin_table.specs.Lists.{fresh, fresh_pass}
+use Rattle.pin_table.specs.Values.{PassView}
+use Rattle.pin_table.specs.Lists.{first_passes, first_pass}
 use Rattle.script_read.specs.declared.script.Step.{Step}
 use Rattle.script_read.specs.Budgets.{events_in, budgets_of}
 use Rattle.script_read.specs.Clock.{timed, all_timed}
@@ -21,19 +21,19 @@ use Rattle.crew_play.specs.Crew.{AllEnd}
 
 -- ---- passes
 
-pub fresh_last : (t : TableId) (bs : List ℕ) (n : ℕ) (ps : List Bearer) (p : Bearer) → 0 < n → fresh t bs n ≡ ps ++ p ∷ []
-    → (ps ≡ fresh t bs (n - 1)) × (p ≡ fresh_pass t bs (n - 1))
-fresh_last t bs zero ps p some h = absurd (omega arith)
-fresh_last t bs (suc n) ps p some h =
+pub first_last : (t : TableId) (bs : List ℕ) (n : ℕ) (ps : List PassView) (p : PassView) → 0 < n → first_passes t bs n ≡ ps ++ p ∷ []
+    → (ps ≡ first_passes t bs (n - 1)) × (p ≡ first_pass t bs (n - 1))
+first_last t bs zero ps p some h = absurd (omega arith)
+first_last t bs (suc n) ps p some h =
     let e : suc n - 1 ≡ n = omega arith in
-    let s = same_from_push ps (fresh t bs n) p (fresh_pass t bs n) (sym h) in
+    let s = same_from_push ps (first_passes t bs n) p (first_pass t bs n) (sym h) in
     rw e (s.0, s.1)
 
-pub fresh_some : (t : TableId) (bs : List ℕ) (n : ℕ) → 0 < n → fresh t bs n ≡ [] → ⊥
-fresh_some t bs zero some h = absurd (omega arith)
-fresh_some t bs (suc n) some h = go (fresh t bs n) h
+pub first_some : (t : TableId) (bs : List ℕ) (n : ℕ) → 0 < n → first_passes t bs n ≡ [] → ⊥
+first_some t bs zero some h = absurd (omega arith)
+first_some t bs (suc n) some h = go (first_passes t bs n) h
   where
-    go : (l : List Bearer) → l ++ fresh_pass t bs n ∷ [] ≡ [] → ⊥
+    go : (l : List PassView) → l ++ first_pass t bs n ∷ [] ≡ [] → ⊥
     go [] e = absurd (cc (e))
     go (x ∷ xs) e = absurd (cc (e))
 
@@ -82,7 +82,7 @@ all_none t conf scripts = record {
 }
 
 -- one worker more has ended
-pub all_more : (t : TableId) (conf : Conf) (scripts : List (List Step)) (n : ℕ) (ended : List Bearer) (texts : List (Result (List ℕ) PlayFault)) (script : List Step) (b : Bearer) (text : Result (List ℕ) PlayFault)
+pub all_more : (t : TableId) (conf : Conf) (scripts : List (List Step)) (n : ℕ) (ended : List PassView) (texts : List (Result (List ℕ) PlayFault)) (script : List Step) (b : PassView) (text : Result (List ℕ) PlayFault)
     → slice_get scripts n ≡ Some script → AllEnd t conf scripts n ended texts → Ends t conf n script b (result_ok text) → AllEnd t conf scripts (suc n) (ended ++ b ∷ []) (texts ++ text ∷ [])
 all_more t conf scripts n ended texts script b text is all one = record {
   have_ended = omega (arith, length-append ended (b ∷ []), all.have_ended);
@@ -105,12 +105,12 @@ all_more t conf scripts n ended texts script b text is all one = record {
 }
 
 -- so it is where lists have grown by it
-pub all_with : (t : TableId) (conf : Conf) (clock : Clock) (scripts : List (List Step)) (n count : ℕ) (front ended : List Bearer) (fronts texts : List (Result (List ℕ) PlayFault)) (script : List Step) (b : Bearer) (text : Result (List ℕ) PlayFault)
+pub all_with : (t : TableId) (conf : Conf) (clock : Clock) (scripts : List (List Step)) (n count : ℕ) (front ended : List PassView) (fronts texts : List (Result (List ℕ) PlayFault)) (script : List Step) (b : PassView) (text : Result (List ℕ) PlayFault)
     → suc n ≡ count → slice_get scripts n ≡ Some script → AllEnd t conf (all_timed clock scripts) n front fronts → Ends t conf n (timed clock script) b (result_ok text) → ended ≡ front ++ b ∷ [] → texts ≡ fronts ++ text ∷ []
     → AllEnd t conf (all_timed clock scripts) count ended texts
 all_with t conf clock scripts n count front ended fronts texts script b text is there all one more told =
     let whole = all_more t conf (all_timed clock scripts) n front fronts (timed clock script) b text (get-map (timed clock) scripts n script there) all one in
-    subst (λ (l : List Bearer). AllEnd t conf (all_timed clock scripts) count l texts) (sym more)
+    subst (λ (l : List PassView). AllEnd t conf (all_timed clock scripts) count l texts) (sym more)
     (subst (λ (l : List (Result (List ℕ) PlayFault)). AllEnd t conf (all_timed clock scripts) count (front ++ b ∷ []) l) (sym told)
     (subst (λ v. AllEnd t conf (all_timed clock scripts) v (front ++ b ∷ []) (fronts ++ text ∷ [])) is whole))
 

@@ -1,9 +1,9 @@
-pub mod Counting
+pub mod EventCounts
 pub mod Crews
-pub mod Gathering
-pub mod Texts
-pub mod Drawn
-pub mod Observing
-pub mod Watching
-pub mod Learning
-pub mod Firsts
+pub mod EndedCrews
+pub mod WorkerTexts
+pub mod GeneratedScripts
+pub mod WishCounts
+pub mod WatchedRuns
+pub mod LearnedEnds
+pub mod FirstEvents

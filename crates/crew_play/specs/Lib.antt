@@ -1,3 +1,3 @@
 pub mod Crew
-pub mod Played
-pub mod Watched
+pub mod PlayedScripts
+pub mod GeneratedRuns

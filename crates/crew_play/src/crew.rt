@@ -9,7 +9,7 @@ ghost use Rattle.script_read.specs.declared.script.Step.{Step};
 ghost use Rattle.script_read.specs.Budgets.{events_in, budgets_of};
 ghost use Rattle.script_read.specs.Clock.{timed, all_timed};
 ghost use Rattle.script_read.specs.Patterns.{HasRefusable, SomeRefusable};
-ghost use Rattle.pin_table.specs.Lists.{fresh};
+ghost use Rattle.pin_table.specs.Lists.{first_passes};
 ghost use Rattle.pin_table.specs.Events.{events_of};
 ghost use Rattle.crew_play.specs.Crew.{AllEnd, EndsBefore};
 ghost use Rattle.worker_play.specs.Ends.{Ends};
@@ -36,10 +36,10 @@ pub(crate) fn last_worker<'a, N: TableName>(
 ) -> (Pass, &'a Script)
     requires some { 0 < count }
     requires scripts { count ≤ length scripts.now }
-    requires passes { passes.old ≡ fresh N.table N.budgets count }
+    requires passes { passes.old ≡ first_passes N.table N.budgets count }
     requires enough { (w : ℕ) (script : List Step) → slice_get scripts.now w ≡ Some script
         → events_in N.conf.slots script < slice_index N.budgets w }
-    ensures rest { passes.new ≡ fresh N.table N.budgets (count - 1) }
+    ensures rest { passes.new ≡ first_passes N.table N.budgets (count - 1) }
     ensures script { slice_get scripts.now (count - 1) ≡ Some result.1.now }
     ensures table { result.0.table ≡ N.table }
     ensures worker { result.0.known.worker ≡ count - 1 }
@@ -109,7 +109,7 @@ pub(crate) fn play_crew<
     requires conf { conf.now ≡ N.conf }
     requires budgets { N.budgets ≡ budgets_of N.conf.slots scripts.now }
     requires some { count ≤ length scripts.now }
-    requires passes { passes ≡ fresh N.table N.budgets count }
+    requires passes { passes ≡ first_passes N.table N.budgets count }
     requires none_ended { ended.ended ≡ [] }
     requires seats { count ≤ ended.room }
     requires no_text { texts.items ≡ [] }
@@ -138,7 +138,7 @@ pub(crate) fn play_crew<
                 × (conf.now ≡ N.conf)
                 × (N.budgets ≡ budgets_of N.conf.slots scripts.now)
                 × (before ≤ length scripts.now)
-                × (passes ≡ fresh N.table N.budgets before)
+                × (passes ≡ first_passes N.table N.budgets before)
                 × (ended.ended ≡ []) × (before ≤ ended.room)
                 × (texts.items ≡ []) × (before ≤ vec_capacity texts)
                 × IfSome first (λ e. e.table ≡ N.table) }

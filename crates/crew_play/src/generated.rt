@@ -6,12 +6,12 @@ ghost use Rattle.std.specs.Thread.{IsSync};
 ghost use Rattle.script_read.specs.Budgets.{events_in, most_events};
 ghost use Rattle.script_read.specs.Clock.{timed, all_timed};
 ghost use Rattle.apcu_model.specs.declared.conf.Clock.TheVariants.{Line};
-ghost use Rattle.pin_table.specs.Lists.{fresh};
+ghost use Rattle.pin_table.specs.Lists.{first_passes};
 ghost use Rattle.generated_laws.specs.Summary.{IsLarge};
 ghost use Rattle.worker_play.specs.Ends.{HasEnded, PlaysAll};
 ghost use Rattle.worker_play.specs.Goes.{KnowsOwnEvents};
-ghost use Rattle.crew_play.specs.Watched.{summary_in, watched_budgets, IsRun, IsWatched};
-ghost use Rattle.crew_play.specs.Watched.{HaveEnough, HaveMade};
+ghost use Rattle.crew_play.specs.GeneratedRuns.{summary_in, watched_budgets, IsRun, IsWatched};
+ghost use Rattle.crew_play.specs.GeneratedRuns.{HaveEnough, HaveMade};
 ghost use Rattle.crew_play.specs.declared.play.CrewFault.TheVariants.{Memory, TooMany, Pattern};
 
 use crate::crew::last_worker;
@@ -81,7 +81,7 @@ fn play_drawn<
     requires enough { HaveEnough N.conf.slots N.budgets scripts.now }
     requires some { 1 ≤ count }
     requires scripts { count ≤ length scripts.now }
-    requires passes { passes ≡ fresh N.table N.budgets count }
+    requires passes { passes ≡ first_passes N.table N.budgets count }
     requires none_ended { ended.ended ≡ [] }
     requires seats { count ≤ ended.room }
     ensures made { HaveMade N.table N.conf (all_timed Line scripts.now) count result.0
@@ -113,7 +113,7 @@ fn play_drawn<
                 × (conf.now ≡ N.conf)
                 × HaveEnough N.conf.slots N.budgets scripts.now
                 × (1 ≤ before) × (before ≤ length scripts.now)
-                × (passes ≡ fresh N.table N.budgets before)
+                × (passes ≡ first_passes N.table N.budgets before)
                 × (ended.ended ≡ []) × (before ≤ ended.room) }
             ensures { HaveMade N.table N.conf (all_timed Line scripts.entry.now) before
                 result.0 result.1.ended result.2

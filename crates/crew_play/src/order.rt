@@ -4,7 +4,7 @@ ghost use Rattle.std.specs.Prelude.{◌≡◌, ◌-◌, ◌≤◌, [], length, v
 ghost use Rattle.script_read.specs.Budgets.{budgets_of};
 ghost use Rattle.script_read.specs.Clock.{all_timed};
 ghost use Rattle.script_read.specs.Patterns.{SomeRefusable};
-ghost use Rattle.pin_table.specs.Lists.{fresh};
+ghost use Rattle.pin_table.specs.Lists.{first_passes};
 ghost use Rattle.crew_play.specs.Crew.{AllEnd, LastEndsFirst};
 ghost use Rattle.crew_play.specs.declared.order.Order.TheVariants.{LastFirst};
 ghost use Rattle.worker_play.specs.declared.script.PlayFault.TheVariants as faults;
@@ -55,7 +55,7 @@ pub(crate) fn play_all<
     requires conf { conf.now ≡ N.conf }
     requires budgets { N.budgets ≡ budgets_of N.conf.slots scripts.now }
     requires some { order ≡ LastFirst → 1 ≤ length scripts.now }
-    requires passes { passes ≡ fresh N.table N.budgets (length scripts.now) }
+    requires passes { passes ≡ first_passes N.table N.budgets (length scripts.now) }
     requires none_ended { ended.ended ≡ [] }
     requires seats { length scripts.now ≤ ended.room }
     requires no_text { texts.items ≡ [] }

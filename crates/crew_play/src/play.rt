@@ -8,10 +8,10 @@ ghost use Rattle.pin_table.specs.Views.{is_among};
 ghost use Rattle.script_read.specs.Budgets.{budgets_of, all_events, most_events};
 ghost use Rattle.script_read.specs.Clock.{all_timed};
 ghost use Rattle.script_read.specs.Patterns.{SomeRefusable};
-ghost use Rattle.crew_play.specs.Played.{IsPlayed, IsLeft, ComeFirst};
+ghost use Rattle.crew_play.specs.PlayedScripts.{IsPlayed, IsLeft, ComeFirst};
 ghost use Rattle.crew_play.specs.declared.order.Order.TheVariants.{LastFirst};
 ghost use Rattle.crew_play.specs.declared.play.CrewFault.TheVariants.{Memory, TooMany, Pattern};
-ghost use Rattle.shared_cache.specs.Closing.{IsClosed, IsClosedWhole};
+ghost use Rattle.shared_cache.specs.ClosedCaches.{IsClosed, IsClosedWhole};
 ghost use Rattle.worker_play.specs.declared.script.PlayFault.TheVariants as faults;
 
 use crate::budgets::budgets;

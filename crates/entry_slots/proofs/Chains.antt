@@ -7,14 +7,14 @@ use Rattle.entry_slots.specs.declared.head.TheConstants.{NEXT}
 use Rattle.seg_words.specs.Windows.{Aside}
 use Rattle.php_graph.specs.Numbers.{hash_of}
 use Rattle.apcu_model.specs.Cache.{Row}
-use Rattle.apcu_model.specs.Walk.{is_in_slot, slot_of}
+use Rattle.apcu_model.specs.SlotOrder.{is_in_slot, slot_of}
 use Rattle.entry_slots.specs.declared.slots.EntrySlots.{EntrySlots}
 use Rattle.entry_slots.specs.Lists.{is_at, has_place, first_place, place_after}
 use Rattle.entry_slots.specs.Entries.{Entries, chain_of}
 use Rattle.entry_slots.specs.Standing.{IsRowChain, Stands}
-use Rattle.entry_slots.proofs.There.{HasEntryAt}
+use Rattle.entry_slots.proofs.PresentRows.{HasEntryAt}
 use Rattle.seg_words.specs.Members.{Contains-first, Contains-later, Contains-filter, Contains-kept, any_there, any_from}
-use Rattle.entry_slots.proofs.Homes.{IsHome, room, home_row, home_removed}
+use Rattle.entry_slots.proofs.RowBlocks.{IsHome, room, home_row, home_removed}
 
 pub chain_first : (ws : List ℕ) (at : ℕ) (rows : List Row) → IsRowChain ws at rows → at ≡ first_place rows
 chain_first ws at [] h = h

@@ -9,7 +9,7 @@ use Rattle.seg_words.specs.Windows.{Aside}
 use Rattle.seg_words.specs.Blocks.{image_place}
 use Rattle.seg_words.specs.Layout.{words_in}
 use Rattle.php_graph.specs.Size.{image_length}
-use Rattle.value_image.specs.Packed.{words_of}
+use Rattle.value_image.specs.PackedBytes.{words_of}
 use Rattle.value_image.specs.Rows.{StandsAt}
 use Rattle.value_image.specs.Image.{IsImageOf, image_of}
 use Rattle.apcu_model.specs.Cache.{Row, extent_of}
@@ -19,7 +19,7 @@ use Rattle.entry_slots.specs.Lower.{Laws}
 use Rattle.entry_slots.proofs.Runs.{words_long}
 use Rattle.seg_words.specs.Members.{Contains-first, Contains-later}
 use Rattle.entry_slots.proofs.Blocks.{Apart, live_apart}
-use Rattle.entry_slots.proofs.Homes.{IsHome}
+use Rattle.entry_slots.proofs.RowBlocks.{IsHome}
 
 -- a run that stands in both rows of words
 pub run_same : (ws ws' : List ℕ) (at : ℕ) (run : List ℕ) → length ws' ≡ length ws → ((i : ℕ) → at ≤ i → i < at + length run → slice_index ws' i ≡ slice_index ws i) → StandsAt ws at run → StandsAt ws' at run
@@ -39,16 +39,16 @@ pub record SameRow (ws ws' : List ℕ) (row : Row) : Type 0 where
 enough_is : (n size : ℕ) → size ≡ n + n % 2 → n ≤ size
 enough_is n size h = omega arith
 
--- so are they but for some of what is noted of the row
+-- so are they but for some words of the row's head
 pub record SameBut (ws ws' : List ℕ) (row : Row) : Type 0 where
   pub count : length ws' ≡ length ws
   pub first : (k : ℕ) → k < MTIME → k ≢ NEXT → slice_index ws' (row.place + k) ≡ slice_index ws (row.place + k)
   pub later : (i : ℕ) → row.place + NUMBER ≤ i → i < row.place + row.size → slice_index ws' i ≡ slice_index ws i
 
-pub entry_noted : Laws → (ws ws' : List ℕ) (row : Row) (mtime atime dtime hits : ℕ) → IsEntry ws row → SameBut ws ws' row
+pub entry_dated : Laws → (ws ws' : List ℕ) (row : Row) (mtime atime dtime hits : ℕ) → IsEntry ws row → SameBut ws ws' row
     → slice_index ws' (row.place + MTIME) ≡ mtime → slice_index ws' (row.place + ATIME) ≡ atime → slice_index ws' (row.place + DTIME) ≡ dtime → slice_index ws' (row.place + HITS) ≡ hits
     → IsEntry ws' (record row { mtime = mtime; atime = atime; dtime = dtime; hits = hits })
-entry_noted law ws ws' row mtime atime dtime hits h s em ea ed eh =
+entry_dated law ws ws' row mtime atime dtime hits h s em ea ed eh =
     let enough : HEAD_WORDS + words_in (length row.key) + image_length row.graph ≤ row.size = enough_is (HEAD_WORDS + words_in (length row.key) + image_length row.graph) row.size h.whole in
     let zero : row.place + 0 ≡ row.place = omega arith in
     let klen = words_long row.key in
@@ -87,7 +87,7 @@ entry_kept law ws ws' row h s =
       first = λ k few other. at k (omega arith) other;
       later = λ i low high. s.same i (omega arith) high (omega arith);
     } in
-    entry_noted law ws ws' row row.mtime row.atime row.dtime row.hits h but (at 6 (omega arith) (omega arith) ∙ h.mtime) (at 7 (omega arith) (omega arith) ∙ h.atime) (at 8 (omega arith) (omega arith) ∙ h.dtime) (at 9 (omega arith) (omega arith) ∙ h.hits)
+    entry_dated law ws ws' row row.mtime row.atime row.dtime row.hits h but (at 6 (omega arith) (omega arith) ∙ h.mtime) (at 7 (omega arith) (omega arith) ∙ h.atime) (at 8 (omega arith) (omega arith) ∙ h.dtime) (at 9 (omega arith) (omega arith) ∙ h.hits)
 
 -- a chain is kept where word 1 of each of its blocks is
 pub chain_kept : (ws ws' : List ℕ) (first : ℕ) (rows : List Row) → ((row : Row) → Contains rows row → slice_index ws' (row.place + NEXT) ≡ slice_index ws (row.place + NEXT)) → IsRowChain ws first rows → IsRowChain ws' first rows

@@ -11,7 +11,7 @@ use Rattle.apcu_model.specs.Cache.{Row}
 use Rattle.entry_slots.specs.declared.slots.EntrySlots.{EntrySlots}
 use Rattle.entry_slots.specs.Reading.{IsHeadOf}
 use Rattle.entry_slots.proofs.Runs.{words_long}
-use Rattle.entry_slots.proofs.Homes.{IsHome, room}
+use Rattle.entry_slots.proofs.RowBlocks.{IsHome, room}
 
 -- the numbers that are kept in 32 bits
 pub record AreShort (first : List ℕ) (at : ℕ) : Type 0 where

@@ -7,12 +7,12 @@ use Rattle.seg_words.specs.Blocks.{IsTold}
 use Rattle.seg_words.specs.Layout.{words_in}
 use Rattle.seg_words.specs.Windows.{Aside}
 use Rattle.php_graph.specs.ByteStrings.{AreBytes}
-use Rattle.value_image.specs.Packed.{words_of, bytes_of}
+use Rattle.value_image.specs.PackedBytes.{words_of, bytes_of}
 use Rattle.value_image.specs.Laws.{BytesArePacked}
 use Rattle.value_image.specs.Rows.{StandsAt}
 use Rattle.apcu_model.specs.Cache.{Row}
 use Rattle.entry_slots.specs.declared.slots.EntrySlots.{EntrySlots}
-use Rattle.entry_slots.proofs.Homes.{IsHome, room}
+use Rattle.entry_slots.proofs.RowBlocks.{IsHome, room}
 
 -- so many bytes of the words behind the head of the block at this place are the key
 pub record IsKeyAt (ws windows : List ℕ) (at : ℕ) (key : List ℕ) : Type 0 where

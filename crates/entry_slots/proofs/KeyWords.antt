@@ -8,12 +8,12 @@ use Rattle.seg_words.specs.declared.layout.TheConstants.{HEAD_WORDS, KEY_LENGTH}
 use Rattle.seg_words.specs.Windows.{Aside}
 use Rattle.php_graph.specs.ByteStrings.{AreBytes}
 use Rattle.seg_words.specs.Layout.{words_in}
-use Rattle.value_image.specs.Packed.{words_of, word_at}
+use Rattle.value_image.specs.PackedBytes.{words_of, word_at}
 use Rattle.apcu_model.specs.Cache.{Row, has_key}
 use Rattle.entry_slots.specs.declared.slots.EntrySlots.{EntrySlots}
 use Rattle.entry_slots.specs.Lower.{Laws}
 use Rattle.entry_slots.proofs.Runs.{words_long, word_there}
-use Rattle.entry_slots.proofs.Homes.{IsHome}
+use Rattle.entry_slots.proofs.RowBlocks.{IsHome}
 
 -- bytes with the same words are the same
 pub same_bytes : Laws → (a b : List ℕ) → length a ≡ length b → AreBytes a → AreBytes b → ((j : ℕ) → j < words_in (length b) → word_at a j ≡ word_at b j) → a ≡ b

@@ -12,19 +12,19 @@ use Rattle.seg_words.specs.Members.{none_in_nil, Contains-cases, Contains-first,
 use Rattle.seg_words.specs.Windows.{Aside}
 use Rattle.sma_blocks.specs.Tiles.{Tile, tiles, Fill}
 use Rattle.sma_blocks.specs.Live.{gap_words, lives, live_blocks}
-use Rattle.sma_blocks.proofs.Counting.{gap_words-sum}
-use Rattle.sma_blocks.proofs.Lives.{tile_extent}
+use Rattle.sma_blocks.proofs.GapSizes.{gap_words-sum}
+use Rattle.sma_blocks.proofs.LiveBlocks.{tile_extent}
 use Rattle.sma_blocks.proofs.Spans.{span_of, filled_of}
-use Rattle.sma_blocks.proofs.Telling.{free_runs_of}
+use Rattle.sma_blocks.proofs.SpanFreeRuns.{free_runs_of}
 use Rattle.apcu_model.specs.Cache.{Row, extent_of}
 use Rattle.entry_slots.specs.declared.slots.EntrySlots.{EntrySlots}
 use Rattle.entry_slots.specs.Lists.{HaveSame, first_place}
 use Rattle.entry_slots.specs.Entries.{Entries, IsWhole, blocks_of}
-use Rattle.entry_slots.specs.Passing.{IsHere, removed_here, removed_end}
+use Rattle.entry_slots.specs.RowWalks.{IsHere, removed_here, removed_end}
 use Rattle.entry_slots.specs.Standing.{Stands}
-use Rattle.entry_slots.proofs.Homes.{IsHome, home_removed, room}
-use Rattle.entry_slots.proofs.Members.{same_there}
-use Rattle.entry_slots.proofs.Opening.{sound}
+use Rattle.entry_slots.proofs.RowBlocks.{IsHome, home_removed, room}
+use Rattle.entry_slots.proofs.ExtentLists.{same_there}
+use Rattle.entry_slots.proofs.RowWindows.{sound}
 
 abbrev pub size_of : Row → ℕ
 size_of row = row.size

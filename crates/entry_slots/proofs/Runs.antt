@@ -5,7 +5,7 @@ use Rattle.std.proofs.lemmas.List.FromFn.{get_or-map-range_with_len, length-map-
 use Rattle.seg_words.specs.Windows.{Aside}
 use Rattle.seg_words.specs.Blocks.{MayStore}
 use Rattle.seg_words.specs.Layout.{words_in}
-use Rattle.value_image.specs.Packed.{words_of, word_at}
+use Rattle.value_image.specs.PackedBytes.{words_of, word_at}
 use Rattle.value_image.specs.Rows.{written, MayWrite}
 use Rattle.entry_slots.specs.Lower.{Laws}
 

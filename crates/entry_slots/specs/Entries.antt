@@ -13,7 +13,7 @@ use Rattle.apcu_model.specs.declared.conf.Conf.{Conf}
 use Rattle.apcu_model.specs.Cache.{Row, Cache, risen, has_key, extent_of}
 use Rattle.apcu_model.specs.Change.{with_row}
 use Rattle.apcu_model.specs.Sequential.{touched}
-use Rattle.apcu_model.specs.Walk.{is_in_slot}
+use Rattle.apcu_model.specs.SlotOrder.{is_in_slot}
 use Rattle.entry_slots.specs.Lists.{is_at, only_at, without_place, FollowsIn}
 
 pub record Entries : Type 0 where
@@ -100,8 +100,8 @@ abbrev pub with_taken : ℕ → ℕ → Entries → Entries
 with_taken at n s = record s { taken = record { place = at; size = n } ∷ s.taken }
 
 -- a new row
-abbrev pub fresh_row : List ℕ → List Kind → ℕ → ℕ → ℕ → ℕ → Row
-fresh_row key graph ttl t at number = record {
+abbrev pub stored_row : List ℕ → List Kind → ℕ → ℕ → ℕ → ℕ → Row
+stored_row key graph ttl t at number = record {
   key = key;
   graph = graph;
   ttl = ttl;
@@ -132,7 +132,7 @@ old_place key s = found_place (find (has_key key) s.rows)
 -- whose block is loose now, or last where there is none.
 abbrev pub linked : ℕ → List ℕ → List Kind → ℕ → ℕ → Entries → Entries
 linked at key graph ttl t s = record s {
-  rows = with_row (fresh_row key graph ttl t at s.next_number) s.rows;
+  rows = with_row (stored_row key graph ttl t at s.next_number) s.rows;
   next_number = risen s.next_number;
   unlinked = filter (has_key key) s.rows ++ s.unlinked;
   taken = filter (λ block. not (block.place == at)) s.taken;
@@ -146,12 +146,12 @@ unlinked_at at s = record s {
 }
 
 -- the row at this place was dropped at the moment t
-abbrev pub noted_row : ℕ → ℕ → Row → Row
-noted_row at t row = if is_at at row then (record row { dtime = t }) else row
+abbrev pub dated_row : ℕ → ℕ → Row → Row
+dated_row at t row = if is_at at row then (record row { dtime = t }) else row
 
--- it is noted of the unlinked row at this place
-abbrev pub noted_at : ℕ → ℕ → Entries → Entries
-noted_at at t s = record s { unlinked = map {A = Row} {B = Row} (noted_row at t) s.unlinked }
+-- the unlinked row at this place gets its moment
+abbrev pub dated_at : ℕ → ℕ → Entries → Entries
+dated_at at t s = record s { unlinked = map {A = Row} {B = Row} (dated_row at t) s.unlinked }
 
 -- the unlinked row at this place is the last of the removed rows, dropped at the moment t
 abbrev pub removed_at : ℕ → ℕ → Entries → Entries

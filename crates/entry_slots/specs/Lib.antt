@@ -1,12 +1,12 @@
 pub mod Lists
-pub mod Having
+pub mod RowPlaces
 pub mod Entries
 pub mod Standing
 pub mod Reading
-pub mod Written
+pub mod EntryWords
 pub mod Links
 pub mod Facts
-pub mod Passing
+pub mod RowWalks
 pub mod Sums
 pub mod Laws
 pub mod Changes

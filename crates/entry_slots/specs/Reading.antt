@@ -5,7 +5,7 @@ use Rattle.seg_words.specs.Blocks.{IsTold, MayStore}
 use Rattle.seg_words.specs.declared.layout.TheConstants.{HEAD_WORDS}
 use Rattle.seg_words.specs.Layout.{words_in}
 use Rattle.php_graph.specs.Size.{image_length}
-use Rattle.value_image.specs.Packed.{words_of}
+use Rattle.value_image.specs.PackedBytes.{words_of}
 use Rattle.value_image.specs.Rows.{IsToldAt}
 use Rattle.value_image.specs.Image.{IsImageOf}
 use Rattle.apcu_model.specs.Cache.{Row}

@@ -3,7 +3,7 @@ use Rattle.std.specs.Prelude.{◌≡◌, ℕ, ◌<◌, List, ◌++◌}
 use Rattle.std.specs.List.{list_any}
 use Rattle.apcu_model.specs.Cache.{Row}
 use Rattle.apcu_model.specs.Expiry.{is_expired}
-use Rattle.apcu_model.specs.Walk.{slot_of}
+use Rattle.apcu_model.specs.SlotOrder.{slot_of}
 use Rattle.entry_slots.specs.declared.spots.Spot.{Spot}
 use Rattle.entry_slots.specs.Lists.{first_place}
 use Rattle.entry_slots.specs.Entries.{Entries, chain_of, old_place}

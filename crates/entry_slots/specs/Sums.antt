@@ -9,7 +9,7 @@ use Rattle.std.proofs.lemmas.List.Sums.{sum_by-cons, sum_by-append}
 use Rattle.php_graph.specs.Numbers.{hash_of}
 use Rattle.apcu_model.specs.declared.conf.Conf.{Conf}
 use Rattle.apcu_model.specs.Cache.{Row}
-use Rattle.apcu_model.specs.Walk.{slot_of, is_in_slot, in_slot_order}
+use Rattle.apcu_model.specs.SlotOrder.{slot_of, is_in_slot, in_slot_order}
 
 -- what the rows of the slots from n on come to
 abbrev pub slot_sum : (Row → ℕ) → Conf → List Row → ℕ → ℕ → ℕ

@@ -6,9 +6,9 @@ ghost use Rattle.byteorder.specs.Endian.{little_number};
 ghost use Rattle.seg_words.specs.Kept.{Kept};
 ghost use Rattle.seg_words.specs.Blocks.{IsTold};
 ghost use Rattle.php_graph.specs.Numbers.{hash_of};
-ghost use Rattle.entry_slots.specs.Written.{IsEntryKey};
+ghost use Rattle.entry_slots.specs.EntryWords.{IsEntryKey};
 ghost use Rattle.seg_words.specs.Layout.{words_in};
-ghost use Rattle.value_image.specs.Packed.{word_at};
+ghost use Rattle.value_image.specs.PackedBytes.{word_at};
 
 use crate::lower::lower_laws;
 use byteorder::{ByteOrder, LittleEndian};

@@ -4,7 +4,7 @@ ghost use Rattle.seg_words.specs.Kept.{Kept, KeptBeside};
 ghost use Rattle.seg_words.specs.Windows.{is_named};
 ghost use Rattle.php_graph.specs.Numbers.{hash_of};
 ghost use Rattle.apcu_model.specs.Cache.{Row, has_key};
-ghost use Rattle.apcu_model.specs.Walk.{slot_of};
+ghost use Rattle.apcu_model.specs.SlotOrder.{slot_of};
 ghost use Rattle.entry_slots.specs.declared.head.TheConstants.{NEXT};
 ghost use Rattle.entry_slots.specs.Lists.{has_place, first_place, FollowsIn};
 ghost use Rattle.entry_slots.specs.Entries.{chain_of, listed, loose, place_for, block_for};
@@ -21,7 +21,7 @@ use crate::keys::{hash_at, key_word};
 use crate::lower::lower_laws;
 use crate::reading::{count_after, first_words, next_of};
 use crate::standing::{Change, Standing};
-use crate::writing::{Note, put_entry};
+use crate::writing::{NewHead, put_entry};
 use php_graph::{Graph, hash_of};
 use seg_words::{HEAD_WORDS, IMAGE_LENGTH, KEY_LENGTH, Segment, WordsIn, words_in};
 use sma_blocks::Sma;
@@ -148,8 +148,8 @@ impl EntrySlots {
         None
     }
 
-    /// Notes that the entry was used at the moment `t`: one hit more, but a count stays at the last
-    /// number.
+    /// Counts that the entry was used at the moment `t`: one hit more, but a count stays at the
+    /// last number.
     pub fn touch<S: Segment>(&mut self, seg: &mut S, at: u32, t: u64)
         requires stand { Stand S.WordsIn self.old seg.old }
         requires there { has_place at (entries self.old).rows ≡ true }
@@ -231,13 +231,13 @@ impl EntrySlots {
         let _places = g.places();
         let slot = self.slot_for(key);
         let link = self.link_to(seg, slot, replaced);
-        let note = Note {
+        let new_head = NewHead {
             next: self.behind(seg, replaced),
             ttl,
             now: t,
             number: self.next_number,
         };
-        put_entry(seg, at, key, g, note);
+        put_entry(seg, at, key, g, new_head);
         seg.store(link, u64::from(at));
         self.next_number = self.next_number.saturating_add(1);
         self.count = count_after(self.count, replaced);
@@ -281,7 +281,7 @@ impl EntrySlots {
         lower_laws();
         seg.store(at + NEXT, 0);
         seg.store(at + DTIME, t);
-        self.standing = self.standing.then(&Change::Note(at, t));
+        self.standing = self.standing.then(&Change::Date(at, t));
         self.append(seg, at);
     }
 

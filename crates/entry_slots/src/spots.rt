@@ -7,7 +7,7 @@ ghost use Rattle.entry_slots.specs.declared.head.TheConstants.{NEXT};
 ghost use Rattle.std.specs.List.{list_any};
 ghost use Rattle.seg_words.specs.Kept.{Kept, KeptBeside};
 ghost use Rattle.apcu_model.specs.Expiry.{is_expired};
-ghost use Rattle.apcu_model.specs.Walk.{slot_of};
+ghost use Rattle.apcu_model.specs.SlotOrder.{slot_of};
 ghost use Rattle.entry_slots.specs.Lists.{has_place};
 ghost use Rattle.entry_slots.specs.Entries.{chain_of, block_for};
 ghost use Rattle.entry_slots.specs.Entries.{linked, unlinked_at};
@@ -19,7 +19,7 @@ use crate::lower::lower_laws;
 use crate::reading::{count_after, next_of};
 use crate::slots::EntrySlots;
 use crate::standing::Change;
-use crate::writing::{Note, put_entry};
+use crate::writing::{NewHead, put_entry};
 use php_graph::{Graph, hash_of};
 use seg_words::{Segment, WordsIn};
 
@@ -159,13 +159,13 @@ impl EntrySlots {
     {
         lower_laws();
         let _places = g.places();
-        let note = Note {
+        let new_head = NewHead {
             next: self.behind_spot(seg, spot.at),
             ttl,
             now: t,
             number: self.next_number,
         };
-        put_entry(seg, at, key, g, note);
+        put_entry(seg, at, key, g, new_head);
         seg.store(spot.link, u64::from(at));
         self.next_number = self.next_number.saturating_add(1);
         self.count = count_after(self.count, spot.at);

@@ -31,7 +31,7 @@ pub enum Change<'a> {
     /// The row left its chain.
     Unlink(u32),
     /// The unlinked row was dropped at this moment.
-    Note(u32, u64),
+    Date(u32, u64),
     /// The unlinked row is the last of the removed ones.
     Move(u32),
     /// The row is no removed one any more.

@@ -5,16 +5,16 @@ ghost use Rattle.seg_words.specs.Kept.{KeptBeside};
 ghost use Rattle.seg_words.specs.Layout.{words_in};
 ghost use Rattle.php_graph.specs.Size.{image_length};
 ghost use Rattle.value_image.specs.Rows.{written, MayWrite};
-ghost use Rattle.entry_slots.specs.Written.{entry_words};
+ghost use Rattle.entry_slots.specs.EntryWords.{entry_words};
 
 use crate::lower::lower_laws;
 use php_graph::Graph;
 use seg_words::{HEAD_WORDS, Segment, words_in};
 use value_image::{persist, put_bytes};
 
-// What is noted of a new entry, beside its key and its value.
+// The head of a new entry: what stands there beside its key and its value.
 #[derive(Clone, Copy)]
-pub(crate) struct Note {
+pub(crate) struct NewHead {
     // The place of the entry that follows it in its chain, or 0.
     pub(crate) next: u32,
     pub(crate) ttl: u32,
@@ -24,27 +24,27 @@ pub(crate) struct Note {
 }
 
 // Writes the words of an entry's block from word 1 on.
-pub(crate) fn put_entry<S: Segment>(seg: &mut S, at: u32, key: &[u8], g: &Graph, note: Note)
+pub(crate) fn put_entry<S: Segment>(seg: &mut S, at: u32, key: &[u8], g: &Graph, new_head: NewHead)
     requires short { length key.now < 2 ^ 32 }
     requires small { image_length g.now < 2 ^ 32 }
     requires apart { MayWrite (S.words seg.old) (S.aside seg.old).windows (at + 1)
         (11 + words_in (length key.now) + image_length g.now) }
     ensures words { S.words seg.new
-        ≡ written (S.words seg.old) (at + 1) (entry_words key.now g.now note) }
+        ≡ written (S.words seg.old) (at + 1) (entry_words key.now g.now new_head) }
     ensures beside { KeptBeside S.WordsIn seg.old seg.new }
 {
     lower_laws();
     let first = [
-        u64::from(note.next),
+        u64::from(new_head.next),
         key.len() as u64,
         g.words(),
-        u64::from(note.ttl),
-        note.now,
-        note.now,
-        note.now,
+        u64::from(new_head.ttl),
+        new_head.now,
+        new_head.now,
+        new_head.now,
         0,
         0,
-        note.number,
+        new_head.number,
         0,
     ];
     put_words(seg, at + 1, &first);

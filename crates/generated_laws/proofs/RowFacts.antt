@@ -12,7 +12,7 @@ use Rattle.apcu_model.specs.Cache.{Row, Cache, has_key}
 use Rattle.apcu_model.specs.Change.{leaving, with_row}
 use Rattle.apcu_model.specs.Expiry.{is_hard_expired, live_row}
 use Rattle.apcu_model.specs.Rows.{are_apart}
-use Rattle.apcu_model.specs.Walk.{is_in_slot, slot_of}
+use Rattle.apcu_model.specs.SlotOrder.{is_in_slot, slot_of}
 
 pub key_is : (key : List ℕ) (row : Row) → has_key key row ≡ true → row.key ≡ key
 key_is key row h = (bytes_eq-Decides row.key key).0 h

@@ -15,12 +15,12 @@ use Rattle.apcu_model.specs.Cache.{Row, Cache, has_key, gap_of}
 use Rattle.apcu_model.specs.Change.{is_held, swept, with_row, placed, put_in, inserted, Insertion}
 use Rattle.apcu_model.specs.Lookups.{looked_up, touched}
 use Rattle.apcu_model.specs.Rows.{touched_at}
-use Rattle.script_read.specs.Generated.{Draw, Fetches, Stores, Counts, value_key, counter_key}
+use Rattle.script_read.specs.GeneratedScripts.{Draw, Fetches, Stores, Counts, value_key, counter_key}
 use Rattle.generated_laws.specs.Summary.{stored_by, times_by, counted_by}
-use Rattle.generated_laws.proofs.Pigeons.{count_alike}
-use Rattle.generated_laws.proofs.Placing.{value_at, finds_other, finds_changed}
-use Rattle.generated_laws.proofs.Laid.{IsRoomy, Laid, Alike, Placed, new_row, laid_changed, laid_swept, laid_placed, placed_parts, inserts_so, no_row_there}
-use Rattle.generated_laws.proofs.Names.{names_of, few_names, value_named, value_small, counter_no_value}
+use Rattle.generated_laws.proofs.CountLemmas.{count_alike}
+use Rattle.generated_laws.proofs.NewRows.{value_at, finds_other, finds_changed}
+use Rattle.generated_laws.proofs.SmallRows.{IsRoomy, Laid, Alike, Placed, new_row, laid_changed, laid_swept, laid_placed, placed_parts, inserts_so, no_row_there}
+use Rattle.generated_laws.proofs.ScriptKeys.{names_of, few_names, value_named, value_small, counter_no_value}
 
 -- what a worker does in turn: a draw of its own, a look at a counter, or its end
 pub data Turn : Type 0 where

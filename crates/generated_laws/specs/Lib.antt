@@ -1,4 +1,4 @@
 pub mod Counting
-pub mod Told
+pub mod JournalEvents
 pub mod Observer
 pub mod Summary

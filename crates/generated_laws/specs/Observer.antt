@@ -7,7 +7,7 @@ use Rattle.apcu_model.specs.declared.request.Request.TheVariants as requests
 use Rattle.script_read.specs.declared.call.Call.TheVariants.{FetchOne}
 use Rattle.script_read.specs.declared.script.Step.{Step}
 use Rattle.script_read.specs.Play.{Wish}
-use Rattle.script_read.specs.Generated.{Draw, counter_key, asked_by, step_now}
+use Rattle.script_read.specs.GeneratedScripts.{Draw, counter_key, asked_by, step_now}
 
 -- its looks: it fetches the counters in order
 abbrev pub counters_read : List Step

@@ -13,7 +13,7 @@ use Rattle.apcu_model.specs.declared.request.Reply.{Reply}
 use Rattle.apcu_model.specs.declared.request.Reply.TheVariants as answers
 use Rattle.apcu_model.specs.Conf.{IsGood}
 use Rattle.script_read.specs.Play.{Play, replies_of}
-use Rattle.script_read.specs.Generated.{Draw, Fetches, Stores, Counts}
+use Rattle.script_read.specs.GeneratedScripts.{Draw, Fetches, Stores, Counts}
 
 -- A shape in which generated scripts never want for room: one segment, of 8 MB at least, and not so
 -- many slots that little of it is left.

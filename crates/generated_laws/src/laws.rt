@@ -15,14 +15,14 @@ ghost use Rattle.apcu_model.specs.History.{are_shallow, marks_of, reply_in, stag
 ghost use Rattle.pin_table.specs.Events.{events_of};
 ghost use Rattle.script_read.specs.declared.script.Step.{Step};
 ghost use Rattle.script_read.specs.Clock.{all_timed};
-ghost use Rattle.script_read.specs.Generated.{Draw, draws_of, generated, steps_of_draws};
+ghost use Rattle.script_read.specs.GeneratedScripts.{Draw, draws_of, generated, steps_of_draws};
 ghost use Rattle.script_read.specs.Play.{IsCompletePlay, Play, Wish, event_of, played, wanted};
 ghost use Rattle.script_read.specs.Play.{wish_of};
 ghost use Rattle.generated_laws.specs.Counting.{counted_up, none_swaps, steps_on, total_of};
 ghost use Rattle.generated_laws.specs.Observer.{IsObservedLast, counters_read, observed};
 ghost use Rattle.generated_laws.specs.Observer.{wish_to_end, wishes_of_draws, wishes_of_looks};
 ghost use Rattle.generated_laws.specs.Summary.{IsLarge, is_declined, summary_due, summary_of};
-ghost use Rattle.generated_laws.specs.Told.{AreRanged, events_from};
+ghost use Rattle.generated_laws.specs.JournalEvents.{AreRanged, events_from};
 
 use apcu_model::rows_stay_apart;
 

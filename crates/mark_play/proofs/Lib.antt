@@ -1,9 +1,9 @@
-mod Made
-mod Finding
-mod Placing
-mod HeldFor
-mod Beginning
-mod Meeting
+mod FieldlessStruct
+mod FoundRows
+mod RowPlaces
+mod HeldWorkers
+mod OpenWindows
+mod HeldRows
 mod Windows
-mod Playing
-mod Legality
+mod ReplayEvents
+mod LegalMasks

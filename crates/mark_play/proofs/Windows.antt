@@ -19,8 +19,8 @@ use Rattle.apcu_model.specs.Numbers.{AreBelow, KeepsNumbers}
 use Rattle.mark_play.specs.declared.answering.Window.{Window}
 use Rattle.mark_play.specs.Asks.{MayAsk}
 use Rattle.mark_play.specs.Windows.{window_on, window_by}
-use Rattle.mark_play.specs.Reaching.{number_in, IsWindowIn}
-use Rattle.mark_play.proofs.Finding.{found_there, found_passes}
+use Rattle.mark_play.specs.ReplayStages.{number_in, IsWindowIn}
+use Rattle.mark_play.proofs.FoundRows.{found_there, found_passes}
 
 -- ---- in the history
 

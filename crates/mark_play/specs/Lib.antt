@@ -2,7 +2,7 @@ pub mod Asks
 pub mod Windows
 pub mod Events
 pub mod Laws
-pub mod Holding
+pub mod HeldPlaces
 pub mod Legal
-pub mod Reaching
-pub mod Begun
+pub mod ReplayStages
+pub mod EventStarts

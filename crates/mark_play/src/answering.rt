@@ -7,7 +7,7 @@ ghost use Rattle.apcu_model.specs.Sequential.{info_reply, is_stored};
 ghost use Rattle.apcu_model.specs.History.{is_scalar};
 ghost use Rattle.apcu_model.specs.declared.request.Request.TheVariants as requests;
 ghost use Rattle.apcu_model.specs.declared.request.Reply.TheVariants as replies;
-ghost use Rattle.cache_core.specs.Caching.{cache_of, CacheStands};
+ghost use Rattle.cache_core.specs.CoreCache.{cache_of, CacheStands};
 ghost use Rattle.cache_core.specs.Events.{DoesIf, MayInsert};
 ghost use Rattle.cache_core.specs.Integers.{NameNoScalar};
 ghost use Rattle.counter_entry.specs.Numbers.{reply_of};
@@ -121,11 +121,11 @@ fn fetch<S: Segment>(
     ensures beside { KeptBeside S.WordsIn seg.old seg.new }
 {
     let Some((at, value)) = core.copy_live(alloc, seg, key, t)? else {
-        core.note_misses(1);
+        core.count_misses(1);
         return Ok((Reply::Absent, None));
     };
     let window = window_at(alloc, core.slots(), seg, key, at, &value)?;
-    core.note_hit(seg, at, t);
+    core.count_hit(seg, at, t);
     Ok((Reply::Found(value), window))
 }
 

@@ -8,9 +8,9 @@ ghost use Rattle.apcu_model.specs.Cache.{Row};
 ghost use Rattle.entry_slots.specs.Entries.{listed};
 ghost use Rattle.entry_slots.specs.Standing.{Stand, entries};
 ghost use Rattle.apcu_model.specs.History.{Stage};
-ghost use Rattle.mark_play.specs.Holding.{HasKeyIn, IsHeldFor, IsPlaceOf};
-ghost use Rattle.mark_play.specs.Begun.{HasReached, Begins};
-ghost use Rattle.mark_play.specs.Reaching.{IsReached};
+ghost use Rattle.mark_play.specs.HeldPlaces.{HasKeyIn, IsHeldFor, IsPlaceOf};
+ghost use Rattle.mark_play.specs.EventStarts.{HasReached, Begins};
+ghost use Rattle.mark_play.specs.ReplayStages.{IsReached};
 
 use crate::answering::Window;
 use crate::lower::lower_laws;

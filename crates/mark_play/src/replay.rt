@@ -45,7 +45,7 @@ impl Drop for Replay {
 }
 
 impl Model for Replay {
-    ghost use Rattle.mark_play.specs.Reaching.{Replayed, IsReached};
+    ghost use Rattle.mark_play.specs.ReplayStages.{Replayed, IsReached};
 
     ghost Value = { Replayed };
 

@@ -1,9 +1,9 @@
 pub mod Levels
-pub mod Steps
-pub mod Left
-pub mod Mending
+pub mod LeafLemmas
+pub mod LastLeaf
+pub mod AncestorUpdate
 pub mod Largest
-pub mod Paging
-pub mod Topping
-pub mod Halving
-pub mod Marking
+pub mod PageLemmas
+pub mod TopUpdate
+pub mod PairLemmas
+pub mod FlagBits

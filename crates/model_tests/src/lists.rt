@@ -59,7 +59,7 @@ fn stores_pairs(rt: HostRuntime) -> Result<(), Fail> {
 fn misses_of(alloc: Global, keys: &Keys) -> u64 {
     let mut plain = Plain::new(alloc, &small(0));
     for key in keys.as_slice() {
-        plain.note_fetch(key.as_slice(), 100);
+        plain.count_fetch(key.as_slice(), 100);
     }
     plain.counts().misses
 }

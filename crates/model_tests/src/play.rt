@@ -142,7 +142,7 @@ fn lent(plain: &mut Plain, key: &Bytes, t: u64) -> Option<i64> {
         Some(value) => Some(number_of(value)),
         None => None,
     };
-    plain.note_fetch(key.as_slice(), t);
+    plain.count_fetch(key.as_slice(), t);
     number
 }
 

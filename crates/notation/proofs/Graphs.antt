@@ -15,10 +15,10 @@ use Rattle.notation.specs.declared.fault.Fault.{Fault}
 use Rattle.notation.specs.declared.fault.Reason.TheVariants.{Depth}
 use Rattle.notation.specs.Marks.{◌>>=◌, fail, mark_at}
 use Rattle.notation.specs.Reading.{begun_at, takes_integers, key_at, members_at, closed_at, rest_of_value, value_with, value_at, reading_of}
-use Rattle.notation.proofs.Fields.{Written, AreSomeBytes, bytes_behind, bind_ok, ok_is, mark_takes}
-use Rattle.notation.proofs.Steps.{value_step}
-use Rattle.notation.proofs.Takes.{item_text, Counted, begun_takes}
-use Rattle.notation.proofs.Whole.{After, key_takes}
+use Rattle.notation.proofs.PartTexts.{Written, AreSomeBytes, bytes_behind, bind_ok, ok_is, mark_takes}
+use Rattle.notation.proofs.ItemSteps.{value_step}
+use Rattle.notation.proofs.ItemTexts.{item_text, Counted, begun_takes}
+use Rattle.notation.proofs.MemberTexts.{After, key_takes}
 use Rattle.notation.specs.Notation.{key_text}
 
 -- items lead from the draft to the other, whatever is pushed after them

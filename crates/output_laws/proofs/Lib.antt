@@ -1,3 +1,3 @@
 mod Numbers
-mod Lines
-mod Legal
+mod JournalLines
+mod LegalJournals

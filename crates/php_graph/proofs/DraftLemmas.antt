@@ -12,7 +12,7 @@ use Rattle.php_graph.specs.declared.kind.Kind.{Kind}
 use Rattle.php_graph.specs.declared.kind.Kind.TheVariants as kinds
 use Rattle.php_graph.specs.Graph.{kind_at, children_of, keys_of, passes, is_array, is_object, is_object_at, key_eq, holds_key, are_distinct, is_array_key, is_class, is_well_formed, FitsKey, FitsKind}
 use Rattle.php_graph.specs.Building.{with_member, is_container, is_name}
-use Rattle.php_graph.specs.Drafted.{places_of}
+use Rattle.php_graph.specs.BuilderState.{places_of}
 use Rattle.std.proofs.lemmas.Bool.{false≢true}
 use Rattle.std.proofs.lemmas.Option.{get_or_from_slice_get}
 use Rattle.php_graph.specs.ByteStrings.{AreBytes}

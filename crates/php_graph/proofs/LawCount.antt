@@ -12,7 +12,7 @@ use Rattle.php_graph.specs.declared.item.Item.TheVariants as items
 use Rattle.php_graph.specs.Graph.{kind_at, is_back, ends_after, child_end, end_of, levels, values_in}
 use Rattle.php_graph.specs.Building.{is_value, named, member_items, kind_items, child_items, items_of}
 use Rattle.php_graph.proofs.EndLemmas.{then_some, own_end, back_end, grows, own_grows, ends_rise}
-use Rattle.php_graph.proofs.DraftMade.{backs}
+use Rattle.php_graph.proofs.DraftAfterItem.{backs}
 use Rattle.php_graph.proofs.LawItems.{members_of, members_children}
 use Rattle.php_graph.proofs.LawSlices.{slice, slice_none, slice_whole, slice_first, values_in-cons, values_in-slices}
 

@@ -14,8 +14,8 @@ use Rattle.php_graph.specs.Graph.{kind_at, children_of, is_object, ends_after, c
 use Rattle.php_graph.specs.Building.{named, member_items, kind_items, child_items, items_of, with_member, is_container, is_name}
 use Rattle.php_graph.proofs.EndLemmas.{then_some, own_end, grows, ends_rise, ends_after-append, own_makes, Agree, Agree-part, all_agree}
 use Rattle.php_graph.proofs.DraftLemmas.{place_is, with_member-is_container}
-use Rattle.php_graph.proofs.DraftMade.{level_below}
-use Rattle.php_graph.proofs.DraftSteps.{Grown}
+use Rattle.php_graph.proofs.DraftAfterItem.{level_below}
+use Rattle.php_graph.proofs.DraftShapes.{Grown}
 
 -- the members of an array, the properties of an object under their keys
 abbrev pub members_of : Kind → List (Key × Child)

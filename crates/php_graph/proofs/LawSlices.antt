@@ -6,7 +6,7 @@ use Rattle.std.proofs.lemmas.List.Sums.{sum_by-cons, sum_by-append}
 use Rattle.std.proofs.Math.Seq.{take-add}
 use Rattle.php_graph.specs.declared.kind.Kind.{Kind}
 use Rattle.php_graph.specs.Graph.{kind_at, values_in}
-use Rattle.php_graph.proofs.DraftMade.{backs}
+use Rattle.php_graph.proofs.DraftAfterItem.{backs}
 
 -- the places from a up to b, which is not among them
 abbrev pub slice : List Kind → ℕ → ℕ → List Kind

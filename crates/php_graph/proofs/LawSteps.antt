@@ -16,10 +16,10 @@ use Rattle.php_graph.specs.declared.item.BuildFault.{BuildFault}
 use Rattle.php_graph.specs.declared.item.BuildFault.TheVariants.{BadNumber, BadClass}
 use Rattle.php_graph.specs.Graph.{kind_at, is_object_at, is_class, IsGraph}
 use Rattle.php_graph.specs.Building.{Draft, nothing_drafted, all_drafted, wants_of, wants_by, is_value, is_name, item_fits, FitsItem, room_fault, first_fault, fault_of, pushed, drafted, with_value}
-use Rattle.php_graph.specs.Drafted.{IsDraft, IsNewValue}
+use Rattle.php_graph.specs.BuilderState.{IsDraft, IsNewValue}
 use Rattle.php_graph.proofs.DraftLemmas.{and_true}
-use Rattle.php_graph.proofs.DraftMade.{value_drafted, back_drafted, close_drafted, done_graph, done_on_top}
-use Rattle.php_graph.proofs.DraftKnown.{has_room, wants_no_value, key_in}
+use Rattle.php_graph.proofs.DraftAfterItem.{value_drafted, back_drafted, close_drafted, done_graph, done_on_top}
+use Rattle.php_graph.proofs.BuilderAfterItem.{has_room, wants_no_value, key_in}
 
 abbrev pub IsDrafted : Draft → Type 0
 IsDrafted d = IsDraft d.places d.containers d.key

@@ -12,7 +12,7 @@ use Rattle.std.proofs.lemmas.Fmt.{decimal-digits_value, digits_decimal, digits_v
 use Rattle.std.proofs.lemmas.Str.Parse.{IsNumeralModel, numerals_by_fold}
 use Rattle.php_graph.specs.Numbers.{is_canonical, digits_after, natural_of, negative_of, int_of_text}
 use Rattle.php_graph.proofs.DraftLemmas.{and_true}
-use Rattle.php_graph.proofs.DraftSteps.{same_or}
+use Rattle.php_graph.proofs.DraftShapes.{same_or}
 
 own : IsNumeralModel (λ ds. list_all is_ascii_digit ds ≡ true) (digits_after 0)
 own = numerals_by_fold _ (search rules) digits_after (search rules)

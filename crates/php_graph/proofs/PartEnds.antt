@@ -5,9 +5,9 @@ use Rattle.php_graph.specs.declared.child.Child.{Child}
 use Rattle.php_graph.specs.declared.child.Child.TheVariants.{Own, Back}
 use Rattle.php_graph.specs.declared.kind.Kind.{Kind}
 use Rattle.php_graph.specs.Graph.{kind_at, children_of, ends_after, child_end, end_of, levels, IsGraph}
-use Rattle.php_graph.specs.Kept.{last_own}
+use Rattle.php_graph.specs.PlaceOffsets.{last_own}
 use Rattle.php_graph.proofs.EndLemmas.{then_some, own_end, back_end, own_grows, ends_rise, one_level_more}
-use Rattle.php_graph.proofs.DraftSteps.{same_or}
+use Rattle.php_graph.proofs.DraftShapes.{same_or}
 
 -- the value at place k ends here
 pub record Ends (d : ℕ) (g : List Kind) (k most : ℕ) : Type 0 where

@@ -16,11 +16,11 @@ use Rattle.php_graph.specs.declared.kind.Kind.{Kind}
 use Rattle.php_graph.specs.declared.kind.Kind.TheVariants as kinds
 use Rattle.php_graph.specs.ByteStrings.{AreBytes}
 use Rattle.php_graph.specs.Graph.{kind_at, children_of, passes, is_object, is_object_at, is_array_key, are_distinct, is_class, is_well_formed, FitsKey, FitsKind, is_back, most_values, ends_after, child_end, end_of, levels, IsGraph, lowered_number, lowered_child, lowered_members, lowered_kind, lowered_places, part_of}
-use Rattle.php_graph.specs.Counted.{children_in}
-use Rattle.php_graph.specs.Kept.{PlaceList, kinds_of}
+use Rattle.php_graph.specs.MemberCounts.{children_in}
+use Rattle.php_graph.specs.PlaceOffsets.{PlaceList, kinds_of}
 use Rattle.php_graph.proofs.EndLemmas.{chosen, then_some, EndsAt, own_end, own_makes, back_end, back_makes, grows, own_grows, ends_rise}
 use Rattle.php_graph.proofs.DraftLemmas.{place_is}
-use Rattle.php_graph.proofs.DraftMade.{backs}
+use Rattle.php_graph.proofs.DraftAfterItem.{backs}
 use Rattle.php_graph.proofs.PartEnds.{place_ends}
 
 map_some : {A B : Type 0} (f : A → B) (o : Option A) (y : B) → option_map f o ≡ Some y → (x : A) × (o ≡ Some x) × (f x ≡ y)

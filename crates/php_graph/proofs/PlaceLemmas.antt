@@ -12,7 +12,7 @@ use Rattle.php_graph.specs.declared.kind.Kind.{Kind}
 use Rattle.php_graph.specs.declared.places.Place.{Place}
 use Rattle.php_graph.specs.Graph.{lowered_kind, lowered_places}
 use Rattle.php_graph.specs.Building.{with_member}
-use Rattle.php_graph.specs.Kept.{PlaceList, kinds_at, kinds_of, offsets_at, offsets_from}
+use Rattle.php_graph.specs.PlaceOffsets.{PlaceList, kinds_at, kinds_of, offsets_at, offsets_from}
 use Rattle.php_graph.specs.Size.{cells_of, image_length}
 
 -- what stands at a place but the first

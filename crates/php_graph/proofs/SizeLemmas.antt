@@ -10,10 +10,10 @@ use Rattle.php_graph.specs.declared.child.Child.{Child}
 use Rattle.php_graph.specs.declared.kind.Kind.TheVariants as kinds
 use Rattle.php_graph.specs.ByteStrings.{AreBytes}
 use Rattle.php_graph.specs.Graph.{children_of, FitsKey, FitsKind, IsGraph, most_values}
-use Rattle.php_graph.specs.Counted.{children_in}
+use Rattle.php_graph.specs.MemberCounts.{children_in}
 use Rattle.seg_words.specs.Layout.{words_in}
 use Rattle.php_graph.specs.Size.{cells_of, key_cells, image_length}
-use Rattle.php_graph.specs.Kept.{offsets_from}
+use Rattle.php_graph.specs.PlaceOffsets.{offsets_from}
 
 pub length-offsets_from : (n : ℕ) (ks : List Kind) → length (offsets_from n ks) ≡ length ks
 length-offsets_from n [] = refl

@@ -3,7 +3,7 @@ pub mod Numbers
 pub mod Graph
 pub mod Size
 pub mod Building
-pub mod Counted
-pub mod Kept
+pub mod MemberCounts
+pub mod PlaceOffsets
 pub mod Keys
-pub mod Drafted
+pub mod BuilderState

@@ -11,12 +11,12 @@ ghost use Rattle.php_graph.specs.Building.{pushed, IsAnswer, room_fault, value_f
 ghost use Rattle.php_graph.specs.Building.{with_back};
 ghost use Rattle.php_graph.specs.declared.kind.Kind.TheVariants as kinds;
 ghost use Rattle.php_graph.specs.Graph.{IsGraph, is_object_at};
-ghost use Rattle.php_graph.specs.Drafted.{IsFresh};
+ghost use Rattle.php_graph.specs.BuilderState.{IsNewKind};
 
 use crate::bytes::Bytes;
 use crate::child::Child;
 use crate::container::Container;
-use crate::draft_steps::{attach, note_last, open_container, push_place};
+use crate::draft_steps::{attach, add_key_to_last, open_container, push_place};
 use crate::graph::Graph;
 use crate::item::{BuildFault, Item, Wants};
 use crate::key::Key;
@@ -49,7 +49,7 @@ pub struct Builder {
 
 impl Model for Builder {
     ghost use Rattle.php_graph.specs.Building.{Draft};
-    ghost use Rattle.php_graph.specs.Drafted.{draft_of, kinds_in, IsBuilding};
+    ghost use Rattle.php_graph.specs.BuilderState.{draft_of, kinds_in, IsBuilding};
 
     ghost Value = { Draft };
 
@@ -147,7 +147,7 @@ impl Builder {
     // A value with a place of its own, where there is room for it.
     fn add_value(&mut self, kind: Kind) -> Result<(), AllocError>
         requires wanted { wants_of self.old ≡ Value }
-        requires new_value { IsFresh self.old.places kind }
+        requires new_value { IsNewKind self.old.places kind }
         requires room { room_fault self.old ≡ None }
         ensures ok { OnOk result (self.new ≡ with_value self.old kind) }
         ensures err { OnErr result (self.new ≡ self.old) }
@@ -171,7 +171,7 @@ impl Builder {
     // A value with a place of its own.
     fn push_value(&mut self, kind: Kind) -> Result<(), BuildFault>
         requires wanted { wants_of self.old ≡ Value }
-        requires new_value { IsFresh self.old.places kind }
+        requires new_value { IsNewKind self.old.places kind }
         ensures answer { IsAnswer (room_fault self.old) result }
         ensures ok { OnOk result (self.new ≡ with_value self.old kind) }
         ensures err { OnErr result (self.new ≡ self.old) }
@@ -254,7 +254,7 @@ impl Builder {
         ensures ok { OnOk result (self.new ≡ pushed self.old (items.Key key)) }
         ensures err { OnErr result (self.new ≡ self.old) }
     {
-        note_last(self.alloc, &self.places, &mut self.containers, &key)?;
+        add_key_to_last(self.alloc, &self.places, &mut self.containers, &key)?;
         self.key = Some(key);
         Ok(())
     }

@@ -66,9 +66,14 @@ impl Container {
         }
     }
 
-    // Notes that the container gets this key, unless it has it. A key whose mark is above all
-    // others is new, and is not looked for.
-    pub(crate) fn note(&mut self, alloc: Global, kind: &Kind, key: &Key) -> Result<(), BuildFault>
+    // Takes this key into the container, unless it has it. A key whose mark is above all others is
+    // new, and is not looked for.
+    pub(crate) fn add_key(
+        &mut self,
+        alloc: Global,
+        kind: &Kind,
+        key: &Key,
+    ) -> Result<(), BuildFault>
         requires { KnowsKeys self.old.highest self.old.seen (keys_of kind.now) }
         ensures place { self.new.place ≡ self.old.place }
         ensures answer { IsAnswer (repeat_fault (keys_of kind.now) key.now) result }

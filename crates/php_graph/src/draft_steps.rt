@@ -6,10 +6,10 @@ ghost use Rattle.std.specs.List.{AllByRecursion};
 ghost use Rattle.php_graph.specs.declared.child.Child.TheVariants.{Own};
 ghost use Rattle.php_graph.specs.Graph.{is_array_key, keys_of, FitsKey};
 ghost use Rattle.php_graph.specs.Keys.{KnowsKeys};
-ghost use Rattle.php_graph.specs.Kept.{kinds_of};
+ghost use Rattle.php_graph.specs.PlaceOffsets.{kinds_of};
 ghost use Rattle.php_graph.specs.Building.{attached, innermost_fault, fault_in, IsAnswer};
-ghost use Rattle.php_graph.specs.Drafted.{Opens, kinds_in, places_of, CanAttach, KnowsAll};
-ghost use Rattle.php_graph.specs.Drafted.{is_open_at};
+ghost use Rattle.php_graph.specs.BuilderState.{Opens, kinds_in, places_of, CanAttach, KnowsAll};
+ghost use Rattle.php_graph.specs.BuilderState.{is_open_at};
 
 use crate::child::Child;
 use crate::container::Container;
@@ -124,7 +124,7 @@ fn push_other(
 }
 
 // Notes a key of the innermost open container, unless it may not stand there.
-pub(crate) fn note_last(
+pub(crate) fn add_key_to_last(
     alloc: Global,
     places: &Option<Places>,
     containers: &mut Vec<Container>,
@@ -150,11 +150,11 @@ pub(crate) fn note_last(
     let Some(places) = places else { unreachable!() };
     let container = &mut containers[last - 1];
     let kind = places.kind((container.place - 1) as usize);
-    note_key(alloc, kind, container, key)
+    add_key_to(alloc, kind, container, key)
 }
 
 // Notes a key of an open container, unless it may not stand there.
-fn note_key(
+fn add_key_to(
     alloc: Global,
     kind: &Kind,
     container: &mut Container,
@@ -171,7 +171,7 @@ fn note_key(
     if kind.is_array() && !is_array_key(key) {
         return Err(BuildFault::IntegerText);
     }
-    container.note(alloc, kind, key)
+    container.add_key(alloc, kind, key)
 }
 
 // Whether an array may have this key.

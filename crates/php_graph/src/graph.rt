@@ -7,8 +7,8 @@ ghost use Rattle.php_graph.specs.declared.kind.Kind.TheVariants.{Str};
 ghost use Rattle.std.specs.Option.{option_map};
 ghost use Rattle.php_graph.specs.Graph.{IsGraph, kind_at, most_values, end_of, part_of};
 ghost use Rattle.php_graph.specs.Graph.{lowered_places};
-ghost use Rattle.php_graph.specs.Counted.{children_in};
-ghost use Rattle.php_graph.specs.Kept.{IsKept, kinds_of, kinds_at, offsets_at};
+ghost use Rattle.php_graph.specs.MemberCounts.{children_in};
+ghost use Rattle.php_graph.specs.PlaceOffsets.{IsKept, kinds_of, kinds_at, offsets_at};
 ghost use Rattle.php_graph.specs.Size.{image_length, offset_of, block_size};
 
 use crate::bytes::Bytes;
@@ -32,7 +32,7 @@ pub struct Graph {
 impl Model for Graph {
     ghost use Rattle.std.specs.Prelude.{List};
     ghost use Rattle.php_graph.specs.declared.kind.Kind.{Kind};
-    ghost use Rattle.php_graph.specs.Kept.{IsKept, kinds_of, offsets_of};
+    ghost use Rattle.php_graph.specs.PlaceOffsets.{IsKept, kinds_of, offsets_of};
 
     ghost Value = { List Kind };
 

@@ -5,7 +5,7 @@ ghost use Rattle.std.specs.Prelude.{◌↔◌, IfOk, OnOk, IfErr, OnErr};
 ghost use Rattle.php_graph.specs.Graph.{keys_of, children_of, holds_key, is_array, is_object};
 ghost use Rattle.php_graph.specs.Graph.{lowered_kind, FitsKind};
 ghost use Rattle.php_graph.specs.Building.{with_member, is_name, is_container};
-ghost use Rattle.php_graph.specs.Kept.{last_own};
+ghost use Rattle.php_graph.specs.PlaceOffsets.{last_own};
 ghost use Rattle.php_graph.specs.Keys.{HasKeys, HasMarks};
 ghost use Rattle.php_graph.specs.Size.{cells_of};
 

@@ -6,7 +6,7 @@ ghost use Rattle.php_graph.specs.declared.key.Key.{Key};
 ghost use Rattle.php_graph.specs.declared.child.Child.{Child};
 ghost use Rattle.php_graph.specs.Graph.{lowered_members, holds_key};
 ghost use Rattle.php_graph.specs.Keys.{HasKeys, HasMarks};
-ghost use Rattle.php_graph.specs.Kept.{last_own};
+ghost use Rattle.php_graph.specs.PlaceOffsets.{last_own};
 ghost use Rattle.std.specs.Prelude.{map, sum_by};
 ghost use Rattle.php_graph.specs.Size.{key_cells};
 

@@ -9,7 +9,8 @@ ghost use Rattle.php_graph.specs.declared.kind.Kind.TheVariants.{Str};
 ghost use Rattle.php_graph.specs.ByteStrings.{AreBytes};
 ghost use Rattle.php_graph.specs.Graph.{children_of, is_object, lowered_places};
 ghost use Rattle.php_graph.specs.Building.{with_member, is_name};
-ghost use Rattle.php_graph.specs.Kept.{kinds_of, offsets_of, kinds_at, offsets_at, offsets_from};
+ghost use Rattle.php_graph.specs.PlaceOffsets.{kinds_of, offsets_of, kinds_at, offsets_at};
+ghost use Rattle.php_graph.specs.PlaceOffsets.{offsets_from};
 ghost use Rattle.php_graph.specs.Size.{image_length};
 
 use crate::bytes::Bytes;
@@ -35,7 +36,7 @@ pub(crate) struct Places {
 }
 
 impl Model for Places {
-    ghost use Rattle.php_graph.specs.Kept.{PlaceList};
+    ghost use Rattle.php_graph.specs.PlaceOffsets.{PlaceList};
 
     ghost Value = { PlaceList };
 

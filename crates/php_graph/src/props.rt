@@ -7,7 +7,7 @@ ghost use Rattle.php_graph.specs.declared.key.Key.TheVariants.{Str};
 ghost use Rattle.php_graph.specs.declared.child.Child.{Child};
 ghost use Rattle.php_graph.specs.Graph.{lowered_members, holds_key};
 ghost use Rattle.php_graph.specs.Keys.{HasKeys, HasMarks};
-ghost use Rattle.php_graph.specs.Kept.{last_own};
+ghost use Rattle.php_graph.specs.PlaceOffsets.{last_own};
 ghost use Rattle.seg_words.specs.Layout.{words_in};
 
 use crate::bytes::Bytes;

@@ -8,28 +8,28 @@ use lib.ListN.{get_elem?}
 use Rattle.seg_words.specs.Windows.{has}
 use Rattle.seg_words.specs.Blocks.{image_place}
 use Rattle.pin_table.specs.declared.views.Known.{Known}
-use Rattle.pin_table.specs.declared.views.Book.{Book}
+use Rattle.pin_table.specs.declared.views.EventLog.{EventLog}
 use Rattle.pin_table.specs.declared.views.Reader.{Reader}
-use Rattle.pin_table.specs.declared.views.Desk.{Desk}
+use Rattle.pin_table.specs.declared.views.WriterState.{WriterState}
 use Rattle.pin_table.specs.declared.views.View.{View}
 use Rattle.pin_table.specs.declared.views.View.TheVariants.{Writer, Idle, Copying}
 use Rattle.pin_table.specs.Events.{events_of, fetched_last}
 use Rattle.pin_table.specs.Pins.{pins_on, IsBlock, AreApart, content_of, refused_in, freed_in}
 use Rattle.pin_table.specs.Views.{is_in_hand, is_among, named_blocks, carries, copied_blocks}
 
--- What a worker knows fits the writer's book: it was made, it has seen a beginning of the history,
+-- What a worker knows fits the writer's log: it was made, it has seen a beginning of the history,
 -- its own events are all of its events there and in the whole history, and with those left they are
 -- its budget.
-pub record Fits (b : Book) (p : Known) : Type 0 where
+pub record Fits (b : EventLog) (p : Known) : Type 0 where
   pub made : p.worker < b.made
   pub seen : IsPrefix p.seen b.history
   pub own : events_of p.worker b.history ≡ p.own
   pub saw_own : events_of p.worker p.seen ≡ p.own
   pub budget : length p.own + p.left ≡ slice_index b.budgets p.worker
 
--- The book is in order: no event of a worker that was not made, none beyond a budget; the pass in
+-- The log is in order: no event of a worker that was not made, none beyond a budget; the pass in
 -- the hand fits and was not taken in, and those taken in fit.
-pub record BookInOrder (b : Book) : Type 0 where
+pub record LogInOrder (b : EventLog) : Type 0 where
   pub count : b.made ≤ length b.budgets
   pub none : (w : ℕ) → b.made ≤ w → events_of w b.history ≡ []
   pub bounded : (w : ℕ) → w < b.made → length (events_of w b.history) ≤ slice_index b.budgets w
@@ -38,25 +38,25 @@ pub record BookInOrder (b : Book) : Type 0 where
   pub closed : (k : ℕ) (p : Known) → get_elem? b.closed k ≡ some p → Fits b p
 
 -- The pass of the seat k is in order. `place` gives each worker's seat, so no worker has two.
-pub record PassInOrder (b : Book) (place : ℕ → ℕ) (k : ℕ) (p : Known) : Type 0 where
+pub record PassInOrder (b : EventLog) (place : ℕ → ℕ) (k : ℕ) (p : Known) : Type 0 where
   pub fits : Fits b p
   pub placed : place p.worker ≡ k
   pub away : is_in_hand p.worker b.hand ≡ false
   pub open_yet : is_among p.worker b.closed ≡ false
 
--- The writer's desk is in order, where the worker v copies from the block (slice_index copying v)
+-- The writer's state is in order, where the worker v copies from the block (slice_index copying v)
 -- just now, if it is not 0.
-pub record DeskInOrder (d : Desk) (copying : List ℕ) : Type 0 where
-  pub book : BookInOrder d.book
+pub record StateInOrder (d : WriterState) (copying : List ℕ) : Type 0 where
+  pub log : LogInOrder d.log
   pub few : length copying ≤ 64
   pub seats : length d.windows ≡ length copying
-  pub all_seats : length d.book.budgets ≡ length copying
+  pub all_seats : length d.log.budgets ≡ length copying
   -- who copies from a block has its window on it
   pub pins : (v at : ℕ) → get_elem? copying v ≡ some at → 0 < at → get_elem? d.windows v ≡ some at
   -- a window is open from a fetch until its worker comes into the hand or is taken in
   pub fetched : (v at : ℕ) → get_elem? d.windows v ≡ some at → 0 < at
-      → (is_in_hand v d.book.hand ≡ false) × (is_among v d.book.closed ≡ false)
-      × (fetched_last v d.book.history false ≡ true)
+      → (is_in_hand v d.log.hand ≡ false) × (is_among v d.log.closed ≡ false)
+      × (fetched_last v d.log.history false ≡ true)
   pub stand : (j at : ℕ) → get_elem? (named_blocks d) j ≡ some at → 0 < at → IsBlock d.words at
   pub apart : (j k a b : ℕ) → get_elem? (named_blocks d) j ≡ some a
       → get_elem? (named_blocks d) k ≡ some b → 0 < a → 0 < b → AreApart d.words a b
@@ -68,39 +68,39 @@ pub record DeskInOrder (d : Desk) (copying : List ℕ) : Type 0 where
       → (at : ℕ) × (get_elem? d.windows v ≡ some at) × (0 < at)
       × (has at (refused_in d.readings) ≡ true)
   -- since the event began windows have only closed
-  pub shrunk : (p : Known) → d.book.hand ≡ Some p
+  pub shrunk : (p : Known) → d.log.hand ≡ Some p
       → (v at : ℕ) → get_elem? d.windows v ≡ some at → 0 < at → get_elem? d.begun v ≡ some at
 
 -- what a worker knows that copies is in order
-pub record ReaderInOrder (d : Desk) (copying : List ℕ) (c : Reader) : Type 0 where
+pub record ReaderInOrder (d : WriterState) (copying : List ℕ) (c : Reader) : Type 0 where
   pub some_block : 0 < c.block
   pub copies : get_elem? copying c.known.worker ≡ some c.block
   pub first : c.first ≡ image_place d.words c.block
   pub content : c.content ≡ content_of d.words c.block
 
 -- each worker that was made, is not in the hand and was not taken in has its pass at its place
-abbrev pub AllPlaced : Book → (ℕ → ℕ) → List View → Type 0
+abbrev pub AllPlaced : EventLog → (ℕ → ℕ) → List View → Type 0
 AllPlaced b place views = (w : ℕ) → w < b.made → is_in_hand w b.hand ≡ false
     → is_among w b.closed ≡ false
     → (v : View) × (get_elem? views (place w) ≡ some v) × (carries w v ≡ true)
 
--- What each step carries from one state of the table to the next, for some desk of the writer, some
+-- What each step carries from one state of the table to the next, for some state of the writer, some
 -- place for each worker's pass and some block from which each worker copies. One equation holds for
 -- every word: it is the writer's, and one more for each worker that copies from the block whose pin
 -- count it is.
 pub record Carried (words : List ℕ) (views : List View) : Type 0 where
-  pub desk : Desk
+  pub state : WriterState
   pub place : ℕ → ℕ
   pub copying : List ℕ
-  pub at : get_elem? views 0 ≡ some (Writer desk)
-  pub count : length words ≡ length desk.words
+  pub at : get_elem? views 0 ≡ some (Writer state)
+  pub count : length words ≡ length state.words
   pub each_word : (i : ℕ)
-      → slice_index words i ≡ slice_index desk.words i + pins_on i (desk.pinning ∷ copying)
-  pub desk_ok : DeskInOrder desk copying
+      → slice_index words i ≡ slice_index state.words i + pins_on i (state.pinning ∷ copying)
+  pub state_ok : StateInOrder state copying
   pub idle : (k : ℕ) (p : Known) → get_elem? views k ≡ some (Idle p)
-      → PassInOrder desk.book place k p × (get_elem? copying p.worker ≡ some 0)
+      → PassInOrder state.log place k p × (get_elem? copying p.worker ≡ some 0)
   pub copy : (k : ℕ) (c : Reader) → get_elem? views k ≡ some (Copying c)
-      → PassInOrder desk.book place k c.known × ReaderInOrder desk copying c
-  pub placed : AllPlaced desk.book place views
+      → PassInOrder state.log place k c.known × ReaderInOrder state copying c
+  pub placed : AllPlaced state.log place views
   -- who copies, by the workers and by the views
   pub copies : (i : ℕ) → pins_on i copying ≡ pins_on i (copied_blocks views)

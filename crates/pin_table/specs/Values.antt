@@ -2,16 +2,16 @@
 use Rattle.atomic_table.specs.Seated.{TableId}
 use Rattle.pin_table.specs.declared.views.Known.{Known}
 use Rattle.pin_table.specs.declared.views.Reader.{Reader}
-use Rattle.pin_table.specs.declared.views.Desk.{Desk}
+use Rattle.pin_table.specs.declared.views.WriterState.{WriterState}
 
-pub record Writing : Type 0 where
+pub record WriterView : Type 0 where
   pub table : TableId
-  pub desk : Desk
+  pub state : WriterState
 
-pub record Bearer : Type 0 where
+pub record PassView : Type 0 where
   pub table : TableId
   pub known : Known
 
-pub record Copier : Type 0 where
+pub record CopyView : Type 0 where
   pub table : TableId
   pub copy : Reader

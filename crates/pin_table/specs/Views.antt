@@ -5,9 +5,9 @@ use Rattle.seg_words.specs.Windows.{Aside, closed_on, holders}
 use Rattle.seg_words.specs.Blocks.{image_place}
 use Rattle.apcu_model.specs.declared.request.Event.{Event}
 use Rattle.pin_table.specs.declared.views.Known.{Known}
-use Rattle.pin_table.specs.declared.views.Book.{Book}
+use Rattle.pin_table.specs.declared.views.EventLog.{EventLog}
 use Rattle.pin_table.specs.declared.views.Reader.{Reader}
-use Rattle.pin_table.specs.declared.views.Desk.{Desk}
+use Rattle.pin_table.specs.declared.views.WriterState.{WriterState}
 use Rattle.pin_table.specs.declared.views.View.{View}
 use Rattle.pin_table.specs.declared.views.View.TheVariants.{Writer, Idle, Copying, Spent}
 use Rattle.pin_table.specs.declared.views.Start.{Start}
@@ -17,10 +17,10 @@ use Rattle.pin_table.specs.Pins.{content_of, refused_in}
 abbrev pub nobody : Known
 nobody = record { worker = 0; left = 0; seen = []; own = [] }
 
-abbrev pub blank : Desk
+abbrev pub blank : WriterState
 blank = record {
   words = [];
-  book = record { history = []; hand = None; made = 0; budgets = []; closed = [] };
+  log = record { history = []; hand = None; made = 0; budgets = []; closed = [] };
   windows = [];
   begun = [];
   mask = 0;
@@ -28,11 +28,11 @@ blank = record {
   pinning = 0;
 }
 
-abbrev pub desk_of : View → Desk
-desk_of (Writer d) = d
-desk_of (Idle p) = blank
-desk_of (Copying c) = blank
-desk_of Spent = blank
+abbrev pub state_of : View → WriterState
+state_of (Writer d) = d
+state_of (Idle p) = blank
+state_of (Copying c) = blank
+state_of Spent = blank
 
 abbrev pub known_of : View → Known
 known_of (Writer d) = nobody
@@ -79,10 +79,10 @@ abbrev pub copied_blocks : List View → List ℕ
 copied_blocks views = map copied_block views
 
 -- a new worker is made
-abbrev pub newcomer : Book → Known
+abbrev pub newcomer : EventLog → Known
 newcomer b = record { worker = b.made; left = slice_index b.budgets b.made; seen = []; own = [] }
 
-abbrev pub with_newcomer : Book → Book
+abbrev pub with_newcomer : EventLog → EventLog
 with_newcomer b = record {
   history = b.history;
   hand = b.hand;
@@ -92,7 +92,7 @@ with_newcomer b = record {
 }
 
 -- a pass comes into the writer's hand, or leaves it
-abbrev pub with_hand : Book → Option Known → Book
+abbrev pub with_hand : EventLog → Option Known → EventLog
 with_hand b h = record {
   history = b.history;
   hand = h;
@@ -102,7 +102,7 @@ with_hand b h = record {
 }
 
 -- the event of the worker in the hand
-abbrev pub with_event : Book → Event → Book
+abbrev pub with_event : EventLog → Event → EventLog
 with_event b e = record {
   history = b.history ++ e ∷ [];
   hand = None;
@@ -112,7 +112,7 @@ with_event b e = record {
 }
 
 -- the pass after its event: it has seen the history with the event, and has one less left
-abbrev pub known_after : Book → Event → Known
+abbrev pub known_after : EventLog → Event → Known
 known_after b e = record {
   worker = (in_hand b.hand).worker;
   left = (in_hand b.hand).left - 1;
@@ -121,7 +121,7 @@ known_after b e = record {
 }
 
 -- the pass of the worker in the hand, which has seen the whole history
-abbrev pub seen_all : Book → Known
+abbrev pub seen_all : EventLog → Known
 seen_all b = record {
   worker = (in_hand b.hand).worker;
   left = (in_hand b.hand).left;
@@ -130,7 +130,7 @@ seen_all b = record {
 }
 
 -- a pass is taken in at the end
-abbrev pub with_closed : Book → Known → Book
+abbrev pub with_closed : EventLog → Known → EventLog
 with_closed b p = record {
   history = b.history;
   hand = b.hand;
@@ -140,17 +140,17 @@ with_closed b p = record {
 }
 
 -- the blocks that are named: by a window, or as the one that is being pinned
-abbrev pub named_blocks : Desk → List ℕ
+abbrev pub named_blocks : WriterState → List ℕ
 named_blocks d = d.pinning ∷ d.windows
 
 -- what the trait of words sees beside the words
-abbrev pub aside_of : Desk → Aside
+abbrev pub aside_of : WriterState → Aside
 aside_of d = record { windows = d.windows; mask = d.mask; refused = refused_in d.readings }
 
-abbrev pub with_words : Desk → List ℕ → Desk
+abbrev pub with_words : WriterState → List ℕ → WriterState
 with_words d ws = record {
   words = ws;
-  book = d.book;
+  log = d.log;
   windows = d.windows;
   begun = d.begun;
   mask = d.mask;
@@ -158,10 +158,10 @@ with_words d ws = record {
   pinning = d.pinning;
 }
 
-abbrev pub with_book : Desk → Book → Desk
-with_book d b = record {
+abbrev pub with_log : WriterState → EventLog → WriterState
+with_log d b = record {
   words = d.words;
-  book = b;
+  log = b;
   windows = d.windows;
   begun = d.begun;
   mask = d.mask;
@@ -170,10 +170,10 @@ with_book d b = record {
 }
 
 -- the worker in the hand leaves it, and what its event met is forgotten
-abbrev pub rested : Desk → Book → Desk
+abbrev pub rested : WriterState → EventLog → WriterState
 rested d b = record {
   words = d.words;
-  book = b;
+  log = b;
   windows = d.windows;
   begun = [];
   mask = 0;
@@ -182,10 +182,10 @@ rested d b = record {
 }
 
 -- a pass comes into the hand, and its window closes
-abbrev pub taken_in : Desk → Known → Desk
+abbrev pub taken_in : WriterState → Known → WriterState
 taken_in d p = record {
   words = d.words;
-  book = with_hand d.book (Some p);
+  log = with_hand d.log (Some p);
   windows = slice_set d.windows p.worker 0;
   begun = slice_set d.windows p.worker 0;
   mask = 0;
@@ -194,10 +194,10 @@ taken_in d p = record {
 }
 
 -- a load found that nobody copies the block at `at`, or that n workers do
-abbrev pub freed : Desk → ℕ → Desk
+abbrev pub freed : WriterState → ℕ → WriterState
 freed d at = record {
   words = d.words;
-  book = d.book;
+  log = d.log;
   windows = closed_on at d.windows;
   begun = d.begun;
   mask = d.mask;
@@ -205,10 +205,10 @@ freed d at = record {
   pinning = d.pinning;
 }
 
-abbrev pub met : Desk → ℕ → ℕ → Desk
+abbrev pub met : WriterState → ℕ → ℕ → WriterState
 met d at n = record {
   words = d.words;
-  book = d.book;
+  log = d.log;
   windows = d.windows;
   begun = d.begun;
   mask = bit_or d.mask (holders d.windows at);
@@ -217,13 +217,13 @@ met d at n = record {
 }
 
 -- a load found the pin count n in the block at `at`
-abbrev pub probed : Desk → ℕ → ℕ → Desk
+abbrev pub probed : WriterState → ℕ → ℕ → WriterState
 probed d at n = cond (n == 0) (freed d at) (met d at n)
 
-abbrev pub pinning_at : Desk → ℕ → Desk
+abbrev pub pinning_at : WriterState → ℕ → WriterState
 pinning_at d at = record {
   words = d.words;
-  book = d.book;
+  log = d.log;
   windows = d.windows;
   begun = d.begun;
   mask = d.mask;
@@ -232,30 +232,30 @@ pinning_at d at = record {
 }
 
 -- the worker in the hand makes its event, and copies the pinned block from then on
-abbrev pub copied : Desk → Event → Desk
+abbrev pub copied : WriterState → Event → WriterState
 copied d e = record {
   words = d.words;
-  book = with_event d.book e;
-  windows = slice_set d.windows (in_hand d.book.hand).worker d.pinning;
+  log = with_event d.log e;
+  windows = slice_set d.windows (in_hand d.log.hand).worker d.pinning;
   begun = [];
   mask = 0;
   readings = [];
   pinning = 0;
 }
 
-abbrev pub reader_after : Desk → Event → Reader
+abbrev pub reader_after : WriterState → Event → Reader
 reader_after d e = record {
-  known = known_after d.book e;
+  known = known_after d.log e;
   block = d.pinning;
   first = image_place d.words d.pinning;
   content = content_of d.words d.pinning;
 }
 
 -- a pass is taken in at the end
-abbrev pub shut : Desk → Known → Desk
+abbrev pub shut : WriterState → Known → WriterState
 shut d p = record {
   words = d.words;
-  book = with_closed d.book p;
+  log = with_closed d.log p;
   windows = slice_set d.windows p.worker 0;
   begun = [];
   mask = 0;
@@ -263,28 +263,28 @@ shut d p = record {
   pinning = d.pinning;
 }
 
-abbrev pub on_desk : (Desk → Desk) → View → View
-on_desk f (Writer d) = Writer (f d)
-on_desk f (Idle p) = Idle p
-on_desk f (Copying c) = Copying c
-on_desk f Spent = Spent
+abbrev pub on_state : (WriterState → WriterState) → View → View
+on_state f (Writer d) = Writer (f d)
+on_state f (Idle p) = Idle p
+on_state f (Copying c) = Copying c
+on_state f Spent = Spent
 
 abbrev pub takes_in : View → View → View
-takes_in v w = on_desk (λ d. taken_in d (known_of w)) v
+takes_in v w = on_state (λ d. taken_in d (known_of w)) v
 
 abbrev pub closes : View → View → View
-closes v w = on_desk (λ d. shut d (known_of w)) v
+closes v w = on_state (λ d. shut d (known_of w)) v
 
-abbrev pub from_desk : (Desk → Reader) → View → View
-from_desk f v = Copying (f (desk_of v))
+abbrev pub from_state : (WriterState → Reader) → View → View
+from_state f v = Copying (f (state_of v))
 
-abbrev pub from_book : (Book → Known) → View → View
-from_book f v = Idle (f (desk_of v).book)
+abbrev pub from_log : (EventLog → Known) → View → View
+from_log f v = Idle (f (state_of v).log)
 
 abbrev pub first_view : Start → View
 first_view s = Writer (record {
   words = s.words.items;
-  book = record { history = []; hand = None; made = 0; budgets = s.budgets.items; closed = [] };
+  log = record { history = []; hand = None; made = 0; budgets = s.budgets.items; closed = [] };
   windows = replicate (length s.budgets.items) 0;
   begun = [];
   mask = 0;

@@ -1,23 +1,23 @@
 -- What a writer has beside its words, its windows and what its event met.
 use Rattle.std.specs.Prelude.{[]}
-use Rattle.pin_table.specs.declared.writer.Beside.{Beside}
+use Rattle.pin_table.specs.declared.writer.WriterRest.{WriterRest}
 use Rattle.pin_table.specs.declared.writer.Writer.{Writer}
 
-abbrev pub beside : Writer → Beside
-beside w = record {
+abbrev pub rest_of : Writer → WriterRest
+rest_of w = record {
   name = w.seat.ghost_name;
   worker = w.worker;
   left = w.left;
   seat = record {
     table = w.seat.now.table;
-    desk = record {
+    state = record {
       words = [];
-      book = w.seat.now.desk.book;
+      log = w.seat.now.state.log;
       windows = [];
-      begun = w.seat.now.desk.begun;
+      begun = w.seat.now.state.begun;
       mask = 0;
       readings = [];
-      pinning = w.seat.now.desk.pinning;
+      pinning = w.seat.now.state.pinning;
     };
   };
 }

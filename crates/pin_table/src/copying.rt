@@ -38,11 +38,11 @@ impl Drop for Copying {
 impl Model for Copying {
     ghost use Rattle.std.specs.Prelude.{◌≡◌, ◌+◌, ◌<◌, ◌≤◌, [], length};
     ghost use Rattle.seg_words.specs.declared.layout.TheConstants.{HEAD_WORDS};
-    ghost use Rattle.pin_table.specs.Values.{Copier};
+    ghost use Rattle.pin_table.specs.Values.{CopyView};
     ghost use Rattle.pin_table.specs.Views.{reader_of};
     ghost use Rattle.pin_table.specs.declared.views.View.TheVariants as views;
 
-    ghost Value = { Copier };
+    ghost Value = { CopyView };
 
     ghost view = { λ p. record { table = p.seat.table_id; copy = reader_of p.seat.me.0 } };
 

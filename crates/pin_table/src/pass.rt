@@ -19,11 +19,11 @@ pub struct Pass {
 
 impl Model for Pass {
     ghost use Rattle.std.specs.Prelude.{◌≡◌, []};
-    ghost use Rattle.pin_table.specs.Values.{Bearer};
+    ghost use Rattle.pin_table.specs.Values.{PassView};
     ghost use Rattle.pin_table.specs.Views.{known_of};
     ghost use Rattle.pin_table.specs.declared.views.View.TheVariants.{Idle};
 
-    ghost Value = { Bearer };
+    ghost Value = { PassView };
 
     ghost view = { λ p. record { table = p.seat.table_id; known = known_of p.seat.me.0 } };
 
@@ -57,10 +57,10 @@ pub struct Ended {
 
 impl Model for Ended {
     ghost use Rattle.std.specs.Prelude.{◌≡◌, false};
-    ghost use Rattle.pin_table.specs.Values.{Bearer};
+    ghost use Rattle.pin_table.specs.Values.{PassView};
     ghost use Rattle.pin_table.specs.Events.{fetched_last};
 
-    ghost Value = { Bearer };
+    ghost Value = { PassView };
 
     ghost view = { λ e. e.pass };
 

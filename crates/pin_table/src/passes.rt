@@ -3,10 +3,10 @@ ghost use Rattle.std.specs.Prelude.{length, slice_index, slice_get, Some, None, 
 ghost use Rattle.std.specs.Prelude.{IfNone, vec_capacity, vec_len};
 ghost use mathlib.Core.List.{IsPrefix};
 ghost use Rattle.pin_table.specs.Events.{events_of, fetched_last};
-ghost use Rattle.pin_table.specs.Views.{with_book, rested, is_among};
-ghost use Rattle.pin_table.specs.Lists.{fresh_book, fresh_desk, fresh, known_list, AllOf};
-ghost use Rattle.pin_table.specs.Order.{DeskInOrder};
-ghost use Rattle.pin_table.specs.Values.{Bearer};
+ghost use Rattle.pin_table.specs.Views.{with_log, rested, is_among};
+ghost use Rattle.pin_table.specs.Lists.{first_log, first_state, first_passes, known_list, AllOf};
+ghost use Rattle.pin_table.specs.Order.{StateInOrder};
+ghost use Rattle.pin_table.specs.Values.{PassView};
 
 use crate::pass::{Ended, Pass};
 use crate::table::{PinTable, WriterSeat};
@@ -22,9 +22,9 @@ pub struct Passes {
 
 impl Model for Passes {
     ghost use Rattle.std.specs.Prelude.{List};
-    ghost use Rattle.pin_table.specs.Values.{Bearer};
+    ghost use Rattle.pin_table.specs.Values.{PassView};
 
-    ghost Value = { List Bearer };
+    ghost Value = { List PassView };
 
     ghost view = { λ p. p.list.items };
 }
@@ -77,14 +77,14 @@ impl EndedList {
 
 fn fill(table: &PinTable, seat: &mut WriterSeat, budgets: &[u32], list: &mut Vec<Pass>)
     requires table { seat.old.table ≡ table.now }
-    requires book { seat.old.desk.book ≡ fresh_book budgets.now 0 }
+    requires log { seat.old.state.log ≡ first_log budgets.now 0 }
     requires few { length budgets.now ≤ 64 }
     requires list { list.old.items ≡ [] }
     requires room { length budgets.now ≤ vec_capacity list.old }
     ensures table { seat.new.table ≡ seat.old.table }
-    ensures desk { seat.new.desk
-        ≡ with_book seat.old.desk (fresh_book budgets.now (length budgets.now)) }
-    ensures list { list.new.items ≡ fresh table.now budgets.now (length budgets.now) }
+    ensures state { seat.new.state
+        ≡ with_log seat.old.state (first_log budgets.now (length budgets.now)) }
+    ensures list { list.new.items ≡ first_passes table.now budgets.now (length budgets.now) }
 {
     let mut i: usize = 0;
     while i < budgets.len() {
@@ -110,9 +110,10 @@ impl PinTable {
         ensures table { IfOk result (λ r. r.1.table ≡ r.0) }
         ensures count { IfOk result (λ r.
             r.0.words ≡ length (⟦<VecWords as WordsIn>⟧.words words)) }
-        ensures desk { IfOk result (λ r.
-            r.1.desk ≡ fresh_desk (⟦<VecWords as WordsIn>⟧.words words) budgets.now) }
-        ensures passes { IfOk result (λ r. r.2 ≡ fresh r.0 budgets.now (length budgets.now)) }
+        ensures state { IfOk result (λ r.
+            r.1.state ≡ first_state (⟦<VecWords as WordsIn>⟧.words words) budgets.now) }
+        ensures passes { IfOk result (λ r.
+            r.2 ≡ first_passes r.0 budgets.now (length budgets.now)) }
         ensures ended { IfOk result (λ r. r.3.ended ≡ []) }
         ensures room { IfOk result (λ r. length budgets.now ≤ r.3.room) }
     {
@@ -129,15 +130,15 @@ impl PinTable {
 
     /// Tells that the writer's history begins with what a worker has seen that has ended. Nothing
     /// changes, since its window is closed and no event is under way.
-    #[tactic(auto, using(crate::proofs::Used::of_learn))]
+    #[tactic(auto, using(crate::proofs::LearnFacts::of_learn))]
     pub fn learn(&self, seat: &mut WriterSeat, ended: Ended) -> Ended
         requires table { seat.old.table ≡ self.now }
         requires ended { ended.table ≡ self.now }
-        requires hand { seat.old.desk.book.hand ≡ None }
+        requires hand { seat.old.state.log.hand ≡ None }
         ensures table { seat.new.table ≡ seat.old.table }
-        ensures desk { seat.new.desk ≡ rested seat.old.desk seat.old.desk.book }
-        ensures seen { IsPrefix ended.known.seen seat.old.desk.book.history }
-        ensures own { events_of ended.known.worker seat.old.desk.book.history ≡ ended.known.own }
+        ensures state { seat.new.state ≡ rested seat.old.state seat.old.state.log }
+        ensures seen { IsPrefix ended.known.seen seat.old.state.log.history }
+        ensures own { events_of ended.known.worker seat.old.state.log.history ≡ ended.known.own }
         ensures made { events_of ended.known.worker ended.known.seen ≡ ended.known.own }
         ensures same { result ≡ ended }
     {
@@ -155,18 +156,18 @@ impl PinTable {
     pub fn close(self, mut seat: WriterSeat, ended: EndedList) -> VecWords
         requires table { seat.table ≡ self }
         requires ended { AllOf self ended.ended }
-        requires hand { seat.desk.book.hand ≡ None }
-        requires every { (w : ℕ) → w < seat.desk.book.made
+        requires hand { seat.state.log.hand ≡ None }
+        requires every { (w : ℕ) → w < seat.state.log.made
             → is_among w (known_list ended.ended) ≡ true }
-        ensures words { ⟦<VecWords as WordsIn>⟧.words result ≡ seat.desk.words }
-        ensures seen { (k : ℕ) (b : Bearer) → slice_get ended.ended k ≡ Some b
-            → IsPrefix b.known.seen seat.desk.book.history }
-        ensures own { (k : ℕ) (b : Bearer) → slice_get ended.ended k ≡ Some b
-            → events_of b.known.worker seat.desk.book.history ≡ b.known.own }
-        ensures made { (k : ℕ) (b : Bearer) → slice_get ended.ended k ≡ Some b
+        ensures words { ⟦<VecWords as WordsIn>⟧.words result ≡ seat.state.words }
+        ensures seen { (k : ℕ) (b : PassView) → slice_get ended.ended k ≡ Some b
+            → IsPrefix b.known.seen seat.state.log.history }
+        ensures own { (k : ℕ) (b : PassView) → slice_get ended.ended k ≡ Some b
+            → events_of b.known.worker seat.state.log.history ≡ b.known.own }
+        ensures made { (k : ℕ) (b : PassView) → slice_get ended.ended k ≡ Some b
             → events_of b.known.worker b.known.seen ≡ b.known.own }
         ensures others { (w : ℕ) → is_among w (known_list ended.ended) ≡ false
-            → events_of w seat.desk.book.history ≡ [] }
+            → events_of w seat.state.log.history ≡ [] }
     {
         gather(&self, &mut seat, ended);
         VecWords::from_words(self.dissolve(seat))
@@ -177,17 +178,17 @@ impl PinTable {
     pub fn end(self, mut seat: WriterSeat, ended: EndedList)
         requires table { seat.table ≡ self }
         requires ended { AllOf self ended.ended }
-        requires hand { seat.desk.book.hand ≡ None }
-        requires every { (w : ℕ) → w < seat.desk.book.made
+        requires hand { seat.state.log.hand ≡ None }
+        requires every { (w : ℕ) → w < seat.state.log.made
             → is_among w (known_list ended.ended) ≡ true }
-        ensures seen { (k : ℕ) (b : Bearer) → slice_get ended.ended k ≡ Some b
-            → IsPrefix b.known.seen seat.desk.book.history }
-        ensures own { (k : ℕ) (b : Bearer) → slice_get ended.ended k ≡ Some b
-            → events_of b.known.worker seat.desk.book.history ≡ b.known.own }
-        ensures made { (k : ℕ) (b : Bearer) → slice_get ended.ended k ≡ Some b
+        ensures seen { (k : ℕ) (b : PassView) → slice_get ended.ended k ≡ Some b
+            → IsPrefix b.known.seen seat.state.log.history }
+        ensures own { (k : ℕ) (b : PassView) → slice_get ended.ended k ≡ Some b
+            → events_of b.known.worker seat.state.log.history ≡ b.known.own }
+        ensures made { (k : ℕ) (b : PassView) → slice_get ended.ended k ≡ Some b
             → events_of b.known.worker b.known.seen ≡ b.known.own }
         ensures others { (w : ℕ) → is_among w (known_list ended.ended) ≡ false
-            → events_of w seat.desk.book.history ≡ [] }
+            → events_of w seat.state.log.history ≡ [] }
     {
         gather(&self, &mut seat, ended);
     }
@@ -196,14 +197,14 @@ impl PinTable {
 fn gather(table: &PinTable, seat: &mut WriterSeat, mut ended: EndedList)
     requires table { seat.old.table ≡ table.now }
     requires ended { AllOf table.now ended.ended }
-    requires hand { seat.old.desk.book.hand ≡ None }
+    requires hand { seat.old.state.log.hand ≡ None }
     ensures table { seat.new.table ≡ seat.old.table }
-    ensures words { seat.new.desk.words ≡ seat.old.desk.words }
-    ensures history { seat.new.desk.book.history ≡ seat.old.desk.book.history }
-    ensures made { seat.new.desk.book.made ≡ seat.old.desk.book.made }
-    ensures closed { seat.new.desk.book.closed
-        ≡ known_list ended.ended ++ seat.old.desk.book.closed }
-    ensures order { (copying : List ℕ) × DeskInOrder seat.new.desk copying }
+    ensures words { seat.new.state.words ≡ seat.old.state.words }
+    ensures history { seat.new.state.log.history ≡ seat.old.state.log.history }
+    ensures made { seat.new.state.log.made ≡ seat.old.state.log.made }
+    ensures closed { seat.new.state.log.closed
+        ≡ known_list ended.ended ++ seat.old.state.log.closed }
+    ensures order { (copying : List ℕ) × StateInOrder seat.new.state copying }
 {
     while let Some(e) = ended.pop() {
         let Ended { pass } = e;

@@ -15,7 +15,7 @@ impl TableRule<u64, View, Start> for SharedWords {
     ghost first = { first_view };
 }
 
-// The writer looks at its own desk.
+// The writer looks at its own state.
 pub struct Look;
 
 impl Play<u64, View> for Look {
@@ -82,11 +82,11 @@ impl Play<u64, View> for Release {
 pub struct Make;
 
 impl Split<View> for Make {
-    ghost use Rattle.pin_table.specs.Views.{on_desk, with_book, from_book, newcomer, with_newcomer};
+    ghost use Rattle.pin_table.specs.Views.{on_state, with_log, from_log, newcomer, with_newcomer};
 
-    ghost left = { on_desk (λ d. with_book d (with_newcomer d.book)) };
+    ghost left = { on_state (λ d. with_log d (with_newcomer d.log)) };
 
-    ghost right = { from_book newcomer };
+    ghost right = { from_log newcomer };
 }
 
 // A pass comes into the writer's hand.
@@ -133,11 +133,11 @@ pub struct Give<Q> {
 }
 
 impl<Q: Saying> Split<View> for Give<Q> {
-    ghost use Rattle.pin_table.specs.Views.{on_desk, rested, from_book, with_event, known_after};
+    ghost use Rattle.pin_table.specs.Views.{on_state, rested, from_log, with_event, known_after};
 
-    ghost left = { on_desk (λ d. rested d (with_event d.book Q.event)) };
+    ghost left = { on_state (λ d. rested d (with_event d.log Q.event)) };
 
-    ghost right = { from_book (λ b. known_after b Q.event) };
+    ghost right = { from_log (λ b. known_after b Q.event) };
 }
 
 // The pass goes back as it was.
@@ -145,11 +145,11 @@ pub struct GiveBack;
 
 impl Split<View> for GiveBack {
     ghost use Rattle.std.specs.Prelude.{None};
-    ghost use Rattle.pin_table.specs.Views.{on_desk, rested, from_book, with_hand, in_hand};
+    ghost use Rattle.pin_table.specs.Views.{on_state, rested, from_log, with_hand, in_hand};
 
-    ghost left = { on_desk (λ d. rested d (with_hand d.book None)) };
+    ghost left = { on_state (λ d. rested d (with_hand d.log None)) };
 
-    ghost right = { from_book (λ b. in_hand b.hand) };
+    ghost right = { from_log (λ b. in_hand b.hand) };
 }
 
 // The pass goes back, and has seen all.
@@ -157,11 +157,11 @@ pub struct GiveSeen;
 
 impl Split<View> for GiveSeen {
     ghost use Rattle.std.specs.Prelude.{None};
-    ghost use Rattle.pin_table.specs.Views.{on_desk, rested, from_book, with_hand, seen_all};
+    ghost use Rattle.pin_table.specs.Views.{on_state, rested, from_log, with_hand, seen_all};
 
-    ghost left = { on_desk (λ d. rested d (with_hand d.book None)) };
+    ghost left = { on_state (λ d. rested d (with_hand d.log None)) };
 
-    ghost right = { from_book seen_all };
+    ghost right = { from_log seen_all };
 }
 
 // The worker in the hand makes its event, and copies the pinned block.
@@ -170,9 +170,9 @@ pub struct CopyOut<Q> {
 }
 
 impl<Q: Saying> Split<View> for CopyOut<Q> {
-    ghost use Rattle.pin_table.specs.Views.{on_desk, from_desk, copied, reader_after};
+    ghost use Rattle.pin_table.specs.Views.{on_state, from_state, copied, reader_after};
 
-    ghost left = { on_desk (λ d. copied d Q.event) };
+    ghost left = { on_state (λ d. copied d Q.event) };
 
-    ghost right = { from_desk (λ d. reader_after d Q.event) };
+    ghost right = { from_state (λ d. reader_after d Q.event) };
 }

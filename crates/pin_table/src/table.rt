@@ -6,11 +6,11 @@ ghost use Rattle.seg_words.specs.Windows.{has, is_named, closed_on, held_by, hol
 ghost use Rattle.seg_words.specs.Blocks.{IsTold, MayStore, MayProbe, image_place};
 ghost use Rattle.pin_table.specs.Events.{is_fetch};
 ghost use Rattle.pin_table.specs.Pins.{IsBlock, MeetsNone, refused_in};
-ghost use Rattle.pin_table.specs.Views.{is_among, desk_of, in_hand, with_words, with_book};
+ghost use Rattle.pin_table.specs.Views.{is_among, state_of, in_hand, with_words, with_log};
 ghost use Rattle.pin_table.specs.Views.{with_hand, with_event, known_after, newcomer};
 ghost use Rattle.pin_table.specs.Views.{with_newcomer, seen_all, rested, taken_in, shut, probed};
 ghost use Rattle.pin_table.specs.Views.{pinning_at, copied, reader_after, first_view};
-ghost use Rattle.pin_table.specs.Order.{DeskInOrder};
+ghost use Rattle.pin_table.specs.Order.{StateInOrder};
 ghost use Rattle.std.specs.Mem.Slots.{slots_items, slots_len, IsFull};
 
 use crate::copying::Copying;
@@ -59,8 +59,8 @@ impl Model for PinTable {
 
 /// The right to write: what stands behind the cache's lock.
 ///
-/// Contracts see the table and the desk: the words as the writer knows them, the history of events,
-/// the windows, and what the event under way has met.
+/// Contracts see the table and the writer's state: the words as it knows them, the history of
+/// events, the windows, and what the event under way has met.
 #[derive(Drop)]
 pub struct WriterSeat {
     seat: Seat<u64, View>,
@@ -70,22 +70,22 @@ pub struct WriterSeat {
 
 impl Model for WriterSeat {
     ghost use Rattle.std.specs.Prelude.{◌≡◌, ◌≤◌, [], length};
-    ghost use Rattle.pin_table.specs.Values.{Writing};
-    ghost use Rattle.pin_table.specs.Views.{desk_of};
+    ghost use Rattle.pin_table.specs.Values.{WriterView};
+    ghost use Rattle.pin_table.specs.Views.{state_of};
     ghost use Rattle.pin_table.specs.declared.views.View.TheVariants.{Writer};
 
-    ghost Value = { Writing };
+    ghost Value = { WriterView };
 
-    ghost view = { λ s. record { table = s.seat.table_id; desk = desk_of s.seat.me.0 } };
+    ghost view = { λ s. record { table = s.seat.table_id; state = state_of s.seat.me.0 } };
 
     ghost invariant = { λ s.
         (s.seat.id ≡ 0)
-        × (s.seat.me ≡ (Writer (desk_of s.seat.me.0), []))
-        × (length (desk_of s.seat.me.0).words ≡ s.seat.table_id.words)
-        × (s.windows.items ≡ (desk_of s.seat.me.0).windows)
+        × (s.seat.me ≡ (Writer (state_of s.seat.me.0), []))
+        × (length (state_of s.seat.me.0).words ≡ s.seat.table_id.words)
+        × (s.windows.items ≡ (state_of s.seat.me.0).windows)
         × (length s.windows.items ≤ 64)
-        × (s.mask ≡ (desk_of s.seat.me.0).mask)
-        × ((desk_of s.seat.me.0).pinning ≡ 0) };
+        × (s.mask ≡ (state_of s.seat.me.0).mask)
+        × ((state_of s.seat.me.0).pinning ≡ 0) };
 }
 
 fn set_window(windows: &mut Vec<u32>, worker: u32, at: u32)
@@ -145,7 +145,7 @@ fn copy_back(closed: &Closed<u64, Global>, row: &mut Vec<u64>)
 impl WriterSeat {
     // The workers met in the event under way.
     pub(crate) fn mask(&self) -> u64
-        ensures { result ≡ self.now.desk.mask }
+        ensures { result ≡ self.now.state.mask }
     {
         self.mask
     }
@@ -165,8 +165,8 @@ impl PinTable {
         requires windows { windows.items ≡ replicate (length budgets.items) 0 }
         ensures table { IfOk result (λ r. r.1.table ≡ r.0) }
         ensures count { IfOk result (λ r. r.0.words ≡ length words.items) }
-        ensures desk { IfOk result (λ r.
-            r.1.desk ≡ desk_of (first_view (record { words = words; budgets = budgets }))) }
+        ensures state { IfOk result (λ r.
+            r.1.state ≡ state_of (first_view (record { words = words; budgets = budgets }))) }
     {
         let start = Start { words, budgets };
         let (table, seat) = Table::of_words(alloc, start.words.as_slice(), &start)?;
@@ -188,10 +188,10 @@ impl PinTable {
         self.table.word_count() as u32
     }
 
-    // What the rule says of the writer's desk.
+    // What the rule says of the writer's state.
     pub(crate) fn look(&self, seat: &mut WriterSeat)
         requires table { seat.old.table ≡ self.now }
-        ensures desk { (copying : List ℕ) × DeskInOrder seat.new.desk copying }
+        ensures state { (copying : List ℕ) × StateInOrder seat.new.state copying }
         ensures seat { seat.new ≡ seat.old }
     {
         self.table.shared.load::<Look>(&mut seat.seat, 0);
@@ -200,12 +200,13 @@ impl PinTable {
     // A new worker's pass.
     pub(crate) fn make(&self, seat: &mut WriterSeat, worker: u32, left: u32) -> Pass
         requires table { seat.old.table ≡ self.now }
-        requires room { seat.old.desk.book.made < length seat.old.desk.book.budgets }
-        requires worker { worker ≡ seat.old.desk.book.made }
-        requires left { left ≡ slice_index seat.old.desk.book.budgets seat.old.desk.book.made }
+        requires room { seat.old.state.log.made < length seat.old.state.log.budgets }
+        requires worker { worker ≡ seat.old.state.log.made }
+        requires left { left ≡ slice_index seat.old.state.log.budgets seat.old.state.log.made }
         ensures table { seat.new.table ≡ seat.old.table }
-        ensures desk { seat.new.desk ≡ with_book seat.old.desk (with_newcomer seat.old.desk.book) }
-        ensures pass { (result.table ≡ self.now) × (result.known ≡ newcomer seat.old.desk.book) }
+        ensures state { seat.new.state
+            ≡ with_log seat.old.state (with_newcomer seat.old.state.log) }
+        ensures pass { (result.table ≡ self.now) × (result.known ≡ newcomer seat.old.state.log) }
     {
         let seat = self.table.shared.split_seat::<Make>(&mut seat.seat);
         Pass { seat, worker, left }
@@ -215,11 +216,11 @@ impl PinTable {
     pub(crate) fn take(&self, seat: &mut WriterSeat, pass: Pass)
         requires table { seat.old.table ≡ self.now }
         requires pass { pass.table ≡ self.now }
-        requires hand { seat.old.desk.book.hand ≡ None }
+        requires hand { seat.old.state.log.hand ≡ None }
         ensures table { seat.new.table ≡ seat.old.table }
-        ensures desk { seat.new.desk ≡ taken_in seat.old.desk pass.known }
-        ensures whole { length seat.new.desk.words ≡ self.now.words }
-        ensures short { length seat.new.desk.words < 2 ^ 32 }
+        ensures state { seat.new.state ≡ taken_in seat.old.state pass.known }
+        ensures whole { length seat.new.state.words ≡ self.now.words }
+        ensures short { length seat.new.state.words < 2 ^ 32 }
     {
         let Pass {
             seat: other,
@@ -233,9 +234,9 @@ impl PinTable {
 
     pub(crate) fn load(&self, seat: &mut WriterSeat, word: u32) -> u64
         requires table { seat.old.table ≡ self.now }
-        requires place { word < length seat.old.desk.words }
-        ensures word { IsTold seat.old.desk.windows word
-            → result ≡ slice_index seat.old.desk.words word }
+        requires place { word < length seat.old.state.words }
+        ensures word { IsTold seat.old.state.windows word
+            → result ≡ slice_index seat.old.state.words word }
         ensures seat { seat.new ≡ seat.old }
     {
         self.table
@@ -245,11 +246,11 @@ impl PinTable {
 
     pub(crate) fn store(&self, seat: &mut WriterSeat, word: u32, new: u64)
         requires table { seat.old.table ≡ self.now }
-        requires place { word < length seat.old.desk.words }
-        requires apart { MayStore seat.old.desk.words seat.old.desk.windows word }
+        requires place { word < length seat.old.state.words }
+        requires apart { MayStore seat.old.state.words seat.old.state.windows word }
         ensures table { seat.new.table ≡ seat.old.table }
-        ensures desk { seat.new.desk
-            ≡ with_words seat.old.desk (slice_set seat.old.desk.words word new) }
+        ensures state { seat.new.state
+            ≡ with_words seat.old.state (slice_set seat.old.state.words word new) }
     {
         self.table
             .shared
@@ -259,13 +260,13 @@ impl PinTable {
     // The pin count of a block. It becomes a reading of this event.
     pub(crate) fn probe(&self, seat: &mut WriterSeat, at: u32) -> u64
         requires table { seat.old.table ≡ self.now }
-        requires block { MayProbe seat.old.desk.words seat.old.desk.windows at }
-        requires fresh { has at (refused_in seat.old.desk.readings) ≡ false }
+        requires block { MayProbe seat.old.state.words seat.old.state.windows at }
+        requires unrefused { has at (refused_in seat.old.state.readings) ≡ false }
         ensures table { seat.new.table ≡ seat.old.table }
-        ensures desk { seat.new.desk ≡ probed seat.old.desk at result }
+        ensures state { seat.new.state ≡ probed seat.old.state at result }
         ensures met { MatchBool (result == 0)
-            (has at (held_by seat.old.desk.mask seat.old.desk.windows) ≡ false)
-            (is_named seat.old.desk.windows at ≡ true) }
+            (has at (held_by seat.old.state.mask seat.old.state.windows) ≡ false)
+            (is_named seat.old.state.windows at ≡ true) }
     {
         let found = self
             .table
@@ -282,15 +283,15 @@ impl PinTable {
     // The worker in the hand makes its event.
     pub(crate) fn give<Q: Saying>(&self, seat: &mut WriterSeat, worker: u32, left: u32) -> Pass
         requires table { seat.old.table ≡ self.now }
-        requires hand { seat.old.desk.book.hand ≡ Some (in_hand seat.old.desk.book.hand) }
-        requires worker { (in_hand seat.old.desk.book.hand).worker ≡ worker }
-        requires left { (in_hand seat.old.desk.book.hand).left ≡ left + 1 }
+        requires hand { seat.old.state.log.hand ≡ Some (in_hand seat.old.state.log.hand) }
+        requires worker { (in_hand seat.old.state.log.hand).worker ≡ worker }
+        requires left { (in_hand seat.old.state.log.hand).left ≡ left + 1 }
         requires event { Q.event.worker ≡ worker }
         ensures table { seat.new.table ≡ seat.old.table }
-        ensures desk { seat.new.desk
-            ≡ rested seat.old.desk (with_event seat.old.desk.book Q.event) }
+        ensures state { seat.new.state
+            ≡ rested seat.old.state (with_event seat.old.state.log Q.event) }
         ensures pass { result.table ≡ self.now }
-        ensures known { result.known ≡ known_after seat.old.desk.book Q.event }
+        ensures known { result.known ≡ known_after seat.old.state.log Q.event }
     {
         let own = self.table.shared.split_seat::<Give<Q>>(&mut seat.seat);
         seat.mask = 0;
@@ -304,13 +305,13 @@ impl PinTable {
     // The pass leaves the hand as it was.
     pub(crate) fn give_back(&self, seat: &mut WriterSeat, worker: u32, left: u32) -> Pass
         requires table { seat.old.table ≡ self.now }
-        requires hand { seat.old.desk.book.hand ≡ Some (in_hand seat.old.desk.book.hand) }
-        requires worker { (in_hand seat.old.desk.book.hand).worker ≡ worker }
-        requires left { (in_hand seat.old.desk.book.hand).left ≡ left }
+        requires hand { seat.old.state.log.hand ≡ Some (in_hand seat.old.state.log.hand) }
+        requires worker { (in_hand seat.old.state.log.hand).worker ≡ worker }
+        requires left { (in_hand seat.old.state.log.hand).left ≡ left }
         ensures table { seat.new.table ≡ seat.old.table }
-        ensures desk { seat.new.desk ≡ rested seat.old.desk (with_hand seat.old.desk.book None) }
+        ensures state { seat.new.state ≡ rested seat.old.state (with_hand seat.old.state.log None) }
         ensures pass { result.table ≡ self.now }
-        ensures known { result.known ≡ in_hand seat.old.desk.book.hand }
+        ensures known { result.known ≡ in_hand seat.old.state.log.hand }
     {
         let own = self.table.shared.split_seat::<GiveBack>(&mut seat.seat);
         seat.mask = 0;
@@ -324,13 +325,13 @@ impl PinTable {
     // The pass leaves the hand, and has seen the whole history.
     pub(crate) fn give_seen(&self, seat: &mut WriterSeat, worker: u32, left: u32) -> Pass
         requires table { seat.old.table ≡ self.now }
-        requires hand { seat.old.desk.book.hand ≡ Some (in_hand seat.old.desk.book.hand) }
-        requires worker { (in_hand seat.old.desk.book.hand).worker ≡ worker }
-        requires left { (in_hand seat.old.desk.book.hand).left ≡ left }
+        requires hand { seat.old.state.log.hand ≡ Some (in_hand seat.old.state.log.hand) }
+        requires worker { (in_hand seat.old.state.log.hand).worker ≡ worker }
+        requires left { (in_hand seat.old.state.log.hand).left ≡ left }
         ensures table { seat.new.table ≡ seat.old.table }
-        ensures desk { seat.new.desk ≡ rested seat.old.desk (with_hand seat.old.desk.book None) }
+        ensures state { seat.new.state ≡ rested seat.old.state (with_hand seat.old.state.log None) }
         ensures pass { result.table ≡ self.now }
-        ensures known { result.known ≡ seen_all seat.old.desk.book }
+        ensures known { result.known ≡ seen_all seat.old.state.log }
     {
         let own = self.table.shared.split_seat::<GiveSeen>(&mut seat.seat);
         seat.mask = 0;
@@ -345,9 +346,9 @@ impl PinTable {
     pub(crate) fn take_in(&self, seat: &mut WriterSeat, pass: Pass)
         requires table { seat.old.table ≡ self.now }
         requires pass { pass.table ≡ self.now }
-        requires hand { seat.old.desk.book.hand ≡ None }
+        requires hand { seat.old.state.log.hand ≡ None }
         ensures table { seat.new.table ≡ seat.old.table }
-        ensures desk { seat.new.desk ≡ shut seat.old.desk pass.known }
+        ensures state { seat.new.state ≡ shut seat.old.state pass.known }
     {
         let Pass {
             seat: other,
@@ -362,9 +363,9 @@ impl PinTable {
     // The words at the end, in the memory that was kept for them.
     pub(crate) fn dissolve(self, seat: WriterSeat) -> Vec<u64>
         requires table { seat.table ≡ self }
-        requires every { (w : ℕ) → w < seat.desk.book.made
-            → is_among w seat.desk.book.closed ≡ true }
-        ensures words { result.items ≡ seat.desk.words }
+        requires every { (w : ℕ) → w < seat.state.log.made
+            → is_among w seat.state.log.closed ≡ true }
+        ensures words { result.items ≡ seat.state.words }
         ensures short { length result.items < 2 ^ 32 }
     {
         let PinTable { table, mut row } = self;
@@ -389,20 +390,20 @@ impl PinTable {
         first: u32,
         len: u32,
     ) -> Copying
-        requires len { len ≡ slice_index seat.old.desk.words (block + IMAGE_LENGTH) }
-        requires first { first ≡ image_place seat.old.desk.words block }
+        requires len { len ≡ slice_index seat.old.state.words (block + IMAGE_LENGTH) }
+        requires first { first ≡ image_place seat.old.state.words block }
         requires table { seat.old.table ≡ self.now }
-        requires block { IsBlock seat.old.desk.words block }
-        requires apart { MeetsNone seat.old.desk.words seat.old.desk.windows block }
-        requires hand { seat.old.desk.book.hand ≡ Some (in_hand seat.old.desk.book.hand) }
-        requires worker { (in_hand seat.old.desk.book.hand).worker ≡ worker }
-        requires left { (in_hand seat.old.desk.book.hand).left ≡ left + 1 }
+        requires block { IsBlock seat.old.state.words block }
+        requires apart { MeetsNone seat.old.state.words seat.old.state.windows block }
+        requires hand { seat.old.state.log.hand ≡ Some (in_hand seat.old.state.log.hand) }
+        requires worker { (in_hand seat.old.state.log.hand).worker ≡ worker }
+        requires left { (in_hand seat.old.state.log.hand).left ≡ left + 1 }
         requires event { Q.event.worker ≡ worker }
         requires fetch { is_fetch Q.event.request ≡ true }
         ensures table { seat.new.table ≡ seat.old.table }
-        ensures desk { seat.new.desk ≡ copied (pinning_at seat.old.desk block) Q.event }
+        ensures state { seat.new.state ≡ copied (pinning_at seat.old.state block) Q.event }
         ensures copying { result.table ≡ self.now }
-        ensures copy { result.copy ≡ reader_after (pinning_at seat.old.desk block) Q.event }
+        ensures copy { result.copy ≡ reader_after (pinning_at seat.old.state block) Q.event }
     {
         self.table
             .shared

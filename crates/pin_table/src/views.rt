@@ -15,7 +15,7 @@ pub struct Known {
 /// What the writer knows of the workers: all events so far, the pass that is in its hand during an
 /// event, how many workers were made, how many events each may make, and the passes taken in at the
 /// end.
-pub struct Book {
+pub struct EventLog {
     pub history: LinkedList<Event>,
     pub hand: Option<Known>,
     pub made: u64,
@@ -33,10 +33,10 @@ pub struct Reader {
 }
 
 /// What the writer knows. A window of 0 names no block.
-pub struct Desk {
+pub struct WriterState {
     /// The words, with 0 at each pin count.
     pub words: LinkedList<u64>,
-    pub book: Book,
+    pub log: EventLog,
     /// For each worker the block that it may still copy from.
     pub windows: LinkedList<u64>,
     /// The windows as the event under way began with them.
@@ -51,7 +51,7 @@ pub struct Desk {
 
 /// What a seat knows.
 pub enum View {
-    Writer(Desk),
+    Writer(WriterState),
     Idle(Known),
     Copying(Reader),
     /// A pass that the writer has taken: nothing is said of it.

@@ -11,7 +11,7 @@ ghost use Rattle.pin_table.specs.Pins.{IsBlock, MeetsNone, MayPin};
 ghost use Rattle.pin_table.specs.Views.{in_hand, taken_in, rested, with_hand, with_event};
 ghost use Rattle.pin_table.specs.Views.{known_after};
 ghost use Rattle.pin_table.specs.Views.{seen_all, pinning_at, copied, reader_after, aside_of};
-ghost use Rattle.pin_table.specs.Order.{DeskInOrder};
+ghost use Rattle.pin_table.specs.Order.{StateInOrder};
 
 use crate::copying::Copying;
 use crate::pass::{Ended, Pass};
@@ -22,7 +22,7 @@ use seg_words::{HEAD_WORDS, IMAGE_LENGTH, KEY_LENGTH, Segment, WordsIn};
 use std::marker::Brand;
 
 /// All that a writer has beside its words and what its event met. No value of it is made.
-pub struct Beside {
+pub struct WriterRest {
     pub name: u64,
     pub worker: u32,
     pub left: u32,
@@ -38,20 +38,20 @@ pub struct Writer<'a> {
     pub worker: u32,
     pub left: u32,
     ghost same_table: { seat.now.table ≡ table.now },
-    ghost whole: { length seat.now.desk.words ≡ table.now.words },
-    ghost short: { length seat.now.desk.words < 2 ^ 32 },
+    ghost whole: { length seat.now.state.words ≡ table.now.words },
+    ghost short: { length seat.now.state.words < 2 ^ 32 },
 }
 
 impl WordsIn for Writer<'_> {
-    type Rest = Beside;
+    type Rest = WriterRest;
 
-    ghost use Rattle.pin_table.specs.WriterRest.{beside};
+    ghost use Rattle.pin_table.specs.WriterRest.{rest_of};
 
-    ghost words = { λ w. w.seat.now.desk.words };
+    ghost words = { λ w. w.seat.now.state.words };
 
-    ghost aside = { λ w. aside_of w.seat.now.desk };
+    ghost aside = { λ w. aside_of w.seat.now.state };
 
-    ghost rest = { beside };
+    ghost rest = { rest_of };
 
     ghost short = { λ w. w.short };
 
@@ -69,7 +69,7 @@ impl Segment for Writer<'_> {
     ghost use Rattle.seg_words.specs.Windows.{has, Frees, Refuses};
     ghost use Rattle.seg_words.specs.Blocks.{MayProbe};
     ghost use Rattle.pin_table.specs.Views.{aside_of};
-    ghost use Rattle.pin_table.specs.WriterRest.{beside};
+    ghost use Rattle.pin_table.specs.WriterRest.{rest_of};
 
     // A load is far cheaper than a store, and many words are written with what they are.
     fn store(&mut self, i: u32, w: u64) {
@@ -84,16 +84,16 @@ impl Segment for Writer<'_> {
 
     // The answer is what one load of the pin count tells, and the event keeps that reading.
     fn probe(&mut self, at: u32) -> bool
-        requires block { MayProbe self.old.seat.now.desk.words self.old.seat.now.desk.windows at }
-        requires fresh { has at (aside_of self.old.seat.now.desk).refused ≡ false }
-        ensures words { self.new.seat.now.desk.words ≡ self.old.seat.now.desk.words }
+        requires block { MayProbe self.old.seat.now.state.words self.old.seat.now.state.windows at }
+        requires unrefused { has at (aside_of self.old.seat.now.state).refused ≡ false }
+        ensures words { self.new.seat.now.state.words ≡ self.old.seat.now.state.words }
         ensures free { result ≡ true
-            → Frees (aside_of self.old.seat.now.desk) (aside_of self.new.seat.now.desk) at }
+            → Frees (aside_of self.old.seat.now.state) (aside_of self.new.seat.now.state) at }
         ensures held { result ≡ false
-            → Refuses (aside_of self.old.seat.now.desk) (aside_of self.new.seat.now.desk) at }
-        ensures rest { beside self.new ≡ beside self.old }
+            → Refuses (aside_of self.old.seat.now.state) (aside_of self.new.seat.now.state) at }
+        ensures rest { rest_of self.new ≡ rest_of self.old }
         ensures reading { (n : ℕ)
-            × (self.new.seat.now.desk.readings ≡ (at, n) ∷ self.old.seat.now.desk.readings)
+            × (self.new.seat.now.state.readings ≡ (at, n) ∷ self.old.seat.now.state.readings)
             × (result ≡ (n == 0)) }
     {
         self.table.probe(self.seat, at) == 0
@@ -106,19 +106,19 @@ impl PinTable {
     pub fn writer<'a>(&'a self, seat: &'a mut WriterSeat, pass: Pass) -> Writer<'a>
         requires table { seat.old.table ≡ self.now }
         requires pass { pass.table ≡ self.now }
-        requires hand { seat.old.desk.book.hand ≡ None }
+        requires hand { seat.old.state.log.hand ≡ None }
         requires left { 1 ≤ pass.known.left }
         ensures same_reference { result.seat.ghost_name ≡ seat.entry.ghost_name }
         ensures table { result.table.now ≡ self.now }
-        ensures desk { result.seat.now.desk ≡ taken_in seat.old.desk pass.known }
+        ensures state { result.seat.now.state ≡ taken_in seat.old.state pass.known }
         ensures worker { result.worker ≡ pass.known.worker }
         ensures left { result.left ≡ pass.known.left }
-        ensures seen { IsPrefix pass.known.seen seat.old.desk.book.history }
-        ensures own { events_of pass.known.worker seat.old.desk.book.history ≡ pass.known.own }
+        ensures seen { IsPrefix pass.known.seen seat.old.state.log.history }
+        ensures own { events_of pass.known.worker seat.old.state.log.history ≡ pass.known.own }
         ensures made { events_of pass.known.worker pass.known.seen ≡ pass.known.own }
-        ensures room { length seat.old.desk.book.history + pass.known.left
-            ≤ sum seat.old.desk.book.budgets }
-        ensures order { (copying : List ℕ) × DeskInOrder result.seat.now.desk copying }
+        ensures room { length seat.old.state.log.history + pass.known.left
+            ≤ sum seat.old.state.log.budgets }
+        ensures order { (copying : List ℕ) × StateInOrder result.seat.now.state copying }
     {
         let worker = pass.worker();
         let left = pass.left();
@@ -137,19 +137,19 @@ impl Writer<'_> {
     /// Ends the event: it becomes the last of the history, with the mask that its probes gathered.
     /// The pass that comes back has seen it, and has one event less left.
     pub fn give_pass(self, ask: Ask<'_>, t: u64) -> Pass
-        requires hand { self.seat.now.desk.book.hand ≡ Some (in_hand self.seat.now.desk.book.hand) }
-        requires worker { (in_hand self.seat.now.desk.book.hand).worker ≡ self.worker }
-        requires left { (in_hand self.seat.now.desk.book.hand).left ≡ self.left }
+        requires hand { self.seat.now.state.log.hand ≡ Some (in_hand self.seat.now.state.log.hand) }
+        requires worker { (in_hand self.seat.now.state.log.hand).worker ≡ self.worker }
+        requires left { (in_hand self.seat.now.state.log.hand).left ≡ self.left }
         requires budget { 1 ≤ self.left }
         ensures table { self.exit.1.0.now.table ≡ self.entry.seat.now.table }
-        ensures desk { self.exit.1.0.now.desk
-            ≡ rested self.entry.seat.now.desk (with_event self.entry.seat.now.desk.book
-            (event self.entry.worker t (asked ask.entry) self.entry.seat.now.desk.mask)) }
+        ensures state { self.exit.1.0.now.state
+            ≡ rested self.entry.seat.now.state (with_event self.entry.seat.now.state.log
+            (event self.entry.worker t (asked ask.entry) self.entry.seat.now.state.mask)) }
         ensures pass { result.table ≡ self.entry.seat.now.table }
         ensures known { result.known
-            ≡ known_after self.entry.seat.now.desk.book
-            (event self.entry.worker t (asked ask.entry) self.entry.seat.now.desk.mask) }
-        ensures order { (copying : List ℕ) × DeskInOrder self.entry.seat.now.desk copying }
+            ≡ known_after self.entry.seat.now.state.log
+            (event self.entry.worker t (asked ask.entry) self.entry.seat.now.state.mask) }
+        ensures order { (copying : List ℕ) × StateInOrder self.entry.seat.now.state copying }
     {
         let Writer {
             table,
@@ -164,33 +164,33 @@ impl Writer<'_> {
 
     /// The worker's last event: its end, at the moment 0.
     pub fn give_ended(self) -> Ended
-        requires hand { self.seat.now.desk.book.hand ≡ Some (in_hand self.seat.now.desk.book.hand) }
-        requires worker { (in_hand self.seat.now.desk.book.hand).worker ≡ self.worker }
-        requires left { (in_hand self.seat.now.desk.book.hand).left ≡ self.left }
+        requires hand { self.seat.now.state.log.hand ≡ Some (in_hand self.seat.now.state.log.hand) }
+        requires worker { (in_hand self.seat.now.state.log.hand).worker ≡ self.worker }
+        requires left { (in_hand self.seat.now.state.log.hand).left ≡ self.left }
         requires budget { 1 ≤ self.left }
         ensures table { self.exit.1.0.now.table ≡ self.entry.seat.now.table }
-        ensures desk { self.exit.1.0.now.desk
-            ≡ rested self.entry.seat.now.desk (with_event self.entry.seat.now.desk.book
-            (event self.entry.worker 0 request.Retire self.entry.seat.now.desk.mask)) }
+        ensures state { self.exit.1.0.now.state
+            ≡ rested self.entry.seat.now.state (with_event self.entry.seat.now.state.log
+            (event self.entry.worker 0 request.Retire self.entry.seat.now.state.mask)) }
         ensures ended { result.table ≡ self.entry.seat.now.table }
         ensures known { result.known
-            ≡ known_after self.entry.seat.now.desk.book
-            (event self.entry.worker 0 request.Retire self.entry.seat.now.desk.mask) }
-        ensures order { (copying : List ℕ) × DeskInOrder self.entry.seat.now.desk copying }
+            ≡ known_after self.entry.seat.now.state.log
+            (event self.entry.worker 0 request.Retire self.entry.seat.now.state.mask) }
+        ensures order { (copying : List ℕ) × StateInOrder self.entry.seat.now.state copying }
     {
         Ended::of(self.give_pass(Ask::Retire, 0))
     }
 
     /// There was no event: the history stays, and the pass is as it was when it was taken.
     pub fn give_back(self) -> Pass
-        requires hand { self.seat.now.desk.book.hand ≡ Some (in_hand self.seat.now.desk.book.hand) }
-        requires worker { (in_hand self.seat.now.desk.book.hand).worker ≡ self.worker }
-        requires left { (in_hand self.seat.now.desk.book.hand).left ≡ self.left }
+        requires hand { self.seat.now.state.log.hand ≡ Some (in_hand self.seat.now.state.log.hand) }
+        requires worker { (in_hand self.seat.now.state.log.hand).worker ≡ self.worker }
+        requires left { (in_hand self.seat.now.state.log.hand).left ≡ self.left }
         ensures table { self.exit.1.0.now.table ≡ self.entry.seat.now.table }
-        ensures desk { self.exit.1.0.now.desk
-            ≡ rested self.entry.seat.now.desk (with_hand self.entry.seat.now.desk.book None) }
+        ensures state { self.exit.1.0.now.state
+            ≡ rested self.entry.seat.now.state (with_hand self.entry.seat.now.state.log None) }
         ensures pass { result.table ≡ self.entry.seat.now.table }
-        ensures known { result.known ≡ in_hand self.entry.seat.now.desk.book.hand }
+        ensures known { result.known ≡ in_hand self.entry.seat.now.state.log.hand }
     {
         let Writer {
             table,
@@ -204,14 +204,14 @@ impl Writer<'_> {
     /// There was no event, as with `give_back`, but the pass that comes back has seen the whole
     /// history.
     pub fn give_seen(self) -> Pass
-        requires hand { self.seat.now.desk.book.hand ≡ Some (in_hand self.seat.now.desk.book.hand) }
-        requires worker { (in_hand self.seat.now.desk.book.hand).worker ≡ self.worker }
-        requires left { (in_hand self.seat.now.desk.book.hand).left ≡ self.left }
+        requires hand { self.seat.now.state.log.hand ≡ Some (in_hand self.seat.now.state.log.hand) }
+        requires worker { (in_hand self.seat.now.state.log.hand).worker ≡ self.worker }
+        requires left { (in_hand self.seat.now.state.log.hand).left ≡ self.left }
         ensures table { self.exit.1.0.now.table ≡ self.entry.seat.now.table }
-        ensures desk { self.exit.1.0.now.desk
-            ≡ rested self.entry.seat.now.desk (with_hand self.entry.seat.now.desk.book None) }
+        ensures state { self.exit.1.0.now.state
+            ≡ rested self.entry.seat.now.state (with_hand self.entry.seat.now.state.log None) }
         ensures pass { result.table ≡ self.entry.seat.now.table }
-        ensures known { result.known ≡ seen_all self.entry.seat.now.desk.book }
+        ensures known { result.known ≡ seen_all self.entry.seat.now.state.log }
     {
         let Writer {
             table,
@@ -225,21 +225,21 @@ impl Writer<'_> {
     /// Ends the event of a fetch, as `give_pass` does, and pins the block at `at`: the worker
     /// copies from it from then on, until it releases it.
     pub fn give_copying(self, ask: Ask<'_>, t: u64, at: u32) -> Copying
-        requires hand { self.seat.now.desk.book.hand ≡ Some (in_hand self.seat.now.desk.book.hand) }
-        requires worker { (in_hand self.seat.now.desk.book.hand).worker ≡ self.worker }
-        requires left { (in_hand self.seat.now.desk.book.hand).left ≡ self.left }
+        requires hand { self.seat.now.state.log.hand ≡ Some (in_hand self.seat.now.state.log.hand) }
+        requires worker { (in_hand self.seat.now.state.log.hand).worker ≡ self.worker }
+        requires left { (in_hand self.seat.now.state.log.hand).left ≡ self.left }
         requires budget { 1 ≤ self.left }
         requires fetch { is_fetch (asked ask) ≡ true }
-        requires block { MayPin self.seat.now.desk.words self.seat.now.desk.windows at }
+        requires block { MayPin self.seat.now.state.words self.seat.now.state.windows at }
         ensures table { self.exit.1.0.now.table ≡ self.entry.seat.now.table }
-        ensures desk { self.exit.1.0.now.desk
-            ≡ copied (pinning_at self.entry.seat.now.desk at)
-            (event self.entry.worker t (asked ask.entry) self.entry.seat.now.desk.mask) }
+        ensures state { self.exit.1.0.now.state
+            ≡ copied (pinning_at self.entry.seat.now.state at)
+            (event self.entry.worker t (asked ask.entry) self.entry.seat.now.state.mask) }
         ensures copying { result.table ≡ self.entry.seat.now.table }
         ensures copy { result.copy
-            ≡ reader_after (pinning_at self.entry.seat.now.desk at)
-            (event self.entry.worker t (asked ask.entry) self.entry.seat.now.desk.mask) }
-        ensures order { (copying : List ℕ) × DeskInOrder self.entry.seat.now.desk copying }
+            ≡ reader_after (pinning_at self.entry.seat.now.state at)
+            (event self.entry.worker t (asked ask.entry) self.entry.seat.now.state.mask) }
+        ensures order { (copying : List ℕ) × StateInOrder self.entry.seat.now.state copying }
     {
         let Writer {
             table,
@@ -278,17 +278,17 @@ fn give_as<Q: Saying>(
     mask: u64,
 ) -> Pass
     requires table { seat.old.table ≡ table.now }
-    requires hand { seat.old.desk.book.hand ≡ Some (in_hand seat.old.desk.book.hand) }
-    requires worker { (in_hand seat.old.desk.book.hand).worker ≡ worker }
-    requires left { (in_hand seat.old.desk.book.hand).left ≡ left + 1 }
+    requires hand { seat.old.state.log.hand ≡ Some (in_hand seat.old.state.log.hand) }
+    requires worker { (in_hand seat.old.state.log.hand).worker ≡ worker }
+    requires left { (in_hand seat.old.state.log.hand).left ≡ left + 1 }
     requires event { Q.event ≡ event worker t (asked ask) mask }
     ensures table { seat.new.table ≡ seat.old.table }
-    ensures desk { seat.new.desk
-        ≡ rested seat.old.desk (with_event seat.old.desk.book
+    ensures state { seat.new.state
+        ≡ rested seat.old.state (with_event seat.old.state.log
         (event worker t (asked ask.entry) mask)) }
     ensures pass { result.table ≡ table.entry.now }
     ensures known { result.known
-        ≡ known_after seat.old.desk.book (event worker t (asked ask.entry) mask) }
+        ≡ known_after seat.old.state.log (event worker t (asked ask.entry) mask) }
 {
     table.give::<Q>(seat, worker, left)
 }
@@ -305,22 +305,22 @@ fn copy_as<Q: Saying>(
     t: u64,
     mask: u64,
 ) -> Copying
-    requires len { len ≡ slice_index seat.old.desk.words (at + IMAGE_LENGTH) }
-    requires first { first ≡ image_place seat.old.desk.words at }
+    requires len { len ≡ slice_index seat.old.state.words (at + IMAGE_LENGTH) }
+    requires first { first ≡ image_place seat.old.state.words at }
     requires table { seat.old.table ≡ table.now }
-    requires block { IsBlock seat.old.desk.words at }
-    requires apart { MeetsNone seat.old.desk.words seat.old.desk.windows at }
-    requires hand { seat.old.desk.book.hand ≡ Some (in_hand seat.old.desk.book.hand) }
-    requires worker { (in_hand seat.old.desk.book.hand).worker ≡ worker }
-    requires left { (in_hand seat.old.desk.book.hand).left ≡ left + 1 }
+    requires block { IsBlock seat.old.state.words at }
+    requires apart { MeetsNone seat.old.state.words seat.old.state.windows at }
+    requires hand { seat.old.state.log.hand ≡ Some (in_hand seat.old.state.log.hand) }
+    requires worker { (in_hand seat.old.state.log.hand).worker ≡ worker }
+    requires left { (in_hand seat.old.state.log.hand).left ≡ left + 1 }
     requires event { Q.event ≡ event worker t (asked ask) mask }
     requires fetch { is_fetch (asked ask) ≡ true }
     ensures table { seat.new.table ≡ seat.old.table }
-    ensures desk { seat.new.desk
-        ≡ copied (pinning_at seat.old.desk at) (event worker t (asked ask.entry) mask) }
+    ensures state { seat.new.state
+        ≡ copied (pinning_at seat.old.state at) (event worker t (asked ask.entry) mask) }
     ensures copying { result.table ≡ table.entry.now }
     ensures copy { result.copy
-        ≡ reader_after (pinning_at seat.old.desk at) (event worker t (asked ask.entry) mask) }
+        ≡ reader_after (pinning_at seat.old.state at) (event worker t (asked ask.entry) mask) }
 {
     table.copy_out::<Q>(seat, worker, left, at, first, len)
 }

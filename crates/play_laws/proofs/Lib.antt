@@ -1,2 +1,2 @@
-mod OwnLemmas
-mod WholeLemmas
+mod OwnReplies
+mod PlayedHistories

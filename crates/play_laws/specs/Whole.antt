@@ -25,8 +25,8 @@ replies_from conf w (script ∷ scripts) history =
     own_replies conf w history ∷ replies_from conf (w + 1) scripts history
 
 -- the play that a history tells
-abbrev pub told_by : Conf → List (List Step) → List Event → Play
-told_by conf scripts history = record {
+abbrev pub play_of : Conf → List (List Step) → List Event → Play
+play_of conf scripts history = record {
   stage = stage_of conf history;
   replies = replies_from conf 0 scripts history;
 }

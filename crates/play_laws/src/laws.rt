@@ -6,7 +6,7 @@ ghost use Rattle.pin_table.specs.Events.{events_of};
 ghost use Rattle.script_read.specs.declared.script.Step.{Step};
 ghost use Rattle.script_read.specs.Play.{IsLegal, IsCompletePlay, played, replies_of};
 ghost use Rattle.play_laws.specs.Own.{own_replies};
-ghost use Rattle.play_laws.specs.Whole.{IsPlayedOut, told_by};
+ghost use Rattle.play_laws.specs.Whole.{IsPlayedOut, play_of};
 
 /// What comes of one event more, and of more events of others: a worker's own replies grow by the
 /// reply of its own event alone, which is that of one thread at the event's place. There are as
@@ -30,10 +30,10 @@ pub fn one_event_own()
 pub fn histories_are_plays()
     ensures play { (conf : Conf) (scripts : List (List Step)) (history : List Event)
         → IsPlayedOut conf scripts history
-        → played conf scripts (marks_of history) ≡ Some (told_by conf scripts history) }
+        → played conf scripts (marks_of history) ≡ Some (play_of conf scripts history) }
     ensures replies { (conf : Conf) (scripts : List (List Step)) (history : List Event) (w : ℕ)
         → w < length scripts
-        → replies_of (told_by conf scripts history) w ≡ own_replies conf w history }
+        → replies_of (play_of conf scripts history) w ≡ own_replies conf w history }
     ensures legal { (conf : Conf) (scripts : List (List Step)) (history : List Event)
         → IsPlayedOut conf scripts history → IsLegal conf scripts (marks_of history) }
     ensures complete { (conf : Conf) (scripts : List (List Step)) (history : List Event)

@@ -1,7 +1,7 @@
 //! One worker, with ample memory.
 
 ghost use Rattle.std.specs.Prelude.{◌≡◌, ◌∷◌, [], IfSome};
-ghost use Rattle.pin_table.specs.Lists.{fresh, fresh_pass};
+ghost use Rattle.pin_table.specs.Lists.{first_passes, first_pass};
 
 use crate::playing::{CONF, plays, script_of};
 use apcu_iter::{Maker, RefuseAll, RegexMaker};
@@ -19,8 +19,8 @@ use std::test::Fail;
 use worker_play::PlayFault;
 
 fn one_pass<N: TableName>(passes: &mut Passes) -> Option<Pass>
-    requires passes { passes.old ≡ fresh N.table N.budgets 1 }
-    ensures { IfSome result (λ p. p ≡ fresh_pass N.table N.budgets 0) }
+    requires passes { passes.old ≡ first_passes N.table N.budgets 1 }
+    ensures { IfSome result (λ p. p ≡ first_pass N.table N.budgets 0) }
 {
     passes.pop()
 }

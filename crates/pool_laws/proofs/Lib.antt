@@ -1,13 +1,13 @@
-pub mod Finding
-pub mod Chunks
-pub mod Steps
-pub mod Finds
-pub mod Names
-pub mod Counting
-pub mod Own
-pub mod Clearing
-pub mod Law
-pub mod ByCalls
-pub mod Tied
-pub mod InPlays
-mod Example
+pub mod FilteredLists
+pub mod DeletedRows
+pub mod PoolRows
+pub mod LiteralSearches
+pub mod BracedNames
+pub mod KeyCounts
+pub mod PoolMaps
+pub mod ClearedPools
+pub mod PoolIsolation
+pub mod CallEvents
+pub mod PoolRequests
+pub mod JournalEvents
+mod ExampleHistory

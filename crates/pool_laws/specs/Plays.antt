@@ -40,30 +40,30 @@ pool_wanted conf scripts p worker =
     (script_of scripts worker)
 
 -- an event, its pool, and the reply that it got in the play
-pub record Told : Type 0 where
+pub record Answered : Type 0 where
   pub asked : Asked
   pub reply : Reply
 
-abbrev pub told_at : Conf → List (List Step) → Play → Mark → Wish → Told
-told_at conf scripts p mark wish = record {
+abbrev pub answered_at : Conf → List (List Step) → Play → Mark → Wish → Answered
+answered_at conf scripts p mark wish = record {
   asked = record { pool = pool_wanted conf scripts p mark.worker; event = event_of mark wish };
   reply = reply_in p.stage (event_of mark wish);
 }
 
 -- what the marks of a journal tell from a play on, as far as they can be played
-abbrev pub told_after : Conf → List (List Step) → Play → List Mark → List Told
-told_after conf scripts p [] = []
-told_after conf scripts p (mark ∷ marks) =
+abbrev pub answered_after : Conf → List (List Step) → Play → List Mark → List Answered
+answered_after conf scripts p [] = []
+answered_after conf scripts p (mark ∷ marks) =
     option_map_or
-    (λ wish. told_at conf scripts p mark wish
-    ∷ told_after conf scripts (after_wish p mark wish) marks)
+    (λ wish. answered_at conf scripts p mark wish
+    ∷ answered_after conf scripts (after_wish p mark wish) marks)
     (wish_of conf scripts p mark.worker) []
 
-abbrev pub told_by : Conf → List (List Step) → List Mark → List Told
-told_by conf scripts journal = told_after conf scripts (nothing_played conf scripts) journal
+abbrev pub answered_by : Conf → List (List Step) → List Mark → List Answered
+answered_by conf scripts journal = answered_after conf scripts (nothing_played conf scripts) journal
 
-abbrev pub asked_in : List Told → List Asked
-asked_in told = map {A = Told} (λ x. x.asked) told
+abbrev pub asked_in : List Answered → List Asked
+asked_in told = map {A = Answered} (λ x. x.asked) told
 
 -- the scripts' calls are in their ranges
 abbrev pub AreInRange : List (List Step) → Type 0
@@ -71,8 +71,8 @@ AreInRange scripts = AllByRecursion (λ script. AllByRecursion IsRanged script) 
 
 -- Each reply to an event of the pool's calls is that of its map, started empty, over these events
 -- alone.
-abbrev pub PoolStandsAlone : List ℕ → Conf → List Told → Type 0
+abbrev pub PoolStandsAlone : List ℕ → Conf → List Answered → Type 0
 PoolStandsAlone name conf told =
-    let own = filter (λ (x : Told). is_by name x.asked) told in
-    map {A = Told} (λ x. x.reply) own
-    ≡ map_answers conf.slots [] (map {A = Told} (λ x. x.asked.event) own)
+    let own = filter (λ (x : Answered). is_by name x.asked) told in
+    map {A = Answered} (λ x. x.reply) own
+    ≡ map_answers conf.slots [] (map {A = Answered} (λ x. x.asked.event) own)

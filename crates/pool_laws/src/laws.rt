@@ -8,7 +8,7 @@ ghost use Rattle.script_read.specs.Play.{IsLegal};
 ghost use Rattle.simple_pool.specs.declared.call.PoolCall.{PoolCall};
 ghost use Rattle.simple_pool.specs.Requests.{IsGoodCall, request_at};
 ghost use Rattle.pool_laws.specs.Calls.{AreTied, Asked, CallsLeaveAlone, CallsStandAlone, IsTied};
-ghost use Rattle.pool_laws.specs.Plays.{AreInRange, PoolStandsAlone, asked_in, told_by};
+ghost use Rattle.pool_laws.specs.Plays.{AreInRange, PoolStandsAlone, asked_in, answered_by};
 ghost use Rattle.pool_laws.specs.Pools.{LeavesAlone, StandsAlone};
 
 use apcu_model::{events_keep, one_event_more};
@@ -42,7 +42,7 @@ pub fn calls_are_tied()
 /// answered as a map of its own would answer, that began empty and saw the pool's events alone.
 pub fn pools_in_plays()
     ensures { (name : List ℕ) (conf : Conf) (scripts : List (List Step)) (journal : List Mark)
-        → let told = told_by conf scripts journal in
+        → let told = answered_by conf scripts journal in
         AreInRange scripts → IsLegal conf scripts journal
         → CallsLeaveAlone name conf (asked_in told) → PoolStandsAlone name conf told }
 {

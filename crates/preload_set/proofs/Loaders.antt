@@ -8,7 +8,7 @@ use Rattle.script_read.specs.declared.call.Call.TheVariants.{StoreOne}
 use Rattle.script_read.specs.declared.script.Step.{Step}
 use Rattle.script_read.specs.Budgets.{events_in}
 use Rattle.script_read.specs.Clock.{timed}
-use Rattle.script_read.specs.Generated.{step_now}
+use Rattle.script_read.specs.GeneratedScripts.{step_now}
 use Rattle.script_read.specs.Patterns.{call_pattern}
 use Rattle.preload_set.specs.Bundle.{Record}
 use Rattle.preload_set.specs.Loader.{loader_of}

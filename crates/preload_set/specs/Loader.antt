@@ -12,7 +12,7 @@ use Rattle.apcu_model.specs.Cache.{Cache, has_key}
 use Rattle.script_read.specs.declared.call.Call.TheVariants.{StoreOne}
 use Rattle.script_read.specs.declared.script.Step.{Step}
 use Rattle.script_read.specs.Arguments.{or_else}
-use Rattle.script_read.specs.Generated.{step_now}
+use Rattle.script_read.specs.GeneratedScripts.{step_now}
 use Rattle.script_read.specs.Play.{Play, replies_of, played}
 use Rattle.preload_set.specs.Bundle.{Record}
 

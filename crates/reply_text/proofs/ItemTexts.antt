@@ -9,7 +9,7 @@ use Rattle.php_graph.specs.declared.kind.Kind.TheVariants as kinds
 use Rattle.php_graph.specs.Numbers.{int_of_text}
 use Rattle.notation.specs.Keys.{written_key}
 use Rattle.notation.specs.Notation.{text_from, child_text, integer_text, string_text}
-use Rattle.apcu_model.specs.Infos.{told_number, told_string}
+use Rattle.apcu_model.specs.Infos.{info_number, info_string}
 use Rattle.apcu_model.specs.declared.searching.Fields.{Fields}
 use Rattle.apcu_model.specs.declared.items.ItemRow.{ItemRow}
 use Rattle.reply_text.specs.Replies.{Member, members_text, value_members}
@@ -17,11 +17,11 @@ use Rattle.reply_text.specs.Items.{NamedValue, numbers_of, if_chosen, chosen_fro
 
 -- ---- values of one place
 
-pub number_place : (base n : ℕ) → text_from base (told_number n 1) ≡ integer_text (pos (min n (2 ^ 63 - 1)))
+pub number_place : (base n : ℕ) → text_from base (info_number n 1) ≡ integer_text (pos (min n (2 ^ 63 - 1)))
 unfolding child_text
 number_place base n = refl
 
-pub string_place : (base : ℕ) (bytes : List ℕ) → text_from base (told_string bytes 1) ≡ string_text bytes
+pub string_place : (base : ℕ) (bytes : List ℕ) → text_from base (info_string bytes 1) ≡ string_text bytes
 unfolding child_text
 string_place base bytes = refl
 

@@ -1,4 +1,4 @@
-pub mod Noting
-pub mod Printed
+pub mod NotedAnswers
+pub mod MemberCounts
 pub mod ItemTexts
-pub mod KeyByKey
+pub mod SeveralKeys

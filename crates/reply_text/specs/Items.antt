@@ -10,7 +10,7 @@ use Rattle.apcu_model.specs.declared.searching.Fields.{Fields}
 use Rattle.apcu_model.specs.declared.items.ItemRow.{ItemRow}
 use Rattle.apcu_model.specs.declared.request.Reply.{Reply}
 use Rattle.apcu_model.specs.declared.request.Reply.TheVariants.{Chunk, Totals}
-use Rattle.apcu_model.specs.Infos.{told_number, told_string}
+use Rattle.apcu_model.specs.Infos.{info_number, info_string}
 use Rattle.reply_text.specs.Replies.{Member, array_text, value_members}
 
 -- ---- an item
@@ -26,15 +26,15 @@ numbers_of values = sum_by (λ (v : NamedValue). length v.1) values
 -- what an item can tell, in the order of the bits from 0 on; a value that was not asked for is null
 abbrev pub item_values : ItemRow → List NamedValue
 item_values row =
-    (codes "key", told_string row.key 1)
+    (codes "key", info_string row.key 1)
     ∷ (codes "value", unwrap_or row.value (Null ∷ []))
-    ∷ (codes "num_hits", told_number row.hits 1)
-    ∷ (codes "mtime", told_number row.mtime 1)
-    ∷ (codes "creation_time", told_number row.ctime 1)
-    ∷ (codes "deletion_time", told_number row.dtime 1)
-    ∷ (codes "access_time", told_number row.atime 1)
-    ∷ (codes "mem_size", told_number row.size 1)
-    ∷ (codes "ttl", told_number row.ttl 1)
+    ∷ (codes "num_hits", info_number row.hits 1)
+    ∷ (codes "mtime", info_number row.mtime 1)
+    ∷ (codes "creation_time", info_number row.ctime 1)
+    ∷ (codes "deletion_time", info_number row.dtime 1)
+    ∷ (codes "access_time", info_number row.atime 1)
+    ∷ (codes "mem_size", info_number row.size 1)
+    ∷ (codes "ttl", info_number row.ttl 1)
     ∷ []
 
 -- the value, if the bit is set
@@ -80,9 +80,9 @@ walk_text fields replies = array_text (item_members fields 0 1 (flat_map items_i
 
 abbrev pub total_values : ℕ → ℕ → ℕ → List NamedValue
 total_values count hits size =
-    (codes "count", told_number count 1)
-    ∷ (codes "hits", told_number hits 1)
-    ∷ (codes "size", told_number size 1)
+    (codes "count", info_number count 1)
+    ∷ (codes "hits", info_number hits 1)
+    ∷ (codes "size", info_number size 1)
     ∷ []
 
 abbrev pub totals_one : Reply → List ℕ

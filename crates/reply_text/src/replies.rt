@@ -153,7 +153,7 @@ pub fn write_flags(out: &mut ByteOut, notes: &[(&Bytes, ())]) -> Result<(), Allo
 }
 
 /// An array of these strings, numbered from 0.
-#[tactic(auto, using(crate::proofs::Printed::numbered_len))]
+#[tactic(auto, using(crate::proofs::MemberCounts::numbered_len))]
 pub fn write_numbered(out: &mut ByteOut, strings: &[&Bytes]) -> Result<(), AllocError>
     ensures { OnOk result (out.new ≡ out.old ++ array_text
         (numbered 0 (map (λ string. string.now) strings.now))) }
@@ -168,7 +168,7 @@ pub fn write_numbered(out: &mut ByteOut, strings: &[&Bytes]) -> Result<(), Alloc
 }
 
 /// An array of these values under their keys, which is the first value of the reply.
-#[tactic(auto, using(crate::proofs::Printed::members_len))]
+#[tactic(auto, using(crate::proofs::MemberCounts::members_len))]
 pub fn write_values<V: Value>(out: &mut ByteOut, values: &[(&Bytes, V)]) -> Result<(), AllocError>
     requires { length values.now < 2 ^ 32 }
     ensures { OnOk result (out.new ≡ out.old ++ array_text

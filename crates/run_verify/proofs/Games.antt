@@ -11,7 +11,7 @@ use Rattle.apcu_model.specs.declared.request.Reply.{Reply}
 use Rattle.apcu_model.specs.History.{Stage, is_legal_mask, reply_in, after_event}
 use Rattle.script_read.specs.declared.script.Step.{Step}
 use Rattle.script_read.specs.Play.{Play, Wish, marked, wanted, wish_of, after_wish, replies_of, event_of}
-use Rattle.mark_play.specs.Reaching.{Replayed}
+use Rattle.mark_play.specs.ReplayStages.{Replayed}
 use Rattle.run_verify.specs.declared.seat.Seat.{Seat}
 use Rattle.run_verify.specs.Seats.{IsSeat}
 use Rattle.run_verify.specs.Marks.{IsMade}

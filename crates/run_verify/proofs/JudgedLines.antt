@@ -16,11 +16,11 @@ use Rattle.script_read.specs.Play.{Play, nothing_played, marked, are_done}
 use Rattle.reply_text.specs.Lines.{texts_of}
 use Rattle.reply_text.specs.Output.{worker_texts, mark_line, journal_lines}
 use Rattle.run_verify.specs.declared.verifying.Verdict.TheVariants.{Event}
-use Rattle.run_verify.specs.Judging.{IsJudgedTo}
+use Rattle.run_verify.specs.JudgedOutputs.{IsJudgedTo}
 use Rattle.run_verify.specs.Verdicts.{behind, journal_from, journal_part, first_difference, byte_verdict, judged_end, played_line, with_mark, go_on, judged, judged_part, verdict_of, lines_of, mark_of_line}
-use Rattle.run_verify.proofs.Telling.{told}
-use Rattle.run_verify.proofs.Counting.{short_play}
-use Rattle.run_verify.proofs.Judging.{played_more}
+use Rattle.run_verify.proofs.MarkLines.{told}
+use Rattle.run_verify.proofs.PlayBounds.{short_play}
+use Rattle.run_verify.proofs.YesVerdicts.{played_more}
 
 -- ---- where the journal begins
 

@@ -8,7 +8,7 @@ use Rattle.apcu_model.specs.History.{start_of}
 use Rattle.script_read.specs.Clock.{all_timed}
 use Rattle.script_read.specs.Play.{Play, marked, nothing_played, replies_of, are_done}
 use Rattle.reply_text.specs.Lines.{texts_of}
-use Rattle.mark_play.specs.Reaching.{Replayed}
+use Rattle.mark_play.specs.ReplayStages.{Replayed}
 use Rattle.run_verify.specs.declared.seat.Seat.{Seat}
 use Rattle.run_verify.specs.Seats.{IsSeat}
 

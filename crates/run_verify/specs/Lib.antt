@@ -1,7 +1,7 @@
 pub mod Verdicts
-pub mod Reading
-pub mod Comparing
+pub mod OutputLines
+pub mod TextPieces
 pub mod Seats
 pub mod Marks
 pub mod Games
-pub mod Judging
+pub mod JudgedOutputs

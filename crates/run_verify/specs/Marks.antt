@@ -6,7 +6,7 @@ use Rattle.apcu_model.specs.declared.request.Reply.{Reply}
 use Rattle.apcu_model.specs.History.{after_event, reply_in}
 use Rattle.script_read.specs.declared.script.Step.{Step}
 use Rattle.script_read.specs.Play.{Wish, event_of, wanted}
-use Rattle.mark_play.specs.Reaching.{Replayed}
+use Rattle.mark_play.specs.ReplayStages.{Replayed}
 use Rattle.run_verify.specs.declared.seat.Seat.{Seat}
 use Rattle.run_verify.specs.Seats.{IsSeat}
 

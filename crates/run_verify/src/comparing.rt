@@ -2,7 +2,7 @@
 
 ghost use Rattle.std.specs.Prelude.{◌≡◌, ◌≤◌, ◌++◌, length, drop, IfOk, IfErr};
 ghost use Rattle.reply_text.specs.Output.{worker_texts};
-ghost use Rattle.run_verify.specs.Comparing.{HasPiece, DiffersAt, worker_text};
+ghost use Rattle.run_verify.specs.TextPieces.{HasPiece, DiffersAt, worker_text};
 ghost use Rattle.run_verify.specs.Verdicts.{first_difference};
 
 use itoa::Buffer;

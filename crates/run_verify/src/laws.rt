@@ -8,13 +8,13 @@ ghost use Rattle.script_read.specs.Budgets.{all_events};
 ghost use Rattle.script_read.specs.Play.{Play, played};
 ghost use Rattle.reply_text.specs.Output.{IsOutput, mark_line};
 ghost use Rattle.run_verify.specs.Verdicts.{mark_of_line, verdict_of};
-ghost use Rattle.run_verify.specs.Reading.{IsInBits};
+ghost use Rattle.run_verify.specs.OutputLines.{IsInBits};
 ghost use Rattle.run_verify.specs.declared.verifying.Verdict.TheVariants.{Yes};
 
 /// A line spells a mark exactly where it is printed for one of a worker below 64 and a mask of 64
 /// bits, and then it spells that mark.
 pub fn lines_tell_marks()
-    ensures told { (line : List ℕ) (mark : Mark) → mark_of_line line ≡ Some mark
+    ensures lines { (line : List ℕ) (mark : Mark) → mark_of_line line ≡ Some mark
         → (line ≡ mark_line mark) × IsInBits mark }
     ensures read { (mark : Mark) → IsInBits mark → mark_of_line (mark_line mark) ≡ Some mark }
 {}

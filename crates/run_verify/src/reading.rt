@@ -8,8 +8,8 @@ ghost use Rattle.std.specs.Str.{bytes_eq};
 ghost use Rattle.reply_text.specs.Output.{mark_line, mask_text};
 ghost use Rattle.run_verify.specs.Verdicts.{journal_part, lines_of, mark_of_line, numbers_from};
 ghost use Rattle.run_verify.specs.Verdicts.{digit_more, worker_more, number_more};
-ghost use Rattle.run_verify.specs.Reading.{begins_line};
-ghost use Rattle.run_verify.specs.Comparing.{HasPiece, DiffersAt};
+ghost use Rattle.run_verify.specs.OutputLines.{begins_line};
+ghost use Rattle.run_verify.specs.TextPieces.{HasPiece, DiffersAt};
 
 use crate::comparing::{match_both, match_piece};
 use apcu_model::Mark;

@@ -16,8 +16,8 @@ use Rattle.script_read.specs.Table.{Form, Done, Need, May, Make, Refuse}
 use Rattle.script_read.specs.Grammar.{WrittenGen, Argument, Plain, Making, gen_text, arguments_text, AreArguments, ends_line, gen_meant, inner_levels, effect_by}
 use Rattle.script_read.specs.Reading.{space_at, one_more_at, end_at, ends_here, generator_at, rest_at}
 use Rattle.script_read.specs.Ties.{AreSomeBytes}
-use Rattle.script_read.proofs.Binding.{ValuesTake, ValuesAgain, bind_ok, ok_is, some_is, then_some, chosen, bytes_after}
-use Rattle.script_read.proofs.GenSpelled.{GensTake, GensAgain}
+use Rattle.script_read.proofs.ResultBinds.{ValuesTake, ValuesAgain, bind_ok, ok_is, some_is, then_some, chosen, bytes_after}
+use Rattle.script_read.proofs.GenTexts.{GensTake, GensAgain}
 
 -- ---- what is said of forms
 

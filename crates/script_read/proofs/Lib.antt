@@ -1,19 +1,19 @@
-pub mod Values
-pub mod Tables
-pub mod Binding
-pub mod GenSpelled
+pub mod CursorValues
+pub mod ByteTables
+pub mod ResultBinds
+pub mod GenTexts
 pub mod GenSteps
 pub mod Forms
-pub mod Spelled
-pub mod Rows
-pub mod PoolRows
+pub mod ScriptTexts
+pub mod TableRows
+pub mod PoolTableRows
 pub mod Keywords
-pub mod Asking
-pub mod Inside
-pub mod Walking
+pub mod EventBounds
+pub mod FaultPlaces
+pub mod LineLoop
 pub mod Members
 pub mod Slashes
-pub mod Bits
-pub mod Calling
-pub mod Answered
-mod Drawn
+pub mod FieldBits
+pub mod ReadCalls
+pub mod ReaderAnswers
+mod DrawnScripts

@@ -13,7 +13,7 @@ use Rattle.php_graph.specs.Graph.{kind_at, children_of, child_end, ends_after, e
 use Rattle.script_read.specs.declared.choices.Asked.TheVariants as asks
 use Rattle.script_read.specs.declared.choices.Stored.TheVariants as stores
 use Rattle.script_read.specs.Arguments.{each, key, members, keys, pairs, asked_of, stored, or_else, IsThere}
-use Rattle.script_read.proofs.Binding.{some_is, then_some}
+use Rattle.script_read.proofs.ResultBinds.{some_is, then_some}
 
 -- ---- one by one
 

@@ -9,7 +9,7 @@ use Rattle.std.proofs.lemmas.Str.{IsUtf8-from_is_utf8, is_utf8-from_IsUtf8}
 use Rattle.std.proofs.Math.Seq.{drop-append_seam}
 use Rattle.apcu_model.specs.declared.searching.Pattern.{Pattern}
 use Rattle.script_read.specs.Arguments.{or_else, by_last_slash, pattern_ended, slashed, pattern}
-use Rattle.script_read.proofs.Binding.{some_is}
+use Rattle.script_read.proofs.ResultBinds.{some_is}
 
 -- ---- the last `/`
 

@@ -19,7 +19,7 @@ use Rattle.script_read.specs.declared.choices.Stored.{Stored}
 use Rattle.script_read.specs.declared.choices.Stored.TheVariants as stores
 use Rattle.apcu_model.specs.declared.searching.Pattern.{Pattern}
 use Rattle.apcu_model.specs.declared.searching.Fields.{Fields}
-use Rattle.apcu_model.specs.declared.searching.List.{List as Which}
+use Rattle.apcu_model.specs.declared.searching.List.{List as RowList}
 use Rattle.apcu_model.specs.declared.searching.List.TheVariants.{Active, Deleted}
 use Rattle.simple_pool.specs.Names.{is_good_name, is_good_key}
 use Rattle.simple_pool.specs.Requests.{is_good_ttl, are_good_keys, are_good_pairs}
@@ -198,14 +198,14 @@ fields g =
     option_map (λ bits. record { 0 = fold bit_or 0 bits })
     (option_and_then (each (λ m. bit_named g m.1)) (members g))
 
-abbrev pub list_named : List ℕ → Option Which
+abbrev pub list_named : List ℕ → Option RowList
 list_named name =
     if bytes_eq name (codes "active") then Some Active
     else if bytes_eq name (codes "deleted") then Some Deleted
     else None
 
 -- the active rows, or those that were removed
-abbrev pub which_list : List Kind → Option Which
+abbrev pub which_list : List Kind → Option RowList
 which_list g = option_and_then list_named (key g)
 
 -- ---- pools

@@ -1,14 +1,14 @@
 pub mod Calls
 pub mod Clock
-pub mod Leaving
+pub mod DoneCalls
 pub mod Arguments
 pub mod GenParts
 pub mod Table
 pub mod Grammar
 pub mod Reading
 pub mod Ties
-pub mod Generated
-pub mod Growing
+pub mod GeneratedScripts
+pub mod GrowingScripts
 pub mod Gives
 pub mod Budgets
 pub mod Patterns

@@ -1,7 +1,7 @@
 -- The patterns that calls are asked with, and whether their regexes may be refused.
 use Rattle.std.specs.Prelude.{◌≡◌, ◌⊎◌, ℕ, Bool, false, List, Contains, Option, Some, None}
 use Rattle.apcu_model.specs.declared.searching.Pattern.{Pattern}
-use Rattle.apcu_model.specs.Matching.{is_pattern}
+use Rattle.apcu_model.specs.PatternMatches.{is_pattern}
 use Rattle.simple_pool.specs.Requests.{ask_pattern}
 use Rattle.script_read.specs.declared.call.Call.{Call}
 use Rattle.script_read.specs.declared.call.Call.TheVariants.{Walk, WalkDelete, Totals, Pool}

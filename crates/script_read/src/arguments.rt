@@ -21,7 +21,7 @@ use crate::choices::{
 };
 use crate::fault::Stop;
 use crate::searches::{chunk_size_of, fields_of, list_of, search_of};
-use apcu_model::{Fields, List as Which, Pattern};
+use apcu_model::{Fields, List as RowList, Pattern};
 use notation::{Cursor, Fault, ReadFault, Reason, read_integer, read_string, read_value};
 use php_graph::{Bytes, Graph};
 use std::alloc::Global;
@@ -339,13 +339,13 @@ pub(crate) fn size_argument(alloc: Global, bytes: &[u8]) -> Result<(u32, &[u8]),
 }
 
 // A list, or the active rows where the line ends.
-pub(crate) fn list_argument(alloc: Global, bytes: &[u8]) -> Result<(Which, &[u8]), Stop>
+pub(crate) fn list_argument(alloc: Global, bytes: &[u8]) -> Result<(RowList, &[u8]), Stop>
     ensures read { GivesItem (λ x. (x.0, x.1.now)) result
         (optional_at Active which_list bytes.now) }
     ensures no_more { IfOk result (λ x. length x.1.now ≤ length bytes.now) }
 {
     if ends_here(bytes) {
-        return Ok((Which::Active, bytes));
+        return Ok((RowList::Active, bytes));
     }
     let argument = space(bytes)?;
     let (graph, rest) = value(alloc, argument)?;

@@ -2,9 +2,10 @@
 
 ghost use Rattle.std.specs.Prelude.{◌≡◌, ◌<◌, ◌≤◌, ◌∷◌, [], IfOk, ◌++◌, OnOk, length, replicate};
 ghost use Rattle.php_graph.specs.declared.kind.Kind.TheVariants as kinds;
-ghost use Rattle.script_read.specs.Generated.{state_after, drawn_number, value_key, counter_key};
-ghost use Rattle.script_read.specs.Generated.{draw_of, draws_from, call_of, steps_of_draws};
-ghost use Rattle.script_read.specs.Generated.{generated};
+ghost use Rattle.script_read.specs.GeneratedScripts.{state_after, drawn_number, value_key};
+ghost use Rattle.script_read.specs.GeneratedScripts.{counter_key};
+ghost use Rattle.script_read.specs.GeneratedScripts.{draw_of, draws_from, call_of, steps_of_draws};
+ghost use Rattle.script_read.specs.GeneratedScripts.{generated};
 
 use crate::call::Call;
 use crate::script::{Script, Scripts, Step};

@@ -24,7 +24,7 @@ fn asked(alloc: Global, bytes: &[u8]) -> Result<(Asked, &[u8]), Stop>
 }
 
 // The argument of `apcu_fetch`.
-#[tactic(auto, using(crate::proofs::Rows::fetch_is))]
+#[tactic(auto, using(crate::proofs::TableRows::fetch_is))]
 pub(crate) fn fetch(alloc: Global, bytes: &[u8]) -> Result<(Effect, &[u8]), Stop>
     ensures read { (last : List ℕ) → GivesItem (λ x. (x.0, x.1.now)) result
         (rest_at (form_of (codes "apcu_fetch")) last bytes.now) }
@@ -40,7 +40,7 @@ pub(crate) fn fetch(alloc: Global, bytes: &[u8]) -> Result<(Effect, &[u8]), Stop
 }
 
 // The argument of `apcu_exists`.
-#[tactic(auto, using(crate::proofs::Rows::exists_is))]
+#[tactic(auto, using(crate::proofs::TableRows::exists_is))]
 pub(crate) fn exists(alloc: Global, bytes: &[u8]) -> Result<(Effect, &[u8]), Stop>
     ensures read { (last : List ℕ) → GivesItem (λ x. (x.0, x.1.now)) result
         (rest_at (form_of (codes "apcu_exists")) last bytes.now) }
@@ -56,7 +56,7 @@ pub(crate) fn exists(alloc: Global, bytes: &[u8]) -> Result<(Effect, &[u8]), Sto
 }
 
 // The argument of `apcu_delete`.
-#[tactic(auto, using(crate::proofs::Rows::delete_is))]
+#[tactic(auto, using(crate::proofs::TableRows::delete_is))]
 pub(crate) fn delete(alloc: Global, bytes: &[u8]) -> Result<(Effect, &[u8]), Stop>
     ensures read { (last : List ℕ) → GivesItem (λ x. (x.0, x.1.now)) result
         (rest_at (form_of (codes "apcu_delete")) last bytes.now) }

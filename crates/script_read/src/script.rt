@@ -3,7 +3,7 @@ ghost use Rattle.std.specs.Prelude.{if◌then◌else◌, slice_get, Some, IfNone
 ghost use Rattle.script_read.specs.declared.script.Step.{Step};
 ghost use Rattle.script_read.specs.Calls.{IsInTime, IsRanged};
 ghost use Rattle.script_read.specs.Clock.{moment_under};
-ghost use Rattle.script_read.specs.Growing.{grown, last_len};
+ghost use Rattle.script_read.specs.GrowingScripts.{grown, last_len};
 ghost use Rattle.std.specs.List.{AllByRecursion};
 ghost use Rattle.std.specs.Option.{option_to_list};
 

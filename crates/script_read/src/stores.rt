@@ -17,7 +17,7 @@ use php_graph::Bytes;
 use std::alloc::Global;
 
 // The arguments of `apcu_store` and `apcu_add`.
-#[tactic(auto, using(crate::proofs::Rows::stored_is))]
+#[tactic(auto, using(crate::proofs::TableRows::stored_is))]
 pub(crate) fn store(alloc: Global, exclusive: bool, bytes: &[u8]) -> Result<(Effect, &[u8]), Stop>
     ensures read { (last : List ℕ) → GivesItem (λ x. (x.0, x.1.now)) result
         (rest_at (needs stored (store_by exclusive)) last bytes.now) }

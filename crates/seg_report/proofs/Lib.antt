@@ -1,8 +1,8 @@
-mod Ahead
-mod Cuts
-mod Tiled
-mod Removed
-mod Growing
-mod Standing
-mod Steps
-mod Mapping
+mod GapsFromEdge
+mod FitCounts
+mod TileParts
+mod SortedPlaces
+mod AppendedText
+mod CacheTiles
+mod PartWalkSteps
+mod MapPieces

@@ -1,5 +1,5 @@
 pub mod Parts
 pub mod Fits
 pub mod Lines
-pub mod Removed
-pub mod Walking
+pub mod RemovedPlaces
+pub mod PartWalks

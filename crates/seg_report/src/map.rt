@@ -3,7 +3,7 @@
 ghost use Rattle.std.specs.Prelude.{◌≡◌, ℕ, ◌-◌, ◌++◌, false, OnOk, OnErr, sum_by};
 ghost use Rattle.seg_words.specs.Windows.{is_named};
 ghost use Rattle.notation.specs.Appending.{Extends};
-ghost use Rattle.cache_core.specs.Caching.{cache_of, CacheStands};
+ghost use Rattle.cache_core.specs.CoreCache.{cache_of, CacheStands};
 ghost use Rattle.cache_core.specs.Events.{IsUnchanged};
 ghost use Rattle.seg_report.specs.Lines.{map_text};
 ghost use Rattle.seg_report.specs.Parts.{parts_of, size_of};

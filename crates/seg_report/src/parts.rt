@@ -10,8 +10,8 @@ ghost use Rattle.entry_slots.specs.Entries.{IsListed, IsWhole, listed};
 ghost use Rattle.entry_slots.specs.Standing.{Stand, entries};
 ghost use Rattle.seg_report.specs.Lines.{part_line, row_line};
 ghost use Rattle.seg_report.specs.Parts.{parts_in};
-ghost use Rattle.seg_report.specs.Removed.{ArePlaces};
-ghost use Rattle.seg_report.specs.Walking.{IsAtPart, WalksOn, size_if_at};
+ghost use Rattle.seg_report.specs.RemovedPlaces.{ArePlaces};
+ghost use Rattle.seg_report.specs.PartWalks.{IsAtPart, WalksOn, size_if_at};
 
 use crate::lines::{put_entry, put_pair};
 use entry_slots::{EntrySlots, standing_laws};

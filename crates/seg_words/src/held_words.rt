@@ -2,7 +2,7 @@ ghost use Rattle.std.specs.Prelude.{◌≡◌, ℕ, ◌+◌, ◌<◌, ◌≤◌,
 ghost use Rattle.std.specs.Prelude.{replicate, count_by, slice_set, IfOk};
 ghost use Rattle.seg_words.specs.Windows.{has, is_named, Frees, Refuses};
 ghost use Rattle.seg_words.specs.Blocks.{MayProbe};
-ghost use Rattle.seg_words.specs.Holding.{opened_for, event_begun, AreMet};
+ghost use Rattle.seg_words.specs.EventWindows.{opened_for, event_begun, AreMet};
 
 use crate::segment::{Segment, WordsIn};
 use std::alloc::{AllocError, Global};
@@ -131,7 +131,7 @@ impl Segment for HeldWords {
     fn probe(&mut self, at: u32) -> bool
         requires block { MayProbe (⟦<HeldWords as WordsIn>⟧.words self.old)
             (⟦<HeldWords as WordsIn>⟧.aside self.old).windows at }
-        requires fresh { has at (⟦<HeldWords as WordsIn>⟧.aside self.old).refused ≡ false }
+        requires unrefused { has at (⟦<HeldWords as WordsIn>⟧.aside self.old).refused ≡ false }
         ensures words { ⟦<HeldWords as WordsIn>⟧.words self.new
             ≡ ⟦<HeldWords as WordsIn>⟧.words self.old }
         ensures free { result ≡ true → Frees (⟦<HeldWords as WordsIn>⟧.aside self.old)

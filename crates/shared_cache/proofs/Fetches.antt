@@ -35,14 +35,14 @@ use Rattle.pin_table.specs.contracts.writer.WriterWordsIn.TheImpl.{ghosts}
 use Rattle.pin_table.specs.declared.writer.Writer.{Writer}
 use Rattle.cache_core.specs.Events.{Does}
 use Rattle.cache_core.proofs.Events.{by_now}
-use Rattle.cache_core.specs.Caching.{cache_of, CoreStands}
+use Rattle.cache_core.specs.CoreCache.{cache_of, CoreStands}
 use Rattle.cache_core.specs.Looking.{scalar_kind, scalar_of, look_at, look_of}
 use Rattle.pin_table.specs.Pins.{MayPin, content_of}
 use Rattle.pin_table.specs.Events.{event}
 use Rattle.value_image.specs.Laws.{ImagesAreRuns}
 use Rattle.shared_cache.specs.Laws.{LockLaws}
-use Rattle.shared_cache.specs.Pinned.{graph_of}
-use Rattle.shared_cache.specs.Tied.{IsTied, AreTied}
+use Rattle.shared_cache.specs.PinnedFetches.{graph_of}
+use Rattle.shared_cache.specs.TiedWindows.{IsTied, AreTied}
 
 found_there : {X : Type 0} (p : X → Bool) (xs : List X) (x : X) → find p xs ≡ Some x → Contains xs x
 found_there p [] x h = absurd (cc h)

@@ -1,12 +1,12 @@
 pub mod Windows
-pub mod Alike
-pub mod Ends
-pub mod Working
-pub mod Unnamed
-pub mod Passes
-pub mod Turning
+pub mod HeldBlocks
+pub mod EventEnds
+pub mod EventProgress
+pub mod ScalarWindows
+pub mod WindowlessEvents
+pub mod UnderLockLemmas
 pub mod Fetches
-pub mod Copies
-pub mod Undone
-mod Left
+pub mod CopyEvents
+pub mod EventlessCalls
+mod FinalWords
 pub mod Strings

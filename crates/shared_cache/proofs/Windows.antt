@@ -17,10 +17,10 @@ use Rattle.apcu_model.specs.Cache.{Row, Cache}
 use Rattle.apcu_model.specs.Expiry.{live_row}
 use Rattle.apcu_model.specs.History.{Stage, window_of, is_in_mask, is_legal_mask, is_scalar, opened, opened_at, after_event}
 use Rattle.pin_table.specs.declared.views.Known.{Known}
-use Rattle.pin_table.specs.declared.views.Desk.{Desk}
-use Rattle.pin_table.specs.Order.{DeskInOrder}
+use Rattle.pin_table.specs.declared.views.WriterState.{WriterState}
+use Rattle.pin_table.specs.Order.{StateInOrder}
 use Rattle.shared_cache.specs.Laws.{LockLaws}
-use Rattle.shared_cache.specs.Tied.{AreTied}
+use Rattle.shared_cache.specs.TiedWindows.{AreTied}
 
 all_pass : (p : ℕ → Bool) → ((n : ℕ) → p n ≡ true) → (ns : List ℕ) → list_all p ns ≡ true
 all_pass p passes [] = refl
@@ -41,22 +41,22 @@ set_other ws w j at h pos = ⊎_elim (λ (t : (j ≡ w) × (0 ≡ at)). absurd (
 pub named_set : LockLaws → (ws : List ℕ) (w at : ℕ) → is_named (set ws w 0) at ≡ true → is_named ws at ≡ true
 named_set laws ws w at h = let t = laws.rule.there (set ws w 0) at h in laws.rule.named ws t.1.0 at (set_other ws w t.1.0 at t.1.1 t.0).1 t.0
 
--- an event as it ends: the desk d, on which nothing was opened since the pass p was taken, and the
+-- an event as it ends: the state d, in which nothing was opened since the pass p was taken, and the
 -- windows before that
-pub record Running (d : Desk) (p : Known) (old : List ℕ) : Type 0 where
+pub record Running (d : WriterState) (p : Known) (old : List ℕ) : Type 0 where
   pub copying : List ℕ
-  pub order : DeskInOrder d copying
-  pub hand : d.book.hand ≡ Some p
+  pub order : StateInOrder d copying
+  pub hand : d.log.hand ≡ Some p
   pub begun : d.begun ≡ slice_set old p.worker 0
 
 -- what a window names in an event, it named before
-pub from_before : (d : Desk) (p : Known) (old : List ℕ) → Running d p old
+pub from_before : (d : WriterState) (p : Known) (old : List ℕ) → Running d p old
     → (v at : ℕ) → get_elem? d.windows v ≡ some at → 0 < at → (v ≢ p.worker) × (get_elem? old v ≡ some at)
 from_before d p old run v at h pos = set_other old p.worker v at (subst (λ ws. get_elem? ws v ≡ some at) run.begun (run.order.shrunk p run.hand v at h pos)) pos
 
 -- the mask that the probes of an event gathered is legal there
-pub legal_mask : (workers : ℕ) (m : Stage) (d : Desk) (p : Known) (old : List ℕ) → Running d p old → AreTied m old
-    → length d.book.budgets ≡ workers → d.mask < 2 ^ 64 → is_legal_mask workers p.worker m d.mask ≡ true
+pub legal_mask : (workers : ℕ) (m : Stage) (d : WriterState) (p : Known) (old : List ℕ) → Running d p old → AreTied m old
+    → length d.log.budgets ≡ workers → d.mask < 2 ^ 64 → is_legal_mask workers p.worker m d.mask ≡ true
 legal_mask workers m d p old run tied count small =
     and_from (ltb d.mask (2 ^ 64)) _ (lt-ltb d.mask (2 ^ 64) small) (all_pass _ each (range_with_len 0 64))
   where
@@ -115,7 +115,7 @@ pub record StayOpen (windows : List ℕ) (c d : Cache) : Type 0 where
       → (kept : Row) × Contains (d.rows ++ d.removed) kept × (kept.place ≡ row.place) × (kept.number ≡ row.number)
 
 -- after an event that opens no window of the segment
-pub tied_after : LockLaws → (m : Stage) (e : Event) (d : Desk) (p : Known) (old : List ℕ) → Running d p old → AreTied m old
+pub tied_after : LockLaws → (m : Stage) (e : Event) (d : WriterState) (p : Known) (old : List ℕ) → Running d p old → AreTied m old
     → e.worker ≡ p.worker → StayOpen d.windows m.cache (after_event m e).cache → AreTied (after_event m e) d.windows
 tied_after laws m e d p old run tied same keeps v at h pos =
     let o = from_before d p old run v at h pos in

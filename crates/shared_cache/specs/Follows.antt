@@ -12,13 +12,13 @@ use Rattle.apcu_model.specs.Generators.{entered}
 use Rattle.apcu_model.specs.History.{Stage, start_of, stage_of, all_legal, held_places, reply_in}
 use Rattle.counter_entry.specs.declared.answer.Fate.{Fate}
 use Rattle.counter_entry.specs.Generating.{fate_of}
-use Rattle.pin_table.specs.Values.{Bearer}
+use Rattle.pin_table.specs.Values.{PassView}
 use Rattle.pin_table.specs.Events.{event, events_of}
 
 -- The pass q is p after one event more: at the moment t its worker asked for r, and y is the reply
 -- of one thread at that place of the history. What q has seen is what p had seen, then what others
 -- did since, then this event; all of it is legal, and the worker's events in it are its own.
-pub record Follows (conf : Conf) (workers : ℕ) (p q : Bearer) (t : ℕ) (r : Request) (y : Reply)
+pub record Follows (conf : Conf) (workers : ℕ) (p q : PassView) (t : ℕ) (r : Request) (y : Reply)
     : Type 0 where
   pub mask : ℕ
   pub between : List Event
@@ -35,7 +35,7 @@ pub record Follows (conf : Conf) (workers : ℕ) (p q : Bearer) (t : ℕ) (r : R
 
 -- The event of a generator: the pass q is p after it, and the value is the one that it gives. Its
 -- fate is by the blocks that are held in the event, of which the mask tells.
-pub record FollowsEntry (conf : Conf) (workers : ℕ) (p q : Bearer) (t : ℕ) (g : Generator)
+pub record FollowsEntry (conf : Conf) (workers : ℕ) (p q : PassView) (t : ℕ) (g : Generator)
     (value : List Kind) (fate : Fate) : Type 0 where
   pub follows : Follows conf workers p q t (request.Entry g) (reply.Gave value)
   pub fate_is : let before : Stage = stage_of conf (p.known.seen ++ follows.between) in

@@ -1,10 +1,10 @@
 pub mod Laws
-pub mod Tied
-pub mod Settled
+pub mod TiedWindows
+pub mod LockInvariant
 pub mod Asking
 pub mod Follows
-pub mod Turns
-pub mod Pinned
-pub mod Learned
-pub mod Closing
-pub mod Opening
+pub mod UnderLock
+pub mod PinnedFetches
+pub mod LearnedEnds
+pub mod ClosedCaches
+pub mod OpenedCaches

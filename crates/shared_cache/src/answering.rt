@@ -9,8 +9,8 @@ ghost use Rattle.apcu_model.specs.Sequential.{info_reply};
 ghost use Rattle.shared_cache.specs.Asking.{MayAsk};
 ghost use Rattle.shared_cache.specs.Follows.{Follows, FollowsEntry};
 
-use crate::cabinet::Cabinet;
-use crate::turn::{begin, told};
+use crate::locked_cache::LockedCache;
+use crate::under_lock::{begin, end_or_give_back};
 use apcu_iter::{Search, chunk, chunk_delete, totals};
 use apcu_model::{Ask, Chunk, Fields, Gen, List};
 use cache_info::{cache_info, key_info, sma_info};
@@ -20,7 +20,7 @@ use pin_table::{Pass, PinTable, TableName};
 use std::alloc::{AllocError, Global};
 use std::marker::Model;
 
-impl<N: TableName> Cabinet<N> {
+impl<N: TableName> LockedCache<N> {
     // The value of a generator, which is stored under the keys that missed.
     pub(crate) fn entry(
         &mut self,
@@ -39,7 +39,7 @@ impl<N: TableName> Cabinet<N> {
     {
         let mut w = begin::<N>(table, &mut self.seat, pass);
         let answer = entry(alloc, &mut self.core, &mut w, generator, t);
-        told::<N, _>(&mut self.journal, w, Ask::Entry(generator), t, answer)
+        end_or_give_back::<N, _>(&mut self.journal, w, Ask::Entry(generator), t, answer)
     }
 
     // What is told of the row that a look-up of the key finds.
@@ -54,13 +54,13 @@ impl<N: TableName> Cabinet<N> {
         requires table { table.now ≡ N.table }
         requires pass { MayAsk N.table 1 pass }
         requires short { length key.now < 2 ^ 32 }
-        ensures told { IfOk result.1 (λ info. Follows N.conf (length N.budgets) pass result.0 t
+        ensures event { IfOk result.1 (λ info. Follows N.conf (length N.budgets) pass result.0 t
             (request.KeyInfo key.now) (info_reply info)) }
         ensures same { OnErr result.1 (result.0 ≡ pass) }
     {
         let mut w = begin::<N>(table, &mut self.seat, pass);
         let answer = key_info(alloc, &mut self.core, &mut w, key, t);
-        told::<N, _>(&mut self.journal, w, Ask::KeyInfo(key), t, answer)
+        end_or_give_back::<N, _>(&mut self.journal, w, Ask::KeyInfo(key), t, answer)
     }
 
     // What is told of the cache.
@@ -73,13 +73,13 @@ impl<N: TableName> Cabinet<N> {
     ) -> (Pass, Result<Graph, AllocError>)
         requires table { table.now ≡ N.table }
         requires pass { MayAsk N.table 1 pass }
-        ensures told { IfOk result.1 (λ info. Follows N.conf (length N.budgets) pass result.0 0
+        ensures event { IfOk result.1 (λ info. Follows N.conf (length N.budgets) pass result.0 0
             (request.CacheInfo limited) (reply.Info info)) }
         ensures same { OnErr result.1 (result.0 ≡ pass) }
     {
         let mut w = begin::<N>(table, &mut self.seat, pass);
         let answer = cache_info(alloc, &mut self.core, &mut w, limited);
-        told::<N, _>(&mut self.journal, w, Ask::CacheInfo(limited), 0, answer)
+        end_or_give_back::<N, _>(&mut self.journal, w, Ask::CacheInfo(limited), 0, answer)
     }
 
     // What is told of the words: what is free.
@@ -92,13 +92,13 @@ impl<N: TableName> Cabinet<N> {
     ) -> (Pass, Result<Graph, AllocError>)
         requires table { table.now ≡ N.table }
         requires pass { MayAsk N.table 1 pass }
-        ensures told { IfOk result.1 (λ info. Follows N.conf (length N.budgets) pass result.0 0
+        ensures event { IfOk result.1 (λ info. Follows N.conf (length N.budgets) pass result.0 0
             (request.SmaInfo limited) (reply.Info info)) }
         ensures same { OnErr result.1 (result.0 ≡ pass) }
     {
         let mut w = begin::<N>(table, &mut self.seat, pass);
         let answer = sma_info(alloc, &mut self.core, &mut w, limited);
-        told::<N, _>(&mut self.journal, w, Ask::SmaInfo(limited), 0, answer)
+        end_or_give_back::<N, _>(&mut self.journal, w, Ask::SmaInfo(limited), 0, answer)
     }
 
     // One step of an iterator over a list.
@@ -118,7 +118,7 @@ impl<N: TableName> Cabinet<N> {
         requires pass { MayAsk N.table 1 pass }
         requires from { from ≤ N.conf.slots }
         requires size { 1 ≤ size }
-        ensures told { IfOk result.1 (λ chunk. Follows N.conf (length N.budgets) pass result.0 t
+        ensures event { IfOk result.1 (λ chunk. Follows N.conf (length N.budgets) pass result.0 t
             (request.Chunk search.old from size list fields) (reply.Chunk chunk)) }
         ensures same { OnErr result.1 (result.0 ≡ pass) }
         ensures search { search.new ≡ search.old }
@@ -133,7 +133,7 @@ impl<N: TableName> Cabinet<N> {
             list,
             fields,
         };
-        told::<N, _>(&mut self.journal, w, ask, t, answer)
+        end_or_give_back::<N, _>(&mut self.journal, w, ask, t, answer)
     }
 
     // The rows of one step of an iterator over the active rows are deleted.
@@ -160,7 +160,7 @@ impl<N: TableName> Cabinet<N> {
         let answer = chunk_delete(alloc, &mut self.core, &mut w, search, from, size, t);
         let search = search.pattern();
         let delete = Ask::ChunkDelete { search, from, size };
-        told::<N, _>(&mut self.journal, w, delete, t, answer)
+        end_or_give_back::<N, _>(&mut self.journal, w, delete, t, answer)
     }
 
     // Of how many rows an iterator goes over, how often they were fetched, and their bytes.
@@ -174,7 +174,7 @@ impl<N: TableName> Cabinet<N> {
     ) -> (Pass, Result<(u64, u64, u64), AllocError>)
         requires table { table.now ≡ N.table }
         requires pass { MayAsk N.table 1 pass }
-        ensures told { IfOk result.1 (λ r. Follows N.conf (length N.budgets) pass result.0 t
+        ensures event { IfOk result.1 (λ r. Follows N.conf (length N.budgets) pass result.0 t
             (request.Totals search.old list) (reply.Totals r.0 r.1 r.2)) }
         ensures same { OnErr result.1 (result.0 ≡ pass) }
         ensures search { search.new ≡ search.old }
@@ -182,7 +182,7 @@ impl<N: TableName> Cabinet<N> {
         let mut w = begin::<N>(table, &mut self.seat, pass);
         let answer = totals(&mut self.core, &mut w, search, list, t);
         let search = search.pattern();
-        told::<N, _>(
+        end_or_give_back::<N, _>(
             &mut self.journal,
             w,
             Ask::Totals { search, list },

@@ -59,7 +59,7 @@ impl<N: TableName> Shared<N> {
     ) -> (Pass, Result<Option<Graph>, AllocError>)
         requires pass { MayAsk N.table 2 pass }
         requires short { length key.now < 2 ^ 32 }
-        ensures told { IfOk result.1 (λ info. Follows N.conf (length N.budgets) pass result.0 t
+        ensures event { IfOk result.1 (λ info. Follows N.conf (length N.budgets) pass result.0 t
             (request.KeyInfo key.now) (info_reply info)) }
         ensures same { OnErr result.1 (result.0 ≡ pass) }
     {
@@ -80,7 +80,7 @@ impl<N: TableName> Shared<N> {
         limited: bool,
     ) -> (Pass, Result<Graph, AllocError>)
         requires pass { MayAsk N.table 2 pass }
-        ensures told { IfOk result.1 (λ info. Follows N.conf (length N.budgets) pass result.0 0
+        ensures event { IfOk result.1 (λ info. Follows N.conf (length N.budgets) pass result.0 0
             (request.CacheInfo limited) (reply.Info info)) }
         ensures same { OnErr result.1 (result.0 ≡ pass) }
     {
@@ -100,7 +100,7 @@ impl<N: TableName> Shared<N> {
         limited: bool,
     ) -> (Pass, Result<Graph, AllocError>)
         requires pass { MayAsk N.table 2 pass }
-        ensures told { IfOk result.1 (λ info. Follows N.conf (length N.budgets) pass result.0 0
+        ensures event { IfOk result.1 (λ info. Follows N.conf (length N.budgets) pass result.0 0
             (request.SmaInfo limited) (reply.Info info)) }
         ensures same { OnErr result.1 (result.0 ≡ pass) }
     {
@@ -129,7 +129,7 @@ impl<N: TableName> Shared<N> {
         requires pass { MayAsk N.table 2 pass }
         requires from { from ≤ N.conf.slots }
         requires size { 1 ≤ size }
-        ensures told { IfOk result.1 (λ chunk. Follows N.conf (length N.budgets) pass result.0 t
+        ensures event { IfOk result.1 (λ chunk. Follows N.conf (length N.budgets) pass result.0 t
             (request.Chunk search.old from size list fields) (reply.Chunk chunk)) }
         ensures same { OnErr result.1 (result.0 ≡ pass) }
         ensures search { search.new ≡ search.old }
@@ -191,7 +191,7 @@ impl<N: TableName> Shared<N> {
         t: u64,
     ) -> (Pass, Result<(u64, u64, u64), AllocError>)
         requires pass { MayAsk N.table 2 pass }
-        ensures told { IfOk result.1 (λ r. Follows N.conf (length N.budgets) pass result.0 t
+        ensures event { IfOk result.1 (λ r. Follows N.conf (length N.budgets) pass result.0 t
             (request.Totals search.old list) (reply.Totals r.0 r.1 r.2)) }
         ensures same { OnErr result.1 (result.0 ≡ pass) }
         ensures search { search.new ≡ search.old }

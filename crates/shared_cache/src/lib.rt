@@ -16,14 +16,14 @@
 
 mod answering;
 mod asking;
-mod cabinet;
+mod locked_cache;
 mod lower;
-mod noting;
+mod recording;
 mod opening;
 mod shared;
 mod texts;
-mod turn;
+mod under_lock;
 
-pub use cabinet::{Closed, Pinned};
+pub use locked_cache::{Closed, Pinned};
 pub use opening::{Fresh, OpenFault, open_cache};
 pub use shared::Shared;

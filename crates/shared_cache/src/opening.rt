@@ -1,11 +1,11 @@
 //! How a cache is opened.
 
 ghost use Rattle.std.specs.Prelude.{◌≡◌, ℕ, ◌<◌, ◌≤◌, [], length, sum, IfOk, IfErr, IfSome, IfNone};
-ghost use Rattle.pin_table.specs.Lists.{fresh};
-ghost use Rattle.shared_cache.specs.Opening.{AreBudgets, MayOpen};
+ghost use Rattle.pin_table.specs.Lists.{first_passes};
+ghost use Rattle.shared_cache.specs.OpenedCaches.{AreBudgets, MayOpen};
 ghost use Rattle.shared_cache.specs.declared.opening.OpenFault.TheVariants.{BadConf, Memory};
 
-use crate::cabinet::Cabinet;
+use crate::locked_cache::LockedCache;
 use crate::lower::lower_laws;
 use crate::shared::Shared;
 use apcu_model::{Conf, Journal, MOST_EVENTS};
@@ -84,21 +84,21 @@ impl Drop for Fresh {
 }
 
 impl Model for Fresh {
-    ghost use Rattle.cache_core.specs.Caching.{cache_of};
-    ghost use Rattle.shared_cache.specs.Opening.{Opened, IsFreshCache};
+    ghost use Rattle.cache_core.specs.CoreCache.{cache_of};
+    ghost use Rattle.shared_cache.specs.OpenedCaches.{Opened, IsFreshCache};
 
     ghost Value = { Opened };
 
     ghost view = { λ f. record {
       table = f.table;
       conf = (cache_of f.core).conf;
-      budgets = f.seat.desk.book.budgets;
+      budgets = f.seat.state.log.budgets;
     } };
 
     ghost invariant = { λ f. IsFreshCache (record {
       table = f.table;
       conf = (cache_of f.core).conf;
-      budgets = f.seat.desk.book.budgets;
+      budgets = f.seat.state.log.budgets;
     }) f.seat f.core f.journal f.passes f.ended };
 }
 
@@ -172,7 +172,7 @@ impl Fresh {
         requires table { N.table ≡ self.table }
         requires conf { N.conf ≡ self.conf }
         requires budgets { N.budgets ≡ self.budgets }
-        ensures passes { result.1 ≡ fresh N.table N.budgets (length N.budgets) }
+        ensures passes { result.1 ≡ first_passes N.table N.budgets (length N.budgets) }
         ensures ended { result.2.ended ≡ [] }
         ensures room { length N.budgets ≤ result.2.room }
     {
@@ -186,7 +186,7 @@ impl Fresh {
             core,
         } = self;
         (
-            Shared::new(alloc, table, Cabinet::new(seat, journal, core)),
+            Shared::new(alloc, table, LockedCache::new(seat, journal, core)),
             passes,
             ended,
         )

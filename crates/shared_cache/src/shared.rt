@@ -11,13 +11,13 @@ ghost use Rattle.apcu_model.specs.Sequential.{number_reply};
 ghost use Rattle.counter_entry.specs.Numbers.{reply_of};
 ghost use Rattle.shared_cache.specs.Asking.{MayAsk};
 ghost use Rattle.shared_cache.specs.Follows.{Follows};
-ghost use Rattle.shared_cache.specs.Pinned.{IsFetched};
-ghost use Rattle.shared_cache.specs.Learned.{Learns};
+ghost use Rattle.shared_cache.specs.PinnedFetches.{IsFetched};
+ghost use Rattle.shared_cache.specs.LearnedEnds.{Learns};
 ghost use Rattle.pin_table.specs.Lists.{AllOf, known_list};
 ghost use Rattle.pin_table.specs.Views.{is_among};
-ghost use Rattle.shared_cache.specs.Closing.{IsClosed, IsClosedWhole};
+ghost use Rattle.shared_cache.specs.ClosedCaches.{IsClosed, IsClosedWhole};
 
-use crate::cabinet::{Cabinet, Closed, Pinned};
+use crate::locked_cache::{LockedCache, Closed, Pinned};
 use crate::texts::{write_copy, write_string};
 use cache_core::Core;
 use counter_entry::IncAnswer;
@@ -42,7 +42,7 @@ pub struct Shared<N: TableName> {
     // for the empty list of further places that a new counter's value has
     pub(crate) alloc: Global,
     pub(crate) table: PinTable,
-    pub(crate) lock: Mutex<Cabinet<N>>,
+    pub(crate) lock: Mutex<LockedCache<N>>,
 }
 
 impl<N: TableName> Drop for Shared<N> {
@@ -75,8 +75,8 @@ const TRIES: u32 = 40;
 const LONGEST_GAP: u32 = 64;
 
 // Lets other threads run, so many times.
-fn idle(turns: u32) {
-    for _ in 0..turns {
+fn idle(works: u32) {
+    for _ in 0..works {
         yield_now();
     }
 }
@@ -85,9 +85,9 @@ fn idle(turns: u32) {
 // has what it guards in its processor's cache, then mostly goes on, and nobody sleeps. In the gaps
 // others may run, whoever has the lock among them.
 pub(crate) fn locked<'a, N: TableName, R: Wait>(
-    lock: &'a Mutex<Cabinet<N>>,
+    lock: &'a Mutex<LockedCache<N>>,
     rt: &R,
-) -> MutexGuard<'a, Cabinet<N>> {
+) -> MutexGuard<'a, LockedCache<N>> {
     let mut gap = 1u32;
     for _ in 0..TRIES {
         if let Some(guard) = lock.try_lock() {
@@ -110,13 +110,13 @@ fn number_of(answer: IncAnswer) -> Option<i64>
 }
 
 impl<N: TableName> Shared<N> {
-    pub(crate) fn new(alloc: Global, table: PinTable, cabinet: Cabinet<N>) -> Shared<N>
+    pub(crate) fn new(alloc: Global, table: PinTable, locked_cache: LockedCache<N>) -> Shared<N>
         requires { table ≡ N.table }
     {
         Shared {
             alloc,
             table,
-            lock: Mutex::new(cabinet),
+            lock: Mutex::new(locked_cache),
         }
     }
 

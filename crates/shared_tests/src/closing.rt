@@ -2,7 +2,7 @@
 
 ghost use Rattle.std.specs.Prelude.{◌≡◌, ◌≤◌, [], ◌∷◌, IfSome};
 ghost use Rattle.seg_words.specs.contracts.vec_words.VecWordsWordsIn.TheImpl as held;
-ghost use Rattle.cache_core.specs.Caching.{CacheStands};
+ghost use Rattle.cache_core.specs.CoreCache.{CacheStands};
 
 use crate::meeting::{CONF, letters, two_passes};
 use crate::steps::{put, remove};

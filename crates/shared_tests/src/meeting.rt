@@ -2,7 +2,7 @@
 
 ghost use Rattle.std.specs.Prelude.{◌≡◌, ◌+◌, ◌≤◌, [], ◌∷◌, length, IfSome};
 ghost use Rattle.std.specs.Thread.{IsSync};
-ghost use Rattle.pin_table.specs.Lists.{fresh, fresh_pass};
+ghost use Rattle.pin_table.specs.Lists.{first_passes, first_pass};
 
 use crate::steps::{Found, learns};
 use crate::works::{Did, Work, works};
@@ -64,9 +64,9 @@ fn opens_or_not(rt: HostRuntime) -> Result<(), Fail> {
 
 pub(crate) fn two_passes<N: TableName>(passes: &mut Passes) -> Option<(Pass, Pass)>
     requires two { length N.budgets ≡ 2 }
-    requires passes { passes.old ≡ fresh N.table N.budgets 2 }
-    ensures first { IfSome result (λ p. p.0 ≡ fresh_pass N.table N.budgets 0) }
-    ensures second { IfSome result (λ p. p.1 ≡ fresh_pass N.table N.budgets 1) }
+    requires passes { passes.old ≡ first_passes N.table N.budgets 2 }
+    ensures first { IfSome result (λ p. p.0 ≡ first_pass N.table N.budgets 0) }
+    ensures second { IfSome result (λ p. p.1 ≡ first_pass N.table N.budgets 1) }
 {
     let second = passes.pop()?;
     let first = passes.pop()?;

@@ -1,3 +1,3 @@
-pub mod Texts
-pub mod Asking
-mod Apart
+pub mod BracedNames
+pub mod KeyRequests
+mod PoolKeys

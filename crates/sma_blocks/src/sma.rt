@@ -9,7 +9,7 @@ ghost use Rattle.seg_words.specs.Gaps.{first_fit, free_runs};
 ghost use Rattle.sma_blocks.specs.Live.{IsLive, SameBlocks, live_blocks, with_block, without_block};
 ghost use Rattle.sma_blocks.specs.Live.{kept_blocks, largest_of, lives};
 ghost use Rattle.sma_blocks.specs.Tiles.{tiles};
-ghost use Rattle.sma_blocks.specs.Laid.{IsLaid};
+ghost use Rattle.sma_blocks.specs.LaidGaps.{IsLaid};
 ghost use Rattle.sma_blocks.specs.Chain.{IsChain};
 ghost use Rattle.sma_blocks.specs.Ready.{IsReady};
 ghost use Rattle.sma_blocks.specs.Walk.{IsEdge, IsFreeBefore, IsFreeAfter, merged_words};

@@ -1,14 +1,14 @@
 pub mod Rows
-pub mod Asides
-pub mod Sweeping
-pub mod Dropping
-pub mod Steps
-pub mod Chaining
-pub mod Ordering
-pub mod Expired
-pub mod Open
-pub mod Making
-pub mod Moving
-mod Spotting
-mod Listing
-mod Placing
+pub mod ReadOnlyCalls
+pub mod SweptRows
+pub mod DroppedRows
+pub mod EventSteps
+pub mod SlotDrops
+pub mod SlotOrder
+pub mod ExpiredRows
+pub mod OpenWindows
+pub mod RoomLemmas
+pub mod SlotMoves
+mod UnexpiredChains
+mod RemovedPlaces
+mod DropsByPlace

@@ -9,7 +9,7 @@ use Rattle.apcu_model.specs.Change.{is_among, left_of}
 use Rattle.apcu_model.specs.Facts.{among_from, among_there, one_by_key}
 use Rattle.apcu_model.specs.Rows.{are_apart}
 use Rattle.entry_slots.specs.Lists.{is_at, has_place, without_place, first_place, place_after}
-use Rattle.entry_slots.specs.Having.{without_none}
+use Rattle.entry_slots.specs.RowPlaces.{without_none}
 use Rattle.ttl_expunge.specs.Lists.{rows_from}
 
 pub without_middle : (at : ℕ) (front : List Row) (row : Row) (more : List Row) → has_place at front ≡ false → row.place ≡ at → has_place at more ≡ false

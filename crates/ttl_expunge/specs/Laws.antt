@@ -6,7 +6,7 @@ use Rattle.seg_words.specs.Probing.{Goes}
 use Rattle.seg_words.specs.Windows.{Aside, held_blocks}
 use Rattle.std.specs.Prelude.{Contains, List, ℕ, ◌≡◌}
 use Rattle.ttl_expunge.specs.Dropping.{dropped_rows}
-use Rattle.ttl_expunge.specs.Held.{AreHeld, Drops, KeepsOpen}
+use Rattle.ttl_expunge.specs.ProbedRows.{AreHeld, Drops, KeepsOpen}
 
 -- what follows where rows were dropped
 pub record DropLaws : Type 0 where

@@ -1,8 +1,8 @@
 pub mod Lists
 pub mod Dropping
-pub mod Held
-pub mod Decided
-pub mod Which
+pub mod ProbedRows
+pub mod DecidedRows
+pub mod DropRules
 pub mod Room
 pub mod Laws
 pub mod Steps

@@ -5,7 +5,7 @@ use Rattle.seg_words.specs.Windows.{Aside, held_blocks}
 use Rattle.apcu_model.specs.Cache.{Cache, gap_of}
 use Rattle.apcu_model.specs.Change.{with_room, is_expunged}
 use Rattle.entry_slots.specs.Entries.{Entries, entries_of, with_taken}
-use Rattle.ttl_expunge.specs.Held.{AreRemoved, AreHeld, KeepsOpen}
+use Rattle.ttl_expunge.specs.ProbedRows.{AreRemoved, AreHeld, KeepsOpen}
 
 -- a block that was taken, if one was
 abbrev pub with_found : Option ℕ → ℕ → Entries → Entries

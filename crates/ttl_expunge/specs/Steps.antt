@@ -6,7 +6,7 @@ use Rattle.seg_words.specs.Windows.{has}
 use Rattle.apcu_model.specs.Cache.{Row}
 use Rattle.entry_slots.specs.declared.slots.EntrySlots.{EntrySlots}
 use Rattle.entry_slots.specs.Standing.{Stand, entries}
-use Rattle.ttl_expunge.specs.Held.{AreRemoved, Sweeps, Drops, Moves}
+use Rattle.ttl_expunge.specs.ProbedRows.{AreRemoved, Sweeps, Drops, Moves}
 use Rattle.ttl_expunge.specs.Room.{MakesRoom}
 
 -- Rows may be dropped: the words stand for the entries, and no place is refused but those of
@@ -20,7 +20,7 @@ pub record MayDropRows {X R : Type 0} (g : Ghosts X R) (slots : EntrySlots) (seg
 pub record MaySweepRows {X R : Type 0} (g : Ghosts X R) (slots : EntrySlots) (seg : X)
     : Type 0 where
   pub stand : Stand g slots seg
-  pub fresh : (b : ℕ) → has b (g.aside seg).refused ≡ false
+  pub unrefused : (b : ℕ) → has b (g.aside seg).refused ≡ false
 
 -- The block at this place was probed. The words stand for the entries as they are now, and all
 -- else in the segment is as it was.

@@ -59,8 +59,8 @@ fn move_held<S: Segment>(slots: &mut EntrySlots, seg: &mut S, t: u64)
     }
 }
 
-// Notes the places of the removed rows in the array, in the order of the rows. It answers how many
-// they are, or `None` where the array is too short.
+// Collects the places of the removed rows in the array, in the order of the rows. It answers how
+// many they are, or `None` where the array is too short.
 fn removed_places<S: Segment>(
     slots: &EntrySlots,
     seg: &mut S,
@@ -68,7 +68,7 @@ fn removed_places<S: Segment>(
 ) -> Option<usize>
     requires stand { Stand S.WordsIn slots.now seg.old }
     ensures few { IfSome result (λ n. n ≤ 64) }
-    ensures noted { IfSome result (λ n.
+    ensures collected { IfSome result (λ n.
         take n places.new ≡ row_places (entries slots.now).removed) }
     ensures kept { Kept S.WordsIn seg.old seg.new }
 {

@@ -16,7 +16,7 @@ use seg_words::{Segment, probe_laws};
 pub fn is_let_go<S: Segment>(slots: &EntrySlots, seg: &mut S, at: u32) -> bool
     requires stand { Stand S.WordsIn slots.now seg.old }
     requires there { has_place at (listed (entries slots.now)) ≡ true }
-    requires fresh { has at (S.aside seg.old).refused ≡ false }
+    requires unrefused { has at (S.aside seg.old).refused ≡ false }
     ensures free { result ≡ not (has at (held_blocks (S.aside seg.new))) }
     ensures probes { ProbesBlock S.WordsIn slots.now seg.old seg.new at }
 {
@@ -30,7 +30,7 @@ pub fn is_let_go<S: Segment>(slots: &EntrySlots, seg: &mut S, at: u32) -> bool
 fn sweep_at<S: Segment>(slots: &mut EntrySlots, seg: &mut S, at: u32)
     requires stand { Stand S.WordsIn slots.old seg.old }
     requires there { has_place at (entries slots.old).removed ≡ true }
-    requires fresh { has at (S.aside seg.old).refused ≡ false }
+    requires unrefused { has at (S.aside seg.old).refused ≡ false }
     ensures swept { entries slots.new
         ≡ swept_at (held_blocks (S.aside seg.new)) at (entries slots.old) }
     ensures probes { ProbesBlock S.WordsIn slots.new seg.old seg.new at }

@@ -7,7 +7,7 @@ ghost use Rattle.seg_words.specs.Windows.{Aside, held_blocks};
 ghost use Rattle.apcu_model.specs.Cache.{Row};
 ghost use Rattle.entry_slots.specs.Entries.{Entries};
 ghost use Rattle.ttl_expunge.specs.Dropping.{dropped_rows};
-ghost use Rattle.ttl_expunge.specs.Held.{AreHeld, KeepsOpen, Drops};
+ghost use Rattle.ttl_expunge.specs.ProbedRows.{AreHeld, KeepsOpen, Drops};
 ghost use Rattle.entry_slots.specs.Facts.{IsSound};
 
 /// What follows where rows were dropped: it is so by the blocks that are held after later probes of

@@ -1,6 +1,6 @@
 ghost use Rattle.std.specs.Prelude.{◌≡◌, ◌%◌, ◌≤◌};
 ghost use Rattle.ttl_expunge.specs.Dropping.{spent_rows};
-ghost use Rattle.ttl_expunge.specs.Held.{AreHeld};
+ghost use Rattle.ttl_expunge.specs.ProbedRows.{AreHeld};
 ghost use Rattle.entry_slots.specs.Entries.{IsWhole};
 ghost use Rattle.entry_slots.specs.Standing.{entries};
 ghost use Rattle.ttl_expunge.specs.Steps.{MayDropRows, MaySweepRows, DropsRows, MakesRoomIn};

@@ -1,7 +1,7 @@
 //! Rows dropped or found at one spot of their chain, which is walked once.
 
 ghost use Rattle.std.specs.Prelude.{◌≡◌, ◌<◌, ◌^◌, ℕ, true, length};
-ghost use Rattle.apcu_model.specs.Walk.{slot_of};
+ghost use Rattle.apcu_model.specs.SlotOrder.{slot_of};
 ghost use Rattle.entry_slots.specs.Lists.{has_place, only_at};
 ghost use Rattle.entry_slots.specs.Spots.{IsSpot, IsSpotOf};
 ghost use Rattle.entry_slots.specs.Standing.{entries};

@@ -7,9 +7,9 @@ use Rattle.php_graph.specs.declared.child.Child.{Child}
 use Rattle.php_graph.specs.declared.child.Child.TheVariants.{Own, Back}
 use Rattle.php_graph.specs.declared.kind.Kind.{Kind}
 use Rattle.php_graph.specs.Graph.{IsGraph, kind_at, children_of, ends_after, child_end, end_of, levels, is_back, most_values}
-use Rattle.php_graph.specs.Counted.{children_in}
+use Rattle.php_graph.specs.MemberCounts.{children_in}
 use Rattle.php_graph.specs.Size.{image_length}
-use Rattle.php_graph.specs.Kept.{IsKept, offsets_from}
+use Rattle.php_graph.specs.PlaceOffsets.{IsKept, offsets_from}
 
 -- the members that are written here
 abbrev owns : List Child → ℕ

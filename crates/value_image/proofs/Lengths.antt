@@ -9,7 +9,7 @@ use Rattle.php_graph.specs.declared.kind.Kind.TheVariants as kinds
 use Rattle.seg_words.specs.Layout.{words_in}
 use Rattle.php_graph.specs.Size.{key_cells, cells_of}
 use Rattle.value_image.specs.Image.{string_words, key_words, member_words, property_words, kind_words}
-use Rattle.value_image.proofs.Packing.{length-words_of}
+use Rattle.value_image.proofs.PackedByteLemmas.{length-words_of}
 use Rattle.value_image.proofs.ItemRuns.{length-items}
 
 pub length-string_words : (bytes : List ℕ) → length (string_words bytes) ≡ 1 + words_in (length bytes)

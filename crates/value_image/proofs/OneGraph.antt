@@ -15,17 +15,17 @@ use Rattle.php_graph.specs.declared.kind.Kind.TheVariants as kinds
 use Rattle.php_graph.specs.ByteStrings.{AreBytes}
 use Rattle.php_graph.specs.Graph.{IsGraph, FitsKind, FitsKey}
 use Rattle.php_graph.specs.Size.{cells_of, image_length, offset_of}
-use Rattle.value_image.specs.Packed.{words_of}
+use Rattle.value_image.specs.PackedBytes.{words_of}
 use Rattle.value_image.specs.Rows.{StandsAt, IsToldAt}
 use Rattle.value_image.specs.Image.{string_words, key_words, child_word, member_words, property_words, kind_words, place_words, image_of, IsImageOf}
 use Rattle.value_image.specs.Places.{IsPlaceOf}
 use Rattle.value_image.specs.Reading.{itself, renumbered_member, renumbered_kind, IsStringAt, IsKeyAt}
 use Rattle.value_image.proofs.Runs.{told-front, told-back}
-use Rattle.value_image.proofs.Sealed.{names_places}
+use Rattle.value_image.proofs.NamedPlaces.{names_places}
 use Rattle.value_image.proofs.Images.{image-stands}
-use Rattle.value_image.proofs.Parts.{told-first, told-rest, text-bytes, key-int, key-string}
-use Rattle.value_image.proofs.Numbered.{IsBack, kinds-back, offset_of-below, cells_of-one}
-use Rattle.value_image.proofs.Walk.{kind-words, kind-cells}
+use Rattle.value_image.proofs.ImageParts.{told-first, told-rest, text-bytes, key-int, key-string}
+use Rattle.value_image.proofs.OffsetTables.{IsBack, kinds-back, offset_of-below, cells_of-one}
+use Rattle.value_image.proofs.ImageWalk.{kind-words, kind-cells}
 
 -- ---- one byte string, one key
 

@@ -6,13 +6,13 @@ use Rattle.php_graph.specs.Size.{image_length, offset_of}
 use Rattle.seg_words.specs.Blocks.{IsTold}
 use Rattle.seg_words.specs.Windows.{Aside}
 use Rattle.seg_words.specs.Layout.{words_in}
-use Rattle.value_image.specs.Packed.{bytes_of, words_of}
+use Rattle.value_image.specs.PackedBytes.{bytes_of, words_of}
 use Rattle.value_image.specs.Reading.{IsKindAt, IsStringAt, renumbered_kind}
 use Rattle.value_image.specs.Texts.{IsToldImage, string_of}
 use Rattle.value_image.proofs.Images.{image-inside}
-use Rattle.value_image.proofs.Numbered.{image-some}
-use Rattle.value_image.proofs.Parts.{kind-string, told-first, text-inside, text-told, text-bytes}
-use Rattle.value_image.proofs.Walk.{walk-first}
+use Rattle.value_image.proofs.OffsetTables.{image-some}
+use Rattle.value_image.proofs.ImageParts.{kind-string, told-first, text-inside, text-told, text-bytes}
+use Rattle.value_image.proofs.ImageWalk.{walk-first}
 
 -- an image lies in its row
 pub told-inside : (row windows : List ℕ) (at : ℕ) (g : List Kind) → IsToldImage row windows at g → (at < length row) × (image_length g < length row + 1)

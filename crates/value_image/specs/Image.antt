@@ -12,7 +12,7 @@ use Rattle.php_graph.specs.declared.kind.Kind.{Kind}
 use Rattle.php_graph.specs.declared.kind.Kind.TheVariants as kinds
 use Rattle.php_graph.specs.Graph.{IsGraph, kind_at}
 use Rattle.php_graph.specs.Size.{cells_of, image_length, offset_of}
-use Rattle.value_image.specs.Packed.{words_of}
+use Rattle.value_image.specs.PackedBytes.{words_of}
 
 -- A byte string: a tag with its length, and its bytes.
 abbrev pub string_words : List ℕ → List ℕ

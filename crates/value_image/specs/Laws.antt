@@ -7,7 +7,7 @@ use Rattle.seg_words.specs.Blocks.{MayStore}
 use Rattle.seg_words.specs.Layout.{words_in}
 use Rattle.std.specs.Prelude.{List, drop, length, slice_index, take, ℕ, ◌++◌, ◌+◌, ◌<◌, ◌≡◌, ◌≤◌}
 use Rattle.value_image.specs.Image.{IsImageOf, image_of}
-use Rattle.value_image.specs.Packed.{bytes_of, words_of}
+use Rattle.value_image.specs.PackedBytes.{bytes_of, words_of}
 use Rattle.value_image.specs.Rows.{MayWrite, StandsAt, written}
 
 -- an image is one run of words

@@ -1,4 +1,4 @@
-pub mod Packed
+pub mod PackedBytes
 pub mod Rows
 pub mod Places
 pub mod Image

@@ -12,7 +12,7 @@ use Rattle.php_graph.specs.declared.kind.Kind.TheVariants as kinds
 use Rattle.php_graph.specs.ByteStrings.{AreBytes}
 use Rattle.php_graph.specs.Graph.{FitsKey, IsGraph}
 use Rattle.php_graph.specs.Size.{offset_of, image_length}
-use Rattle.php_graph.specs.Kept.{offsets_from}
+use Rattle.php_graph.specs.PlaceOffsets.{offsets_from}
 use Rattle.value_image.specs.Rows.{IsToldAt}
 use Rattle.value_image.specs.Places.{number_of}
 use Rattle.value_image.specs.Image.{string_words, key_words, member_words, property_words}

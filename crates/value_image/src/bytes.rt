@@ -6,7 +6,7 @@ ghost use Rattle.byteorder.specs.Endian.{little_bytes};
 ghost use Rattle.seg_words.specs.Kept.{Kept, KeptBeside};
 ghost use Rattle.seg_words.specs.Layout.{words_in};
 ghost use Rattle.seg_words.specs.Blocks.{IsTold};
-ghost use Rattle.value_image.specs.Packed.{words_of, bytes_of, word_at};
+ghost use Rattle.value_image.specs.PackedBytes.{words_of, bytes_of, word_at};
 ghost use Rattle.value_image.specs.Rows.{written, MayWrite};
 
 use byteorder::{ByteOrder, LittleEndian};

@@ -9,7 +9,7 @@ ghost use Rattle.seg_words.specs.Layout.{words_in};
 ghost use Rattle.php_graph.specs.Size.{image_length};
 ghost use Rattle.php_graph.specs.ByteStrings.{AreBytes};
 ghost use Rattle.seg_words.specs.Blocks.{MayStore};
-ghost use Rattle.value_image.specs.Packed.{bytes_of, words_of};
+ghost use Rattle.value_image.specs.PackedBytes.{bytes_of, words_of};
 ghost use Rattle.value_image.specs.Rows.{written, MayWrite, StandsAt};
 ghost use Rattle.value_image.specs.Image.{IsImageOf, image_of};
 

@@ -3,7 +3,7 @@
 ghost use Rattle.std.specs.Prelude.{◌≡◌, ℕ, ◌+◌, ◌<◌, ◌^◌, ◌∷◌, List, length, map, slice_index};
 ghost use Rattle.std.specs.Prelude.{slice_get, Some, IfOk, OnOk};
 ghost use Rattle.php_graph.specs.declared.kind.Kind.{Kind};
-ghost use Rattle.php_graph.specs.Kept.{kinds_at, offsets_at};
+ghost use Rattle.php_graph.specs.PlaceOffsets.{kinds_at, offsets_at};
 ghost use Rattle.value_image.specs.Places.{number_of};
 ghost use Rattle.value_image.specs.Reading.{AllBelow, IsBelow, IsReadOf, renumbered_child};
 ghost use Rattle.value_image.specs.Reading.{renumbered_member, renumbered_kind};

@@ -5,7 +5,7 @@ ghost use Rattle.std.specs.Prelude.{slice_index};
 ghost use Rattle.seg_words.specs.Kept.{Kept};
 ghost use Rattle.php_graph.specs.declared.child.Child.{Child};
 ghost use Rattle.php_graph.specs.declared.kind.Kind.{Kind};
-ghost use Rattle.php_graph.specs.Kept.{kinds_at, offsets_at};
+ghost use Rattle.php_graph.specs.PlaceOffsets.{kinds_at, offsets_at};
 ghost use Rattle.seg_words.specs.Layout.{words_in};
 ghost use Rattle.php_graph.specs.Size.{cells_of};
 ghost use Rattle.seg_words.specs.Blocks.{IsTold};

@@ -8,7 +8,7 @@ ghost use Rattle.php_graph.specs.declared.child.Child.{Child};
 ghost use Rattle.seg_words.specs.Layout.{words_in};
 ghost use Rattle.php_graph.specs.Size.{key_cells};
 ghost use Rattle.seg_words.specs.Blocks.{IsTold};
-ghost use Rattle.value_image.specs.Packed.{bytes_of};
+ghost use Rattle.value_image.specs.PackedBytes.{bytes_of};
 ghost use Rattle.value_image.specs.Image.{child_word};
 ghost use Rattle.value_image.specs.Reading.{itself, IsStringAt, IsKeyAt, IsMemberAt, IsPropertyAt};
 ghost use Rattle.value_image.specs.Reading.{AreMembersAt, ArePropertiesAt};

@@ -1,5 +1,5 @@
-mod Answered
-mod Asked
-mod Counting
-mod Steps
-mod Walking
+mod WalkAnswers
+mod CallWalks
+mod KeyCounts
+mod WalkSteps
+mod WalkLemmas

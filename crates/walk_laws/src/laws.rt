@@ -11,7 +11,7 @@ ghost use Rattle.apcu_model.specs.Cache.{Cache};
 ghost use Rattle.apcu_model.specs.Chunks.{chunk_of};
 ghost use Rattle.apcu_model.specs.History.{stage_of};
 ghost use Rattle.apcu_model.specs.Rows.{are_apart};
-ghost use Rattle.apcu_model.specs.Walk.{slot_of};
+ghost use Rattle.apcu_model.specs.SlotOrder.{slot_of};
 ghost use Rattle.script_read.specs.declared.call.Call.TheVariants.{Walk};
 ghost use Rattle.walk_laws.specs.Calls.{IsAskedIn, replies_in, wanted_by};
 ghost use Rattle.walk_laws.specs.Exchanges.{IsWalk, answered_chunks, answered_keys, exchanges_of};

@@ -13,7 +13,7 @@ use Rattle.apcu_model.specs.declared.request.Request.{Request}
 use Rattle.apcu_model.specs.declared.request.Request.TheVariants as requests
 use Rattle.apcu_model.specs.declared.request.Reply.{Reply}
 use Rattle.apcu_model.specs.declared.request.Reply.TheVariants.{Flag}
-use Rattle.pin_table.specs.Values.{Bearer}
+use Rattle.pin_table.specs.Values.{PassView}
 use Rattle.simple_pool.specs.declared.call.PoolAsk.{PoolAsk}
 use Rattle.simple_pool.specs.declared.call.PoolAsk.TheVariants.{Set, SetMany}
 use Rattle.simple_pool.specs.Names.{pool_key}
@@ -27,12 +27,12 @@ use Rattle.worker_play.specs.Goes.{GoesOn, Reaches, Tells}
 use Rattle.worker_play.specs.Pools.{own_key, life_of, put_as, put_of, put_done, answer_value, answers_noted}
 use Rattle.worker_play.specs.Turns.{Turn, Takes, Over, turns_at, asks_at}
 use Rattle.worker_play.specs.declared.answers.Answer.{Answer}
-use Rattle.worker_play.proofs.Forms.{call_asks, call_tells, told_once}
-use Rattle.worker_play.proofs.Going.{Midway, ends, one_asked}
-use Rattle.worker_play.proofs.Keys.{key_goes_on}
+use Rattle.worker_play.proofs.CallForms.{call_asks, call_tells, told_once}
+use Rattle.worker_play.proofs.PassProgress.{Midway, ends, one_asked}
+use Rattle.worker_play.proofs.SeveralKeys.{key_goes_on}
 
 -- a request in other words
-pub asked_as : (conf : Conf) (workers : ℕ) (o q : Bearer) (t : ℕ) (r s : Request) (y : Reply) → r ≡ s → GoesOn conf workers o q (wish_at t r ∷ []) (y ∷ []) → GoesOn conf workers o q (wish_at t s ∷ []) (y ∷ [])
+pub asked_as : (conf : Conf) (workers : ℕ) (o q : PassView) (t : ℕ) (r s : Request) (y : Reply) → r ≡ s → GoesOn conf workers o q (wish_at t r ∷ []) (y ∷ []) → GoesOn conf workers o q (wish_at t s ∷ []) (y ∷ [])
 asked_as conf workers o q t r s y same g = subst (λ (x : Request). GoesOn conf workers o q (wish_at t x ∷ []) (y ∷ [])) same g
 
 -- ---- a call by its form
@@ -41,22 +41,22 @@ asked_as conf workers o q t r s y same g = subst (λ (x : Request). GoesOn conf 
 abbrev call_on : List ℕ → PoolAsk → Call
 call_on pool ask = Pool (record { pool = pool; ask = ask })
 
-pub pool_asks : (conf : Conf) (workers : ℕ) (p q : Bearer) (t : ℕ) (pool : List ℕ) (ask form : PoolAsk) → ask ≡ form → Reaches conf workers p q (turns_at t (next_of conf (call_on pool form))) → Reaches conf workers p q (turns_at t (next_of conf (call_on pool ask)))
+pub pool_asks : (conf : Conf) (workers : ℕ) (p q : PassView) (t : ℕ) (pool : List ℕ) (ask form : PoolAsk) → ask ≡ form → Reaches conf workers p q (turns_at t (next_of conf (call_on pool form))) → Reaches conf workers p q (turns_at t (next_of conf (call_on pool ask)))
 pool_asks conf workers p q t pool ask form is r = call_asks conf workers p q t (call_on pool ask) (call_on pool form) (ap (call_on pool) is) r
 
-pub pool_tells : (conf : Conf) (workers : ℕ) (p q : Bearer) (t : ℕ) (pool : List ℕ) (ask form : PoolAsk) (out new : List ℕ) → ask ≡ form → Tells conf workers p q (turns_at t (next_of conf (call_on pool form))) (λ replies. out ++ pool_text form replies) new
+pub pool_tells : (conf : Conf) (workers : ℕ) (p q : PassView) (t : ℕ) (pool : List ℕ) (ask form : PoolAsk) (out new : List ℕ) → ask ≡ form → Tells conf workers p q (turns_at t (next_of conf (call_on pool form))) (λ replies. out ++ pool_text form replies) new
     → Tells conf workers p q (turns_at t (next_of conf (call_on pool ask))) (λ replies. out ++ pool_text ask replies) new
 pool_tells conf workers p q t pool ask form out new is told = call_tells conf workers p q t (call_on pool ask) (call_on pool form) out new (ap (call_on pool) is) told
 
 -- a call that asks this one request
-pub pool_told_once : (conf : Conf) (workers : ℕ) (p q : Bearer) (t : ℕ) (pool : List ℕ) (ask form : PoolAsk) (r s : Request) (y : Reply) (out new : List ℕ) → ask ≡ form → r ≡ s → GoesOn conf workers p q (wish_at t r ∷ []) (y ∷ [])
+pub pool_told_once : (conf : Conf) (workers : ℕ) (p q : PassView) (t : ℕ) (pool : List ℕ) (ask form : PoolAsk) (r s : Request) (y : Reply) (out new : List ℕ) → ask ≡ form → r ≡ s → GoesOn conf workers p q (wish_at t r ∷ []) (y ∷ [])
     → turns_at t (next_of conf (call_on pool form)) [] ≡ Takes (wish_at t s) → turns_at t (next_of conf (call_on pool form)) (y ∷ []) ≡ Over [] → new ≡ out ++ pool_text form (y ∷ [])
     → Tells conf workers p q (turns_at t (next_of conf (call_on pool ask))) (λ replies. out ++ pool_text ask replies) new
 pool_told_once conf workers p q t pool ask form r s y out new is same g first over text =
     told_once conf workers p q t (call_on pool ask) (call_on pool form) (wish_at t s) y out new (ap (call_on pool) is) (asked_as conf workers p q t r s y same g) first over text
 
 -- where only that was asked
-pub pool_asked_once : (conf : Conf) (workers : ℕ) (p q : Bearer) (t : ℕ) (pool : List ℕ) (ask form : PoolAsk) (r s : Request) (y : Reply) → ask ≡ form → r ≡ s → GoesOn conf workers p q (wish_at t r ∷ []) (y ∷ [])
+pub pool_asked_once : (conf : Conf) (workers : ℕ) (p q : PassView) (t : ℕ) (pool : List ℕ) (ask form : PoolAsk) (r s : Request) (y : Reply) → ask ≡ form → r ≡ s → GoesOn conf workers p q (wish_at t r ∷ []) (y ∷ [])
     → turns_at t (next_of conf (call_on pool form)) [] ≡ Takes (wish_at t s) → Reaches conf workers p q (turns_at t (next_of conf (call_on pool ask)))
 pool_asked_once conf workers p q t pool ask form r s y is same g first =
     pool_asks conf workers p q t pool ask form is (one_asked conf workers p q (turns_at t (next_of conf (call_on pool form))) (wish_at t s) y (asked_as conf workers p q t r s y same g) first)
@@ -68,13 +68,13 @@ own_is pool ask form own key is formed has = same_Some own (pool_key pool key) (
 -- ---- sets
 
 -- a value was stored, or not
-pub put_stored : (conf : Conf) (workers : ℕ) (p q : Bearer) (t : ℕ) (key : List ℕ) (value : List Kind) (life : Option ℕ) (ttl : ℕ) (done : Bool) → life ≡ Some ttl → GoesOn conf workers p q (wish_at t (requests.Store key value ttl false) ∷ []) (Flag done ∷ [])
+pub put_stored : (conf : Conf) (workers : ℕ) (p q : PassView) (t : ℕ) (key : List ℕ) (value : List Kind) (life : Option ℕ) (ttl : ℕ) (done : Bool) → life ≡ Some ttl → GoesOn conf workers p q (wish_at t (requests.Store key value ttl false) ∷ []) (Flag done ∷ [])
     → (y : Reply) × GoesOn conf workers p q (wish_at t (put_as key value life) ∷ []) (y ∷ []) × (done ≡ put_done life y)
 put_stored conf workers p q t key value life ttl done is g =
     subst (λ (l : Option ℕ). (y : Reply) × GoesOn conf workers p q (wish_at t (put_as key value l) ∷ []) (y ∷ []) × (done ≡ put_done l y)) (sym is) (Flag done, g, refl)
 
 -- a key was deleted, whether it was there or not
-pub put_deleted : (conf : Conf) (workers : ℕ) (p q : Bearer) (t : ℕ) (key : List ℕ) (value : List Kind) (life : Option ℕ) (there : Bool) → life ≡ None → GoesOn conf workers p q (wish_at t (requests.Delete key) ∷ []) (Flag there ∷ [])
+pub put_deleted : (conf : Conf) (workers : ℕ) (p q : PassView) (t : ℕ) (key : List ℕ) (value : List Kind) (life : Option ℕ) (there : Bool) → life ≡ None → GoesOn conf workers p q (wish_at t (requests.Delete key) ∷ []) (Flag there ∷ [])
     → (y : Reply) × GoesOn conf workers p q (wish_at t (put_as key value life) ∷ []) (y ∷ []) × (true ≡ put_done life y)
 put_deleted conf workers p q t key value life there is g =
     subst (λ (l : Option ℕ). (y : Reply) × GoesOn conf workers p q (wish_at t (put_as key value l) ∷ []) (y ∷ []) × (true ≡ put_done l y)) (sym is) (Flag there, g, refl)
@@ -106,13 +106,13 @@ all_text false n replies = ap flag_text (all_deleted replies)
 pub set_text : (key : List ℕ) (value : List Kind) (ttl : ℤ) (reply : Reply) → flag_text (put_done (life_of ttl) reply) ≡ pool_text (Set key value ttl) (reply ∷ [])
 set_text key value ttl reply = one_text (int_lt (pos 0) ttl) (nat_abs ttl) reply
 
-pub sets_ask : (conf : Conf) (workers : ℕ) (p q : Bearer) (t : ℕ) (pool : List ℕ) (pairs : List (List ℕ × List Kind)) (ttl : ℤ) (life : Option ℕ) → life ≡ life_of ttl
+pub sets_ask : (conf : Conf) (workers : ℕ) (p q : PassView) (t : ℕ) (pool : List ℕ) (pairs : List (List ℕ × List Kind)) (ttl : ℤ) (life : Option ℕ) → life ≡ life_of ttl
     → Reaches conf workers p q (asks_at t (map (put_of pool life) pairs)) → Reaches conf workers p q (asks_at t (map (λ pair. set_of pool pair ttl) pairs))
 sets_ask conf workers p q t pool pairs ttl life is r =
     subst (λ (asked : List Request). Reaches conf workers p q (asks_at t asked)) (ap (λ (l : Option ℕ). map (put_of pool l) pairs) is ∙ sym (sets_are_puts pool ttl pairs)) r
 
 -- what a set of several keys prints
-pub sets_tell : (conf : Conf) (workers : ℕ) (p q : Bearer) (t : ℕ) (pool : List ℕ) (pairs : List (List ℕ × List Kind)) (ttl : ℤ) (life : Option ℕ) (out new : List ℕ) → life ≡ life_of ttl
+pub sets_tell : (conf : Conf) (workers : ℕ) (p q : PassView) (t : ℕ) (pool : List ℕ) (pairs : List (List ℕ × List Kind)) (ttl : ℤ) (life : Option ℕ) (out new : List ℕ) → life ≡ life_of ttl
     → Tells conf workers p q (asks_at t (map (put_of pool life) pairs)) (λ replies. out ++ flag_text (list_all (put_done life) replies)) new
     → Tells conf workers p q (asks_at t (map (λ pair. set_of pool pair ttl) pairs)) (λ replies. out ++ pool_text (SetMany pairs ttl) replies) new
 sets_tell conf workers p q t pool pairs ttl life out new is told =
@@ -130,7 +130,7 @@ both_step true done life y later is = ap (λ (b : Bool). b && list_all (put_done
 both_step false done life y later is = refl
 
 -- one pair more
-pub put_goes_on : (conf : Conf) (workers : ℕ) (p o q : Bearer) (turns : List Reply → Turn) (t : ℕ) (r : Request) (rest : List Request) (y : Reply) (life : Option ℕ) (told : List Reply → Bool) (all done now : Bool)
+pub put_goes_on : (conf : Conf) (workers : ℕ) (p o q : PassView) (turns : List Reply → Turn) (t : ℕ) (r : Request) (rest : List Request) (y : Reply) (life : Option ℕ) (told : List Reply → Bool) (all done now : Bool)
     → Midway conf workers p o turns (asks_at t (r ∷ rest)) told (λ later. all && list_all (put_done life) later) → GoesOn conf workers o q (wish_at t r ∷ []) (y ∷ []) → done ≡ put_done life y → now ≡ (all && done)
     → Midway conf workers p q turns (asks_at t rest) told (λ later. now && list_all (put_done life) later)
 put_goes_on conf workers p o q turns t r rest y life told all done now m g is both =
@@ -142,7 +142,7 @@ and_true true = refl
 and_true false = refl
 
 -- all pairs were met
-pub puts_end : (conf : Conf) (workers : ℕ) (p q : Bearer) (turns : List Reply → Turn) (t : ℕ) (told : List Reply → Bool) (life : Option ℕ) (all : Bool)
+pub puts_end : (conf : Conf) (workers : ℕ) (p q : PassView) (turns : List Reply → Turn) (t : ℕ) (told : List Reply → Bool) (life : Option ℕ) (all : Bool)
     → Midway conf workers p q turns (asks_at t []) told (λ later. all && list_all (put_done life) later) → Tells conf workers p q turns told all
 puts_end conf workers p q turns t told life all m =
     subst (λ (b : Bool). Tells conf workers p q turns told b) (and_true all) (ends conf workers p q turns (asks_at t []) told (λ later. all && list_all (put_done life) later) m refl)

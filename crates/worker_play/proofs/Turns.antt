@@ -11,9 +11,9 @@ use Rattle.script_read.specs.declared.script.Step.{Step}
 use Rattle.script_read.specs.Budgets.{events_in}
 use Rattle.script_read.specs.Calls.{event_bound}
 use Rattle.script_read.specs.Grammar.{ends_line}
-use Rattle.script_read.specs.Leaving.{leaves_more}
+use Rattle.script_read.specs.DoneCalls.{leaves_more}
 use Rattle.script_read.specs.Play.{Wish, wish_at, Next, Asks, Leaves, next_of, continued, wanted}
-use Rattle.script_read.proofs.Asking.{asks_few}
+use Rattle.script_read.proofs.EventBounds.{asks_few}
 use Rattle.play_laws.specs.Own.{AreInTurn}
 use Rattle.play_laws.specs.Parts.{get_joined, take_joined}
 use Rattle.reply_text.specs.Lines.{call_text, before, lines_from, script_lines}
@@ -63,8 +63,8 @@ next_leaves t (Asks request) others e = absurd (cc (e))
 next_leaves t (Leaves own) others e = let same : own ≡ others = cc (e) in ap Leaves same
 
 -- a call that is over leaves what comes after
-pub is_over : (conf : Conf) (t : ℕ) (call : Call) (own : List Reply) → turns_at t (next_of conf call) own ≡ Over [] → (later : List Reply) → next_of conf call (own ++ later) ≡ Leaves later
-is_over conf t call own over later = leaves_more conf call own [] later (next_leaves t (next_of conf call own) [] over)
+pub over_goes_on : (conf : Conf) (t : ℕ) (call : Call) (own : List Reply) → turns_at t (next_of conf call) own ≡ Over [] → (later : List Reply) → next_of conf call (own ++ later) ≡ Leaves later
+over_goes_on conf t call own over later = leaves_more conf call own [] later (next_leaves t (next_of conf call own) [] over)
 
 -- ---- how often is asked
 
@@ -135,7 +135,7 @@ in_turn_first conf step steps ws rs a =
 
 -- and once that is over what the later ones want
 pub turns_step : (conf : Conf) (step : Step) (steps : List Step) (own : List Reply) → turns_at step.t (next_of conf step.call) own ≡ Over [] → (later : List Reply) → turns_of conf (step ∷ steps) (own ++ later) ≡ turns_of conf steps later
-turns_step conf step steps own over later = ap (λ (n : Next). then_turns (turns_of conf steps) (turn_at step.t n)) (is_over conf step.t step.call own over later)
+turns_step conf step steps own over later = ap (λ (n : Next). then_turns (turns_of conf steps) (turn_at step.t n)) (over_goes_on conf step.t step.call own over later)
 
 -- what its calls want a worker wants
 call_wants : (t : ℕ) (turns : List Reply → Turn) (later : List Reply → Option Wish) (next : Next) (w : Wish) → ((others : List Reply) → wish_of_turn (turns others) ≡ Some w → later others ≡ Some w) → wish_of_turn (then_turns turns (turn_at t next)) ≡ Some w → continued t later next ≡ Some w

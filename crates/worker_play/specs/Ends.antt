@@ -5,7 +5,7 @@ use Rattle.apcu_model.specs.declared.conf.Conf.{Conf}
 use Rattle.apcu_model.specs.declared.request.Request.TheVariants as requests
 use Rattle.apcu_model.specs.declared.request.Reply.{Reply}
 use Rattle.apcu_model.specs.declared.request.Reply.TheVariants.{Ended}
-use Rattle.pin_table.specs.Values.{Bearer}
+use Rattle.pin_table.specs.Values.{PassView}
 use Rattle.script_read.specs.declared.script.Step.{Step}
 use Rattle.script_read.specs.Play.{Wish, wanted}
 use Rattle.play_laws.specs.Own.{own_replies, wish_in, AreInTurn, HasPlayed}
@@ -15,13 +15,13 @@ use Rattle.worker_play.specs.Turns.{turns_of, wanted_in}
 
 -- The worker asked all that its script wants, its end included. The text has a line for each call,
 -- made of the worker's own replies in what it has seen.
-pub record PlaysOut (conf : Conf) (script : List Step) (b : Bearer) (text : List ℕ) : Type 0 where
+pub record PlaysOut (conf : Conf) (script : List Step) (b : PassView) (text : List ℕ) : Type 0 where
   pub played : HasPlayed conf script (map wish_in b.known.own)
       (own_replies conf b.known.worker b.known.seen)
   pub lines : text ≡ script_lines conf script (own_replies conf b.known.worker b.known.seen)
 
 -- It asked some first of what the calls of its script want, in turn, and then its end.
-pub record Asked (conf : Conf) (script : List Step) (b : Bearer) : Type 0 where
+pub record Asked (conf : Conf) (script : List Step) (b : PassView) : Type 0 where
   pub made : List Wish
   pub replies : List Reply
   pub in_turn : AreInTurn (wanted_in (turns_of conf script)) made replies
@@ -29,7 +29,7 @@ pub record Asked (conf : Conf) (script : List Step) (b : Bearer) : Type 0 where
   pub answered : own_replies conf b.known.worker b.known.seen ≡ replies ++ Ended ∷ []
 
 -- The worker w of the table has ended. Where there is a text, it has played all of its script.
-pub record Ends (t : TableId) (conf : Conf) (w : ℕ) (script : List Step) (b : Bearer)
+pub record Ends (t : TableId) (conf : Conf) (w : ℕ) (script : List Step) (b : PassView)
     (text : Option (List ℕ)) : Type 0 where
   pub table : b.table ≡ t
   pub worker : b.known.worker ≡ w
@@ -41,7 +41,7 @@ pub record Ends (t : TableId) (conf : Conf) (w : ℕ) (script : List Step) (b : 
 
 -- The worker asked in turn what its script wants. After its replies the script wants what one
 -- without calls does: its end, and then nothing.
-pub record HasMade (conf : Conf) (script : List Step) (b : Bearer) : Type 0 where
+pub record HasMade (conf : Conf) (script : List Step) (b : PassView) : Type 0 where
   pub in_turn : AreInTurn (wanted conf script) (map wish_in b.known.own)
       (own_replies conf b.known.worker b.known.seen)
   pub done : (later : List Reply)
@@ -49,13 +49,13 @@ pub record HasMade (conf : Conf) (script : List Step) (b : Bearer) : Type 0 wher
       ≡ wanted conf [] later
 
 -- It asked all that its script wants, its end included.
-abbrev pub PlaysAll : Conf → List Step → Bearer → Type 0
+abbrev pub PlaysAll : Conf → List Step → PassView → Type 0
 PlaysAll conf script b =
     HasPlayed conf script (map wish_in b.known.own)
     (own_replies conf b.known.worker b.known.seen)
 
 -- The worker w of the table has ended.
-pub record HasEnded (t : TableId) (w : ℕ) (b : Bearer) : Type 0 where
+pub record HasEnded (t : TableId) (w : ℕ) (b : PassView) : Type 0 where
   pub table : b.table ≡ t
   pub worker : b.known.worker ≡ w
   pub all_own : KnowsOwnEvents b

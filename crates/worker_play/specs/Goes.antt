@@ -5,7 +5,7 @@ use Rattle.apcu_model.specs.declared.conf.Conf.{Conf}
 use Rattle.apcu_model.specs.declared.request.Request.{Request}
 use Rattle.apcu_model.specs.declared.request.Reply.{Reply}
 use Rattle.apcu_model.specs.History.{start_of, all_legal}
-use Rattle.pin_table.specs.Values.{Bearer}
+use Rattle.pin_table.specs.Values.{PassView}
 use Rattle.pin_table.specs.Events.{events_of}
 use Rattle.script_read.specs.Play.{Wish}
 use Rattle.play_laws.specs.Own.{own_replies, wish_in, AreInTurn}
@@ -16,13 +16,13 @@ abbrev pub wish : ℕ → Request → Wish
 wish t r = record { request = r; t = t }
 
 -- in what the pass has seen its worker's events are its own, all of them
-abbrev pub KnowsOwnEvents : Bearer → Type 0
+abbrev pub KnowsOwnEvents : PassView → Type 0
 KnowsOwnEvents p = events_of p.known.worker p.known.seen ≡ p.known.own
 
 -- The pass q is p after these wishes more of its worker, each of which was one event, with these
 -- replies: those of one thread at the events' places in what q has seen. Besides, q has seen what
 -- others did; where what p had seen was legal, all of it is.
-pub record GoesOn (conf : Conf) (workers : ℕ) (p q : Bearer) (wishes : List Wish)
+pub record GoesOn (conf : Conf) (workers : ℕ) (p q : PassView) (wishes : List Wish)
     (replies : List Reply) : Type 0 where
   pub table : q.table ≡ p.table
   pub worker : q.known.worker ≡ p.known.worker
@@ -37,7 +37,7 @@ pub record GoesOn (conf : Conf) (workers : ℕ) (p q : Bearer) (wishes : List Wi
       → all_legal workers (start_of conf) q.known.seen ≡ true
 
 -- Some first of what is wanted in these turns was asked.
-pub record Reaches (conf : Conf) (workers : ℕ) (p q : Bearer) (turns : List Reply → Turn)
+pub record Reaches (conf : Conf) (workers : ℕ) (p q : PassView) (turns : List Reply → Turn)
     : Type 0 where
   pub made : List Wish
   pub replies : List Reply
@@ -45,7 +45,7 @@ pub record Reaches (conf : Conf) (workers : ℕ) (p q : Bearer) (turns : List Re
   pub goes : GoesOn conf workers p q made replies
 
 -- All that is wanted in these turns was asked, and what is told of the replies is this.
-pub record Tells {A : Type 0} (conf : Conf) (workers : ℕ) (p q : Bearer)
+pub record Tells {A : Type 0} (conf : Conf) (workers : ℕ) (p q : PassView)
     (turns : List Reply → Turn) (told : List Reply → A) (a : A) : Type 0 where
   pub asked : Reaches conf workers p q turns
   pub over : turns asked.replies ≡ Over []

@@ -37,14 +37,14 @@ use shared_cache::Shared;
 use std::alloc::{AllocError, Global};
 use std::sync::Wait;
 
-// Plays a call, and prints what it answers. `number` is that of the call in its script, and
+// Plays a call, and prints what it answers. `index` is that of the call in its script, and
 // `search` is one for its pattern.
 pub(crate) fn play_call<N: TableName, G: Gate, R: Wait>(
     rt: &R,
     alloc: Global,
     shared: &Shared<N>,
     gate: &G,
-    number: u32,
+    index: u32,
     slots: u32,
     pass: Pass,
     call: &Call,
@@ -83,7 +83,7 @@ pub(crate) fn play_call<N: TableName, G: Gate, R: Wait>(
             t,
             out,
         ),
-        Call::FetchOne(key) => fetch_text(rt, alloc, shared, gate, number, pass, key, t, out),
+        Call::FetchOne(key) => fetch_text(rt, alloc, shared, gate, index, pass, key, t, out),
         Call::FetchMany(keys) => {
             let count = keys.len();
             prove!(count <= u32::MAX);
@@ -92,7 +92,7 @@ pub(crate) fn play_call<N: TableName, G: Gate, R: Wait>(
                 alloc,
                 shared,
                 gate,
-                number,
+                index,
                 pass,
                 keys.as_slice(),
                 t,
@@ -121,10 +121,10 @@ pub(crate) fn play_call<N: TableName, G: Gate, R: Wait>(
             play_told(rt, alloc, shared, pass, call, t, out)
         }
         Call::Walk { .. } | Call::WalkDelete { .. } | Call::Totals { .. } => play_searching(
-            rt, alloc, shared, gate, number, slots, pass, call, search, t, out,
+            rt, alloc, shared, gate, index, slots, pass, call, search, t, out,
         ),
         Call::Pool(call) => play_pool(
-            rt, alloc, shared, gate, number, slots, pass, call, search, t, out,
+            rt, alloc, shared, gate, index, slots, pass, call, search, t, out,
         ),
     }
 }
@@ -219,7 +219,7 @@ fn play_told<N: TableName, R: Wait>(
     }
 }
 
-// Plays a call of an iterator, and prints what it answers. `number` is that of the call in its
+// Plays a call of an iterator, and prints what it answers. `index` is that of the call in its
 // script, and `search` is one for its pattern.
 #[inline(never)]
 fn play_searching<N: TableName, G: Gate, R: Wait>(
@@ -227,7 +227,7 @@ fn play_searching<N: TableName, G: Gate, R: Wait>(
     alloc: Global,
     shared: &Shared<N>,
     gate: &G,
-    number: u32,
+    index: u32,
     slots: u32,
     pass: Pass,
     call: &Call,
@@ -256,14 +256,14 @@ fn play_searching<N: TableName, G: Gate, R: Wait>(
             ..
         } => match list {
             List::Active => walk_active(
-                rt, alloc, shared, gate, number, slots, pass, search, *size, *fields, t, out,
+                rt, alloc, shared, gate, index, slots, pass, search, *size, *fields, t, out,
             ),
             List::Deleted => walk_deleted(
-                rt, alloc, shared, gate, number, pass, search, *size, *fields, t, out,
+                rt, alloc, shared, gate, index, pass, search, *size, *fields, t, out,
             ),
         },
         Call::WalkDelete { size, .. } => delete_found(
-            rt, alloc, shared, gate, number, slots, pass, search, *size, t, out,
+            rt, alloc, shared, gate, index, slots, pass, search, *size, t, out,
         ),
         Call::Totals { list, .. } => {
             let (pass, sums) = totals(rt, alloc, shared, pass, search, *list, t);
@@ -318,7 +318,7 @@ fn fetch_all<N: TableName, G: Gate, R: Wait>(
     alloc: Global,
     shared: &Shared<N>,
     gate: &G,
-    number: u32,
+    index: u32,
     pass: Pass,
     keys: &[Bytes],
     t: u64,
@@ -337,7 +337,7 @@ fn fetch_all<N: TableName, G: Gate, R: Wait>(
     let mut held = pass;
     let mut values = Notes::new(alloc);
     for key in keys {
-        let (next, found) = fetch(rt, alloc, shared, gate, number, held, key, t);
+        let (next, found) = fetch(rt, alloc, shared, gate, index, held, key, t);
         held = next;
         if let Err(e) = note_value(&mut values, key, found) {
             return (held, Err(e));

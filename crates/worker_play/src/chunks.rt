@@ -16,13 +16,13 @@ use std::alloc::{AllocError, Global};
 use std::sync::Wait;
 
 // One step of an iterator over a list of rows, and then the gate. There was no event where memory
-// is missing. `number` is that of the call in its script.
+// is missing. `index` is that of the call in its script.
 pub(crate) fn chunk<N: TableName, G: Gate, R: Wait>(
     rt: &R,
     alloc: Global,
     shared: &Shared<N>,
     gate: &G,
-    number: u32,
+    index: u32,
     pass: Pass,
     search: &mut Search,
     from: u32,
@@ -35,7 +35,7 @@ pub(crate) fn chunk<N: TableName, G: Gate, R: Wait>(
     requires whole { KnowsOwnEvents pass }
     requires from { from ≤ N.conf.slots }
     requires size { 0 < size }
-    ensures told { IfOk result.1 (λ chunk. GoesOn N.conf (length N.budgets) pass result.0
+    ensures event { IfOk result.1 (λ chunk. GoesOn N.conf (length N.budgets) pass result.0
         (wish t (request.Chunk search.old from size list fields) ∷ [])
         (reply.Chunk chunk ∷ [])) }
     ensures same { OnErr result.1 (result.0 ≡ pass) }
@@ -44,7 +44,7 @@ pub(crate) fn chunk<N: TableName, G: Gate, R: Wait>(
     one_event_own();
     let (pass, made) = shared.chunk(rt, alloc, pass, search, from, size, list, fields, t);
     if made.is_ok() {
-        gate.reached(pass.worker(), Point::Chunk(number));
+        gate.reached(pass.worker(), Point::Chunk(index));
     }
     (pass, made)
 }
@@ -56,7 +56,7 @@ pub(crate) fn chunk_delete<N: TableName, G: Gate, R: Wait>(
     alloc: Global,
     shared: &Shared<N>,
     gate: &G,
-    number: u32,
+    index: u32,
     pass: Pass,
     search: &mut Search,
     from: u32,
@@ -75,7 +75,7 @@ pub(crate) fn chunk_delete<N: TableName, G: Gate, R: Wait>(
     one_event_own();
     let (pass, deleted) = shared.chunk_delete(rt, alloc, pass, search, from, size, t);
     if deleted.is_ok() {
-        gate.reached(pass.worker(), Point::Chunk(number));
+        gate.reached(pass.worker(), Point::Chunk(index));
     }
     (pass, deleted)
 }
@@ -93,7 +93,7 @@ pub(crate) fn totals<N: TableName, R: Wait>(
 ) -> (Pass, Result<(u64, u64, u64), AllocError>)
     requires pass { MayAsk N.table 2 pass }
     requires whole { KnowsOwnEvents pass }
-    ensures told { IfOk result.1 (λ r. GoesOn N.conf (length N.budgets) pass result.0
+    ensures event { IfOk result.1 (λ r. GoesOn N.conf (length N.budgets) pass result.0
         (wish t (request.Totals search.old list) ∷ []) (reply.Totals r.0 r.1 r.2 ∷ [])) }
     ensures same { OnErr result.1 (result.0 ≡ pass) }
     ensures search { search.new ≡ search.old }

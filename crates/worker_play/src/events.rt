@@ -153,7 +153,7 @@ pub(crate) fn key_info<N: TableName, R: Wait>(
 ) -> (Pass, Result<Option<Graph>, AllocError>)
     requires pass { MayAsk N.table 2 pass }
     requires whole { KnowsOwnEvents pass }
-    ensures told { IfOk result.1 (λ info. GoesOn N.conf (length N.budgets) pass result.0
+    ensures event { IfOk result.1 (λ info. GoesOn N.conf (length N.budgets) pass result.0
         (wish t (request.KeyInfo key.now) ∷ []) (info_reply info ∷ [])) }
     ensures same { OnErr result.1 (result.0 ≡ pass) }
 {
@@ -171,7 +171,7 @@ pub(crate) fn cache_info<N: TableName, R: Wait>(
 ) -> (Pass, Result<Graph, AllocError>)
     requires pass { MayAsk N.table 2 pass }
     requires whole { KnowsOwnEvents pass }
-    ensures told { IfOk result.1 (λ info. GoesOn N.conf (length N.budgets) pass result.0
+    ensures event { IfOk result.1 (λ info. GoesOn N.conf (length N.budgets) pass result.0
         (wish 0 (request.CacheInfo limited) ∷ []) (Info info ∷ [])) }
     ensures same { OnErr result.1 (result.0 ≡ pass) }
 {
@@ -189,7 +189,7 @@ pub(crate) fn sma_info<N: TableName, R: Wait>(
 ) -> (Pass, Result<Graph, AllocError>)
     requires pass { MayAsk N.table 2 pass }
     requires whole { KnowsOwnEvents pass }
-    ensures told { IfOk result.1 (λ info. GoesOn N.conf (length N.budgets) pass result.0
+    ensures event { IfOk result.1 (λ info. GoesOn N.conf (length N.budgets) pass result.0
         (wish 0 (request.SmaInfo limited) ∷ []) (Info info ∷ [])) }
     ensures same { OnErr result.1 (result.0 ≡ pass) }
 {
@@ -209,13 +209,13 @@ pub(crate) fn clear<N: TableName, R: Wait>(rt: &R, shared: &Shared<N>, pass: Pas
 }
 
 // The value of a key, which is copied without the lock. The fetch stands where memory is missing
-// for the copy. `number` is that of the call in its script.
+// for the copy. `index` is that of the call in its script.
 pub(crate) fn fetch<N: TableName, G: Gate, R: Wait>(
     rt: &R,
     alloc: Global,
     shared: &Shared<N>,
     gate: &G,
-    number: u32,
+    index: u32,
     pass: Pass,
     key: &Bytes,
     t: u64,
@@ -235,7 +235,7 @@ pub(crate) fn fetch<N: TableName, G: Gate, R: Wait>(
             (pass, some_of(value))
         }
         Pinned::Hit(copying) => {
-            gate.reached(worker, Point::Pinned(number));
+            gate.reached(worker, Point::Pinned(index));
             let (pass, value) = shared.copy_out(alloc, copying);
             (pass, some_of(value))
         }
@@ -251,14 +251,14 @@ fn some_of(value: Result<Graph, AllocError>) -> Result<Option<Graph>, AllocError
 }
 
 // The value of a key, printed as it is copied without the lock, and that it was there, or that it
-// was not. The fetch stands where memory is missing for the text. `number` is that of the call in
+// was not. The fetch stands where memory is missing for the text. `index` is that of the call in
 // its script.
 pub(crate) fn fetch_text<N: TableName, G: Gate, R: Wait>(
     rt: &R,
     alloc: Global,
     shared: &Shared<N>,
     gate: &G,
-    number: u32,
+    index: u32,
     pass: Pass,
     key: &Bytes,
     t: u64,
@@ -277,7 +277,7 @@ pub(crate) fn fetch_text<N: TableName, G: Gate, R: Wait>(
         Pinned::Miss(pass) => (pass, write_fetched(out, None)),
         Pinned::Scalar(pass, scalar) => (pass, write_scalar(out, scalar)),
         Pinned::Hit(copying) => {
-            gate.reached(worker, Point::Pinned(number));
+            gate.reached(worker, Point::Pinned(index));
             let (pass, copied) = shared.copy_text(alloc, copying, out);
             (pass, write_there(out, copied))
         }

@@ -31,7 +31,7 @@ use simple_pool::{POOL_STEP, PoolAsk, PoolCall, pool_key};
 use std::alloc::{AllocError, Global};
 use std::sync::Wait;
 
-// Plays a call on a pool, and prints what it answers. `number` is that of the call in its script,
+// Plays a call on a pool, and prints what it answers. `index` is that of the call in its script,
 // and `search` is one for its pattern.
 #[inline(never)]
 pub(crate) fn play_pool<N: TableName, G: Gate, R: Wait>(
@@ -39,7 +39,7 @@ pub(crate) fn play_pool<N: TableName, G: Gate, R: Wait>(
     alloc: Global,
     shared: &Shared<N>,
     gate: &G,
-    number: u32,
+    index: u32,
     slots: u32,
     pass: Pass,
     call: &PoolCall,
@@ -60,9 +60,9 @@ pub(crate) fn play_pool<N: TableName, G: Gate, R: Wait>(
         (λ replies. out.old ++ pool_text call.now.ask replies) out.new) }
 {
     match own_key(alloc, call) {
-        Ok(Some(own)) => play_on_key(rt, alloc, shared, gate, number, pass, call, &own, t, out),
+        Ok(Some(own)) => play_on_key(rt, alloc, shared, gate, index, pass, call, &own, t, out),
         Ok(None) => play_on_keys(
-            rt, alloc, shared, gate, number, slots, pass, call, search, t, out,
+            rt, alloc, shared, gate, index, slots, pass, call, search, t, out,
         ),
         Err(e) => (pass, Err(e)),
     }
@@ -92,7 +92,7 @@ fn play_on_key<N: TableName, G: Gate, R: Wait>(
     alloc: Global,
     shared: &Shared<N>,
     gate: &G,
-    number: u32,
+    index: u32,
     pass: Pass,
     call: &PoolCall,
     own: &Bytes,
@@ -111,7 +111,7 @@ fn play_on_key<N: TableName, G: Gate, R: Wait>(
 {
     match &call.ask {
         PoolAsk::Get(_, default) => {
-            let (pass, found) = fetch(rt, alloc, shared, gate, number, pass, own, t);
+            let (pass, found) = fetch(rt, alloc, shared, gate, index, pass, own, t);
             match found {
                 Ok(found) => (pass, write_gave(out, found.as_ref().unwrap_or(default))),
                 Err(e) => (pass, Err(e)),
@@ -143,7 +143,7 @@ fn play_on_keys<N: TableName, G: Gate, R: Wait>(
     alloc: Global,
     shared: &Shared<N>,
     gate: &G,
-    number: u32,
+    index: u32,
     slots: u32,
     pass: Pass,
     call: &PoolCall,
@@ -167,7 +167,7 @@ fn play_on_keys<N: TableName, G: Gate, R: Wait>(
     let pool = &call.pool;
     match &call.ask {
         PoolAsk::Clear => delete_found(
-            rt, alloc, shared, gate, number, slots, pass, search, POOL_STEP, t, out,
+            rt, alloc, shared, gate, index, slots, pass, search, POOL_STEP, t, out,
         ),
         PoolAsk::GetMany(keys, default) => {
             let count = keys.len();
@@ -177,7 +177,7 @@ fn play_on_keys<N: TableName, G: Gate, R: Wait>(
                 alloc,
                 shared,
                 gate,
-                number,
+                index,
                 pass,
                 pool,
                 keys.as_slice(),
@@ -262,7 +262,7 @@ fn get_all<N: TableName, G: Gate, R: Wait>(
     alloc: Global,
     shared: &Shared<N>,
     gate: &G,
-    number: u32,
+    index: u32,
     pass: Pass,
     pool: &Bytes,
     keys: &[Bytes],
@@ -289,7 +289,7 @@ fn get_all<N: TableName, G: Gate, R: Wait>(
             Ok(own) => own,
             Err(e) => return (held, Err(e)),
         };
-        let (next, found) = fetch(rt, alloc, shared, gate, number, held, &own, t);
+        let (next, found) = fetch(rt, alloc, shared, gate, index, held, &own, t);
         held = next;
         if let Err(e) = note_answer(&mut answers, key, found, default) {
             return (held, Err(e));

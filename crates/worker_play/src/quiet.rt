@@ -47,11 +47,11 @@ fn make_steps<N: TableName, M: Maker, G: Gate, R: Wait>(
 {
     let mut out = ByteOut::new(alloc);
     let mut held = pass;
-    for number in 0..script.len() {
-        let step = script.at(number);
+    for index in 0..script.len() {
+        let step = script.at(index);
         let t = step.moment(clock);
         let (next, played) = play_step(
-            rt, alloc, shared, maker, gate, number, slots, held, &step.call, t, &mut out,
+            rt, alloc, shared, maker, gate, index, slots, held, &step.call, t, &mut out,
         );
         held = next;
         out.cut(0);

@@ -5,7 +5,7 @@ ghost use Rattle.php_graph.specs.Building.{nothing_drafted, item_fits, pushed, w
 ghost use Rattle.php_graph.specs.declared.item.Wants.TheVariants.{Value, Done};
 ghost use Rattle.apcu_model.specs.declared.request.Reply.TheVariants.{Found};
 ghost use Rattle.reply_text.specs.Replies.{fetched_one};
-ghost use Rattle.shared_cache.specs.Pinned.{graph_of};
+ghost use Rattle.shared_cache.specs.PinnedFetches.{graph_of};
 
 use cache_core::Scalar;
 use notation::ByteOut;

@@ -113,7 +113,7 @@ fn has_bytes(value: &Graph) -> bool {
 
 impl Model for WordCache {
     ghost use Rattle.apcu_model.specs.Cache.{Cache};
-    ghost use Rattle.cache_core.specs.Caching.{cache_of, CacheStands};
+    ghost use Rattle.cache_core.specs.CoreCache.{cache_of, CacheStands};
 
     ghost Value = { Cache };
 
@@ -170,7 +170,7 @@ impl WordCache {
     }
 
     // Whether something is told of the row.
-    #[tactic(auto, using(crate::proofs::Told::still_stands))]
+    #[tactic(auto, using(crate::proofs::UnchangedCache::still_stands))]
     fn tell_key(&mut self, alloc: Global, key: &[u8; 8], t: u64) -> bool {
         match key_info(alloc, &mut self.core, &mut self.words, key, t) {
             Ok(told) => told.is_some(),
@@ -204,7 +204,7 @@ impl WordCache {
     }
 
     // Tells of the rows; how many places the value has.
-    #[tactic(auto, using(crate::proofs::Told::still_stands))]
+    #[tactic(auto, using(crate::proofs::UnchangedCache::still_stands))]
     fn tell_rows(&mut self, alloc: Global, limited: bool) -> Result<u32, AllocError> {
         match cache_info(alloc, &mut self.core, &mut self.words, limited) {
             Ok(value) => Ok(value.places()),
@@ -213,7 +213,7 @@ impl WordCache {
     }
 
     // Tells of the words; how many places the value has.
-    #[tactic(auto, using(crate::proofs::Told::still_stands))]
+    #[tactic(auto, using(crate::proofs::UnchangedCache::still_stands))]
     fn tell_words(&mut self, alloc: Global, limited: bool) -> Result<u32, AllocError> {
         match sma_info(alloc, &mut self.core, &mut self.words, limited) {
             Ok(value) => Ok(value.places()),

@@ -4,7 +4,7 @@ ghost use Rattle.std.specs.Prelude.{◌≡◌, ◌<◌, [], ◌∷◌, length, I
 ghost use Rattle.php_graph.specs.Size.{image_length};
 ghost use Rattle.value_image.specs.Image.{IsImageOf};
 ghost use Rattle.pin_table.specs.Pins.{MayPin, content_of};
-ghost use Rattle.pin_table.specs.Lists.{fresh_pass};
+ghost use Rattle.pin_table.specs.Lists.{first_pass};
 
 use crate::image::often::MOST_WORDS;
 use apcu_model::Ask;
@@ -46,8 +46,8 @@ fn block_of(alloc: Global, g: &Graph, spare: u32) -> Option<VecWords>
 
 // The pass of the one worker.
 fn only_pass(table: &PinTable, budgets: &[u32], passes: &mut Passes) -> Option<Pass>
-    requires { passes.old ≡ fresh_pass table.now budgets.now 0 ∷ [] }
-    ensures { IfSome result (λ p. p ≡ fresh_pass table.now budgets.now 0) }
+    requires { passes.old ≡ first_pass table.now budgets.now 0 ∷ [] }
+    ensures { IfSome result (λ p. p ≡ first_pass table.now budgets.now 0) }
 {
     passes.pop()
 }

@@ -2,7 +2,7 @@ ghost use Rattle.std.specs.Prelude.{◌≡◌, ℕ, ◌<◌, ◌≤◌, false, l
 ghost use Rattle.seg_words.specs.Windows.{is_named};
 ghost use Rattle.sma_blocks.specs.Live.{live_blocks};
 ghost use Rattle.sma_blocks.specs.Ready.{IsReady};
-ghost use Rattle.apcu_bench.specs.Listed.{AreListed};
+ghost use Rattle.apcu_bench.specs.LivePlaces.{AreListed};
 
 use super::fill::BLOCK;
 use crate::common::{drawn, since};

@@ -4,7 +4,7 @@ ghost use Rattle.seg_words.specs.declared.gaps.Extent.{Extent};
 ghost use Rattle.seg_words.specs.Windows.{is_named};
 ghost use Rattle.sma_blocks.specs.Live.{live_blocks};
 ghost use Rattle.sma_blocks.specs.Ready.{IsReady};
-ghost use Rattle.apcu_bench.specs.Listed.{AreLive, AreListed};
+ghost use Rattle.apcu_bench.specs.LivePlaces.{AreLive, AreListed};
 
 use crate::common::since;
 use seg_words::Segment;

@@ -1,6 +1,6 @@
 use Rattle.std.proofs.Common.{◌≡◌, ℕ, List, true, sym, subst, arith}
 use Rattle.sma_blocks.specs.Live.{live_blocks}
-use Rattle.apcu_bench.specs.Listed.{AreLive}
+use Rattle.apcu_bench.specs.LivePlaces.{AreLive}
 use Rattle.apcu_bench.proofs.sma.keep_over.Goals as goal
 
 pub time_keep-requires-clause-live : goal.time_keep-requires-clause-live

@@ -2,10 +2,10 @@ use Rattle.std.proofs.Common.{◌∙◌, ◌++◌, ◌∷◌, [], List, drop, ap
 use Rattle.apcu_model.specs.declared.items.ItemRow.{ItemRow}
 use Rattle.apcu_model.specs.Cache.{Row}
 use Rattle.entry_slots.specs.Standing.{entries}
-use Rattle.entry_slots.specs.Passing.{removed_here, removed_end}
-use Rattle.apcu_iter.specs.Choosing.{Choice, chosen_items}
-use Rattle.apcu_iter.proofs.Fewness.{are_few, removed_over}
-use Rattle.apcu_iter.proofs.Gathering.{goes_on, goes_out, items_joined}
+use Rattle.entry_slots.specs.RowWalks.{removed_here, removed_end}
+use Rattle.apcu_iter.specs.Choices.{Choice, chosen_items}
+use Rattle.apcu_iter.proofs.RowBounds.{are_few, removed_over}
+use Rattle.apcu_iter.proofs.RowFolds.{goes_on, goes_out, items_joined}
 use Rattle.apcu_iter.proofs.chains.list_removed.Goals as goal
 
 pub add_item-requires-clause-there : goal.add_item-requires-clause-there

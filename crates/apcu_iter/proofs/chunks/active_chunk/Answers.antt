@@ -4,11 +4,11 @@ use Rattle.apcu_model.specs.Chunks.{item_of, items_between}
 use Rattle.apcu_model.specs.declared.items.ItemRow.{ItemRow}
 use Rattle.entry_slots.specs.Entries.{chain_of}
 use Rattle.entry_slots.specs.Standing.{entries}
-use Rattle.apcu_iter.specs.Choosing.{Choice, chosen_items, uncounted}
-use Rattle.apcu_iter.proofs.Chunking.{slot_more, between_few, chunk_made}
-use Rattle.apcu_iter.proofs.Fewness.{are_few}
-use Rattle.apcu_iter.proofs.Stepping.{step_starts, step_on, step_ends, none_between}
-use Rattle.apcu_iter.proofs.Passing.{stand_kept, kept_on}
+use Rattle.apcu_iter.specs.Choices.{Choice, chosen_items, uncounted}
+use Rattle.apcu_iter.proofs.ChunkItems.{slot_more, between_few, chunk_made}
+use Rattle.apcu_iter.proofs.RowBounds.{are_few}
+use Rattle.apcu_iter.proofs.ChunkEnds.{step_starts, step_on, step_ends, none_between}
+use Rattle.apcu_iter.proofs.ReadOnlyCalls.{stand_kept, kept_on}
 use Rattle.apcu_iter.proofs.chunks.active_chunk.Goals as goal
 
 pub loop-slot-init : goal.loop-slot-init

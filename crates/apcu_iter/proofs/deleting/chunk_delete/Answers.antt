@@ -8,16 +8,16 @@ use Rattle.entry_slots.specs.declared.slots.EntrySlots.{EntrySlots}
 use Rattle.entry_slots.specs.Entries.{Entries}
 use Rattle.entry_slots.specs.Facts.{IsSound}
 use Rattle.entry_slots.specs.Standing.{entries}
-use Rattle.ttl_expunge.specs.Held.{Drops}
+use Rattle.ttl_expunge.specs.ProbedRows.{Drops}
 use Rattle.ttl_expunge.specs.Steps.{MayDropRows, DropsRows}
-use Rattle.ttl_expunge.proofs.Steps.{may_kept}
-use Rattle.apcu_iter.specs.Choosing.{Choice, uncounted}
-use Rattle.apcu_iter.proofs.Gone.{rows_of_chunk, rows_noted, drops_of_core, core_dropped, cache_dropped}
+use Rattle.ttl_expunge.proofs.EventSteps.{may_kept}
+use Rattle.apcu_iter.specs.Choices.{Choice, uncounted}
+use Rattle.apcu_iter.proofs.DroppedRows.{rows_of_chunk, rows_collected, drops_of_core, core_dropped, cache_dropped}
 use Rattle.apcu_iter.proofs.deleting.chunk_delete.Goals as goal
 use Rattle.apcu_iter.proofs.deleting.chunk_delete.Given as given
 
-pub note_chunk-requires-clause-list : goal.note_chunk-requires-clause-list
-note_chunk-requires-clause-list g c = ap (λ (x : Choice). x.list) c.in_ok-test.ensures
+pub collect_chunk-requires-clause-list : goal.collect_chunk-requires-clause-list
+collect_chunk-requires-clause-list g c = ap (λ (x : Choice). x.list) c.in_ok-test.ensures
 
 pub drop_rows-requires-clause-ready : goal.drop_rows-requires-clause-ready
 drop_rows-requires-clause-ready g c =
@@ -27,14 +27,14 @@ drop_rows-requires-clause-ready g c =
 pub drop_rows-requires-clause-rows : goal.drop_rows-requires-clause-rows
 drop_rows-requires-clause-rows g c = (
   _,
-  rows_noted c.standing_laws.ensures c.args.core.now c.slots-slots.result.now (g.S.WordsIn.words c.args.seg.now) (g.S.WordsIn.aside c.args.seg.now) c.in_ok-test.test.pattern c.in_ok-test.test.t c.args.from c.args.size
+  rows_collected c.standing_laws.ensures c.args.core.now c.slots-slots.result.now (g.S.WordsIn.words c.args.seg.now) (g.S.WordsIn.aside c.args.seg.now) c.in_ok-test.test.pattern c.in_ok-test.test.t c.args.from c.args.size
       c.deref.result.now c.slots-slots.ensures.value c.requires.ready.stand.stand c.requires.ready.stand.whole c.requires.from (c.deref.ensures.value ∙ c.in_ok-next.ensures.places),
 )
 
 -- the rows that the step has were dropped
-left : (g : given.Over) (c : goal.Joined-test-2 g) → DropsRows g.S.WordsIn c.slots-slots.result.now c.drop_rows.new.slots c.note_chunk.new.seg c.drop_rows.new.seg c.args.t
+left : (g : given.Over) (c : goal.Joined-test-2 g) → DropsRows g.S.WordsIn c.slots-slots.result.now c.drop_rows.new.slots c.collect_chunk.new.seg c.drop_rows.new.seg c.args.t
     (chunk_rows c.in_ok-test.test.pattern c.in_ok-test.test.t (uncounted (entries c.slots-slots.result.now)) c.args.from c.args.size)
-left g c = c.drop_rows.ensures _ (rows_noted c.standing_laws.ensures c.args.core.now c.slots-slots.result.now (g.S.WordsIn.words c.args.seg.now) (g.S.WordsIn.aside c.args.seg.now) c.in_ok-test.test.pattern c.in_ok-test.test.t c.args.from c.args.size
+left g c = c.drop_rows.ensures _ (rows_collected c.standing_laws.ensures c.args.core.now c.slots-slots.result.now (g.S.WordsIn.words c.args.seg.now) (g.S.WordsIn.aside c.args.seg.now) c.in_ok-test.test.pattern c.in_ok-test.test.t c.args.from c.args.size
     c.deref.result.now c.slots-slots.ensures.value c.requires.ready.stand.stand c.requires.ready.stand.whole c.requires.from (c.deref.ensures.value ∙ c.in_ok-next.ensures.places))
 
 -- they are rows of the core
@@ -86,5 +86,5 @@ returns-clause-does g c =
       same = tt;
     }
 
-pub note_chunk-requires-clause-from : goal.note_chunk-requires-clause-from
-note_chunk-requires-clause-from g c = grind (arith, common_steps)
+pub collect_chunk-requires-clause-from : goal.collect_chunk-requires-clause-from
+collect_chunk-requires-clause-from g c = grind (arith, common_steps)

@@ -1,7 +1,7 @@
 use Rattle.std.proofs.Common.{◌∙◌, ◌+◌, List, ℕ, sym, arith}
 use Rattle.seg_words.specs.Windows.{Aside}
 use Rattle.entry_slots.specs.Standing.{entries}
-use Rattle.apcu_iter.proofs.Choosing.{left_out, by_key, by_none}
+use Rattle.apcu_iter.proofs.ChosenRows.{left_out, by_key, by_none}
 use Rattle.apcu_iter.proofs.entry.head_at.Goals as goal
 
 pub returns-then-leaves_out-clause-head : goal.returns-then-leaves_out-clause-head

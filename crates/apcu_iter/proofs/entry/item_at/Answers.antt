@@ -6,9 +6,9 @@ use Rattle.value_image.specs.Image.{IsImageOf}
 use Rattle.apcu_model.specs.Chunks.{item_of}
 use Rattle.apcu_model.specs.Infos.{word_bytes}
 use Rattle.entry_slots.specs.Entries.{listed}
-use Rattle.entry_slots.specs.Having.{place_from}
+use Rattle.entry_slots.specs.RowPlaces.{place_from}
 use Rattle.entry_slots.specs.Standing.{entries}
-use Rattle.apcu_iter.proofs.Choosing.{left_out, by_key}
+use Rattle.apcu_iter.proofs.ChosenRows.{left_out, by_key}
 use Rattle.apcu_iter.proofs.entry.item_at.Goals as goal
 
 pub returns-then-leaves_out-clause-item : goal.returns-then-leaves_out-clause-item

@@ -1,6 +1,6 @@
 use Rattle.std.proofs.Common.{◌∙◌, ap, sym, Some, None, Bool}
 use Rattle.std.specs.Prelude.{if◌then◌else◌}
-use Rattle.apcu_iter.proofs.Choosing.{value_told, value_left}
+use Rattle.apcu_iter.proofs.ChosenRows.{value_told, value_left}
 use Rattle.apcu_iter.proofs.entry.read_value.Goals as goal
 
 pub returns-then-fields-eq0-clause-value : goal.returns-then-fields-eq0-clause-value

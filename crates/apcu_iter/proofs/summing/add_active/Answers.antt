@@ -1,9 +1,9 @@
 use Rattle.std.proofs.Common.{◌≡◌, ◌∙◌, ◌<◌, filter, ap, refl, arith}
 use Rattle.entry_slots.specs.Entries.{chain_of}
 use Rattle.entry_slots.specs.Standing.{entries}
-use Rattle.apcu_iter.specs.Adding.{with_rows, no_sums}
-use Rattle.apcu_iter.specs.Choosing.{Choice, is_chosen}
-use Rattle.apcu_iter.proofs.Gathering.{slots_before, one_slot_more, all_slots_sum}
+use Rattle.apcu_iter.specs.RowSums.{with_rows, no_sums}
+use Rattle.apcu_iter.specs.Choices.{Choice, is_chosen}
+use Rattle.apcu_iter.proofs.RowFolds.{slots_before, one_slot_more, all_slots_sum}
 use Rattle.apcu_iter.proofs.summing.add_active.Goals as goal
 
 pub loop-slot-init : goal.loop-slot-init

@@ -1,12 +1,12 @@
 use Rattle.std.proofs.Common.{◌∙◌, ◌∷◌, [], drop, filter, ap, sym, subst, refl}
 use Rattle.std.specs.Prelude.{if◌then◌else◌}
 use Rattle.entry_slots.specs.Standing.{entries}
-use Rattle.entry_slots.specs.Passing.{removed_here, removed_end}
-use Rattle.apcu_iter.specs.Adding.{with_rows}
-use Rattle.apcu_iter.specs.Choosing.{Choice, is_chosen}
+use Rattle.entry_slots.specs.RowWalks.{removed_here, removed_end}
+use Rattle.apcu_iter.specs.RowSums.{with_rows}
+use Rattle.apcu_iter.specs.Choices.{Choice, is_chosen}
 use Rattle.apcu_iter.specs.declared.summing.Sums.{Sums}
-use Rattle.apcu_iter.proofs.Gathering.{AreSmall, adds_one, adds_on, adds_out, small_sums, small_none}
-use Rattle.apcu_iter.proofs.Fewness.{are_few, removed_over}
+use Rattle.apcu_iter.proofs.RowFolds.{AreSmall, adds_one, adds_on, adds_out, small_sums, small_none}
+use Rattle.apcu_iter.proofs.RowBounds.{are_few, removed_over}
 use Rattle.apcu_iter.proofs.summing.add_removed.Goals as goal
 
 pub add_row-requires-clause-there : goal.add_row-requires-clause-there

@@ -2,9 +2,9 @@ use Rattle.std.proofs.Common.{◌≡◌, drop, filter}
 use Rattle.seg_words.specs.Kept.{Kept}
 use Rattle.entry_slots.specs.Lists.{first_place}
 use Rattle.entry_slots.specs.Standing.{entries}
-use Rattle.apcu_iter.specs.Adding.{with_rows, no_sums}
-use Rattle.apcu_iter.specs.Choosing.{is_chosen}
-use Rattle.apcu_iter.proofs.Gathering.{AreSmall}
+use Rattle.apcu_iter.specs.RowSums.{with_rows, no_sums}
+use Rattle.apcu_iter.specs.Choices.{is_chosen}
+use Rattle.apcu_iter.proofs.RowFolds.{AreSmall}
 use Rattle.apcu_iter.proofs.summing.add_removed.Given as goal
 
 abbrev pub invariant-loop-passed : goal.invariant-loop-passed

@@ -1,8 +1,8 @@
 use Rattle.std.proofs.Common.{sym, subst, arith}
 use Rattle.entry_slots.specs.declared.slots.EntrySlots.{EntrySlots}
 use Rattle.entry_slots.specs.Standing.{entries}
-use Rattle.apcu_iter.proofs.Comes.{totals_are, totals_told}
-use Rattle.apcu_iter.proofs.Fewness.{AreFew, are_few}
+use Rattle.apcu_iter.proofs.RowTotals.{totals_are, totals_told}
+use Rattle.apcu_iter.proofs.RowBounds.{AreFew, are_few}
 use Rattle.apcu_iter.proofs.summing.totals.Goals as goal
 
 pub overflow_mul-result : goal.overflow_mul-result

@@ -1,7 +1,7 @@
 use Rattle.std.proofs.Common.{◌++◌, ap, ◌∙◌, map, filter}
 use Rattle.apcu_model.specs.Infos.{listed_of}
-use Rattle.apcu_model.specs.Walk.{is_in_slot}
-use Rattle.apcu_model.proofs.Listing.{slot_goes_on}
+use Rattle.apcu_model.specs.SlotOrder.{is_in_slot}
+use Rattle.apcu_model.proofs.RowsBySlot.{slot_goes_on}
 use Rattle.apcu_model.proofs.infos.list_rows.Goals as goal
 
 pub loop-slot-preserved : goal.loop-slot-preserved

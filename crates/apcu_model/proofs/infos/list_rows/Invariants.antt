@@ -1,7 +1,7 @@
 use Rattle.std.proofs.Common.{◌≡◌, ◌-◌, ◌++◌, map, filter}
 use Rattle.std.specs.List.{flat_map, range_with_len}
 use Rattle.apcu_model.specs.Infos.{listed_of}
-use Rattle.apcu_model.specs.Walk.{is_in_slot, in_slot_order}
+use Rattle.apcu_model.specs.SlotOrder.{is_in_slot, in_slot_order}
 use Rattle.apcu_model.proofs.infos.list_rows.Given as goal
 
 abbrev pub invariant-loop-slot : goal.invariant-loop-slot

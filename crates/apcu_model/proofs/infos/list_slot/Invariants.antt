@@ -1,6 +1,6 @@
 use Rattle.std.proofs.Common.{◌≡◌, ◌++◌, drop, map, filter}
 use Rattle.apcu_model.specs.Infos.{listed_of}
-use Rattle.apcu_model.specs.Walk.{is_in_slot}
+use Rattle.apcu_model.specs.SlotOrder.{is_in_slot}
 use Rattle.apcu_model.proofs.infos.list_slot.Given as goal
 
 abbrev pub invariant-loop-row : goal.invariant-loop-row

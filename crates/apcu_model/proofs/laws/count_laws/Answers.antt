@@ -1,4 +1,4 @@
-use Rattle.apcu_model.proofs.Counting as lemmas
+use Rattle.apcu_model.proofs.RoomCounts as lemmas
 use Rattle.apcu_model.proofs.laws.count_laws.Goals as goal
 
 pub returns : goal.returns

@@ -1,4 +1,4 @@
-use Rattle.apcu_model.proofs.Staying.{kept_after, sound_stage}
+use Rattle.apcu_model.proofs.CacheInvariants.{kept_after, sound_stage}
 use Rattle.apcu_model.proofs.laws.events_keep.Goals as goal
 
 pub returns : goal.returns

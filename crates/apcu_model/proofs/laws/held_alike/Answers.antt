@@ -1,4 +1,4 @@
-use Rattle.apcu_model.proofs.Held.{cache_alike, reply_alike, entered_alike}
+use Rattle.apcu_model.proofs.HeldPlaces.{cache_alike, reply_alike, entered_alike}
 use Rattle.apcu_model.proofs.laws.held_alike.Goals as goal
 
 pub returns : goal.returns

@@ -1,4 +1,4 @@
-use Rattle.apcu_model.proofs.Numbering.{below, later, one_row}
+use Rattle.apcu_model.proofs.RowNumbers.{below, later, one_row}
 use Rattle.apcu_model.proofs.laws.rows_keep_numbers.Goals as goal
 
 pub returns : goal.returns

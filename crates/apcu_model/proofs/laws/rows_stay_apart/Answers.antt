@@ -1,4 +1,4 @@
-use Rattle.apcu_model.proofs.Apart.{are_apart-filter, are_apart-map, are_apart-with_row}
+use Rattle.apcu_model.proofs.RowsApart.{are_apart-filter, are_apart-map, are_apart-with_row}
 use Rattle.apcu_model.proofs.laws.rows_stay_apart.Goals as goal
 
 pub returns : goal.returns

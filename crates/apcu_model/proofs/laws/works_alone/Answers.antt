@@ -1,6 +1,6 @@
 use Rattle.std.proofs.Common.{◌≡◌, true, sym, subst}
 use Rattle.apcu_model.specs.History.{is_legal_mask}
-use Rattle.apcu_model.proofs.Alone.{held_places-none, is_legal_mask-none, is_legal_mask-alone}
+use Rattle.apcu_model.proofs.ZeroMask.{held_places-none, is_legal_mask-none, is_legal_mask-alone}
 use Rattle.apcu_model.proofs.laws.works_alone.Goals as goal
 
 pub returns : goal.returns

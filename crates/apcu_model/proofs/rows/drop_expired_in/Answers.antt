@@ -1,7 +1,7 @@
 use Rattle.std.proofs.Common.{rules, ◌&&◌, not}
 use Rattle.std.proofs.lemmas.Fn.{filter_same}
 use Rattle.apcu_model.specs.Expiry.{is_expired}
-use Rattle.apcu_model.specs.Walk.{is_in_slot}
+use Rattle.apcu_model.specs.SlotOrder.{is_in_slot}
 use Rattle.apcu_model.proofs.rows.drop_expired_in.Goals as goal
 
 pub returns-clause-items : goal.returns-clause-items

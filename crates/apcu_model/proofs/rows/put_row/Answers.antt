@@ -1,6 +1,6 @@
 use Rattle.std.proofs.Common.{◌≡◌, ◌<◌, true, length, get_or, ap, ◌∙◌, subst}
 use Rattle.apcu_model.specs.Cache.{Row, has_key}
-use Rattle.apcu_model.proofs.Apart.{with_row-set}
+use Rattle.apcu_model.proofs.RowsApart.{with_row-set}
 use Rattle.apcu_model.proofs.rows.put_row.Goals as goal
 
 pub returns-in-Some-clause-items : goal.returns-in-Some-clause-items

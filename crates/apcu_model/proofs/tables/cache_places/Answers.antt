@@ -1,31 +1,31 @@
 use Rattle.std.proofs.Common.{◌≡◌, ◌+◌, ◌∷◌, [], List, ◌++◌, ap, arith, sym, subst, ◌∙◌, map, length, rules}
 use Rattle.std.proofs.lemmas.Grind.{common_steps}
 use Rattle.php_graph.specs.declared.kind.Kind.{Kind}
-use Rattle.apcu_model.specs.Infos.{told_row, told_list, told_values, told_counts, told_array, told_rows}
-use Rattle.apcu_model.specs.Telling.{IsTellable}
-use Rattle.apcu_model.proofs.Runs.{cache_told}
+use Rattle.apcu_model.specs.Infos.{info_row, info_list, info_values, info_counts, info_array, info_rows}
+use Rattle.apcu_model.specs.InfoGraphs.{IsTellable}
+use Rattle.apcu_model.proofs.ValueRuns.{cache_told}
 use Rattle.apcu_model.proofs.TableValues.{cache_tellable}
 use Rattle.apcu_model.proofs.tables.cache_places.Goals as goal
 
 all_told : (c : goal.In_ok-push_rows-2)
-    → c.push_rows-2.new.telling ≡ told_array (told_counts c.args.conf c.args.counts c.args.words ++ told_rows c.args.rows.items c.args.removed.items) 1
+    → c.push_rows-2.new.telling ≡ info_array (info_counts c.args.conf c.args.counts c.args.words ++ info_rows c.args.rows.items c.args.removed.items) 1
 all_told c =
     let many : c.len-2.result ≡ length c.args.rows.items = search rules in
-    let start = c.in_ok-push_counts.ensures ∙ ap (λ (t : List Kind). t ++ told_values 2 (told_counts c.args.conf c.args.counts c.args.words)) (c.new-telling.ensures ∙ ap (λ (k : Kind). k ∷ []) c.in_ok-first.ensures.kind) in
-    c.in_ok-push_rows-2.ensures.told
-    ∙ ap (λ (t : List Kind). t ++ told_list (map told_row c.args.removed.items) (length t + 1))
-    (c.in_ok-push_rows.ensures.told ∙ ap (λ (t : List Kind). t ++ told_list (map told_row c.args.rows.items) (length t + 1)) start)
+    let start = c.in_ok-push_counts.ensures ∙ ap (λ (t : List Kind). t ++ info_values 2 (info_counts c.args.conf c.args.counts c.args.words)) (c.new-telling.ensures ∙ ap (λ (k : Kind). k ∷ []) c.in_ok-first.ensures.kind) in
+    c.in_ok-push_rows-2.ensures.info
+    ∙ ap (λ (t : List Kind). t ++ info_list (map info_row c.args.removed.items) (length t + 1))
+    (c.in_ok-push_rows.ensures.info ∙ ap (λ (t : List Kind). t ++ info_list (map info_row c.args.rows.items) (length t + 1)) start)
     ∙ cache_told c.args.conf c.args.counts c.args.words c.len-2.result c.args.rows.items c.args.removed.items many
 
-pub returns-clause-told : goal.returns-clause-told
-returns-clause-told c = all_told c
+pub returns-clause-info : goal.returns-clause-info
+returns-clause-info c = all_told c
 
 pub returns-clause-tellable : goal.returns-clause-tellable
 returns-clause-tellable c =
     subst IsTellable (sym (all_told c)) (cache_tellable c.args.conf c.args.counts c.args.words c.args.rows.items c.args.removed.items c.in_ok-push_rows.ensures.keys c.in_ok-push_rows-2.ensures.keys c.in_ok-push_rows.ensures.few c.in_ok-push_rows-2.ensures.few)
 
-pub returns-then-len-clause-told : goal.returns-then-len-clause-told
-returns-then-len-clause-told c = grind (arith, common_steps)
+pub returns-then-len-clause-info : goal.returns-then-len-clause-info
+returns-then-len-clause-info c = grind (arith, common_steps)
 
 pub returns-then-len-clause-tellable : goal.returns-then-len-clause-tellable
 returns-then-len-clause-tellable c = grind (arith, common_steps)
@@ -51,8 +51,8 @@ array_of-requires-clause-short c = grind (arith, common_steps)
 pub array_of-requires-clause-room : goal.array_of-requires-clause-room
 array_of-requires-clause-room c = grind (arith, common_steps)
 
-pub returns-in_err-first-clause-told : goal.returns-in_err-first-clause-told
-returns-in_err-first-clause-told c = grind (arith, common_steps)
+pub returns-in_err-first-clause-info : goal.returns-in_err-first-clause-info
+returns-in_err-first-clause-info c = grind (arith, common_steps)
 
 pub returns-in_err-first-clause-tellable : goal.returns-in_err-first-clause-tellable
 returns-in_err-first-clause-tellable c = grind (arith, common_steps)
@@ -69,8 +69,8 @@ push_counts-requires c = grind (arith, common_steps)
 pub drop-telling-requires : goal.drop-telling-requires
 drop-telling-requires c = grind (arith, common_steps)
 
-pub returns-in_err-push_counts-clause-told : goal.returns-in_err-push_counts-clause-told
-returns-in_err-push_counts-clause-told c = grind (arith, common_steps)
+pub returns-in_err-push_counts-clause-info : goal.returns-in_err-push_counts-clause-info
+returns-in_err-push_counts-clause-info c = grind (arith, common_steps)
 
 pub returns-in_err-push_counts-clause-tellable : goal.returns-in_err-push_counts-clause-tellable
 returns-in_err-push_counts-clause-tellable c = grind (arith, common_steps)
@@ -81,8 +81,8 @@ push_rows-requires c = grind (arith, common_steps)
 pub drop-telling-requires-in_err-push_rows : goal.drop-telling-requires-in_err-push_rows
 drop-telling-requires-in_err-push_rows c = grind (arith, common_steps)
 
-pub returns-in_err-push_rows-clause-told : goal.returns-in_err-push_rows-clause-told
-returns-in_err-push_rows-clause-told c = grind (arith, common_steps)
+pub returns-in_err-push_rows-clause-info : goal.returns-in_err-push_rows-clause-info
+returns-in_err-push_rows-clause-info c = grind (arith, common_steps)
 
 pub returns-in_err-push_rows-clause-tellable : goal.returns-in_err-push_rows-clause-tellable
 returns-in_err-push_rows-clause-tellable c = grind (arith, common_steps)
@@ -93,8 +93,8 @@ push_rows-requires-2 c = grind (arith, common_steps)
 pub drop-telling-requires-in_err-push_rows-2 : goal.drop-telling-requires-in_err-push_rows-2
 drop-telling-requires-in_err-push_rows-2 c = grind (arith, common_steps)
 
-pub returns-in_err-push_rows-2-clause-told : goal.returns-in_err-push_rows-2-clause-told
-returns-in_err-push_rows-2-clause-told c = grind (arith, common_steps)
+pub returns-in_err-push_rows-2-clause-info : goal.returns-in_err-push_rows-2-clause-info
+returns-in_err-push_rows-2-clause-info c = grind (arith, common_steps)
 
 pub returns-in_err-push_rows-2-clause-tellable : goal.returns-in_err-push_rows-2-clause-tellable
 returns-in_err-push_rows-2-clause-tellable c = grind (arith, common_steps)

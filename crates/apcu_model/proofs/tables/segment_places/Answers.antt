@@ -1,14 +1,14 @@
 use Rattle.std.proofs.Common.{◌≡◌, ◌++◌, sym, subst}
-use Rattle.apcu_model.specs.Infos.{told_words, told_array, told_gaps}
-use Rattle.apcu_model.specs.Telling.{IsTellable}
-use Rattle.apcu_model.proofs.Runs.{gaps_told}
+use Rattle.apcu_model.specs.Infos.{info_words, info_array, info_gaps}
+use Rattle.apcu_model.specs.InfoGraphs.{IsTellable}
+use Rattle.apcu_model.proofs.ValueRuns.{gaps_told}
 use Rattle.apcu_model.proofs.TableValues.{gaps_tellable}
 use Rattle.apcu_model.proofs.tables.segment_places.Goals as goal
 
 all_told : (c : goal.In_ok-push_segments)
-    → c.push_segments.new.telling ≡ told_array (told_words c.args.conf c.args.free ++ told_gaps c.args.conf c.args.gaps.now) 1
+    → c.push_segments.new.telling ≡ info_array (info_words c.args.conf c.args.free ++ info_gaps c.args.conf c.args.gaps.now) 1
 all_told c =
-    rw (c.in_ok-push_segments.ensures.told, c.in_ok-push_numbers.ensures, c.new-telling.ensures, c.in_ok-first.ensures.kind, c.bytes_in.ensures, c.bytes_in-2.ensures, c.piece-piece.ensures, c.from.ensures)
+    rw (c.in_ok-push_segments.ensures.info, c.in_ok-push_numbers.ensures, c.new-telling.ensures, c.in_ok-first.ensures.kind, c.bytes_in.ensures, c.bytes_in-2.ensures, c.piece-piece.ensures, c.from.ensures)
     (gaps_told c.args.conf c.args.free c.args.gaps.now)
 
 pub returns-clause-tellable : goal.returns-clause-tellable

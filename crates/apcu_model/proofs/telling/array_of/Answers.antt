@@ -3,8 +3,8 @@ use Rattle.std.proofs.lemmas.Grind.{common_steps}
 use Rattle.std.proofs.Math.ListN.{drop_of_length-le}
 use Rattle.php_graph.specs.declared.kind.Kind.TheVariants as kinds
 use Rattle.php_graph.specs.Size.{cells_of}
-use Rattle.apcu_model.specs.Telling.{sized_members, name_cells}
-use Rattle.apcu_model.proofs.Laying.{array_cells}
+use Rattle.apcu_model.specs.InfoGraphs.{sized_members, name_cells}
+use Rattle.apcu_model.proofs.GraphLayout.{array_cells}
 use Rattle.apcu_model.proofs.telling.array_of.Goals as goal
 
 pub returns-clause-cells : goal.returns-clause-cells

@@ -1,7 +1,7 @@
 use Rattle.std.proofs.Common.{◌≡◌, ◌+◌, ◌*◌, ◌^◌, ◌≤◌, ◌++◌, true, length, drop}
 use Rattle.std.specs.Prelude.{sum_by, nat_lt}
 use Rattle.std.specs.List.{list_all}
-use Rattle.apcu_model.specs.Telling.{sized_members, name_cells}
+use Rattle.apcu_model.specs.InfoGraphs.{sized_members, name_cells}
 use Rattle.apcu_model.proofs.telling.array_of.Given as goal
 
 abbrev pub invariant-loop-field : goal.invariant-loop-field

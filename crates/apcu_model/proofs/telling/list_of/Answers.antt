@@ -1,8 +1,8 @@
 use Rattle.std.proofs.Common.{◌≡◌, ◌+◌, ◌-◌, ◌++◌, ◌∷◌, [], ap, arith, sym, ◌∙◌, append-nil, length, length-append}
 use Rattle.php_graph.specs.declared.kind.Kind.TheVariants as kinds
 use Rattle.php_graph.specs.Size.{cells_of}
-use Rattle.apcu_model.specs.Telling.{stepped_members}
-use Rattle.apcu_model.proofs.Laying.{list_cells, step_end, step_room, list_goes_on}
+use Rattle.apcu_model.specs.InfoGraphs.{stepped_members}
+use Rattle.apcu_model.proofs.GraphLayout.{list_cells, step_end, step_room, list_goes_on}
 use Rattle.apcu_model.proofs.telling.list_of.Goals as goal
 
 pub overflow_add-next : goal.overflow_add-next

@@ -1,5 +1,5 @@
 use Rattle.std.proofs.Common.{◌≡◌, ◌-◌, ◌++◌, length}
-use Rattle.apcu_model.specs.Telling.{stepped_members, stepped_end}
+use Rattle.apcu_model.specs.InfoGraphs.{stepped_members, stepped_end}
 use Rattle.apcu_model.proofs.telling.list_of.Given as goal
 
 abbrev pub invariant-loop-i : goal.invariant-loop-i

@@ -1,5 +1,5 @@
 use Rattle.std.specs.Prelude.{codes}
-use Rattle.apcu_play.proofs.Written.{journal_goes_on}
+use Rattle.apcu_play.proofs.PrintedPieces.{journal_goes_on}
 use Rattle.apcu_play.proofs.journal.write_journal.Goals as goal
 
 pub loop-i-preserved : goal.loop-i-preserved

@@ -4,7 +4,7 @@ use Rattle.std.specs.Fmt.{decimal}
 use Rattle.std.proofs.lemmas.List.{append-nil}
 use Rattle.script_read.specs.Grammar.{ends_line}
 use Rattle.reply_text.specs.Output.{mask_text}
-use Rattle.apcu_play.proofs.Masks.{mask_text-zero}
+use Rattle.apcu_play.proofs.MaskTexts.{mask_text-zero}
 use Rattle.apcu_play.proofs.journal.write_mark.Goals as goal
 
 pub returns-then-mark-lt10 : goal.returns-then-mark-lt10

@@ -1,7 +1,7 @@
 use Rattle.std.proofs.Common.{◌++◌, List, ℕ, sym, ap, ◌∙◌}
 use Rattle.std.proofs.lemmas.List.{append-nil}
 use Rattle.reply_text.specs.Output.{mask_text}
-use Rattle.apcu_play.proofs.Masks.{mask_text-none, mask_text-zero, mask_in_step, mask_out_step}
+use Rattle.apcu_play.proofs.MaskTexts.{mask_text-none, mask_text-zero, mask_in_step, mask_out_step}
 use Rattle.apcu_play.proofs.journal.write_mask.Goals as goal
 use Rattle.apcu_play.proofs.journal.write_mask.Goals.{then-mask-worker-eq1+in_ok-push+in_ok-write_number, else-mask-worker-eq1}
 

@@ -1,7 +1,7 @@
 use Rattle.std.proofs.Common.{◌++◌, false, true, ◌∙◌}
 use Rattle.std.specs.Fmt.{decimal}
 use Rattle.apcu_play.specs.Message.{reason_text}
-use Rattle.apcu_play.proofs.Parts.{first_failed, then_written, written_as}
+use Rattle.apcu_play.proofs.PartialWrites.{first_failed, then_written, written_as}
 use Rattle.apcu_play.proofs.messages.tell_place.Goals as goal
 
 pub returns-then-not-write_text : goal.returns-then-not-write_text

@@ -1,6 +1,6 @@
 use Rattle.std.proofs.Common.{true, ap}
 use Rattle.reply_text.specs.Output.{worker_texts}
-use Rattle.apcu_play.proofs.Parts.{written_after, written_as}
+use Rattle.apcu_play.proofs.PartialWrites.{written_after, written_as}
 use Rattle.apcu_play.proofs.printing.print.Goals as goal
 
 pub returns : goal.returns

@@ -1,7 +1,7 @@
 use Rattle.std.proofs.Common.{◌++◌, ◌+◌, true, false, length, take, drop, ap}
 use Rattle.reply_text.specs.Output.{worker_texts}
-use Rattle.apcu_play.proofs.Parts.{failed_first, both_written, failed_then, written_as}
-use Rattle.apcu_play.proofs.Written.{worker_part, texts_go_on, texts_behind}
+use Rattle.apcu_play.proofs.PartialWrites.{failed_first, both_written, failed_then, written_as}
+use Rattle.apcu_play.proofs.PrintedPieces.{worker_part, texts_go_on, texts_behind}
 use Rattle.apcu_play.proofs.printing.print_texts.Goals as goal
 
 pub returns-then-not-print_worker : goal.returns-then-not-print_worker

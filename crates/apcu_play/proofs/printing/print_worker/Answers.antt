@@ -1,7 +1,7 @@
 use Rattle.std.proofs.Common.{◌++◌, false, true, codes, ◌∙◌}
 use Rattle.std.specs.Fmt.{decimal}
 use Rattle.script_read.specs.Grammar.{ends_line}
-use Rattle.apcu_play.proofs.Parts.{failed_first, both_written, failed_then, written_after, written_as}
+use Rattle.apcu_play.proofs.PartialWrites.{failed_first, both_written, failed_then, written_after, written_as}
 use Rattle.apcu_play.proofs.printing.print_worker.Goals as goal
 
 pub returns-then-not-write_text : goal.returns-then-not-write_text

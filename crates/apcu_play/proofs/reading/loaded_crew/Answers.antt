@@ -4,7 +4,7 @@ use Rattle.preload_set.specs.Loader.{loader_of}
 use Rattle.script_read.specs.Grammar.{AreScripts}
 use Rattle.apcu_play.specs.Causes.{refuses_none}
 use Rattle.apcu_play.proofs.Causes.{bundle_cause, crowded_cause, memory_cause, script_cause}
-use Rattle.apcu_play.proofs.Fronts.{behind_fault, bundle_fault, too_long}
+use Rattle.apcu_play.proofs.InputFaults.{behind_fault, bundle_fault, too_long}
 use Rattle.apcu_play.proofs.reading.loaded_crew.Goals as goal
 
 pub returns-in-Err-clause-cause : goal.returns-in-Err-clause-cause

@@ -2,7 +2,7 @@ use Rattle.std.proofs.Common.{rules, arith}
 use Rattle.conf_read.specs.declared.task.Task.TheVariants.{Verify}
 use Rattle.apcu_play.specs.Causes.{refuses_none}
 use Rattle.apcu_play.proofs.Causes.{script_cause}
-use Rattle.apcu_play.proofs.Fronts.{front_fault}
+use Rattle.apcu_play.proofs.InputFaults.{front_fault}
 use Rattle.apcu_play.proofs.reading.scripts_in_front.Goals as goal
 
 pub returns-in-Err-clause-cause : goal.returns-in-Err-clause-cause

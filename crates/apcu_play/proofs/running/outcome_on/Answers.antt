@@ -1,7 +1,7 @@
 use Rattle.std.proofs.Common.{◌++◌}
 use Rattle.reply_text.specs.Output.{worker_texts}
 use Rattle.apcu_play.specs.declared.status.Status.TheVariants.{WriteFault}
-use Rattle.apcu_play.proofs.Answered.{answered_within, leaves_at, part_ends, unread_cut, whole_ends}
+use Rattle.apcu_play.proofs.TaskAnswers.{answered_within, leaves_at, part_ends, unread_cut, whole_ends}
 use Rattle.apcu_play.proofs.Causes.{cause_within}
 use Rattle.apcu_play.proofs.running.outcome_on.Goals as goal
 

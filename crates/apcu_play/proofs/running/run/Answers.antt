@@ -1,6 +1,6 @@
 use Rattle.conf_read.specs.Options.{settings_of}
 use Rattle.apcu_play.specs.Ended.{sourced}
-use Rattle.apcu_play.proofs.Coming.{completes_if, refused_if, unloaded_if, told_refusal, told_unloaded}
+use Rattle.apcu_play.proofs.TaskOutcomes.{completes_if, refused_if, unloaded_if, told_refusal, told_unloaded}
 use Rattle.apcu_play.proofs.running.run.Goals as goal
 
 pub returns-clause-replayed : goal.returns-clause-replayed
@@ -55,8 +55,8 @@ pub returns-clause-complete : goal.returns-clause-complete
 returns-clause-complete g c =
     completes_if c.readings_are_scripts.ensures.one c.readings_are_bundles.ensures.one (g.M.Maker.may_refuse c.args.maker.now) (settings_of c.args.words.now) _ _ c.outcome-ending.result c.outcome-ending.ensures
 
-pub returns-clause-told_script : goal.returns-clause-told_script
-returns-clause-told_script g c = told_refusal (settings_of c.args.words.now) (sourced (g.S.Source.left c.args.input.now) (g.S.Source.left c.outcome-ending.new.input) (g.S.Source.faults c.args.input.now) (g.S.Source.faults c.outcome-ending.new.input)) c.outcome-ending.result _ _ _ _ c.outcome-ending.ensures.script c.tell_ending.ensures.script
+pub returns-clause-script_message : goal.returns-clause-script_message
+returns-clause-script_message g c = told_refusal (settings_of c.args.words.now) (sourced (g.S.Source.left c.args.input.now) (g.S.Source.left c.outcome-ending.new.input) (g.S.Source.faults c.args.input.now) (g.S.Source.faults c.outcome-ending.new.input)) c.outcome-ending.result _ _ _ _ c.outcome-ending.ensures.script c.tell_ending.ensures.script
 
-pub returns-clause-told_bundle : goal.returns-clause-told_bundle
-returns-clause-told_bundle g c = told_unloaded (settings_of c.args.words.now) (sourced (g.S.Source.left c.args.input.now) (g.S.Source.left c.outcome-ending.new.input) (g.S.Source.faults c.args.input.now) (g.S.Source.faults c.outcome-ending.new.input)) c.outcome-ending.result _ _ _ _ c.outcome-ending.ensures.bundle c.tell_ending.ensures.bundle
+pub returns-clause-bundle_message : goal.returns-clause-bundle_message
+returns-clause-bundle_message g c = told_unloaded (settings_of c.args.words.now) (sourced (g.S.Source.left c.args.input.now) (g.S.Source.left c.outcome-ending.new.input) (g.S.Source.faults c.args.input.now) (g.S.Source.faults c.outcome-ending.new.input)) c.outcome-ending.result _ _ _ _ c.outcome-ending.ensures.bundle c.tell_ending.ensures.bundle

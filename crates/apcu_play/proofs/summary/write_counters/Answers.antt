@@ -1,5 +1,5 @@
 use Rattle.std.proofs.Common.{pos, refl}
-use Rattle.apcu_play.proofs.Written.{counters_go_on}
+use Rattle.apcu_play.proofs.PrintedPieces.{counters_go_on}
 use Rattle.apcu_play.proofs.summary.write_counters.Goals as goal
 
 pub loop-n-preserved : goal.loop-n-preserved

@@ -1,6 +1,6 @@
 use Rattle.std.proofs.Common.{length, arith}
 use Rattle.seg_words.specs.declared.gaps.Extent.{Extent}
-use Rattle.block_tests.proofs.Listing.{with_block-insert}
+use Rattle.block_tests.proofs.LiveBlocks.{with_block-insert}
 use Rattle.block_tests.proofs.listed.index_past.Goals as goal
 
 abbrev nothing : Extent

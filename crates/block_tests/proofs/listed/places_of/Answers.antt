@@ -1,7 +1,7 @@
 use Rattle.std.proofs.Common.{ℕ, List, sym, subst}
 use Rattle.std.specs.List.{All}
 use Rattle.sma_blocks.specs.Live.{IsLive}
-use Rattle.block_tests.proofs.Listing.{live_push}
+use Rattle.block_tests.proofs.LiveBlocks.{live_push}
 use Rattle.block_tests.proofs.listed.places_of.Goals.{then-bits-eq1+in_ok-push, else-bits-eq1}
 use Rattle.block_tests.proofs.listed.places_of.Goals as goal
 

@@ -34,7 +34,7 @@ use Rattle.std.proofs.VecSteps.El.{El, args, Vr, el_d, el_heap, vec_val, vec_typ
 use Rattle.std.proofs.VecSteps.Facts.{Says-All, and_fact, last_fact}
 use Rattle.std.proofs.VecSteps.Opens.{vec_had}
 use Rattle.byte_box.specs.contracts.block.Husk as H-type
-use Rattle.byte_box.proofs.Walks.{Dr, Mark, mark, one, two, mark_made, two_made, held_in}
+use Rattle.byte_box.proofs.BlockOwnership.{Dr, Mark, mark, one, two, mark_made, two_made, held_in}
 use Rattle.byte_box.specs.contracts.block.part as F
 use Rattle.byte_box.specs.contracts.block.part.Key.{name as #self}
 use Rattle.byte_box.proofs.block.part.Statement as stated

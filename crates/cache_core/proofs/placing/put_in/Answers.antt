@@ -1,5 +1,5 @@
 use Rattle.std.proofs.Common.{◌∙◌}
-use Rattle.cache_core.proofs.Replacing.{puts_from}
+use Rattle.cache_core.proofs.ReplacedRows.{puts_from}
 use Rattle.entry_slots.specs.Standing.{entries}
 use Rattle.cache_core.proofs.placing.put_in.Goals as goal
 

@@ -6,7 +6,7 @@ use Rattle.entry_slots.specs.Lists.{is_at, has_place}
 use Rattle.entry_slots.specs.Entries.{Entries, freed_at, removed_at}
 use Rattle.cache_core.specs.Placing.{Replaces}
 use Rattle.std.proofs.lemmas.List.Folds.{list_any-append}
-use Rattle.cache_core.proofs.Replacing.{old_is, spot_some, spot_none, replaces_none, replaces_old, replaced_free, replaced_held, old_loose, old_fresh}
+use Rattle.cache_core.proofs.ReplacedRows.{old_is, spot_some, spot_none, replaces_none, replaces_old, replaced_free, replaced_held, old_loose, old_unrefused}
 use Rattle.entry_slots.specs.Standing.{entries}
 use Rattle.cache_core.proofs.placing.replace.Goals as goal
 
@@ -23,7 +23,7 @@ is_let_go-is_free-requires g c =
     record {
       stand = c.requires.ready.stand;
       there = list_any-append (is_at c.args.spot.at) s.rows s.removed ∙ or_left (has_place c.args.spot.at s.rows) (has_place c.args.spot.at s.removed) o.listed;
-      fresh = old_fresh o c.requires.ready.refused;
+      unrefused = old_unrefused o c.requires.ready.refused;
     }
 
 pub free_unlinked-requires-clause-there : goal.free_unlinked-requires-clause-there

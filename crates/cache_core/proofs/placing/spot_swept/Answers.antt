@@ -7,9 +7,9 @@ use Rattle.entry_slots.specs.Entries.{chain_of}
 use Rattle.entry_slots.specs.Spots.{IsSpotOf}
 use Rattle.entry_slots.specs.Standing.{entries}
 use Rattle.ttl_expunge.specs.Steps.{DropsRows}
-use Rattle.ttl_expunge.proofs.Steps.{may_kept, drops_nothing, drops_kept}
+use Rattle.ttl_expunge.proofs.EventSteps.{may_kept, drops_nothing, drops_kept}
 use Rattle.cache_core.specs.Spots.{IsSpotIfAny}
-use Rattle.cache_core.proofs.Spotting.{none_taken}
+use Rattle.cache_core.proofs.SpotsAfterRoom.{none_taken}
 use Rattle.cache_core.proofs.placing.spot_swept.Goals as goal
 
 pub has_expired-requires-clause-spot : goal.has_expired-requires-clause-spot

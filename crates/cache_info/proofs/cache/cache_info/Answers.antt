@@ -5,13 +5,13 @@ use Rattle.std.proofs.lemmas.Result.{IfOk-weaker}
 use Rattle.php_graph.specs.declared.graph.Graph.{Graph}
 use Rattle.apcu_model.specs.declared.conf.Conf.{Conf}
 use Rattle.apcu_model.specs.Cache.{Row}
-use Rattle.apcu_model.specs.Infos.{told_array, told_counts, told_rows, cache_info_of, listed_of}
-use Rattle.apcu_model.specs.Walk.{in_slot_order}
+use Rattle.apcu_model.specs.Infos.{info_array, info_counts, info_rows, cache_info_of, listed_of}
+use Rattle.apcu_model.specs.SlotOrder.{in_slot_order}
 use Rattle.entry_slots.specs.declared.slots.EntrySlots.{EntrySlots}
 use Rattle.entry_slots.specs.Entries.{Entries}
 use Rattle.entry_slots.specs.Standing.{entries}
-use Rattle.cache_core.specs.Caching.{cache_of}
-use Rattle.cache_info.proofs.Whole.{limited_told, whole_told}
+use Rattle.cache_core.specs.CoreCache.{cache_of}
+use Rattle.cache_info.proofs.InfoAnswers.{limited_told, whole_told}
 use Rattle.cache_info.proofs.cache.cache_info.Goals as goal
 
 pub returns-then-limited-clause-info : goal.returns-then-limited-clause-info
@@ -22,7 +22,7 @@ returns-then-limited-clause-info g c =
     let words = c.from-words.ensures ∙ c.row_words.ensures.words ∙ ap (λ (e : EntrySlots). sum_by (λ (row : Row). row.size) (entries e).rows) slots in
     let told = limited_told all c.conf-conf.result.now c.counts-counts.result c.from-words.result c.conf-conf.ensures c.counts-counts.ensures words
     ∙ ap (λ (b : Bool). cache_info_of b all) (sym c.if-limited.true) in
-    IfOk-weaker c.tell_counts.result (λ (x : Graph). x ≡ told_array (told_counts c.conf-conf.result.now c.counts-counts.result c.from-words.result) 1) (λ (x : Graph). x ≡ cache_info_of c.args.limited all) (λ x is. is ∙ told) c.tell_counts.ensures
+    IfOk-weaker c.tell_counts.result (λ (x : Graph). x ≡ info_array (info_counts c.conf-conf.result.now c.counts-counts.result c.from-words.result) 1) (λ (x : Graph). x ≡ cache_info_of c.args.limited all) (λ x is. is ∙ told) c.tell_counts.ensures
 
 pub returns-clause-info : goal.returns-clause-info
 returns-clause-info g c =
@@ -35,7 +35,7 @@ returns-clause-info g c =
     let removed = c.in_ok-removed.ensures.rows ∙ ap (λ (e : EntrySlots). map listed_of (entries e).removed) slots in
     let told = whole_told all c.conf-conf.result.now c.counts-counts.result c.from-words.result c.in_ok-rows.rows.items c.in_ok-removed.removed.items c.conf-conf.ensures c.counts-counts.ensures words rows removed
     ∙ ap (λ (b : Bool). cache_info_of b all) (sym c.if-limited.false) in
-    IfOk-weaker c.tell_cache.result (λ (x : Graph). x ≡ told_array (told_counts c.conf-conf.result.now c.counts-counts.result c.from-words.result ++ told_rows c.in_ok-rows.rows.items c.in_ok-removed.removed.items) 1) (λ (x : Graph). x ≡ cache_info_of c.args.limited all) (λ x is. is ∙ told) c.tell_cache.ensures
+    IfOk-weaker c.tell_cache.result (λ (x : Graph). x ≡ info_array (info_counts c.conf-conf.result.now c.counts-counts.result c.from-words.result ++ info_rows c.in_ok-rows.rows.items c.in_ok-removed.removed.items) 1) (λ (x : Graph). x ≡ cache_info_of c.args.limited all) (λ x is. is ∙ told) c.tell_cache.ensures
 
 pub conf-conf-requires : goal.conf-conf-requires
 conf-conf-requires g c = grind (arith, common_steps)

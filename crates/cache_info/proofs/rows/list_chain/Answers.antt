@@ -2,8 +2,8 @@ use Rattle.std.proofs.Common.{◌∙◌, ◌++◌, ap, sym, map, append-nil}
 use Rattle.apcu_model.specs.Infos.{listed_of}
 use Rattle.entry_slots.specs.Entries.{chain_of}
 use Rattle.entry_slots.specs.Standing.{entries}
-use Rattle.entry_slots.specs.Passing.{chain_here, chain_end, chain_over}
-use Rattle.cache_info.proofs.Listed.{row_goes_on}
+use Rattle.entry_slots.specs.RowWalks.{chain_here, chain_end, chain_over}
+use Rattle.cache_info.proofs.ListedRows.{row_goes_on}
 use Rattle.cache_info.proofs.rows.list_chain.Goals as goal
 
 pub returns-then-at-eq0-clause-rows : goal.returns-then-at-eq0-clause-rows

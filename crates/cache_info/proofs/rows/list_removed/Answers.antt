@@ -3,8 +3,8 @@ use Rattle.std.proofs.lemmas.Grind.{common_steps}
 use Rattle.apcu_model.specs.Infos.{listed_of}
 use Rattle.entry_slots.specs.Lists.{first_place}
 use Rattle.entry_slots.specs.Standing.{entries}
-use Rattle.entry_slots.specs.Passing.{removed_here, removed_end}
-use Rattle.cache_info.proofs.Listed.{row_goes_on}
+use Rattle.entry_slots.specs.RowWalks.{removed_here, removed_end}
+use Rattle.cache_info.proofs.ListedRows.{row_goes_on}
 use Rattle.cache_info.proofs.rows.list_removed.Goals as goal
 
 pub listed_at-requires-clause-there : goal.listed_at-requires-clause-there

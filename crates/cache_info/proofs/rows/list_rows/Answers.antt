@@ -1,6 +1,6 @@
 use Rattle.std.proofs.Common.{◌∙◌, ◌<◌, arith}
 use Rattle.entry_slots.specs.Standing.{entries}
-use Rattle.cache_info.proofs.Listed.{chain_goes_on}
+use Rattle.cache_info.proofs.ListedRows.{chain_goes_on}
 use Rattle.cache_info.proofs.rows.list_rows.Goals as goal
 
 pub loop-slot-preserved : goal.loop-slot-preserved

@@ -2,7 +2,7 @@ use Rattle.std.proofs.Common.{◌≡◌, ◌-◌, ◌++◌, map}
 use Rattle.std.specs.List.{flat_map, range_with_len}
 use Rattle.seg_words.specs.Kept.{Kept}
 use Rattle.apcu_model.specs.Infos.{listed_of}
-use Rattle.apcu_model.specs.Walk.{in_slot_order}
+use Rattle.apcu_model.specs.SlotOrder.{in_slot_order}
 use Rattle.entry_slots.specs.Entries.{chain_of}
 use Rattle.entry_slots.specs.Standing.{entries}
 use Rattle.cache_info.proofs.rows.list_rows.Given as goal

@@ -7,12 +7,12 @@ use Rattle.sma_blocks.specs.Live.{live_blocks}
 use Rattle.std.proofs.lemmas.Result.{IfOk-weaker}
 use Rattle.php_graph.specs.declared.graph.Graph.{Graph}
 use Rattle.apcu_model.specs.Conf.{IsGood}
-use Rattle.apcu_model.specs.Infos.{sma_info_of, told_array, told_words, told_gaps}
+use Rattle.apcu_model.specs.Infos.{sma_info_of, info_array, info_words, info_gaps}
 use Rattle.entry_slots.specs.declared.slots.EntrySlots.{EntrySlots}
 use Rattle.entry_slots.specs.Entries.{Entries}
 use Rattle.entry_slots.specs.Standing.{entries}
-use Rattle.cache_core.specs.Caching.{cache_of}
-use Rattle.cache_info.proofs.Whole.{gaps_are, words_told, gaps_told}
+use Rattle.cache_core.specs.CoreCache.{cache_of}
+use Rattle.cache_info.proofs.InfoAnswers.{gaps_are, words_told, gaps_told}
 use Rattle.cache_info.proofs.segment.sma_info.Goals as goal
 
 pub returns-then-limited-clause-info : goal.returns-then-limited-clause-info
@@ -25,7 +25,7 @@ returns-then-limited-clause-info g c =
     let free = c.free_words-free.ensures.value ∙ ap (sum_by (λ (run : Extent). run.size)) same in
     let told = words_told all c.conf-conf.result.now c.free_words-free.result c.conf-conf.ensures free
     ∙ ap (λ (b : Bool). sma_info_of b all) (sym c.if-limited.true) in
-    IfOk-weaker c.tell_words.result (λ (x : Graph). x ≡ told_array (told_words c.conf-conf.result.now c.free_words-free.result) 1) (λ (x : Graph). x ≡ sma_info_of c.args.limited all) (λ x is. is ∙ told) c.tell_words.ensures
+    IfOk-weaker c.tell_words.result (λ (x : Graph). x ≡ info_array (info_words c.conf-conf.result.now c.free_words-free.result) 1) (λ (x : Graph). x ≡ sma_info_of c.args.limited all) (λ x is. is ∙ told) c.tell_words.ensures
 
 pub returns-clause-info : goal.returns-clause-info
 returns-clause-info g c =
@@ -39,7 +39,7 @@ returns-clause-info g c =
     let gaps = c.deref.ensures.value ∙ c.in_ok-gaps.ensures.gaps ∙ ap (λ w. free_runs s.from s.to s.piece (live_blocks w s.from)) c.free_words-free.ensures.kept.words ∙ same in
     let told = gaps_told all c.conf-conf.result.now c.free_words-free.result c.deref.result.now c.conf-conf.ensures free gaps
     ∙ ap (λ (b : Bool). sma_info_of b all) (sym c.if-limited.false) in
-    IfOk-weaker c.tell_gaps.result (λ (x : Graph). x ≡ told_array (told_words c.conf-conf.result.now c.free_words-free.result ++ told_gaps c.conf-conf.result.now c.deref.result.now) 1) (λ (x : Graph). x ≡ sma_info_of c.args.limited all) (λ x is. is ∙ told) c.tell_gaps.ensures
+    IfOk-weaker c.tell_gaps.result (λ (x : Graph). x ≡ info_array (info_words c.conf-conf.result.now c.free_words-free.result ++ info_gaps c.conf-conf.result.now c.deref.result.now) 1) (λ (x : Graph). x ≡ sma_info_of c.args.limited all) (λ x is. is ∙ told) c.tell_gaps.ensures
 
 pub tell_gaps-requires : goal.tell_gaps-requires
 tell_gaps-requires g c =

@@ -1,5 +1,5 @@
 use Rattle.seg_words.specs.contracts.held_words.HeldWordsWordsIn.TheImpl.{ghosts}
-use Rattle.cache_info_tests.proofs.Starting.{two_begun}
+use Rattle.cache_info_tests.proofs.TwoHeldBlocks.{two_begun}
 use Rattle.cache_info_tests.proofs.held.begin_with.Goals as goal
 
 pub returns-clause-two : goal.returns-clause-two

@@ -2,7 +2,7 @@ use Rattle.cache_core.proofs.Events.{may_drop}
 use Rattle.cache_tests.proofs.small.answer_of.Goals as goal
 
 pub delete-requires-clause-ready : goal.delete-requires-clause-ready
-delete-requires-clause-ready g c = may_drop c.requires.stand c.requires.fresh
+delete-requires-clause-ready g c = may_drop c.requires.stand c.requires.unrefused
 
 pub clear-requires : goal.clear-requires
-clear-requires g c = may_drop c.requires.stand c.requires.fresh
+clear-requires g c = may_drop c.requires.stand c.requires.unrefused

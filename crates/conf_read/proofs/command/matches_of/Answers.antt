@@ -2,7 +2,7 @@ use Rattle.std.proofs.Common.{◌≡◌, ap, refl, sym, subst, ◌∙◌}
 use Rattle.std.specs.String.{string_bytes}
 use Rattle.clap.specs.Words.{HasKind, HasMatchesOf, fault_of, is_simple_and_free}
 use Rattle.conf_read.specs.Options.{as_texts}
-use Rattle.conf_read.proofs.Parsing.{faulty, free, program_is_simple, same_error, some_texts}
+use Rattle.conf_read.proofs.CommandParse.{faulty, free, program_is_simple, same_error, some_texts}
 use Rattle.conf_read.specs.declared.fault.ConfFault.TheVariants as fault
 use Rattle.conf_read.proofs.command.matches_of.Goals as goal
 use Rattle.conf_read.proofs.command.matches_of.Goals.{in-OutOfMemory, in_default}

@@ -7,11 +7,11 @@ use Rattle.apcu_model.specs.declared.request.StoreAnswer.{StoreAnswer}
 use Rattle.apcu_model.specs.Cache.{Cache}
 use Rattle.apcu_model.specs.Change.{Insertion, inserted}
 use Rattle.apcu_model.specs.Counters.{Count, begun}
-use Rattle.cache_core.specs.Caching.{cache_of}
+use Rattle.cache_core.specs.CoreCache.{cache_of}
 use Rattle.cache_core.specs.Events.{IsBy}
-use Rattle.cache_core.proofs.Inserting.{IsInserted, inserted_is}
+use Rattle.cache_core.proofs.InsertionAnswers.{IsInserted, inserted_is}
 use Rattle.counter_entry.specs.Numbers.{begun_answer, new_counter, number_answered}
-use Rattle.counter_entry.proofs.Finding.{number_begun}
+use Rattle.counter_entry.proofs.IntegerLookUps.{number_begun}
 use Rattle.counter_entry.proofs.counting.begin.Goals as goal
 
 -- what came of storing, of a value that is known

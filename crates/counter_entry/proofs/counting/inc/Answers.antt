@@ -6,12 +6,12 @@ use Rattle.apcu_model.specs.Cache.{Row}
 use Rattle.apcu_model.specs.Expiry.{live_row}
 use Rattle.apcu_model.specs.Counters.{Count, counted, counted_at}
 use Rattle.apcu_model.specs.Sequential.{number_reply}
-use Rattle.cache_core.specs.Caching.{cache_of}
+use Rattle.cache_core.specs.CoreCache.{cache_of}
 use Rattle.cache_core.specs.Events.{IsUnchanged}
-use Rattle.cache_core.proofs.Caching.{cache_kept}
+use Rattle.cache_core.proofs.CoreCacheLemmas.{cache_kept}
 use Rattle.cache_core.proofs.Events.{insert_kept, does_nothing, still, steps, by_now}
 use Rattle.counter_entry.specs.Numbers.{answer_at, begun_answer, new_counter}
-use Rattle.counter_entry.proofs.Finding.{nothing_of, counter_of, holds_int, unnamed_at, reply_is, other_counted, other_answer, begun_number}
+use Rattle.counter_entry.proofs.IntegerLookUps.{nothing_of, counter_of, holds_int, unnamed_at, reply_is, other_counted, other_answer, begun_number}
 use Rattle.counter_entry.proofs.counting.inc.Goals as goal
 
 pub set_int-requires-clause-stand : goal.set_int-requires-clause-stand

@@ -4,8 +4,8 @@ use Rattle.seg_words.specs.Probing.{goes_on}
 use Rattle.apcu_model.specs.Change.{inserted}
 use Rattle.apcu_model.specs.Generators.{filled}
 use Rattle.apcu_model.specs.Levels.{EntryLevel, Generator}
-use Rattle.apcu_model.specs.Nesting.{generator_of}
-use Rattle.cache_core.specs.Caching.{cache_of}
+use Rattle.apcu_model.specs.GeneratorKinds.{generator_of}
+use Rattle.cache_core.specs.CoreCache.{cache_of}
 use Rattle.cache_core.proofs.Events.{steps}
 use Rattle.counter_entry.proofs.Levels.{filled_first}
 use Rattle.counter_entry.proofs.generating.+fill.Goals as goal

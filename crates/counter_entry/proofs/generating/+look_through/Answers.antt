@@ -1,7 +1,7 @@
 use Rattle.std.proofs.Common.{◌≡◌, suc, length, sym, ap, ◌∙◌, arith}
 use Rattle.apcu_model.specs.Levels.{Generator}
-use Rattle.apcu_model.specs.Nesting.{generator_of}
-use Rattle.cache_core.specs.Caching.{cache_of}
+use Rattle.apcu_model.specs.GeneratorKinds.{generator_of}
+use Rattle.cache_core.specs.CoreCache.{cache_of}
 use Rattle.counter_entry.proofs.Levels.{few_missed}
 use Rattle.counter_entry.proofs.generating.+look_through.Goals as goal
 

@@ -3,7 +3,7 @@ use Rattle.seg_words.specs.Windows.{Aside, held_blocks}
 use Rattle.seg_words.specs.Probing.{Goes}
 use Rattle.apcu_model.specs.declared.request.Reply.TheVariants.{Gave}
 use Rattle.apcu_model.specs.Generators.{Filling, entered}
-use Rattle.cache_core.specs.Caching.{cache_of}
+use Rattle.cache_core.specs.CoreCache.{cache_of}
 use Rattle.cache_core.proofs.Events.{still, steps}
 use Rattle.counter_entry.specs.Generating.{fate_of}
 use Rattle.counter_entry.proofs.Levels.{few_missed, filled_missed}
@@ -19,8 +19,8 @@ progressed g c later on =
     let origin = c.in_ok-origin.origin in
     let found = c.in_ok-origin.ensures in
     c.fill-progress.ensures.filled later on
-    ∙ sym (filled_missed (held_blocks later) c.args.generator.now c.args.t (cache_of c.args.core.now) (cache_of c.note.new.core) origin.value origin.missing found.value found.missing
-    (c.note.ensures.cache c.args.generator.now.levels found.found found.missing))
+    ∙ sym (filled_missed (held_blocks later) c.args.generator.now c.args.t (cache_of c.args.core.now) (cache_of c.count_lookups.new.core) origin.value origin.missing found.value found.missing
+    (c.count_lookups.ensures.cache c.args.generator.now.levels found.found found.missing))
 
 pub returns-clause-fate : goal.returns-clause-fate
 returns-clause-fate g c = λ later on. c.fate.ensures ∙ ap (λ (f : Filling). fate_of f.outermost) (progressed g c later on)
@@ -30,7 +30,7 @@ returns-clause-does g c = record {
   done = record {
     reply = λ later on. ap Gave c.in_ok-origin.ensures.value;
     cache = λ later on. ap (λ (f : Filling). f.cache) (progressed g c later on);
-    step = steps (still c.args.core.now c.look_through.ensures.kept c.requires.ready.stand) (steps c.note.ensures.step c.fill-progress.ensures.step);
+    step = steps (still c.args.core.now c.look_through.ensures.kept c.requires.ready.stand) (steps c.count_lookups.ensures.step c.fill-progress.ensures.step);
   };
   same = tt;
 }

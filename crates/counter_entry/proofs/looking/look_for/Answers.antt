@@ -1,7 +1,7 @@
 use Rattle.std.proofs.Common.{sym, ◌∙◌}
 use Rattle.apcu_model.specs.Expiry.{live_row}
-use Rattle.cache_core.specs.Caching.{cache_of}
-use Rattle.counter_entry.proofs.Finding.{nothing_seen, row_seen}
+use Rattle.cache_core.specs.CoreCache.{cache_of}
+use Rattle.counter_entry.proofs.IntegerLookUps.{nothing_seen, row_seen}
 use Rattle.counter_entry.proofs.looking.look_for.Goals as goal
 
 pub returns-in_default-clause-found : goal.returns-in_default-clause-found

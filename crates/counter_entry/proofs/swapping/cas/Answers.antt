@@ -7,11 +7,11 @@ use Rattle.std.proofs.lemmas.Int.{to_z-of_z}
 use Rattle.apcu_model.specs.declared.request.Reply.TheVariants.{Flag}
 use Rattle.apcu_model.specs.Counters.{integer_set, is_expected}
 use Rattle.apcu_model.specs.Expiry.{live_row}
-use Rattle.cache_core.specs.Caching.{cache_of}
+use Rattle.cache_core.specs.CoreCache.{cache_of}
 use Rattle.cache_core.specs.Events.{IsUnchanged}
-use Rattle.cache_core.proofs.Caching.{cache_kept}
+use Rattle.cache_core.proofs.CoreCacheLemmas.{cache_kept}
 use Rattle.cache_core.proofs.Events.{does_nothing, beside_then, still, steps}
-use Rattle.counter_entry.proofs.Finding.{counter_of, holds_int, unnamed_at, expected_is}
+use Rattle.counter_entry.proofs.IntegerLookUps.{counter_of, holds_int, unnamed_at, expected_is}
 use Rattle.counter_entry.proofs.swapping.cas.Goals as goal
 
 -- numbers whose words differ are not equal

@@ -1,5 +1,5 @@
 use Rattle.std.proofs.Common.{arith}
-use Rattle.crew_play.proofs.Counting.{step_counted}
+use Rattle.crew_play.proofs.EventCounts.{step_counted}
 use Rattle.crew_play.proofs.budgets.budget.Goals as goal
 
 pub returns-then-events-gt-MOST_EVENTS-clause-none : goal.returns-then-events-gt-MOST_EVENTS-clause-none

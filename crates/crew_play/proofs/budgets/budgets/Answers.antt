@@ -1,5 +1,5 @@
 use Rattle.std.proofs.Common.{arith, length-append, ◌∷◌, [], ap, length}
-use Rattle.crew_play.proofs.Counting.{worker_counted, budgets_go_on}
+use Rattle.crew_play.proofs.EventCounts.{worker_counted, budgets_go_on}
 use Rattle.crew_play.proofs.budgets.budgets.Goals as goal
 
 pub returns-in_default-clause-many : goal.returns-in_default-clause-many

@@ -1,14 +1,14 @@
 use Rattle.std.proofs.Common.{◌≡◌, ◌-◌, sym, subst, arith, suc, ℕ, ◌∷◌, [], ◌∙◌}
 use Rattle.std.specs.Prelude.{List, Result, Option, Some, None, IfSome}
 use Rattle.std.specs.Result.{result_ok}
-use Rattle.pin_table.specs.Values.{Bearer}
+use Rattle.pin_table.specs.Values.{PassView}
 use Rattle.pin_table.specs.Events.{events_of}
 use Rattle.script_read.specs.Clock.{timed, all_timed}
 use Rattle.worker_play.specs.Ends.{Ends}
 use Rattle.worker_play.specs.declared.script.PlayFault.{PlayFault}
 use Rattle.crew_play.specs.Crew.{AllEnd, EndsBefore}
 use Rattle.crew_play.proofs.Crews.{all_none, all_with, refusable_with}
-use Rattle.crew_play.proofs.Firsts.{some_before_none, some_before_more}
+use Rattle.crew_play.proofs.FirstEvents.{some_before_none, some_before_more}
 use Rattle.crew_play.proofs.crew.+fn-play_crew-join+arg2+play_crew.Goals as goal
 
 pub returns-then-count-eq0-clause-all : goal.returns-then-count-eq0-clause-all
@@ -17,7 +17,7 @@ returns-then-count-eq0-clause-all g t c =
     let conf = g.N.TableName.conf in
     let scripts = all_timed c.args.clock c.args.scripts.now in
     subst (λ (n : ℕ). AllEnd table conf scripts n c.args.ended.ended c.args.texts.items) (sym c.if-count-eq0.true)
-    (subst (λ (l : List Bearer). AllEnd table conf scripts 0 l c.args.texts.items) (sym {A = List Bearer} c.requires.none_ended)
+    (subst (λ (l : List PassView). AllEnd table conf scripts 0 l c.args.texts.items) (sym {A = List PassView} c.requires.none_ended)
     (subst (λ (l : List (Result (List ℕ) PlayFault)). AllEnd table conf scripts 0 [] l) (sym {A = List (Result (List ℕ) PlayFault)} c.requires.no_text)
     (all_none table conf scripts)))
 
@@ -49,8 +49,8 @@ pub returns-clause-first : goal.returns-clause-first
 returns-clause-first g t c =
     let n : ℕ = c.args.count - 1 in
     let count : suc n ≡ c.args.count = omega (arith, c.if-count-eq0.false) in
-    let one : IfSome c.args.first (λ (e : Bearer). events_of n e.known.seen ≡ []) =
-    subst (λ w. IfSome c.args.first (λ (e : Bearer). events_of w e.known.seen ≡ [])) c.last_worker-pass.ensures.worker c.behind-pass.ensures.first in
-    let before : IfSome c.args.first (λ (e : Bearer). EndsBefore n e) =
-    subst (λ (o : Option Bearer). IfSome o (λ (e : Bearer). EndsBefore n e)) c.behind-pass.ensures.same c.join-front.ensures.first.5 in
+    let one : IfSome c.args.first (λ (e : PassView). events_of n e.known.seen ≡ []) =
+    subst (λ w. IfSome c.args.first (λ (e : PassView). events_of w e.known.seen ≡ [])) c.last_worker-pass.ensures.worker c.behind-pass.ensures.first in
+    let before : IfSome c.args.first (λ (e : PassView). EndsBefore n e) =
+    subst (λ (o : Option PassView). IfSome o (λ (e : PassView). EndsBefore n e)) c.behind-pass.ensures.same c.join-front.ensures.first.5 in
     some_before_more n c.args.count c.args.first count before one

@@ -1,15 +1,15 @@
 use Rattle.std.proofs.Common.{◌≡◌, ◌+◌, ◌-◌, ◌≤◌, true, suc, ℕ, List, [], ◌∷◌, ◌++◌, Some, length, slice_get, slice_index, sym, ap, ◌∙◌, subst, arith}
 use Rattle.apcu_model.specs.declared.conf.Clock.TheVariants.{Line}
 use Rattle.apcu_model.specs.declared.conf.Conf.{Conf}
-use Rattle.pin_table.specs.Values.{Bearer}
+use Rattle.pin_table.specs.Values.{PassView}
 use Rattle.script_read.specs.declared.script.Step.{Step}
 use Rattle.script_read.specs.Budgets.{events_in}
 use Rattle.script_read.specs.Clock.{timed, all_timed}
 use Rattle.worker_play.specs.Ends.{HasEnded, HasMade}
-use Rattle.crew_play.specs.Watched.{HaveMade}
+use Rattle.crew_play.specs.GeneratedRuns.{HaveMade}
 use Rattle.crew_play.proofs.Crews.{get-map}
-use Rattle.crew_play.proofs.Gathering.{OthersLaw}
-use Rattle.crew_play.proofs.Learning.{first_alone, one_more, others_made, own_made}
+use Rattle.crew_play.proofs.EndedCrews.{OthersLaw}
+use Rattle.crew_play.proofs.LearnedEnds.{first_alone, one_more, others_made, own_made}
 use Rattle.crew_play.proofs.generated.+fn-play_drawn-join+arg2+play_drawn.Goals as goal
 
 pub returns-then-before-eq0-clause-made : goal.returns-then-before-eq0-clause-made
@@ -32,7 +32,7 @@ returns-then-before-eq0-clause-made g t c =
     let whose : timed Line script ≡ s = cc (same) in
     subst (λ (l : List Step). HasMade conf l c.play_quietly-pass.result.0) whose (own_made true c.play_quietly-pass.result.1 (sym c.and_made.ensures ∙ yes) c.play_quietly-pass.ensures.made)) in
     subst (λ k. HaveMade table conf scripts k c.play_quietly-pass.result.0 c.args.ended.ended c.and_made.result) one
-    (subst (λ (l : List Bearer). HaveMade table conf scripts 1 c.play_quietly-pass.result.0 l c.and_made.result) (sym {A = List Bearer} c.requires.none_ended) alone)
+    (subst (λ (l : List PassView). HaveMade table conf scripts 1 c.play_quietly-pass.result.0 l c.and_made.result) (sym {A = List PassView} c.requires.none_ended) alone)
 
 pub returns-clause-made : goal.returns-clause-made
 returns-clause-made g t c =

@@ -2,8 +2,8 @@ use Rattle.std.proofs.Common.{◌≡◌, ℕ, ◌+◌, ◌*◌, ◌≤◌, List,
 use Rattle.std.specs.Prelude.{IfOk}
 use Rattle.script_read.specs.declared.script.Step.{Step}
 use Rattle.script_read.specs.Budgets.{most_events}
-use Rattle.crew_play.specs.Watched.{HaveEnough, IsRun, IsWatched, summary_in, watched_budgets}
-use Rattle.crew_play.proofs.Drawn.{budgets_counted, enough_drawn, without_nine, workers_counted}
+use Rattle.crew_play.specs.GeneratedRuns.{HaveEnough, IsRun, IsWatched, summary_in, watched_budgets}
+use Rattle.crew_play.proofs.GeneratedScripts.{budgets_counted, enough_drawn, without_nine, workers_counted}
 use Rattle.crew_play.proofs.generated.play_generated.Goals as goal
 
 pub play_watched-requires-clause-workers : goal.play_watched-requires-clause-workers

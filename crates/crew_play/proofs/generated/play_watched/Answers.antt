@@ -3,16 +3,16 @@ use Rattle.std.specs.Prelude.{IfOk}
 use Rattle.std.proofs.lemmas.Bool.{cases_Bool}
 use Rattle.apcu_model.specs.declared.conf.Clock.TheVariants.{Line}
 use Rattle.apcu_model.specs.declared.conf.Conf.{Conf}
-use Rattle.pin_table.specs.Values.{Bearer}
+use Rattle.pin_table.specs.Values.{PassView}
 use Rattle.script_read.specs.declared.script.Step.{Step}
 use Rattle.script_read.specs.Clock.{all_timed}
-use Rattle.shared_cache.specs.Closing.{IsClosed}
+use Rattle.shared_cache.specs.ClosedCaches.{IsClosed}
 use Rattle.worker_play.specs.Looks.{Observes}
-use Rattle.crew_play.specs.Watched.{IsRun, IsWatched, HaveMade}
-use Rattle.crew_play.proofs.Drawn.{all_lines}
-use Rattle.crew_play.proofs.Gathering.{OthersLaw, PlayLaws}
-use Rattle.crew_play.proofs.Observing.{WishLaws}
-use Rattle.crew_play.proofs.Watching.{SummaryLaws, of_table, each_there, watched}
+use Rattle.crew_play.specs.GeneratedRuns.{IsRun, IsWatched, HaveMade}
+use Rattle.crew_play.proofs.GeneratedScripts.{all_lines}
+use Rattle.crew_play.proofs.EndedCrews.{OthersLaw, PlayLaws}
+use Rattle.crew_play.proofs.WishCounts.{WishLaws}
+use Rattle.crew_play.proofs.WatchedRuns.{SummaryLaws, of_table, each_there, watched}
 use Rattle.crew_play.proofs.generated.play_watched.Goals as goal
 
 pub close-requires-clause-table : goal.close-requires-clause-table
@@ -40,7 +40,7 @@ returns-clause-watched g c = λ seed calls run.
     let shape : conf ≡ c.args.conf.now = c.requires.conf ∙ c.requires.shape in
     let budgets : length g.N.TableName.budgets ≡ length scripts = ap length c.requires.budgets ∙ c.requires.workers in
     let first = c.play_drawn-first.result.0 in
-    let others : List Bearer = c.play_drawn-first.result.1.ended in
+    let others : List PassView = c.play_drawn-first.result.1.ended in
     let all = c.play_drawn-first.result.2 in
     let end = c.observe-end.result.0 in
     let numbers = c.observe-end.result.1 in
@@ -51,7 +51,7 @@ returns-clause-watched g c = λ seed calls run.
     let made = subst (λ (l : List (List Step)). HaveMade table conf l (length scripts) first others all) (all_lines scripts) (subst (λ n. HaveMade table conf (all_timed Line scripts) n first others all) c.len-count.ensures c.play_drawn-first.ensures.made) in
     let looks = subst (λ n. Observes conf n first end numbers) budgets c.observe-end.ensures in
     let closed = subst (λ n. IsClosed conf n (others ++ end ∷ []) c.close.result) budgets
-    (subst (λ (l : List Bearer). IsClosed conf (length g.N.TableName.budgets) l c.close.result) c.push.ensures.ended c.close.ensures) in
+    (subst (λ (l : List PassView). IsClosed conf (length g.N.TableName.budgets) l c.close.result) c.push.ensures.ended c.close.ensures) in
     let so : all ≡ true = elim (cases_Bool all) [
       | inl h ↦ h
       | inr h ↦ absurd (cc (h, c.if-not-all.false))

@@ -1,12 +1,12 @@
 use Rattle.std.proofs.Common.{◌≡◌, ◌-◌, ◌≤◌, sym, subst, arith, suc, ℕ, length, ◌∙◌}
 use Rattle.std.specs.Prelude.{List, Some}
 use Rattle.std.specs.Result.{result_ok}
-use Rattle.pin_table.specs.Values.{Bearer}
+use Rattle.pin_table.specs.Values.{PassView}
 use Rattle.script_read.specs.Clock.{timed, all_timed}
 use Rattle.worker_play.specs.Ends.{Ends}
 use Rattle.crew_play.specs.Crew.{AllEnd, EndsBefore}
 use Rattle.crew_play.proofs.Crews.{all_with, refusable_with}
-use Rattle.crew_play.proofs.Firsts.{last_ends_first}
+use Rattle.crew_play.proofs.FirstEvents.{last_ends_first}
 use Rattle.crew_play.proofs.order.play_all.Goals as goal
 
 pub returns-in-Together-clause-all : goal.returns-in-Together-clause-all
@@ -33,7 +33,7 @@ returns-in-Some-clause-all g c =
     let one : Ends table conf n (timed clock script) c.play_out-end.result.0 (result_ok text) =
     subst (λ w. Ends table conf w (timed clock script) c.play_out-end.result.0 (result_ok text)) c.last_worker-pass.ensures.worker c.play_out-end.ensures.ends in
     all_with table conf clock scripts n (length scripts) front.1.ended c.push.new.self.ended front.2.items c.push_reserved.new.self.items script end text
-    count c.last_worker-pass.ensures.script c.play_crew-first.ensures.all (subst (λ (b : Bearer). Ends table conf n (timed clock script) b (result_ok text)) (sym same) one) c.push.ensures.ended c.push_reserved.ensures.items
+    count c.last_worker-pass.ensures.script c.play_crew-first.ensures.all (subst (λ (b : PassView). Ends table conf n (timed clock script) b (result_ok text)) (sym same) one) c.push.ensures.ended c.push_reserved.ensures.items
 
 pub returns-in-Some-clause-pattern : goal.returns-in-Some-clause-pattern
 returns-in-Some-clause-pattern g c =
@@ -52,4 +52,4 @@ returns-in-Some-clause-first g c = λ _.
     let same : end ≡ c.play_out-end.result.0 = cc (found) in
     let before : EndsBefore n c.play_out-end.result.0 = c.play_crew-first.ensures.first in
     last_ends_first n (length scripts) c.play_crew-first.result.1.ended c.push.new.self.ended end count c.play_crew-first.ensures.all.have_ended c.push.ensures.ended
-    (subst (λ (b : Bearer). EndsBefore n b) (sym same) before)
+    (subst (λ (b : PassView). EndsBefore n b) (sym same) before)

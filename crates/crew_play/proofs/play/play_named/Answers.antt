@@ -5,9 +5,9 @@ use Rattle.worker_play.specs.declared.script.PlayFault.{PlayFault}
 use Rattle.apcu_model.specs.declared.conf.Conf.{Conf}
 use Rattle.script_read.specs.Clock.{timed, all_timed}
 use Rattle.crew_play.specs.Crew.{AllEnd, LastEndsFirst}
-use Rattle.crew_play.specs.Played.{IsPlayed, IsLeft}
-use Rattle.crew_play.proofs.Firsts.{come_first}
-use Rattle.crew_play.proofs.Gathering.{OthersLaw, PlayLaws, all_of, every, all_seen, budgets_for_each, is_played, any_left}
+use Rattle.crew_play.specs.PlayedScripts.{IsPlayed, IsLeft}
+use Rattle.crew_play.proofs.FirstEvents.{come_first}
+use Rattle.crew_play.proofs.EndedCrews.{OthersLaw, PlayLaws, all_of, every, all_seen, budgets_for_each, is_played, any_left}
 use Rattle.crew_play.proofs.play.play_named.Goals as goal
 
 pub close-journal-requires-clause-table : goal.close-journal-requires-clause-table

@@ -3,7 +3,7 @@ use Rattle.std.specs.Prelude.{Ok, Err, List, ℕ, Result}
 use Rattle.std.specs.Vec.Iter.{into_iter_items}
 use Rattle.worker_play.specs.declared.script.PlayFault.{PlayFault}
 use Rattle.worker_play.specs.declared.script.PlayFault.TheVariants.{Memory, Pattern}
-use Rattle.crew_play.proofs.Texts.{items_taken, behind_first, first_there, not_first}
+use Rattle.crew_play.proofs.WorkerTexts.{items_taken, behind_first, first_there, not_first}
 use Rattle.crew_play.proofs.play.whole.Goals as goal
 
 pub loop-text-preserved-in-Ok : goal.loop-text-preserved-in-Ok

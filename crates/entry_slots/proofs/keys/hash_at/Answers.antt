@@ -3,11 +3,11 @@ use Rattle.std.specs.Prelude.{bit_or}
 use Rattle.std.proofs.lemmas.List.{take_all}
 use Rattle.php_graph.specs.Numbers.{hash_step, hash_of}
 use Rattle.seg_words.specs.Layout.{words_in}
-use Rattle.value_image.specs.Packed.{words_of, word_at}
-use Rattle.entry_slots.specs.Written.{IsEntryKey}
+use Rattle.value_image.specs.PackedBytes.{words_of, word_at}
+use Rattle.entry_slots.specs.EntryWords.{IsEntryKey}
 use Rattle.entry_slots.specs.Lower.{Laws}
 use Rattle.entry_slots.proofs.Runs.{words_long, word_there}
-use Rattle.entry_slots.proofs.Digits.{key_byte, hash_more}
+use Rattle.entry_slots.proofs.KeyBytes.{key_byte, hash_more}
 use Rattle.entry_slots.proofs.keys.hash_at.Goals as goal
 
 word_in : (i len : ℕ) → i < len → i / 8 < words_in len

@@ -1,7 +1,7 @@
 use Rattle.std.proofs.Common.{◌≡◌, ℕ, ◌+◌, ◌/◌, ◌%◌, ◌<◌, List, take, fold, slice_index}
 use Rattle.php_graph.specs.Numbers.{hash_step}
 use Rattle.seg_words.specs.Kept.{Kept}
-use Rattle.entry_slots.specs.Written.{IsEntryKey}
+use Rattle.entry_slots.specs.EntryWords.{IsEntryKey}
 use Rattle.entry_slots.proofs.keys.hash_at.Given as goal
 
 abbrev pub invariant-loop-i : goal.invariant-loop-i

@@ -1,7 +1,7 @@
 use Rattle.std.proofs.Common.{◌≡◌, ◌∙◌, ◌*◌, ◌/◌, ◌%◌, ◌-◌, arith, ap, length, take, drop}
 use Rattle.std.proofs.lemmas.List.{take_rest, length-drop}
-use Rattle.value_image.specs.Packed.{word_at}
-use Rattle.value_image.proofs.Packing.{word_at-shifted}
+use Rattle.value_image.specs.PackedBytes.{word_at}
+use Rattle.value_image.proofs.PackedByteLemmas.{word_at-shifted}
 use Rattle.entry_slots.proofs.keys.key_word.Goals as goal
 
 pub returns-then-key-lt8 : goal.returns-then-key-lt8

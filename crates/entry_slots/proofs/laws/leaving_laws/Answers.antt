@@ -1,4 +1,4 @@
-use Rattle.entry_slots.proofs.Leaving.{drops, goes, shorter}
+use Rattle.entry_slots.proofs.UnlinkOutcome.{drops, goes, shorter}
 use Rattle.entry_slots.proofs.laws.leaving_laws.Goals as goal
 
 pub returns-clause-drops : goal.returns-clause-drops

@@ -1,5 +1,5 @@
-use Rattle.entry_slots.specs.Having.{place_there, place_from}
-use Rattle.entry_slots.proofs.Finding.{found_there, first_there, next_there, chain_there, in_left, in_right, unlinks_there}
+use Rattle.entry_slots.specs.RowPlaces.{place_there, place_from}
+use Rattle.entry_slots.proofs.PlaceLemmas.{found_there, first_there, next_there, chain_there, in_left, in_right, unlinks_there}
 use Rattle.entry_slots.proofs.laws.place_laws.Goals as goal
 
 pub returns-clause-member : goal.returns-clause-member

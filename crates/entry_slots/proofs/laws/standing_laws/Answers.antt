@@ -1,6 +1,6 @@
-use Rattle.entry_slots.proofs.Opening.{sound, listed_probed, listed_copied, block_inside, blocks_lie_apart}
-use Rattle.entry_slots.proofs.Places.{listed_one}
-use Rattle.entry_slots.proofs.Walking as walking
+use Rattle.entry_slots.proofs.RowWindows.{sound, listed_probed, listed_copied, block_inside, blocks_lie_apart}
+use Rattle.entry_slots.proofs.DistinctPlaces.{listed_one}
+use Rattle.entry_slots.proofs.ChainPositions as walking
 use Rattle.entry_slots.proofs.laws.standing_laws.Goals as goal
 
 pub returns : goal.returns

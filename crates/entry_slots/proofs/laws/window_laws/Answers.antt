@@ -1,4 +1,4 @@
-use Rattle.entry_slots.proofs.Opening.{closed_stands, opened_stands}
+use Rattle.entry_slots.proofs.RowWindows.{closed_stands, opened_stands}
 use Rattle.entry_slots.proofs.laws.window_laws.Goals as goal
 
 pub returns : goal.returns

@@ -1,6 +1,6 @@
-use Rattle.generated_laws.proofs.Counting as lemmas
-use Rattle.generated_laws.proofs.Wraps.{modulo}
-use Rattle.generated_laws.proofs.Told.{played_counted}
+use Rattle.generated_laws.proofs.CounterRows as lemmas
+use Rattle.generated_laws.proofs.WrappedSums.{modulo}
+use Rattle.generated_laws.proofs.JournalPlays.{played_counted}
 use Rattle.generated_laws.proofs.laws.counters_count.Goals as goal
 
 pub returns : goal.returns

@@ -1,5 +1,5 @@
-use Rattle.generated_laws.proofs.Looking.{others_want, observer_wants}
-use Rattle.generated_laws.proofs.Timed.{same_timed}
+use Rattle.generated_laws.proofs.ObserverWishes.{others_want, observer_wants}
+use Rattle.generated_laws.proofs.TimedScripts.{same_timed}
 use Rattle.generated_laws.proofs.laws.generated_wishes.Goals as goal
 
 pub returns : goal.returns

@@ -1,4 +1,4 @@
-use Rattle.generated_laws.proofs.Agreeing.{none_expunged, all_stored, agreed}
+use Rattle.generated_laws.proofs.OneSummary.{none_expunged, all_stored, agreed}
 use Rattle.generated_laws.proofs.laws.summaries_agree.Goals as goal
 
 pub returns : goal.returns

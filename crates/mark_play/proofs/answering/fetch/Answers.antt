@@ -4,9 +4,9 @@ use Rattle.entry_slots.specs.declared.slots.EntrySlots.{EntrySlots}
 use Rattle.entry_slots.specs.Lists.{has_place}
 use Rattle.entry_slots.specs.Entries.{IsListed, listed}
 use Rattle.entry_slots.specs.Standing.{entries}
-use Rattle.cache_core.specs.Caching.{cache_of}
+use Rattle.cache_core.specs.CoreCache.{cache_of}
 use Rattle.mark_play.specs.Windows.{window_on}
-use Rattle.mark_play.proofs.Finding.{FoundRow, found_row, place_there}
+use Rattle.mark_play.proofs.FoundRows.{FoundRow, found_row, place_there}
 use Rattle.mark_play.proofs.answering.fetch.Goals as goal
 
 pub window_at-requires-clause-there : goal.window_at-requires-clause-there
@@ -16,8 +16,8 @@ window_at-requires-clause-there g c =
     let there : has_place c.in-Some.at (k.rows ++ k.removed) ≡ true = place_there (k.rows ++ k.removed) f.row c.in-Some.at (Contains-append_left k.rows k.removed f.row f.there) f.place in
     subst (λ (e : EntrySlots). has_place c.in-Some.at (listed (entries e)) ≡ true) (sym c.slots.ensures.value) there
 
-pub note_hit-requires-clause-there : goal.note_hit-requires-clause-there
-note_hit-requires-clause-there g c =
+pub count_hit-requires-clause-there : goal.count_hit-requires-clause-there
+count_hit-requires-clause-there g c =
     let k = cache_of c.args.core.now in
     let f : FoundRow c.args.key.now c.args.t k c.in-Some.at c.in-Some.value = found_row c.args.key.now c.args.t k c.in-Some.at c.in-Some.value (cc (c.in-Some.is, c.in_ok-at.ensures.found)) in
     subst (λ (e : EntrySlots). has_place c.in-Some.at (entries e).rows ≡ true) (sym c.slots.ensures.value) (place_there k.rows f.row c.in-Some.at f.there f.place)

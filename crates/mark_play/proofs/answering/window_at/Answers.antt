@@ -1,6 +1,6 @@
 use Rattle.std.proofs.Common.{◌∙◌, ap, sym}
 use Rattle.apcu_model.specs.History.{is_scalar}
-use Rattle.mark_play.proofs.Finding.{window_is}
+use Rattle.mark_play.proofs.FoundRows.{window_is}
 use Rattle.mark_play.proofs.answering.window_at.Goals as goal
 
 pub returns-clause-window : goal.returns-clause-window

@@ -4,10 +4,10 @@ use Rattle.entry_slots.specs.declared.slots.EntrySlots.{EntrySlots}
 use Rattle.entry_slots.specs.Entries.{listed}
 use Rattle.entry_slots.specs.Standing.{Stand, entries}
 use Rattle.cache_core.specs.declared.cache.Core.{Core}
-use Rattle.cache_core.specs.Lending.{with_slots}
-use Rattle.mark_play.specs.Holding.{HasKeyIn}
-use Rattle.mark_play.specs.Reaching.{IsReached}
-use Rattle.mark_play.proofs.Playing.{keyed}
+use Rattle.cache_core.specs.LentEntries.{with_slots}
+use Rattle.mark_play.specs.HeldPlaces.{HasKeyIn}
+use Rattle.mark_play.specs.ReplayStages.{IsReached}
+use Rattle.mark_play.proofs.ReplayEvents.{keyed}
 use Rattle.mark_play.proofs.holding.begin_event.Goals as goal
 
 pub hold_all-requires-clause-keys : goal.hold_all-requires-clause-keys

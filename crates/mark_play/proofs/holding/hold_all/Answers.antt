@@ -7,8 +7,8 @@ use Rattle.seg_words.specs.declared.held_words.HeldWords.{HeldWords}
 use Rattle.entry_slots.specs.Entries.{listed}
 use Rattle.entry_slots.specs.Standing.{entries}
 use Rattle.mark_play.specs.declared.answering.Window.{Window}
-use Rattle.mark_play.specs.Holding.{IsHeldFor}
-use Rattle.mark_play.proofs.HeldFor.{HoldsBelow, held_next, held_skip, same_default}
+use Rattle.mark_play.specs.HeldPlaces.{IsHeldFor}
+use Rattle.mark_play.proofs.HeldWorkers.{HoldsBelow, held_next, held_skip, same_default}
 use Rattle.mark_play.proofs.holding.hold_all.Goals as goal
 use Rattle.mark_play.proofs.holding.hold_all.Goals.{then-mask-worker-eq1, else-mask-worker-eq1}
 

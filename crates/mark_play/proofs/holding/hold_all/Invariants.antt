@@ -4,7 +4,7 @@ use Rattle.std.specs.Int.{bit_at}
 use Rattle.seg_words.specs.contracts.held_words.HeldWordsWordsIn.TheImpl.{ghosts}
 use Rattle.entry_slots.specs.Entries.{listed}
 use Rattle.entry_slots.specs.Standing.{entries}
-use Rattle.mark_play.specs.Holding.{IsHeldFor}
+use Rattle.mark_play.specs.HeldPlaces.{IsHeldFor}
 use Rattle.mark_play.proofs.holding.hold_all.Given as goal
 
 abbrev pub invariant-loop-worker : goal.invariant-loop-worker

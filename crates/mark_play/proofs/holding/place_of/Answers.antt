@@ -1,7 +1,7 @@
 use Rattle.std.proofs.Common.{subst}
 use Rattle.entry_slots.specs.Standing.{entries}
-use Rattle.mark_play.specs.Holding.{IsPlaceOf}
-use Rattle.mark_play.proofs.Placing.{first_of_both, second_of_both}
+use Rattle.mark_play.specs.HeldPlaces.{IsPlaceOf}
+use Rattle.mark_play.proofs.RowPlaces.{first_of_both, second_of_both}
 use Rattle.mark_play.proofs.holding.place_of.Goals as goal
 
 pub returns-then-at-ne0-clause-place : goal.returns-then-at-ne0-clause-place

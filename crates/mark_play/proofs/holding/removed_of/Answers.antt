@@ -2,9 +2,9 @@ use Rattle.std.proofs.Common.{◌∙◌, ◌+◌, ◌≤◌, ℕ, refl, sym, sub
 use Rattle.std.specs.Prelude.{count_by}
 use Rattle.entry_slots.specs.Lists.{is_at}
 use Rattle.entry_slots.specs.Standing.{entries}
-use Rattle.entry_slots.specs.Passing.{removed_here, removed_end}
-use Rattle.mark_play.proofs.Placing.{its_place, removed_zero, passed_one, passed_all, shorter}
-use Rattle.mark_play.specs.Holding.{IsPlaceOf}
+use Rattle.entry_slots.specs.RowWalks.{removed_here, removed_end}
+use Rattle.mark_play.proofs.RowPlaces.{its_place, removed_zero, passed_one, passed_all, shorter}
+use Rattle.mark_play.specs.HeldPlaces.{IsPlaceOf}
 use Rattle.mark_play.proofs.holding.removed_of.Goals as goal
 
 pub head-requires-clause-there : goal.head-requires-clause-there

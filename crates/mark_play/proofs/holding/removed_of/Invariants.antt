@@ -4,7 +4,7 @@ use Rattle.seg_words.specs.Kept.{Kept}
 use Rattle.apcu_model.specs.Cache.{Row}
 use Rattle.entry_slots.specs.Lists.{first_place}
 use Rattle.entry_slots.specs.Standing.{entries}
-use Rattle.mark_play.proofs.Placing.{rows_from}
+use Rattle.mark_play.proofs.RowPlaces.{rows_from}
 use Rattle.mark_play.proofs.holding.removed_of.Given as goal
 
 abbrev pub invariant-loop-at : goal.invariant-loop-at

@@ -5,7 +5,7 @@ use Rattle.std.proofs.lemmas.Bool.{eq-eqb}
 use Rattle.entry_slots.specs.Lists.{is_at}
 use Rattle.entry_slots.specs.Entries.{place_of}
 use Rattle.entry_slots.specs.Standing.{entries}
-use Rattle.mark_play.proofs.Placing.{KeyRow, key_row, gone_place, other_place, its_place, rows_zero}
+use Rattle.mark_play.proofs.RowPlaces.{KeyRow, key_row, gone_place, other_place, its_place, rows_zero}
 use Rattle.mark_play.proofs.holding.row_of.Goals as goal
 
 pub returns-in_default-clause-place : goal.returns-in_default-clause-place

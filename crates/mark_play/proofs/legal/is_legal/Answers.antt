@@ -1,8 +1,8 @@
 use Rattle.std.proofs.Common.{◌≡◌, ◌∙◌, ◌<◌, None, false, length, sym, ap, arith}
 use Rattle.std.specs.Prelude.{slice_index_or}
 use Rattle.mark_play.specs.Legal.{may_meet}
-use Rattle.mark_play.proofs.HeldFor.{same_default}
-use Rattle.mark_play.proofs.Legality.{all_pass, one_fails}
+use Rattle.mark_play.proofs.HeldWorkers.{same_default}
+use Rattle.mark_play.proofs.LegalMasks.{all_pass, one_fails}
 use Rattle.mark_play.proofs.legal.is_legal.Goals as goal
 
 pub returns-then-not-may_meet : goal.returns-then-not-may_meet

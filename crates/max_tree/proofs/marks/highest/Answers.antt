@@ -1,5 +1,5 @@
 use Rattle.std.proofs.Common.{rules}
-use Rattle.max_tree.proofs.Marking.{highest_low, highest_high}
+use Rattle.max_tree.proofs.FlagBits.{highest_low, highest_high}
 use Rattle.max_tree.proofs.marks.highest.Goals as goal
 
 pub returns-clause-low : goal.returns-clause-low

@@ -3,7 +3,7 @@ use Rattle.std.proofs.lemmas.Bool.{le-leb, lt-leb}
 use Rattle.std.proofs.lemmas.Nat.{one_shl}
 use Rattle.max_tree.specs.Marks.{IsMarked}
 use Rattle.max_tree.specs.declared.row.TheConstants.{PAGE}
-use Rattle.max_tree.proofs.Marking.{one_marked, none_more}
+use Rattle.max_tree.proofs.FlagBits.{one_marked, none_more}
 use Rattle.max_tree.proofs.marks.marks_from.Goals as goal
 use Rattle.max_tree.proofs.marks.marks_from.Goals.{then-numbers-start, else-numbers-start}
 

@@ -2,7 +2,7 @@ use Rattle.std.proofs.Common.{ℕ, Bool, subst, sym, arith, ◌+◌}
 use Rattle.std.proofs.lemmas.Nat.{one_shl}
 use Rattle.std.proofs.lemmas.Bool.{lt-ltb, le-ltb}
 use Rattle.max_tree.specs.Marks.{IsMarked}
-use Rattle.max_tree.proofs.Marking.{is_some, one_marked, none_more}
+use Rattle.max_tree.proofs.FlagBits.{is_some, one_marked, none_more}
 use Rattle.max_tree.proofs.marks.marks_some.Goals as goal
 use Rattle.max_tree.proofs.marks.marks_some.Goals.{then-number-gt0, else-number-gt0}
 

@@ -1,6 +1,6 @@
 use Rattle.std.proofs.Common.{arith}
 use Rattle.max_tree.proofs.Levels.{halves}
-use Rattle.max_tree.proofs.Steps.{root_largest}
+use Rattle.max_tree.proofs.LeafLemmas.{root_largest}
 use Rattle.max_tree.proofs.nodes.root.Goals as goal
 
 pub bounds-nodes-1 : goal.bounds-nodes-1

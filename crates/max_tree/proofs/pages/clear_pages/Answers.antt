@@ -2,7 +2,7 @@ use Rattle.std.proofs.Common.{◌+◌, ◌*◌, ℕ, List, sym, subst, arith, in
 use Rattle.std.proofs.lemmas.Bool.{cases_lt}
 use Rattle.std.proofs.lemmas.List.{get_or_past}
 use Rattle.max_tree.specs.declared.row.TheConstants.{PAGE}
-use Rattle.max_tree.proofs.Paging.{Cleared, cleared_more, cleared_skip, page_some}
+use Rattle.max_tree.proofs.PageLemmas.{Cleared, cleared_more, cleared_skip, page_some}
 use Rattle.max_tree.proofs.pages.clear_pages.Goals as goal
 use Rattle.max_tree.proofs.pages.clear_pages.Goals.{then-get-gt0, else-get-gt0}
 

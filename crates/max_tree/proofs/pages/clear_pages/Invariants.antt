@@ -1,4 +1,4 @@
-use Rattle.max_tree.proofs.Paging.{Cleared}
+use Rattle.max_tree.proofs.PageLemmas.{Cleared}
 use Rattle.max_tree.proofs.pages.clear_pages.Given as goal
 
 abbrev pub invariant-loop-k : goal.invariant-loop-k

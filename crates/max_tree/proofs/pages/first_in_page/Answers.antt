@@ -1,7 +1,7 @@
 use Rattle.std.proofs.Common.{◌*◌, arith}
 use Rattle.std.proofs.lemmas.Grind.{common_steps}
 use Rattle.max_tree.specs.declared.row.TheConstants.{PAGE}
-use Rattle.max_tree.proofs.Marking.{none_enough, enough_first}
+use Rattle.max_tree.proofs.FlagBits.{none_enough, enough_first}
 use Rattle.max_tree.proofs.pages.first_in_page.Goals as goal
 
 pub returns-then-marks-eq0-clause-none : goal.returns-then-marks-eq0-clause-none

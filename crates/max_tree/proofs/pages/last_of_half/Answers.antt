@@ -1,5 +1,5 @@
 use Rattle.std.proofs.Common.{arith}
-use Rattle.max_tree.proofs.Marking.{none_some, some_last, some_found}
+use Rattle.max_tree.proofs.FlagBits.{none_some, some_last, some_found}
 use Rattle.max_tree.proofs.pages.last_of_half.Goals as goal
 
 pub returns-then-marks-eq0-clause-none : goal.returns-then-marks-eq0-clause-none

@@ -1,5 +1,5 @@
 use Rattle.std.proofs.Common.{arith}
-use Rattle.max_tree.proofs.Topping.{top_new, top_stays}
+use Rattle.max_tree.proofs.TopUpdate.{top_new, top_stays}
 use Rattle.max_tree.proofs.pages.top_after.Goals as goal
 
 pub returns-then-value-top : goal.returns-then-value-top

@@ -1,7 +1,7 @@
 use Rattle.std.proofs.Common.{◌*◌, ap, ◌∙◌}
 use Rattle.max_tree.specs.Pages.{largest}
 use Rattle.max_tree.specs.declared.row.TheConstants.{PAGE}
-use Rattle.max_tree.proofs.Paging.{page_range}
+use Rattle.max_tree.proofs.PageLemmas.{page_range}
 use Rattle.max_tree.proofs.pages.top_of.Goals as goal
 
 pub returns : goal.returns

@@ -1,7 +1,7 @@
 use Rattle.std.proofs.Common.{sym, subst}
 use Rattle.php_graph.specs.Building.{Draft}
 use Rattle.notation.specs.Steps.{opens, IsValueStep}
-use Rattle.notation.proofs.Steps.{value_step}
+use Rattle.notation.proofs.ItemSteps.{value_step}
 use Rattle.notation.proofs.items.put.Goals as goal
 
 pub returns-in-Ok-clause-value : goal.returns-in-Ok-clause-value

@@ -1,6 +1,6 @@
-use Rattle.notation.proofs.Top.{reading_takes}
+use Rattle.notation.proofs.ValueTexts.{reading_takes}
 use Rattle.notation.proofs.Graphs.{reading_is_graph}
-use Rattle.notation.proofs.Spelled.{spelled_read}
+use Rattle.notation.proofs.ValueReadBack.{spelled_read}
 use Rattle.notation.proofs.laws.readings_are_spellings.Goals as goal
 
 pub returns-clause-takes : goal.returns-clause-takes

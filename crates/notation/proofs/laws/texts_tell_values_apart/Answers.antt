@@ -1,4 +1,4 @@
-use Rattle.notation.proofs.Apart.{texts_apart}
+use Rattle.notation.proofs.PrefixFreeTexts.{texts_apart}
 use Rattle.notation.proofs.laws.texts_tell_values_apart.Goals as goal
 
 pub returns : goal.returns

@@ -1,6 +1,6 @@
 use Rattle.std.specs.Int.{w64}
 use Rattle.std.proofs.lemmas.Int.{to_z-of_z}
-use Rattle.notation.proofs.Alone.{integer_kept}
+use Rattle.notation.proofs.PlainValues.{integer_kept}
 use Rattle.notation.proofs.plain.integer_graph.Goals as goal
 
 pub from_places-requires : goal.from_places-requires

@@ -3,7 +3,7 @@ use Rattle.php_graph.specs.declared.kind.Kind.TheVariants.{Int}
 use Rattle.notation.specs.Reading.{reading_of}
 use Rattle.notation.specs.declared.fault.Stop.{Stop}
 use Rattle.notation.specs.Marks.{Fails, integer_at}
-use Rattle.notation.proofs.Alone.{integer_found, integer_fails}
+use Rattle.notation.proofs.PlainValues.{integer_found, integer_fails}
 use Rattle.notation.proofs.plain.number.Goals as goal
 
 pub returns-in-Ok-clause-found : goal.returns-in-Ok-clause-found

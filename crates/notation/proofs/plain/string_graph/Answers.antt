@@ -1,6 +1,6 @@
 use Rattle.std.proofs.Common.{◌≡◌, ◌+◌, ◌∙◌, ℕ, List, length, ap}
 use Rattle.seg_words.specs.Layout.{words_in}
-use Rattle.notation.proofs.Alone.{string_kept}
+use Rattle.notation.proofs.PlainValues.{string_kept}
 use Rattle.notation.proofs.plain.string_graph.Goals as goal
 
 pub from_places-requires : goal.from_places-requires

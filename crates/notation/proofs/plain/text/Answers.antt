@@ -1,7 +1,7 @@
 use Rattle.std.proofs.Common.{subst}
 use Rattle.notation.specs.declared.fault.Stop.{Stop}
 use Rattle.notation.specs.Marks.{Fails, string_at}
-use Rattle.notation.proofs.Alone.{string_found, string_fails}
+use Rattle.notation.proofs.PlainValues.{string_found, string_fails}
 use Rattle.notation.proofs.plain.text.Goals as goal
 
 pub returns-in-Ok-clause-found : goal.returns-in-Ok-clause-found

@@ -6,7 +6,7 @@ use Rattle.php_graph.specs.Graph.{levels}
 use Rattle.php_graph.specs.Building.{Draft, nothing_drafted}
 use Rattle.notation.specs.Reading.{reading_of, value_at}
 use Rattle.notation.specs.Outer.{outer_stack}
-use Rattle.notation.proofs.Outer.{began, begun_fails, due_value, at_first, fails_then, key_wanted, stack_some, closed_fails, popped, closed_on, keyed_on, key_fails_on}
+use Rattle.notation.proofs.OpenContainers.{began, begun_fails, due_value, at_first, fails_then, key_wanted, stack_some, closed_fails, popped, closed_on, keyed_on, key_fails_on}
 use Rattle.notation.proofs.reading.built.Goals as goal
 
 pub returns-in_err-count-clause-read : goal.returns-in_err-count-clause-read

@@ -5,8 +5,8 @@ use Rattle.notation.specs.declared.fault.Fault.{Fault}
 use Rattle.notation.specs.Notation.{text_of}
 use Rattle.notation.specs.Place.{left}
 use Rattle.notation.specs.Reading.{reading_of}
-use Rattle.notation.proofs.Top.{reading_takes, advance}
-use Rattle.notation.proofs.Spelled.{answered, spelled_read}
+use Rattle.notation.proofs.ValueTexts.{reading_takes, advance}
+use Rattle.notation.proofs.ValueReadBack.{answered, spelled_read}
 use Rattle.notation.proofs.Bounds.{fault_within}
 use Rattle.std.proofs.lemmas.List.{length-drop}
 use Rattle.notation.specs.Marks.{Fails}

@@ -4,7 +4,7 @@ use Rattle.std.specs.Fmt.{decimal}
 use Rattle.php_graph.specs.declared.child.Child.{Child}
 use Rattle.php_graph.specs.Graph.{levels}
 use Rattle.notation.specs.Writing.{EndsSomewhere, IsChildBegun}
-use Rattle.notation.proofs.Texts.{back_begun, plain_begun, container_begun, own_of, place_there, on_ok}
+use Rattle.notation.proofs.WriterTexts.{back_begun, plain_begun, container_begun, own_of, place_there, on_ok}
 use Rattle.notation.proofs.writing.put_child.Goals as goal
 
 pub kind-requires-clause-from_one : goal.kind-requires-clause-from_one

@@ -6,7 +6,7 @@ use Rattle.php_graph.specs.Graph.{levels}
 use Rattle.notation.specs.Notation.{text_from}
 use Rattle.notation.specs.Writing.{pending, EndsSomewhere}
 use Rattle.notation.specs.declared.writing.Frame.{Frame}
-use Rattle.notation.proofs.Texts.{first_ends, longer_extends, extends_then}
+use Rattle.notation.proofs.WriterTexts.{first_ends, longer_extends, extends_then}
 use Rattle.notation.proofs.writing.put_graph.Goals as goal
 
 pub put_child-requires-clause-ends : goal.put_child-requires-clause-ends

@@ -5,7 +5,7 @@ use Rattle.php_graph.specs.declared.child.Child.{Child}
 use Rattle.php_graph.specs.Graph.{levels}
 use Rattle.notation.specs.Parts.{members_of}
 use Rattle.notation.specs.Writing.{EndsSomewhere, IsChildBegun}
-use Rattle.notation.proofs.Texts.{some_member, no_member, end_made, member_next, member_made, on_ok, pushed_len}
+use Rattle.notation.proofs.WriterTexts.{some_member, no_member, end_made, member_next, member_made, on_ok, pushed_len}
 use Rattle.notation.proofs.writing.step.Goals as goal
 
 pub put_child-requires-clause-ends : goal.put_child-requires-clause-ends

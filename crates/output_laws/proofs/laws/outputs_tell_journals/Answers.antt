@@ -1,4 +1,4 @@
-use Rattle.output_laws.proofs.Legal.{ends_tell, outputs_tell}
+use Rattle.output_laws.proofs.LegalJournals.{ends_tell, outputs_tell}
 use Rattle.output_laws.proofs.laws.outputs_tell_journals.Goals as goal
 
 pub returns : goal.returns

@@ -4,10 +4,10 @@ use Rattle.php_graph.specs.declared.key.Key.{Key}
 use Rattle.std.specs.Prelude.{Option}
 use Rattle.php_graph.specs.Graph.{children_of, is_object}
 use Rattle.php_graph.specs.Building.{attached, is_name}
-use Rattle.php_graph.specs.Kept.{kinds_of}
-use Rattle.php_graph.specs.Drafted.{CanTake, CanAttach, places_of}
+use Rattle.php_graph.specs.PlaceOffsets.{kinds_of}
+use Rattle.php_graph.specs.BuilderState.{CanTake, CanAttach, places_of}
 use Rattle.php_graph.proofs.DraftLemmas.{place_is, slice_at, one_kind}
-use Rattle.php_graph.proofs.DraftKept.{can_take, attached_last}
+use Rattle.php_graph.proofs.InnermostContainers.{can_take, attached_last}
 use Rattle.php_graph.proofs.draft_steps.attach.Goals as goal
 use Rattle.php_graph.proofs.draft_steps.attach.Goals.{In-Some-take}
 

@@ -2,10 +2,10 @@ use Rattle.std.proofs.Common.{◌≡◌, ◌∙◌, ◌+◌, ◌++◌, ◌∷◌
 use Rattle.php_graph.specs.declared.kind.Kind.{Kind}
 use Rattle.php_graph.specs.declared.child.Child.TheVariants.{Own}
 use Rattle.php_graph.specs.Building.{attached}
-use Rattle.php_graph.specs.Kept.{kinds_of}
-use Rattle.php_graph.specs.Drafted.{CanAttach, places_of}
+use Rattle.php_graph.specs.PlaceOffsets.{kinds_of}
+use Rattle.php_graph.specs.BuilderState.{CanAttach, places_of}
 use Rattle.php_graph.proofs.PlaceLemmas.{kinds_push}
-use Rattle.php_graph.proofs.DraftKept.{attached-push, can-push}
+use Rattle.php_graph.proofs.InnermostContainers.{attached-push, can-push}
 use Rattle.php_graph.proofs.draft_steps.push_other.Goals as goal
 use Rattle.php_graph.proofs.draft_steps.push_other.Goals.{In_ok-push}
 

@@ -2,9 +2,9 @@ use Rattle.std.proofs.Common.{◌∙◌, ◌+◌, ◌++◌, ◌∷◌, [], ap, s
 use Rattle.php_graph.specs.declared.kind.Kind.{Kind}
 use Rattle.php_graph.specs.declared.child.Child.TheVariants.{Own}
 use Rattle.php_graph.specs.Building.{attached}
-use Rattle.php_graph.specs.Kept.{PlaceList, kinds_of}
-use Rattle.php_graph.specs.Drafted.{CanAttach, kinds_in, places_of}
-use Rattle.php_graph.proofs.DraftKept.{attached_nothing, no_key}
+use Rattle.php_graph.specs.PlaceOffsets.{PlaceList, kinds_of}
+use Rattle.php_graph.specs.BuilderState.{CanAttach, kinds_in, places_of}
+use Rattle.php_graph.proofs.InnermostContainers.{attached_nothing, no_key}
 use Rattle.php_graph.proofs.draft_steps.push_place.Goals as goal
 
 pub returns-in-None-clause-ok : goal.returns-in-None-clause-ok

@@ -3,7 +3,7 @@ use Rattle.php_graph.specs.Graph.{kind_at, end_of}
 use Rattle.php_graph.proofs.DraftLemmas.{IsPlace, place_is, kind_from}
 use Rattle.php_graph.proofs.PartEnds.{leads_first, leads_kind, leads_on, leads_end}
 use Rattle.php_graph.proofs.PartLemmas.{IsEnd, end_is}
-use Rattle.php_graph.specs.Kept.{kinds_of}
+use Rattle.php_graph.specs.PlaceOffsets.{kinds_of}
 use Rattle.php_graph.proofs.graph.end_of.Goals as goal
 use Rattle.php_graph.proofs.graph.end_of.Goals.{At-loop-last, After-last_own, In_default}
 

@@ -1,6 +1,6 @@
 use Rattle.std.proofs.Common.{◌-◌, ◌+◌, length}
 use Rattle.php_graph.proofs.PartEnds.{Leads}
-use Rattle.php_graph.specs.Kept.{kinds_of}
+use Rattle.php_graph.specs.PlaceOffsets.{kinds_of}
 use Rattle.php_graph.proofs.graph.end_of.Given as goal
 
 -- the value at place k ends where this one does

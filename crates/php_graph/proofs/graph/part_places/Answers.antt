@@ -4,7 +4,7 @@ use Rattle.std.specs.Option.{option_map}
 use Rattle.php_graph.specs.declared.kind.Kind.{Kind}
 use Rattle.php_graph.specs.Graph.{part_of}
 use Rattle.php_graph.proofs.PartLemmas.{part_from, part_ok}
-use Rattle.php_graph.specs.Kept.{kinds_of}
+use Rattle.php_graph.specs.PlaceOffsets.{kinds_of}
 use Rattle.php_graph.proofs.graph.part_places.Goals as goal
 use Rattle.php_graph.proofs.graph.part_places.Goals.{After-lowered}
 

@@ -4,7 +4,7 @@ use Rattle.php_graph.specs.declared.item.Wants.TheVariants.{Done}
 use Rattle.php_graph.specs.Graph.{levels, end_of, IsGraph}
 use Rattle.php_graph.specs.Building.{all_drafted, wants_of}
 use Rattle.php_graph.proofs.EndLemmas.{own_grows}
-use Rattle.php_graph.proofs.LawWritten.{written_items}
+use Rattle.php_graph.proofs.LawPushedItems.{written_items}
 use Rattle.php_graph.proofs.LawSteps.{drafted_graph, drafted_alone}
 use Rattle.php_graph.proofs.laws.written_graphs.Goals as goal
 

@@ -1,5 +1,5 @@
 use Rattle.std.proofs.Common.{◌≡◌, ◌+◌, ◌++◌, take, drop}
-use Rattle.php_graph.specs.Kept.{kinds_at, offsets_at, offsets_from}
+use Rattle.php_graph.specs.PlaceOffsets.{kinds_at, offsets_at, offsets_from}
 use Rattle.php_graph.specs.Size.{image_length}
 use Rattle.php_graph.proofs.places.lay_out.Given as goal
 

@@ -1,6 +1,6 @@
 use Rattle.std.proofs.Common.{◌≡◌, ◌++◌, drop}
 use Rattle.std.specs.Option.{option_map}
-use Rattle.php_graph.specs.Kept.{kinds_at}
+use Rattle.php_graph.specs.PlaceOffsets.{kinds_at}
 use Rattle.php_graph.specs.Graph.{lowered_places}
 use Rattle.php_graph.proofs.places.lowered.Given as goal
 

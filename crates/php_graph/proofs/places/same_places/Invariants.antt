@@ -1,5 +1,5 @@
 use Rattle.std.proofs.Common.{◌≡◌, take}
-use Rattle.php_graph.specs.Kept.{kinds_at}
+use Rattle.php_graph.specs.PlaceOffsets.{kinds_at}
 use Rattle.php_graph.proofs.places.same_places.Given as goal
 
 -- the places so far are the same

@@ -1,8 +1,8 @@
 use Rattle.std.proofs.Common.{◌==◌, refl}
-use Rattle.pin_table.proofs.Lists.{named_there, there_named, held_bit}
-use Rattle.pin_table.proofs.Held.{bit_held}
-use Rattle.pin_table.proofs.Books.{events_after, fetched_after}
-use Rattle.pin_table.proofs.Parts.{rule_of}
+use Rattle.pin_table.proofs.WindowLists.{named_there, there_named, held_bit}
+use Rattle.pin_table.proofs.HeldBlocks.{bit_held}
+use Rattle.pin_table.proofs.EventLogs.{events_after, fetched_after}
+use Rattle.pin_table.proofs.RuleParts.{rule_of}
 use Rattle.pin_table.proofs.laws.rule_laws.Goals as goal
 
 pub returns : goal.returns

@@ -5,11 +5,11 @@ use Rattle.pin_table.proofs.passes.gather.Given as goal
 abbrev pub invariant-loop-e : goal.invariant-loop-e
 invariant-loop-e l = record {
   table : l.seat.table ≡ l.initial.seat.table;
-  words : l.seat.desk.words ≡ l.initial.seat.desk.words;
-  history : l.seat.desk.book.history ≡ l.initial.seat.desk.book.history;
-  made : l.seat.desk.book.made ≡ l.initial.seat.desk.book.made;
-  hand : l.seat.desk.book.hand ≡ None;
-  closed : known_list l.ended.ended ++ l.seat.desk.book.closed ≡ known_list l.initial.ended.ended ++ l.initial.seat.desk.book.closed;
+  words : l.seat.state.words ≡ l.initial.seat.state.words;
+  history : l.seat.state.log.history ≡ l.initial.seat.state.log.history;
+  made : l.seat.state.log.made ≡ l.initial.seat.state.log.made;
+  hand : l.seat.state.log.hand ≡ None;
+  closed : known_list l.ended.ended ++ l.seat.state.log.closed ≡ known_list l.initial.ended.ended ++ l.initial.seat.state.log.closed;
   tables : AllOf l.table l.ended.ended;
 }
 

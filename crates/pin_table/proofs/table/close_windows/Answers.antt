@@ -1,6 +1,6 @@
 use Rattle.std.proofs.Common.{◌≡◌, ℕ, ◌<◌, ◌==◌, ◌∙◌, cond, ap, arith, List, length, set, get_or, length-set}
 use Rattle.std.proofs.lemmas.List.{get_or_read}
-use Rattle.pin_table.proofs.Lists.{closed_step, closed_here}
+use Rattle.pin_table.proofs.WindowLists.{closed_step, closed_here}
 use Rattle.pin_table.proofs.table.close_windows.Goals as goal
 
 pub loop-v-preserved : goal.loop-v-preserved

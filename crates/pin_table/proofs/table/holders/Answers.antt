@@ -1,5 +1,5 @@
 use Rattle.std.proofs.Common.{arith}
-use Rattle.pin_table.proofs.Holdings.{holders_room}
+use Rattle.pin_table.proofs.WindowHolders.{holders_room}
 use Rattle.pin_table.proofs.table.holders.Goals as goal
 use Rattle.pin_table.proofs.table.holders.Goals.{then-windows-v, else-windows-v}
 

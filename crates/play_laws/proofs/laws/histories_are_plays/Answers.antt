@@ -1,4 +1,4 @@
-use Rattle.play_laws.proofs.WholeLemmas.{played_is_told, replies_told, is_legal, is_complete}
+use Rattle.play_laws.proofs.PlayedHistories.{played_is_told, replies_told, is_legal, is_complete}
 use Rattle.play_laws.proofs.laws.histories_are_plays.Goals as goal
 
 pub returns : goal.returns

@@ -1,4 +1,4 @@
-use Rattle.play_laws.proofs.OwnLemmas.{one-more, others-add-none, length-own_replies}
+use Rattle.play_laws.proofs.OwnReplies.{one-more, others-add-none, length-own_replies}
 use Rattle.play_laws.proofs.laws.one_event_own.Goals as goal
 
 pub returns : goal.returns

@@ -1,7 +1,7 @@
 use Rattle.std.proofs.Common.{◌≡◌, ℕ, ◌<◌, true, List, [], ◌∷◌, length, Option, Some, refl, sym, ap, subst, ◌∙◌, arith, rules}
 use Rattle.std.specs.Prelude.{◌==◌, ◌||◌, false, IfSome}
 use Rattle.std.proofs.lemmas.Bool.Decides.{nat_tests}
-use Rattle.pin_table.specs.Values.{Bearer}
+use Rattle.pin_table.specs.Values.{PassView}
 use Rattle.pin_table.specs.Lists.{known_list}
 use Rattle.pin_table.specs.Views.{is_among}
 use Rattle.worker_play.specs.Goes.{KnowsOwnEvents}
@@ -13,15 +13,15 @@ of_some {A} P r x is p = subst (λ (r : Option A). IfSome r P) is p
 one_of_two : (x y w : ℕ) → x ≡ 0 → y ≡ 1 → w < 2 → (x == w || (y == w || false)) ≡ true
 one_of_two x y w first second below = grind (arith, nat_tests, first, second, below)
 
-both_among : (n : ℕ) (ended : List Bearer) (a b : Bearer) → n ≡ 2 → a.known.worker ≡ 0 → b.known.worker ≡ 1 → ended ≡ a ∷ b ∷ [] → (w : ℕ) → w < n → is_among w (known_list ended) ≡ true
+both_among : (n : ℕ) (ended : List PassView) (a b : PassView) → n ≡ 2 → a.known.worker ≡ 0 → b.known.worker ≡ 1 → ended ≡ a ∷ b ∷ [] → (w : ℕ) → w < n → is_among w (known_list ended) ≡ true
 both_among n ended a b two first second is w below =
-    ap (λ (l : List Bearer). is_among w (known_list l)) is ∙ one_of_two a.known.worker b.known.worker w first second (omega (arith, two, below))
+    ap (λ (l : List PassView). is_among w (known_list l)) is ∙ one_of_two a.known.worker b.known.worker w first second (omega (arith, two, below))
 
 pub join-a-requires-after_bounds : goal.join-a-requires-after_bounds
 join-a-requires-after_bounds g c κs within =
     let conf = sym (c.requires.conf ∙ c.requires.shape) in
     let first = c.in_ok-first.ensures.first in (
-      ((conf, ap (λ (b : Bearer). b.table) first, ap (λ (b : Bearer). b.known.own) first, subst KnowsOwnEvents (sym first) refl), search rules),
+      ((conf, ap (λ (b : PassView). b.table) first, ap (λ (b : PassView). b.known.own) first, subst KnowsOwnEvents (sym first) refl), search rules),
       search rules,
     )
 
@@ -29,5 +29,5 @@ pub close-requires-clause-every : goal.close-requires-clause-every
 close-requires-clause-every g c =
     let a = of_some _ c.join-a.result.0 _ c.in_ok-first-2.was c.join-a.ensures.first in
     let b = of_some _ c.join-a.result.1 _ c.in_ok-second.was c.join-a.ensures.second in
-    both_among _ _ c.retire.result c.retire-2.result (ap length c.requires.budgets ∙ c.requires.two) (c.retire.ensures.worker ∙ (a.1 ∙ ap (λ (b : Bearer). b.known.worker) c.in_ok-first.ensures.first))
-    (c.retire-2.ensures.worker ∙ (b.1 ∙ ap (λ (b : Bearer). b.known.worker) c.in_ok-first.ensures.second)) (search rules)
+    both_among _ _ c.retire.result c.retire-2.result (ap length c.requires.budgets ∙ c.requires.two) (c.retire.ensures.worker ∙ (a.1 ∙ ap (λ (b : PassView). b.known.worker) c.in_ok-first.ensures.first))
+    (c.retire-2.ensures.worker ∙ (b.1 ∙ ap (λ (b : PassView). b.known.worker) c.in_ok-first.ensures.second)) (search rules)

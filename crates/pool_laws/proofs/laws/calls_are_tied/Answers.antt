@@ -1,4 +1,4 @@
-use Rattle.pool_laws.proofs.Tied.{tied}
+use Rattle.pool_laws.proofs.PoolRequests.{tied}
 use Rattle.pool_laws.proofs.laws.calls_are_tied.Goals as goal
 
 pub returns : goal.returns

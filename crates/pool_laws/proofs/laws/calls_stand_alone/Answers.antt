@@ -1,4 +1,4 @@
-use Rattle.pool_laws.proofs.ByCalls as lemmas
+use Rattle.pool_laws.proofs.CallEvents as lemmas
 use Rattle.pool_laws.proofs.laws.calls_stand_alone.Goals as goal
 
 pub returns : goal.returns

@@ -1,4 +1,4 @@
-use Rattle.pool_laws.proofs.InPlays.{in_plays}
+use Rattle.pool_laws.proofs.JournalEvents.{in_plays}
 use Rattle.pool_laws.proofs.laws.pools_in_plays.Goals as goal
 
 pub returns : goal.returns

@@ -1,4 +1,4 @@
-use Rattle.pool_laws.proofs.Law.{Known, stands_alone}
+use Rattle.pool_laws.proofs.PoolIsolation.{Known, stands_alone}
 use Rattle.pool_laws.proofs.laws.pools_stand_alone.Goals as goal
 
 pub returns : goal.returns

@@ -1,4 +1,4 @@
-use Rattle.preload_set.proofs.Playing.{bundle_comes_first}
+use Rattle.preload_set.proofs.LoaderPlay.{bundle_comes_first}
 use Rattle.preload_set.proofs.laws.bundles_load.Goals as goal
 
 pub returns : goal.returns

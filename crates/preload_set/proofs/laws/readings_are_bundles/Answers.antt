@@ -1,5 +1,5 @@
-use Rattle.preload_set.proofs.Binding.{ValuesTake}
-use Rattle.preload_set.proofs.Written.{bundles_take, bundles_again, bundles_one}
+use Rattle.preload_set.proofs.ResultBinds.{ValuesTake}
+use Rattle.preload_set.proofs.BundleTexts.{bundles_take, bundles_again, bundles_one}
 use Rattle.preload_set.proofs.laws.readings_are_bundles.Goals as goal
 
 pub returns-clause-takes : goal.returns-clause-takes

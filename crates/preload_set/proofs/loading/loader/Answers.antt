@@ -1,6 +1,6 @@
 use Rattle.std.proofs.Common.{◌≡◌, ◌++◌, [], ◌∷◌, List, length, length-append, slice_get, sym, ap, ◌∙◌, arith}
 use Rattle.script_read.specs.declared.script.Step.{Step}
-use Rattle.script_read.specs.Generated.{step_now}
+use Rattle.script_read.specs.GeneratedScripts.{step_now}
 use Rattle.preload_set.specs.Bundle.{Record}
 use Rattle.preload_set.proofs.Loaders.{one_step}
 use Rattle.preload_set.proofs.loading.loader.Goals as goal

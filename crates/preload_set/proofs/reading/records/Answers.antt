@@ -4,7 +4,7 @@ use Rattle.std.proofs.lemmas.Result.{err_from_is_err_and}
 use Rattle.notation.specs.Place.{left}
 use Rattle.preload_set.specs.Bundle.{Record}
 use Rattle.preload_set.specs.Reading.{bundle_at}
-use Rattle.preload_set.proofs.Walking.{some_left, none_left, fewer_left, records_fail, goes_on, is_done}
+use Rattle.preload_set.proofs.RecordLoop.{some_left, none_left, fewer_left, records_fail, goes_on, is_done}
 use Rattle.preload_set.proofs.reading.records.Goals as goal
 
 pub returns-in_err-key : goal.returns-in_err-key

@@ -1,7 +1,7 @@
 use Rattle.std.proofs.Common.{◌≡◌, ◌≤◌, ◌-◌, length}
 use Rattle.notation.specs.Place.{left}
 use Rattle.preload_set.specs.Reading.{bundle_at}
-use Rattle.preload_set.proofs.Walking.{IsSoFar}
+use Rattle.preload_set.proofs.RecordLoop.{IsSoFar}
 use Rattle.preload_set.proofs.reading.records.Given as goal
 
 abbrev pub invariant-reading : goal.invariant-reading

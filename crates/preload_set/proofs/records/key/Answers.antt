@@ -1,7 +1,7 @@
 use Rattle.std.proofs.Common.{List, length, ap, arith}
 use Rattle.php_graph.specs.declared.kind.Kind.{Kind}
 use Rattle.notation.specs.Notation.{text_of}
-use Rattle.preload_set.proofs.Steps.{key_some, key_refused}
+use Rattle.preload_set.proofs.RecordParts.{key_some, key_refused}
 use Rattle.preload_set.proofs.records.key.Goals as goal
 
 pub returns-in-Ok-clause-on : goal.returns-in-Ok-clause-on

@@ -1,6 +1,6 @@
 use Rattle.std.proofs.Common.{sym, ◌∙◌, arith}
 use Rattle.std.proofs.lemmas.Bool.{eq-eqb, ne_eqb}
-use Rattle.preload_set.proofs.Steps.{due_read, due_ends, due_refused}
+use Rattle.preload_set.proofs.RecordParts.{due_read, due_ends, due_refused}
 use Rattle.preload_set.proofs.records.separator.Goals.{in-None, in-Some-2}
 use Rattle.preload_set.proofs.records.separator.Goals as goal
 

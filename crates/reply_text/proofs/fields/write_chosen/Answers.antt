@@ -5,7 +5,7 @@ use Rattle.notation.specs.Notation.{array_head}
 use Rattle.reply_text.specs.Replies.{members_text, value_members}
 use Rattle.reply_text.specs.Items.{NamedValue, chosen_from}
 use Rattle.reply_text.specs.Fields.{field_value}
-use Rattle.reply_text.proofs.Printed.{members_len, array_ends}
+use Rattle.reply_text.proofs.MemberCounts.{members_len, array_ends}
 use Rattle.reply_text.proofs.fields.write_chosen.Goals as goal
 
 pub returns-clause-text : goal.returns-clause-text

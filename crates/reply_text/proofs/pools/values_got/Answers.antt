@@ -5,7 +5,7 @@ use Rattle.apcu_model.specs.declared.request.Reply.{Reply}
 use Rattle.reply_text.specs.Notes.{lent_notes}
 use Rattle.reply_text.specs.PoolReplies.{got_in}
 use Rattle.reply_text.specs.Replies.{noted}
-use Rattle.reply_text.proofs.KeyByKey.{split_at, past_both, in_both, gone, noted_more, noted_past, lent_noted}
+use Rattle.reply_text.proofs.SeveralKeys.{split_at, past_both, in_both, gone, noted_more, noted_past, lent_noted}
 use Rattle.reply_text.proofs.pools.values_got.Goals as goal
 
 pub loop-i-preserved : goal.loop-i-preserved

@@ -4,8 +4,8 @@ use Rattle.php_graph.specs.declared.kind.Kind.{Kind}
 use Rattle.reply_text.specs.Notes.{lent_notes}
 use Rattle.reply_text.specs.PoolReplies.{got_in}
 use Rattle.reply_text.specs.Replies.{array_text, value_members}
-use Rattle.reply_text.proofs.KeyByKey.{lent_len, told_len, both_read}
-use Rattle.reply_text.proofs.Printed.{all_noted_len, on_ok}
+use Rattle.reply_text.proofs.SeveralKeys.{lent_len, told_len, both_read}
+use Rattle.reply_text.proofs.MemberCounts.{all_noted_len, on_ok}
 use Rattle.reply_text.proofs.pools.write_got_all.Goals as goal
 
 pub write_values-requires : goal.write_values-requires

@@ -4,7 +4,7 @@ use Rattle.std.proofs.Math.ListN.{drop_of_length-le}
 use Rattle.std.proofs.lemmas.List.{length-map}
 use Rattle.notation.specs.Notation.{array_head}
 use Rattle.reply_text.specs.Replies.{members_text, numbered}
-use Rattle.reply_text.proofs.Printed.{numbered_len, on_ok, array_ends}
+use Rattle.reply_text.proofs.MemberCounts.{numbered_len, on_ok, array_ends}
 use Rattle.reply_text.proofs.replies.write_numbered.Goals as goal
 
 pub returns : goal.returns

@@ -4,7 +4,7 @@ use Rattle.std.proofs.lemmas.List.{length-map}
 use Rattle.php_graph.specs.declared.kind.Kind.{Kind}
 use Rattle.notation.specs.Notation.{array_head}
 use Rattle.reply_text.specs.Replies.{members_text, value_members}
-use Rattle.reply_text.proofs.Printed.{members_len, on_ok, array_ends}
+use Rattle.reply_text.proofs.MemberCounts.{members_len, on_ok, array_ends}
 use Rattle.reply_text.proofs.replies.write_values.Goals as goal
 
 pub returns : goal.returns

@@ -2,7 +2,7 @@ use Rattle.std.proofs.Common.{◌≡◌, ℕ, ◌+◌, ◌<◌, ◌≤◌, Bool,
 use Rattle.std.specs.Prelude.{min}
 use Rattle.apcu_model.specs.declared.request.Reply.{Reply}
 use Rattle.reply_text.specs.Replies.{noted_if, there_in}
-use Rattle.reply_text.proofs.KeyByKey.{split_at, past_both, in_both, gone, key_there, noted_more, noted_past}
+use Rattle.reply_text.proofs.SeveralKeys.{split_at, past_both, in_both, gone, key_there, noted_more, noted_past}
 use Rattle.reply_text.proofs.several.keys_there.Goals as goal
 use Rattle.reply_text.proofs.several.keys_there.Goals.{then-is_done+in_ok-note, else-is_done}
 

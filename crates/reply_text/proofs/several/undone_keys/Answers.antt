@@ -3,7 +3,7 @@ use Rattle.std.specs.Prelude.{min}
 use Rattle.std.proofs.lemmas.List.{append-nil, map-append}
 use Rattle.apcu_model.specs.declared.request.Reply.{Reply}
 use Rattle.reply_text.specs.Replies.{undone}
-use Rattle.reply_text.proofs.KeyByKey.{split_at, undone_skip, undone_take, undone_past, past_both, in_both, gone, key_there}
+use Rattle.reply_text.proofs.SeveralKeys.{split_at, undone_skip, undone_take, undone_past, past_both, in_both, gone, key_there}
 use Rattle.reply_text.proofs.several.undone_keys.Goals as goal
 use Rattle.reply_text.proofs.several.undone_keys.Goals.{then-not-is_done+in_ok-push, else-not-is_done}
 

@@ -4,7 +4,7 @@ use Rattle.std.proofs.lemmas.List.{append-nil, map-append}
 use Rattle.php_graph.specs.declared.kind.Kind.{Kind}
 use Rattle.apcu_model.specs.declared.request.Reply.{Reply}
 use Rattle.reply_text.specs.Replies.{undone}
-use Rattle.reply_text.proofs.KeyByKey.{split_at, undone_skip, undone_take, past_both, in_both, pair_there, pairs_past}
+use Rattle.reply_text.proofs.SeveralKeys.{split_at, undone_skip, undone_take, past_both, in_both, pair_there, pairs_past}
 use Rattle.reply_text.proofs.several.undone_pairs.Goals as goal
 use Rattle.reply_text.proofs.several.undone_pairs.Goals.{then-not-is_done+in_ok-push, else-not-is_done}
 

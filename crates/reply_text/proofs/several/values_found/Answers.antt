@@ -4,7 +4,7 @@ use Rattle.std.specs.Option.{option_map}
 use Rattle.apcu_model.specs.declared.request.Reply.{Reply}
 use Rattle.reply_text.specs.Replies.{noted_if, value_in}
 use Rattle.reply_text.specs.Notes.{lent_notes}
-use Rattle.reply_text.proofs.KeyByKey.{split_at, past_both, in_both, gone, key_there, noted_more, noted_past, lent_noted}
+use Rattle.reply_text.proofs.SeveralKeys.{split_at, past_both, in_both, gone, key_there, noted_more, noted_past, lent_noted}
 use Rattle.reply_text.proofs.several.values_found.Goals as goal
 use Rattle.reply_text.proofs.several.values_found.Goals.{in-Some+in_ok-note, in_default}
 

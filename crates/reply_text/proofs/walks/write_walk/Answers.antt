@@ -6,7 +6,7 @@ use Rattle.apcu_model.specs.declared.items.ItemRow.{ItemRow}
 use Rattle.apcu_model.specs.declared.request.Reply.{Reply}
 use Rattle.reply_text.specs.Replies.{members_text}
 use Rattle.reply_text.specs.Items.{items_in, item_members}
-use Rattle.reply_text.proofs.Printed.{on_ok, array_ends}
+use Rattle.reply_text.proofs.MemberCounts.{on_ok, array_ends}
 use Rattle.reply_text.proofs.ItemTexts.{items_len, rest_from, step_goes}
 use Rattle.reply_text.proofs.walks.write_walk.Goals as goal
 

@@ -1,4 +1,4 @@
-use Rattle.run_verify.proofs.Asks.{asks_at}
+use Rattle.run_verify.proofs.CallProgress.{asks_at}
 use Rattle.run_verify.proofs.asking.pair_at.Goals as goal
 
 pub returns-then-k-len : goal.returns-then-k-len

@@ -1,7 +1,7 @@
 use Rattle.std.proofs.Common.{drop, sym, subst}
-use Rattle.run_verify.specs.Comparing.{HasPiece, DiffersAt}
+use Rattle.run_verify.specs.TextPieces.{HasPiece, DiffersAt}
 use Rattle.reply_text.specs.Output.{worker_texts}
-use Rattle.run_verify.proofs.Differing.{to_end, none_more, some_more, differs_whole}
+use Rattle.run_verify.proofs.FirstDifferences.{to_end, none_more, some_more, differs_whole}
 use Rattle.run_verify.proofs.comparing.difference.Goals as goal
 
 pub returns-in-Ok-match_piece : goal.returns-in-Ok-match_piece

@@ -1,6 +1,6 @@
 use Rattle.std.proofs.Common.{◌++◌}
-use Rattle.run_verify.specs.Comparing.{DiffersAt}
-use Rattle.run_verify.proofs.Differing.{later, err_weaker}
+use Rattle.run_verify.specs.TextPieces.{DiffersAt}
+use Rattle.run_verify.proofs.FirstDifferences.{later, err_weaker}
 use Rattle.run_verify.proofs.comparing.match_both.Goals as goal
 
 pub returns-in-Ok-clause-differs : goal.returns-in-Ok-clause-differs

@@ -1,6 +1,6 @@
 use Rattle.std.proofs.Common.{◌≡◌, ◌≢◌, ◌⊎◌, inl, inr, ◌-◌, ◌<◌, ◌≤◌, ℕ, List, ◌++◌, Some, take, drop, length, get_or, refl, subst}
 use Rattle.run_verify.specs.Verdicts.{first_difference}
-use Rattle.run_verify.proofs.Differing.{differs_here, to_end}
+use Rattle.run_verify.proofs.FirstDifferences.{differs_here, to_end}
 use Rattle.run_verify.proofs.comparing.match_piece.Goals as goal
 use Rattle.run_verify.proofs.comparing.match_piece.Goals.{then-i-left-via-then-i-left, then-i-left-via-else-i-left+then-left-i}
 

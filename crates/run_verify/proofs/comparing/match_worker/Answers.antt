@@ -2,8 +2,8 @@ use Rattle.std.proofs.Common.{◌≡◌, ℕ, List, ◌++◌, ◌∙◌, ap, sym
 use Rattle.std.specs.Prelude.{codes}
 use Rattle.std.specs.Fmt.{decimal}
 use Rattle.script_read.specs.Grammar.{ends_line}
-use Rattle.run_verify.specs.Comparing.{DiffersAt, worker_text}
-use Rattle.run_verify.proofs.Differing.{later, err_weaker}
+use Rattle.run_verify.specs.TextPieces.{DiffersAt, worker_text}
+use Rattle.run_verify.proofs.FirstDifferences.{later, err_weaker}
 use Rattle.run_verify.proofs.comparing.match_worker.Goals as goal
 
 pub returns-in-Ok-clause-differs : goal.returns-in-Ok-clause-differs

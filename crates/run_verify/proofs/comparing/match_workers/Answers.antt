@@ -1,7 +1,7 @@
 use Rattle.std.proofs.Common.{◌≡◌, ◌+◌, ◌++◌, ℕ, List, take, drop, length, get_or, ap, sym, ◌∙◌, subst}
-use Rattle.run_verify.specs.Comparing.{HasPiece, DiffersAt, worker_text}
+use Rattle.run_verify.specs.TextPieces.{HasPiece, DiffersAt, worker_text}
 use Rattle.reply_text.specs.Output.{worker_texts}
-use Rattle.run_verify.proofs.Differing.{later, sooner, joined, upto, all_texts}
+use Rattle.run_verify.proofs.FirstDifferences.{later, sooner, joined, upto, all_texts}
 use Rattle.run_verify.proofs.comparing.match_workers.Goals as goal
 
 pub loop-worker-preserved : goal.loop-worker-preserved

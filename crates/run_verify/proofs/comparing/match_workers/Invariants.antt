@@ -1,5 +1,5 @@
 use Rattle.std.proofs.Common.{take}
-use Rattle.run_verify.specs.Comparing.{HasPiece}
+use Rattle.run_verify.specs.TextPieces.{HasPiece}
 use Rattle.reply_text.specs.Output.{worker_texts}
 use Rattle.run_verify.proofs.comparing.match_workers.Given as goal
 

@@ -1,4 +1,4 @@
-use Rattle.run_verify.proofs.Judging.{only_outputs, each_output}
+use Rattle.run_verify.proofs.YesVerdicts.{only_outputs, each_output}
 use Rattle.run_verify.proofs.laws.yes_is_an_output.Goals as goal
 
 pub returns-clause-only : goal.returns-clause-only

@@ -7,7 +7,7 @@ use Rattle.script_read.specs.Play.{replies_of}
 use Rattle.run_verify.specs.Marks.{IsMarked}
 use Rattle.run_verify.specs.Games.{Game, IsGame}
 use Rattle.run_verify.proofs.Games.{no_worker, not_legal, legal_same, wanting, marked_after, game_on}
-use Rattle.run_verify.proofs.Timed.{script_at}
+use Rattle.run_verify.proofs.TimedScripts.{script_at}
 use Rattle.run_verify.proofs.marks.play_mark.Goals as goal
 use Rattle.run_verify.proofs.marks.play_mark.Goals.{then-mark-count-via-then-mark-count, then-mark-count-via-else-mark-count+then-not-is_legal}
 

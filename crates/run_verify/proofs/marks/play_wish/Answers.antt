@@ -7,7 +7,7 @@ use Rattle.apcu_model.specs.History.{after_event, reply_in}
 use Rattle.mark_play.specs.Events.{event_by}
 use Rattle.script_read.specs.Clock.{timed}
 use Rattle.run_verify.specs.Seats.{IsSeat, wish_in}
-use Rattle.run_verify.proofs.Timed.{asked_timed, knows}
+use Rattle.run_verify.proofs.TimedScripts.{asked_timed, knows}
 use Rattle.run_verify.proofs.marks.play_wish.Goals as goal
 
 pub returns-in_default-clause-marked : goal.returns-in_default-clause-marked

@@ -1,5 +1,5 @@
 use Rattle.reply_text.specs.Output.{mark_line}
-use Rattle.run_verify.proofs.Spelled.{whole_piece, no_piece}
+use Rattle.run_verify.proofs.LinePieces.{whole_piece, no_piece}
 use Rattle.run_verify.proofs.reading.is_line_of.Goals as goal
 
 pub returns-in-Ok : goal.returns-in-Ok

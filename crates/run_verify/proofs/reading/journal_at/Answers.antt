@@ -1,5 +1,5 @@
 use Rattle.std.proofs.Common.{sym, ◌∙◌, arith}
-use Rattle.run_verify.proofs.Lines.{found_here}
+use Rattle.run_verify.proofs.LineBounds.{found_here}
 use Rattle.run_verify.proofs.reading.journal_at.Goals as goal
 
 pub returns-then-begins_journal-clause-part : goal.returns-then-begins_journal-clause-part

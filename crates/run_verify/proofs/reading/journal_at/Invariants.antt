@@ -1,5 +1,5 @@
 use Rattle.std.proofs.Common.{◌≡◌, ◌≤◌, length, drop, None}
-use Rattle.run_verify.specs.Reading.{begins_line}
+use Rattle.run_verify.specs.OutputLines.{begins_line}
 use Rattle.run_verify.specs.Verdicts.{journal_from}
 use Rattle.run_verify.proofs.reading.journal_at.Given as goal
 

@@ -1,5 +1,5 @@
 use Rattle.std.proofs.Common.{arith}
-use Rattle.run_verify.proofs.Lines.{line_is, line_stops, none_left}
+use Rattle.run_verify.proofs.LineBounds.{line_is, line_stops, none_left}
 use Rattle.run_verify.proofs.reading.line_end.Goals as goal
 
 pub returns-then-output-end-eq10-clause-line : goal.returns-then-output-end-eq10-clause-line

@@ -1,5 +1,5 @@
 use Rattle.std.proofs.Common.{◌≡◌, ◌+◌, ◌-◌, ◌≤◌, length, drop}
-use Rattle.run_verify.specs.Reading.{first_line}
+use Rattle.run_verify.specs.OutputLines.{first_line}
 use Rattle.run_verify.proofs.reading.line_end.Given as goal
 
 abbrev pub invariant-bytes : goal.invariant-bytes

@@ -2,8 +2,8 @@ use Rattle.std.proofs.Common.{◌≡◌, ◌++◌, List, ℕ, ◌∙◌, subst}
 use Rattle.std.specs.Fmt.{decimal}
 use Rattle.reply_text.specs.Output.{mask_text, mark_line}
 use Rattle.script_read.specs.Grammar.{ends_line}
-use Rattle.run_verify.specs.Comparing.{HasPiece, DiffersAt}
-use Rattle.run_verify.proofs.Differing.{joined, later, sooner, err_weaker}
+use Rattle.run_verify.specs.TextPieces.{HasPiece, DiffersAt}
+use Rattle.run_verify.proofs.FirstDifferences.{joined, later, sooner, err_weaker}
 use Rattle.run_verify.proofs.reading.match_mark.Goals as goal
 
 pub returns-in-Err-match_mask-clause-differs : goal.returns-in-Err-match_mask-clause-differs

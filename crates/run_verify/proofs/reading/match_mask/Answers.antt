@@ -1,8 +1,8 @@
 use Rattle.std.proofs.Common.{◌≡◌, ◌+◌, ◌++◌, List, ℕ, ◌∙◌, subst, arith, sym}
 use Rattle.std.specs.Prelude.{codes}
 use Rattle.std.specs.Fmt.{decimal}
-use Rattle.run_verify.specs.Comparing.{HasPiece, DiffersAt}
-use Rattle.run_verify.proofs.Masks.{StandsUpto, none_yet, one_stands, none_needed, one_differs, all_stand, nothing_stands}
+use Rattle.run_verify.specs.TextPieces.{HasPiece, DiffersAt}
+use Rattle.run_verify.proofs.MaskTexts.{StandsUpto, none_yet, one_stands, none_needed, one_differs, all_stand, nothing_stands}
 use Rattle.run_verify.proofs.reading.match_mask.Goals as goal
 use Rattle.run_verify.proofs.reading.match_mask.Goals.{then-mask-worker-eq1+in-Ok, else-mask-worker-eq1}
 

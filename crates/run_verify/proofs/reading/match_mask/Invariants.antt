@@ -1,4 +1,4 @@
-use Rattle.run_verify.proofs.Masks.{StandsUpto}
+use Rattle.run_verify.proofs.MaskTexts.{StandsUpto}
 use Rattle.run_verify.proofs.reading.match_mask.Given as goal
 
 abbrev pub invariant-loop-worker : goal.invariant-loop-worker

@@ -4,8 +4,8 @@ use Rattle.script_read.specs.declared.script.Step.{Step}
 use Rattle.script_read.specs.Clock.{timed_step, timed}
 use Rattle.script_read.specs.Play.{asking_of}
 use Rattle.run_verify.specs.Seats.{is_asking, next_from}
-use Rattle.run_verify.proofs.Asks.{asks_some, asks_none, next_call, no_call, same_step}
-use Rattle.run_verify.proofs.Timed.{timed_at}
+use Rattle.run_verify.proofs.CallProgress.{asks_some, asks_none, next_call, no_call, same_step}
+use Rattle.run_verify.proofs.TimedScripts.{timed_at}
 use Rattle.run_verify.proofs.seat.settle.Goals as goal
 
 pub returns-then-asks-clause-asking : goal.returns-then-asks-clause-asking

@@ -7,8 +7,8 @@ use Rattle.script_read.specs.Play.{Wish, asking_of, moment_for}
 use Rattle.mark_play.specs.Asks.{MayAsk}
 use Rattle.run_verify.specs.declared.asking.Query.{Query}
 use Rattle.run_verify.specs.Seats.{asks_or, next_from, queried}
-use Rattle.run_verify.proofs.Asks.{ends_now, has_ended, wants_now, empty_list, some_list}
-use Rattle.run_verify.proofs.Timed.{timed_at}
+use Rattle.run_verify.proofs.CallProgress.{ends_now, has_ended, wants_now, empty_list, some_list}
+use Rattle.run_verify.proofs.TimedScripts.{timed_at}
 use Rattle.run_verify.proofs.seat.wish_of.Goals as goal
 
 pub returns-then-is_empty : goal.returns-then-is_empty

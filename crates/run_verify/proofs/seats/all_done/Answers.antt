@@ -2,7 +2,7 @@ use Rattle.std.proofs.Common.{◌<◌, ◌≡◌, ◌∙◌, Some, length, ap, s
 use Rattle.std.specs.Prelude.{slice_get}
 use Rattle.std.proofs.lemmas.Option.{slice_get-get_or}
 use Rattle.run_verify.specs.Seats.{KnowsDone}
-use Rattle.run_verify.proofs.Seated.{one_done, knows_end, knows_more}
+use Rattle.run_verify.proofs.GameSeats.{one_done, knows_end, knows_more}
 use Rattle.run_verify.proofs.seats.all_done.Goals as goal
 
 pub returns-then-not-is_done : goal.returns-then-not-is_done

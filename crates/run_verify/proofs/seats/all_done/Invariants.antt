@@ -1,4 +1,4 @@
-use Rattle.run_verify.proofs.Seated.{EachDone}
+use Rattle.run_verify.proofs.GameSeats.{EachDone}
 use Rattle.run_verify.proofs.seats.all_done.Given as goal
 
 abbrev pub invariant-loop-worker : goal.invariant-loop-worker

@@ -1,7 +1,7 @@
 use Rattle.std.proofs.Common.{◌≡◌, ◌∙◌, ℕ, List, [], ◌∷◌, ◌++◌, length, map, append-nil, refl, ap, sym, arith, rules}
 use Rattle.std.specs.Vec.Iter.{into_iter_items}
 use Rattle.run_verify.specs.declared.seat.Seat.{Seat}
-use Rattle.run_verify.proofs.Seated.{one_told, tells}
+use Rattle.run_verify.proofs.GameSeats.{one_told, tells}
 use Rattle.run_verify.proofs.seats.into_texts.Goals as goal
 
 nothing_left : (l : List Seat) → length l ≡ 0 → l ≡ []

@@ -1,5 +1,5 @@
 use Rattle.std.proofs.Common.{[], ◌∷◌, length, length-append, ap, sym, subst, arith}
-use Rattle.run_verify.proofs.Seated.{AreFirst, one_first, begins}
+use Rattle.run_verify.proofs.GameSeats.{AreFirst, one_first, begins}
 use Rattle.run_verify.proofs.seats.seats_for.Goals as goal
 
 pub loop-worker-init : goal.loop-worker-init

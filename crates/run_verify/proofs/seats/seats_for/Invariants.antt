@@ -1,5 +1,5 @@
 use Rattle.std.proofs.Common.{◌≡◌, length}
-use Rattle.run_verify.proofs.Seated.{AreFirst}
+use Rattle.run_verify.proofs.GameSeats.{AreFirst}
 use Rattle.run_verify.proofs.seats.seats_for.Given as goal
 
 abbrev pub invariant-loop-worker : goal.invariant-loop-worker

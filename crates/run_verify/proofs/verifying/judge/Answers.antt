@@ -5,9 +5,9 @@ use Rattle.reply_text.specs.Output.{worker_texts}
 use Rattle.script_read.specs.Budgets.{all_events}
 use Rattle.script_read.specs.Clock.{all_timed}
 use Rattle.script_read.specs.Play.{are_done, marked}
-use Rattle.mark_play.specs.Reaching.{Replayed}
+use Rattle.mark_play.specs.ReplayStages.{Replayed}
 use Rattle.run_verify.specs.Games.{Game, IsGame, game_begun}
-use Rattle.run_verify.specs.Judging.{IsJudgedTo}
+use Rattle.run_verify.specs.JudgedOutputs.{IsJudgedTo}
 use Rattle.run_verify.specs.Verdicts.{first_difference}
 use Rattle.run_verify.specs.declared.played.Played.{Played}
 use Rattle.run_verify.specs.declared.seat.Seat.{Seat}

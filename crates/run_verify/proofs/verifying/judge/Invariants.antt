@@ -1,7 +1,7 @@
 use Rattle.std.proofs.Common.{◌≡◌, ◌+◌, ◌-◌, length}
 use Rattle.script_read.specs.Clock.{all_timed}
 use Rattle.run_verify.specs.Games.{IsGame}
-use Rattle.run_verify.specs.Judging.{IsJudgedTo}
+use Rattle.run_verify.specs.JudgedOutputs.{IsJudgedTo}
 use Rattle.run_verify.proofs.verifying.judge.Given as goal
 
 abbrev pub invariant-lines : goal.invariant-lines

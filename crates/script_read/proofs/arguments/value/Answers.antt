@@ -1,4 +1,4 @@
-use Rattle.script_read.proofs.Values.{value_read}
+use Rattle.script_read.proofs.CursorValues.{value_read}
 use Rattle.script_read.proofs.arguments.value.Goals as goal
 
 pub returns-in-Ok-clause-read : goal.returns-in-Ok-clause-read

@@ -5,7 +5,7 @@ use Rattle.std.proofs.lemmas.Int.{ints}
 use Rattle.std.proofs.lemmas.Result.{err_from_is_err_and}
 use Rattle.script_read.specs.declared.call.Call.TheVariants.{Cas}
 use Rattle.script_read.specs.declared.effect.Effect.TheVariants.{Calls}
-use Rattle.script_read.proofs.Rows.{cas_is, fails, goes_on, was_read}
+use Rattle.script_read.proofs.TableRows.{cas_is, fails, goes_on, was_read}
 use Rattle.script_read.proofs.counters.cas.Goals as goal
 
 pub returns-in_err-key-clause-read : goal.returns-in_err-key-clause-read

@@ -3,7 +3,7 @@ use Rattle.std.proofs.lemmas.Grind.{common_steps}
 use Rattle.std.proofs.lemmas.Int.{ints}
 use Rattle.std.proofs.lemmas.Result.{err_from_is_err_and}
 use Rattle.script_read.specs.Table.{step_by}
-use Rattle.script_read.proofs.Rows.{count_is, fails, goes_on, count_goes}
+use Rattle.script_read.proofs.TableRows.{count_is, fails, goes_on, count_goes}
 use Rattle.script_read.proofs.counters.count.Goals as goal
 
 pub returns-in_err-key-clause-read : goal.returns-in_err-key-clause-read

@@ -4,7 +4,7 @@ use Rattle.std.proofs.lemmas.Result.{err_from_is_err_and}
 use Rattle.apcu_model.specs.Levels.{Generator}
 use Rattle.script_read.specs.declared.call.Call.TheVariants.{Entry}
 use Rattle.script_read.specs.declared.effect.Effect.TheVariants.{Calls}
-use Rattle.script_read.proofs.Rows.{entry_is, fails, goes_on, was_read}
+use Rattle.script_read.proofs.TableRows.{entry_is, fails, goes_on, was_read}
 use Rattle.script_read.proofs.counters.entry.Goals as goal
 
 pub returns-in_err-key-clause-read : goal.returns-in_err-key-clause-read

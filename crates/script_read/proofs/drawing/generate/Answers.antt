@@ -1,7 +1,7 @@
 use Rattle.std.proofs.Common.{◌≡◌, ◌++◌, [], ◌∷◌, List, length, length-append, ap, ◌∙◌, arith, ◌%◌, ◌^◌, ◌+◌}
 use Rattle.script_read.specs.declared.script.Step.{Step}
-use Rattle.script_read.specs.Generated.{draws_from, steps_of_draws, generated}
-use Rattle.script_read.proofs.Drawn.{one_script, rest_of}
+use Rattle.script_read.specs.GeneratedScripts.{draws_from, steps_of_draws, generated}
+use Rattle.script_read.proofs.DrawnScripts.{one_script, rest_of}
 use Rattle.script_read.proofs.drawing.generate.Goals as goal
 
 pub loop-worker-preserved : goal.loop-worker-preserved

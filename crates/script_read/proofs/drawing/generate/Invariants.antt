@@ -1,6 +1,6 @@
 use Rattle.std.proofs.Common.{◌≡◌, ◌-◌, ◌++◌, length}
-use Rattle.script_read.specs.Generated.{generated}
-use Rattle.script_read.proofs.Drawn.{rest_from}
+use Rattle.script_read.specs.GeneratedScripts.{generated}
+use Rattle.script_read.proofs.DrawnScripts.{rest_from}
 use Rattle.script_read.proofs.drawing.generate.Given as goal
 
 abbrev pub invariant-loop-worker : goal.invariant-loop-worker

@@ -1,7 +1,7 @@
 use Rattle.std.proofs.Common.{◌≡◌, ◌+◌, ◌-◌, ◌++◌, [], ◌∷◌, List, length, length-append, ap, ◌∙◌, arith}
 use Rattle.script_read.specs.declared.script.Step.{Step}
-use Rattle.script_read.specs.Generated.{step_now, state_after, drawn_number, draw_of, call_of}
-use Rattle.script_read.proofs.Drawn.{one_step, rest_of}
+use Rattle.script_read.specs.GeneratedScripts.{step_now, state_after, drawn_number, draw_of, call_of}
+use Rattle.script_read.proofs.DrawnScripts.{one_step, rest_of}
 use Rattle.script_read.proofs.drawing.script_of.Goals as goal
 
 pub loop-call-preserved : goal.loop-call-preserved

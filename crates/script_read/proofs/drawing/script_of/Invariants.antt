@@ -1,5 +1,5 @@
 use Rattle.std.proofs.Common.{◌≡◌, ◌-◌, ◌++◌, length}
-use Rattle.script_read.proofs.Drawn.{rest_of}
+use Rattle.script_read.proofs.DrawnScripts.{rest_of}
 use Rattle.script_read.proofs.drawing.script_of.Given as goal
 
 abbrev pub invariant-loop-call : goal.invariant-loop-call

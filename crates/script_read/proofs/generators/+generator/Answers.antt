@@ -7,7 +7,7 @@ use Rattle.apcu_model.specs.Levels.{Generator}
 use Rattle.script_read.specs.Gives.{Stops}
 use Rattle.script_read.specs.Reading.{generator_at}
 use Rattle.script_read.proofs.GenSteps.{literal_read, too_deep, entry_begins, key_fails, space_fails, inner_fails, limit_fails, entry_ends}
-use Rattle.script_read.proofs.Rows.{moved, fault_is}
+use Rattle.script_read.proofs.TableRows.{moved, fault_is}
 use Rattle.script_read.proofs.generators.+generator.Goals as goal
 
 pub returns-in_default-clause-read : goal.returns-in_default-clause-read

@@ -1,6 +1,6 @@
 use Rattle.std.proofs.Common.{[]}
 use Rattle.std.proofs.lemmas.Result.{err_from_is_err_and}
-use Rattle.script_read.proofs.Rows.{cache_info_is, fails, goes_on, moved}
+use Rattle.script_read.proofs.TableRows.{cache_info_is, fails, goes_on, moved}
 use Rattle.script_read.proofs.information.cache_info.Goals as goal
 
 pub returns-in_err-limited-clause-read : goal.returns-in_err-limited-clause-read

@@ -1,6 +1,6 @@
 use Rattle.std.proofs.Common.{[]}
 use Rattle.std.proofs.lemmas.Result.{err_from_is_err_and}
-use Rattle.script_read.proofs.Rows.{key_info_is, fails, goes_on, moved}
+use Rattle.script_read.proofs.TableRows.{key_info_is, fails, goes_on, moved}
 use Rattle.script_read.proofs.information.key_info.Goals as goal
 
 pub returns-in_err-key-clause-read : goal.returns-in_err-key-clause-read

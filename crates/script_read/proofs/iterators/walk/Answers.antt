@@ -1,7 +1,7 @@
 use Rattle.std.proofs.Common.{[], arith}
 use Rattle.std.proofs.lemmas.Grind.{common_steps}
 use Rattle.std.proofs.lemmas.Result.{err_from_is_err_and}
-use Rattle.script_read.proofs.Rows.{walk_is, fails, goes_on, moved}
+use Rattle.script_read.proofs.TableRows.{walk_is, fails, goes_on, moved}
 use Rattle.script_read.proofs.iterators.walk.Goals as goal
 
 pub returns-in_err-search-clause-read : goal.returns-in_err-search-clause-read

@@ -2,8 +2,8 @@ use Rattle.std.proofs.Common.{[], refl, arith}
 use Rattle.std.proofs.lemmas.Grind.{common_steps}
 use Rattle.std.proofs.lemmas.Result.{err_from_is_err_and}
 use Rattle.script_read.specs.declared.call.Call.TheVariants.{WalkDelete}
-use Rattle.script_read.proofs.Calling.{call_goes}
-use Rattle.script_read.proofs.Rows.{walk_delete_is, fails, goes_on}
+use Rattle.script_read.proofs.ReadCalls.{call_goes}
+use Rattle.script_read.proofs.TableRows.{walk_delete_is, fails, goes_on}
 use Rattle.script_read.proofs.iterators.walk_delete.Goals as goal
 
 pub returns-in_err-search-clause-read : goal.returns-in_err-search-clause-read

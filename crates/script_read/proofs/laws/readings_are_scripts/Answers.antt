@@ -1,5 +1,5 @@
-use Rattle.script_read.proofs.Binding.{ValuesTake}
-use Rattle.script_read.proofs.Spelled.{scripts_take, scripts_again, scripts_one}
+use Rattle.script_read.proofs.ResultBinds.{ValuesTake}
+use Rattle.script_read.proofs.ScriptTexts.{scripts_take, scripts_again, scripts_one}
 use Rattle.script_read.proofs.laws.readings_are_scripts.Goals as goal
 
 pub returns-clause-takes : goal.returns-clause-takes

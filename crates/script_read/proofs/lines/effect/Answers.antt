@@ -4,7 +4,7 @@ use Rattle.script_read.specs.Arguments.{stored}
 use Rattle.script_read.specs.Table.{needs, moment_form, store_by, count_form, form_in}
 use Rattle.script_read.specs.Reading.{rest_at}
 use Rattle.script_read.specs.Gives.{form_named}
-use Rattle.script_read.proofs.Rows.{moved}
+use Rattle.script_read.proofs.TableRows.{moved}
 use Rattle.script_read.proofs.lines.effect.Goals as goal
 
 pub returns-in-Time-clause-read : goal.returns-in-Time-clause-read

@@ -1,4 +1,4 @@
-use Rattle.script_read.proofs.Rows.{first_refused}
+use Rattle.script_read.proofs.TableRows.{first_refused}
 use Rattle.script_read.proofs.lines.line.Goals as goal
 
 pub returns-then-begun-eq0-clause-read : goal.returns-then-begun-eq0-clause-read

@@ -1,5 +1,5 @@
 use Rattle.std.proofs.lemmas.Result.{err_from_is_err_and}
-use Rattle.script_read.proofs.Rows.{moment_is, fails, goes_on}
+use Rattle.script_read.proofs.TableRows.{moment_is, fails, goes_on}
 use Rattle.script_read.proofs.lines.moment.Goals as goal
 
 pub returns-in_err-t-clause-read : goal.returns-in_err-t-clause-read

@@ -1,7 +1,7 @@
 use Rattle.std.proofs.Common.{arith}
 use Rattle.std.proofs.lemmas.Grind.{common_steps}
 use Rattle.std.proofs.lemmas.Result.{err_from_is_err_and}
-use Rattle.script_read.proofs.Rows.{fetch_is, fails}
+use Rattle.script_read.proofs.TableRows.{fetch_is, fails}
 use Rattle.script_read.proofs.lookups.fetch.Goals as goal
 
 pub returns-in_err-asked-clause-read : goal.returns-in_err-asked-clause-read

@@ -1,7 +1,7 @@
 use Rattle.std.proofs.Common.{[]}
 use Rattle.std.proofs.lemmas.Result.{err_from_is_err_and}
-use Rattle.script_read.proofs.PoolRows.{pool_delete_is}
-use Rattle.script_read.proofs.Rows.{fails, goes_on, moved}
+use Rattle.script_read.proofs.PoolTableRows.{pool_delete_is}
+use Rattle.script_read.proofs.TableRows.{fails, goes_on, moved}
 use Rattle.script_read.proofs.pools.pool_delete.Goals as goal
 
 pub returns-in_err-pool-clause-read : goal.returns-in_err-pool-clause-read

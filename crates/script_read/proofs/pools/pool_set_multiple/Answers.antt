@@ -2,9 +2,9 @@ use Rattle.std.proofs.Common.{[], ap, sym}
 use Rattle.std.proofs.lemmas.Result.{err_from_is_err_and}
 use Rattle.simple_pool.specs.declared.call.PoolAsk.{PoolAsk}
 use Rattle.script_read.specs.declared.call.Call.TheVariants.{Pool}
-use Rattle.script_read.proofs.Calling.{call_goes}
-use Rattle.script_read.proofs.PoolRows.{pool_set_multiple_is}
-use Rattle.script_read.proofs.Rows.{fails, goes_on}
+use Rattle.script_read.proofs.ReadCalls.{call_goes}
+use Rattle.script_read.proofs.PoolTableRows.{pool_set_multiple_is}
+use Rattle.script_read.proofs.TableRows.{fails, goes_on}
 use Rattle.script_read.proofs.pools.pool_set_multiple.Goals as goal
 
 pub returns-in_err-pool-clause-read : goal.returns-in_err-pool-clause-read

@@ -2,7 +2,7 @@ use Rattle.std.proofs.Common.{◌≡◌, Err, subst, refl, arith}
 use Rattle.script_read.specs.declared.fault.Stop.{Stop}
 use Rattle.script_read.specs.Reading.{scripts_at}
 use Rattle.script_read.specs.Gives.{Stops}
-use Rattle.script_read.proofs.Inside.{scripts_inside}
+use Rattle.script_read.proofs.FaultPlaces.{scripts_inside}
 use Rattle.script_read.proofs.reading.read.Goals as goal
 
 pub overflow_sub-result : goal.overflow_sub-result

@@ -1,7 +1,7 @@
 use Rattle.std.proofs.Common.{◌<◌, arith}
 use Rattle.std.proofs.lemmas.List.Elements.{recursion_from_All, All-from_get_or}
 use Rattle.script_read.specs.Ties.{AreSomeBytes}
-use Rattle.script_read.proofs.Answered.{found_read, only_read}
+use Rattle.script_read.proofs.ReaderAnswers.{found_read, only_read}
 use Rattle.script_read.proofs.reading.read_scripts.Goals as goal
 
 pub returns-clause-found : goal.returns-clause-found

@@ -6,10 +6,10 @@ use Rattle.script_read.specs.declared.effect.Effect.{Effect}
 use Rattle.script_read.specs.declared.effect.Effect.TheVariants.{Sets, Begins, Calls}
 use Rattle.script_read.specs.declared.script.Step.{Step}
 use Rattle.script_read.specs.Clock.{at_first, request_at}
-use Rattle.script_read.specs.Growing.{grown, last_len}
+use Rattle.script_read.specs.GrowingScripts.{grown, last_len}
 use Rattle.script_read.specs.Reading.{is_worker, worker_at, line_at, scripts_at}
 use Rattle.script_read.specs.Gives.{Stops, IsInRange}
-use Rattle.script_read.proofs.Walking.{IsSoFar, begins, one_longer, begun_last, grown_length, grown_last, worker_goes_on, moment_goes_on, call_goes_on, worker_fails, line_fails, is_done, word_is}
+use Rattle.script_read.proofs.LineLoop.{IsSoFar, begins, one_longer, begun_last, grown_length, grown_last, worker_goes_on, moment_goes_on, call_goes_on, worker_fails, line_fails, is_done, word_is}
 use Rattle.script_read.proofs.reading.scripts.Goals as goal
 
 abbrev was_read : List ℕ → Effect → Result (Effect × List ℕ) Fault

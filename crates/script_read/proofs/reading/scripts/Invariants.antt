@@ -1,9 +1,9 @@
 use Rattle.std.proofs.Common.{◌≤◌, ◌+◌, length}
 use Rattle.script_read.specs.Calls.{last_moment}
 use Rattle.script_read.specs.Grammar.{most_workers}
-use Rattle.script_read.specs.Growing.{last_len}
+use Rattle.script_read.specs.GrowingScripts.{last_len}
 use Rattle.script_read.specs.Reading.{scripts_at}
-use Rattle.script_read.proofs.Walking.{IsSoFar}
+use Rattle.script_read.proofs.LineLoop.{IsSoFar}
 use Rattle.script_read.proofs.reading.scripts.Given as goal
 
 abbrev pub invariant-loop-rest : goal.invariant-loop-rest

@@ -1,7 +1,7 @@
 use Rattle.std.proofs.Common.{Option, Some, sym, ap, ◌∙◌}
 use Rattle.php_graph.specs.declared.kind.Kind.{Kind}
 use Rattle.script_read.proofs.Members.{some_places, members_of, member_there}
-use Rattle.script_read.proofs.Bits.{with_bits, bits_behind, one_bit_more, no_field, fields_are}
+use Rattle.script_read.proofs.FieldBits.{with_bits, bits_behind, one_bit_more, no_field, fields_are}
 use Rattle.script_read.proofs.searches.fields_of.Goals as goal
 
 abbrev found : Kind → Option Kind

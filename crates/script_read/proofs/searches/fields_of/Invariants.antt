@@ -1,5 +1,5 @@
 use Rattle.std.proofs.Common.{◌≡◌}
-use Rattle.script_read.proofs.Bits.{with_bits, bits_behind}
+use Rattle.script_read.proofs.FieldBits.{with_bits, bits_behind}
 use Rattle.script_read.proofs.searches.fields_of.Given as goal
 
 abbrev pub invariant-loop-i : goal.invariant-loop-i

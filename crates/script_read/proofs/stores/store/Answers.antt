@@ -4,7 +4,7 @@ use Rattle.std.proofs.lemmas.Result.{err_from_is_err_and}
 use Rattle.notation.specs.declared.fault.Fault.{Fault}
 use Rattle.script_read.specs.declared.choices.Stored.{Stored}
 use Rattle.script_read.specs.declared.choices.Stored.TheVariants as stores
-use Rattle.script_read.proofs.Rows.{stored_at, stored_fails, moved}
+use Rattle.script_read.proofs.TableRows.{stored_at, stored_fails, moved}
 use Rattle.script_read.proofs.stores.store.Goals as goal
 
 abbrev was_read : List ℕ → Stored → Result (Stored × List ℕ) Fault

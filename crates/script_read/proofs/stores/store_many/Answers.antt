@@ -1,7 +1,7 @@
 use Rattle.std.proofs.Common.{[], arith}
 use Rattle.std.proofs.lemmas.Grind.{common_steps}
 use Rattle.std.proofs.lemmas.Result.{err_from_is_err_and}
-use Rattle.script_read.proofs.Rows.{store_many_is, fails, goes_on, moved}
+use Rattle.script_read.proofs.TableRows.{store_many_is, fails, goes_on, moved}
 use Rattle.script_read.proofs.stores.store_many.Goals as goal
 
 pub returns-in_err-rest-clause-read : goal.returns-in_err-rest-clause-read

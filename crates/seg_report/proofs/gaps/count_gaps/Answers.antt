@@ -4,10 +4,10 @@ use Rattle.seg_words.specs.declared.gaps.Extent.{Extent}
 use Rattle.sma_blocks.specs.Live.{gaps}
 use Rattle.sma_blocks.specs.Tiles.{tiles}
 use Rattle.sma_blocks.proofs.Spans.{span_of, filled_of}
-use Rattle.sma_blocks.proofs.Telling.{free_runs_of}
+use Rattle.sma_blocks.proofs.SpanFreeRuns.{free_runs_of}
 use Rattle.seg_report.specs.Fits.{blocks_in}
-use Rattle.seg_report.proofs.Ahead.{gap_ahead, none_ahead, told_ahead}
-use Rattle.seg_report.proofs.Cuts.{blocks-cons}
+use Rattle.seg_report.proofs.GapsFromEdge.{gap_ahead, none_ahead, told_ahead}
+use Rattle.seg_report.proofs.FitCounts.{blocks-cons}
 use Rattle.seg_report.proofs.gaps.count_gaps.Goals as goal
 
 pub overflow_add-blocks : goal.overflow_add-blocks

@@ -5,7 +5,7 @@ use Rattle.seg_words.specs.declared.gaps.Extent.{Extent}
 use Rattle.seg_words.specs.Gaps.{free_runs}
 use Rattle.sma_blocks.specs.Live.{live_blocks}
 use Rattle.seg_report.specs.Lines.{fits_text, power_line}
-use Rattle.seg_report.proofs.Growing.{extends_by, extends_on, piece_on}
+use Rattle.seg_report.proofs.AppendedText.{extends_by, extends_on, piece_on}
 use Rattle.seg_report.proofs.gaps.put_fits.Goals as goal
 
 pub loop-bit-preserved : goal.loop-bit-preserved

@@ -4,8 +4,8 @@ use Rattle.seg_words.specs.declared.gaps.Extent.{Extent}
 use Rattle.seg_words.specs.Gaps.{free_runs}
 use Rattle.sma_blocks.specs.Live.{largest_of, live_blocks}
 use Rattle.seg_report.specs.Lines.{number_line}
-use Rattle.seg_report.proofs.Growing.{extends_by, extends_on, on_err, on_ok}
-use Rattle.seg_report.proofs.Mapping.{free_told}
+use Rattle.seg_report.proofs.AppendedText.{extends_by, extends_on, on_err, on_ok}
+use Rattle.seg_report.proofs.MapPieces.{free_told}
 use Rattle.seg_report.proofs.gaps.put_free.Goals as goal
 
 pub returns-clause-ok : goal.returns-clause-ok

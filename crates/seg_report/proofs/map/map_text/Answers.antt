@@ -1,4 +1,4 @@
-use Rattle.seg_report.proofs.Standing.{core_sizes}
+use Rattle.seg_report.proofs.CacheTiles.{core_sizes}
 use Rattle.seg_report.proofs.map.map_text.Goals as goal
 
 pub returns-in-Ok-clause-whole : goal.returns-in-Ok-clause-whole

@@ -7,12 +7,12 @@ use Rattle.sma_blocks.specs.declared.sma.Sma.{Sma}
 use Rattle.sma_blocks.specs.Live.{live_blocks}
 use Rattle.entry_slots.specs.declared.slots.EntrySlots.{EntrySlots}
 use Rattle.entry_slots.specs.Standing.{entries}
-use Rattle.cache_core.specs.Caching.{cache_of}
+use Rattle.cache_core.specs.CoreCache.{cache_of}
 use Rattle.seg_report.specs.Lines.{free_text, part_line}
 use Rattle.seg_report.specs.Parts.{gaps_in, parts_in, parts_of}
-use Rattle.seg_report.proofs.Growing.{extends_by, extends_on, on_err, on_ok}
-use Rattle.seg_report.proofs.Mapping.{three_pieces}
-use Rattle.seg_report.proofs.Standing.{core_parts, core_runs}
+use Rattle.seg_report.proofs.AppendedText.{extends_by, extends_on, on_err, on_ok}
+use Rattle.seg_report.proofs.MapPieces.{three_pieces}
+use Rattle.seg_report.proofs.CacheTiles.{core_parts, core_runs}
 use Rattle.seg_report.proofs.map.put_map.Goals as goal
 
 pub returns-clause-ok : goal.returns-clause-ok

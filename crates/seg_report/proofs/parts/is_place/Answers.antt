@@ -1,5 +1,5 @@
 use Rattle.std.proofs.Common.{◌∙◌}
-use Rattle.seg_report.proofs.Removed.{found_place}
+use Rattle.seg_report.proofs.SortedPlaces.{found_place}
 use Rattle.seg_report.proofs.parts.is_place.Goals as goal
 
 pub returns : goal.returns

@@ -4,9 +4,9 @@ use Rattle.seg_words.specs.Gaps.{free_runs}
 use Rattle.sma_blocks.specs.declared.sma.Sma.{Sma}
 use Rattle.sma_blocks.specs.Live.{live_blocks}
 use Rattle.entry_slots.specs.Standing.{entries}
-use Rattle.seg_report.specs.Walking.{IsAtPart, WalksOn, pair_of}
-use Rattle.seg_report.proofs.Growing.{extends_on, extends_same}
-use Rattle.seg_report.proofs.Standing.{starts, text_starts, text_ends, words_are}
+use Rattle.seg_report.specs.PartWalks.{IsAtPart, WalksOn, pair_of}
+use Rattle.seg_report.proofs.AppendedText.{extends_on, extends_same}
+use Rattle.seg_report.proofs.CacheTiles.{starts, text_starts, text_ends, words_are}
 use Rattle.seg_report.proofs.parts.put_all.Goals as goal
 
 pub loop-at-init : goal.loop-at-init

@@ -5,7 +5,7 @@ use Rattle.notation.specs.Appending.{Extends}
 use Rattle.entry_slots.specs.Standing.{entries}
 use Rattle.seg_report.specs.Lines.{part_line}
 use Rattle.seg_report.specs.Parts.{parts_in}
-use Rattle.seg_report.specs.Walking.{IsAtPart, lines_from}
+use Rattle.seg_report.specs.PartWalks.{IsAtPart, lines_from}
 use Rattle.seg_report.proofs.parts.put_all.Given as goal
 
 abbrev pub invariant-loop-at : goal.invariant-loop-at

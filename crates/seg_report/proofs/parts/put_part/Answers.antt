@@ -4,9 +4,9 @@ use Rattle.seg_words.specs.Gaps.{free_runs}
 use Rattle.sma_blocks.specs.declared.sma.Sma.{Sma}
 use Rattle.sma_blocks.specs.Live.{live_blocks}
 use Rattle.entry_slots.specs.Standing.{entries}
-use Rattle.seg_report.specs.Walking.{pair_of}
-use Rattle.seg_report.proofs.Ahead.{told_ahead}
-use Rattle.seg_report.proofs.Steps.{gap_bound, gap_edge, over_gap, over_row, row_at, row_listed}
+use Rattle.seg_report.specs.PartWalks.{pair_of}
+use Rattle.seg_report.proofs.GapsFromEdge.{told_ahead}
+use Rattle.seg_report.proofs.PartWalkSteps.{gap_bound, gap_edge, over_gap, over_row, row_at, row_listed}
 use Rattle.seg_report.proofs.parts.put_part.Goals as goal
 
 pub overflow_add-at : goal.overflow_add-at

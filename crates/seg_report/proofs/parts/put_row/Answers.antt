@@ -1,7 +1,7 @@
 use Rattle.std.proofs.Common.{◌∙◌}
 use Rattle.entry_slots.specs.Lists.{has_place}
 use Rattle.entry_slots.specs.Standing.{entries}
-use Rattle.seg_report.proofs.Steps.{line_is}
+use Rattle.seg_report.proofs.PartWalkSteps.{line_is}
 use Rattle.seg_report.proofs.parts.put_row.Goals as goal
 
 pub returns-clause-line : goal.returns-clause-line

@@ -1,8 +1,8 @@
 use Rattle.std.proofs.Common.{◌≡◌, ◌∙◌, ◌+◌, ◌∷◌, [], ◌++◌, ap, sym, arith, length, length-append, drop, append-nil}
 use Rattle.entry_slots.specs.Lists.{first_place}
 use Rattle.entry_slots.specs.Standing.{entries}
-use Rattle.entry_slots.specs.Passing.{removed_here, removed_end}
-use Rattle.seg_report.proofs.Removed.{place_goes_on, places_of, sorted_places}
+use Rattle.entry_slots.specs.RowWalks.{removed_here, removed_end}
+use Rattle.seg_report.proofs.SortedPlaces.{place_goes_on, places_of, sorted_places}
 use Rattle.seg_report.proofs.parts.removed_places.Goals as goal
 
 pub after-at-requires-clause-there : goal.after-at-requires-clause-there

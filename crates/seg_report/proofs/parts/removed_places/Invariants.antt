@@ -2,7 +2,7 @@ use Rattle.std.proofs.Common.{◌≡◌, ◌++◌, drop, length}
 use Rattle.seg_words.specs.Kept.{Kept}
 use Rattle.entry_slots.specs.Lists.{first_place}
 use Rattle.entry_slots.specs.Standing.{entries}
-use Rattle.seg_report.proofs.Removed.{places_of}
+use Rattle.seg_report.proofs.SortedPlaces.{places_of}
 use Rattle.seg_report.proofs.parts.removed_places.Given as goal
 
 abbrev pub invariant-loop-at : goal.invariant-loop-at

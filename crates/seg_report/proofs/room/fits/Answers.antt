@@ -5,7 +5,7 @@ use Rattle.sma_blocks.specs.declared.sma.Sma.{Sma}
 use Rattle.sma_blocks.specs.Live.{live_blocks}
 use Rattle.entry_slots.specs.declared.slots.EntrySlots.{EntrySlots}
 use Rattle.seg_report.specs.Fits.{blocks_in}
-use Rattle.seg_report.proofs.Standing.{core_room, core_runs}
+use Rattle.seg_report.proofs.CacheTiles.{core_room, core_runs}
 use Rattle.seg_report.proofs.room.fits.Goals as goal
 
 pub returns-clause-runs : goal.returns-clause-runs

@@ -1,7 +1,7 @@
 use Rattle.std.proofs.Common.{◌≡◌, ℕ, ap, sym, ◌∙◌, cond, eqb, ◌%◌, get_or, arith}
 use Rattle.std.proofs.lemmas.Bool.{eq-eqb, ne_eqb}
 use Rattle.std.proofs.lemmas.List.{length-set}
-use Rattle.seg_words.proofs.Holding.{opened_next}
+use Rattle.seg_words.proofs.WorkerWindows.{opened_next}
 use Rattle.seg_words.proofs.held_words.opened_for.Goals.{then-left-eq1, else-left-eq1}
 use Rattle.seg_words.proofs.held_words.opened_for.Goals as goal
 

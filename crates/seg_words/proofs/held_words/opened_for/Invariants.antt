@@ -1,5 +1,5 @@
 use Rattle.std.proofs.Common.{◌≡◌, length, take, drop, ◌++◌}
-use Rattle.seg_words.specs.Holding.{opened_for}
+use Rattle.seg_words.specs.EventWindows.{opened_for}
 use Rattle.seg_words.proofs.held_words.opened_for.Given as goal
 
 abbrev pub invariant-loop-worker : goal.invariant-loop-worker

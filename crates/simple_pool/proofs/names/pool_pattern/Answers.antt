@@ -1,6 +1,6 @@
 use Rattle.std.proofs.Common.{rules, ◌≡◌, length, ap, subst, sym, ◌∙◌, arith, IsUtf8, string_bytes}
 use Rattle.simple_pool.specs.Names.{braced, escaped}
-use Rattle.simple_pool.proofs.Texts.{utf8_braced, short_escaped}
+use Rattle.simple_pool.proofs.BracedNames.{utf8_braced, short_escaped}
 use Rattle.simple_pool.proofs.names.pool_pattern.Goals as goal
 
 pub unreachable-requires : goal.unreachable-requires

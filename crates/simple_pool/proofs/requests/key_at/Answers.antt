@@ -1,6 +1,6 @@
 use Rattle.std.proofs.Common.{ap, ◌∙◌}
 use Rattle.simple_pool.specs.Names.{is_good_key}
-use Rattle.simple_pool.proofs.Asking.{all_at}
+use Rattle.simple_pool.proofs.KeyRequests.{all_at}
 use Rattle.simple_pool.proofs.requests.key_at.Goals as goal
 
 pub pool_key-requires-clause-key : goal.pool_key-requires-clause-key

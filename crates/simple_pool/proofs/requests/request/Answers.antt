@@ -5,7 +5,7 @@ use Rattle.php_graph.specs.declared.kind.Kind.{Kind}
 use Rattle.apcu_model.specs.declared.request.Request.TheVariants as asks
 use Rattle.simple_pool.specs.Names.{pool_key}
 use Rattle.simple_pool.specs.Requests.{asked_at, pool_asking, set_of, store_of}
-use Rattle.simple_pool.proofs.Asking.{made_map}
+use Rattle.simple_pool.proofs.KeyRequests.{made_map}
 use Rattle.simple_pool.proofs.requests.request.Goals as goal
 
 pub returns-in-SetMany : goal.returns-in-SetMany

@@ -1,7 +1,7 @@
 use Rattle.std.proofs.Common.{List, ℕ}
 use Rattle.php_graph.specs.declared.kind.Kind.{Kind}
 use Rattle.simple_pool.specs.Names.{is_good_key}
-use Rattle.simple_pool.proofs.Asking.{all_at}
+use Rattle.simple_pool.proofs.KeyRequests.{all_at}
 use Rattle.simple_pool.proofs.requests.set_at.Goals as goal
 
 pub set-requires-clause-key : goal.set-requires-clause-key

@@ -2,9 +2,9 @@ use Rattle.std.proofs.Common.{◌≡◌, ◌+◌, ◌-◌, Bool, cond, slice_ind
 use Rattle.std.proofs.lemmas.Bool.{lt-ltb, le-ltb}
 use Rattle.seg_words.specs.Blocks.{MayStore}
 use Rattle.sma_blocks.specs.Walk.{cut_words}
-use Rattle.sma_blocks.proofs.Taking.{may_store_after}
-use Rattle.sma_blocks.proofs.Relinking.{told_apart}
-use Rattle.sma_blocks.proofs.Done.{may_store_seen}
+use Rattle.sma_blocks.proofs.WordsAfterTake.{may_store_after}
+use Rattle.sma_blocks.proofs.LastGapLink.{told_apart}
+use Rattle.sma_blocks.proofs.AllocatorAfterTake.{may_store_seen}
 use Rattle.sma_blocks.proofs.stores.cut.Goals as goal
 use Rattle.sma_blocks.proofs.stores.cut.Goals.{then-n-size, else-n-size}
 

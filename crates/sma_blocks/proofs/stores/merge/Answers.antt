@@ -1,6 +1,6 @@
 use Rattle.std.proofs.Common.{◌+◌, arith}
-use Rattle.sma_blocks.proofs.Taking.{may_store_after}
-use Rattle.sma_blocks.proofs.Done.{may_store_seen}
+use Rattle.sma_blocks.proofs.WordsAfterTake.{may_store_after}
+use Rattle.sma_blocks.proofs.AllocatorAfterTake.{may_store_seen}
 use Rattle.sma_blocks.proofs.stores.merge.Goals as goal
 
 pub store-requires-clause-apart : goal.store-requires-clause-apart

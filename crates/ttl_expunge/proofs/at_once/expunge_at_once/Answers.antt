@@ -2,9 +2,9 @@ use Rattle.std.proofs.Common.{ap, ◌∙◌}
 use Rattle.seg_words.specs.Windows.{Aside, is_named}
 use Rattle.entry_slots.specs.Entries.{Entries}
 use Rattle.entry_slots.specs.Standing.{entries}
-use Rattle.ttl_expunge.proofs.Asides.{stand_kept}
-use Rattle.ttl_expunge.proofs.Steps.{may_kept, drops_kept}
-use Rattle.ttl_expunge.proofs.Moving.{left_unnamed, all_gone, all_left}
+use Rattle.ttl_expunge.proofs.ReadOnlyCalls.{stand_kept}
+use Rattle.ttl_expunge.proofs.EventSteps.{may_kept, drops_kept}
+use Rattle.ttl_expunge.proofs.SlotMoves.{left_unnamed, all_gone, all_left}
 use Rattle.ttl_expunge.proofs.at_once.expunge_at_once.Goals as goal
 
 pub expunge_all-requires : goal.expunge_all-requires

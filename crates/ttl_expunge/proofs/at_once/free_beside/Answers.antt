@@ -1,7 +1,7 @@
 use Rattle.std.proofs.Common.{◌≡◌, sym, ◌∙◌, subst, List, ℕ}
 use Rattle.std.specs.List.Sorted.{IsPermutation}
 use Rattle.entry_slots.specs.Standing.{entries}
-use Rattle.ttl_expunge.proofs.Listing.{places_rise, places_same}
+use Rattle.ttl_expunge.proofs.RemovedPlaces.{places_rise, places_same}
 use Rattle.ttl_expunge.proofs.at_once.free_beside.Goals as goal
 
 pub free_rows_beside-requires-clause-kept : goal.free_rows_beside-requires-clause-kept

@@ -2,8 +2,8 @@ use Rattle.std.proofs.Common.{◌≡◌, ℕ, refl, ap, ◌∙◌, subst, arith}
 use Rattle.std.specs.List.{flat_map, range_with_len}
 use Rattle.apcu_model.specs.Change.{leaving}
 use Rattle.entry_slots.specs.Entries.{Entries, chain_of}
-use Rattle.ttl_expunge.specs.Held.{Moves}
-use Rattle.ttl_expunge.proofs.Moving.{passing_starts, passing_on}
+use Rattle.ttl_expunge.specs.ProbedRows.{Moves}
+use Rattle.ttl_expunge.proofs.SlotMoves.{passing_starts, passing_on}
 use Rattle.entry_slots.specs.Standing.{entries}
 use Rattle.ttl_expunge.proofs.at_once.move_held.Goals as goal
 

@@ -1,5 +1,5 @@
 use Rattle.std.proofs.Common.{◌≡◌, ◌≤◌}
-use Rattle.ttl_expunge.proofs.Moving.{Passing}
+use Rattle.ttl_expunge.proofs.SlotMoves.{Passing}
 use Rattle.entry_slots.specs.Standing.{Stand, entries}
 use Rattle.ttl_expunge.proofs.at_once.move_held.Given as goal
 

@@ -3,9 +3,9 @@ use Rattle.std.proofs.lemmas.Bool.{or_left}
 use Rattle.entry_slots.specs.Lists.{is_at, has_place}
 use Rattle.entry_slots.specs.Entries.{Entries}
 use Rattle.std.proofs.lemmas.List.Folds.{list_any-append}
-use Rattle.ttl_expunge.proofs.Asides.{stand_kept}
-use Rattle.ttl_expunge.proofs.Steps.{may_kept, moves_kept}
-use Rattle.ttl_expunge.proofs.Moving.{moving_starts, moving_next, moving_on, moving_falls, moving_ends}
+use Rattle.ttl_expunge.proofs.ReadOnlyCalls.{stand_kept}
+use Rattle.ttl_expunge.proofs.EventSteps.{may_kept, moves_kept}
+use Rattle.ttl_expunge.proofs.SlotMoves.{moving_starts, moving_next, moving_on, moving_falls, moving_ends}
 use Rattle.entry_slots.specs.Standing.{entries}
 use Rattle.ttl_expunge.proofs.at_once.move_held_in.Goals as goal
 

@@ -1,6 +1,6 @@
 use Rattle.std.proofs.Common.{◌≡◌}
-use Rattle.ttl_expunge.proofs.Chaining.{chain_left}
-use Rattle.ttl_expunge.proofs.Moving.{Moving}
+use Rattle.ttl_expunge.proofs.SlotDrops.{chain_left}
+use Rattle.ttl_expunge.proofs.SlotMoves.{Moving}
 use Rattle.entry_slots.specs.Standing.{Stand, entries}
 use Rattle.ttl_expunge.proofs.at_once.move_held_in.Given as goal
 

@@ -3,10 +3,10 @@ use Rattle.std.proofs.lemmas.Bool.{or_left, not-true, not-false}
 use Rattle.seg_words.specs.Windows.{Aside, has, held_blocks}
 use Rattle.entry_slots.specs.Lists.{is_at, has_place, only_at}
 use Rattle.entry_slots.specs.Entries.{Entries, removed_at}
-use Rattle.ttl_expunge.specs.Held.{Moves}
+use Rattle.ttl_expunge.specs.ProbedRows.{Moves}
 use Rattle.std.proofs.lemmas.List.Folds.{list_any-append}
-use Rattle.ttl_expunge.proofs.Dropping.{only_of, only_fresh, only_loose, removed_one}
-use Rattle.ttl_expunge.proofs.Moving.{stays_one, moves_one}
+use Rattle.ttl_expunge.proofs.DroppedRows.{only_of, only_unrefused, only_loose, removed_one}
+use Rattle.ttl_expunge.proofs.SlotMoves.{stays_one, moves_one}
 use Rattle.entry_slots.specs.Standing.{entries}
 use Rattle.ttl_expunge.proofs.at_once.move_if_held.Goals as goal
 
@@ -17,7 +17,7 @@ is_let_go-is_free-requires g c =
     record {
       stand = c.requires.ready.stand;
       there = list_any-append (is_at c.args.at) s.rows s.removed ∙ or_left (has_place c.args.at s.rows) (has_place c.args.at s.removed) c.requires.there;
-      fresh = only_fresh o c.requires.ready.refused;
+      unrefused = only_unrefused o c.requires.ready.refused;
     }
 
 pub to_removed-requires-clause-there : goal.to_removed-requires-clause-there

@@ -4,8 +4,8 @@ use Rattle.std.proofs.lemmas.Bool.{or_right}
 use Rattle.entry_slots.specs.Lists.{is_at, has_place}
 use Rattle.entry_slots.specs.Standing.{entries}
 use Rattle.std.proofs.lemmas.List.Folds.{list_any-append}
-use Rattle.ttl_expunge.proofs.Asides.{stand_kept}
-use Rattle.ttl_expunge.proofs.Listing.{listing_starts, listed_at, listing_on, listing_ends}
+use Rattle.ttl_expunge.proofs.ReadOnlyCalls.{stand_kept}
+use Rattle.ttl_expunge.proofs.RemovedPlaces.{listing_starts, listed_at, listing_on, listing_ends}
 use Rattle.ttl_expunge.proofs.at_once.removed_places.Goals as goal
 
 pub loop-count-init : goal.loop-count-init
@@ -15,8 +15,8 @@ loop-count-init g c = record {
   kept = record { words = refl; aside = refl; rest = refl };
 }
 
-pub returns-then-at-eq0-clause-noted : goal.returns-then-at-eq0-clause-noted
-returns-then-at-eq0-clause-noted g c =
+pub returns-then-at-eq0-clause-collected : goal.returns-then-at-eq0-clause-collected
+returns-then-at-eq0-clause-collected g c =
     let sound = c.standing_laws.ensures.sound c.args.slots.now (g.S.WordsIn.words c.args.seg.now) (g.S.WordsIn.aside c.args.seg.now) (entries c.args.slots.now) c.requires.stand in
     listing_ends c.loop-count.invariant.listing sound c.if-at-eq0.true
 
@@ -41,8 +41,8 @@ loop-count-preserved g c =
       kept = record { words = c.after-at.ensures.kept.words ∙ c.loop-count.invariant.kept.words; aside = c.after-at.ensures.kept.aside ∙ c.loop-count.invariant.kept.aside; rest = c.after-at.ensures.kept.rest ∙ c.loop-count.invariant.kept.rest };
     }
 
-pub returns-then-at-eq0-2-clause-noted : goal.returns-then-at-eq0-2-clause-noted
-returns-then-at-eq0-2-clause-noted g c =
+pub returns-then-at-eq0-2-clause-collected : goal.returns-then-at-eq0-2-clause-collected
+returns-then-at-eq0-2-clause-collected g c =
     let s = entries c.args.slots.now in
     let sound = c.standing_laws.ensures.sound c.args.slots.now (g.S.WordsIn.words c.args.seg.now) (g.S.WordsIn.aside c.args.seg.now) s c.requires.stand in
     let end : c.loop-count.count ≡ 64 = omega (arith, c.loop-count.invariant.few, c.loop-count-test.false) in

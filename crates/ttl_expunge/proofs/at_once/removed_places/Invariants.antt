@@ -1,7 +1,7 @@
 use Rattle.std.proofs.Common.{◌≤◌}
 use Rattle.seg_words.specs.Kept.{Kept}
 use Rattle.entry_slots.specs.Standing.{entries}
-use Rattle.ttl_expunge.proofs.Listing.{Listing}
+use Rattle.ttl_expunge.proofs.RemovedPlaces.{Listing}
 use Rattle.ttl_expunge.proofs.at_once.removed_places.Given as goal
 
 abbrev pub invariant-loop-count : goal.invariant-loop-count

@@ -1,7 +1,7 @@
 use Rattle.std.proofs.Common.{refl, ap, ◌∙◌, arith}
 use Rattle.entry_slots.specs.Entries.{Entries}
-use Rattle.ttl_expunge.specs.Which.{is_to_drop}
-use Rattle.ttl_expunge.proofs.Ordering.{expunging_starts, expunging_on, expunging_ends}
+use Rattle.ttl_expunge.specs.DropRules.{is_to_drop}
+use Rattle.ttl_expunge.proofs.SlotOrder.{expunging_starts, expunging_on, expunging_ends}
 use Rattle.entry_slots.specs.Standing.{entries}
 use Rattle.ttl_expunge.proofs.chains.drop_all.Goals as goal
 
@@ -9,7 +9,7 @@ pub loop-slot-init : goal.loop-slot-init
 loop-slot-init g c =
     let s = entries c.args.slots.now in
     record {
-      expunging = expunging_starts (is_to_drop c.args.which c.args.t) c.args.t s (g.S.WordsIn.aside c.args.seg.now) (g.S.WordsIn.aside c.args.seg.now) refl c.requires.ready.refused;
+      expunging = expunging_starts (is_to_drop c.args.rule c.args.t) c.args.t s (g.S.WordsIn.aside c.args.seg.now) (g.S.WordsIn.aside c.args.seg.now) refl c.requires.ready.refused;
       within = omega arith;
       stand = c.requires.ready.stand;
       rest = refl;

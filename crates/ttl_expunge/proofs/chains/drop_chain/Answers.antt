@@ -2,11 +2,11 @@ use Rattle.std.proofs.Common.{◌<◌, sym, ap, ◌∙◌, subst}
 use Rattle.std.proofs.lemmas.Bool.{or_left}
 use Rattle.entry_slots.specs.Lists.{is_at, has_place}
 use Rattle.entry_slots.specs.Entries.{Entries}
-use Rattle.ttl_expunge.specs.Which.{is_to_drop}
+use Rattle.ttl_expunge.specs.DropRules.{is_to_drop}
 use Rattle.std.proofs.lemmas.List.Folds.{list_any-append}
-use Rattle.ttl_expunge.proofs.Asides.{stand_kept}
-use Rattle.ttl_expunge.proofs.Steps.{may_kept, drops_kept}
-use Rattle.ttl_expunge.proofs.Chaining.{chaining_starts, next_is, chaining_on, chaining_falls, chaining_ends}
+use Rattle.ttl_expunge.proofs.ReadOnlyCalls.{stand_kept}
+use Rattle.ttl_expunge.proofs.EventSteps.{may_kept, drops_kept}
+use Rattle.ttl_expunge.proofs.SlotDrops.{chaining_starts, next_is, chaining_on, chaining_falls, chaining_ends}
 use Rattle.entry_slots.specs.Standing.{entries}
 use Rattle.ttl_expunge.proofs.chains.drop_chain.Goals as goal
 
@@ -15,7 +15,7 @@ loop-at-init g c =
     let s = entries c.args.slots.now in
     let kept = c.first_in-at.ensures.kept in
     record {
-      chaining = chaining_starts (is_to_drop c.args.which c.args.t) c.args.t s (g.S.WordsIn.aside c.args.seg.now) (g.S.WordsIn.aside c.first_in-at.new.seg) c.args.slot c.first_in-at.result kept.aside c.first_in-at.ensures.first c.requires.ready.refused;
+      chaining = chaining_starts (is_to_drop c.args.rule c.args.t) c.args.t s (g.S.WordsIn.aside c.args.seg.now) (g.S.WordsIn.aside c.first_in-at.new.seg) c.args.slot c.first_in-at.result kept.aside c.first_in-at.ensures.first c.requires.ready.refused;
       stand = stand_kept c.args.slots.now kept c.requires.ready.stand;
       rest = kept.rest;
     }

@@ -3,7 +3,7 @@ use Rattle.apcu_model.specs.Cache.{Row}
 use Rattle.entry_slots.specs.Entries.{chain_of}
 use Rattle.entry_slots.specs.Standing.{entries}
 use Rattle.ttl_expunge.specs.Steps.{DropsRows}
-use Rattle.ttl_expunge.proofs.Expired.{expired_rows}
+use Rattle.ttl_expunge.proofs.ExpiredRows.{expired_rows}
 use Rattle.ttl_expunge.proofs.chains.sweep_chain.Goals as goal
 
 pub returns : goal.returns

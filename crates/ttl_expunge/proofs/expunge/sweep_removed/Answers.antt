@@ -4,8 +4,8 @@ use Rattle.seg_words.specs.Probing.{Met}
 use Rattle.seg_words.specs.Windows.{Aside, has}
 use Rattle.entry_slots.specs.Lists.{is_at, has_place}
 use Rattle.std.proofs.lemmas.List.Folds.{list_any-append}
-use Rattle.ttl_expunge.proofs.Sweeping.{turn, turn_fresh, sweeping_starts, sweeping_on, sweeping_falls, sweeping_ends}
-use Rattle.ttl_expunge.proofs.Asides.{stand_kept}
+use Rattle.ttl_expunge.proofs.SweptRows.{turn, order_unrefused, sweeping_starts, sweeping_on, sweeping_falls, sweeping_ends}
+use Rattle.ttl_expunge.proofs.ReadOnlyCalls.{stand_kept}
 use Rattle.entry_slots.specs.Standing.{entries}
 use Rattle.ttl_expunge.proofs.expunge.sweep_removed.Goals as goal
 
@@ -14,7 +14,7 @@ loop-at-init g c =
     let s = entries c.args.slots.now in
     let a = g.S.WordsIn.aside c.args.seg.now in
     record {
-      sweeping = sweeping_starts s a c.first_removed-at.result c.first_removed-at.ensures.first c.requires.ready.fresh;
+      sweeping = sweeping_starts s a c.first_removed-at.result c.first_removed-at.ensures.first c.requires.ready.unrefused;
       stand = c.requires.ready.stand;
       rest = refl;
     }
@@ -33,7 +33,7 @@ sweep_at-requires g c =
     record {
       stand = stand_kept c.loop-at.slots c.after-next.ensures.kept c.loop-at.invariant.stand;
       there = t.there;
-      fresh = ap (λ (a : Aside). has c.loop-at.at a.refused) c.after-next.ensures.kept.aside ∙ turn_fresh c.loop-at.invariant.sweeping t;
+      unrefused = ap (λ (a : Aside). has c.loop-at.at a.refused) c.after-next.ensures.kept.aside ∙ order_unrefused c.loop-at.invariant.sweeping t;
     }
 
 pub loop-at-preserved : goal.loop-at-preserved

@@ -1,5 +1,5 @@
 use Rattle.std.proofs.Common.{◌≡◌}
-use Rattle.ttl_expunge.proofs.Sweeping.{Sweeping, sweep_left}
+use Rattle.ttl_expunge.proofs.SweptRows.{Sweeping, sweep_left}
 use Rattle.entry_slots.specs.Standing.{Stand, entries}
 use Rattle.ttl_expunge.proofs.expunge.sweep_removed.Given as goal
 

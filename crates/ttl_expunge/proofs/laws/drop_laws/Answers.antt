@@ -1,5 +1,5 @@
-use Rattle.ttl_expunge.proofs.Making.{dropped_later}
-use Rattle.ttl_expunge.proofs.Open.{drops_open, drops_held, open_on}
+use Rattle.ttl_expunge.proofs.RoomLemmas.{dropped_later}
+use Rattle.ttl_expunge.proofs.OpenWindows.{drops_open, drops_held, open_on}
 use Rattle.ttl_expunge.proofs.laws.drop_laws.Goals as goal
 
 pub returns : goal.returns

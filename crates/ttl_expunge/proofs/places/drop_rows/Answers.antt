@@ -1,8 +1,8 @@
 use Rattle.std.proofs.Common.{◌∙◌, refl, arith}
 use Rattle.std.specs.Prelude.{slice_index}
 use Rattle.entry_slots.specs.Standing.{entries}
-use Rattle.ttl_expunge.proofs.Dropping.{drops_none}
-use Rattle.ttl_expunge.proofs.Placing.{left_at, dropped_next, dropped_all}
+use Rattle.ttl_expunge.proofs.DroppedRows.{drops_none}
+use Rattle.ttl_expunge.proofs.DropsByPlace.{left_at, dropped_next, dropped_all}
 use Rattle.ttl_expunge.proofs.places.drop_rows.Goals as goal
 
 pub loop-at-init : goal.loop-at-init

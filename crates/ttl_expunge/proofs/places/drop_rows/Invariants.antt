@@ -1,7 +1,7 @@
 use Rattle.std.proofs.Common.{◌≡◌, List, take}
 use Rattle.apcu_model.specs.Cache.{Row}
 use Rattle.entry_slots.specs.Standing.{Stand, entries}
-use Rattle.ttl_expunge.specs.Held.{Drops}
+use Rattle.ttl_expunge.specs.ProbedRows.{Drops}
 use Rattle.ttl_expunge.specs.Lists.{AreRowsAt}
 use Rattle.ttl_expunge.proofs.places.drop_rows.Given as goal
 

@@ -4,7 +4,7 @@ use Rattle.std.proofs.lemmas.Bool.{le-ltb}
 use Rattle.apcu_model.specs.Expiry.{is_expired}
 use Rattle.apcu_model.specs.Change.{leaving}
 use Rattle.ttl_expunge.specs.Steps.{DropsRows}
-use Rattle.ttl_expunge.proofs.Steps.{drops_nothing}
+use Rattle.ttl_expunge.proofs.EventSteps.{drops_nothing}
 use Rattle.entry_slots.specs.Standing.{entries}
 use Rattle.ttl_expunge.proofs.room.drop_expired.Goals as goal
 

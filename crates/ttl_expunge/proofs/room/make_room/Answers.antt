@@ -1,8 +1,8 @@
 use Rattle.std.proofs.Common.{ap, ◌∙◌}
 use Rattle.entry_slots.specs.Entries.{Entries}
 use Rattle.entry_slots.specs.Standing.{entries}
-use Rattle.ttl_expunge.proofs.Open.{sweeps_open, sweeps_held}
-use Rattle.ttl_expunge.proofs.Making.{room_on}
+use Rattle.ttl_expunge.proofs.OpenWindows.{sweeps_open, sweeps_held}
+use Rattle.ttl_expunge.proofs.RoomLemmas.{room_on}
 use Rattle.ttl_expunge.proofs.room.make_room.Goals as goal
 
 pub make_room_next-requires-clause-whole : goal.make_room_next-requires-clause-whole

@@ -2,10 +2,10 @@ use Rattle.std.proofs.Common.{◌≡◌, true, false, sym, ap, ◌∙◌}
 use Rattle.std.specs.Prelude.{is_some}
 use Rattle.seg_words.specs.Probing.{goes_on}
 use Rattle.entry_slots.specs.Entries.{Entries}
-use Rattle.ttl_expunge.specs.Held.{Drops}
+use Rattle.ttl_expunge.specs.ProbedRows.{Drops}
 use Rattle.apcu_model.specs.Facts.{leaving_from}
-use Rattle.ttl_expunge.proofs.Open.{sweeps_open, drops_open, open_on, sweeps_held, drops_held, nothing_swept}
-use Rattle.ttl_expunge.proofs.Making.{took, unchanged, drops_from, makes, room_swept, room_expired, room_full, expired_open, expired_rows_of, all_rows_of}
+use Rattle.ttl_expunge.proofs.OpenWindows.{sweeps_open, drops_open, open_on, sweeps_held, drops_held, nothing_swept}
+use Rattle.ttl_expunge.proofs.RoomLemmas.{took, unchanged, drops_from, makes, room_swept, room_expired, room_full, expired_open, expired_rows_of, all_rows_of}
 use Rattle.entry_slots.specs.Standing.{entries}
 use Rattle.ttl_expunge.proofs.room.make_room_next.Goals as goal
 

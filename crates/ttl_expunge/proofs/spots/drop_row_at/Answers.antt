@@ -3,9 +3,9 @@ use Rattle.std.proofs.lemmas.Bool.{or_left, not-true, not-false}
 use Rattle.seg_words.specs.Windows.{Aside, has, is_named, held_blocks}
 use Rattle.entry_slots.specs.Lists.{is_at, has_place, only_at}
 use Rattle.entry_slots.specs.Entries.{Entries, freed_at, removed_at}
-use Rattle.ttl_expunge.specs.Held.{Drops}
+use Rattle.ttl_expunge.specs.ProbedRows.{Drops}
 use Rattle.std.proofs.lemmas.List.Folds.{list_any-append}
-use Rattle.ttl_expunge.proofs.Dropping.{only_of, freed_one, removed_one, drops_one, only_fresh, only_loose}
+use Rattle.ttl_expunge.proofs.DroppedRows.{only_of, freed_one, removed_one, drops_one, only_unrefused, only_loose}
 use Rattle.entry_slots.specs.Standing.{entries}
 use Rattle.ttl_expunge.proofs.spots.drop_row_at.Goals as goal
 
@@ -16,7 +16,7 @@ is_let_go-is_free-requires g c =
     record {
       stand = c.requires.ready.stand;
       there = list_any-append (is_at c.args.spot.at) s.rows s.removed ∙ or_left (has_place c.args.spot.at s.rows) (has_place c.args.spot.at s.removed) c.requires.there;
-      fresh = only_fresh o c.requires.ready.refused;
+      unrefused = only_unrefused o c.requires.ready.refused;
     }
 
 pub free_unlinked-requires-clause-there : goal.free_unlinked-requires-clause-there

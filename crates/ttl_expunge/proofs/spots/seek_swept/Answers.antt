@@ -3,13 +3,13 @@ use Rattle.std.specs.List.{list_any}
 use Rattle.apcu_model.specs.Cache.{Row}
 use Rattle.apcu_model.specs.Expiry.{is_expired}
 use Rattle.apcu_model.specs.declared.conf.Conf.{Conf}
-use Rattle.apcu_model.specs.Walk.{slot_of}
+use Rattle.apcu_model.specs.SlotOrder.{slot_of}
 use Rattle.entry_slots.specs.Entries.{chain_of}
 use Rattle.entry_slots.specs.Standing.{entries}
 use Rattle.ttl_expunge.specs.Steps.{DropsRows}
-use Rattle.ttl_expunge.proofs.Asides.{stand_kept}
-use Rattle.ttl_expunge.proofs.Steps.{may_kept, drops_nothing, drops_kept, drops_till}
-use Rattle.ttl_expunge.proofs.Spotting.{none_passes, same_conf}
+use Rattle.ttl_expunge.proofs.ReadOnlyCalls.{stand_kept}
+use Rattle.ttl_expunge.proofs.EventSteps.{may_kept, drops_nothing, drops_kept, drops_till}
+use Rattle.ttl_expunge.proofs.UnexpiredChains.{none_passes, same_conf}
 use Rattle.ttl_expunge.proofs.spots.seek_swept.Goals as goal
 
 pub has_expired-requires-clause-stand : goal.has_expired-requires-clause-stand

@@ -3,8 +3,8 @@ use Rattle.std.proofs.lemmas.Grind.{common_steps}
 use Rattle.std.proofs.lemmas.List.{take_all, get_or-drop, length-drop}
 use Rattle.seg_words.specs.Blocks.{IsTold}
 use Rattle.byteorder.specs.Endian.{little_bytes}
-use Rattle.value_image.specs.Packed.{bytes_of}
-use Rattle.value_image.proofs.Packing.{take-bytes_of-whole, bytes-last, bytes-more}
+use Rattle.value_image.specs.PackedBytes.{bytes_of}
+use Rattle.value_image.proofs.PackedByteLemmas.{take-bytes_of-whole, bytes-last, bytes-more}
 use Rattle.value_image.proofs.bytes.get_bytes.Goals as goal
 
 pub loop-i-preserved : goal.loop-i-preserved

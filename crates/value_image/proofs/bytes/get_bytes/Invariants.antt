@@ -1,6 +1,6 @@
 use Rattle.std.proofs.Common.{◌≡◌, ◌*◌, take, drop}
 use Rattle.seg_words.specs.Kept.{Kept}
-use Rattle.value_image.specs.Packed.{bytes_of}
+use Rattle.value_image.specs.PackedBytes.{bytes_of}
 use Rattle.value_image.proofs.bytes.get_bytes.Given as goal
 
 abbrev pub invariant-loop-i : goal.invariant-loop-i

@@ -1,6 +1,6 @@
 use Rattle.std.proofs.Common.{◌≡◌, ◌*◌, ◌/◌, ◌%◌, ◌-◌, arith, refl, length}
 use Rattle.std.proofs.lemmas.List.{take_rest}
-use Rattle.value_image.proofs.Packing.{word_at-last, word_at-shifted}
+use Rattle.value_image.proofs.PackedByteLemmas.{word_at-last, word_at-shifted}
 use Rattle.value_image.proofs.bytes.last_word.Goals as goal
 
 pub returns-then-bytes-lt8 : goal.returns-then-bytes-lt8

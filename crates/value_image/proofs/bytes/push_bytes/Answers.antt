@@ -2,8 +2,8 @@ use Rattle.std.proofs.Common.{rules, ◌≡◌, ℕ, ◌+◌, ◌*◌, ◌/◌, 
 use Rattle.std.proofs.lemmas.List.{get_or-drop, length-drop}
 use Rattle.seg_words.specs.Blocks.{IsTold}
 use Rattle.byteorder.specs.Endian.{little_bytes}
-use Rattle.value_image.specs.Packed.{bytes_of}
-use Rattle.value_image.proofs.Packing.{take-bytes_of, take-bytes_of-whole, bytes-next, bytes-eight}
+use Rattle.value_image.specs.PackedBytes.{bytes_of}
+use Rattle.value_image.proofs.PackedByteLemmas.{take-bytes_of, take-bytes_of-whole, bytes-next, bytes-eight}
 use Rattle.value_image.proofs.bytes.push_bytes.Goals as goal
 
 pub overflow_add-at : goal.overflow_add-at

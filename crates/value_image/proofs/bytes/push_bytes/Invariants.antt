@@ -1,7 +1,7 @@
 use Rattle.std.proofs.Common.{◌≡◌, ◌+◌, ◌*◌, ◌++◌, take, drop}
 use Rattle.std.specs.Vec.{vec_len, vec_capacity}
 use Rattle.seg_words.specs.Kept.{Kept}
-use Rattle.value_image.specs.Packed.{bytes_of}
+use Rattle.value_image.specs.PackedBytes.{bytes_of}
 use Rattle.value_image.proofs.bytes.push_bytes.Given as goal
 
 abbrev pub invariant-eights : goal.invariant-eights

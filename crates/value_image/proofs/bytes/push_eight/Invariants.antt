@@ -1,6 +1,6 @@
 use Rattle.std.proofs.Common.{◌≡◌, ◌+◌, ◌*◌, ◌++◌, take}
 use Rattle.std.specs.Vec.{vec_len, vec_capacity}
-use Rattle.value_image.specs.Packed.{bytes_of}
+use Rattle.value_image.specs.PackedBytes.{bytes_of}
 use Rattle.value_image.proofs.bytes.push_eight.Given as goal
 
 abbrev pub invariant-words : goal.invariant-words

@@ -2,10 +2,10 @@ use Rattle.std.proofs.Common.{◌≡◌, ℕ, ◌+◌, ◌*◌, ◌/◌, ◌<◌
 use Rattle.std.proofs.lemmas.List.{take_rest, length-take-le}
 use Rattle.seg_words.specs.Blocks.{MayStore}
 use Rattle.seg_words.specs.Layout.{words_in}
-use Rattle.value_image.specs.Packed.{words_of}
+use Rattle.value_image.specs.PackedBytes.{words_of}
 use Rattle.value_image.specs.Rows.{written, MayWrite}
 use Rattle.value_image.proofs.Runs.{may_store-next}
-use Rattle.value_image.proofs.Packing.{length-words_of, written-more, written-all}
+use Rattle.value_image.proofs.PackedByteLemmas.{length-words_of, written-more, written-all}
 use Rattle.value_image.proofs.bytes.put_bytes.Goals as goal
 
 -- what is written of the bytes is so long

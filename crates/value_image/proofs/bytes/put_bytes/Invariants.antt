@@ -1,6 +1,6 @@
 use Rattle.std.proofs.Common.{◌≡◌, take}
 use Rattle.seg_words.specs.Kept.{KeptBeside}
-use Rattle.value_image.specs.Packed.{words_of}
+use Rattle.value_image.specs.PackedBytes.{words_of}
 use Rattle.value_image.specs.Rows.{written}
 use Rattle.value_image.proofs.bytes.put_bytes.Given as goal
 

@@ -1,4 +1,4 @@
-use Rattle.value_image.proofs.Packing.{length-words_of, words_of-apart, unpacked}
+use Rattle.value_image.proofs.PackedByteLemmas.{length-words_of, words_of-apart, unpacked}
 use Rattle.value_image.proofs.laws.bytes_are_packed.Goals as goal
 
 pub returns : goal.returns

@@ -2,9 +2,9 @@ use Rattle.std.proofs.Common.{◌≡◌, ◌+◌, ◌<◌, ℕ, suc, [], ◌∷�
 use Rattle.std.proofs.lemmas.List.{length-map}
 use Rattle.php_graph.specs.declared.kind.Kind.{Kind}
 use Rattle.php_graph.specs.declared.places.Place.{Place}
-use Rattle.php_graph.specs.Kept.{kinds_at, offsets_at}
+use Rattle.php_graph.specs.PlaceOffsets.{kinds_at, offsets_at}
 use Rattle.value_image.specs.Reading.{IsReadOf, IsTableOf, renumbered_kind}
-use Rattle.value_image.proofs.Numbered.{offsets-below, offsets-rising, table-many, read-one, read-below, read-back}
+use Rattle.value_image.proofs.OffsetTables.{offsets-below, offsets-rising, table-many, read-one, read-below, read-back}
 use Rattle.value_image.proofs.numbers.number.Goals as goal
 
 -- as many offsets as places

@@ -2,7 +2,7 @@ use Rattle.std.proofs.Common.{◌≡◌, List, length, slice_index, slice_get, s
 use Rattle.php_graph.specs.declared.key.Key.{Key}
 use Rattle.php_graph.specs.declared.child.Child.{Child}
 use Rattle.value_image.specs.Reading.{renumbered_member}
-use Rattle.value_image.proofs.Mixed.{length-mixed, get-mixed, set-mixed}
+use Rattle.value_image.proofs.MixedLists.{length-mixed, get-mixed, set-mixed}
 use Rattle.value_image.proofs.numbers.renumber_members.Goals as goal
 
 pub at-child-requires : goal.at-child-requires

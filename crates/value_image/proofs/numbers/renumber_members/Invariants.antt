@@ -1,6 +1,6 @@
 use Rattle.std.proofs.Common.{◌≡◌, slice_index}
 use Rattle.value_image.specs.Reading.{renumbered_member}
-use Rattle.value_image.proofs.Mixed.{mixed}
+use Rattle.value_image.proofs.MixedLists.{mixed}
 use Rattle.value_image.proofs.numbers.renumber_members.Given as goal
 
 abbrev pub invariant-loop-i : goal.invariant-loop-i

@@ -3,9 +3,9 @@ use Rattle.std.proofs.lemmas.List.{length-map, map-set, get_or-map}
 use Rattle.std.proofs.Math.Seq.{map-set_same}
 use Rattle.php_graph.specs.declared.kind.Kind.{Kind}
 use Rattle.php_graph.specs.declared.places.Place.{Place}
-use Rattle.php_graph.specs.Kept.{kinds_at}
+use Rattle.php_graph.specs.PlaceOffsets.{kinds_at}
 use Rattle.value_image.specs.Reading.{renumbered_kind}
-use Rattle.value_image.proofs.Mixed.{mixed, length-mixed, get-mixed, set-mixed, get-read}
+use Rattle.value_image.proofs.MixedLists.{mixed, length-mixed, get-mixed, set-mixed, get-read}
 use Rattle.value_image.proofs.numbers.renumber_places.Goals as goal
 
 -- what is read at the next place is what was there at first

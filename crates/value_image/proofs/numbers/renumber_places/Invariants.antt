@@ -1,7 +1,7 @@
 use Rattle.std.proofs.Common.{◌≡◌, slice_index}
-use Rattle.php_graph.specs.Kept.{kinds_at, offsets_at}
+use Rattle.php_graph.specs.PlaceOffsets.{kinds_at, offsets_at}
 use Rattle.value_image.specs.Reading.{renumbered_kind}
-use Rattle.value_image.proofs.Mixed.{mixed}
+use Rattle.value_image.proofs.MixedLists.{mixed}
 use Rattle.value_image.proofs.numbers.renumber_places.Given as goal
 
 abbrev pub invariant-loop-i : goal.invariant-loop-i

@@ -1,7 +1,7 @@
 use Rattle.std.proofs.Common.{◌≡◌, ℕ, List, length, slice_index, slice_get, slice_set, Some, ap, ap₂, sym, ◌∙◌, arith}
 use Rattle.php_graph.specs.declared.child.Child.{Child}
 use Rattle.value_image.specs.Reading.{renumbered_member}
-use Rattle.value_image.proofs.Mixed.{length-mixed, get-mixed, set-mixed}
+use Rattle.value_image.proofs.MixedLists.{length-mixed, get-mixed, set-mixed}
 use Rattle.value_image.proofs.numbers.renumber_properties.Goals as goal
 
 pub at-child-requires : goal.at-child-requires

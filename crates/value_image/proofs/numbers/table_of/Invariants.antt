@@ -1,5 +1,5 @@
 use Rattle.std.proofs.Common.{◌≡◌, ℕ, ◌+◌, ◌<◌, ◌∷◌, length, slice_index}
-use Rattle.php_graph.specs.Kept.{offsets_at}
+use Rattle.php_graph.specs.PlaceOffsets.{offsets_at}
 use Rattle.value_image.proofs.numbers.table_of.Given as goal
 
 abbrev pub invariant-loop-i : goal.invariant-loop-i

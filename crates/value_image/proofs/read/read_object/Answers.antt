@@ -1,5 +1,5 @@
 use Rattle.std.proofs.Common.{arith}
-use Rattle.value_image.proofs.Parts.{object-class, object-properties}
+use Rattle.value_image.proofs.ImageParts.{object-class, object-properties}
 use Rattle.value_image.proofs.read.read_object.Goals as goal
 
 pub read_string-requires : goal.read_string-requires

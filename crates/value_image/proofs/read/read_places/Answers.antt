@@ -3,8 +3,8 @@ use Rattle.php_graph.specs.Size.{offset_of}
 use Rattle.value_image.specs.Image.{IsImageOf}
 use Rattle.value_image.specs.Reading.{renumbered_kind}
 use Rattle.value_image.proofs.Images.{image-inside}
-use Rattle.value_image.proofs.Numbered.{cells_of-one}
-use Rattle.value_image.proofs.Walk.{walk-first, walk-one, walk-next, walk-push, walk-all, kind-cells}
+use Rattle.value_image.proofs.OffsetTables.{cells_of-one}
+use Rattle.value_image.proofs.ImageWalk.{walk-first, walk-one, walk-next, walk-push, walk-all, kind-cells}
 use Rattle.value_image.proofs.read.read_places.Goals as goal
 
 pub read_place-requires : goal.read_place-requires

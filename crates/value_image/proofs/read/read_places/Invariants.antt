@@ -1,9 +1,9 @@
 use Rattle.std.proofs.Common.{◌-◌, ◌∷◌, List}
 use Rattle.php_graph.specs.declared.kind.Kind.{Kind}
-use Rattle.php_graph.specs.Kept.{kinds_at, offsets_at}
+use Rattle.php_graph.specs.PlaceOffsets.{kinds_at, offsets_at}
 use Rattle.seg_words.specs.Kept.{Kept}
 use Rattle.value_image.specs.Image.{IsImageOf}
-use Rattle.value_image.proofs.Walk.{IsWalkTo}
+use Rattle.value_image.proofs.ImageWalk.{IsWalkTo}
 use Rattle.value_image.proofs.read.read_places.Given as goal
 
 abbrev pub invariant-loop-offset : goal.invariant-loop-offset

@@ -1,13 +1,13 @@
 use Rattle.std.proofs.Common.{ℕ, ◌<◌, ◌^◌, ◌∷◌, ◌∙◌, List, ap, sym, subst, arith}
 use Rattle.php_graph.specs.declared.places.Place.{Place}
-use Rattle.php_graph.specs.Kept.{kinds_at}
+use Rattle.php_graph.specs.PlaceOffsets.{kinds_at}
 use Rattle.php_graph.specs.Size.{offset_of}
 use Rattle.value_image.specs.Image.{IsImageOf}
 use Rattle.value_image.specs.Reading.{renumbered_kind}
-use Rattle.value_image.proofs.Alone.{alone, kept-alone, first-read}
+use Rattle.value_image.proofs.ScalarGraphs.{alone, kept-alone, first-read}
 use Rattle.value_image.proofs.Counts.{kept}
 use Rattle.value_image.proofs.Images.{image-inside}
-use Rattle.value_image.proofs.Numbered.{image-some}
+use Rattle.value_image.proofs.OffsetTables.{image-some}
 use Rattle.value_image.proofs.read.unpersist.Goals as goal
 
 pub load-tag-requires : goal.load-tag-requires

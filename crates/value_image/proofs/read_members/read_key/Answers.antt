@@ -4,7 +4,7 @@ use Rattle.std.proofs.lemmas.Result.{err_from_is_err_and}
 use Rattle.php_graph.specs.declared.key.Key.{Key}
 use Rattle.php_graph.specs.declared.key.Key.TheVariants.{Str}
 use Rattle.php_graph.specs.Size.{key_cells}
-use Rattle.value_image.proofs.Parts.{key-first, int-key-at, string-key-at}
+use Rattle.value_image.proofs.ImageParts.{key-first, int-key-at, string-key-at}
 use Rattle.value_image.proofs.read_members.read_key.Goals as goal
 
 pub load-tag-requires : goal.load-tag-requires

@@ -3,7 +3,7 @@ use Rattle.std.proofs.lemmas.Result.{err_from_is_err_and}
 use Rattle.php_graph.specs.declared.key.Key.{Key}
 use Rattle.php_graph.specs.declared.child.Child.{Child}
 use Rattle.php_graph.specs.Size.{key_cells}
-use Rattle.value_image.proofs.Parts.{member-there, member-key, child-short}
+use Rattle.value_image.proofs.ImageParts.{member-there, member-key, child-short}
 use Rattle.value_image.proofs.read_members.read_member.Goals as goal
 
 pub load-requires : goal.load-requires

@@ -4,7 +4,7 @@ use Rattle.php_graph.specs.declared.child.Child.{Child}
 use Rattle.php_graph.specs.Size.{key_cells}
 use Rattle.std.proofs.lemmas.Grind.{common_steps}
 use Rattle.value_image.proofs.ItemRuns.{take_more-get, cells-more}
-use Rattle.value_image.proofs.Parts.{members-next}
+use Rattle.value_image.proofs.ImageParts.{members-next}
 use Rattle.value_image.proofs.read_members.read_members.Goals as goal
 
 pub read_member-requires : goal.read_member-requires

@@ -3,7 +3,7 @@ use Rattle.php_graph.specs.declared.child.Child.{Child}
 use Rattle.seg_words.specs.Layout.{words_in}
 use Rattle.std.proofs.lemmas.Grind.{common_steps}
 use Rattle.value_image.proofs.ItemRuns.{take_more-get, cells-more}
-use Rattle.value_image.proofs.Parts.{properties-next}
+use Rattle.value_image.proofs.ImageParts.{properties-next}
 use Rattle.value_image.proofs.read_members.read_properties.Goals as goal
 
 pub read_property-requires : goal.read_property-requires

@@ -2,7 +2,7 @@ use Rattle.std.proofs.Common.{◌≡◌, ℕ, ◌+◌, List, ap₂, ◌∙◌, a
 use Rattle.std.proofs.lemmas.Result.{err_from_is_err_and}
 use Rattle.php_graph.specs.declared.child.Child.{Child}
 use Rattle.seg_words.specs.Layout.{words_in}
-use Rattle.value_image.proofs.Parts.{property-there, property-name, child-short}
+use Rattle.value_image.proofs.ImageParts.{property-there, property-name, child-short}
 use Rattle.value_image.proofs.read_members.read_property.Goals as goal
 
 pub load-requires : goal.load-requires

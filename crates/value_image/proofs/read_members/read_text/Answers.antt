@@ -1,6 +1,6 @@
 use Rattle.std.proofs.Common.{ℕ, ◌+◌, ap, ◌∙◌, arith}
 use Rattle.std.proofs.lemmas.Grind.{common_steps}
-use Rattle.value_image.proofs.Parts.{text-inside, text-told, text-bytes, text-end}
+use Rattle.value_image.proofs.ImageParts.{text-inside, text-told, text-bytes, text-end}
 use Rattle.value_image.proofs.read_members.read_text.Goals as goal
 
 pub read_bytes-requires-clause-inside : goal.read_bytes-requires-clause-inside

@@ -8,7 +8,7 @@ use Rattle.value_image.specs.Rows.{written}
 use Rattle.value_image.specs.Image.{place_words, image_of, IsImageOf}
 use Rattle.value_image.proofs.ItemRuns.{item_may_write, item_written, cells-more}
 use Rattle.value_image.proofs.Lengths.{length-kind_words}
-use Rattle.value_image.proofs.Sealed.{names_places}
+use Rattle.value_image.proofs.NamedPlaces.{names_places}
 use Rattle.value_image.proofs.Images.{image-written}
 use Rattle.value_image.proofs.write.persist.Goals as goal
 

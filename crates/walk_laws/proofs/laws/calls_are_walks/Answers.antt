@@ -1,4 +1,4 @@
-use Rattle.walk_laws.proofs.Asked as lemmas
+use Rattle.walk_laws.proofs.CallWalks as lemmas
 use Rattle.walk_laws.proofs.laws.calls_are_walks.Goals as goal
 
 pub returns : goal.returns

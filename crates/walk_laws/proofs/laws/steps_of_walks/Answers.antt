@@ -1,6 +1,6 @@
 use Rattle.std.proofs.Common.{refl}
-use Rattle.walk_laws.proofs.Steps.{ends, slots_of_items}
-use Rattle.walk_laws.proofs.Walking as lemmas
+use Rattle.walk_laws.proofs.WalkSteps.{ends, slots_of_items}
+use Rattle.walk_laws.proofs.WalkLemmas as lemmas
 use Rattle.walk_laws.proofs.laws.steps_of_walks.Goals as goal
 
 pub returns : goal.returns

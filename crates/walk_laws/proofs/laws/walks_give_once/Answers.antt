@@ -1,4 +1,4 @@
-use Rattle.walk_laws.proofs.Walking as lemmas
+use Rattle.walk_laws.proofs.WalkLemmas as lemmas
 use Rattle.walk_laws.proofs.laws.walks_give_once.Goals as goal
 
 pub returns : goal.returns

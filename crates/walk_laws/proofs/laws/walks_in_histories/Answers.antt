@@ -1,4 +1,4 @@
-use Rattle.walk_laws.proofs.Answered as lemmas
+use Rattle.walk_laws.proofs.WalkAnswers as lemmas
 use Rattle.walk_laws.proofs.laws.walks_in_histories.Goals as goal
 
 pub returns : goal.returns

@@ -3,7 +3,7 @@ use Rattle.std.specs.Prelude.{unwrap_or, Option}
 use Rattle.php_graph.specs.declared.kind.Kind.{Kind}
 use Rattle.reply_text.specs.Replies.{noted}
 use Rattle.worker_play.specs.Pools.{answers_noted}
-use Rattle.worker_play.proofs.Going.{on_ok, of_if_ok}
+use Rattle.worker_play.proofs.PassProgress.{on_ok, of_if_ok}
 use Rattle.worker_play.proofs.PoolKeys.{answer_is, answer_noted}
 use Rattle.worker_play.proofs.answers.note_answer.Goals as goal
 

@@ -3,8 +3,8 @@ use Rattle.std.proofs.Math.ListN.{drop_of_length-le}
 use Rattle.apcu_model.specs.declared.request.Request.TheVariants.{Delete}
 use Rattle.reply_text.specs.Replies.{undone, array_text, numbered}
 use Rattle.worker_play.specs.Turns.{asks_at}
-use Rattle.worker_play.proofs.Going.{Midway, on_ok}
-use Rattle.worker_play.proofs.Keys.{undone_begins, undone_goes_on, undone_ends, printed, drop_item, two_left, rest_left, reached_one}
+use Rattle.worker_play.proofs.PassProgress.{Midway, on_ok}
+use Rattle.worker_play.proofs.SeveralKeys.{undone_begins, undone_goes_on, undone_ends, printed, drop_item, two_left, rest_left, reached_one}
 use Rattle.worker_play.proofs.calls.delete_all.Goals as goal
 
 pub loop-key-init : goal.loop-key-init

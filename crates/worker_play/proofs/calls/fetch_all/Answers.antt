@@ -5,10 +5,10 @@ use Rattle.php_graph.specs.declared.kind.Kind.{Kind}
 use Rattle.apcu_model.specs.declared.request.Request.TheVariants.{Fetch}
 use Rattle.reply_text.specs.Replies.{all_noted, value_in, array_text, value_members}
 use Rattle.worker_play.specs.Turns.{asks_at}
-use Rattle.worker_play.proofs.Going.{Midway, on_ok, of_ok}
-use Rattle.worker_play.proofs.Keys.{noted_begins, noted_goes_on, noted_ends, printed, drop_item, two_left, rest_left, reached_one}
+use Rattle.worker_play.proofs.PassProgress.{Midway, on_ok, of_ok}
+use Rattle.worker_play.proofs.SeveralKeys.{noted_begins, noted_goes_on, noted_ends, printed, drop_item, two_left, rest_left, reached_one}
 use Rattle.std.proofs.lemmas.Grind.{common_steps}
-use Rattle.reply_text.proofs.Printed.{all_noted_len}
+use Rattle.reply_text.proofs.MemberCounts.{all_noted_len}
 use Rattle.worker_play.proofs.calls.fetch_all.Goals as goal
 
 pub loop-key-init : goal.loop-key-init

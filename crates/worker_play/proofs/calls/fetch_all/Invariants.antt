@@ -3,7 +3,7 @@ use Rattle.apcu_model.specs.declared.request.Request.TheVariants.{Fetch}
 use Rattle.reply_text.specs.Replies.{all_noted, value_in}
 use Rattle.worker_play.specs.Goes.{KnowsOwnEvents}
 use Rattle.worker_play.specs.Turns.{asks_at}
-use Rattle.worker_play.proofs.Going.{Midway}
+use Rattle.worker_play.proofs.PassProgress.{Midway}
 use Rattle.worker_play.proofs.calls.fetch_all.Given as goal
 
 abbrev pub invariant-loop-key : goal.invariant-loop-key

@@ -4,8 +4,8 @@ use Rattle.std.proofs.Math.ListN.{drop_of_length-le}
 use Rattle.apcu_model.specs.declared.request.Request.TheVariants.{Exists}
 use Rattle.reply_text.specs.Replies.{all_noted, there_in, array_text, all_with}
 use Rattle.worker_play.specs.Turns.{asks_at}
-use Rattle.worker_play.proofs.Going.{Midway, on_ok}
-use Rattle.worker_play.proofs.Keys.{noted_begins, noted_goes_on, noted_ends, printed, drop_item, two_left, rest_left, reached_one}
+use Rattle.worker_play.proofs.PassProgress.{Midway, on_ok}
+use Rattle.worker_play.proofs.SeveralKeys.{noted_begins, noted_goes_on, noted_ends, printed, drop_item, two_left, rest_left, reached_one}
 use Rattle.worker_play.proofs.calls.look_for_all.Goals as goal
 
 pub loop-key-init : goal.loop-key-init

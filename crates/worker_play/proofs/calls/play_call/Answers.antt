@@ -3,8 +3,8 @@ use Rattle.script_read.specs.declared.call.Call.{Call}
 use Rattle.script_read.specs.Calls.{HasRanges, event_bound}
 use Rattle.script_read.specs.Patterns.{call_pattern}
 use Rattle.script_read.specs.declared.call.Call.TheVariants.{StoreMany, FetchMany, ExistsMany, DeleteMany, Enabled}
-use Rattle.worker_play.proofs.Going.{nothing_asked, nothing_made, on_ok, of_if_ok}
-use Rattle.worker_play.proofs.Forms.{call_asks, call_tells, told_once}
+use Rattle.worker_play.proofs.PassProgress.{nothing_asked, nothing_made, on_ok, of_if_ok}
+use Rattle.worker_play.proofs.CallForms.{call_asks, call_tells, told_once}
 use Rattle.worker_play.proofs.calls.play_call.Goals as goal
 
 -- ---- what the calls ask for

@@ -1,7 +1,7 @@
 use Rattle.std.proofs.Common.{◌≡◌, ◌++◌, refl, rules}
 use Rattle.reply_text.specs.Replies.{flag_text}
-use Rattle.worker_play.proofs.Going.{on_ok}
-use Rattle.worker_play.proofs.Forms.{told_once}
+use Rattle.worker_play.proofs.PassProgress.{on_ok}
+use Rattle.worker_play.proofs.CallForms.{told_once}
 use Rattle.worker_play.proofs.calls.play_flagged.Goals as goal
 
 pub store-pass-requires-clause-pass : goal.store-pass-requires-clause-pass

@@ -4,14 +4,14 @@ use Rattle.apcu_model.specs.declared.request.Reply.TheVariants as reply
 use Rattle.apcu_model.specs.declared.searching.List.TheVariants.{Active, Deleted}
 use Rattle.apcu_model.specs.declared.conf.Conf.{Conf}
 use Rattle.apcu_model.specs.declared.request.Request.{Request}
-use Rattle.pin_table.specs.Values.{Bearer}
+use Rattle.pin_table.specs.Values.{PassView}
 use Rattle.script_read.specs.declared.call.Call.{Call}
 use Rattle.script_read.specs.Play.{Asking, Steps, asking_of, asks_so, next_of}
 use Rattle.worker_play.specs.Goes.{Reaches}
 use Rattle.worker_play.specs.Turns.{turns_at, steps_at}
 use Rattle.script_read.specs.declared.call.Call.TheVariants.{Walk, WalkDelete, Totals}
-use Rattle.worker_play.proofs.Going.{nothing_made, on_ok, of_if_ok}
-use Rattle.worker_play.proofs.Forms.{call_asks, call_tells, told_once}
+use Rattle.worker_play.proofs.PassProgress.{nothing_made, on_ok, of_if_ok}
+use Rattle.worker_play.proofs.CallForms.{call_asks, call_tells, told_once}
 use Rattle.worker_play.proofs.Iterators.{by_search, steps_reached, steps_told}
 use Rattle.worker_play.proofs.calls.play_searching.Goals as goal
 
@@ -78,7 +78,7 @@ pub returns-in-Ok-clause-line : goal.returns-in-Ok-clause-line
 returns-in-Ok-clause-line g c =
     let arm = c.in-Totals in
     let form : c.args.call.now ≡ Totals c.args.search.now arm.list = by_search c.args.call.now arm.search c.args.search.now (λ w. Totals w arm.list) arm.is refl c.requires.search in
-    let asked = of_if_ok _ c.totals-pass.result.1 (c.in-Ok.count, c.in-Ok.hits, c.in-Ok.size) c.in-Ok.is c.totals-pass.ensures.told in
+    let asked = of_if_ok _ c.totals-pass.result.1 (c.in-Ok.count, c.in-Ok.hits, c.in-Ok.size) c.in-Ok.is c.totals-pass.ensures.event in
     on_ok c.write_totals.result (λ e. told_once _ _ _ _ _ _ (Totals c.args.search.now arm.list) _ (reply.Totals c.in-Ok.count c.in-Ok.hits c.in-Ok.size) _ _ form asked refl refl e) c.write_totals.ensures
 
 pub returns-in-Err-clause-reaches : goal.returns-in-Err-clause-reaches

@@ -5,8 +5,8 @@ use Rattle.php_graph.specs.declared.kind.Kind.{Kind}
 use Rattle.apcu_model.specs.declared.request.Request.TheVariants.{Store}
 use Rattle.reply_text.specs.Replies.{undone, array_text, all_with}
 use Rattle.worker_play.specs.Turns.{asks_at}
-use Rattle.worker_play.proofs.Going.{Midway, on_ok}
-use Rattle.worker_play.proofs.Keys.{undone_begins, undone_goes_on, undone_ends, printed, drop_item, two_left, rest_left, reached_one}
+use Rattle.worker_play.proofs.PassProgress.{Midway, on_ok}
+use Rattle.worker_play.proofs.SeveralKeys.{undone_begins, undone_goes_on, undone_ends, printed, drop_item, two_left, rest_left, reached_one}
 use Rattle.worker_play.proofs.calls.store_all.Goals as goal
 
 pub loop-pair-init : goal.loop-pair-init

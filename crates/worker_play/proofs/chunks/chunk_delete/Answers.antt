@@ -1,5 +1,5 @@
 use Rattle.std.proofs.Common.{refl}
-use Rattle.worker_play.proofs.Going.{one, if_ok}
+use Rattle.worker_play.proofs.PassProgress.{one, if_ok}
 use Rattle.worker_play.proofs.chunks.chunk_delete.Goals as goal
 
 pub returns-clause-deleted : goal.returns-clause-deleted

@@ -6,8 +6,8 @@ use Rattle.worker_play.specs.Goes.{Tells}
 use Rattle.apcu_model.specs.declared.conf.Conf.{Conf}
 use Rattle.script_read.specs.Budgets.{events_in}
 use Rattle.script_read.specs.Clock.{timed}
-use Rattle.worker_play.proofs.Going.{OwnLaws}
-use Rattle.worker_play.proofs.Retiring.{one_left, unanswered, plays_out_if, has_asked}
+use Rattle.worker_play.proofs.PassProgress.{OwnLaws}
+use Rattle.worker_play.proofs.WorkerEnds.{one_left, unanswered, plays_out_if, has_asked}
 use Rattle.worker_play.proofs.ending.play_out.Goals as goal
 
 pub retire-ended-requires : goal.retire-ended-requires

@@ -1,5 +1,5 @@
 use Rattle.std.proofs.Common.{refl}
-use Rattle.worker_play.proofs.Going.{one}
+use Rattle.worker_play.proofs.PassProgress.{one}
 use Rattle.worker_play.proofs.events.clear.Goals as goal
 
 pub returns : goal.returns

@@ -1,5 +1,5 @@
 use Rattle.std.proofs.Common.{refl}
-use Rattle.worker_play.proofs.Going.{one, of_if_ok}
+use Rattle.worker_play.proofs.PassProgress.{one, of_if_ok}
 use Rattle.worker_play.proofs.events.entry.Goals as goal
 
 pub returns-in-Ok-clause-given : goal.returns-in-Ok-clause-given

@@ -1,6 +1,6 @@
 use Rattle.std.proofs.Common.{ap}
 use Rattle.apcu_model.specs.declared.request.Request.TheVariants as request
-use Rattle.worker_play.proofs.Going.{one}
+use Rattle.worker_play.proofs.PassProgress.{one}
 use Rattle.worker_play.proofs.events.exists.Goals as goal
 
 pub returns : goal.returns

@@ -1,10 +1,10 @@
 use Rattle.std.proofs.Common.{◌≡◌, [], ◌∷◌, length, ap, ap₂, subst, sym}
 use Rattle.apcu_model.specs.declared.request.Request.TheVariants as request
 use Rattle.apcu_model.specs.declared.request.Reply.TheVariants as reply
-use Rattle.pin_table.specs.Values.{Bearer}
-use Rattle.shared_cache.specs.Pinned.{graph_of, bearer_of}
+use Rattle.pin_table.specs.Values.{PassView}
+use Rattle.shared_cache.specs.PinnedFetches.{graph_of, pass_view_of}
 use Rattle.worker_play.specs.Goes.{wish, GoesOn}
-use Rattle.worker_play.proofs.Going.{one}
+use Rattle.worker_play.proofs.PassProgress.{one}
 use Rattle.worker_play.proofs.events.fetch_text.Goals as goal
 
 pub returns-in-Miss : goal.returns-in-Miss
@@ -24,10 +24,10 @@ returns-in-Scalar g c = (
 pub returns-in-Hit : goal.returns-in-Hit
 returns-in-Hit g c =
     let found = c.in-Hit.ensures in
-    let back : bearer_of c.in-Hit.copying ≡ c.copy_text-pass.result.0 =
+    let back : pass_view_of c.in-Hit.copying ≡ c.copy_text-pass.result.0 =
     sym (ap₂ (λ t k. record { table = t; known = k }) c.copy_text-pass.ensures.table c.copy_text-pass.ensures.known) in (
       reply.Found found.graph,
-      subst (λ (q : Bearer). GoesOn g.N.TableName.conf (length g.N.TableName.budgets) c.args.pass q (wish c.args.t (request.Fetch c.args.key.now) ∷ []) (reply.Found found.graph ∷ [])) back
+      subst (λ (q : PassView). GoesOn g.N.TableName.conf (length g.N.TableName.budgets) c.args.pass q (wish c.args.t (request.Fetch c.args.key.now) ∷ []) (reply.Found found.graph ∷ [])) back
           (one (record { more = c.one_event_own.ensures.more; others = c.one_event_own.ensures.others }) _ _ _ _ _ _ _ _ found.follows c.requires.whole (ap request.Fetch c.as_slice.ensures.bytes)),
       c.write_there.ensures found.graph c.args.out.now (c.copy_text-pass.ensures.text found.graph found.image),
     )

@@ -1,7 +1,7 @@
 use Rattle.std.proofs.Common.{w64, ap₂}
 use Rattle.std.proofs.lemmas.Int.{to_z-of_z}
 use Rattle.apcu_model.specs.declared.request.Request.TheVariants as request
-use Rattle.worker_play.proofs.Going.{one}
+use Rattle.worker_play.proofs.PassProgress.{one}
 use Rattle.worker_play.proofs.events.inc.Goals as goal
 
 pub returns : goal.returns

@@ -7,13 +7,13 @@ use Rattle.php_graph.specs.declared.kind.Kind.TheVariants as kinds
 use Rattle.apcu_model.specs.declared.request.Request.TheVariants as request
 use Rattle.apcu_model.specs.declared.request.Reply.TheVariants as reply
 use Rattle.apcu_model.specs.History.{is_scalar}
-use Rattle.pin_table.specs.Values.{Bearer}
-use Rattle.script_read.specs.Generated.{counter_key}
+use Rattle.pin_table.specs.Values.{PassView}
+use Rattle.script_read.specs.GeneratedScripts.{counter_key}
 use Rattle.generated_laws.specs.Summary.{first_number}
-use Rattle.shared_cache.specs.Pinned.{graph_of, bearer_of}
+use Rattle.shared_cache.specs.PinnedFetches.{graph_of, pass_view_of}
 use Rattle.worker_play.specs.Goes.{wish, GoesOn}
-use Rattle.worker_play.proofs.Going.{one}
-use Rattle.worker_play.proofs.Looking.{key_spelled}
+use Rattle.worker_play.proofs.PassProgress.{one}
+use Rattle.worker_play.proofs.CounterLooks.{key_spelled}
 use Rattle.worker_play.proofs.looks.look_at.Goals as goal
 
 -- a value that is copied outside the lock begins with no integer
@@ -41,10 +41,10 @@ returns-in-Scalar g c =
 pub returns-in-Hit : goal.returns-in-Hit
 returns-in-Hit g c =
     let found = c.in-Hit.ensures in
-    let back : bearer_of c.in-Hit.copying ≡ c.copy_out-pass.result.0 =
+    let back : pass_view_of c.in-Hit.copying ≡ c.copy_out-pass.result.0 =
     sym (ap₂ (λ t k. record { table = t; known = k }) c.copy_out-pass.ensures.table c.copy_out-pass.ensures.known) in (
       reply.Found found.graph,
-      subst (λ (q : Bearer). GoesOn g.N.TableName.conf (length g.N.TableName.budgets) c.args.pass q (wish 0 (request.Fetch (counter_key c.args.number)) ∷ []) (reply.Found found.graph ∷ [])) back
+      subst (λ (q : PassView). GoesOn g.N.TableName.conf (length g.N.TableName.budgets) c.args.pass q (wish 0 (request.Fetch (counter_key c.args.number)) ∷ []) (reply.Found found.graph ∷ [])) back
           (one (record { more = c.one_event_own.ensures.more; others = c.one_event_own.ensures.others }) _ _ _ _ _ _ _ _ found.follows c.requires.whole (ap request.Fetch (key_spelled c.args.number c.requires.counter))),
       none_first found.graph found.whole,
     )

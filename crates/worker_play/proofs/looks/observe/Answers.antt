@@ -2,8 +2,8 @@ use Rattle.std.proofs.Common.{◌+◌, ℕ, ℤ, List, length, sym, ap₂, subst
 use Rattle.std.specs.Prelude.{slice_set}
 use Rattle.std.specs.Int.RustNames.{FitsSigned}
 use Rattle.std.proofs.lemmas.Int.{to_z-of_z}
-use Rattle.worker_play.proofs.Going.{OwnLaws}
-use Rattle.worker_play.proofs.Looking.{Looked, none_looked, one_looked, all_looked}
+use Rattle.worker_play.proofs.PassProgress.{OwnLaws}
+use Rattle.worker_play.proofs.CounterLooks.{Looked, none_looked, one_looked, all_looked}
 use Rattle.worker_play.proofs.looks.observe.Goals as goal
 
 pub loop-number-init : goal.loop-number-init

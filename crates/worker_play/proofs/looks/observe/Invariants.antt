@@ -1,6 +1,6 @@
 use Rattle.std.proofs.Common.{◌≡◌, ◌≤◌, ◌+◌, length}
 use Rattle.worker_play.specs.Goes.{KnowsOwnEvents}
-use Rattle.worker_play.proofs.Looking.{Looked}
+use Rattle.worker_play.proofs.CounterLooks.{Looked}
 use Rattle.worker_play.proofs.looks.observe.Given as goal
 
 abbrev pub invariant-loop-number : goal.invariant-loop-number

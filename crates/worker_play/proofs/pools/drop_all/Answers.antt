@@ -5,8 +5,8 @@ use Rattle.apcu_model.specs.declared.request.Request.TheVariants.{Delete}
 use Rattle.simple_pool.specs.Names.{is_good_key, is_good_name, pool_key}
 use Rattle.reply_text.specs.Replies.{flag_text}
 use Rattle.worker_play.specs.Turns.{asks_at}
-use Rattle.worker_play.proofs.Going.{Midway, begins, ends, on_ok}
-use Rattle.worker_play.proofs.Keys.{key_goes_on, printed, drop_item, two_left, rest_left}
+use Rattle.worker_play.proofs.PassProgress.{Midway, begins, ends, on_ok}
+use Rattle.worker_play.proofs.SeveralKeys.{key_goes_on, printed, drop_item, two_left, rest_left}
 use Rattle.worker_play.proofs.PoolKeys.{asked_as, first_good}
 use Rattle.worker_play.proofs.pools.drop_all.Goals as goal
 

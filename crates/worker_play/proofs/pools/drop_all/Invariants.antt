@@ -5,7 +5,7 @@ use Rattle.simple_pool.specs.Requests.{are_good_keys}
 use Rattle.reply_text.specs.Replies.{flag_text}
 use Rattle.worker_play.specs.Goes.{KnowsOwnEvents}
 use Rattle.worker_play.specs.Turns.{asks_at}
-use Rattle.worker_play.proofs.Going.{Midway}
+use Rattle.worker_play.proofs.PassProgress.{Midway}
 use Rattle.worker_play.proofs.pools.drop_all.Given as goal
 
 abbrev pub invariant-loop-key : goal.invariant-loop-key

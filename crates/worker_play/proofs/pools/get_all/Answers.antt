@@ -6,12 +6,12 @@ use Rattle.apcu_model.specs.declared.request.Request.TheVariants.{Fetch}
 use Rattle.simple_pool.specs.Names.{is_good_key, is_good_name, pool_key}
 use Rattle.reply_text.specs.PoolReplies.{got_in}
 use Rattle.reply_text.specs.Replies.{all_noted, array_text, value_members}
-use Rattle.reply_text.proofs.Printed.{all_noted_len}
+use Rattle.reply_text.proofs.MemberCounts.{all_noted_len}
 use Rattle.worker_play.specs.Pools.{answers_noted}
 use Rattle.worker_play.specs.Turns.{asks_at}
 use Rattle.worker_play.specs.declared.answers.Answer.{Answer}
-use Rattle.worker_play.proofs.Going.{Midway, on_ok, of_ok}
-use Rattle.worker_play.proofs.Keys.{noted_begins, noted_goes_on, noted_ends, printed, drop_item, two_left, rest_left, reached_one}
+use Rattle.worker_play.proofs.PassProgress.{Midway, on_ok, of_ok}
+use Rattle.worker_play.proofs.SeveralKeys.{noted_begins, noted_goes_on, noted_ends, printed, drop_item, two_left, rest_left, reached_one}
 use Rattle.worker_play.proofs.PoolKeys.{asked_as, first_good, answers_read, answers_len, read_len}
 use Rattle.worker_play.proofs.pools.get_all.Goals as goal
 

@@ -7,7 +7,7 @@ use Rattle.reply_text.specs.Replies.{all_noted}
 use Rattle.worker_play.specs.Goes.{KnowsOwnEvents}
 use Rattle.worker_play.specs.Pools.{answers_noted}
 use Rattle.worker_play.specs.Turns.{asks_at}
-use Rattle.worker_play.proofs.Going.{Midway}
+use Rattle.worker_play.proofs.PassProgress.{Midway}
 use Rattle.worker_play.proofs.pools.get_all.Given as goal
 
 abbrev pub invariant-loop-key : goal.invariant-loop-key

@@ -8,7 +8,7 @@ use Rattle.simple_pool.specs.declared.call.PoolAsk.TheVariants.{Get, Set, SetPla
 use Rattle.simple_pool.specs.Names.{pool_key}
 use Rattle.reply_text.specs.Replies.{flag_text}
 use Rattle.worker_play.specs.Pools.{life_of, put_as, put_done}
-use Rattle.worker_play.proofs.Going.{on_ok, of_if_ok}
+use Rattle.worker_play.proofs.PassProgress.{on_ok, of_if_ok}
 use Rattle.worker_play.proofs.PoolKeys.{pool_told_once, pool_asked_once, own_is, answer_is, lent_or, set_is_put, set_text}
 use Rattle.worker_play.proofs.pools.play_on_key.Goals as goal
 

@@ -13,7 +13,7 @@ use Rattle.reply_text.specs.Replies.{flag_text}
 use Rattle.worker_play.specs.Goes.{Reaches, Tells}
 use Rattle.worker_play.specs.Pools.{life_of}
 use Rattle.worker_play.specs.Turns.{steps_at}
-use Rattle.worker_play.proofs.Going.{on_ok}
+use Rattle.worker_play.proofs.PassProgress.{on_ok}
 use Rattle.worker_play.proofs.Iterators.{steps_reached, steps_told}
 use Rattle.worker_play.proofs.PoolKeys.{pool_asks, pool_tells, sets_ask, sets_tell}
 use Rattle.worker_play.proofs.pools.play_on_keys.Goals as goal

@@ -1,4 +1,4 @@
-use Rattle.worker_play.proofs.Going.{nothing_asked}
+use Rattle.worker_play.proofs.PassProgress.{nothing_asked}
 use Rattle.worker_play.proofs.pools.play_pool.Goals as goal
 
 pub returns-in-Err-clause-reaches : goal.returns-in-Err-clause-reaches

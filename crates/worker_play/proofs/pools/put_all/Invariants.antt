@@ -5,7 +5,7 @@ use Rattle.simple_pool.specs.Requests.{are_good_pairs}
 use Rattle.worker_play.specs.Goes.{KnowsOwnEvents}
 use Rattle.worker_play.specs.Pools.{put_of, put_done}
 use Rattle.worker_play.specs.Turns.{asks_at}
-use Rattle.worker_play.proofs.Going.{Midway}
+use Rattle.worker_play.proofs.PassProgress.{Midway}
 use Rattle.worker_play.proofs.pools.put_all.Given as goal
 
 abbrev pub invariant-loop-pair : goal.invariant-loop-pair

@@ -9,9 +9,9 @@ use Rattle.reply_text.specs.Lines.{call_text}
 use Rattle.play_laws.specs.Parts.{drop_item}
 use Rattle.worker_play.specs.Goes.{Reaches, Tells, nothing}
 use Rattle.worker_play.specs.Turns.{turns_at, turns_of}
-use Rattle.worker_play.proofs.Going.{Midway, begins, of_ok}
-use Rattle.worker_play.proofs.Steps.{left_now, left_after, step_made, step_breaks, steps_made}
-use Rattle.worker_play.proofs.Refusing.{of_if_err, step_refusable}
+use Rattle.worker_play.proofs.PassProgress.{Midway, begins, of_ok}
+use Rattle.worker_play.proofs.ScriptSteps.{left_now, left_after, step_made, step_breaks, steps_made}
+use Rattle.worker_play.proofs.RefusablePatterns.{of_if_err, step_refusable}
 use Rattle.worker_play.proofs.quiet.make_steps.Goals as goal
 
 pub loop-number-init : goal.loop-number-init

@@ -3,7 +3,7 @@ use Rattle.script_read.specs.Budgets.{events_in}
 use Rattle.script_read.specs.Clock.{timed}
 use Rattle.worker_play.specs.Goes.{KnowsOwnEvents, nothing}
 use Rattle.worker_play.specs.Turns.{turns_of}
-use Rattle.worker_play.proofs.Going.{Midway}
+use Rattle.worker_play.proofs.PassProgress.{Midway}
 use Rattle.worker_play.proofs.quiet.make_steps.Given as goal
 
 abbrev pub invariant-loop-number : goal.invariant-loop-number

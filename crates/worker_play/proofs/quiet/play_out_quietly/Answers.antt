@@ -2,8 +2,8 @@ use Rattle.std.proofs.Common.{◌<◌, length, subst, ◌∙◌}
 use Rattle.apcu_model.specs.declared.conf.Conf.{Conf}
 use Rattle.script_read.specs.Budgets.{events_in}
 use Rattle.script_read.specs.Clock.{timed}
-use Rattle.worker_play.proofs.Going.{OwnLaws}
-use Rattle.worker_play.proofs.Retiring.{one_left, plays_all_if}
+use Rattle.worker_play.proofs.PassProgress.{OwnLaws}
+use Rattle.worker_play.proofs.WorkerEnds.{one_left, plays_all_if}
 use Rattle.worker_play.proofs.quiet.play_out_quietly.Goals as goal
 
 pub retire-ended-requires : goal.retire-ended-requires

@@ -2,8 +2,8 @@ use Rattle.std.proofs.Common.{ℕ, ◌≤◌, ◌+◌, length, sym, subst}
 use Rattle.apcu_model.specs.declared.conf.Conf.{Conf}
 use Rattle.script_read.specs.Budgets.{events_in}
 use Rattle.script_read.specs.Clock.{timed}
-use Rattle.worker_play.proofs.Going.{OwnLaws}
-use Rattle.worker_play.proofs.Retiring.{few_taken, unanswered, has_made_if}
+use Rattle.worker_play.proofs.PassProgress.{OwnLaws}
+use Rattle.worker_play.proofs.WorkerEnds.{few_taken, unanswered, has_made_if}
 use Rattle.worker_play.proofs.quiet.play_quietly.Goals as goal
 
 pub returns-clause-made : goal.returns-clause-made

@@ -2,7 +2,7 @@ use Rattle.std.proofs.Common.{rules, ◌≡◌, ◌++◌, ℕ, List, true, codes
 use Rattle.cache_core.specs.declared.scalar.Scalar.{Scalar}
 use Rattle.notation.specs.Notation.{integer_text, text_of}
 use Rattle.reply_text.specs.Replies.{flag_text}
-use Rattle.shared_cache.specs.Pinned.{graph_of}
+use Rattle.shared_cache.specs.PinnedFetches.{graph_of}
 use Rattle.worker_play.proofs.Scalars.{null-text, flag-text, number-text}
 use Rattle.worker_play.proofs.scalar.write_scalar.Goals as goal
 

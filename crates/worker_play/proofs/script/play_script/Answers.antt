@@ -5,8 +5,8 @@ use Rattle.script_read.specs.Clock.{timed}
 use Rattle.reply_text.specs.Lines.{script_lines}
 use Rattle.worker_play.specs.Goes.{Tells}
 use Rattle.worker_play.specs.Turns.{turns_of}
-use Rattle.worker_play.proofs.Going.{of_ok}
-use Rattle.worker_play.proofs.Retiring.{few_taken}
+use Rattle.worker_play.proofs.PassProgress.{of_ok}
+use Rattle.worker_play.proofs.WorkerEnds.{few_taken}
 use Rattle.worker_play.proofs.script.play_script.Goals as goal
 
 pub returns-in-Ok-clause-lines : goal.returns-in-Ok-clause-lines

@@ -1,7 +1,7 @@
 use Rattle.script_read.specs.Grammar.{ends_line}
 use Rattle.reply_text.specs.Lines.{call_text}
-use Rattle.worker_play.proofs.Forms.{line_ends}
-use Rattle.worker_play.proofs.Going.{nothing_asked, on_ok, of_ok}
+use Rattle.worker_play.proofs.CallForms.{line_ends}
+use Rattle.worker_play.proofs.PassProgress.{nothing_asked, on_ok, of_ok}
 use Rattle.worker_play.proofs.script.play_step.Goals as goal
 
 pub returns-in-Ok-played-clause-line : goal.returns-in-Ok-played-clause-line

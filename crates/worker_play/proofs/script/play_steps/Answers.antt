@@ -9,9 +9,9 @@ use Rattle.reply_text.specs.Lines.{call_text, script_lines}
 use Rattle.play_laws.specs.Parts.{drop_item}
 use Rattle.worker_play.specs.Goes.{Reaches, Tells}
 use Rattle.worker_play.specs.Turns.{turns_at, turns_of}
-use Rattle.worker_play.proofs.Going.{Midway, begins, of_ok}
-use Rattle.worker_play.proofs.Steps.{left_now, left_after, step_goes_on, step_breaks, steps_end}
-use Rattle.worker_play.proofs.Refusing.{of_if_err, step_refusable}
+use Rattle.worker_play.proofs.PassProgress.{Midway, begins, of_ok}
+use Rattle.worker_play.proofs.ScriptSteps.{left_now, left_after, step_goes_on, step_breaks, steps_end}
+use Rattle.worker_play.proofs.RefusablePatterns.{of_if_err, step_refusable}
 use Rattle.worker_play.proofs.script.play_steps.Goals as goal
 
 pub loop-number-init : goal.loop-number-init

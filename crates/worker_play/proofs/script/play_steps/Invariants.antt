@@ -4,7 +4,7 @@ use Rattle.script_read.specs.Clock.{timed}
 use Rattle.reply_text.specs.Lines.{script_lines}
 use Rattle.worker_play.specs.Goes.{KnowsOwnEvents}
 use Rattle.worker_play.specs.Turns.{turns_of}
-use Rattle.worker_play.proofs.Going.{Midway}
+use Rattle.worker_play.proofs.PassProgress.{Midway}
 use Rattle.worker_play.proofs.script.play_steps.Given as goal
 
 abbrev pub invariant-loop-number : goal.invariant-loop-number

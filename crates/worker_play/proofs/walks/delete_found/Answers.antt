@@ -3,8 +3,8 @@ use Rattle.apcu_model.specs.declared.request.Request.{Request}
 use Rattle.apcu_model.specs.declared.request.Request.TheVariants as request
 use Rattle.apcu_model.specs.declared.request.Reply.TheVariants as reply
 use Rattle.reply_text.specs.Replies.{flag_text}
-use Rattle.worker_play.proofs.Going.{begins, ends, on_ok, if_ok, of_if_ok}
-use Rattle.worker_play.proofs.Keys.{printed}
+use Rattle.worker_play.proofs.PassProgress.{begins, ends, on_ok, if_ok, of_if_ok}
+use Rattle.worker_play.proofs.SeveralKeys.{printed}
 use Rattle.worker_play.proofs.Iterators.{iterator_goes_on, iterator_breaks, asked_so, steps_over}
 use Rattle.worker_play.proofs.walks.delete_found.Goals as goal
 

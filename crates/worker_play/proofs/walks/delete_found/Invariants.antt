@@ -3,7 +3,7 @@ use Rattle.apcu_model.specs.declared.request.Request.TheVariants as request
 use Rattle.reply_text.specs.Replies.{flag_text}
 use Rattle.worker_play.specs.Goes.{KnowsOwnEvents}
 use Rattle.worker_play.specs.Turns.{steps_at}
-use Rattle.worker_play.proofs.Going.{Midway}
+use Rattle.worker_play.proofs.PassProgress.{Midway}
 use Rattle.worker_play.proofs.walks.delete_found.Given as goal
 
 abbrev pub invariant-deleting : goal.invariant-deleting

@@ -8,8 +8,8 @@ use Rattle.apcu_model.specs.declared.request.Reply.TheVariants as reply
 use Rattle.apcu_model.specs.declared.searching.List.TheVariants.{Active}
 use Rattle.script_read.specs.Play.{slot_after}
 use Rattle.reply_text.specs.Items.{walk_text}
-use Rattle.worker_play.proofs.Going.{nothing_asked, ends, on_ok, if_ok, of_if_ok}
-use Rattle.worker_play.proofs.Keys.{printed}
+use Rattle.worker_play.proofs.PassProgress.{nothing_asked, ends, on_ok, if_ok, of_if_ok}
+use Rattle.worker_play.proofs.SeveralKeys.{printed}
 use Rattle.worker_play.proofs.Iterators.{iterator_goes_on, iterator_breaks, asked_so, steps_over}
 use Rattle.worker_play.proofs.walks.walk_active.Goals as goal
 
@@ -34,7 +34,7 @@ pub walking-preserved : goal.walking-preserved
 walking-preserved g c =
     let i = c.walking.invariant in
     let kept = c.in-Ok.ensures in
-    let asked = of_if_ok _ c.chunk-next.result.1 kept.0 kept.1 c.chunk-next.ensures.told in
+    let asked = of_if_ok _ c.chunk-next.result.1 kept.0 kept.1 c.chunk-next.ensures.event in
     record {
       table = asked.table ∙ i.table;
       whole = asked.all_own;
@@ -50,7 +50,7 @@ returns-in-Err-clause-reaches g c =
     let i = c.walking.invariant in
     let ask : ℕ → Request = λ from. request.Chunk c.args.search.now from c.args.size Active c.args.fields in
     iterator_breaks _ _ _ _ _ _ c.args.t c.args.slots ask c.walking.from reply.Chunk (λ replies. replies) (λ later. c.walking.steps.items ++ later) c.chunk-next.result.1 i.midway c.walking-test.true
-    (if_ok c.chunk-next.result.1 (λ chunk asked. asked_so _ _ _ _ _ _ _ _ (ap (λ s. request.Chunk s c.walking.from c.args.size Active c.args.fields) i.search) asked) c.chunk-next.ensures.told) c.chunk-next.ensures.same
+    (if_ok c.chunk-next.result.1 (λ chunk asked. asked_so _ _ _ _ _ _ _ _ (ap (λ s. request.Chunk s c.walking.from c.args.size Active c.args.fields) i.search) asked) c.chunk-next.ensures.event) c.chunk-next.ensures.same
 
 pub returns-clause-reaches : goal.returns-clause-reaches
 returns-clause-reaches g c = c.walking.invariant.midway.0

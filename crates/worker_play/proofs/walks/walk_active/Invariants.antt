@@ -4,7 +4,7 @@ use Rattle.apcu_model.specs.declared.request.Reply.TheVariants as reply
 use Rattle.apcu_model.specs.declared.searching.List.TheVariants.{Active}
 use Rattle.worker_play.specs.Goes.{KnowsOwnEvents}
 use Rattle.worker_play.specs.Turns.{steps_at}
-use Rattle.worker_play.proofs.Going.{Midway}
+use Rattle.worker_play.proofs.PassProgress.{Midway}
 use Rattle.worker_play.proofs.walks.walk_active.Given as goal
 
 abbrev pub invariant-walking : goal.invariant-walking

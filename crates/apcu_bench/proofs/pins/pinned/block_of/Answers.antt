@@ -3,7 +3,7 @@ use Rattle.std.proofs.lemmas.Grind.{common_steps}
 use Rattle.value_image.specs.Rows.{written}
 use Rattle.value_image.specs.Image.{image_of}
 use Rattle.pin_table.specs.Pins.{content_of}
-use Rattle.apcu_bench.proofs.Blocks.{has-block, content-is, long, may-pin, stands-alone}
+use Rattle.apcu_bench.proofs.EmptyKeyBlock.{has-block, content-is, long, may-pin, stands-alone}
 use Rattle.apcu_bench.proofs.pins.pinned.block_of.Goals as goal
 
 pub store-requires-clause-apart : goal.store-requires-clause-apart

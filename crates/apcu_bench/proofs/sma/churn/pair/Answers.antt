@@ -2,7 +2,7 @@ use Rattle.std.proofs.Common.{ℕ, sym, ap, ◌∙◌, subst, arith}
 use Rattle.std.proofs.lemmas.List.{get_or_read}
 use Rattle.seg_words.specs.declared.gaps.Extent.{Extent}
 use Rattle.sma_blocks.specs.Live.{IsLive, live_blocks}
-use Rattle.apcu_bench.proofs.Listing.{pair_listed, fresh}
+use Rattle.apcu_bench.proofs.LiveBlocks.{pair_listed, new_block}
 use Rattle.apcu_bench.proofs.sma.churn.pair.Goals as goal
 
 pub give-requires-clause-live : goal.give-requires-clause-live
@@ -32,4 +32,4 @@ returns-in-Some-clause-listed g c =
     (ap (λ (m : ℕ). live_blocks words m) c.give.ensures.from ∙ c.give.ensures.given)
     (ap (λ (m : ℕ). live_blocks after m) c.take.ensures.from ∙ c.in-Some.ensures.taken)
     (c.list_laws.ensures.left at old) (c.list_laws.ensures.kept e left) (c.list_laws.ensures.added e left)
-    (fresh words given.from left given.to place 12 behind (omega arith) (c.gap_laws.ensures.taken place 12 left) free)
+    (new_block words given.from left given.to place 12 behind (omega arith) (c.gap_laws.ensures.taken place 12 left) free)

@@ -1,7 +1,7 @@
 use Rattle.std.proofs.Common.{◌≡◌}
 use Rattle.sma_blocks.specs.Live.{live_blocks}
 use Rattle.sma_blocks.specs.Ready.{IsReady}
-use Rattle.apcu_bench.specs.Listed.{AreListed}
+use Rattle.apcu_bench.specs.LivePlaces.{AreListed}
 use Rattle.apcu_bench.proofs.sma.churn.pairs.Given as goal
 
 abbrev pub invariant-loop : goal.invariant-loop

@@ -1,8 +1,8 @@
 use Rattle.std.proofs.Common.{ℕ, List, sym, ap, ◌∙◌, subst}
 use Rattle.seg_words.specs.declared.gaps.Extent.{Extent}
 use Rattle.sma_blocks.specs.Live.{live_blocks}
-use Rattle.apcu_bench.specs.Listed.{AreLive}
-use Rattle.apcu_bench.proofs.Listing.{added}
+use Rattle.apcu_bench.specs.LivePlaces.{AreLive}
+use Rattle.apcu_bench.proofs.LiveBlocks.{added}
 use Rattle.apcu_bench.proofs.sma.fill.add.Goals as goal
 
 pub returns-in_ok-push-clause-live : goal.returns-in_ok-push-clause-live

@@ -1,6 +1,6 @@
 use Rattle.std.proofs.Common.{ℕ, List, sym, subst}
-use Rattle.apcu_bench.specs.Listed.{AreLive}
-use Rattle.apcu_bench.proofs.Listing.{live_push}
+use Rattle.apcu_bench.specs.LivePlaces.{AreLive}
+use Rattle.apcu_bench.proofs.LiveBlocks.{live_push}
 use Rattle.apcu_bench.proofs.sma.fill.every_so_many.Goals.{then-i-step-eq0+in_ok-push, else-i-step-eq0}
 use Rattle.apcu_bench.proofs.sma.fill.every_so_many.Goals as goal
 

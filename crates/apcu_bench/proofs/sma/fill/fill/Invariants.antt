@@ -1,7 +1,7 @@
 use Rattle.std.proofs.Common.{◌≡◌}
 use Rattle.sma_blocks.specs.Live.{live_blocks}
 use Rattle.sma_blocks.specs.Ready.{IsReady}
-use Rattle.apcu_bench.specs.Listed.{AreLive}
+use Rattle.apcu_bench.specs.LivePlaces.{AreLive}
 use Rattle.apcu_bench.proofs.sma.fill.fill.Given as goal
 
 abbrev pub invariant-loop-unit : goal.invariant-loop-unit

@@ -1,8 +1,8 @@
 use Rattle.std.proofs.Common.{ℕ, List, sym, ap, ◌∙◌, subst}
 use Rattle.seg_words.specs.declared.gaps.Extent.{Extent}
 use Rattle.sma_blocks.specs.Live.{live_blocks, kept_blocks}
-use Rattle.apcu_bench.specs.Listed.{AreListed}
-use Rattle.apcu_bench.proofs.Listing.{kept_listed}
+use Rattle.apcu_bench.specs.LivePlaces.{AreListed}
+use Rattle.apcu_bench.proofs.LiveBlocks.{kept_listed}
 use Rattle.apcu_bench.proofs.sma.fill.keep_listed.Goals as goal
 
 pub returns-clause-listed : goal.returns-clause-listed

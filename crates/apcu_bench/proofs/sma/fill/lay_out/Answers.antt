@@ -1,6 +1,6 @@
 use Rattle.std.proofs.Common.{ℕ, List, sym, subst}
 use Rattle.sma_blocks.specs.Live.{live_blocks}
-use Rattle.apcu_bench.specs.Listed.{AreLive, AreListed}
+use Rattle.apcu_bench.specs.LivePlaces.{AreLive, AreListed}
 use Rattle.apcu_bench.proofs.sma.fill.lay_out.Goals as goal
 
 pub keep_rising-requires-clause-live : goal.keep_rising-requires-clause-live

@@ -1,5 +1,5 @@
 use Rattle.sma_blocks.specs.Live.{live_blocks}
-use Rattle.apcu_bench.proofs.Listing.{left_live}
+use Rattle.apcu_bench.proofs.LiveBlocks.{left_live}
 use Rattle.apcu_bench.proofs.sma.fill.leave.Goals as goal
 
 pub returns-clause-live : goal.returns-clause-live

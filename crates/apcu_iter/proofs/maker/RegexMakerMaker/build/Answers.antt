@@ -2,8 +2,8 @@ use Rattle.std.proofs.Common.{rules, ◌≡◌, ap}
 use Rattle.std.specs.Prelude.{is_some}
 use Rattle.regex.specs.Patterns.{Refuses}
 use Rattle.regex.specs.Failures as failures
-use Rattle.apcu_model.specs.Matching.{config_of}
-use Rattle.apcu_iter.proofs.Reading.{finds_as, good_text, none_of_bytes, none_of_refusal, pattern_of}
+use Rattle.apcu_model.specs.PatternMatches.{config_of}
+use Rattle.apcu_iter.proofs.RegexPatterns.{finds_as, good_text, none_of_bytes, none_of_refusal, pattern_of}
 use Rattle.apcu_iter.proofs.maker.RegexMakerMaker.build.Goals as goal
 
 pub returns-in_default-clause-bad : goal.returns-in_default-clause-bad

@@ -1,7 +1,7 @@
 use Rattle.std.proofs.Common.{◌≡◌, sym, ap, ◌∙◌}
 use Rattle.std.specs.Prelude.{is_some}
 use Rattle.regex.specs.Patterns.{find}
-use Rattle.apcu_model.specs.Matching.{finds}
+use Rattle.apcu_model.specs.PatternMatches.{finds}
 use Rattle.apcu_iter.specs.declared.search.Needle.{Needle}
 use Rattle.apcu_iter.proofs.search.Search.test.Goals as goal
 

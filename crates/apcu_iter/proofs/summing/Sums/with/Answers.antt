@@ -1,7 +1,7 @@
 use Rattle.std.proofs.Common.{◌≡◌, ◌∙◌, ◌+◌, ℕ, [], ◌∷◌, ap, arith}
 use Rattle.std.specs.Prelude.{sum_by}
 use Rattle.apcu_model.specs.Cache.{Row}
-use Rattle.apcu_iter.specs.Adding.{within}
+use Rattle.apcu_iter.specs.RowSums.{within}
 use Rattle.apcu_iter.specs.declared.summing.Sums.{Sums}
 use Rattle.apcu_iter.proofs.summing.Sums.with.Goals as goal
 

@@ -18,8 +18,8 @@ unlimited t ttl ctime none =
 
 pub returns-then-self-gt0 : goal.returns-then-self-gt0
 returns-then-self-gt0 c =
-    subst (λ (row : Row). c.is_over.result ≡ is_hard_expired c.args.t row) c.self.view_is
-    (limited c.args.t c.self.inside.ttl c.self.inside.ctime c.is_over.result c.if-self-gt0.true c.is_over.ensures)
+    subst (λ (row : Row). c.has_elapsed.result ≡ is_hard_expired c.args.t row) c.self.view_is
+    (limited c.args.t c.self.inside.ttl c.self.inside.ctime c.has_elapsed.result c.if-self-gt0.true c.has_elapsed.ensures)
 
 pub returns-else-self-gt0 : goal.returns-else-self-gt0
 returns-else-self-gt0 c =

@@ -7,7 +7,7 @@ use Rattle.apcu_model.specs.Change.{inserted}
 use Rattle.apcu_model.specs.Expiry.{live_row}
 use Rattle.apcu_model.specs.Generators.{filled, looked_for, missed_levels}
 use Rattle.apcu_model.specs.Levels.{EntryLevel, Generator}
-use Rattle.apcu_model.specs.Nesting.{generator_of}
+use Rattle.apcu_model.specs.GeneratorKinds.{generator_of}
 use Rattle.apcu_model.specs.Rows.{cache_in}
 use Rattle.apcu_model.proofs.state.State.+fill.Goals as goal
 

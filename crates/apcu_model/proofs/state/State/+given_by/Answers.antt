@@ -3,7 +3,7 @@ use Rattle.std.specs.Prelude.{Option, find}
 use Rattle.apcu_model.specs.Cache.{Row, has_key}
 use Rattle.apcu_model.specs.Expiry.{is_hard_expired, live_row}
 use Rattle.apcu_model.specs.Levels.{Generator}
-use Rattle.apcu_model.specs.Nesting.{generator_of}
+use Rattle.apcu_model.specs.GeneratorKinds.{generator_of}
 use Rattle.apcu_model.specs.Generators.{given_by}
 use Rattle.apcu_model.specs.Rows.{cache_in}
 use Rattle.apcu_model.proofs.state.State.+given_by.Goals as goal

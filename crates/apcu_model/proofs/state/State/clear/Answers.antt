@@ -2,7 +2,7 @@ use Rattle.std.proofs.Common.{List, [], sym, ap, ◌∙◌}
 use Rattle.apcu_model.specs.Cache.{Row, Cache}
 use Rattle.apcu_model.specs.Change.{leaving}
 use Rattle.apcu_model.specs.Rows.{cache_in}
-use Rattle.apcu_model.proofs.Apart.{dropped_of, left_none}
+use Rattle.apcu_model.proofs.RowsApart.{dropped_of, left_none}
 use Rattle.apcu_model.proofs.state.State.clear.Goals as goal
 
 pub returns-clause-cache : goal.returns-clause-cache

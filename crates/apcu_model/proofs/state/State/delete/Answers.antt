@@ -5,7 +5,7 @@ use Rattle.apcu_model.specs.Cache.{Row, Cache, has_key}
 use Rattle.apcu_model.specs.Change.{dropped}
 use Rattle.apcu_model.specs.Expiry.{live_row}
 use Rattle.apcu_model.specs.Rows.{are_apart, cache_in}
-use Rattle.apcu_model.proofs.Apart.{dropped_of, left_passing, are_apart-filter}
+use Rattle.apcu_model.proofs.RowsApart.{dropped_of, left_passing, are_apart-filter}
 use Rattle.apcu_model.proofs.state.State.delete.Goals as goal
 
 pub returns-clause-cache : goal.returns-clause-cache

@@ -5,7 +5,7 @@ use Rattle.apcu_model.specs.Change.{dropped, leaving}
 use Rattle.apcu_model.specs.Expiry.{is_expired}
 use Rattle.apcu_model.specs.Facts.{left_all}
 use Rattle.apcu_model.specs.Rows.{are_apart, cache_in}
-use Rattle.apcu_model.proofs.Apart.{dropped_of, left_in_order, are_apart-filter}
+use Rattle.apcu_model.proofs.RowsApart.{dropped_of, left_in_order, are_apart-filter}
 use Rattle.apcu_model.proofs.state.State.expire.Goals as goal
 
 pub returns-then-self-gt0-clause-cache : goal.returns-then-self-gt0-clause-cache

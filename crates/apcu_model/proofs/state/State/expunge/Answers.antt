@@ -2,7 +2,7 @@ use Rattle.std.proofs.Common.{ℕ, List, [], sym, ap, ap₂, ◌∙◌}
 use Rattle.apcu_model.specs.Cache.{Row, Cache, risen}
 use Rattle.apcu_model.specs.Change.{leaving}
 use Rattle.apcu_model.specs.Rows.{cache_in}
-use Rattle.apcu_model.proofs.Apart.{dropped_of, left_none}
+use Rattle.apcu_model.proofs.RowsApart.{dropped_of, left_none}
 use Rattle.apcu_model.proofs.state.State.expunge.Goals as goal
 
 pub returns-clause-cache : goal.returns-clause-cache

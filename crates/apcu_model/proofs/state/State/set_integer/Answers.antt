@@ -1,7 +1,7 @@
 use Rattle.std.proofs.Common.{◌≡◌, true, ◌++◌, length, take, drop, ap, ◌∙◌, arith, w64, to_z, of_z}
 use Rattle.std.proofs.lemmas.Grind.{common_steps}
 use Rattle.apcu_model.specs.Rows.{are_apart}
-use Rattle.apcu_model.proofs.Apart.{are_apart-map}
+use Rattle.apcu_model.proofs.RowsApart.{are_apart-map}
 use Rattle.apcu_model.specs.Counters.{with_integer_at}
 use Rattle.apcu_model.proofs.Scalars.{set_key}
 use Rattle.apcu_model.proofs.state.State.set_integer.Goals as goal

@@ -2,7 +2,7 @@ use Rattle.std.proofs.Common.{ap, arith, length, ◌+◌, ◌≤◌}
 use Rattle.std.proofs.lemmas.List.{length-map}
 use Rattle.php_graph.specs.Graph.{most_values}
 use Rattle.php_graph.specs.declared.places.Place.{Place}
-use Rattle.apcu_model.proofs.Laying.{laid_on}
+use Rattle.apcu_model.proofs.GraphLayout.{laid_on}
 use Rattle.apcu_model.proofs.telling.Telling.push.Goals as goal
 
 pub invariant_of-self-2 : goal.invariant_of-self-2

@@ -46,7 +46,7 @@ use Rattle.std.proofs.VecSteps.El.{El, args, el_x, elτ, Hd, P, R, sz, wider}
 use Rattle.std.proofs.VecSteps.Opens.{blk_out}
 use Rattle.std.proofs.VecSteps.Rows.{all_room}
 use Rattle.std.proofs.VecSteps.Shapes.{after}
-use Rattle.byte_box.proofs.Walks.{Dr, Bs, mark, mark_had, word_had, held_out, needs_four}
+use Rattle.byte_box.proofs.BlockOwnership.{Dr, Bs, mark, mark_had, word_had, held_out, needs_four}
 use Rattle.byte_box.specs.contracts.block.Deed.free as F
 use Rattle.byte_box.specs.contracts.block.Deed.free.Key.{name as #self}
 use Rattle.byte_box.proofs.block.Deed.free.Statement as stated

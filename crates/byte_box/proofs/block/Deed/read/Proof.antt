@@ -38,7 +38,7 @@ use Rattle.std.proofs.RcSteps.{word, word-Good}
 use Rattle.std.proofs.VecSteps.El.{El, args, R, sz}
 use Rattle.std.proofs.VecSteps.Facts.{needs_two}
 use Rattle.std.proofs.VecSteps.Shapes.{after}
-use Rattle.byte_box.proofs.Walks.{Dr, Bs, word_had}
+use Rattle.byte_box.proofs.BlockOwnership.{Dr, Bs, word_had}
 use Rattle.byte_box.specs.contracts.block.Deed.read.Key.{name as #self}
 use Rattle.byte_box.proofs.block.Deed.read.Statement as stated
 use Rattle.byte_box.proofs.block.Deed.read.Code as code

@@ -7,17 +7,17 @@ use Rattle.apcu_model.specs.Change.{with_room}
 use Rattle.entry_slots.specs.declared.spots.Spot.{Spot}
 use Rattle.entry_slots.specs.Standing.{entries}
 use Rattle.cache_core.specs.Spots.{IsSpotIfAny, HaveSameRows}
-use Rattle.cache_core.proofs.Spotting.{rows_stay, still_spot}
+use Rattle.cache_core.proofs.SpotsAfterRoom.{rows_stay, still_spot}
 use Rattle.seg_words.specs.Probing.{goes_nowhere, goes_on}
 use Rattle.std.specs.Prelude.{Option}
 use Rattle.apcu_model.specs.declared.conf.Conf.{Conf}
-use Rattle.apcu_model.specs.Walk.{slot_of}
+use Rattle.apcu_model.specs.SlotOrder.{slot_of}
 use Rattle.entry_slots.specs.Entries.{Entries}
 use Rattle.ttl_expunge.specs.Room.{MakesRoom}
 use Rattle.cache_core.specs.declared.cache.Core.{Core}
-use Rattle.cache_core.specs.Caching.{cache_of, CacheStands}
-use Rattle.cache_core.proofs.Caching.{whole_made}
-use Rattle.cache_core.proofs.Adding.{none_added, row_added}
+use Rattle.cache_core.specs.CoreCache.{cache_of, CacheStands}
+use Rattle.cache_core.proofs.CoreCacheLemmas.{whole_made}
+use Rattle.cache_core.proofs.AddedRows.{none_added, row_added}
 use Rattle.cache_core.proofs.cache.Core.add.Goals as goal
 
 made_as : {s s1 : Entries} {a0 a1 : Aside} {n n' t : ℕ} {r r' : Option ℕ} {full : Bool} → n ≡ n' → r ≡ r' → MakesRoom s s1 a0 a1 n t r full → MakesRoom s s1 a0 a1 n' t r' full
@@ -67,7 +67,7 @@ put_in-requires-clause-spot g c =
 pub returns-in_default : goal.returns-in_default
 returns-in_default g c =
     let core = c.args.self.now in
-    let new : Core = record { slots = c.make_room_next-place.new.slots; conf = core.conf; tally = c.after_room-self.result } in
+    let new : Core = record { slots = c.make_room_next-place.new.slots; conf = core.conf; cache_counts = c.after_room-self.result } in
     let made = made_as c.block_words-n.ensures c.in_default.is c.make_room_next-place.ensures.made in
     let after = c.after_room-self.ensures in
     let whole = c.requires.ready.stand.whole in
@@ -79,13 +79,13 @@ returns-in_default g c =
       added = λ later on. sym (none later on).1;
       room = refl;
       step = record { goes = made.goes; keeps = made.keeps; refused = λ was. made.refused; stand = stands; rest = c.make_room_next-place.ensures.rest };
-      next = record { stand = stands; fresh = λ was. absurd (false≢true (sym was)); held = λ was. made.held; refused = made.refused };
+      next = record { stand = stands; unrefused = λ was. absurd (false≢true (sym was)); held = λ was. made.held; refused = made.refused };
     }
 
 pub returns : goal.returns
 returns g c =
     let core = c.args.self.now in
-    let new : Core = record { slots = c.put_in.new.slots; conf = core.conf; tally = c.after_insert-self.result } in
+    let new : Core = record { slots = c.put_in.new.slots; conf = core.conf; cache_counts = c.after_insert-self.result } in
     let made = made_as c.block_words-n.ensures c.in-Some.is c.make_room_next-place.ensures.made in
     let puts = c.put_in.ensures.puts in
     let after = c.after_room-self.ensures in
@@ -105,5 +105,5 @@ returns g c =
         stand = stands;
         rest = c.put_in.ensures.rest ∙ c.make_room_next-place.ensures.rest;
       };
-      next = record { stand = stands; fresh = λ was. absurd (false≢true (sym was)); held = λ was. puts.held made.held; refused = puts.refused };
+      next = record { stand = stands; unrefused = λ was. absurd (false≢true (sym was)); held = λ was. puts.held made.held; refused = puts.refused };
     }

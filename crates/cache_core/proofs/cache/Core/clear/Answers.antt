@@ -5,7 +5,7 @@ use Rattle.entry_slots.specs.Standing.{entries}
 use Rattle.ttl_expunge.specs.Dropping.{all_rows}
 use Rattle.cache_core.specs.declared.cache.Core.{Core}
 use Rattle.apcu_model.specs.Facts.{leaving_from}
-use Rattle.cache_core.proofs.Keyed.{core_cleared}
+use Rattle.cache_core.proofs.KeyRows.{core_cleared}
 use Rattle.cache_core.proofs.cache.Core.clear.Goals as goal
 
 pub expunge_at_once-requires-clause-ready : goal.expunge_at_once-requires-clause-ready
@@ -17,7 +17,7 @@ expunge_at_once-requires-clause-whole g c = (ap (λ (x : Entries). x.unlinked) c
 pub returns : goal.returns
 returns g c =
     let core = c.args.self.now in
-    let new : Core = record core { slots = c.expunge_at_once.new.slots; tally = c.new-self.result } in
+    let new : Core = record core { slots = c.expunge_at_once.new.slots; cache_counts = c.new-self.result } in
     let s = entries core.slots in
     let laws = c.lower_laws.ensures in
     let drops = c.expunge_at_once.ensures.drops in

@@ -6,10 +6,10 @@ use Rattle.seg_words.specs.Blocks.{IsTold}
 use Rattle.value_image.specs.Image.{IsImageOf}
 use Rattle.apcu_model.specs.Cache.{Row}
 use Rattle.entry_slots.specs.Entries.{IsListed, listed}
-use Rattle.entry_slots.specs.Having.{place_there}
+use Rattle.entry_slots.specs.RowPlaces.{place_there}
 use Rattle.entry_slots.specs.Lists.{has_place}
 use Rattle.entry_slots.specs.Standing.{entries}
-use Rattle.cache_core.proofs.Standing.{stand_kept}
+use Rattle.cache_core.proofs.ReadOnlyCalls.{stand_kept}
 use Rattle.cache_core.proofs.cache.Core.copy_live.Goals as goal
 
 pub returns-in_default-clause-found : goal.returns-in_default-clause-found

@@ -5,20 +5,20 @@ use Rattle.seg_words.specs.Probing.{Goes, goes_nowhere}
 use Rattle.apcu_model.specs.declared.request.Reply.TheVariants as reply
 use Rattle.apcu_model.specs.Cache.{has_key}
 use Rattle.apcu_model.specs.Change.{dropped}
-use Rattle.apcu_model.specs.Walk.{slot_of}
+use Rattle.apcu_model.specs.SlotOrder.{slot_of}
 use Rattle.entry_slots.specs.Entries.{Entries}
 use Rattle.entry_slots.specs.Lists.{has_place, is_at, only_at}
 use Rattle.entry_slots.specs.Standing.{entries}
 use Rattle.cache_core.specs.declared.cache.Core.{Core}
-use Rattle.cache_core.specs.Caching.{cache_of}
-use Rattle.entry_slots.specs.Having.{place_there}
+use Rattle.cache_core.specs.CoreCache.{cache_of}
+use Rattle.entry_slots.specs.RowPlaces.{place_there}
 use Rattle.seg_words.specs.Members.{Contains-filter}
 use Rattle.std.proofs.lemmas.Bool.{false≢true}
 use Rattle.cache_core.specs.Events.{IsUnchanged}
-use Rattle.ttl_expunge.proofs.Steps.{may_kept}
+use Rattle.ttl_expunge.proofs.EventSteps.{may_kept}
 use Rattle.cache_core.proofs.Events.{does_nothing}
-use Rattle.cache_core.proofs.Live.{old_found}
-use Rattle.cache_core.proofs.Keyed.{core_deleted}
+use Rattle.cache_core.proofs.LiveRows.{old_found}
+use Rattle.cache_core.proofs.KeyRows.{core_deleted}
 use Rattle.cache_core.proofs.cache.Core.delete.Goals as goal
 
 pub find_spot-requires-clause-slot : goal.find_spot-requires-clause-slot

@@ -1,6 +1,6 @@
 use Rattle.std.proofs.Common.{◌∙◌}
-use Rattle.cache_core.specs.Caching.{cache_of}
-use Rattle.cache_core.proofs.Live.{found_some}
+use Rattle.cache_core.specs.CoreCache.{cache_of}
+use Rattle.cache_core.proofs.LiveRows.{found_some}
 use Rattle.cache_core.proofs.cache.Core.exists.Goals as goal
 
 pub returns-clause-found : goal.returns-clause-found

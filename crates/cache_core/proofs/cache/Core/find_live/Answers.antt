@@ -5,9 +5,9 @@ use Rattle.std.proofs.lemmas.List.Folds.{list_any-append}
 use Rattle.apcu_model.specs.Expiry.{is_hard_expired}
 use Rattle.entry_slots.specs.Lists.{is_at, has_place}
 use Rattle.entry_slots.specs.Standing.{entries}
-use Rattle.cache_core.proofs.Standing.{stand_kept}
-use Rattle.cache_core.proofs.Replacing.{old_is, none_is}
-use Rattle.cache_core.proofs.Live.{not_live, found_old, over_old}
+use Rattle.cache_core.proofs.ReadOnlyCalls.{stand_kept}
+use Rattle.cache_core.proofs.ReplacedRows.{old_is, none_is}
+use Rattle.cache_core.proofs.LiveRows.{not_live, found_old, over_old}
 use Rattle.cache_core.proofs.cache.Core.find_live.Goals as goal
 
 pub returns-in_default-clause-none : goal.returns-in_default-clause-none

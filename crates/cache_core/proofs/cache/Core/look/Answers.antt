@@ -3,15 +3,15 @@ use Rattle.apcu_model.specs.Sequential.{looked_up}
 use Rattle.entry_slots.specs.Lists.{has_place}
 use Rattle.entry_slots.specs.Standing.{entries}
 use Rattle.cache_core.specs.declared.cache.Core.{Core}
-use Rattle.cache_core.specs.declared.tally.Tally.{Tally}
-use Rattle.cache_core.specs.Caching.{cache_of, CacheStands}
+use Rattle.cache_core.specs.declared.cache_counts.CacheCounts.{CacheCounts}
+use Rattle.cache_core.specs.CoreCache.{cache_of, CacheStands}
 use Rattle.cache_core.specs.Looking.{look_at, look_of, scalar_of}
-use Rattle.cache_core.proofs.Standing.{stand_kept}
-use Rattle.entry_slots.specs.Having.{place_there}
+use Rattle.cache_core.proofs.ReadOnlyCalls.{stand_kept}
+use Rattle.entry_slots.specs.RowPlaces.{place_there}
 use Rattle.entry_slots.specs.Entries.{Entries}
 use Rattle.cache_core.proofs.Events.{quiet, same_open, beside_then, touched_open}
-use Rattle.cache_core.proofs.Live.{old_found}
-use Rattle.cache_core.proofs.Keyed.{core_touched}
+use Rattle.cache_core.proofs.LiveRows.{old_found}
+use Rattle.cache_core.proofs.KeyRows.{core_touched}
 use Rattle.cache_core.proofs.cache.Core.look.Goals as goal
 
 pub returns-in_default-clause-look : goal.returns-in_default-clause-look
@@ -20,12 +20,12 @@ returns-in_default-clause-look g c = ap look_of (sym c.in_default.ensures.none)
 pub returns-in_default-clause-does : goal.returns-in_default-clause-does
 returns-in_default-clause-does g c =
     let core = c.args.self.now in
-    let new : Core = record core { tally = c.after_miss-self.result } in
+    let new : Core = record core { cache_counts = c.after_miss-self.result } in
     let kept = c.find_live.ensures.kept in
     let stands : CacheStands g.S.WordsIn new c.find_live.new.seg = record { stand = stand_kept core.slots kept c.requires.stand.stand; whole = c.requires.stand.whole } in
     record {
       reply = λ later on. refl;
-      cache = λ later on. ap (λ (tally : Tally). let x : Core = record core { tally = tally } in cache_of x) c.after_miss-self.ensures ∙ ap (λ r. looked_up c.args.key.now c.args.t r (cache_of core)) (sym c.in_default.ensures.none);
+      cache = λ later on. ap (λ (cache_counts : CacheCounts). let x : Core = record core { cache_counts = cache_counts } in cache_of x) c.after_miss-self.ensures ∙ ap (λ r. looked_up c.args.key.now c.args.t r (cache_of core)) (sym c.in_default.ensures.none);
       step = quiet (record { aside = kept.aside; rest = kept.rest }) (same_open (g.S.WordsIn.aside c.find_live.new.seg).windows (entries core.slots)) refl stands;
     }
 
@@ -56,7 +56,7 @@ returns-clause-beside g c = beside_then c.find_live.ensures.kept (beside_then c.
 pub returns-clause-does : goal.returns-clause-does
 returns-clause-does g c =
     let core = c.args.self.now in
-    let new : Core = record core { slots = c.touch.new.self; tally = c.after_hit-self.result } in
+    let new : Core = record core { slots = c.touch.new.self; cache_counts = c.after_hit-self.result } in
     let f = c.in-Some.ensures.found in
     let touched = c.touch.ensures.touched in
     let sound = c.standing_laws.ensures.sound core.slots (g.S.WordsIn.words c.args.seg.now) (g.S.WordsIn.aside c.args.seg.now) (entries core.slots) c.requires.stand.stand in

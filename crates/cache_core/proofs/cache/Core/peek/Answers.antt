@@ -2,7 +2,7 @@ use Rattle.std.proofs.Common.{sym, ap, ◌∙◌}
 use Rattle.std.specs.Prelude.{option_map, Some}
 use Rattle.apcu_model.specs.Cache.{Row}
 use Rattle.cache_core.specs.Looking.{scalar_of}
-use Rattle.cache_core.proofs.Standing.{stand_kept}
+use Rattle.cache_core.proofs.ReadOnlyCalls.{stand_kept}
 use Rattle.cache_core.proofs.cache.Core.peek.Goals as goal
 
 pub returns-in_default-clause-found : goal.returns-in_default-clause-found

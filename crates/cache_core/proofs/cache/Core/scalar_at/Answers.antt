@@ -2,7 +2,7 @@ use Rattle.std.proofs.Common.{◌≡◌, true, length, sym, ap, subst}
 use Rattle.std.proofs.lemmas.List.Elements.{Contains-append_left}
 use Rattle.php_graph.specs.Size.{image_length}
 use Rattle.entry_slots.specs.Entries.{listed}
-use Rattle.entry_slots.specs.Having.{place_there}
+use Rattle.entry_slots.specs.RowPlaces.{place_there}
 use Rattle.entry_slots.specs.Lists.{has_place}
 use Rattle.entry_slots.specs.Standing.{entries}
 use Rattle.cache_core.proofs.cache.Core.scalar_at.Goals as goal

@@ -3,14 +3,14 @@ use Rattle.std.proofs.Common.{arith, ◌≡◌, true, false, refl, sym, ap, ◌�
 use Rattle.std.proofs.lemmas.Bool.{or_left, false≢true}
 use Rattle.std.proofs.lemmas.List.Elements.{Contains-append_left}
 use Rattle.apcu_model.specs.Expiry.{is_hard_expired}
-use Rattle.apcu_model.specs.Walk.{slot_of}
+use Rattle.apcu_model.specs.SlotOrder.{slot_of}
 use Rattle.entry_slots.specs.Entries.{Entries}
 use Rattle.entry_slots.specs.Lists.{is_at, has_place}
 use Rattle.entry_slots.specs.Standing.{entries}
 use Rattle.std.proofs.lemmas.List.Folds.{list_any-append}
-use Rattle.cache_core.proofs.Standing.{stand_kept}
-use Rattle.cache_core.proofs.Replacing.{old_is, spot_some, spot_none}
-use Rattle.cache_core.proofs.Live.{not_live, found_old, over_old}
+use Rattle.cache_core.proofs.ReadOnlyCalls.{stand_kept}
+use Rattle.cache_core.proofs.ReplacedRows.{old_is, spot_some, spot_none}
+use Rattle.cache_core.proofs.LiveRows.{not_live, found_old, over_old}
 use Rattle.cache_core.proofs.cache.Core.seek_row.Goals as goal
 
 pub seek-spot-requires-clause-slot : goal.seek-spot-requires-clause-slot

@@ -3,11 +3,11 @@ use Rattle.std.proofs.lemmas.Int.{to_z-of_z}
 use Rattle.apcu_model.specs.Counters.{integer_set}
 use Rattle.entry_slots.specs.Standing.{entries}
 use Rattle.cache_core.specs.declared.cache.Core.{Core}
-use Rattle.cache_core.specs.Caching.{cache_of}
+use Rattle.cache_core.specs.CoreCache.{cache_of}
 use Rattle.entry_slots.specs.Entries.{Entries}
 use Rattle.cache_core.proofs.Events.{quiet, numbered_open}
-use Rattle.cache_core.proofs.Live.{old_live}
-use Rattle.cache_core.proofs.Keyed.{core_numbered, numbered_keyed}
+use Rattle.cache_core.proofs.LiveRows.{old_live}
+use Rattle.cache_core.proofs.KeyRows.{core_numbered, numbered_keyed}
 use Rattle.cache_core.proofs.cache.Core.set_int.Goals as goal
 
 pub returns-clause-cache : goal.returns-clause-cache

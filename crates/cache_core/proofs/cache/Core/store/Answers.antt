@@ -3,15 +3,15 @@ use Rattle.std.proofs.lemmas.Bool.{false≢true}
 use Rattle.seg_words.specs.Probing.{goes_on}
 use Rattle.seg_words.specs.Windows.{held_blocks}
 use Rattle.apcu_model.specs.declared.conf.Conf.{Conf}
-use Rattle.apcu_model.specs.Walk.{slot_of}
+use Rattle.apcu_model.specs.SlotOrder.{slot_of}
 use Rattle.entry_slots.specs.Entries.{Entries}
-use Rattle.cache_core.specs.Caching.{cache_of}
+use Rattle.cache_core.specs.CoreCache.{cache_of}
 use Rattle.cache_core.specs.Events.{MayInsert}
 use Rattle.cache_core.specs.Storing.{added}
 use Rattle.cache_core.proofs.Events.{insert_kept, still, steps}
 use Rattle.cache_core.proofs.Insertions.{added_swept}
-use Rattle.cache_core.proofs.Inserting.{IsInserted, answers, does_store, refused}
-use Rattle.cache_core.proofs.Spotting.{same_spot_if}
+use Rattle.cache_core.proofs.InsertionAnswers.{IsInserted, answers, does_store, refused}
+use Rattle.cache_core.proofs.SpotsAfterRoom.{same_spot_if}
 use Rattle.cache_core.proofs.cache.Core.store.Goals as goal
 
 pub seek_new-requires-clause-slot : goal.seek_new-requires-clause-slot

@@ -1,11 +1,11 @@
 use Rattle.std.proofs.Common.{refl, sym, ap, ◌∙◌}
 use Rattle.std.proofs.lemmas.Bool.{false≢true}
 use Rattle.seg_words.specs.Windows.{held_blocks}
-use Rattle.apcu_model.specs.Walk.{slot_of}
+use Rattle.apcu_model.specs.SlotOrder.{slot_of}
 use Rattle.entry_slots.specs.Entries.{Entries}
-use Rattle.cache_core.specs.Caching.{cache_of}
+use Rattle.cache_core.specs.CoreCache.{cache_of}
 use Rattle.cache_core.proofs.Events.{insert_kept, still, steps}
-use Rattle.cache_core.proofs.Inserting.{IsInserted, answers, does_store, refused}
+use Rattle.cache_core.proofs.InsertionAnswers.{IsInserted, answers, does_store, refused}
 use Rattle.cache_core.proofs.cache.Core.store_next.Goals as goal
 
 pub seek_new-requires-clause-slot : goal.seek_new-requires-clause-slot

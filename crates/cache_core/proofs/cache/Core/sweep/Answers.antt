@@ -5,13 +5,13 @@ use Rattle.seg_words.specs.Probing.{goes_nowhere}
 use Rattle.apcu_model.specs.Change.{swept}
 use Rattle.entry_slots.specs.Entries.{Entries}
 use Rattle.cache_core.specs.declared.cache.Core.{Core}
-use Rattle.cache_core.specs.Caching.{cache_of, CacheStands}
-use Rattle.cache_core.proofs.Caching.{cache_made, whole_made, swept_later, sweeps_keep, sweeps_held}
+use Rattle.cache_core.specs.CoreCache.{cache_of, CacheStands}
+use Rattle.cache_core.proofs.CoreCacheLemmas.{cache_made, whole_made, swept_later, sweeps_keep, sweeps_held}
 use Rattle.cache_core.proofs.cache.Core.sweep.Goals as goal
 
 pub sweep_removed-requires : goal.sweep_removed-requires
 sweep_removed-requires g c = record {
-  ready = record { stand = c.requires.ready.stand.stand; fresh = c.requires.ready.fresh refl };
+  ready = record { stand = c.requires.ready.stand.stand; unrefused = c.requires.ready.unrefused refl };
 }
 
 pub returns : goal.returns
@@ -30,5 +30,5 @@ returns g c =
       alike = record { conf = ap (λ (x : Entries). x.conf) sweeps.swept; rows = ap (λ (x : Entries). x.rows) sweeps.swept };
       swept = λ later on. cache_made new (swept (held_blocks later) old) (swept_later old sweeps whole later on) refl (record { hits = refl; misses = refl; inserts = refl; expunges = refl });
       step = record { goes = sweeps.goes; keeps = sweeps_keep sweeps; refused = λ was. sweeps.refused; stand = stands; rest = c.sweep_removed.ensures.rest };
-      next = record { stand = stands; fresh = λ was. absurd (false≢true (sym was)); held = λ was. sweeps_held sweeps; refused = sweeps.refused };
+      next = record { stand = stands; unrefused = λ was. absurd (false≢true (sym was)); held = λ was. sweeps_held sweeps; refused = sweeps.refused };
     }

@@ -1,5 +1,5 @@
 use Rattle.std.proofs.Common.{List, ℕ, slice_index, ap, ◌∙◌}
-use Rattle.cache_info_tests.proofs.Starting.{zero_at}
+use Rattle.cache_info_tests.proofs.TwoHeldBlocks.{zero_at}
 use Rattle.cache_info_tests.proofs.held.Held.new.Goals as goal
 
 pub invariant_of-result : goal.invariant_of-result

@@ -1,8 +1,8 @@
 use Rattle.std.proofs.Common.{◌∙◌, arith}
 use Rattle.entry_slots.specs.Standing.{entries}
-use Rattle.entry_slots.proofs.Homes.{row_there, room, told_at}
+use Rattle.entry_slots.proofs.RowBlocks.{row_there, room, told_at}
 use Rattle.entry_slots.proofs.Chains.{small_after, next_row, next_removed}
-use Rattle.entry_slots.proofs.Now.{entry_now}
+use Rattle.entry_slots.proofs.GhostEntries.{entry_now}
 use Rattle.entry_slots.proofs.slots.EntrySlots.after.Goals as goal
 
 pub next_of-requires : goal.next_of-requires

@@ -2,11 +2,11 @@ use Rattle.std.proofs.Common.{◌≡◌, ℕ, ◌+◌, List, sym, ap, ◌∙◌,
 use Rattle.entry_slots.specs.Entries.{moved_at}
 use Rattle.entry_slots.specs.Links.{IsRemovedLink}
 use Rattle.entry_slots.specs.Standing.{Stands, entries}
-use Rattle.entry_slots.proofs.Walks.{stands_along}
-use Rattle.entry_slots.proofs.Now.{restand}
-use Rattle.entry_slots.proofs.Cutting.{spot_word}
-use Rattle.entry_slots.proofs.Removing.{link_home}
-use Rattle.entry_slots.proofs.Relisting.{named_stands, unlinked_there, moved_head, moved_word}
+use Rattle.entry_slots.proofs.KeySearch.{stands_along}
+use Rattle.entry_slots.proofs.GhostEntries.{restand}
+use Rattle.entry_slots.proofs.ChainCuts.{spot_word}
+use Rattle.entry_slots.proofs.RemovedRows.{link_home}
+use Rattle.entry_slots.proofs.RowListMoves.{named_stands, unlinked_there, moved_head, moved_word}
 use Rattle.entry_slots.proofs.slots.EntrySlots.append.Goals as goal
 
 pub name-requires : goal.name-requires

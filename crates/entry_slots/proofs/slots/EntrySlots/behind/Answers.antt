@@ -4,9 +4,9 @@ use Rattle.std.proofs.lemmas.List.Folds.{list_any-append}
 use Rattle.entry_slots.specs.Lists.{is_at, has_place}
 use Rattle.entry_slots.specs.Entries.{Entries, listed}
 use Rattle.entry_slots.specs.Standing.{entries}
-use Rattle.entry_slots.proofs.Homes.{row_there, room, told_at}
+use Rattle.entry_slots.proofs.RowBlocks.{row_there, room, told_at}
 use Rattle.entry_slots.proofs.Chains.{small_after}
-use Rattle.entry_slots.proofs.Now.{entry_now}
+use Rattle.entry_slots.proofs.GhostEntries.{entry_now}
 use Rattle.entry_slots.proofs.slots.EntrySlots.behind.Goals as goal
 
 -- a row is an entry

@@ -2,12 +2,12 @@ use Rattle.std.proofs.Common.{◌≡◌, ◌∙◌, ◌+◌, ◌++◌, ap, sym, 
 use Rattle.std.proofs.Math.Seq.{take-append_seam}
 use Rattle.std.specs.Prelude.{vec_len}
 use Rattle.seg_words.specs.Layout.{words_in}
-use Rattle.value_image.specs.Packed.{bytes_of}
+use Rattle.value_image.specs.PackedBytes.{bytes_of}
 use Rattle.apcu_model.specs.Cache.{Row}
-use Rattle.entry_slots.proofs.Homes.{home_listed, row_there}
+use Rattle.entry_slots.proofs.RowBlocks.{home_listed, row_there}
 use Rattle.entry_slots.proofs.KeyCopies.{key_at}
-use Rattle.entry_slots.proofs.Now.{entry_now}
-use Rattle.entry_slots.specs.Having.{place_from}
+use Rattle.entry_slots.proofs.GhostEntries.{entry_now}
+use Rattle.entry_slots.specs.RowPlaces.{place_from}
 use Rattle.entry_slots.specs.Entries.{listed}
 use Rattle.entry_slots.specs.Standing.{entries}
 use Rattle.entry_slots.proofs.slots.EntrySlots.copy_key.Goals as goal

@@ -1,7 +1,7 @@
 use Rattle.std.proofs.Common.{List, ℕ, sym, subst, arith}
 use Rattle.seg_words.specs.Windows.{Aside}
 use Rattle.sma_blocks.specs.Ready.{IsReady}
-use Rattle.entry_slots.proofs.Storing.{may_slot}
+use Rattle.entry_slots.proofs.StorableWords.{may_slot}
 use Rattle.entry_slots.proofs.slots.EntrySlots.end_all.Goals as goal
 
 pub store-requires-clause-apart : goal.store-requires-clause-apart

@@ -1,11 +1,11 @@
 use Rattle.std.proofs.Common.{◌≡◌, ℕ, ◌+◌, ◌%◌, ◌≤◌, List, sym, ap, ◌∙◌, arith, length, slice_index}
 use Rattle.std.proofs.lemmas.List.Sums.{length-filter, count_by-le-length}
-use Rattle.apcu_model.specs.Walk.{slot_of, is_in_slot}
+use Rattle.apcu_model.specs.SlotOrder.{slot_of, is_in_slot}
 use Rattle.entry_slots.specs.Standing.{entries}
 use Rattle.entry_slots.specs.Entries.{Entries, chain_of}
-use Rattle.entry_slots.proofs.Homes.{row_there, room, told_at}
+use Rattle.entry_slots.proofs.RowBlocks.{row_there, room, told_at}
 use Rattle.entry_slots.proofs.Chains.{small_after, slot_small}
-use Rattle.entry_slots.proofs.Walks.{walk_start, walk_here, walk_end, walk_whole, walk_next, find_none, find_here, stands_along, here_listed, walk_there, walk_entry, chain_places}
+use Rattle.entry_slots.proofs.KeySearch.{walk_start, walk_here, walk_end, walk_whole, walk_next, find_none, find_here, stands_along, here_listed, walk_there, walk_entry, chain_places}
 use Rattle.entry_slots.proofs.slots.EntrySlots.find.Goals as goal
 
 slot_is : (n m from slots : ℕ) → m ≡ from → from ≡ slots → n % m ≡ n % slots

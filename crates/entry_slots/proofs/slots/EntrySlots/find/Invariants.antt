@@ -1,7 +1,7 @@
 use Rattle.seg_words.specs.Kept.{Kept}
 use Rattle.entry_slots.specs.Entries.{chain_of}
 use Rattle.entry_slots.specs.Standing.{entries}
-use Rattle.entry_slots.proofs.Walks.{Walk}
+use Rattle.entry_slots.proofs.KeySearch.{Walk}
 use Rattle.entry_slots.proofs.slots.EntrySlots.find.Given as goal
 
 abbrev pub invariant-loop-passed : goal.invariant-loop-passed

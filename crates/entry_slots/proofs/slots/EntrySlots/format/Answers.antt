@@ -4,7 +4,7 @@ use Rattle.sma_blocks.specs.Live.{live_blocks}
 use Rattle.apcu_model.specs.Conf.{piece_even, room_of}
 use Rattle.entry_slots.specs.declared.slots.EntrySlots.{EntrySlots}
 use Rattle.entry_slots.specs.Standing.{Stands}
-use Rattle.entry_slots.proofs.Emptying.{bare_stands}
+use Rattle.entry_slots.proofs.EmptyEntries.{bare_stands}
 use Rattle.entry_slots.proofs.slots.EntrySlots.format.Goals as goal
 
 pub end_chains-requires-clause-inside : goal.end_chains-requires-clause-inside

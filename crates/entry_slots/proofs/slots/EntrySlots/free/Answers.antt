@@ -2,7 +2,7 @@ use Rattle.std.proofs.Common.{◌≡◌, true, sym, ap, subst, ◌∙◌}
 use Rattle.entry_slots.specs.Lists.{has_place}
 use Rattle.entry_slots.specs.Entries.{Entries, freed_at}
 use Rattle.entry_slots.specs.Standing.{entries}
-use Rattle.entry_slots.proofs.Relisting.{off_unlinked_there, freed_off}
+use Rattle.entry_slots.proofs.RowListMoves.{off_unlinked_there, freed_off}
 use Rattle.entry_slots.proofs.slots.EntrySlots.free.Goals as goal
 
 pub free_unlinked-requires-clause-there : goal.free_unlinked-requires-clause-there

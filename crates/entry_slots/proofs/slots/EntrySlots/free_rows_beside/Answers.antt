@@ -6,8 +6,8 @@ use Rattle.sma_blocks.specs.Ready.{IsReady}
 use Rattle.entry_slots.specs.declared.slots.EntrySlots.{EntrySlots}
 use Rattle.entry_slots.specs.Entries.{Entries}
 use Rattle.entry_slots.specs.Standing.{Stands, entries}
-use Rattle.entry_slots.proofs.Besides.{place_live, named_kept, cleared_stands, has_indexed}
-use Rattle.entry_slots.proofs.Now.{restand}
+use Rattle.entry_slots.proofs.ClearedRows.{place_live, named_kept, cleared_stands, has_indexed}
+use Rattle.entry_slots.proofs.GhostEntries.{restand}
 use Rattle.entry_slots.proofs.slots.EntrySlots.free_rows_beside.Goals as goal
 
 pub end_all-requires-clause-inside : goal.end_all-requires-clause-inside

@@ -4,8 +4,8 @@ use Rattle.sma_blocks.specs.declared.sma.Sma.{Sma}
 use Rattle.sma_blocks.specs.Ready.{IsReady}
 use Rattle.entry_slots.specs.Entries.{given_at}
 use Rattle.entry_slots.specs.Standing.{Stands, entries}
-use Rattle.entry_slots.proofs.Now.{restand}
-use Rattle.entry_slots.proofs.Relisting.{given_stands, given_freed, live_there, unlinked_there}
+use Rattle.entry_slots.proofs.GhostEntries.{restand}
+use Rattle.entry_slots.proofs.RowListMoves.{given_stands, given_freed, live_there, unlinked_there}
 use Rattle.entry_slots.proofs.slots.EntrySlots.free_unlinked.Goals as goal
 
 pub give-requires : goal.give-requires

@@ -1,10 +1,10 @@
 use Rattle.std.proofs.Common.{ℕ, ◌+◌, List, sym, ap, ◌∙◌, refl, arith, slice_index}
 use Rattle.entry_slots.specs.Standing.{entries}
-use Rattle.entry_slots.proofs.Homes.{row_there, room, told_at}
-use Rattle.entry_slots.proofs.There.{HasEntryAt}
+use Rattle.entry_slots.proofs.RowBlocks.{row_there, room, told_at}
+use Rattle.entry_slots.proofs.PresentRows.{HasEntryAt}
 use Rattle.entry_slots.proofs.Chains.{small_after}
-use Rattle.entry_slots.proofs.Walks.{stands_along}
-use Rattle.entry_slots.proofs.Spotting.{chain_short, listed_there, rest_start, rest_at, rest_next, rest_listed, rest_expired, rest_end, rest_whole, spot_stale}
+use Rattle.entry_slots.proofs.KeySearch.{stands_along}
+use Rattle.entry_slots.proofs.SpotSearch.{chain_short, listed_there, rest_start, rest_at, rest_next, rest_listed, rest_expired, rest_end, rest_whole, spot_stale}
 use Rattle.entry_slots.proofs.slots.EntrySlots.has_expired.Goals as goal
 
 pub returns-then-spot-clause-expired : goal.returns-then-spot-clause-expired

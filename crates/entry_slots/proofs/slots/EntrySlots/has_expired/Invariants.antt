@@ -1,6 +1,6 @@
 use Rattle.seg_words.specs.Kept.{Kept}
 use Rattle.entry_slots.specs.Standing.{entries}
-use Rattle.entry_slots.proofs.Spotting.{Rest}
+use Rattle.entry_slots.proofs.SpotSearch.{Rest}
 use Rattle.entry_slots.proofs.slots.EntrySlots.has_expired.Given as goal
 
 abbrev pub invariant-loop-passed : goal.invariant-loop-passed

@@ -1,7 +1,7 @@
 use Rattle.std.proofs.Common.{◌+◌, arith}
-use Rattle.entry_slots.proofs.Homes.{row_there, room, told_at, home_listed}
+use Rattle.entry_slots.proofs.RowBlocks.{row_there, room, told_at, home_listed}
 use Rattle.entry_slots.proofs.Heads.{short_words, head_is}
-use Rattle.entry_slots.proofs.Now.{entry_now}
+use Rattle.entry_slots.proofs.GhostEntries.{entry_now}
 use Rattle.entry_slots.proofs.slots.EntrySlots.head.Goals as goal
 
 pub first_words-words-requires-clause-inside : goal.first_words-words-requires-clause-inside

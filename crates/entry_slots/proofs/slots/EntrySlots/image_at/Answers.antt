@@ -1,7 +1,7 @@
 use Rattle.std.proofs.Common.{◌+◌, arith}
-use Rattle.entry_slots.proofs.Homes.{row_there, room, home_listed}
-use Rattle.entry_slots.proofs.Looked.{image_is}
-use Rattle.entry_slots.proofs.Now.{entry_now}
+use Rattle.entry_slots.proofs.RowBlocks.{row_there, room, home_listed}
+use Rattle.entry_slots.proofs.RowLookUps.{image_is}
+use Rattle.entry_slots.proofs.GhostEntries.{entry_now}
 use Rattle.entry_slots.proofs.slots.EntrySlots.image_at.Goals as goal
 
 pub overflow_add-result : goal.overflow_add-result

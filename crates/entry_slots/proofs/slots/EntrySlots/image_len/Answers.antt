@@ -1,6 +1,6 @@
 use Rattle.std.proofs.Common.{ℕ, ◌+◌, List, sym, ap, ◌∙◌, arith, slice_index}
-use Rattle.entry_slots.proofs.Homes.{row_there, room, told_at, home_listed}
-use Rattle.entry_slots.proofs.Now.{entry_now}
+use Rattle.entry_slots.proofs.RowBlocks.{row_there, room, told_at, home_listed}
+use Rattle.entry_slots.proofs.GhostEntries.{entry_now}
 use Rattle.entry_slots.proofs.slots.EntrySlots.image_len.Goals as goal
 
 pub overflow_add-at : goal.overflow_add-at

@@ -1,8 +1,8 @@
 use Rattle.std.proofs.Common.{ℕ, ◌+◌, List, sym, ap, ◌∙◌, arith, length, slice_index}
-use Rattle.entry_slots.proofs.Homes.{row_there, room, told_at, home_listed}
+use Rattle.entry_slots.proofs.RowBlocks.{row_there, room, told_at, home_listed}
 use Rattle.entry_slots.proofs.Blocks.{read_along}
-use Rattle.entry_slots.proofs.Looked.{endless, own_over}
-use Rattle.entry_slots.proofs.Now.{entry_now}
+use Rattle.entry_slots.proofs.RowLookUps.{endless, own_over}
+use Rattle.entry_slots.proofs.GhostEntries.{entry_now}
 use Rattle.entry_slots.proofs.slots.EntrySlots.is_hard_expired.Goals as goal
 
 pub overflow_add-at : goal.overflow_add-at

@@ -1,16 +1,16 @@
 use Rattle.std.proofs.Common.{◌≡◌, inl, inr, ℕ, ◌+◌, ◌<◌, List, sym, ap, ◌∙◌, arith, length, slice_index, subst}
 use Rattle.std.proofs.lemmas.Bool.{cases_lt}
 use Rattle.std.proofs.lemmas.List.Elements.{recursion_from_All, All-from_get_or}
-use Rattle.value_image.specs.Packed.{word_at}
+use Rattle.value_image.specs.PackedBytes.{word_at}
 use Rattle.seg_words.specs.Layout.{words_in}
 use Rattle.seg_words.specs.Blocks.{IsTold}
 use Rattle.seg_words.specs.Windows.{Aside}
 use Rattle.entry_slots.specs.declared.slots.EntrySlots.{EntrySlots}
 use Rattle.apcu_model.specs.Cache.{Row}
-use Rattle.entry_slots.proofs.Homes.{IsHome, row_there, room, told_at, home_listed}
+use Rattle.entry_slots.proofs.RowBlocks.{IsHome, row_there, room, told_at, home_listed}
 use Rattle.entry_slots.proofs.Blocks.{read_along}
 use Rattle.entry_slots.proofs.KeyWords.{key_differs, differs_at, equal_at, key_length_at}
-use Rattle.entry_slots.proofs.Now.{entry_now}
+use Rattle.entry_slots.proofs.GhostEntries.{entry_now}
 use Rattle.entry_slots.proofs.slots.EntrySlots.key_is.Goals as goal
 
 -- so far the words are the same, and so is the next

@@ -1,5 +1,5 @@
 use Rattle.std.proofs.Common.{◌≡◌, ℕ, ◌+◌, ◌<◌, slice_index}
-use Rattle.value_image.specs.Packed.{word_at}
+use Rattle.value_image.specs.PackedBytes.{word_at}
 use Rattle.seg_words.specs.Kept.{Kept}
 use Rattle.entry_slots.proofs.slots.EntrySlots.key_is.Given as goal
 

@@ -1,12 +1,12 @@
 use Rattle.std.proofs.Common.{◌≡◌, inl, ℕ, ◌+◌, ◌≤◌, sym, ap, ◌∙◌, arith, length, refl, subst, []}
 use Rattle.std.proofs.lemmas.List.Sums.{length-filter, count_by-le-length}
-use Rattle.apcu_model.specs.Walk.{is_in_slot}
+use Rattle.apcu_model.specs.SlotOrder.{is_in_slot}
 use Rattle.entry_slots.specs.Entries.{Entries, chain_of}
 use Rattle.entry_slots.specs.Standing.{entries}
 use Rattle.entry_slots.proofs.Blocks.{read_along}
 use Rattle.entry_slots.proofs.Chains.{home_chain}
-use Rattle.entry_slots.proofs.Cutting.{spot_word}
-use Rattle.entry_slots.proofs.Ways.{Way, way_found, way_next, way_end, way_spot, way_small}
+use Rattle.entry_slots.proofs.ChainCuts.{spot_word}
+use Rattle.entry_slots.proofs.LinkSearch.{Way, way_found, way_next, way_end, way_spot, way_small}
 use Rattle.entry_slots.proofs.slots.EntrySlots.link_to.Goals as goal
 
 -- a chain is no longer than all rows

@@ -1,7 +1,7 @@
 use Rattle.seg_words.specs.Kept.{Kept}
 use Rattle.entry_slots.specs.Entries.{chain_of}
 use Rattle.entry_slots.specs.Standing.{entries}
-use Rattle.entry_slots.proofs.Ways.{Way}
+use Rattle.entry_slots.proofs.LinkSearch.{Way}
 use Rattle.entry_slots.proofs.slots.EntrySlots.link_to.Given as goal
 
 abbrev pub invariant-loop-passed : goal.invariant-loop-passed

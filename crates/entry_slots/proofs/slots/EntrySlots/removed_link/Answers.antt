@@ -1,9 +1,9 @@
 use Rattle.std.proofs.Common.{◌+◌, sym, ◌∙◌, arith, refl}
 use Rattle.entry_slots.specs.Standing.{entries}
-use Rattle.entry_slots.proofs.Homes.{room, told_at}
+use Rattle.entry_slots.proofs.RowBlocks.{room, told_at}
 use Rattle.entry_slots.proofs.Blocks.{read_along}
-use Rattle.entry_slots.proofs.Places.{removed_few}
-use Rattle.entry_slots.proofs.Removing.{path_start, path_stop, stop_in, path_next, path_found, path_end, path_short, homes_removed, stop_small}
+use Rattle.entry_slots.proofs.DistinctPlaces.{removed_few}
+use Rattle.entry_slots.proofs.RemovedRows.{path_start, path_stop, stop_in, path_next, path_found, path_end, path_short, homes_removed, stop_small}
 use Rattle.entry_slots.proofs.slots.EntrySlots.removed_link.Goals as goal
 
 pub loop-passed-init : goal.loop-passed-init

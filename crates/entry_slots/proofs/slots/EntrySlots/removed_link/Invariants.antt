@@ -1,6 +1,6 @@
 use Rattle.seg_words.specs.Kept.{Kept}
 use Rattle.entry_slots.specs.Standing.{entries}
-use Rattle.entry_slots.proofs.Removing.{Path}
+use Rattle.entry_slots.proofs.RemovedRows.{Path}
 use Rattle.entry_slots.proofs.slots.EntrySlots.removed_link.Given as goal
 
 abbrev pub invariant-loop-passed : goal.invariant-loop-passed

@@ -3,7 +3,7 @@ use Rattle.entry_slots.specs.Standing.{entries}
 use Rattle.entry_slots.proofs.Blocks.{read_along}
 use Rattle.entry_slots.proofs.Chains.{chain_first}
 use Rattle.entry_slots.proofs.RowWords.{all_words, left_all, left_here, left_inside, left_told, left_word, left_small, left_enough, left_next, left_end}
-use Rattle.entry_slots.proofs.Walks.{stands_along}
+use Rattle.entry_slots.proofs.KeySearch.{stands_along}
 use Rattle.entry_slots.proofs.slots.EntrySlots.row_words.Goals as goal
 
 pub overflow_sub-words-2 : goal.overflow_sub-words-2

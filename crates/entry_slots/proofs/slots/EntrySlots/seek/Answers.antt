@@ -1,11 +1,11 @@
 use Rattle.std.proofs.Common.{◌≡◌, ℕ, ◌+◌, ◌<◌, ◌≤◌, ◌%◌, List, sym, ap, ◌∙◌, subst, refl, arith, slice_index}
 use Rattle.php_graph.specs.Numbers.{hash_of}
 use Rattle.entry_slots.specs.Standing.{entries}
-use Rattle.entry_slots.proofs.Homes.{row_there, room, told_at, home_listed}
-use Rattle.entry_slots.proofs.There.{HasEntryAt}
+use Rattle.entry_slots.proofs.RowBlocks.{row_there, room, told_at, home_listed}
+use Rattle.entry_slots.proofs.PresentRows.{HasEntryAt}
 use Rattle.entry_slots.proofs.Chains.{small_after, slot_small}
-use Rattle.entry_slots.proofs.Walks.{stands_along}
-use Rattle.entry_slots.proofs.Spotting.{Path, chain_short, path_start, path_step, path_next, path_end, path_whole, step_listed, listed_there, spot_here, spot_last}
+use Rattle.entry_slots.proofs.KeySearch.{stands_along}
+use Rattle.entry_slots.proofs.SpotSearch.{Path, chain_short, path_start, path_step, path_next, path_end, path_whole, step_listed, listed_there, spot_here, spot_last}
 use Rattle.entry_slots.proofs.slots.EntrySlots.seek.Goals as goal
 
 -- the slot of a key is one of the slots

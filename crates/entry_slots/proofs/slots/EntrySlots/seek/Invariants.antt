@@ -1,6 +1,6 @@
 use Rattle.seg_words.specs.Kept.{Kept}
 use Rattle.entry_slots.specs.Standing.{entries}
-use Rattle.entry_slots.proofs.Spotting.{Path}
+use Rattle.entry_slots.proofs.SpotSearch.{Path}
 use Rattle.entry_slots.proofs.slots.EntrySlots.seek.Given as goal
 
 abbrev pub invariant-loop-passed : goal.invariant-loop-passed

@@ -14,13 +14,13 @@ use Rattle.apcu_model.specs.Cache.{Row, extent_of}
 use Rattle.entry_slots.specs.declared.slots.EntrySlots.{EntrySlots}
 use Rattle.entry_slots.specs.Entries.{with_number}
 use Rattle.entry_slots.specs.Standing.{Stands, entries}
-use Rattle.entry_slots.proofs.Now.{restand}
+use Rattle.entry_slots.proofs.GhostEntries.{restand}
 use Rattle.entry_slots.proofs.Runs.{may_store_set}
-use Rattle.entry_slots.proofs.Homes.{IsHome, room, told_at, home_row}
-use Rattle.entry_slots.proofs.Walks.{stands_along}
+use Rattle.entry_slots.proofs.RowBlocks.{IsHome, room, told_at, home_row}
+use Rattle.entry_slots.proofs.KeySearch.{stands_along}
 use Rattle.entry_slots.proofs.KeyWords.{key_length_at}
-use Rattle.entry_slots.proofs.Storing.{may_store_in, may_note, may_along}
-use Rattle.entry_slots.proofs.Numbering.{graph_one, number_words, number_stands}
+use Rattle.entry_slots.proofs.StorableWords.{may_store_in, may_date, may_along}
+use Rattle.entry_slots.proofs.IntegerRows.{graph_one, number_words, number_stands}
 use Rattle.entry_slots.proofs.slots.EntrySlots.set_int.Goals as goal
 
 -- the word of the integer is in the block
@@ -89,7 +89,7 @@ store-requires-2 g c =
     record {
       place = omega (arith, w.high, w.enough, m.place, ap length words, length-set ws i c.cast_unsigned.result);
       apart = may_along (slice_set ws i c.cast_unsigned.result) (g.S.WordsIn.words c.store.new.self) (g.S.WordsIn.aside c.args.seg.now) (g.S.WordsIn.aside c.store.new.self) (c.args.at + 6) words (c.store.ensures.aside ∙ c.load-len.ensures.aside)
-          (may_store_set c.lower_laws.ensures ws (g.S.WordsIn.aside c.args.seg.now).windows i (c.args.at + 6) c.cast_unsigned.result (omega (arith, v.0, v.1)) (value_may m.row home c.args.at i m.place c.requires.unnamed (omega arith) v.0) (may_note m.row home c.args.at 6 m.place (omega arith) (omega arith) (omega arith)));
+          (may_store_set c.lower_laws.ensures ws (g.S.WordsIn.aside c.args.seg.now).windows i (c.args.at + 6) c.cast_unsigned.result (omega (arith, v.0, v.1)) (value_may m.row home c.args.at i m.place c.requires.unnamed (omega arith) v.0) (may_date m.row home c.args.at 6 m.place (omega arith) (omega arith) (omega arith)));
     }
 
 pub returns-clause-stand : goal.returns-clause-stand

@@ -3,15 +3,15 @@ use Rattle.seg_words.specs.Windows.{Aside}
 use Rattle.seg_words.specs.Blocks.{IsTold}
 use Rattle.php_graph.specs.Numbers.{hash_of}
 use Rattle.seg_words.specs.Layout.{words_in}
-use Rattle.value_image.specs.Packed.{words_of}
+use Rattle.value_image.specs.PackedBytes.{words_of}
 use Rattle.value_image.specs.Rows.{StandsAt}
 use Rattle.apcu_model.specs.Cache.{Row}
 use Rattle.entry_slots.specs.declared.slots.EntrySlots.{EntrySlots}
-use Rattle.entry_slots.specs.Written.{IsEntryKey}
-use Rattle.entry_slots.proofs.Homes.{IsHome, room, told_at, home_row}
+use Rattle.entry_slots.specs.EntryWords.{IsEntryKey}
+use Rattle.entry_slots.proofs.RowBlocks.{IsHome, room, told_at, home_row}
 use Rattle.entry_slots.proofs.KeyWords.{key_length_at}
-use Rattle.entry_slots.proofs.Touching.{row_at}
-use Rattle.entry_slots.proofs.Now.{row_now}
+use Rattle.entry_slots.proofs.TouchedRows.{row_at}
+use Rattle.entry_slots.proofs.GhostEntries.{row_now}
 use Rattle.entry_slots.proofs.slots.EntrySlots.slot_at.Goals as goal
 
 -- the key stands behind the first words

@@ -1,7 +1,7 @@
 use Rattle.std.proofs.Common.{◌∙◌, Some, refl, sym, subst, arith}
 use Rattle.entry_slots.specs.Standing.{Stands, entries}
-use Rattle.entry_slots.proofs.Now.{restand}
-use Rattle.entry_slots.proofs.Taking.{take_place, take_some, take_none}
+use Rattle.entry_slots.proofs.GhostEntries.{restand}
+use Rattle.entry_slots.proofs.TakenBlocks.{take_place, take_some, take_none}
 use Rattle.std.proofs.lemmas.Grind.{common_steps}
 use Rattle.entry_slots.proofs.slots.EntrySlots.take.Goals as goal
 

@@ -2,13 +2,13 @@ use Rattle.std.proofs.Common.{◌≡◌, ◌≢◌, ℕ, ◌+◌, List, sym, ap,
 use Rattle.entry_slots.specs.Entries.{off_at}
 use Rattle.entry_slots.specs.Links.{IsRemovedLink}
 use Rattle.entry_slots.specs.Standing.{Stands, entries}
-use Rattle.entry_slots.proofs.Now.{restand}
-use Rattle.entry_slots.proofs.Homes.{room, told_at}
-use Rattle.entry_slots.proofs.Walks.{stands_along}
-use Rattle.entry_slots.proofs.Storing.{may_along}
-use Rattle.entry_slots.proofs.Cutting.{spot_word}
-use Rattle.entry_slots.proofs.Removing.{link_home}
-use Rattle.entry_slots.proofs.Relisting.{named_stands, loose_there, off_none, off_small, off_head, off_word}
+use Rattle.entry_slots.proofs.GhostEntries.{restand}
+use Rattle.entry_slots.proofs.RowBlocks.{room, told_at}
+use Rattle.entry_slots.proofs.KeySearch.{stands_along}
+use Rattle.entry_slots.proofs.StorableWords.{may_along}
+use Rattle.entry_slots.proofs.ChainCuts.{spot_word}
+use Rattle.entry_slots.proofs.RemovedRows.{link_home}
+use Rattle.entry_slots.proofs.RowListMoves.{named_stands, loose_there, off_none, off_small, off_head, off_word}
 use Rattle.entry_slots.proofs.slots.EntrySlots.take_off.Goals as goal
 
 pub returns-in_default-clause-stand : goal.returns-in_default-clause-stand

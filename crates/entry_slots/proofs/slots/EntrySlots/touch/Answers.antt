@@ -1,13 +1,13 @@
 use Rattle.std.proofs.Common.{◌≡◌, ℕ, ◌+◌, List, ap, sym, subst, refl, ◌∙◌, arith, length, slice_set}
 use Rattle.std.proofs.lemmas.List.{length-set}
 use Rattle.entry_slots.proofs.Runs.{may_store_set}
-use Rattle.entry_slots.proofs.Homes.{room, told_at}
-use Rattle.entry_slots.proofs.Now.{row_now}
-use Rattle.entry_slots.proofs.Storing.{may_note, may_along}
-use Rattle.entry_slots.proofs.Touching.{row_at, touched_words, touch_stands}
+use Rattle.entry_slots.proofs.RowBlocks.{room, told_at}
+use Rattle.entry_slots.proofs.GhostEntries.{row_now}
+use Rattle.entry_slots.proofs.StorableWords.{may_date, may_along}
+use Rattle.entry_slots.proofs.TouchedRows.{row_at, touched_words, touch_stands}
 use Rattle.entry_slots.specs.Standing.{Stands, entries}
-use Rattle.entry_slots.proofs.Now.{restand}
-use Rattle.entry_slots.proofs.Walks.{stands_along}
+use Rattle.entry_slots.proofs.GhostEntries.{restand}
+use Rattle.entry_slots.proofs.KeySearch.{stands_along}
 use Rattle.entry_slots.proofs.slots.EntrySlots.touch.Goals as goal
 
 pub overflow_add-at : goal.overflow_add-at
@@ -29,7 +29,7 @@ store-requires g c =
     record {
       place = omega (arith, w.high, w.enough, r.2, ap length c.load-hits.ensures.words);
       apart = may_along (g.S.WordsIn.words c.args.seg.now) (g.S.WordsIn.words c.load-hits.new.self) (g.S.WordsIn.aside c.args.seg.now) (g.S.WordsIn.aside c.load-hits.new.self) (c.args.at + 9) c.load-hits.ensures.words c.load-hits.ensures.aside
-          (may_note r.0 r.1 c.args.at 9 r.2 (omega arith) (omega arith) (omega arith));
+          (may_date r.0 r.1 c.args.at 9 r.2 (omega arith) (omega arith) (omega arith));
     }
 
 pub store-requires-2 : goal.store-requires-2
@@ -41,7 +41,7 @@ store-requires-2 g c =
     record {
       place = omega (arith, w.high, w.enough, r.2, ap length words, length-set ws (c.args.at + 9) c.saturating_add.result);
       apart = may_along (slice_set ws (c.args.at + 9) c.saturating_add.result) (g.S.WordsIn.words c.store.new.self) (g.S.WordsIn.aside c.args.seg.now) (g.S.WordsIn.aside c.store.new.self) (c.args.at + 7) words (c.store.ensures.aside ∙ c.load-hits.ensures.aside)
-          (may_store_set c.lower_laws.ensures ws (g.S.WordsIn.aside c.args.seg.now).windows (c.args.at + 9) (c.args.at + 7) c.saturating_add.result (omega (arith, w.high, w.enough, r.2)) (may_note r.0 r.1 c.args.at 9 r.2 (omega arith) (omega arith) (omega arith)) (may_note r.0 r.1 c.args.at 7 r.2 (omega arith) (omega arith) (omega arith)));
+          (may_store_set c.lower_laws.ensures ws (g.S.WordsIn.aside c.args.seg.now).windows (c.args.at + 9) (c.args.at + 7) c.saturating_add.result (omega (arith, w.high, w.enough, r.2)) (may_date r.0 r.1 c.args.at 9 r.2 (omega arith) (omega arith) (omega arith)) (may_date r.0 r.1 c.args.at 7 r.2 (omega arith) (omega arith) (omega arith)));
     }
 
 pub returns-clause-stand : goal.returns-clause-stand

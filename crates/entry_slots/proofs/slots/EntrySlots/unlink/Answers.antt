@@ -1,15 +1,15 @@
 use Rattle.std.proofs.Common.{◌≡◌, ◌≢◌, inr, ℕ, ◌+◌, ◌-◌, List, sym, ap, ◌∙◌, arith, length, slice_index, slice_set, subst, refl, true}
-use Rattle.apcu_model.specs.Walk.{slot_of}
+use Rattle.apcu_model.specs.SlotOrder.{slot_of}
 use Rattle.entry_slots.specs.Lists.{has_place}
 use Rattle.entry_slots.specs.Entries.{Entries, chain_of}
-use Rattle.entry_slots.proofs.Homes.{room, home_row}
+use Rattle.entry_slots.proofs.RowBlocks.{room, home_row}
 use Rattle.entry_slots.specs.Standing.{Stands, entries}
-use Rattle.entry_slots.proofs.Now.{restand}
-use Rattle.entry_slots.proofs.Walks.{stands_along}
-use Rattle.entry_slots.proofs.Storing.{may_along}
-use Rattle.entry_slots.proofs.Cutting.{spot_word}
-use Rattle.entry_slots.proofs.Rejoining.{cut_spot}
-use Rattle.entry_slots.proofs.Unlinking.{own_slot, unlink_stands}
+use Rattle.entry_slots.proofs.GhostEntries.{restand}
+use Rattle.entry_slots.proofs.KeySearch.{stands_along}
+use Rattle.entry_slots.proofs.StorableWords.{may_along}
+use Rattle.entry_slots.proofs.ChainCuts.{spot_word}
+use Rattle.entry_slots.proofs.RejoinedChains.{cut_spot}
+use Rattle.entry_slots.proofs.UnlinkedRows.{own_slot, unlink_stands}
 use Rattle.entry_slots.proofs.slots.EntrySlots.unlink.Goals as goal
 
 -- the row's place is in the chain of the slot

@@ -1,13 +1,13 @@
 use Rattle.std.proofs.Common.{◌≡◌, ◌≢◌, inr, ℕ, ◌-◌, List, sym, ap, ◌∙◌, arith, length, slice_set, subst, refl}
-use Rattle.entry_slots.proofs.Homes.{room, home_row}
+use Rattle.entry_slots.proofs.RowBlocks.{room, home_row}
 use Rattle.entry_slots.specs.Standing.{Stands, entries}
-use Rattle.entry_slots.proofs.Now.{restand}
-use Rattle.entry_slots.proofs.Walks.{stands_along}
-use Rattle.entry_slots.proofs.Storing.{may_along}
-use Rattle.entry_slots.proofs.Cutting.{spot_word}
-use Rattle.entry_slots.proofs.Rejoining.{cut_spot}
-use Rattle.entry_slots.proofs.Unlinking.{own_slot, unlink_stands}
-use Rattle.entry_slots.proofs.Spotting.{spot_link, spot_there}
+use Rattle.entry_slots.proofs.GhostEntries.{restand}
+use Rattle.entry_slots.proofs.KeySearch.{stands_along}
+use Rattle.entry_slots.proofs.StorableWords.{may_along}
+use Rattle.entry_slots.proofs.ChainCuts.{spot_word}
+use Rattle.entry_slots.proofs.RejoinedChains.{cut_spot}
+use Rattle.entry_slots.proofs.UnlinkedRows.{own_slot, unlink_stands}
+use Rattle.entry_slots.proofs.SpotSearch.{spot_link, spot_there}
 use Rattle.entry_slots.proofs.slots.EntrySlots.unlink_at.Goals as goal
 
 pub behind_spot-next-requires : goal.behind_spot-next-requires

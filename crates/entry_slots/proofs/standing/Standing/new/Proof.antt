@@ -25,7 +25,7 @@ use denote.Triple.Entry.{alive}
 use denote.Triple.Spec.{Meets, triple_of}
 use denote.Triple.Table.{entered}
 use denote.Triple.Walked.{says, Stays, stay_dropped, walk_of, ends_at, walk_Meets, Goes-dropped}
-use Rattle.entry_slots.proofs.Made.{none, none_made}
+use Rattle.entry_slots.proofs.FieldlessStruct.{none, none_made}
 use Rattle.entry_slots.specs.contracts.standing.Standing as Log
 use Rattle.apcu_model.specs.contracts.conf.Conf as Note
 use Rattle.entry_slots.specs.Entries.{no_entries}

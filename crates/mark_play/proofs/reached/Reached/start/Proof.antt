@@ -25,7 +25,7 @@ use denote.Triple.Entry.{alive}
 use denote.Triple.Spec.{Meets, triple_of}
 use denote.Triple.Table.{entered}
 use denote.Triple.Walked.{says, Stays, stay_dropped, walk_of, ends_at, walk_Meets, Goes-dropped}
-use Rattle.mark_play.proofs.Made.{none, none_made}
+use Rattle.mark_play.proofs.FieldlessStruct.{none, none_made}
 use Rattle.mark_play.specs.contracts.reached.Reached as Log
 use Rattle.apcu_model.specs.contracts.conf.Conf as Note
 use Rattle.apcu_model.specs.History.{start_of}

@@ -2,8 +2,8 @@ use Rattle.std.proofs.Common.{◌∙◌, ◌<◌, ◌^◌, List, Option, ap, ari
 use Rattle.apcu_model.specs.History.{is_legal_mask}
 use Rattle.mark_play.specs.declared.answering.Window.{Window}
 use Rattle.mark_play.specs.Legal.{is_legal_by}
-use Rattle.mark_play.specs.Reaching.{Replayed}
-use Rattle.mark_play.proofs.Legality.{legal_alike}
+use Rattle.mark_play.specs.ReplayStages.{Replayed}
+use Rattle.mark_play.proofs.LegalMasks.{legal_alike}
 use Rattle.mark_play.proofs.replay.Replay.is_legal.Goals as goal
 
 pub returns : goal.returns

@@ -1,7 +1,7 @@
 use Rattle.std.proofs.Common.{◌≡◌, ◌∙◌, ℕ, [], Some, None, refl, ap, sym, subst, arith, length}
 use Rattle.std.proofs.lemmas.List.{length-replicate}
 use Rattle.apcu_model.specs.History.{Stage, start_of, window_of}
-use Rattle.mark_play.specs.Reaching.{number_in, IsStage}
+use Rattle.mark_play.specs.ReplayStages.{number_in, IsStage}
 use Rattle.mark_play.proofs.replay.Replay.new.Goals as goal
 
 pub invariant_of-result : goal.invariant_of-result

@@ -7,12 +7,12 @@ use Rattle.apcu_model.specs.Cache.{Cache}
 use Rattle.mark_play.specs.Asks.{MayAsk}
 use Rattle.apcu_model.specs.History.{Stage, reply_in, after_event}
 use Rattle.apcu_model.specs.Sequential.{cache_after, reply_to}
-use Rattle.cache_core.specs.Caching.{cache_of}
+use Rattle.cache_core.specs.CoreCache.{cache_of}
 use Rattle.cache_core.proofs.Events.{by_now, may_insert, stays}
 use Rattle.mark_play.specs.declared.answering.Window.{Window}
 use Rattle.mark_play.specs.Events.{event_by}
-use Rattle.mark_play.specs.Reaching.{Replayed, IsReached}
-use Rattle.mark_play.proofs.Playing.{begun_stand, begun_fresh, begun_unnamed, begun_again, reply_is, reached, shape_after}
+use Rattle.mark_play.specs.ReplayStages.{Replayed, IsReached}
+use Rattle.mark_play.proofs.ReplayEvents.{begun_stand, begun_unrefused, begun_unnamed, begun_again, reply_is, reached, shape_after}
 use Rattle.mark_play.proofs.Windows.{flat_ask}
 use Rattle.mark_play.proofs.replay.Replay.play.Goals as goal
 
@@ -34,7 +34,7 @@ pub answer-requires-clause-ready : goal.answer-requires-clause-ready
 answer-requires-clause-ready c =
     let at = subst (λ (l : List (Option Window)). IsReached ghosts c.self.inside.core c.self.inside.words l c.self.inside.reached.stage c.self.inside.left) (sym c.deref.ensures.value) c.self.invariant in
     let b = c.begin_event.ensures c.self.inside.reached.stage c.self.inside.left at in
-    may_insert (begun_stand _ _ _ _ _ _ _ _ b) (begun_fresh _ _ _ _ _ _ _ _ b)
+    may_insert (begun_stand _ _ _ _ _ _ _ _ b) (begun_unrefused _ _ _ _ _ _ _ _ b)
 
 pub answer-requires-clause-unnamed : goal.answer-requires-clause-unnamed
 answer-requires-clause-unnamed c =

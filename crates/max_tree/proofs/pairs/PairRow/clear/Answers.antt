@@ -1,5 +1,5 @@
 use Rattle.std.proofs.Common.{length, ap, arith}
-use Rattle.max_tree.proofs.Halving.{halves_length, zero_halves}
+use Rattle.max_tree.proofs.PairLemmas.{halves_length, zero_halves}
 use Rattle.max_tree.proofs.pairs.PairRow.clear.Goals as goal
 
 pub returns-clause-count : goal.returns-clause-count

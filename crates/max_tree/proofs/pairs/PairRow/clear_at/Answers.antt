@@ -1,6 +1,6 @@
 use Rattle.std.proofs.Common.{ℕ, ◌-◌, ◌%◌, length, ap, ◌∙◌, arith}
 use Rattle.max_tree.specs.Halves.{half}
-use Rattle.max_tree.proofs.Halving.{pair_inside, put_seen}
+use Rattle.max_tree.proofs.PairLemmas.{pair_inside, put_seen}
 use Rattle.max_tree.proofs.pairs.PairRow.clear_at.Goals as goal
 
 pub get-own-requires : goal.get-own-requires

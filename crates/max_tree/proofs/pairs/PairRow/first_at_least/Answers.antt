@@ -1,7 +1,7 @@
 use Rattle.std.proofs.Common.{ap, sym, ◌∙◌, rules, arith}
 use Rattle.std.specs.Prelude.{nat_le}
 use Rattle.std.specs.List.{position}
-use Rattle.max_tree.proofs.Halving.{first_both, first_pair, first_half_none, none_large}
+use Rattle.max_tree.proofs.PairLemmas.{first_both, first_pair, first_half_none, none_large}
 use Rattle.max_tree.proofs.pairs.PairRow.first_at_least.Goals as goal
 
 pub returns-then-largest-n : goal.returns-then-largest-n

@@ -1,6 +1,6 @@
 use Rattle.std.proofs.Common.{ℕ, ◌%◌, List, length, get_or, ap, sym, ◌∙◌, arith}
 use Rattle.max_tree.specs.Halves.{half}
-use Rattle.max_tree.proofs.Halving.{pair_inside, halves_at}
+use Rattle.max_tree.proofs.PairLemmas.{pair_inside, halves_at}
 use Rattle.max_tree.proofs.pairs.PairRow.get.Goals as goal
 
 pub get-requires : goal.get-requires

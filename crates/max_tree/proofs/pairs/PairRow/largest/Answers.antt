@@ -1,6 +1,6 @@
 use Rattle.std.proofs.Common.{ap, arith}
 use Rattle.max_tree.specs.Pages.{largest}
-use Rattle.max_tree.proofs.Halving.{largest_halves}
+use Rattle.max_tree.proofs.PairLemmas.{largest_halves}
 use Rattle.max_tree.proofs.pairs.PairRow.largest.Goals as goal
 
 pub returns-clause-is : goal.returns-clause-is

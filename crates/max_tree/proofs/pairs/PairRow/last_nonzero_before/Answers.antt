@@ -1,6 +1,6 @@
 use Rattle.std.proofs.Common.{length, ap, arith, ◌∙◌, ℕ}
 use Rattle.max_tree.specs.Halves.{half}
-use Rattle.max_tree.proofs.Halving.{NoneOwn, pair_inside, last_own_seen, last_none_seen, last_pair_seen}
+use Rattle.max_tree.proofs.PairLemmas.{NoneOwn, pair_inside, last_own_seen, last_none_seen, last_pair_seen}
 use Rattle.max_tree.proofs.pairs.PairRow.last_nonzero_before.Goals as goal
 use Rattle.max_tree.proofs.pairs.PairRow.last_nonzero_before.Goals.{Joined-else-p-eq1, else-p-eq1-via-then-p-eq1+else-half_of-gt0, else-p-eq1-via-else-p-eq1}
 

@@ -1,5 +1,5 @@
 use Rattle.std.proofs.Common.{length, ap, arith}
-use Rattle.max_tree.proofs.Halving.{pair_inside, moved_in_seen}
+use Rattle.max_tree.proofs.PairLemmas.{pair_inside, moved_in_seen}
 use Rattle.max_tree.proofs.pairs.PairRow.move_to.Goals as goal
 
 pub set-requires : goal.set-requires

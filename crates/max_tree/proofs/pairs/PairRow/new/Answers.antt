@@ -1,4 +1,4 @@
-use Rattle.max_tree.proofs.Halving.{halves_length, zero_halves}
+use Rattle.max_tree.proofs.PairLemmas.{halves_length, zero_halves}
 use Rattle.max_tree.proofs.pairs.PairRow.new.Goals as goal
 
 pub returns-clause-count : goal.returns-clause-count

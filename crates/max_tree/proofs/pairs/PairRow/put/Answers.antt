@@ -1,6 +1,6 @@
 use Rattle.std.proofs.Common.{◌≡◌, ◌≢◌, ℕ, cond, eqb, ◌-◌, ◌%◌, List, length, get_or, ap, sym, ◌∙◌, subst, arith}
 use Rattle.max_tree.specs.Halves.{half, MayStand, other_half}
-use Rattle.max_tree.proofs.Halving.{pair_inside, put_seen, other_is}
+use Rattle.max_tree.proofs.PairLemmas.{pair_inside, put_seen, other_is}
 use Rattle.max_tree.proofs.pairs.PairRow.put.Goals as goal
 
 pub get-own-requires : goal.get-own-requires

@@ -1,8 +1,8 @@
 use Rattle.std.proofs.Common.{◌≡◌, ◌/◌, ap, ◌∙◌, get_or, set, sym, subst, rules, arith}
 use Rattle.max_tree.specs.Pages.{IsPaged, largest, page}
 use Rattle.max_tree.specs.declared.row.TheConstants.{PAGE}
-use Rattle.max_tree.proofs.Paging.{set_paged}
-use Rattle.max_tree.proofs.Topping.{top_before, stays_paged}
+use Rattle.max_tree.proofs.PageLemmas.{set_paged}
+use Rattle.max_tree.proofs.TopUpdate.{top_before, stays_paged}
 use Rattle.max_tree.proofs.row.MaxRow.change.Goals as goal
 
 pub top_after-new-requires-clause-before : goal.top_after-new-requires-clause-before

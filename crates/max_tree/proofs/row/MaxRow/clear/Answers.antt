@@ -1,7 +1,7 @@
 use Rattle.std.proofs.Common.{◌≡◌, ℕ, ◌++◌, List, length, take, drop, sym, subst, arith}
 use Rattle.std.proofs.lemmas.Grind.{common_steps}
 use Rattle.max_tree.specs.Pages.{IsPaged}
-use Rattle.max_tree.proofs.Paging.{cleared_paged}
+use Rattle.max_tree.proofs.PageLemmas.{cleared_paged}
 use Rattle.max_tree.proofs.row.MaxRow.clear.Goals as goal
 
 pub invariant_of-self : goal.invariant_of-self

@@ -1,7 +1,7 @@
 use Rattle.std.proofs.Common.{◌≡◌, ◌∙◌, length, ap, sym, arith}
 use Rattle.std.specs.Prelude.{nat_le}
 use Rattle.std.specs.List.{position}
-use Rattle.max_tree.proofs.Paging.{first_none, first_seen, page_inside}
+use Rattle.max_tree.proofs.PageLemmas.{first_none, first_seen, page_inside}
 use Rattle.max_tree.proofs.row.MaxRow.first_at_least.Goals as goal
 
 pub returns-in_default : goal.returns-in_default

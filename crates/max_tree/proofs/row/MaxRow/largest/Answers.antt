@@ -1,6 +1,6 @@
 use Rattle.std.proofs.Common.{◌∙◌, ap}
 use Rattle.max_tree.specs.Pages.{largest}
-use Rattle.max_tree.proofs.Paging.{largest_top}
+use Rattle.max_tree.proofs.PageLemmas.{largest_top}
 use Rattle.max_tree.proofs.row.MaxRow.largest.Goals as goal
 
 pub returns : goal.returns

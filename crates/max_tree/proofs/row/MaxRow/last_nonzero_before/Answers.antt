@@ -1,7 +1,7 @@
 use Rattle.std.proofs.Common.{◌≡◌, ℕ, ◌<◌, ◌≤◌, ◌*◌, ◌/◌, List, get_or, ap, sym, ◌∙◌, subst}
 use Rattle.max_tree.specs.Pages.{IsPaged}
 use Rattle.max_tree.specs.declared.row.TheConstants.{PAGE}
-use Rattle.max_tree.proofs.Paging.{last_none, last_seen}
+use Rattle.max_tree.proofs.PageLemmas.{last_none, last_seen}
 use Rattle.max_tree.proofs.row.MaxRow.last_nonzero_before.Goals as goal
 
 pub returns-in_default-last_nonzero_before-clause-found : goal.returns-in_default-last_nonzero_before-clause-found

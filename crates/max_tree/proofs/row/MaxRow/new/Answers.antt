@@ -1,7 +1,7 @@
 use Rattle.std.proofs.Common.{ℕ, List, ap, ◌∙◌, length, get_or, arith}
 use Rattle.std.proofs.lemmas.List.{length-replicate}
-use Rattle.max_tree.proofs.Steps.{zero_at}
-use Rattle.max_tree.proofs.Paging.{zeros_paged}
+use Rattle.max_tree.proofs.LeafLemmas.{zero_at}
+use Rattle.max_tree.proofs.PageLemmas.{zeros_paged}
 use Rattle.max_tree.proofs.row.MaxRow.new.Goals as goal
 
 pub invariant_of-result : goal.invariant_of-result

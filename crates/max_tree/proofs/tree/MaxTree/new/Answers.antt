@@ -1,7 +1,7 @@
 use Rattle.std.proofs.Common.{◌≡◌, ℕ, ◌^◌, List, length, get_or, ap, ◌∙◌, arith}
 use Rattle.std.proofs.lemmas.List.{length-replicate}
 use Rattle.max_tree.specs.Nodes.{leaves}
-use Rattle.max_tree.proofs.Steps.{zero_at, zero_leaves, zero_row, shifted_two}
+use Rattle.max_tree.proofs.LeafLemmas.{zero_at, zero_leaves, zero_row, shifted_two}
 use Rattle.max_tree.proofs.tree.MaxTree.new.Goals as goal
 
 pub invariant_of-result : goal.invariant_of-result

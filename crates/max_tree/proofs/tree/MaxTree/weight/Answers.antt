@@ -1,6 +1,6 @@
 use Rattle.std.proofs.Common.{length, ap, arith}
 use Rattle.max_tree.proofs.Levels.{halves_by}
-use Rattle.max_tree.proofs.Steps.{length_leaves}
+use Rattle.max_tree.proofs.LeafLemmas.{length_leaves}
 use Rattle.max_tree.proofs.tree.MaxTree.weight.Goals as goal
 
 pub returns : goal.returns

@@ -3,9 +3,9 @@ use Rattle.php_graph.specs.declared.container.Container.{Container}
 use Rattle.php_graph.specs.declared.key.Key.{Key}
 use Rattle.php_graph.specs.declared.child.Child.TheVariants.{Own}
 use Rattle.php_graph.specs.Building.{Draft, wants_of, room_fault, attached, is_container}
-use Rattle.php_graph.specs.Drafted.{CanAttach, IsBuilding, IsFresh, IsNewValue, kinds_in, places_of, draft_of}
-use Rattle.php_graph.proofs.DraftKept.{can_attach}
-use Rattle.php_graph.proofs.DraftKnown.{has_room, building_value, opens_is}
+use Rattle.php_graph.specs.BuilderState.{CanAttach, IsBuilding, IsNewKind, IsNewValue, kinds_in, places_of, draft_of}
+use Rattle.php_graph.proofs.InnermostContainers.{can_attach}
+use Rattle.php_graph.proofs.BuilderAfterItem.{has_room, building_value, opens_is}
 use Rattle.php_graph.proofs.builder.Builder.add_value.Goals as goal
 
 pub push_place-requires-clause-can : goal.push_place-requires-clause-can
@@ -20,8 +20,8 @@ invariant_of-self-2 c =
     let g = kinds_in c.self.inside.places in
     let cs = c.self.inside.containers.items in
     let room = has_room (draft_of g cs c.self.inside.key) (ap room_fault c.self.view_is ∙ c.requires.room) in
-    let fresh : IsFresh g c.args.kind = subst (λ (d : Draft). IsFresh d.places c.args.kind) (sym c.self.view_is) c.requires.new_value in
-    let new : IsNewValue g c.args.kind = record { childless = fresh.childless; well_formed = fresh.well_formed; fits = c.check.ensures fresh.childless; target = fresh.target } in
+    let new_kind : IsNewKind g c.args.kind = subst (λ (d : Draft). IsNewKind d.places c.args.kind) (sym c.self.view_is) c.requires.new_value in
+    let new : IsNewValue g c.args.kind = record { childless = new_kind.childless; well_formed = new_kind.well_formed; fits = c.check.ensures new_kind.childless; target = new_kind.target } in
     let number : c.len.result ≡ length g = c.len.ensures ∙ sym (ap (λ (d : Draft). length d.places) c.self.view_is) in
     let is : kinds_in c.push_place.new.places ≡ attached g (places_of cs) c.self.inside.key (Own (length g + 1)) ++ c.args.kind ∷ [] =
     c.in_ok-push_place.ensures.ok ∙ ap (λ (xs : List Container). attached g (places_of xs) c.self.inside.key (Own (length g + 1)) ++ c.args.kind ∷ []) same in

@@ -1,8 +1,8 @@
 use Rattle.std.proofs.Common.{◌≡◌, ◌⊎◌, sym, subst}
 use Rattle.php_graph.specs.declared.item.Wants.TheVariants.{ArrayKey, Name}
 use Rattle.php_graph.specs.Building.{Draft, wants_of}
-use Rattle.php_graph.specs.Drafted.{kinds_in, places_of}
-use Rattle.php_graph.proofs.DraftKnown.{wants_no_value, popped}
+use Rattle.php_graph.specs.BuilderState.{kinds_in, places_of}
+use Rattle.php_graph.proofs.BuilderAfterItem.{wants_no_value, popped}
 use Rattle.php_graph.proofs.builder.Builder.close.Goals as goal
 
 pub invariant_of-self : goal.invariant_of-self

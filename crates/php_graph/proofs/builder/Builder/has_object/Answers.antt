@@ -1,8 +1,8 @@
 use Rattle.std.proofs.Common.{◌∙◌, sym, ap, arith, Option}
 use Rattle.php_graph.specs.Graph.{is_object_at}
 use Rattle.php_graph.specs.Building.{Draft}
-use Rattle.php_graph.specs.Kept.{PlaceList, kinds_of}
-use Rattle.php_graph.specs.Drafted.{kinds_in}
+use Rattle.php_graph.specs.PlaceOffsets.{PlaceList, kinds_of}
+use Rattle.php_graph.specs.BuilderState.{kinds_in}
 use Rattle.php_graph.proofs.DraftLemmas.{object_there}
 use Rattle.php_graph.proofs.builder.Builder.has_object.Goals as goal
 

@@ -5,10 +5,10 @@ use Rattle.php_graph.specs.declared.key.Key.{Key}
 use Rattle.php_graph.specs.declared.kind.Kind.{Kind}
 use Rattle.php_graph.specs.declared.child.Child.TheVariants.{Back}
 use Rattle.php_graph.specs.Building.{Draft, wants_of, room_fault, attached, with_back}
-use Rattle.php_graph.specs.Kept.{PlaceList, kinds_of}
-use Rattle.php_graph.specs.Drafted.{CanAttach, IsBuilding, kinds_in, places_of, draft_of}
-use Rattle.php_graph.proofs.DraftKept.{can_attach}
-use Rattle.php_graph.proofs.DraftKnown.{has_room, building_back}
+use Rattle.php_graph.specs.PlaceOffsets.{PlaceList, kinds_of}
+use Rattle.php_graph.specs.BuilderState.{CanAttach, IsBuilding, kinds_in, places_of, draft_of}
+use Rattle.php_graph.proofs.InnermostContainers.{can_attach}
+use Rattle.php_graph.proofs.BuilderAfterItem.{has_room, building_back}
 use Rattle.php_graph.proofs.builder.Builder.push_back.Goals as goal
 
 pub attach-requires : goal.attach-requires

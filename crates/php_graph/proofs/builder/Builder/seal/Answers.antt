@@ -2,9 +2,9 @@ use Rattle.std.proofs.Common.{◌≡◌, ◌∙◌, ap, subst, List, ℕ, Option
 use Rattle.php_graph.specs.declared.item.Wants.TheVariants.{Done}
 use Rattle.php_graph.specs.Graph.{IsGraph}
 use Rattle.php_graph.specs.Building.{wants_by, wants_of}
-use Rattle.php_graph.specs.Kept.{PlaceList}
-use Rattle.php_graph.specs.Drafted.{IsDraft, kinds_in, places_of}
-use Rattle.php_graph.proofs.DraftMade.{done_graph, done_on_top}
+use Rattle.php_graph.specs.PlaceOffsets.{PlaceList}
+use Rattle.php_graph.specs.BuilderState.{IsDraft, kinds_in, places_of}
+use Rattle.php_graph.proofs.DraftAfterItem.{done_graph, done_on_top}
 use Rattle.php_graph.proofs.builder.Builder.seal.Goals as goal
 
 pub from_parts-requires-clause-graph : goal.from_parts-requires-clause-graph

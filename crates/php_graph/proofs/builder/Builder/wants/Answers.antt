@@ -3,9 +3,9 @@ use Rattle.std.specs.List.{slice_get}
 use Rattle.php_graph.specs.declared.container.Container.{Container}
 use Rattle.php_graph.specs.declared.item.Wants.TheVariants.{ArrayKey, Name}
 use Rattle.php_graph.specs.Building.{wants_of}
-use Rattle.php_graph.specs.Kept.{PlaceList, kinds_of}
-use Rattle.php_graph.specs.Drafted.{IsDraft, draft_of, kinds_in, places_of}
-use Rattle.php_graph.proofs.DraftKept.{innermost_is, wants_here}
+use Rattle.php_graph.specs.PlaceOffsets.{PlaceList, kinds_of}
+use Rattle.php_graph.specs.BuilderState.{IsDraft, draft_of, kinds_in, places_of}
+use Rattle.php_graph.proofs.InnermostContainers.{innermost_is, wants_here}
 use Rattle.php_graph.proofs.builder.Builder.wants.Goals as goal
 use Rattle.php_graph.proofs.builder.Builder.wants.Goals.{In-Some-last, After-is_array}
 

@@ -1,7 +1,7 @@
 use Rattle.std.proofs.Common.{◌∙◌, ◌<◌, ◌-◌, arith, ap, zero-add, length, ℕ, List, get_or}
 use Rattle.php_graph.specs.declared.kind.Kind.{Kind}
 use Rattle.php_graph.specs.Size.{offset_of}
-use Rattle.php_graph.specs.Kept.{kinds_of}
+use Rattle.php_graph.specs.PlaceOffsets.{kinds_of}
 use Rattle.php_graph.proofs.SizeLemmas.{get_or-offsets_from}
 use Rattle.php_graph.proofs.graph.Graph.at.Goals as goal
 

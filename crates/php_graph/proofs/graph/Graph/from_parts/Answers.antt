@@ -1,8 +1,8 @@
 use Rattle.std.proofs.Common.{◌∙◌, ◌≤◌, ap, subst, sym, arith, List}
 use Rattle.php_graph.specs.declared.kind.Kind.{Kind}
 use Rattle.php_graph.specs.Graph.{IsGraph, most_values}
-use Rattle.php_graph.specs.Counted.{children_in}
-use Rattle.php_graph.specs.Kept.{kinds_of, offsets_from}
+use Rattle.php_graph.specs.MemberCounts.{children_in}
+use Rattle.php_graph.specs.PlaceOffsets.{kinds_of, offsets_from}
 use Rattle.php_graph.specs.Size.{image_length}
 use Rattle.php_graph.proofs.SizeLemmas.{image_short}
 use Rattle.php_graph.proofs.graph.Graph.from_parts.Goals as goal

@@ -1,5 +1,5 @@
 use Rattle.std.proofs.Common.{◌≡◌, map, drop, None}
-use Rattle.php_graph.specs.Kept.{last_own}
+use Rattle.php_graph.specs.PlaceOffsets.{last_own}
 use Rattle.php_graph.proofs.members.Members.last_own.Given as goal
 
 -- the last of the rest, or else the last so far

@@ -4,7 +4,7 @@ use Rattle.std.specs.List.{slice_get}
 use Rattle.php_graph.specs.declared.kind.Kind.{Kind}
 use Rattle.php_graph.specs.declared.places.Place.{Place}
 use Rattle.php_graph.specs.Building.{with_member}
-use Rattle.php_graph.specs.Kept.{PlaceList, kinds_at, kinds_of}
+use Rattle.php_graph.specs.PlaceOffsets.{PlaceList, kinds_at, kinds_of}
 use Rattle.php_graph.proofs.PlaceLemmas.{other_kind, added}
 use Rattle.php_graph.proofs.places.Places.add.Goals as goal
 

@@ -3,7 +3,7 @@ use Rattle.std.specs.Option.{option_map}
 use Rattle.php_graph.specs.declared.kind.Kind.{Kind}
 use Rattle.php_graph.specs.declared.places.Place.{Place}
 use Rattle.php_graph.specs.Graph.{lowered_places}
-use Rattle.php_graph.specs.Kept.{PlaceList, kinds_at}
+use Rattle.php_graph.specs.PlaceOffsets.{PlaceList, kinds_at}
 use Rattle.php_graph.proofs.PlaceLemmas.{part_list, low_none, low_list}
 use Rattle.php_graph.proofs.places.Places.lowered.Goals as goal
 use Rattle.php_graph.proofs.places.Places.lowered.Goals.{In_ok-others}

@@ -1,12 +1,12 @@
 use Rattle.std.proofs.Common.{◌≡◌, ◌∙◌, ℕ, zero, suc, ◌+◌, ◌-◌, ◌<◌, List, [], ◌∷◌, slice_index, refl, ap, arith}
-use Rattle.pin_table.specs.Values.{Copier}
+use Rattle.pin_table.specs.Values.{CopyView}
 use Rattle.pin_table.proofs.copying.Copying.eight.Goals as goal
 
 -- the word n of the image, read by one that has changed nothing
-word_is : (was self : Copier) (word place n : ℕ) → was ≡ self → word ≡ slice_index was.copy.content (place - was.copy.first) → place ≡ self.copy.first + n → word ≡ slice_index self.copy.content n
+word_is : (was self : CopyView) (word place n : ℕ) → was ≡ self → word ≡ slice_index was.copy.content (place - was.copy.first) → place ≡ self.copy.first + n → word ≡ slice_index self.copy.content n
 word_is was self word place n same read at =
     let left : place - self.copy.first ≡ n = omega arith in
-    read ∙ ap (λ (v : Copier). slice_index v.copy.content (place - v.copy.first)) same ∙ ap (λ (k : ℕ). slice_index self.copy.content k) left
+    read ∙ ap (λ (v : CopyView). slice_index v.copy.content (place - v.copy.first)) same ∙ ap (λ (k : ℕ). slice_index self.copy.content k) left
 
 eight_are : (xs : List ℕ) (i a b c d e f g h : ℕ) → a ≡ slice_index xs (i + 0) → b ≡ slice_index xs (i + 1) → c ≡ slice_index xs (i + 2) → d ≡ slice_index xs (i + 3) → e ≡ slice_index xs (i + 4) → f ≡ slice_index xs (i + 5) → g ≡ slice_index xs (i + 6) → h ≡ slice_index xs (i + 7)
     → (k : ℕ) → k < 8 → slice_index (a ∷ b ∷ c ∷ d ∷ e ∷ f ∷ g ∷ h ∷ []) k ≡ slice_index xs (i + k)
@@ -47,22 +47,22 @@ pub word_at-requires-clause-from : goal.word_at-requires-clause-from
 word_at-requires-clause-from c = omega (arith, c.requires.first)
 
 pub word_at-requires-2-clause-from : goal.word_at-requires-2-clause-from
-word_at-requires-2-clause-from c = omega (arith, c.requires.first, ap (λ (v : Copier). v.copy.first) (c.word_at.ensures.same))
+word_at-requires-2-clause-from c = omega (arith, c.requires.first, ap (λ (v : CopyView). v.copy.first) (c.word_at.ensures.same))
 
 pub word_at-requires-3-clause-from : goal.word_at-requires-3-clause-from
-word_at-requires-3-clause-from c = omega (arith, c.requires.first, ap (λ (v : Copier). v.copy.first) (c.word_at-2.ensures.same ∙ c.word_at.ensures.same))
+word_at-requires-3-clause-from c = omega (arith, c.requires.first, ap (λ (v : CopyView). v.copy.first) (c.word_at-2.ensures.same ∙ c.word_at.ensures.same))
 
 pub word_at-requires-4-clause-from : goal.word_at-requires-4-clause-from
-word_at-requires-4-clause-from c = omega (arith, c.requires.first, ap (λ (v : Copier). v.copy.first) (c.word_at-3.ensures.same ∙ c.word_at-2.ensures.same ∙ c.word_at.ensures.same))
+word_at-requires-4-clause-from c = omega (arith, c.requires.first, ap (λ (v : CopyView). v.copy.first) (c.word_at-3.ensures.same ∙ c.word_at-2.ensures.same ∙ c.word_at.ensures.same))
 
 pub word_at-requires-5-clause-from : goal.word_at-requires-5-clause-from
-word_at-requires-5-clause-from c = omega (arith, c.requires.first, ap (λ (v : Copier). v.copy.first) (c.word_at-4.ensures.same ∙ c.word_at-3.ensures.same ∙ c.word_at-2.ensures.same ∙ c.word_at.ensures.same))
+word_at-requires-5-clause-from c = omega (arith, c.requires.first, ap (λ (v : CopyView). v.copy.first) (c.word_at-4.ensures.same ∙ c.word_at-3.ensures.same ∙ c.word_at-2.ensures.same ∙ c.word_at.ensures.same))
 
 pub word_at-requires-6-clause-from : goal.word_at-requires-6-clause-from
-word_at-requires-6-clause-from c = omega (arith, c.requires.first, ap (λ (v : Copier). v.copy.first) (c.word_at-5.ensures.same ∙ c.word_at-4.ensures.same ∙ c.word_at-3.ensures.same ∙ c.word_at-2.ensures.same ∙ c.word_at.ensures.same))
+word_at-requires-6-clause-from c = omega (arith, c.requires.first, ap (λ (v : CopyView). v.copy.first) (c.word_at-5.ensures.same ∙ c.word_at-4.ensures.same ∙ c.word_at-3.ensures.same ∙ c.word_at-2.ensures.same ∙ c.word_at.ensures.same))
 
 pub word_at-requires-7-clause-from : goal.word_at-requires-7-clause-from
-word_at-requires-7-clause-from c = omega (arith, c.requires.first, ap (λ (v : Copier). v.copy.first) (c.word_at-6.ensures.same ∙ c.word_at-5.ensures.same ∙ c.word_at-4.ensures.same ∙ c.word_at-3.ensures.same ∙ c.word_at-2.ensures.same ∙ c.word_at.ensures.same))
+word_at-requires-7-clause-from c = omega (arith, c.requires.first, ap (λ (v : CopyView). v.copy.first) (c.word_at-6.ensures.same ∙ c.word_at-5.ensures.same ∙ c.word_at-4.ensures.same ∙ c.word_at-3.ensures.same ∙ c.word_at-2.ensures.same ∙ c.word_at.ensures.same))
 
 pub word_at-requires-8-clause-from : goal.word_at-requires-8-clause-from
-word_at-requires-8-clause-from c = omega (arith, c.requires.first, ap (λ (v : Copier). v.copy.first) (c.word_at-7.ensures.same ∙ c.word_at-6.ensures.same ∙ c.word_at-5.ensures.same ∙ c.word_at-4.ensures.same ∙ c.word_at-3.ensures.same ∙ c.word_at-2.ensures.same ∙ c.word_at.ensures.same))
+word_at-requires-8-clause-from c = omega (arith, c.requires.first, ap (λ (v : CopyView). v.copy.first) (c.word_at-7.ensures.same ∙ c.word_at-6.ensures.same ∙ c.word_at-5.ensures.same ∙ c.word_at-4.ensures.same ∙ c.word_at-3.ensures.same ∙ c.word_at-2.ensures.same ∙ c.word_at.ensures.same))

@@ -1,17 +1,17 @@
 use Rattle.std.proofs.Common.{◌≡◌, ap, sym, ◌∙◌}
 use Rattle.pin_table.specs.declared.views.Known.{Known}
-use Rattle.pin_table.specs.declared.views.Desk.{Desk}
-use Rattle.pin_table.specs.Values.{Writing}
-use Rattle.pin_table.specs.Views.{desk_of, in_hand}
-use Rattle.pin_table.proofs.Ruled as ruled
+use Rattle.pin_table.specs.declared.views.WriterState.{WriterState}
+use Rattle.pin_table.specs.Values.{WriterView}
+use Rattle.pin_table.specs.Views.{state_of, in_hand}
+use Rattle.pin_table.proofs.RuleSteps as ruled
 use Rattle.pin_table.proofs.table.PinTable.give_back.Goals as goal
 
 pub split_seat-own-requires : goal.split_seat-own-requires
 split_seat-own-requires c =
-    let d : desk_of c.seat.inside.seat.me.0 ≡ c.args.seat.now.desk = ap (λ (w : Writing). w.desk) c.seat.view_is in
-    let e : (desk_of c.seat.inside.seat.me.0).book.hand ≡ c.args.seat.now.desk.book.hand = ap (λ (v : Desk). v.book.hand) d in
-    let p : Known = in_hand c.args.seat.now.desk.book.hand in (
-      ap (λ (w : Writing). w.table) c.seat.view_is ∙ (c.requires.table ∙ sym c.self.view_is),
+    let d : state_of c.seat.inside.seat.me.0 ≡ c.args.seat.now.state = ap (λ (w : WriterView). w.state) c.seat.view_is in
+    let e : (state_of c.seat.inside.seat.me.0).log.hand ≡ c.args.seat.now.state.log.hand = ap (λ (v : WriterState). v.log.hand) d in
+    let p : Known = in_hand c.args.seat.now.state.log.hand in (
+      ap (λ (w : WriterView). w.table) c.seat.view_is ∙ (c.requires.table ∙ sym c.self.view_is),
       c.self.invariant.0,
-      rw (c.seat.invariant.0, ap (λ m. m.0) c.seat.invariant.1) (ruled.goes_back (desk_of c.seat.inside.seat.me.0) p (e ∙ c.requires.hand)),
+      rw (c.seat.invariant.0, ap (λ m. m.0) c.seat.invariant.1) (ruled.goes_back (state_of c.seat.inside.seat.me.0) p (e ∙ c.requires.hand)),
     )

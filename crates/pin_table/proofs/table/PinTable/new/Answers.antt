@@ -17,8 +17,8 @@ of_words-requires-clause-windows c = grind (arith, common_steps)
 pub fill-requires-clause-table : goal.fill-requires-clause-table
 fill-requires-clause-table c = grind (arith, common_steps)
 
-pub fill-requires-clause-book : goal.fill-requires-clause-book
-fill-requires-clause-book c = grind (arith, common_steps)
+pub fill-requires-clause-log : goal.fill-requires-clause-log
+fill-requires-clause-log c = grind (arith, common_steps)
 
 pub fill-requires-clause-few : goal.fill-requires-clause-few
 fill-requires-clause-few c = grind (arith, common_steps)
@@ -35,8 +35,8 @@ returns-clause-table c = grind (arith, common_steps)
 pub returns-clause-count : goal.returns-clause-count
 returns-clause-count c = grind (arith, common_steps)
 
-pub returns-clause-desk : goal.returns-clause-desk
-returns-clause-desk c = grind (arith, common_steps)
+pub returns-clause-state : goal.returns-clause-state
+returns-clause-state c = grind (arith, common_steps)
 
 pub returns-clause-passes : goal.returns-clause-passes
 returns-clause-passes c = grind (arith, common_steps)

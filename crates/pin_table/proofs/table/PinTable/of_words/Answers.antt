@@ -1,6 +1,6 @@
 use Rattle.std.proofs.Common.{arith}
 use Rattle.std.proofs.lemmas.Grind.{common_steps}
-use Rattle.pin_table.proofs.Ruled as ruled
+use Rattle.pin_table.proofs.RuleSteps as ruled
 use Rattle.pin_table.specs.declared.views.Start.{Start}
 use Rattle.pin_table.proofs.table.PinTable.of_words.Goals as goal
 
@@ -13,8 +13,8 @@ returns-in_err-table-clause-table c = grind (arith, common_steps)
 pub returns-in_err-table-clause-count : goal.returns-in_err-table-clause-count
 returns-in_err-table-clause-count c = grind (arith, common_steps)
 
-pub returns-in_err-table-clause-desk : goal.returns-in_err-table-clause-desk
-returns-in_err-table-clause-desk c = grind (arith, common_steps)
+pub returns-in_err-table-clause-state : goal.returns-in_err-table-clause-state
+returns-in_err-table-clause-state c = grind (arith, common_steps)
 
 pub invariant_of-result : goal.invariant_of-result
 invariant_of-result c = grind (arith, common_steps)
@@ -28,5 +28,5 @@ returns-clause-table c = grind (arith, common_steps)
 pub returns-clause-count : goal.returns-clause-count
 returns-clause-count c = grind (arith, common_steps)
 
-pub returns-clause-desk : goal.returns-clause-desk
-returns-clause-desk c = grind (arith, common_steps)
+pub returns-clause-state : goal.returns-clause-state
+returns-clause-state c = grind (arith, common_steps)

@@ -8,8 +8,8 @@ invariant_of-self c = grind (arith, common_steps)
 pub returns-clause-table : goal.returns-clause-table
 returns-clause-table c = grind (arith, common_steps)
 
-pub returns-clause-desk : goal.returns-clause-desk
-returns-clause-desk c = grind (arith, common_steps)
+pub returns-clause-state : goal.returns-clause-state
+returns-clause-state c = grind (arith, common_steps)
 
 pub returns-clause-pass : goal.returns-clause-pass
 returns-clause-pass c = grind (arith, common_steps)

@@ -3,7 +3,7 @@ use Rattle.std.specs.Option.{option_copied}
 use Rattle.std.proofs.lemmas.List.{map-set, map-append, length-map}
 use Rattle.reply_text.specs.Notes.{note_of, KnowsNotes}
 use Rattle.reply_text.specs.Replies.{noted}
-use Rattle.reply_text.proofs.Noting.{note_within, noted_there, noted_new, known_place, knows_set, knows_more}
+use Rattle.reply_text.proofs.NotedAnswers.{note_within, noted_there, noted_new, known_place, knows_set, knows_more}
 use Rattle.reply_text.proofs.notes.Notes.note.Goals as goal
 
 pub index_mut-requires : goal.index_mut-requires

@@ -25,7 +25,7 @@ use denote.Triple.Entry.{alive}
 use denote.Triple.Spec.{Meets, triple_of}
 use denote.Triple.Table.{entered}
 use denote.Triple.Walked.{says, Stays, stay_dropped, walk_of, ends_at, walk_Meets, Goes-dropped}
-use Rattle.run_verify.proofs.Made.{none, none_made}
+use Rattle.run_verify.proofs.FieldlessStruct.{none, none_made}
 use Rattle.run_verify.specs.contracts.played.Played as Log
 use Rattle.run_verify.specs.Games.{game_after}
 use Rattle.apcu_model.specs.contracts.journal.Mark as Note

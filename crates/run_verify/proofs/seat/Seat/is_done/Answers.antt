@@ -1,7 +1,7 @@
 use Rattle.std.proofs.Common.{◌<◌, length, sym, subst, arith}
 use Rattle.std.proofs.lemmas.Bool.{lt-leb}
 use Rattle.run_verify.specs.Seats.{KnowsDone}
-use Rattle.run_verify.proofs.Seated.{done_more, done_over}
+use Rattle.run_verify.proofs.GameSeats.{done_more, done_over}
 use Rattle.run_verify.proofs.seat.Seat.is_done.Goals as goal
 
 pub returns-then-self-len : goal.returns-then-self-len

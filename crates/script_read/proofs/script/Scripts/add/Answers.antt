@@ -1,7 +1,7 @@
 use Rattle.std.proofs.Common.{◌≡◌, ◌-◌, suc, length, ap, arith}
 use Rattle.std.specs.Prelude.{is_ok}
-use Rattle.script_read.specs.Growing.{last_len}
-use Rattle.script_read.proofs.Walking.{last_is, added}
+use Rattle.script_read.specs.GrowingScripts.{last_len}
+use Rattle.script_read.proofs.LineLoop.{last_is, added}
 use Rattle.script_read.proofs.script.Scripts.add.Goals as goal
 
 pub push-requires-clause-few : goal.push-requires-clause-few

@@ -1,8 +1,8 @@
 use Rattle.std.proofs.Common.{◌≡◌, ℕ, sym, ap, ◌∙◌, subst, length, drop, [], List, arith, rules}
 use Rattle.std.proofs.Math.Seq.{drop-length}
 use Rattle.seg_words.specs.Windows.{Aside}
-use Rattle.seg_words.specs.Holding.{AreMet, opened_for}
-use Rattle.seg_words.proofs.Holding.{opened_met}
+use Rattle.seg_words.specs.EventWindows.{AreMet, opened_for}
+use Rattle.seg_words.proofs.WorkerWindows.{opened_met}
 use Rattle.seg_words.proofs.held_words.HeldWords.begin.Goals as goal
 
 pub invariant_of-self : goal.invariant_of-self

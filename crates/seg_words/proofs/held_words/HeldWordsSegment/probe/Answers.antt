@@ -3,7 +3,7 @@ use Rattle.std.proofs.lemmas.Grind.{common_steps}
 use Rattle.std.proofs.lemmas.Bool.{and_parts, ltb-true}
 use Rattle.std.specs.List.{count_by}
 use Rattle.seg_words.specs.Windows.{has, is_named}
-use Rattle.seg_words.proofs.Holding.{frees_none, room_left, marked, one_more}
+use Rattle.seg_words.proofs.WorkerWindows.{frees_none, room_left, marked, one_more}
 use Rattle.seg_words.proofs.held_words.HeldWordsSegment.probe.Goals as goal
 
 pub returns-then-not-is_named-clause-free : goal.returns-then-not-is_named-clause-free
@@ -13,13 +13,13 @@ pub overflow_sub-self : goal.overflow_sub-self
 overflow_sub-self c =
     let s = c.args.self.now in
     let named : is_named s.windows c.args.at ≡ true = sym c.is_named.ensures ∙ c.if-not-is_named.false in
-    room_left 64 s.left c.args.at (drop s.left s.marks) s.windows (search rules) s.room c.requires.fresh named
+    room_left 64 s.left c.args.at (drop s.left s.marks) s.windows (search rules) s.room c.requires.unrefused named
 
 pub invariant_of-self : goal.invariant_of-self
 invariant_of-self c =
     let s = c.args.self.now in
     let named : is_named s.windows c.args.at ≡ true = sym c.is_named.ensures ∙ c.if-not-is_named.false in
-    let some = room_left 64 s.left c.args.at (drop s.left s.marks) s.windows (search rules) s.room c.requires.fresh named in
+    let some = room_left 64 s.left c.args.at (drop s.left s.marks) s.windows (search rules) s.room c.requires.unrefused named in
     let marks = marked 64 s.left c.args.at s.marks (search rules) s.within some in
     record {
       short = s.short;
@@ -27,14 +27,14 @@ invariant_of-self c =
       within = omega (arith, s.within);
       room =
           subst (λ l. 64 ≤ (s.left - 1) + count_by (λ w. has w l) s.windows) (sym marks)
-          (omega (arith, s.room, some, one_more c.args.at (drop s.left s.marks) s.windows c.requires.fresh (and_parts (ltb 0 c.args.at) (has c.args.at s.windows) named).1));
+          (omega (arith, s.room, some, one_more c.args.at (drop s.left s.marks) s.windows c.requires.unrefused (and_parts (ltb 0 c.args.at) (has c.args.at s.windows) named).1));
     }
 
 pub returns-clause-held : goal.returns-clause-held
 returns-clause-held c =
     let s = c.args.self.now in
     let named : is_named s.windows c.args.at ≡ true = sym c.is_named.ensures ∙ c.if-not-is_named.false in
-    let some = room_left 64 s.left c.args.at (drop s.left s.marks) s.windows (search rules) s.room c.requires.fresh named in
+    let some = room_left 64 s.left c.args.at (drop s.left s.marks) s.windows (search rules) s.room c.requires.unrefused named in
     λ no. record {
       named = named;
       windows = refl;

@@ -4,16 +4,16 @@ use Rattle.seg_words.specs.Blocks.{IsTold, MayStore}
 use Rattle.sma_blocks.specs.declared.sma.Sma.{Sma}
 use Rattle.sma_blocks.specs.Live.{live_blocks, lives}
 use Rattle.sma_blocks.specs.Ready.{IsReady}
-use Rattle.sma_blocks.specs.Laid.{IsLaid}
-use Rattle.sma_blocks.proofs.Laying.{laid_total}
-use Rattle.sma_blocks.proofs.Places.{Fill-even}
-use Rattle.sma_blocks.proofs.Done.{may_store_seen}
-use Rattle.sma_blocks.proofs.Readying.{ready_chain}
-use Rattle.sma_blocks.proofs.Keeping.{Spread, laid_start, spread_start, laid_block, laid_after, lay_apart, next_block, last_between, keeps, told_live, in_order}
+use Rattle.sma_blocks.specs.LaidGaps.{IsLaid}
+use Rattle.sma_blocks.proofs.FrontGap.{laid_total}
+use Rattle.sma_blocks.proofs.FitPlaces.{Fill-even}
+use Rattle.sma_blocks.proofs.AllocatorAfterTake.{may_store_seen}
+use Rattle.sma_blocks.proofs.ReadyWords.{ready_chain}
+use Rattle.sma_blocks.proofs.KeptBlocks.{Spread, laid_start, spread_start, laid_block, laid_after, lay_apart, next_block, last_between, keeps, told_live, in_order}
 use Rattle.sma_blocks.specs.Tiles.{tiles}
 use Rattle.sma_blocks.specs.Live.{kept_blocks}
-use Rattle.sma_blocks.proofs.Naming.{Between}
-use Rattle.sma_blocks.proofs.Filling.{Fill-le}
+use Rattle.sma_blocks.proofs.NamedBlocks.{Between}
+use Rattle.sma_blocks.proofs.TileLemmas.{Fill-le}
 use Rattle.sma_blocks.proofs.sma.Sma.keep.Goals as goal
 
 from_to : (sma : Sma) (ws : List ℕ) (aside : Aside) → IsReady sma ws aside → sma.from ≤ sma.to

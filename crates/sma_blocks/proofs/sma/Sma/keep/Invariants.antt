@@ -1,7 +1,7 @@
 use Rattle.std.proofs.Common.{◌≡◌, ◌≤◌, ◌%◌, true, length}
 use Rattle.seg_words.specs.Kept.{KeptBeside}
 use Rattle.sma_blocks.specs.Live.{live_blocks}
-use Rattle.sma_blocks.proofs.Keeping.{Laid, Spread}
+use Rattle.sma_blocks.proofs.KeptBlocks.{Laid, Spread}
 use Rattle.sma_blocks.proofs.sma.Sma.keep.Given as goal
 
 abbrev pub invariant-loop-i : goal.invariant-loop-i

@@ -3,7 +3,7 @@ use Rattle.seg_words.specs.Windows.{Aside}
 use Rattle.seg_words.specs.Blocks.{MayStore}
 use Rattle.seg_words.specs.Gaps.{is_whole}
 use Rattle.seg_words.specs.Segments.{whole_part}
-use Rattle.sma_blocks.proofs.Laying.{laid_front, laid_total, laid_stands, merged_store, gapped}
+use Rattle.sma_blocks.proofs.FrontGap.{laid_front, laid_total, laid_stands, merged_store, gapped}
 use Rattle.sma_blocks.proofs.sma.Sma.lay.Goals as goal
 
 pub loop-end-init : goal.loop-end-init

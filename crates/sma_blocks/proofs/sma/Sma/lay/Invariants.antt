@@ -3,7 +3,7 @@ use Rattle.seg_words.specs.Kept.{KeptBeside}
 use Rattle.seg_words.specs.Blocks.{MayStore}
 use Rattle.sma_blocks.specs.Tiles.{tiles}
 use Rattle.sma_blocks.specs.Live.{lives}
-use Rattle.sma_blocks.specs.Laid.{IsLaid}
+use Rattle.sma_blocks.specs.LaidGaps.{IsLaid}
 use Rattle.sma_blocks.proofs.sma.Sma.lay.Given as goal
 
 abbrev pub invariant-loop-end : goal.invariant-loop-end

@@ -1,6 +1,6 @@
 use Rattle.std.proofs.Common.{◌∙◌, arith}
-use Rattle.sma_blocks.proofs.Readying.{ready_kept}
-use Rattle.sma_blocks.proofs.Near.{near_inside, near_told, near_index, near_found, near_passed}
+use Rattle.sma_blocks.proofs.ReadyWords.{ready_kept}
+use Rattle.sma_blocks.proofs.FirstGaps.{near_inside, near_told, near_index, near_found, near_passed}
 use Rattle.sma_blocks.proofs.sma.Sma.near_fit.Goals as goal
 
 pub link_of-requires-clause-inside : goal.link_of-requires-clause-inside

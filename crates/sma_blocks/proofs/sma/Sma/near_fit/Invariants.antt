@@ -1,5 +1,5 @@
 use Rattle.seg_words.specs.Kept.{Kept}
-use Rattle.sma_blocks.proofs.Near.{IsPassed}
+use Rattle.sma_blocks.proofs.FirstGaps.{IsPassed}
 use Rattle.sma_blocks.proofs.sma.Sma.near_fit.Given as goal
 
 abbrev pub invariant-gaps : goal.invariant-gaps

@@ -3,7 +3,7 @@ use Rattle.apcu_model.specs.Cache.{Row}
 use Rattle.entry_slots.specs.declared.slots.EntrySlots.{EntrySlots}
 use Rattle.entry_slots.specs.Entries.{IsListed}
 use Rattle.entry_slots.specs.Standing.{entries}
-use Rattle.apcu_bench.proofs.Used.{hit_listed}
+use Rattle.apcu_bench.proofs.HitRows.{hit_listed}
 use Rattle.apcu_bench.proofs.cache.word_cache.WordCache.fetch.Goals as goal
 
 pub copy_at-requires-clause-there : goal.copy_at-requires-clause-there

@@ -1,0 +1,13 @@
+-- Why there is no search for a pattern.
+use Rattle.std.specs.Prelude.{◌≡◌, ℕ, Bool, false, List, Option, Some, None}
+use Rattle.apcu_model.specs.declared.searching.Pattern.{Pattern}
+use Rattle.apcu_model.specs.PatternMatches.{is_pattern}
+
+-- the text is no pattern: it is not UTF-8, or the grammar reads none there within its limit
+abbrev pub IsNoPattern : Bool → List ℕ → Type 0
+IsNoPattern fold text = is_pattern fold text ≡ false
+
+-- there is a pattern, and this is so of its flag and its text
+abbrev pub OfPattern : (Bool → List ℕ → Type 0) → Option Pattern → Type 0
+OfPattern P None = ⊥
+OfPattern P (Some p) = P p.fold p.text

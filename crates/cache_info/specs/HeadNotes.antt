@@ -1,0 +1,15 @@
+-- What is told of an entry by its first words.
+use Rattle.apcu_model.specs.declared.row_info.RowInfo.{RowInfo}
+use Rattle.entry_slots.specs.declared.head.Head.{Head}
+
+-- what they say beside the key and the value
+abbrev pub info_in : Head → RowInfo
+info_in head = record {
+  ttl = head.ttl;
+  ctime = head.ctime;
+  mtime = head.mtime;
+  atime = head.atime;
+  dtime = head.dtime;
+  hits = head.hits;
+  size = head.size;
+}

@@ -1,0 +1,233 @@
+-- What storing a bundle's records leaves: no row ends behind the words of the records so far.
+use Rattle.std.proofs.Common.{◌≡◌, inl, inr, ℕ, ◌+◌, ◌-◌, ◌%◌, ◌≤◌, Bool, true, false, if◌then◌else◌, List, [], ◌∷◌, ◌++◌, length, map, filter, Option, Some, None, refl, sym, ap, ap₂, ◌∙◌, subst, arith}
+use Rattle.std.specs.Prelude.{◌/◌, ◌==◌, ◌&&◌, ◌||◌, nat_lt, is_some}
+use Rattle.std.specs.Option.{option_to_list}
+use Rattle.std.specs.Str.{bytes_eq}
+use Rattle.std.specs.List.{Contains}
+use Rattle.std.proofs.Math.Nat as nat
+use Rattle.std.proofs.lemmas.Bool.{false_from_ne_true, ltb-true}
+use Rattle.std.proofs.lemmas.List.{append-nil, length-map}
+use Rattle.std.proofs.lemmas.Slice.Eq.{bytes_eq-Decides}
+use Rattle.std.proofs.lemmas.List.Sums.{sum_by-append, sum_by-cons}
+use Rattle.seg_words.specs.declared.gaps.Extent.{Extent}
+use Rattle.seg_words.specs.Gaps.{first_fit}
+use Rattle.seg_words.specs.Members.{filter_none, map_there, none_in_nil}
+use Rattle.php_graph.specs.declared.kind.Kind.{Kind}
+use Rattle.php_graph.specs.Size.{block_size}
+use Rattle.apcu_model.specs.declared.conf.Conf.{Conf}
+use Rattle.apcu_model.specs.Conf.{piece_of, most_of}
+use Rattle.apcu_model.specs.declared.request.StoreAnswer.TheVariants as answers
+use Rattle.apcu_model.specs.Cache.{Row, Cache, has_key, extent_of, gap_of, empty_cache}
+use Rattle.apcu_model.specs.Change.{is_held, dropped, expired_in, left_of, removed_with, swept, expired_dropped, expunged, has_gap, with_room, with_row, placed, put_in, Insertion, inserted}
+use Rattle.apcu_model.specs.Expiry.{is_expired}
+use Rattle.apcu_model.specs.Facts.{left_all}
+use Rattle.apcu_model.specs.SlotOrder.{is_in_slot, slot_of}
+use Rattle.script_read.specs.Arguments.{or_else}
+use Rattle.preload_set.specs.Bundle.{Record}
+use Rattle.preload_set.specs.Loader.{words_of, last_value, values_at}
+use Rattle.preload_set.proofs.Room.{gap_low, words_even}
+use Rattle.preload_set.proofs.KeyRows.{with_there, filter_other, filter_own}
+
+-- one segment, whose words begin and end at even places
+pub record IsOne (conf : Conf) : Type 0 where
+  pub even : conf.slots % 2 ≡ 0
+  pub one : conf.segments ≡ 1
+
+pub record Filled (conf : Conf) (before : List Record) (c : Cache) : Type 0 where
+  pub shape : c.conf ≡ conf
+  pub removed : c.removed ≡ []
+  pub low : (r : Row) → Contains c.rows r → r.place + r.size ≤ conf.slots + words_of before
+  pub expunges : c.expunges ≡ 0
+  pub values : (key : List ℕ) → values_at key c ≡ option_to_list (last_value key before)
+
+pub filled_first : (conf : Conf) → Filled conf [] (empty_cache conf)
+filled_first conf = record {
+  shape = refl;
+  removed = refl;
+  low = λ r h. absurd (none_in_nil r h);
+  expunges = refl;
+  values = λ key. refl;
+}
+
+-- ---- the last value of a key
+
+or_later : {A : Type 0} (b : Bool) (x : A) (o early : Option A) → or_else (if b then Some x else o) early ≡ (if b then Some x else or_else o early)
+or_later true x o early = refl
+or_later false x o early = refl
+
+last_joined : (key : List ℕ) (records : List Record) (r : Record) → last_value key (records ++ r ∷ []) ≡ (if bytes_eq r.0 key then Some r.1 else last_value key records)
+last_joined key [] r = only (bytes_eq r.0 key)
+  where
+    only : (b : Bool) → or_else {A = List Kind} None (if b then Some r.1 else None) ≡ (if b then Some r.1 else None)
+    only true = refl
+    only false = refl
+last_joined key (x ∷ records) r =
+    let early : Option (List Kind) = if bytes_eq x.0 key then Some x.1 else None in
+    ap (λ (o : Option (List Kind)). or_else o early) (last_joined key records r) ∙ or_later (bytes_eq r.0 key) r.1 (last_value key records) early
+
+words_joined : (records : List Record) (r : Record) → words_of (records ++ r ∷ []) ≡ words_of records + block_size (length r.0) r.1
+words_joined records r =
+    let size = λ (x : Record). block_size (length x.0) x.1 in
+    omega (arith, sum_by-append size records (r ∷ []), sum_by-cons size r [])
+
+-- ---- the gap
+
+piece_one : (conf : Conf) → conf.segments ≡ 1 → piece_of conf ≡ conf.words
+unfolding piece_of
+piece_one conf one = ap (λ n. conf.words / n) one ∙ nat.div-one conf.words
+
+most_one : (conf : Conf) → conf.segments ≡ 1 → most_of conf ≡ conf.words - conf.slots
+most_one conf one = ap (λ n. if n == 1 then conf.words - conf.slots else piece_of conf) one
+
+pub record HasGap (conf : Conf) (before : List Record) (n : ℕ) (c : Cache) : Type 0 where
+  pub place : ℕ
+  pub is : gap_of c n ≡ Some place
+  pub low : place ≤ conf.slots + words_of before
+
+has_low_gap : (conf : Conf) (before : List Record) (n : ℕ) (c : Cache) → IsOne conf → conf.slots + words_of before + n ≤ conf.words → Filled conf before c → HasGap conf before n c
+has_low_gap conf before n c one room filled =
+    let a = conf.slots + words_of before in
+    let extents = map extent_of c.rows in
+    let behind : (e : Extent) → Contains extents e → e.place + e.size ≤ a = λ e h.
+    let x = map_there extent_of c.rows e h in omega (arith, filled.low x.0 x.1, ap (λ (q : Extent). q.place) x.2, ap (λ (q : Extent). q.size) x.2) in
+    let g = gap_low conf.slots conf.words a n extents (even conf.slots (words_of before) one.even (words_even before)) (omega arith) (omega (arith, room)) behind in
+    let all : map extent_of (c.rows ++ c.removed) ≡ extents = ap (λ (l : List Row). map extent_of (c.rows ++ l)) filled.removed ∙ ap (map extent_of) (append-nil c.rows) in
+    record {
+      place = g.0;
+      is = ap (λ (l : List Extent). first_fit c.conf.slots c.conf.words (piece_of c.conf) n l) all
+          ∙ (ap (λ (f : Conf). first_fit f.slots f.words (piece_of f) n extents) filled.shape
+          ∙ (ap (λ w. first_fit conf.slots conf.words w n extents) (piece_one conf one.one) ∙ g.1));
+      low = g.2;
+    }
+  where
+    even : (x y : ℕ) → x % 2 ≡ 0 → y % 2 ≡ 0 → (x + y) % 2 ≡ 0
+    even x y h k = omega (arith, h, k)
+
+-- ---- an insertion makes no room but by the sweep, and places its row
+
+filled_swept : (conf : Conf) (before : List Record) (c : Cache) → Filled conf before c → Filled conf before (swept [] c)
+filled_swept conf before c filled = record {
+  shape = filled.shape;
+  removed = filter_none (is_held []) c.removed (λ row h. refl);
+  low = filled.low;
+  expunges = filled.expunges;
+  values = filled.values;
+}
+
+inserts_so : (conf : Conf) (before : List Record) (r : Record) (c : Cache) (place : ℕ) → IsOne conf → conf.slots + words_of before + block_size (length r.0) r.1 ≤ conf.words → Filled conf before c
+    → let n = block_size (length r.0) r.1 in
+    gap_of (swept [] c) n ≡ Some place → inserted [] r.0 r.1 0 false 0 c ≡ put_in [] r.0 r.1 0 0 n (swept [] c) (Some place)
+inserts_so conf before r c place one room filled is =
+    ap (λ b. if b then record { answer = answers.TooLarge; cache = c } else put_in [] r.0 r.1 0 0 n (with_room [] n 0 c) (gap_of (with_room [] n 0 c) n)) fitting
+    ∙ (ap (λ (d : Cache). put_in [] r.0 r.1 0 0 n d (gap_of d n)) enough ∙ ap (λ (o : Option ℕ). put_in [] r.0 r.1 0 0 n first o) is)
+  where
+    n : ℕ
+    n = block_size (length r.0) r.1
+
+    first : Cache
+    first = swept [] c
+
+    enough : with_room [] n 0 c ≡ first
+    enough = ap (λ (o : Option ℕ). if is_some o then first else if has_gap n (expired_dropped [] 0 first) then expired_dropped [] 0 first else expunged [] 0 (expired_dropped [] 0 first)) is
+
+    fitting : nat_lt (most_of c.conf) n ≡ false
+    fitting = subst (λ (f : Conf). nat_lt (most_of f) n ≡ false) (sym filled.shape) (false_from_ne_true (nat_lt (most_of conf) n) (λ t. omega (arith, ltb-true (most_of conf) n t, most_one conf one.one, room)))
+
+-- ---- the new row
+
+none_before : (a : ℕ) → nat_lt a 0 ≡ false
+none_before a = false_from_ne_true (nat_lt a 0) (λ t. omega (arith, ltb-true a 0 t))
+
+never_expired : (conf : Conf) (row : Row) → is_expired conf 0 row ≡ false
+never_expired conf row = rw (none_before (row.ctime + row.ttl), none_before (row.atime + conf.ttl)) (both (nat_lt 0 row.ttl) (row.ttl == 0 && nat_lt 0 conf.ttl))
+  where
+    both : (a b : Bool) → ((a && false) || (b && false)) ≡ false
+    both true true = refl
+    both true false = refl
+    both false true = refl
+    both false false = refl
+
+abbrev new_row : Record → ℕ → ℕ → Row
+new_row r place number = record { key = r.0; graph = r.1; ttl = 0; ctime = 0; mtime = 0; atime = 0; dtime = 0; hits = 0; place = place; size = block_size (length r.0) r.1; number = number }
+
+abbrev after_placing : Record → Cache → ℕ → Cache
+after_placing r c place = placed [] r.0 r.1 0 0 (block_size (length r.0) r.1) c place
+
+record Placed (new : Row) (c d : Cache) : Type 0 where
+  pub rows : d.rows ≡ with_row new c.rows
+  pub removed : d.removed ≡ c.removed
+
+placed_parts : (r : Record) (c : Cache) (place : ℕ) → Placed (new_row r place c.next_number) c (after_placing r c place)
+placed_parts r c place = record {
+  rows = ap (λ (l : List Row). with_row (new_row r place c.next_number) l) kept;
+  removed = ap₂ (λ (l m : List Row). l ++ map {A = Row} {B = Row} (λ row. record row { dtime = 0 }) m) same (filter_none (is_held []) (filter (has_key r.0) after_sweep.rows) (λ row h. refl)) ∙ append-nil c.removed;
+}
+  where
+    here : List Row
+    here = filter (is_in_slot c.conf (slot_of c.conf r.0)) c.rows
+
+    -- none expires
+    none : expired_in c.conf 0 (slot_of c.conf r.0) c.rows ≡ []
+    none = filter_none (is_expired c.conf 0) here (λ row h. never_expired c.conf row)
+
+    after_sweep : Cache
+    after_sweep = dropped [] 0 (expired_in c.conf 0 (slot_of c.conf r.0) c.rows) c
+
+    kept : after_sweep.rows ≡ c.rows
+    kept = ap (λ (l : List Row). left_of l c.rows) none ∙ left_all c.rows
+
+    same : after_sweep.removed ≡ c.removed
+    same = ap (λ (l : List Row). removed_with [] 0 l c.removed) none ∙ append-nil c.removed
+
+at_most_one : {A : Type 0} (o : Option A) → length (option_to_list o) ≤ 1
+at_most_one (Some x) = omega arith
+at_most_one None = omega arith
+
+filled_placed : (conf : Conf) (before : List Record) (r : Record) (c : Cache) (place : ℕ) → place ≤ conf.slots + words_of before → Filled conf before c → Filled conf (before ++ r ∷ []) (after_placing r c place)
+filled_placed conf before r c place low filled = record {
+  shape = filled.shape;
+  removed = parts.removed ∙ filled.removed;
+  low = λ row h. elim (with_there new c.rows row (subst (λ (l : List Row). Contains l row) parts.rows h)) [
+    | inl e ↦
+        let at : place ≡ row.place = ap (λ (q : Row). q.place) e in
+        let size : block_size (length r.0) r.1 ≡ row.size = ap (λ (q : Row). q.size) e in
+        omega (arith, words, low, at, size)
+    | inr l ↦ omega (arith, words, filled.low row l)
+  ];
+  expunges = filled.expunges;
+  values = λ key. ap (λ (l : List Row). map (λ (row : Row). row.graph) (filter (has_key key) l)) parts.rows ∙ value key (bytes_eq r.0 key) refl;
+}
+  where
+    new : Row
+    new = new_row r place c.next_number
+
+    parts : Placed new c (after_placing r c place)
+    parts = placed_parts r c place
+
+    words : words_of (before ++ r ∷ []) ≡ words_of before + block_size (length r.0) r.1
+    words = words_joined before r
+
+    single : length (filter (has_key r.0) c.rows) ≤ 1
+    single = omega (arith, ap (λ (l : List (List Kind)). length l) (filled.values r.0), length-map (filter (has_key r.0) c.rows) (λ (row : Row). row.graph), at_most_one (last_value r.0 before))
+
+    value : (key : List ℕ) (b : Bool) → bytes_eq r.0 key ≡ b → map (λ (row : Row). row.graph) (filter (has_key key) (with_row new c.rows)) ≡ option_to_list (last_value key (before ++ r ∷ []))
+    value key true e =
+        let same : r.0 ≡ key = (bytes_eq-Decides r.0 key).0 e in
+        subst (λ (k : List ℕ). map (λ (row : Row). row.graph) (filter (has_key k) (with_row new c.rows)) ≡ r.1 ∷ []) same (ap (λ (l : List Row). map (λ (row : Row). row.graph) l) (filter_own new c.rows single))
+        ∙ sym (ap option_to_list (last_joined key before r ∙ ap (λ b. if b then Some r.1 else last_value key before) e))
+    value key false e =
+        ap (λ (l : List Row). map (λ (row : Row). row.graph) l) (filter_other key new c.rows e)
+        ∙ (filled.values key ∙ sym (ap option_to_list (last_joined key before r ∙ ap (λ b. if b then Some r.1 else last_value key before) e)))
+
+-- ---- a store
+
+pub record IsStored (conf : Conf) (before : List Record) (r : Record) (made : Insertion) : Type 0 where
+  pub answer : made.answer ≡ answers.Stored
+  pub filled : Filled conf (before ++ r ∷ []) made.cache
+
+pub record_stored : (conf : Conf) (before : List Record) (r : Record) (c : Cache) → IsOne conf → conf.slots + words_of before + block_size (length r.0) r.1 ≤ conf.words → Filled conf before c → IsStored conf before r (inserted [] r.0 r.1 0 false 0 c)
+record_stored conf before r c one room filled =
+    let first = filled_swept conf before c filled in
+    let g = has_low_gap conf before (block_size (length r.0) r.1) (swept [] c) one room first in
+    subst (λ (x : Insertion). IsStored conf before r x) (sym (inserts_so conf before r c g.place one room filled g.is))
+    (record { answer = refl; filled = filled_placed conf before r (swept [] c) g.place g.low first })
