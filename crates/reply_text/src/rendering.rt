@@ -55,6 +55,6 @@ fn write_call(
         Call::KeyInfo(_) | Call::CacheInfo(_) | Call::SmaInfo(_) => write_told(out, replies),
         Call::Walk { fields, .. } => write_walk(out, *fields, replies),
         Call::Totals { .. } => write_sums(out, replies),
-        Call::Pool(call) => write_pool(out, alloc, &call.ask, replies),
+        Call::Pool(boxed) => write_pool(out, alloc, &boxed.call().ask, replies),
     }
 }

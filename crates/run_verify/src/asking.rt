@@ -82,8 +82,8 @@ pub(crate) fn query_of<'a>(
     ensures may { IfOk result (λ query. IfSome query (λ q.
         MayAsk conf.now (call_pattern call.now) (queried q))) }
 {
-    if let Call::Pool(call) = call {
-        return match pool_request(alloc, call, conf, k, from)? {
+    if let Call::Pool(boxed) = call {
+        return match pool_request(alloc, boxed.call(), conf, k, from)? {
             Some(request) => Ok(Some(Query::Made(request))),
             None => Ok(None),
         };
@@ -99,8 +99,8 @@ pub(crate) fn asks(call: &Call, conf: &Conf, k: usize, from: u32) -> bool
     requires { HasRanges call.now }
     ensures { result ≡ is_asking (next_from conf.now.slots (asking_of call.now) k from []) }
 {
-    if let Call::Pool(call) = call {
-        return pool_asks(call, conf.slots, k, from);
+    if let Call::Pool(boxed) = call {
+        return pool_asks(boxed.call(), conf.slots, k, from);
     }
     ask_of(call, conf, k, from).is_some()
 }

@@ -2,9 +2,9 @@ ghost use Rattle.std.specs.Prelude.{◌≡◌, IfOk};
 ghost use Rattle.script_read.specs.Calls.{HasRanges, event_bound};
 ghost use Rattle.script_read.specs.Patterns.{call_pattern};
 
+use crate::pool_box::PoolBox;
 use apcu_model::{Fields, Gen, Keys, List, Pairs, Pattern};
 use php_graph::{Bytes, Graph};
-use simple_pool::PoolCall;
 use std::alloc::{AllocError, Global};
 
 /// A call of a script, as PHP's manual has the functions of APCu.
@@ -85,8 +85,9 @@ pub enum Call {
         search: Option<Pattern>,
         list: List,
     },
-    /// A call on a pool, whose name, keys and time to live have their forms.
-    Pool(PoolCall),
+    /// A call on a pool, whose name, keys and time to live have their forms. It is rare and larger
+    /// than the others, so a box keeps each step small.
+    Pool(PoolBox),
 }
 
 impl Call {
@@ -121,7 +122,7 @@ impl Call {
                 u64::from(keys.len())
             }
             Call::Enabled => 0,
-            Call::Pool(call) => call.ask.events(slots),
+            Call::Pool(boxed) => boxed.call().ask.events(slots),
         }
     }
 
@@ -134,7 +135,7 @@ impl Call {
             Call::Walk { search, .. }
             | Call::WalkDelete { search, .. }
             | Call::Totals { search, .. } => copied(alloc, search),
-            Call::Pool(call) => call.pattern(alloc),
+            Call::Pool(boxed) => boxed.call().pattern(alloc),
             _ => Ok(None),
         }
     }

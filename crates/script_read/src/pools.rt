@@ -19,6 +19,7 @@ use crate::pool_arguments::{
     default_argument, own_key_argument, own_keys_argument, own_pairs_argument, own_ttl_argument,
     pool_name_argument,
 };
+use crate::pool_box::PoolBox;
 use apcu_model::Pairs;
 use php_graph::{Bytes, Graph};
 use simple_pool::{PoolAsk, PoolCall};
@@ -60,7 +61,8 @@ pub(crate) fn pool_get(alloc: Global, bytes: &[u8]) -> Result<(Effect, &[u8]), S
     let (key, rest) = own_key_argument(alloc, rest)?;
     let (default, rest) = default_argument(alloc, rest)?;
     let ask = PoolAsk::Get(key, default);
-    bare(Call::Pool(PoolCall { pool, ask }), rest)
+    let boxed = PoolBox::new(alloc, PoolCall { pool, ask })?;
+    bare(Call::Pool(boxed), rest)
 }
 
 // The arguments of `pool_set`.
@@ -75,7 +77,8 @@ pub(crate) fn pool_set(alloc: Global, bytes: &[u8]) -> Result<(Effect, &[u8]), S
     let (value, rest) = value_argument(alloc, rest)?;
     let (ttl, rest) = own_ttl_argument(alloc, rest)?;
     let ask = set_ask(key, value, ttl);
-    bare(Call::Pool(PoolCall { pool, ask }), rest)
+    let boxed = PoolBox::new(alloc, PoolCall { pool, ask })?;
+    bare(Call::Pool(boxed), rest)
 }
 
 // The arguments of `pool_delete`.
@@ -88,7 +91,8 @@ pub(crate) fn pool_delete(alloc: Global, bytes: &[u8]) -> Result<(Effect, &[u8])
     let (pool, rest) = pool_name_argument(alloc, bytes)?;
     let (key, rest) = own_key_argument(alloc, rest)?;
     let ask = PoolAsk::Delete(key);
-    bare(Call::Pool(PoolCall { pool, ask }), rest)
+    let boxed = PoolBox::new(alloc, PoolCall { pool, ask })?;
+    bare(Call::Pool(boxed), rest)
 }
 
 // The arguments of `pool_clear`.
@@ -100,7 +104,8 @@ pub(crate) fn pool_clear(alloc: Global, bytes: &[u8]) -> Result<(Effect, &[u8]),
 {
     let (pool, rest) = pool_name_argument(alloc, bytes)?;
     let ask = PoolAsk::Clear;
-    bare(Call::Pool(PoolCall { pool, ask }), rest)
+    let boxed = PoolBox::new(alloc, PoolCall { pool, ask })?;
+    bare(Call::Pool(boxed), rest)
 }
 
 // The arguments of `pool_get_multiple`.
@@ -114,7 +119,8 @@ pub(crate) fn pool_get_multiple(alloc: Global, bytes: &[u8]) -> Result<(Effect, 
     let (keys, rest) = own_keys_argument(alloc, rest)?;
     let (default, rest) = default_argument(alloc, rest)?;
     let ask = PoolAsk::GetMany(keys, default);
-    bare(Call::Pool(PoolCall { pool, ask }), rest)
+    let boxed = PoolBox::new(alloc, PoolCall { pool, ask })?;
+    bare(Call::Pool(boxed), rest)
 }
 
 // The arguments of `pool_set_multiple`.
@@ -128,7 +134,8 @@ pub(crate) fn pool_set_multiple(alloc: Global, bytes: &[u8]) -> Result<(Effect, 
     let (pairs, rest) = own_pairs_argument(alloc, rest)?;
     let (ttl, rest) = own_ttl_argument(alloc, rest)?;
     let ask = set_many_ask(pairs, ttl);
-    bare(Call::Pool(PoolCall { pool, ask }), rest)
+    let boxed = PoolBox::new(alloc, PoolCall { pool, ask })?;
+    bare(Call::Pool(boxed), rest)
 }
 
 // The arguments of `pool_delete_multiple`.
@@ -141,7 +148,8 @@ pub(crate) fn pool_delete_multiple(alloc: Global, bytes: &[u8]) -> Result<(Effec
     let (pool, rest) = pool_name_argument(alloc, bytes)?;
     let (keys, rest) = own_keys_argument(alloc, rest)?;
     let ask = PoolAsk::DeleteMany(keys);
-    bare(Call::Pool(PoolCall { pool, ask }), rest)
+    let boxed = PoolBox::new(alloc, PoolCall { pool, ask })?;
+    bare(Call::Pool(boxed), rest)
 }
 
 // The arguments of `pool_has`.
@@ -154,5 +162,6 @@ pub(crate) fn pool_has(alloc: Global, bytes: &[u8]) -> Result<(Effect, &[u8]), S
     let (pool, rest) = pool_name_argument(alloc, bytes)?;
     let (key, rest) = own_key_argument(alloc, rest)?;
     let ask = PoolAsk::Has(key);
-    bare(Call::Pool(PoolCall { pool, ask }), rest)
+    let boxed = PoolBox::new(alloc, PoolCall { pool, ask })?;
+    bare(Call::Pool(boxed), rest)
 }

@@ -64,7 +64,8 @@ type Row = (&'static [u8], Asked, u64);
 fn expect_call(rt: &impl Abort, alloc: Global, call: &Call, row: Row) -> Result<(), Fail> {
     assert_eq!(rt; call.events(32), row.2);
     match call {
-        Call::Pool(call) => {
+        Call::Pool(boxed) => {
+            let call = boxed.call();
             assert_eq!(rt; call.pool.as_slice(), row.0);
             let same = is_ask(alloc, row.1, &call.ask)?;
             assert!(rt; same);

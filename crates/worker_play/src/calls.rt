@@ -123,9 +123,12 @@ pub(crate) fn play_call<N: TableName, G: Gate, R: Wait>(
         Call::Walk { .. } | Call::WalkDelete { .. } | Call::Totals { .. } => play_searching(
             rt, alloc, shared, gate, index, slots, pass, call, search, t, out,
         ),
-        Call::Pool(call) => play_pool(
-            rt, alloc, shared, gate, index, slots, pass, call, search, t, out,
-        ),
+        Call::Pool(boxed) => {
+            let call = boxed.call();
+            play_pool(
+                rt, alloc, shared, gate, index, slots, pass, call, search, t, out,
+            )
+        }
     }
 }
 

@@ -1,7 +1,9 @@
-use Rattle.std.proofs.Common.{[]}
+use Rattle.std.proofs.Common.{[], ap, sym}
 use Rattle.std.proofs.lemmas.Result.{err_from_is_err_and}
+use Rattle.script_read.specs.declared.call.Call.TheVariants.{Pool}
+use Rattle.script_read.proofs.ReadCalls.{call_goes}
 use Rattle.script_read.proofs.PoolTableRows.{pool_clear_is}
-use Rattle.script_read.proofs.TableRows.{fails, goes_on, moved}
+use Rattle.script_read.proofs.TableRows.{fails, goes_on}
 use Rattle.script_read.proofs.pools.pool_clear.Goals as goal
 
 pub returns-in_err-pool-clause-read : goal.returns-in_err-pool-clause-read
@@ -11,4 +13,4 @@ returns-in_err-pool-clause-read c = λ last.
 
 pub returns-clause-read : goal.returns-clause-read
 returns-clause-read c = λ last.
-    moved _ c.bare.result _ _ (goes_on _ _ _ _ (pool_clear_is last c.args.bytes.now) c.in_ok-pool.ensures.read) (c.bare.ensures.read [])
+    call_goes _ c.bare.result _ _ _ _ (goes_on _ _ _ _ (pool_clear_is last c.args.bytes.now) c.in_ok-pool.ensures.read) (c.bare.ensures.read []) (ap Pool (sym c.in_ok-boxed.ensures))

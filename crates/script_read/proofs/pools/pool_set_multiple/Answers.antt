@@ -1,4 +1,4 @@
-use Rattle.std.proofs.Common.{[], ap, sym}
+use Rattle.std.proofs.Common.{[], ap, sym, ◌∙◌}
 use Rattle.std.proofs.lemmas.Result.{err_from_is_err_and}
 use Rattle.simple_pool.specs.declared.call.PoolAsk.{PoolAsk}
 use Rattle.script_read.specs.declared.call.Call.TheVariants.{Pool}
@@ -24,4 +24,4 @@ returns-in_err-ttl-clause-read c = λ last.
 
 pub returns-clause-read : goal.returns-clause-read
 returns-clause-read c = λ last.
-    call_goes _ c.bare.result _ _ _ _ (goes_on _ _ _ _ (goes_on _ _ _ _ (goes_on _ _ _ _ (pool_set_multiple_is last c.args.bytes.now) c.in_ok-pool.ensures.read) c.in_ok-pairs.ensures.read) c.in_ok-ttl.ensures.read) (c.bare.ensures.read []) (ap (λ (ask : PoolAsk). Pool (record { pool = c.in_ok-pool.pool; ask = ask })) (sym c.set_many_ask-ask.ensures.is))
+    call_goes _ c.bare.result _ _ _ _ (goes_on _ _ _ _ (goes_on _ _ _ _ (goes_on _ _ _ _ (pool_set_multiple_is last c.args.bytes.now) c.in_ok-pool.ensures.read) c.in_ok-pairs.ensures.read) c.in_ok-ttl.ensures.read) (c.bare.ensures.read []) (ap (λ (ask : PoolAsk). Pool (record { pool = c.in_ok-pool.pool; ask = ask })) (sym c.set_many_ask-ask.ensures.is) ∙ ap Pool (sym c.in_ok-boxed.ensures))

@@ -2,7 +2,7 @@ use Rattle.std.proofs.Common.{◌≡◌, ◌<◌, ◌++◌, refl, sym, ap, subst
 use Rattle.script_read.specs.declared.call.Call.{Call}
 use Rattle.script_read.specs.Calls.{HasRanges, event_bound}
 use Rattle.script_read.specs.Patterns.{call_pattern}
-use Rattle.script_read.specs.declared.call.Call.TheVariants.{StoreMany, FetchMany, ExistsMany, DeleteMany, Enabled}
+use Rattle.script_read.specs.declared.call.Call.TheVariants.{StoreMany, FetchMany, ExistsMany, DeleteMany, Enabled, Pool}
 use Rattle.worker_play.proofs.PassProgress.{nothing_asked, nothing_made, on_ok, of_if_ok}
 use Rattle.worker_play.proofs.CallForms.{call_asks, call_tells, told_once}
 use Rattle.worker_play.proofs.calls.play_call.Goals as goal
@@ -79,13 +79,13 @@ pub play_pool-requires-clause-slots : goal.play_pool-requires-clause-slots
 play_pool-requires-clause-slots g c = c.requires.slots
 
 pub play_pool-requires-clause-left : goal.play_pool-requires-clause-left
-play_pool-requires-clause-left g c = subst (λ (call : Call). event_bound g.N.TableName.conf.slots call < c.args.pass.known.left) c.in-Pool.is c.requires.left
+play_pool-requires-clause-left g c = subst (λ (call : Call). event_bound g.N.TableName.conf.slots call < c.args.pass.known.left) (c.in-Pool.is ∙ ap Pool (sym c.call-call.ensures)) c.requires.left
 
 pub play_pool-requires-clause-good : goal.play_pool-requires-clause-good
-play_pool-requires-clause-good g c = subst HasRanges c.in-Pool.is c.requires.ranges
+play_pool-requires-clause-good g c = subst HasRanges (c.in-Pool.is ∙ ap Pool (sym c.call-call.ensures)) c.requires.ranges
 
 pub play_pool-requires-clause-search : goal.play_pool-requires-clause-search
-play_pool-requires-clause-search g c = c.requires.search ∙ ap call_pattern c.in-Pool.is
+play_pool-requires-clause-search g c = c.requires.search ∙ ap call_pattern (c.in-Pool.is ∙ ap Pool (sym c.call-call.ensures))
 
 -- ---- one event
 
@@ -130,10 +130,10 @@ returns-in-DeleteMany-clause-line g c = on_ok c.delete_all.result.1 (λ told. ca
 -- ---- a pool
 
 pub returns-in-Pool-clause-reaches : goal.returns-in-Pool-clause-reaches
-returns-in-Pool-clause-reaches g c = call_asks _ _ _ _ _ _ _ c.in-Pool.is c.play_pool.ensures.reaches
+returns-in-Pool-clause-reaches g c = call_asks _ _ _ _ _ _ _ (c.in-Pool.is ∙ ap Pool (sym c.call-call.ensures)) c.play_pool.ensures.reaches
 
 pub returns-in-Pool-clause-line : goal.returns-in-Pool-clause-line
-returns-in-Pool-clause-line g c = on_ok c.play_pool.result.1 (λ told. call_tells _ _ _ _ _ _ _ _ _ c.in-Pool.is told) c.play_pool.ensures.line
+returns-in-Pool-clause-line g c = on_ok c.play_pool.result.1 (λ told. call_tells _ _ _ _ _ _ _ _ _ (c.in-Pool.is ∙ ap Pool (sym c.call-call.ensures)) told) c.play_pool.ensures.line
 
 -- ---- no event
 
