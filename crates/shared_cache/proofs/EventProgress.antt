@@ -22,7 +22,7 @@ use Rattle.pin_table.specs.Values.{WriterView, PassView}
 use Rattle.pin_table.specs.Order.{StateInOrder}
 use Rattle.pin_table.specs.Events.{event, events_of}
 use Rattle.pin_table.specs.Views.{with_hand, taken_in, aside_of}
-use Rattle.pin_table.specs.WriterRest.{beside}
+use Rattle.pin_table.specs.WriterRest.{rest_of}
 use Rattle.shared_cache.specs.Laws.{LockLaws}
 use Rattle.shared_cache.specs.LockInvariant.{Settled}
 use Rattle.shared_cache.specs.UnderLock.{WritesOn, AtWork}
@@ -52,7 +52,7 @@ pub none_refused : (t : TableId) (s : WriterView) (p : PassView) (w : Writer) �
 none_refused t s p w took b = ap (λ (x : WriterState). has b (aside_of x).refused) took.state
 
 -- a call of the core leaves what is beside the words
-pub writes_on : {first w : Writer} → beside w ≡ beside first → WritesOn first w
+pub writes_on : {first w : Writer} → rest_of w ≡ rest_of first → WritesOn first w
 writes_on rest = record {
   worker = ap (λ (b : WriterRest). b.worker) rest;
   left = ap (λ (b : WriterRest). b.left) rest;

@@ -28,7 +28,7 @@ use Rattle.pin_table.specs.declared.writer.Writer.{Writer}
 use Rattle.pin_table.specs.Values.{WriterView, PassView}
 use Rattle.pin_table.specs.Events.{events_of}
 use Rattle.pin_table.specs.Views.{with_hand, in_hand}
-use Rattle.pin_table.specs.WriterRest.{beside}
+use Rattle.pin_table.specs.WriterRest.{rest_of}
 use Rattle.shared_cache.specs.Laws.{LockLaws}
 use Rattle.shared_cache.specs.LockInvariant.{Settled}
 use Rattle.shared_cache.specs.Follows.{FollowsEntry}
@@ -85,7 +85,7 @@ module _ (t : TableId) (conf : Conf) (budgets : List ℕ) (j : Marks) (w : Write
 
 -- a writer of which only words, and what it met, have changed since it took the pass
 abbrev pub at_work : {t : TableId} {conf : Conf} {budgets : List ℕ} {s : WriterView} {c : Core} {j : Marks} {p : PassView} {first w : Writer} → Taken t conf budgets s c j p first
-    → beside w ≡ beside first → AtWork t conf budgets j w
+    → rest_of w ≡ rest_of first → AtWork t conf budgets j w
 at_work {s} {c} {p} {first} took rest = record { seat = s; core = c; pass = p; first = first; taken = took; writes_on = writes_on rest }
 
 -- a writer that goes on is at work still
