@@ -59,7 +59,7 @@ fn printed_of(alloc: Global, played: Played) -> Result<Printed, AllocError>
         },
     ) = left
     {
-        map_text(alloc, &mut core, &mut words, &mut rest)?;
+        map_text(&mut core, &mut words, &mut rest)?;
     }
     Ok(Printed {
         texts,

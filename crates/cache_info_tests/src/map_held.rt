@@ -117,8 +117,8 @@ impl Held {
         answer == StoreAnswer::Stored
     }
 
-    fn map(&mut self, alloc: Global, out: &mut ByteOut) -> Result<(), AllocError> {
-        map_text(alloc, &mut self.core, &mut self.words, out)
+    fn map(&mut self, out: &mut ByteOut) -> Result<(), AllocError> {
+        map_text(&mut self.core, &mut self.words, out)
     }
 
     fn fits_of_16(&mut self) -> u32 {
@@ -161,7 +161,7 @@ fn tells(rt: &impl Abort, alloc: Global, acts: &[Act], map: &str, fits: u32) -> 
         assert!(rt; is_done(rt, alloc, &mut held, *act)?);
     }
     let mut out = ByteOut::new(alloc);
-    held.map(alloc, &mut out)?;
+    held.map(&mut out)?;
     assert!(rt; out.as_slice() == map.as_bytes());
     assert_eq!(rt; held.fits_of_16(), fits);
     Ok(())

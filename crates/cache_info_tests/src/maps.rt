@@ -42,7 +42,7 @@ fn tells(
     let mut small = Small::new(alloc, conf)?;
     play(rt, alloc, &mut small, acts)?;
     let mut out = ByteOut::new(alloc);
-    small.map(alloc, &mut out)?;
+    small.map(&mut out)?;
     assert!(rt; out.as_slice() == map.as_bytes());
     assert_eq!(rt; small.fits_of_16(), fits);
     Ok(())

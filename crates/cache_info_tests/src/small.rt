@@ -109,8 +109,8 @@ impl Small {
         self.core.delete(&mut self.words, &[key], 0)
     }
 
-    pub(crate) fn map(&mut self, alloc: Global, out: &mut ByteOut) -> Result<(), AllocError> {
-        map_text(alloc, &mut self.core, &mut self.words, out)
+    pub(crate) fn map(&mut self, out: &mut ByteOut) -> Result<(), AllocError> {
+        map_text(&mut self.core, &mut self.words, out)
     }
 
     pub(crate) fn fits_of_16(&mut self) -> u32 {

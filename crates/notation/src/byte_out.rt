@@ -60,8 +60,8 @@ impl ByteOut {
         bytes
     }
 
-    // The allocator of the bytes.
-    pub(crate) fn alloc(&self) -> Global {
+    /// The allocator of the bytes, for one that writes them and needs memory of its own for it.
+    pub fn alloc(&self) -> Global {
         *self.bytes.allocator()
     }
 

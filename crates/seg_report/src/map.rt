@@ -18,11 +18,10 @@ use std::alloc::{AllocError, Global};
 /// Appends the map of the cache's words: the line `map`, a line for the block of each row and each
 /// removed row and for each run of free words by rising place, all in words, and what the free runs
 /// come to. No window may be open. Without memory `out` stays as it was; nothing else changes
-/// either way.
+/// either way. Keys are read into memory of `out`'s allocator.
 ///
 /// It takes as long as there are slots, blocks and gaps, and a sort of the removed rows.
 pub fn map_text<S: Segment>(
-    alloc: Global,
     core: &mut Core,
     seg: &mut S,
     out: &mut ByteOut,
@@ -36,7 +35,7 @@ pub fn map_text<S: Segment>(
     ensures same { IsUnchanged S.WordsIn core.old core.new seg.old seg.new }
 {
     let before = out.as_slice().len();
-    match put_map(alloc, core, seg, out) {
+    match put_map(out.alloc(), core, seg, out) {
         Ok(()) => Ok(()),
         Err(fault) => {
             out.cut(before);

@@ -75,7 +75,7 @@ fn leaves_the_cache_that_was_played(rt: HostRuntime) -> Result<(), Fail> {
     assert_eq!(rt; core.counts(), counts);
     assert_eq!(rt; closed.journal.len(), 6);
     let mut out = ByteOut::new(alloc);
-    map_text(alloc, &mut core, &mut words, &mut out)?;
+    map_text(&mut core, &mut words, &mut out)?;
     assert!(rt; out.as_slice() == MAP);
     Ok(())
 }
