@@ -12,10 +12,10 @@ mod items;
 mod journal;
 mod keys;
 mod laws;
-mod row_info;
 mod pairs;
 mod plain;
 mod request;
+mod row_info;
 mod rows;
 mod searching;
 mod state;
@@ -33,9 +33,9 @@ pub use laws::{
     count_laws, events_keep, held_alike, numbered, one_event_more, rows_keep_numbers,
     rows_stay_apart, works_alone,
 };
-pub use row_info::{Counts, ListedRow, RowInfo};
 pub use pairs::Pairs;
 pub use plain::Plain;
 pub use request::{Event, Reply, Request, StoreAnswer};
+pub use row_info::{Counts, ListedRow, RowInfo};
 pub use searching::{Fields, List, Pattern};
 pub use tables::{tell_cache, tell_counts, tell_gaps, tell_key, tell_words};

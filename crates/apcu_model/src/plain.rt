@@ -9,8 +9,8 @@ ghost use Rattle.apcu_model.specs.declared.request.Reply.TheVariants.{Flag, Foun
 ghost use Rattle.apcu_model.specs.Sequential.{number_reply};
 
 use crate::conf::Conf;
-use crate::row_info::Counts;
 use crate::request::{Reply, Request};
+use crate::row_info::Counts;
 use crate::state::State;
 use php_graph::{Bytes, Graph};
 use std::alloc::{AllocError, Global};

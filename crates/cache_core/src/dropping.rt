@@ -6,8 +6,8 @@ ghost use Rattle.apcu_model.specs.declared.request.Reply.TheVariants.{Flag};
 ghost use Rattle.cache_core.specs.Events.{MayDrop, Does, IsUnchanged};
 
 use crate::cache::Core;
-use crate::lower::lower_laws;
 use crate::cache_counts::CacheCounts;
+use crate::lower::lower_laws;
 use seg_words::Segment;
 use ttl_expunge::{drop_row_at, expunge_at_once};
 

@@ -7,15 +7,15 @@
 #![tactic(auto)]
 
 mod cache;
+mod cache_counts;
+mod counting;
 mod dropping;
 mod integers;
 mod looking;
 mod lower;
-mod counting;
 mod placing;
 mod scalar;
 mod storing;
-mod cache_counts;
 
 pub use cache::Core;
 pub use scalar::{Look, Scalar};

@@ -16,7 +16,7 @@ ghost use Rattle.php_graph.specs.BuilderState.{IsNewKind};
 use crate::bytes::Bytes;
 use crate::child::Child;
 use crate::container::Container;
-use crate::draft_steps::{attach, add_key_to_last, open_container, push_place};
+use crate::draft_steps::{add_key_to_last, attach, open_container, push_place};
 use crate::graph::Graph;
 use crate::item::{BuildFault, Item, Wants};
 use crate::key::Key;

@@ -28,5 +28,5 @@ pub use pass::{Ended, Pass};
 pub use passes::{EndedList, Passes};
 pub use rule::SharedWords;
 pub use table::{PinTable, WriterSeat};
-pub use views::{EventLog, WriterState, Known, Reader, Start, View};
-pub use writer::{WriterRest, Writer};
+pub use views::{EventLog, Known, Reader, Start, View, WriterState};
+pub use writer::{Writer, WriterRest};

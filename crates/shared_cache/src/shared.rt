@@ -17,7 +17,7 @@ ghost use Rattle.pin_table.specs.Lists.{AllOf, known_list};
 ghost use Rattle.pin_table.specs.Views.{is_among};
 ghost use Rattle.shared_cache.specs.ClosedCaches.{IsClosed, IsClosedWhole};
 
-use crate::locked_cache::{LockedCache, Closed, Pinned};
+use crate::locked_cache::{Closed, LockedCache, Pinned};
 use crate::texts::{write_copy, write_string};
 use cache_core::Core;
 use counter_entry::IncAnswer;
