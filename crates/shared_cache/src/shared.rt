@@ -328,8 +328,8 @@ impl<N: TableName> Shared<N> {
     }
 
     /// Gives the journal and the counts, once every worker has ended: `ended` has the end of each,
-    /// in any order, which a caller has to prove. It waits for nobody, takes no memory, and copies no
-    /// word of the cache.
+    /// in any order, which a caller has to prove. It waits for nobody, takes no memory, and copies
+    /// no word of the cache.
     pub fn close<R: Wait>(self, rt: &R, ended: EndedList) -> Closed
         requires table { AllOf N.table ended.ended }
         requires every { (w : ℕ) → w < length N.budgets
