@@ -50,7 +50,7 @@ pub(crate) fn play_step<N: TableName, M: Maker, G: Gate, R: Wait>(
     shared: &Shared<N>,
     maker: &M,
     gate: &G,
-    number: u32,
+    index: u32,
     slots: u32,
     pass: Pass,
     call: &Call,
@@ -70,7 +70,7 @@ pub(crate) fn play_step<N: TableName, M: Maker, G: Gate, R: Wait>(
     ensures pattern { IfErr result.1 (λ fault. fault ≡ Pattern
         → MayBeRefused (M.may_refuse maker.now) (call_pattern call.now)) }
 {
-    gate.reached(pass.worker(), Point::Before(number));
+    gate.reached(pass.worker(), Point::Before(index));
     let mut search = match search_of(alloc, maker, call) {
         Ok(search) => search,
         Err(fault) => return (pass, Err(fault)),
@@ -80,7 +80,7 @@ pub(crate) fn play_step<N: TableName, M: Maker, G: Gate, R: Wait>(
         alloc,
         shared,
         gate,
-        number,
+        index,
         slots,
         pass,
         call,
@@ -91,7 +91,7 @@ pub(crate) fn play_step<N: TableName, M: Maker, G: Gate, R: Wait>(
     match played {
         Ok(()) => {
             let ended = end_line(out);
-            gate.reached(pass.worker(), Point::After(number));
+            gate.reached(pass.worker(), Point::After(index));
             (pass, ended)
         }
         Err(_) => (pass, Err(PlayFault::Memory)),
@@ -133,11 +133,11 @@ fn play_steps<N: TableName, M: Maker, G: Gate, R: Wait>(
         → HasRefusable (M.may_refuse maker.now) script.now) }
 {
     let mut held = pass;
-    for number in 0..script.len() {
-        let step = script.at(number);
+    for index in 0..script.len() {
+        let step = script.at(index);
         let t = step.moment(clock);
         let (next, played) = play_step(
-            rt, alloc, shared, maker, gate, number, slots, held, &step.call, t, out,
+            rt, alloc, shared, maker, gate, index, slots, held, &step.call, t, out,
         );
         held = next;
         if let Err(fault) = played {

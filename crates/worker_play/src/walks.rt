@@ -50,7 +50,7 @@ pub(crate) fn walk_active<N: TableName, G: Gate, R: Wait>(
     alloc: Global,
     shared: &Shared<N>,
     gate: &G,
-    number: u32,
+    index: u32,
     slots: u32,
     pass: Pass,
     search: &mut Search,
@@ -79,7 +79,7 @@ pub(crate) fn walk_active<N: TableName, G: Gate, R: Wait>(
             alloc,
             shared,
             gate,
-            number,
+            index,
             held,
             search,
             from,
@@ -103,7 +103,7 @@ pub(crate) fn walk_deleted<N: TableName, G: Gate, R: Wait>(
     alloc: Global,
     shared: &Shared<N>,
     gate: &G,
-    number: u32,
+    index: u32,
     pass: Pass,
     search: &mut Search,
     size: u32,
@@ -125,7 +125,7 @@ pub(crate) fn walk_deleted<N: TableName, G: Gate, R: Wait>(
         alloc,
         shared,
         gate,
-        number,
+        index,
         pass,
         search,
         0,
@@ -146,7 +146,7 @@ pub(crate) fn delete_found<N: TableName, G: Gate, R: Wait>(
     alloc: Global,
     shared: &Shared<N>,
     gate: &G,
-    number: u32,
+    index: u32,
     slots: u32,
     pass: Pass,
     search: &mut Search,
@@ -169,7 +169,7 @@ pub(crate) fn delete_found<N: TableName, G: Gate, R: Wait>(
     let mut from = 0;
     'deleting: while from < slots {
         let (next, deleted) = chunk_delete(
-            rt, alloc, shared, gate, number, held, search, from, size, t,
+            rt, alloc, shared, gate, index, held, search, from, size, t,
         );
         held = next;
         match deleted {

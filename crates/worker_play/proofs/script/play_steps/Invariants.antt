@@ -7,10 +7,10 @@ use Rattle.worker_play.specs.Turns.{turns_of}
 use Rattle.worker_play.proofs.PassProgress.{Midway}
 use Rattle.worker_play.proofs.script.play_steps.Given as goal
 
-abbrev pub invariant-loop-number : goal.invariant-loop-number
-invariant-loop-number g l =
+abbrev pub invariant-loop-index : goal.invariant-loop-index
+invariant-loop-index g l =
     let conf = g.N.TableName.conf in
-    let rest = drop l.number l.script in
+    let rest = drop l.index l.script in
     record {
       table : l.held.table ≡ g.N.TableName.table;
       whole : KnowsOwnEvents l.held;
