@@ -4,7 +4,7 @@ use Rattle.std.specs.Prelude.{IsSome, IfSome, is_some}
 use Rattle.seg_words.specs.declared.vec_words.VecWords.{VecWords}
 use Rattle.apcu_model.specs.declared.conf.Clock.{Clock}
 use Rattle.apcu_model.specs.declared.conf.Conf.{Conf}
-use Rattle.apcu_model.specs.declared.noted.Counts.{Counts}
+use Rattle.apcu_model.specs.declared.row_info.Counts.{Counts}
 use Rattle.apcu_model.specs.declared.journal.Mark.{Mark}
 use Rattle.cache_core.specs.declared.cache.Core.{Core}
 use Rattle.cache_core.specs.CoreCache.{cache_of}

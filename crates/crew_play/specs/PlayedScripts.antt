@@ -4,7 +4,7 @@ use Rattle.std.specs.List.{AllByRecursion}
 use Rattle.seg_words.specs.declared.vec_words.VecWords.{VecWords}
 use Rattle.seg_words.specs.contracts.vec_words.VecWordsWordsIn.TheImpl as held
 use Rattle.apcu_model.specs.declared.conf.Conf.{Conf}
-use Rattle.apcu_model.specs.declared.noted.Counts.{Counts}
+use Rattle.apcu_model.specs.declared.row_info.Counts.{Counts}
 use Rattle.apcu_model.specs.declared.journal.Mark.{Mark}
 use Rattle.apcu_model.specs.Cache.{counts_of}
 use Rattle.cache_core.specs.declared.cache.Core.{Core}
