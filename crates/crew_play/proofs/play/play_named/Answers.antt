@@ -1,5 +1,6 @@
 use Rattle.std.proofs.Common.{◌≡◌, ℕ, ◌+◌, ◌-◌, suc, List, length, map, sym, ap, subst, ◌∙◌, arith}
 use Rattle.std.proofs.lemmas.List.{length-map}
+use Rattle.std.proofs.lemmas.Result.{err_from_is_err_and}
 use Rattle.std.specs.Prelude.{Result, Ok, IfSome}
 use Rattle.worker_play.specs.declared.script.PlayFault.{PlayFault}
 use Rattle.apcu_model.specs.declared.conf.Conf.{Conf}
@@ -76,3 +77,8 @@ returns-clause-first g c = λ order.
     let last : suc (length scripts - 1) ≡ length (all_timed c.args.clock scripts) = omega (arith, seen, some) in
     come_first table conf (length g.N.TableName.budgets) (all_timed c.args.clock scripts) ended texts c.close-journal.result.0 (length scripts - 1) last
     (all_seen table conf c.args.clock scripts ended texts c.play_all-ended.ensures.all) first c.close-journal.ensures.closed
+
+pub returns-in_err-texts-clause-pattern : goal.returns-in_err-texts-clause-pattern
+returns-in_err-texts-clause-pattern g c =
+    let p = err_from_is_err_and c.from_residual.result c.from_residual.ensures.1 in
+    rw (p.1, p.2) (λ is. c.play_all-ended.ensures.pattern (c.in_err-texts.ensures.pattern is))
