@@ -1,7 +1,7 @@
 #!/usr/bin/env bash
 # Plays each case of docs/differences/ on PHP's APCu and on the program, and tells each that prints something else than
 # its folder says. Where several workers meet, what stands there is judged as an output of the case's script, and so is
-# what the program prints of it. The page that is made of the cases has to be up to date.
+# what the program prints of it. The page and the tests that are made of the cases have to be up to date.
 # Usage: bench/differences.sh [PROGRAM]; it needs php with apcu and pcntl.
 set -eu
 here=$(cd "$(dirname "${BASH_SOURCE[0]}")" && pwd)

@@ -1,7 +1,7 @@
 #!/usr/bin/env bash
-# That the pages are so: CLAIMS, READING, the tables of ARCHITECTURE and DIFFERENCES are what their scripts write, the
-# Rust lines and the clause that README shows stand in the sources, the commands of examples/README.md print what stands
-# there, and each case of DIFFERENCES prints on both sides what its folder says.
+# That the pages are so: CLAIMS, READING, the tables of ARCHITECTURE, and DIFFERENCES with the tests of its cases are
+# what their scripts write, the Rust lines and the clause that README shows stand in the sources, the commands of
+# examples/README.md print what stands there, and each case of DIFFERENCES prints on both sides what its folder says.
 # Usage: bench/pages.sh [PROGRAM]; it needs php with apcu and pcntl.
 set -u
 program=${1:+$(realpath "$1")}

@@ -1,7 +1,9 @@
 #!/usr/bin/env bash
 # Writes docs/DIFFERENCES.md: the frame docs/differences/page.md, with the table of all cases in place of its line
 # `{table}`, and the cases A to B of docs/differences/ in place of each line `{cases A to B}`. A case that breaks the
-# form, or stands in no section, is refused. With --check nothing is written, and a page that is another one is refused.
+# form, or stands in no section, is refused. Writes crates/apcu_play_tests/src/differences.rt too, the tests of the
+# cases that have a case.apcu. With --check nothing is written, and a page or a file of tests that is another one is
+# refused.
 # Usage: docs/differences.sh [--check]
 set -eu
 cd "$(dirname "${BASH_SOURCE[0]}")"
@@ -107,12 +109,137 @@ page() {
     }' [0-9]* page.md
 }
 
+# The tests of the cases, as `rt fmt` lays them out.
+tests() {
+    python3 - [0-9]* <<'PYTHON'
+import os, sys
+
+WIDTH = 100
+# The most bytes of an array of words that stands on one line.
+ARRAY = 60
+STATUS = {"usage": "Usage", "script": "Script", "pattern": "Pattern", "bundle": "Bundle"}
+
+
+def refuse(what):
+    sys.exit(f"differences.sh: {what}")
+
+
+def read(path):
+    return open(path, "rb").read()
+
+
+def escaped(byte):
+    if byte in b'"\\':
+        return "\\" + chr(byte)
+    if byte == ord("\n"):
+        return "\\n"
+    return chr(byte) if 32 <= byte < 127 else f"\\x{byte:02x}"
+
+
+def literal(head, text):
+    """A field with a string of bytes: a line for each of the text's, and more where one is too long."""
+    lines, margin = [], " " * 12
+    at = head + 'b"'
+    for line in text.splitlines(keepends=True) or [b""]:
+        # A space in front would be taken for a part of the margin.
+        atoms = [escaped(byte) for byte in line]
+        if atoms and atoms[0] == " " and lines:
+            atoms[0] = "\\x20"
+        while len(at) + sum(map(len, atoms)) + 2 > WIDTH:
+            room, fits, cut = WIDTH - 1 - len(at), 0, 0
+            while fits + 1 < len(atoms) and len(atoms[fits]) <= room:
+                room -= len(atoms[fits])
+                fits += 1
+                if atoms[fits - 1] in ";{}" and atoms[fits] != " ":
+                    cut = fits
+            cut = cut or fits
+            lines.append(at + "".join(atoms[:cut]) + "\\")
+            at, atoms = margin, atoms[cut:]
+            if atoms[0] == " ":
+                atoms[0] = "\\x20"
+        lines.append(at + "".join(atoms) + "\\")
+        at = margin
+    return "\n".join(lines)[:-1] + '",\n'
+
+
+def array(words):
+    words = [f'"{word}"' for word in words]
+    line = ", ".join(words)
+    if len(line) <= ARRAY:
+        return f"&[{line}]"
+    return "&[\n" + "".join(f"            {word},\n" for word in words) + "        ]"
+
+
+def case(folder, status, shown):
+    number, _, _ = folder.partition("_")
+    title = read(f"{folder}/case.md").decode().split("\n")[0].removeprefix("# ")
+    options = read(f"{folder}/options").decode().split() if os.path.exists(f"{folder}/options") else []
+    return (f"    // {int(number)} {title}.\n    Shown {{\n        options: {array(options)},\n"
+            + literal("        script: ", read(f"{folder}/case.apcu")) + f"        status: Status::{status},\n"
+            + literal("        shown: ", shown) + "    },\n")
+
+
+by_text, by_verdict = "", ""
+for folder in sorted(sys.argv[1:], key=lambda name: int(name.partition("_")[0])):
+    if not os.path.exists(f"{folder}/case.apcu"):
+        continue
+    shown = read(f"{folder}/prints").split(b"\n")
+    if shown[-1]:
+        refuse(f"{folder}/prints: no line feed at the end")
+    program, _, message = shown[0].decode().partition(": ")
+    if program == "apcu_run":
+        reason = message.partition(":")[0]
+        if len(shown) > 2 or reason not in STATUS:
+            refuse(f"{folder}/prints: no such message")
+        by_text += case(folder, STATUS[reason], shown[0] + b"\n")
+    elif b"journal" not in shown:
+        by_text += case(folder, "Done", b"\n".join(shown))
+    else:
+        by_verdict += case(folder, "Done", b"\n".join(shown))
+
+written = f"""//! Written by `docs/differences.sh` from the cases of `docs/differences/` that have a `case.apcu`.
+
+use crate::shown::{{Shown, expect_outputs, expect_shown}};
+use apcu_play::Status;
+use std::test::Fail;
+
+// What they print stands there up to the journal, or they are refused as it stands there.
+const BY_TEXT: &[Shown] = &[
+{by_text}];
+
+// Their journal stands there, too. Where several workers meet it is up to the machine.
+const BY_VERDICT: &[Shown] = &[
+{by_verdict}];
+
+#[test]
+fn cases_by_their_text(rt: HostRuntime) -> Result<(), Fail> {{
+    expect_shown(&rt, rt.alloc(), BY_TEXT)
+}}
+
+#[test]
+fn cases_by_a_verdict(rt: HostRuntime) -> Result<(), Fail> {{
+    expect_outputs(&rt, rt.alloc(), BY_VERDICT)
+}}
+"""
+for line in written.split("\n"):
+    if len(line) > WIDTH or not line.isascii():
+        refuse(f"a line of the tests is too long, or not in ASCII: {line}")
+sys.stdout.write(written)
+PYTHON
+}
+
 cd differences
-written=$(mktemp)
-trap 'rm -f "$written"' EXIT
-page >"$written"
-if [ "${1:-}" = --check ]; then
-    cmp -s "$written" ../DIFFERENCES.md || { echo 'docs/DIFFERENCES.md is not what docs/differences.sh writes' >&2; exit 1; }
-else
-    cat "$written" >../DIFFERENCES.md
-fi
+scratch=$(mktemp -d)
+trap 'rm -rf "$scratch"' EXIT
+page >"$scratch/DIFFERENCES.md"
+tests >"$scratch/differences.rt"
+others=0
+for written in docs/DIFFERENCES.md crates/apcu_play_tests/src/differences.rt; do
+    if [ "${1:-}" != --check ]; then
+        cat "$scratch/${written##*/}" >"../../$written"
+    elif ! cmp -s "$scratch/${written##*/}" "../../$written"; then
+        echo "$written is not what docs/differences.sh writes" >&2
+        others=1
+    fi
+done
+exit "$others"

@@ -2,21 +2,17 @@
 #![tactic(auto)]
 
 #[cfg(test)]
-mod answers_that_differ;
-#[cfg(test)]
 mod calls;
 #[cfg(test)]
-mod calls_that_differ;
-#[cfg(test)]
 mod counting;
+#[cfg(test)]
+mod differences;
 #[cfg(test)]
 mod faults;
 #[cfg(test)]
 mod gates;
 #[cfg(test)]
 mod iterators;
-#[cfg(test)]
-mod iterators_that_differ;
 #[cfg(test)]
 mod laws;
 #[cfg(test)]

@@ -149,27 +149,3 @@ fn how_many_segments(rt: HostRuntime) -> Result<(), Fail> {
     }
     Ok(())
 }
-
-// The row of `docs/DIFFERENCES.md`.
-#[test]
-fn two_small_segments(rt: HostRuntime) -> Result<(), Fail> {
-    expect_lines(
-        &rt,
-        rt.alloc(),
-        &[
-            "--shm-size",
-            "512",
-            "--segments",
-            "2",
-            "--slots",
-            "2",
-            "--ttl",
-            "0",
-        ],
-        b"worker\napcu_sma_info b:0;\n",
-        b"a:4:{s:7:\"num_seg\";i:2;s:8:\"seg_size\";i:512;s:9:\"avail_mem\";i:1008;\
-        s:11:\"block_lists\";a:2:{i:0;a:1:{i:0;a:2:{s:4:\"size\";i:496;s:6:\"offset\";i:16;}}\
-        i:1;a:1:{i:0;a:2:{s:4:\"size\";i:512;s:6:\"offset\";i:0;}}}}\n",
-        2,
-    )
-}
