@@ -39,12 +39,12 @@ written_after false a b before mid after faults_before faults_mid faults_after w
 
 -- a message whose first part failed
 pub first_failed : (a b : List ℕ) (before after : Option (List ℕ)) (faults_before faults_after : ℕ) → WasWritten false a before after faults_before faults_after → TellsMessage (a ++ b) before after faults_before faults_after
-first_failed a b before after faults_before faults_after t = record { all = false; told = failed_first a b before after faults_before faults_after t }
+first_failed a b before after faults_before faults_after t = record { all = false; written = failed_first a b before after faults_before faults_after t }
 
 -- and one whose first part was written whole
 pub then_written : (a b : List ℕ) (before mid after : Option (List ℕ)) (faults_before faults_mid faults_after : ℕ) → WasWritten true a before mid faults_before faults_mid → TellsMessage b mid after faults_mid faults_after
     → TellsMessage (a ++ b) before after faults_before faults_after
-then_written a b before mid after faults_before faults_mid faults_after whole rest = record { all = rest.all; told = written_after rest.all a b before mid after faults_before faults_mid faults_after whole rest.told }
+then_written a b before mid after faults_before faults_mid faults_after whole rest = record { all = rest.all; written = written_after rest.all a b before mid after faults_before faults_mid faults_after whole rest.written }
 
 pub written_as : (all : Bool) (a b : List ℕ) (before after : Option (List ℕ)) (faults_before faults_after : ℕ) → a ≡ b → WasWritten all a before after faults_before faults_after → WasWritten all b before after faults_before faults_after
 written_as all a b before after faults_before faults_after same t = subst (λ (l : List ℕ). WasWritten all l before after faults_before faults_after) same t

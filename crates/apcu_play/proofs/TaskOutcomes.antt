@@ -164,10 +164,10 @@ pub told_refusal : (told : Option Settings) (input : Sourced) (ending : Ending) 
     → (ending.status ≡ Script → TellsMessage (script_message ending.place ending.reason) held_before held_after faults_before faults_after)
     → IfSome told (λ s. ending.status ≡ Script → TellsRefusal s.task input.before input.after held_before held_after faults_before faults_after)
 told_refusal None input ending held_before held_after faults_before faults_after at told = tt
-told_refusal (Some s) input ending held_before held_after faults_before faults_after at told = λ is. record { place = ending.place; reason = ending.reason; refused = at is; told = told is }
+told_refusal (Some s) input ending held_before held_after faults_before faults_after at told = λ is. record { place = ending.place; reason = ending.reason; refused = at is; written = told is }
 
 pub told_unloaded : (told : Option Settings) (input : Sourced) (ending : Ending) (held_before held_after : Option (List ℕ)) (faults_before faults_after : ℕ) → IfSome told (λ s. ending.status ≡ Bundle → IsUnloadedAt s.task input.before input.after ending.place ending.reason)
     → (ending.status ≡ Bundle → TellsMessage (bundle_message ending.place ending.reason) held_before held_after faults_before faults_after)
     → IfSome told (λ s. ending.status ≡ Bundle → TellsUnloaded s.task input.before input.after held_before held_after faults_before faults_after)
 told_unloaded None input ending held_before held_after faults_before faults_after at told = tt
-told_unloaded (Some s) input ending held_before held_after faults_before faults_after at told = λ is. record { place = ending.place; reason = ending.reason; unloaded = at is; told = told is }
+told_unloaded (Some s) input ending held_before held_after faults_before faults_after at told = λ is. record { place = ending.place; reason = ending.reason; unloaded = at is; written = told is }

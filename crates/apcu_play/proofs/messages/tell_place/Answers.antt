@@ -16,4 +16,4 @@ pub returns : goal.returns
 returns g c =
     then_written (c.args.begins.now) (decimal c.args.place ++ reason_text c.args.reason) _ _ _ _ _ _ c.if-not-write_text.ensures
     (then_written (decimal c.args.place) (reason_text c.args.reason) _ _ _ _ _ _ (written_as true c.as_bytes.result.now (decimal c.args.place) _ _ _ _ (c.as_bytes.ensures.value ∙ c.format.ensures.text) c.if-not-write_text-2.ensures)
-    (record { all = c.write_text-all.result; told = written_as c.write_text-all.result c.ending_of.result.now (reason_text c.args.reason) _ _ _ _ c.ending_of.ensures c.write_text-all.ensures }))
+    (record { all = c.write_text-all.result; written = written_as c.write_text-all.result c.ending_of.result.now (reason_text c.args.reason) _ _ _ _ c.ending_of.ensures c.write_text-all.ensures }))

@@ -5,7 +5,7 @@ use Rattle.apcu_play.proofs.running.outcome.Goals as goal
 
 pub returns-in-Ok : goal.returns-in-Ok
 returns-in-Ok g c =
-    ended_for _ (settings_of c.args.words.now) c.in-Ok.settings _ _ c.outcome_on.result c.in-Ok.ensures.message c.outcome_on.ensures.ending c.outcome_on.ensures.within c.outcome_on.ensures.unread
+    ended_for _ (settings_of c.args.words.now) c.in-Ok.settings _ _ c.outcome_on.result c.in-Ok.ensures.settings c.outcome_on.ensures.ending c.outcome_on.ensures.within c.outcome_on.ensures.unread
 
 pub returns-in-Err-Usage : goal.returns-in-Err-Usage
 returns-in-Err-Usage g c = ended_for_usage _ (settings_of c.args.words.now) _ _ _ _ c.of.result c.of.ensures (c.in-Err-Usage.ensures.usage (search rules))
