@@ -1,3 +1,3 @@
 mod OpenWindows
 mod TwoHeldBlocks
-mod Windows
+mod WindowFacts

@@ -1,5 +1,5 @@
 use Rattle.seg_words.specs.contracts.held_words.HeldWordsWordsIn.TheImpl.{ghosts}
-use Rattle.cache_info_tests.proofs.Windows.{free_begun}
+use Rattle.cache_info_tests.proofs.WindowFacts.{free_begun}
 use Rattle.cache_info_tests.proofs.map_held.begin_free.Goals as goal
 
 pub returns-clause-rests : goal.returns-clause-rests

@@ -1,5 +1,5 @@
 use Rattle.seg_words.specs.contracts.held_words.HeldWordsWordsIn.TheImpl.{ghosts}
-use Rattle.cache_info_tests.proofs.Windows.{held_begun}
+use Rattle.cache_info_tests.proofs.WindowFacts.{held_begun}
 use Rattle.cache_info_tests.proofs.map_held.begin_held.Goals as goal
 
 pub returns-clause-stand : goal.returns-clause-stand
