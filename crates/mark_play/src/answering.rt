@@ -57,7 +57,7 @@ fn number(answer: IncAnswer) -> Reply
 }
 
 // What is told of a row, if one was found.
-fn told(info: Option<Graph>) -> Reply
+fn reply_of_info(info: Option<Graph>) -> Reply
     ensures { result ≡ info_reply info }
 {
     match info {
@@ -184,7 +184,7 @@ pub(crate) fn answer<S: Segment>(
         }
         Ask::KeyInfo(key) => {
             let info = key_info(alloc, core, seg, key, t)?;
-            Ok((told(info), None))
+            Ok((reply_of_info(info), None))
         }
         Ask::CacheInfo(limited) => {
             let info = cache_info(alloc, core, seg, limited)?;
