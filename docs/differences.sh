@@ -1,9 +1,9 @@
 #!/usr/bin/env bash
 # Writes docs/DIFFERENCES.md: the frame docs/differences/page.md, with the table of all cases in place of its line
 # `{table}`, and the cases A to B of docs/differences/ in place of each line `{cases A to B}`. A case that breaks the
-# form, or stands in no section, is refused. Writes crates/apcu_play_tests/src/differences.rt too, the tests of the
-# cases that have a case.apcu. With --check nothing is written, and a page or a file of tests that is another one is
-# refused.
+# form, or stands in no section, is refused. Writes the tables of crates/apcu_play_tests/src/differences/ too, of the
+# cases that have a case.apcu, for the tests in differences.rt beside them. With --check nothing is written, and a page
+# or a table that is another one is refused.
 # Usage: docs/differences.sh [--check]
 set -eu
 cd "$(dirname "${BASH_SOURCE[0]}")"
@@ -109,9 +109,9 @@ page() {
     }' [0-9]* page.md
 }
 
-# The tests of the cases, as `rt fmt` lays them out.
-tests() {
-    python3 - [0-9]* <<'PYTHON'
+# The tables of the cases for the tests, as `rt fmt` lays them out, as files of this folder.
+tables() {
+    python3 - "$1" [0-9]* <<'PYTHON'
 import os, sys
 
 WIDTH = 100
@@ -179,8 +179,8 @@ def case(folder, status, shown):
             + literal("        shown: ", shown) + "    },\n")
 
 
-by_text, by_verdict = "", ""
-for folder in sorted(sys.argv[1:], key=lambda name: int(name.partition("_")[0])):
+tables = {"refused": "", "usual": "", "optioned": "", "journals": ""}
+for folder in sorted(sys.argv[2:], key=lambda name: int(name.partition("_")[0])):
     if not os.path.exists(f"{folder}/case.apcu"):
         continue
     shown = read(f"{folder}/prints").split(b"\n")
@@ -191,40 +191,33 @@ for folder in sorted(sys.argv[1:], key=lambda name: int(name.partition("_")[0]))
         reason = message.partition(":")[0]
         if len(shown) > 2 or reason not in STATUS:
             refuse(f"{folder}/prints: no such message")
-        by_text += case(folder, STATUS[reason], shown[0] + b"\n")
-    elif b"journal" not in shown:
-        by_text += case(folder, "Done", b"\n".join(shown))
+        tables["refused"] += case(folder, STATUS[reason], shown[0] + b"\n")
+    elif b"journal" in shown:
+        tables["journals"] += case(folder, "Done", b"\n".join(shown))
     else:
-        by_verdict += case(folder, "Done", b"\n".join(shown))
+        table = "optioned" if os.path.exists(f"{folder}/options") else "usual"
+        tables[table] += case(folder, "Done", b"\n".join(shown))
 
-written = f"""//! Written by `docs/differences.sh` from the cases of `docs/differences/` that have a `case.apcu`.
+WHAT = {
+    "refused": "Scripts that are refused, and the message",
+    "usual": "Scripts and what they print before the journal",
+    "optioned": "Scripts with options, and what they print before the journal",
+    "journals": "Scripts and what they print with a journal, as it may be",
+}
+for table, cases in tables.items():
+    written = f"""//! {WHAT[table]}. `docs/differences.sh` writes them.
 
-use crate::shown::{{Shown, expect_outputs, expect_shown}};
+use crate::shown::Shown;
 use apcu_play::Status;
-use std::test::Fail;
 
-// What they print stands there up to the journal, or they are refused as it stands there.
-const BY_TEXT: &[Shown] = &[
-{by_text}];
-
-// Their journal stands there, too. Where several workers meet it is up to the machine.
-const BY_VERDICT: &[Shown] = &[
-{by_verdict}];
-
-#[test]
-fn cases_by_their_text(rt: HostRuntime) -> Result<(), Fail> {{
-    expect_shown(&rt, rt.alloc(), BY_TEXT)
-}}
-
-#[test]
-fn cases_by_a_verdict(rt: HostRuntime) -> Result<(), Fail> {{
-    expect_outputs(&rt, rt.alloc(), BY_VERDICT)
-}}
+pub const {table.upper()}: &[Shown] = &[
+{cases}];
 """
-for line in written.split("\n"):
-    if len(line) > WIDTH or not line.isascii():
-        refuse(f"a line of the tests is too long, or not in ASCII: {line}")
-sys.stdout.write(written)
+    for line in written.split("\n"):
+        if len(line) > WIDTH or not line.isascii():
+            refuse(f"a line of the tests is too long, or not in ASCII: {line}")
+    with open(f"{sys.argv[1]}/{table}.rt", "w") as file:
+        file.write(written)
 PYTHON
 }
 
@@ -232,9 +225,9 @@ cd differences
 scratch=$(mktemp -d)
 trap 'rm -rf "$scratch"' EXIT
 page >"$scratch/DIFFERENCES.md"
-tests >"$scratch/differences.rt"
+tables "$scratch"
 others=0
-for written in docs/DIFFERENCES.md crates/apcu_play_tests/src/differences.rt; do
+for written in docs/DIFFERENCES.md crates/apcu_play_tests/src/differences/{refused,usual,optioned,journals}.rt; do
     if [ "${1:-}" != --check ]; then
         cat "$scratch/${written##*/}" >"../../$written"
     elif ! cmp -s "$scratch/${written##*/}" "../../$written"; then
