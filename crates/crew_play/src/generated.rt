@@ -26,6 +26,7 @@ use script_read::{Scripts, generate, scripts_cross};
 use shared_cache::{Closed, Fresh, Shared, open_cache};
 use std::alloc::{AllocError, Global};
 use std::marker::Brand;
+use std::mem::forget;
 use std::sync::Wait;
 use std::thread::{Threads, join};
 use worker_play::{PlayFault, observe, play_out_quietly, play_quietly};
@@ -221,6 +222,8 @@ fn are_too_many(workers: u32, calls: u32) -> bool
 /// Nothing is made and nothing is played where the calls and the ends of all workers, and nine
 /// events more, are above 4,194,304: that is `TooMany`. A worker that finds no memory ends, the
 /// others play on, and the answer is `Memory`. No call has a pattern, so `Pattern` is no answer.
+///
+/// The memory of the scripts is not given back: the run is what a program makes, and ends with it.
 pub fn play_generated<M: Maker + Sync, G: Gate + Sync, R: Threads + Wait + Sync>(
     rt: &R,
     alloc: Global,
@@ -247,7 +250,13 @@ pub fn play_generated<M: Maker + Sync, G: Gate + Sync, R: Threads + Wait + Sync>
     let scripts = generate(alloc, seed, workers, calls)?;
     let budgets = budgets(alloc, workers, calls)?;
     match open_cache(rt, alloc, conf, &budgets) {
-        Ok(fresh) => play_watched::<Brand, M, G, R>(rt, alloc, conf, fresh, &scripts, maker, gate),
+        Ok(fresh) => {
+            let watched = play_watched::<Brand, M, G, R>(
+                rt, alloc, conf, fresh, &scripts, maker, gate,
+            );
+            forget(scripts);
+            watched
+        }
         Err(_) => Err(CrewFault::Memory),
     }
 }

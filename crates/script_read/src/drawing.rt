@@ -10,7 +10,8 @@ ghost use Rattle.script_read.specs.GeneratedScripts.{generated};
 use crate::call::Call;
 use crate::script::{Script, Scripts, Step};
 use itoa::Buffer;
-use php_graph::{Builder, Bytes, Graph, Item};
+use php_graph::{Bytes, Graph, Kind};
+use seg_words::words_in;
 use std::alloc::{AllocError, Global};
 
 // The state behind one more number.
@@ -22,28 +23,28 @@ fn state_after(state: u64) -> u64
         .wrapping_add(1_442_695_040_888_963_407)
 }
 
-// The key of the n-th value of a worker.
-fn value_key(alloc: Global, worker: u64, n: u64) -> Result<Bytes, AllocError>
+// The key of the n-th value of a worker. It is gathered in `text`, whose memory serves all keys.
+fn value_key(alloc: Global, text: &mut Vec<u8>, worker: u64, n: u64) -> Result<Bytes, AllocError>
     ensures { IfOk result (λ key. key ≡ value_key worker n) }
 {
     let mut digits = Buffer::new();
-    let mut text = Vec::new(alloc);
+    text.clear();
     text.extend_from_slice(b"p")?;
     text.extend_from_slice(digits.format(worker).as_bytes())?;
     text.extend_from_slice(b".")?;
     text.extend_from_slice(digits.format(n).as_bytes())?;
-    Ok(Bytes::from_vec(text))
+    Bytes::of(alloc, text.as_slice())
 }
 
-// The key of the n-th counter.
-fn counter_key(alloc: Global, n: u64) -> Result<Bytes, AllocError>
+// The key of the n-th counter, gathered likewise.
+fn counter_key(alloc: Global, text: &mut Vec<u8>, n: u64) -> Result<Bytes, AllocError>
     ensures { IfOk result (λ key. key ≡ counter_key n) }
 {
     let mut digits = Buffer::new();
-    let mut text = Vec::new(alloc);
+    text.clear();
     text.extend_from_slice(b"c")?;
     text.extend_from_slice(digits.format(n).as_bytes())?;
-    Ok(Bytes::from_vec(text))
+    Bytes::of(alloc, text.as_slice())
 }
 
 // A string of so many bytes `x`.
@@ -52,31 +53,37 @@ fn string_of(alloc: Global, len: usize) -> Result<Graph, AllocError>
     ensures { IfOk result (λ graph. graph ≡ kinds.Str (replicate len 120) ∷ []) }
 {
     let bytes = Bytes::from_vec(Vec::from_elem(alloc, b'x', len)?);
-    let mut builder = Builder::new(alloc);
-    match builder.push(Item::Str(bytes)) {
-        Ok(()) => Ok(builder.seal()),
-        Err(_) => Err(AllocError),
-    }
+    let words = 1 + u64::from(words_in(bytes.as_slice().len() as u32));
+    Ok(Graph::from_places(Kind::Str(bytes), Vec::new(alloc), words))
 }
 
 // The call that a number means.
-fn call_of(alloc: Global, worker: u64, workers: u64, r: u64) -> Result<Call, AllocError>
+fn call_of(
+    alloc: Global,
+    text: &mut Vec<u8>,
+    worker: u64,
+    workers: u64,
+    r: u64,
+) -> Result<Call, AllocError>
     requires some { 0 < workers }
     ensures { IfOk result (λ call. call ≡ call_of worker (draw_of workers r)) }
 {
     match r % 4 {
         3 => Ok(Call::Inc {
-            key: counter_key(alloc, r / 4 % 8)?,
+            key: counter_key(alloc, text, r / 4 % 8)?,
             step: (r / 32 % 100) as i64,
             ttl: 0,
         }),
         2 => Ok(Call::StoreOne {
-            key: value_key(alloc, worker, r / 4 % 16)?,
+            key: value_key(alloc, text, worker, r / 4 % 16)?,
             value: string_of(alloc, (r / 64 % 200) as usize)?,
             ttl: 0,
             exclusive: false,
         }),
-        _ => Ok(Call::FetchOne(value_key(alloc, r / 64 % workers, r / 4 % 16)?)),
+        _ => {
+            let owner = r / 64 % workers;
+            Ok(Call::FetchOne(value_key(alloc, text, owner, r / 4 % 16)?))
+        }
     }
 }
 
@@ -94,10 +101,11 @@ fn script_of(
         script ≡ steps_of_draws worker (draws_from workers calls first)) }
 {
     let mut script = Script::new(alloc);
+    let mut text = Vec::new(alloc);
     let mut state = first;
     for _call in 0..calls {
         state = state_after(state);
-        let call = call_of(alloc, worker, workers, state >> 33)?;
+        let call = call_of(alloc, &mut text, worker, workers, state >> 33)?;
         script.push(Step {
             t: 0,
             start: 0,

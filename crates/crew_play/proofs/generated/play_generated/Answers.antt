@@ -6,15 +6,15 @@ use Rattle.crew_play.specs.GeneratedRuns.{HaveEnough, IsRun, IsWatched, summary_
 use Rattle.crew_play.proofs.GeneratedScripts.{budgets_counted, enough_drawn, without_nine, workers_counted}
 use Rattle.crew_play.proofs.generated.play_generated.Goals as goal
 
-pub play_watched-requires-clause-workers : goal.play_watched-requires-clause-workers
-play_watched-requires-clause-workers g c = λ κs within.
+pub play_watched-watched-requires-clause-workers : goal.play_watched-watched-requires-clause-workers
+play_watched-watched-requires-clause-workers g c = λ κs within.
     let budgets = c.in-Ok.ensures.budgets ∙ (c.deref.ensures.value ∙ c.in_ok-budgets.ensures) in
     ap (λ (l : List ℕ). length l) budgets
     ∙ (budgets_counted c.args.workers c.args.calls c.requires.some
     ∙ sym (ap (λ (l : List (List Step)). length l) c.in_ok-scripts.ensures ∙ workers_counted c.args.seed c.args.workers c.args.calls))
 
-pub play_watched-requires-clause-enough : goal.play_watched-requires-clause-enough
-play_watched-requires-clause-enough g c = λ κs within.
+pub play_watched-watched-requires-clause-enough : goal.play_watched-watched-requires-clause-enough
+play_watched-watched-requires-clause-enough g c = λ κs within.
     let slots = c.args.conf.now.slots in
     let budgets = c.in-Ok.ensures.budgets ∙ (c.deref.ensures.value ∙ c.in_ok-budgets.ensures) in
     subst (λ (l : List ℕ). HaveEnough slots l c.in_ok-scripts.scripts) (sym budgets)
@@ -32,5 +32,5 @@ returns-in-Ok-clause-watched g c =
       few = few;
       scripts_are = c.in_ok-scripts.ensures;
     } in
-    subst (λ n. IfOk c.play_watched.result (λ w. IsWatched c.args.conf.now c.args.seed n c.args.calls (summary_in w))) count
-    (c.play_watched.ensures.watched c.args.seed c.args.calls (subst (λ n. IsRun c.args.conf.now c.args.seed n c.args.calls scripts) (sym count) run))
+    subst (λ n. IfOk c.play_watched-watched.result (λ w. IsWatched c.args.conf.now c.args.seed n c.args.calls (summary_in w))) count
+    (c.play_watched-watched.ensures.watched c.args.seed c.args.calls (subst (λ n. IsRun c.args.conf.now c.args.seed n c.args.calls scripts) (sym count) run))
