@@ -83,34 +83,14 @@ module _ (held other : List ℕ) (same : AreAlike held other) where
 
   pub cache_alike : (t : ℕ) (r : Request) (c : Cache) → cache_after held t r c ≡ cache_after other t r c
   cache_alike t (request.Store key graph ttl exclusive) c = ap (λ (i : Insertion). i.cache) (inserted_alike key graph ttl exclusive t c)
-  cache_alike t (request.Fetch key) c = refl
-  cache_alike t (request.Exists key) c = refl
   cache_alike t (request.Delete key) c = deleted_alike key t c
   cache_alike t (request.Inc key step ttl) c = ap (λ (n : Count). n.cache) (count_alike key step ttl t c (live_row key t c))
-  cache_alike t (request.Cas key expect set) c = refl
   cache_alike t (request.Entry g) c = ap (λ (f : Filling). f.cache) (entered_alike g t c)
   cache_alike t request.Clear c = cleared_alike t c
-  cache_alike t (request.KeyInfo key) c = refl
-  cache_alike t (request.CacheInfo limited) c = refl
-  cache_alike t (request.SmaInfo limited) c = refl
-  cache_alike t (request.Chunk wanted from size list fields) c = refl
   cache_alike t (request.ChunkDelete wanted from size) c = dropped_alike t (chunk_rows wanted t c from size) c
-  cache_alike t (request.Totals wanted list) c = refl
-  cache_alike t request.Retire c = refl
+  cache_alike t _ c = refl
 
   pub reply_alike : (t : ℕ) (r : Request) (c : Cache) → reply_to held t r c ≡ reply_to other t r c
   reply_alike t (request.Store key graph ttl exclusive) c = ap (λ (i : Insertion). Flag (is_stored i.answer)) (inserted_alike key graph ttl exclusive t c)
-  reply_alike t (request.Fetch key) c = refl
-  reply_alike t (request.Exists key) c = refl
-  reply_alike t (request.Delete key) c = refl
   reply_alike t (request.Inc key step ttl) c = ap (λ (n : Count). number_reply n.number) (count_alike key step ttl t c (live_row key t c))
-  reply_alike t (request.Cas key expect set) c = refl
-  reply_alike t (request.Entry g) c = refl
-  reply_alike t request.Clear c = refl
-  reply_alike t (request.KeyInfo key) c = refl
-  reply_alike t (request.CacheInfo limited) c = refl
-  reply_alike t (request.SmaInfo limited) c = refl
-  reply_alike t (request.Chunk wanted from size list fields) c = refl
-  reply_alike t (request.ChunkDelete wanted from size) c = refl
-  reply_alike t (request.Totals wanted list) c = refl
-  reply_alike t request.Retire c = refl
+  reply_alike t _ c = refl

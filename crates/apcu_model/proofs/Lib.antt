@@ -14,4 +14,6 @@ mod TableValues
 mod ValueRuns
 mod RowsBySlot
 mod Gaps
+pub mod RequestSteps
+pub mod FirstMoment
 pub mod CacheInvariants

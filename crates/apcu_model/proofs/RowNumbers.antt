@@ -1,38 +1,32 @@
 -- The numbers of rows are all different, and one that is gone never comes back.
-use Rattle.std.proofs.Common.{◌≡◌, ℕ, ◌+◌, ◌-◌, ◌*◌, ◌^◌, ◌<◌, ◌≤◌, ◌&&◌, ◌⊎◌, inl, inr, Bool, true, not, if◌then◌else◌, List, [], ◌∷◌, ◌++◌, length, map, filter, Option, Some, None, refl, ap, sym, ◌∙◌, subst, arith, false}
-use Rattle.std.specs.Prelude.{ℤ, Contains, nat_lt, is_some}
-use Rattle.std.specs.List.{list_any, range_with_len}
-use Rattle.std.proofs.lemmas.Bool.{and_parts, leb-true}
+use Rattle.std.proofs.Common.{◌≡◌, ℕ, ◌+◌, ◌-◌, ◌*◌, ◌^◌, ◌<◌, ◌≤◌, ◌⊎◌, inl, inr, Bool, true, not, if◌then◌else◌, List, [], ◌∷◌, ◌++◌, length, map, filter, Option, Some, None, refl, ap, sym, ◌∙◌, subst, arith, false}
+use Rattle.std.specs.Prelude.{ℤ, Contains}
+use Rattle.std.specs.List.{list_any}
+use Rattle.std.proofs.lemmas.Bool.{and_parts}
 use Rattle.std.proofs.lemmas.List.Elements.{Contains-append_left, Contains-append_right, Contains-append_cases}
 use Rattle.php_graph.specs.declared.kind.Kind.{Kind}
 use Rattle.php_graph.specs.declared.kind.Kind.TheVariants as kinds
 use Rattle.php_graph.specs.Size.{block_size}
-use Rattle.apcu_model.specs.Conf.{most_of}
 use Rattle.apcu_model.specs.declared.conf.Conf.{Conf}
 use Rattle.apcu_model.specs.declared.request.Event.{Event}
 use Rattle.apcu_model.specs.declared.journal.TheConstants.{MOST_EVENTS}
 use Rattle.apcu_model.specs.declared.request.Request.{Request}
-use Rattle.apcu_model.specs.declared.searching.Pattern.{Pattern}
-use Rattle.apcu_model.specs.declared.request.Request.TheVariants as request
-use Rattle.apcu_model.specs.declared.request.StoreAnswer.TheVariants as answers
-use Rattle.apcu_model.specs.Cache.{Row, Cache, risen, has_key, gap_of}
+use Rattle.apcu_model.specs.Cache.{Row, Cache, risen, has_key}
 use Rattle.apcu_model.specs.Expiry.{is_expired, live_row}
 use Rattle.apcu_model.specs.SlotOrder.{is_in_slot, slot_of}
-use Rattle.apcu_model.specs.Change.{dropped, expired_in, is_among, left_of, deleted, cleared, with_room, with_row, placed, put_in, inserted}
-use Rattle.apcu_model.specs.Counters.{integer_in, with_integer, with_integer_at, integer_set, sum_of, counted_on, counted_at, is_integer, is_expected, swapped}
+use Rattle.apcu_model.specs.Change.{dropped, expired_in, is_among, left_of, swept, expunged, cleared, with_row, placed}
+use Rattle.apcu_model.specs.Counters.{integer_in, with_integer, with_integer_at, integer_set}
 use Rattle.apcu_model.specs.Rows.{are_apart, touched_at}
-use Rattle.apcu_model.specs.Levels.{EntryLevel, most_levels}
 use Rattle.apcu_model.specs.Lookups.{looked_up, touched}
-use Rattle.apcu_model.specs.Generators.{filled, given_by, missed_levels, looked_for}
-use Rattle.apcu_model.specs.Chunks.{chunk_dropped, chunk_end, chunk_rows, is_item, items_between, slot_items}
 use Rattle.apcu_model.specs.Sequential.{cache_after}
 use Rattle.apcu_model.specs.History.{Stage, start_of, is_scalar, is_shallow, are_shallow, held_places, after_event, after_events, stage_of}
+use Rattle.apcu_model.proofs.RequestSteps.{Steps, along, few_new, most_new}
 use Rattle.apcu_model.proofs.RowsApart.{are_apart-filter, are_apart-map, are_apart-with_row, touched_key}
 use Rattle.apcu_model.proofs.Scalars.{set_key}
 use Rattle.apcu_model.proofs.KeyLookups.{one_of_key}
 use Rattle.apcu_model.specs.Numbers.{AreBelow, IsIn, IsStill, KeepsNumbers}
-use Rattle.apcu_model.proofs.RowOrigins.{Sub, Was, still, still_on, still_back, sub_map, sub_refl, sub_trans, sub_if, sub_dropped, sub_deleted, sub_cleared, sub_room}
-use Rattle.seg_words.specs.Members.{Contains-cases, Contains-filter, none_in_nil, map_there, flat_there}
+use Rattle.apcu_model.proofs.RowOrigins.{Sub, Was, still, still_on, still_back, sub_map, sub_refl, sub_trans, sub_swept, sub_dropped, sub_expunged, sub_cleared}
+use Rattle.seg_words.specs.Members.{Contains-cases, Contains-filter, none_in_nil, map_there}
 
 pub record Numbers (c : Cache) : Type 0 where
   pub below : AreBelow c
@@ -141,16 +135,13 @@ sub_grown most c c' s n = record {
   old = λ r h l. s.from r h;
 }
 
-grown_put : (held key : List ℕ) (graph : List Kind) (ttl t n : ℕ) (c room : Cache) (place : Option ℕ) → Sub c room → Numbers c → c.next_number < 2 ^ 64 - 1 → Grown 1 c (put_in held key graph ttl t n room place).cache
-grown_put held key graph ttl t n c room None s num small = sub_grown 1 c room s num
-grown_put held key graph ttl t n c room (Some place) s num small = record {
-  numbers = numbers_placed held key graph ttl t n room place (numbers_sub c room s num) (omega (arith, small, s.next));
-  next = omega (arith, s.next);
-  more = omega (arith, s.next, small);
-  old = λ r h l. elim (placed_cases held key graph ttl t n room place r h) [
-    | inl e ↦ absurd (omega (arith, e.number, l, s.next))
-    | inr q ↦ let p = s.from q.0 q.1 in (p.0, p.1, still_on p.2 q.2)
-  ];
+-- one was
+grown_placed : (held key : List ℕ) (graph : List Kind) (ttl t n : ℕ) (c : Cache) (place : ℕ) → Numbers c → c.next_number < 2 ^ 64 - 1 → Grown 1 c (placed held key graph ttl t n c place)
+grown_placed held key graph ttl t n c place num small = record {
+  numbers = numbers_placed held key graph ttl t n c place num small;
+  next = omega arith;
+  more = omega (arith, small);
+  old = λ r h l. elim (placed_cases held key graph ttl t n c place r h) [ inl e ↦ absurd (omega (arith, e.number, l)) | inr q ↦ q ];
 }
 
 sub_looked : (key : List ℕ) (t : ℕ) (o : Option Row) (c : Cache) → Sub c (looked_up key t o c)
@@ -187,44 +178,8 @@ sub_set key n t c row live scalar keys = record {
 
 -- a value that is an integer is a scalar
 int_scalar : (g : List Kind) (n : ℤ) → integer_in g ≡ Some n → is_scalar g ≡ true
-int_scalar [] n e = absurd (cc e)
-int_scalar (kinds.Null ∷ ks) n e = absurd (cc e)
-int_scalar (kinds.Bool b ∷ ks) n e = absurd (cc e)
 int_scalar (kinds.Int m ∷ ks) n e = refl
-int_scalar (kinds.Str s ∷ ks) n e = absurd (cc e)
-int_scalar (kinds.Array ms ∷ ks) n e = absurd (cc e)
-int_scalar (kinds.Object class ps ∷ ks) n e = absurd (cc e)
-int_scalar (kinds.Same x ∷ ks) n e = absurd (cc e)
-
-sub_counted : (key : List ℕ) (step : ℤ) (t : ℕ) (c : Cache) (row : Row) → live_row key t c ≡ Some row → are_apart c.rows ≡ true → Sub c (counted_on key step t c (integer_in row.graph)).cache
-sub_counted key step t c row live keys = go (integer_in row.graph) refl
-  where
-    go : (o : Option ℤ) → integer_in row.graph ≡ o → Sub c (counted_on key step t c o).cache
-    go None e = sub_refl c
-    go (Some n) e = sub_set key (sum_of n step) t c row live (int_scalar row.graph n e) keys
-
-sub_swapped : (key : List ℕ) (expect set : ℤ) (t : ℕ) (c : Cache) → are_apart c.rows ≡ true → Sub c (swapped key expect set t c)
-sub_swapped key expect set t c keys = go (live_row key t c) refl
-  where
-    at_int : (row : Row) → live_row key t c ≡ Some row → (o : Option ℤ) → integer_in row.graph ≡ o → Sub c (if is_integer expect o then integer_set key set t c else c)
-    at_int row live None e = sub_refl c
-    at_int row live (Some n) e = sub_if (is_integer expect (Some n)) c (integer_set key set t c) c (sub_set key set t c row live (int_scalar row.graph n e) keys) (sub_refl c)
-
-    go : (o : Option Row) → live_row key t c ≡ o → Sub c (if is_expected expect o then integer_set key set t c else c)
-    go None live = sub_refl c
-    go (Some row) live = at_int row live (integer_in row.graph) refl
-
-grown_inserted : (held key : List ℕ) (graph : List Kind) (ttl : ℕ) (exclusive : Bool) (t : ℕ) (c : Cache) → Numbers c → c.next_number < 2 ^ 64 - 1 → Grown 1 c (inserted held key graph ttl exclusive t c).cache
-grown_inserted held key graph ttl exclusive t c num small = go (nat_lt (most_of c.conf) (block_size (length key) graph)) (exclusive && is_some (live_row key t c))
-  where
-    go : (a b : Bool) → Grown 1 c (if a then record { answer = answers.TooLarge; cache = c } else if b then record { answer = answers.Exists; cache = c } else put_in held key graph ttl t (block_size (length key) graph) (with_room held (block_size (length key) graph) t c) (gap_of (with_room held (block_size (length key) graph) t c) (block_size (length key) graph))).cache
-    go true b = sub_grown 1 c c (sub_refl c) num
-    go false true = sub_grown 1 c c (sub_refl c) num
-    go false false = grown_put held key graph ttl t (block_size (length key) graph) c (with_room held (block_size (length key) graph) t c) (gap_of (with_room held (block_size (length key) graph) t c) (block_size (length key) graph)) (sub_room held (block_size (length key) graph) t c) num small
-
-grown_counted : (held key : List ℕ) (step : ℤ) (ttl t : ℕ) (c : Cache) → Numbers c → c.next_number < 2 ^ 64 - 1 → (o : Option Row) → live_row key t c ≡ o → Grown 1 c (counted_at held key step ttl t c o).cache
-grown_counted held key step ttl t c num small (Some row) live = sub_grown 1 c (counted_on key step t c (integer_in row.graph)).cache (sub_counted key step t c row live num.keys) num
-grown_counted held key step ttl t c num small None live = grown_inserted held key (kinds.Int step ∷ []) ttl false t c num small
+int_scalar _ n e = absurd (cc e)
 
 -- more insertions after some
 grown_on : (m n : ℕ) (c d e : Cache) → Grown m c d → Grown n d e → Grown (m + n) c e
@@ -241,78 +196,29 @@ grown_on m n c d e f g = record {
 grown_most : (m n : ℕ) (c d : Cache) → m ≤ n → Grown m c d → Grown n c d
 grown_most m n c d l f = record { numbers = f.numbers; next = omega (arith, l, f.next); more = f.more; old = f.old }
 
-grown_filled : (held : List ℕ) (value : List Kind) (t : ℕ) (levels : List EntryLevel) (c : Cache) → Numbers c → c.next_number + length levels < 2 ^ 64 → Grown (length levels) c (filled held value t levels c).cache
-grown_filled held value t [] c num small = sub_grown 0 c c (sub_refl c) num
-grown_filled held value t (level ∷ levels) c num small =
-    let d = (filled held value t levels c).cache in
-    let inner = grown_filled held value t levels c num (omega (arith, small)) in
-    let outer = grown_inserted held level.key value level.ttl true t d inner.numbers (omega (arith, small, inner.next)) in
-    grown_most (length levels + 1) (length (level ∷ levels)) c (filled held value t (level ∷ levels) c).cache (omega arith)
-    (grown_on (length levels) 1 c d (filled held value t (level ∷ levels) c).cache inner outer)
+-- as far as the numbers last
+abbrev Grows : ℕ → Cache → Cache → Type 0
+Grows n c d = Numbers c → c.next_number + n < 2 ^ 64 → Grown n c d
 
-sub_looked_for : (levels : List EntryLevel) (t : ℕ) (c : Cache) → Sub c (looked_for levels t c)
-sub_looked_for [] t c = sub_refl c
-sub_looked_for (level ∷ levels) t c =
-    let row = live_row level.key t c in
-    let missed = looked_up level.key t None c in
-    sub_if (is_some row) c (looked_up level.key t row c) (looked_for levels t missed) (sub_looked level.key t row c)
-    (sub_trans c missed (looked_for levels t missed) (sub_looked level.key t None c) (sub_looked_for levels t missed))
-
-few_missed : (levels : List EntryLevel) (t : ℕ) (c : Cache) → length (missed_levels levels t c) ≤ length levels
-few_missed [] t c = omega arith
-few_missed (level ∷ levels) t c =
-    let rest = few_missed levels t c in
-    elim (is_some (live_row level.key t c)) as (λ b. length (if b then [] else level ∷ missed_levels levels t c) ≤ length (level ∷ levels)) [
-      | true ↦ omega arith
-      | false ↦ omega (arith, rest)
-    ]
-
-grown_entered : (held : List ℕ) (value : List Kind) (t : ℕ) (levels : List EntryLevel) (c : Cache) → Numbers c → c.next_number + 8 < 2 ^ 64 → length levels ≤ 8 → Grown 8 c (filled held value t (missed_levels levels t c) (looked_for levels t c)).cache
-grown_entered held value t levels c num small few =
-    let missed = missed_levels levels t c in
-    let looked = looked_for levels t c in
-    let s = sub_looked_for levels t c in
-    let less = few_missed levels t c in
-    let first = sub_grown 0 c looked s num in
-    let rest = grown_filled held value t missed looked first.numbers (omega (arith, small, few, less, s.next)) in
-    grown_most (0 + length missed) 8 c (filled held value t missed looked).cache (omega (arith, few, less))
-    (grown_on 0 (length missed) c looked (filled held value t missed looked).cache first rest)
-
--- the rows of an iterator's step are there
-chunk_there : (wanted : Option Pattern) (t : ℕ) (c : Cache) (from upto : ℕ) (row : Row) → Contains (items_between wanted t c from upto) row → Contains c.rows row
-chunk_there wanted t c from upto row h =
-    let k = flat_there (slot_items wanted t c) (range_with_len from (upto - from)) row h in
-    (Contains-filter (is_in_slot c.conf k.0) c.rows row (Contains-filter (is_item wanted t) (filter (is_in_slot c.conf k.0) c.rows) row k.1).0).0
+grown_steps : (held : List ℕ) (t : ℕ) (r : Request) → Steps held t r Grows
+grown_steps held t r = record {
+  same = λ c num small. sub_grown 0 c c (sub_refl c) num;
+  onward = λ m n a b c f g num small. let x = f num (omega (arith, small)) in grown_on m n a b c x (g x.numbers (omega (arith, small, x.next)));
+  wider = λ m n c d l f num small. grown_most m n c d l (f num (omega (arith, small, l)));
+  sweep = λ c num small. sub_grown 0 c (swept held c) (sub_swept held c) num;
+  drop = λ gone c why num small. sub_grown 0 c (dropped held t gone c) (sub_dropped held t gone c (λ row h. (why row h).there)) num;
+  expunge = λ c num small. sub_grown 0 c (expunged held t c) (sub_expunged held t c) num;
+  clear = λ c is num small. sub_grown 0 c (cleared held t c) (sub_cleared held t c) num;
+  place = λ key graph ttl c place may fits num small. grown_placed held key graph ttl t (block_size (length key) graph) c place num (omega (arith, small));
+  look = λ key o c num small. sub_grown 0 c (looked_up key t o c) (sub_looked key t o c) num;
+  set = λ key n was c row may live is num small. sub_grown 0 c (integer_set key n t c) (sub_set key n t c row live (int_scalar row.graph was is) num.keys) num;
+}
 
 -- at most eight insertions are made in one event
 pub grown_after : (held : List ℕ) (t : ℕ) (r : Request) (c : Cache) → Numbers c → c.next_number + 8 < 2 ^ 64 → is_shallow r ≡ true → Grown 8 c (cache_after held t r c)
-grown_after held t r c num small shallow = go r shallow
-  where
-    one : (d : Cache) → Grown 1 c d → Grown 8 c d
-    one d f = grown_most 1 8 c d (omega arith) f
-
-    same : (d : Cache) → Sub c d → Grown 8 c d
-    same d s = sub_grown 8 c d s num
-
-    less : c.next_number < 2 ^ 64 - 1
-    less = omega (arith, small)
-
-    go : (r : Request) → is_shallow r ≡ true → Grown 8 c (cache_after held t r c)
-    go (request.Store key graph ttl exclusive) few = one (inserted held key graph ttl exclusive t c).cache (grown_inserted held key graph ttl exclusive t c num less)
-    go (request.Fetch key) few = same (looked_up key t (live_row key t c) c) (sub_looked key t (live_row key t c) c)
-    go (request.Exists key) few = same c (sub_refl c)
-    go (request.Delete key) few = same (deleted held key t c) (sub_deleted held key t c)
-    go (request.Inc key step ttl) few = one (counted_at held key step ttl t c (live_row key t c)).cache (grown_counted held key step ttl t c num less (live_row key t c) refl)
-    go (request.Cas key expect set) few = same (swapped key expect set t c) (sub_swapped key expect set t c num.keys)
-    go (request.Entry g) few = grown_entered held (given_by g t c) t g.levels c num small (omega (arith, leb-true (length g.levels) most_levels few))
-    go request.Clear few = same (cleared held t c) (sub_cleared held t c)
-    go (request.KeyInfo key) few = same c (sub_refl c)
-    go (request.CacheInfo limited) few = same c (sub_refl c)
-    go (request.SmaInfo limited) few = same c (sub_refl c)
-    go (request.Chunk wanted from size list fields) few = same c (sub_refl c)
-    go (request.ChunkDelete wanted from size) few = same (chunk_dropped held wanted from size t c) (sub_dropped held t (chunk_rows wanted t c from size) c (λ row h. chunk_there wanted t c from (chunk_end wanted t c from size) row h))
-    go (request.Totals wanted list) few = same c (sub_refl c)
-    go request.Retire few = same c (sub_refl c)
+grown_after held t r c num small shallow =
+    let few = few_new r shallow in
+    grown_most (most_new r) 8 c (cache_after held t r c) few (along held t r Grows (grown_steps held t r) c num (omega (arith, small, few)))
 
 -- from any stage on, for as many events as the numbers last
 pub grown_events : (m : Stage) (h : List Event) → Numbers m.cache → m.cache.next_number + 8 * length h < 2 ^ 64 → are_shallow h ≡ true → Grown (8 * length h) m.cache (after_events m h).cache

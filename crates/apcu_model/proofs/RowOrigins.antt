@@ -1,15 +1,14 @@
 -- The rows of a cache after a change stood in it before, and are still the same.
-use Rattle.std.proofs.Common.{◌≡◌, ℕ, inl, inr, Bool, true, false, not, if◌then◌else◌, List, [], ◌++◌, map, filter, refl, sym, ◌∙◌, subst}
-use Rattle.std.specs.Prelude.{Contains, nat_lt, is_some}
+use Rattle.std.proofs.Common.{◌≡◌, ℕ, inl, inr, true, not, List, ◌++◌, map, filter, refl, sym, ◌∙◌, subst}
+use Rattle.std.specs.Prelude.{Contains}
 use Rattle.std.proofs.lemmas.List.Elements.{Contains-append_left, Contains-append_right, Contains-append_cases}
-use Rattle.apcu_model.specs.Cache.{Row, Cache, has_key}
-use Rattle.apcu_model.specs.Expiry.{is_expired, live_row}
+use Rattle.apcu_model.specs.Cache.{Row, Cache}
 use Rattle.apcu_model.specs.Facts.{dated, leaving_from}
-use Rattle.apcu_model.specs.Change.{is_among, is_held, dropped, leaving, spent, swept, expired_dropped, expunged, deleted, cleared, has_gap, with_room}
+use Rattle.apcu_model.specs.Change.{is_among, is_held, dropped, leaving, swept, expunged, cleared}
 use Rattle.apcu_model.specs.Rows.{are_apart}
 use Rattle.apcu_model.specs.Numbers.{IsIn, IsStill}
 use Rattle.apcu_model.proofs.RowsApart.{are_apart-filter}
-use Rattle.seg_words.specs.Members.{Contains-filter, map_there, none_in_nil}
+use Rattle.seg_words.specs.Members.{Contains-filter, map_there}
 
 pub still : (row : Row) → IsStill row row
 still row = record { number = refl; key = refl; place = refl; size = refl; ttl = refl; ctime = refl; scalar = refl }
@@ -71,10 +70,6 @@ sub_map c f keeps r h = elim (Contains-append_cases (map f c.rows) c.removed r h
   | inr l ↦ was_removed c r l
 ]
 
-pub sub_if : (b : Bool) (c x y : Cache) → Sub c x → Sub c y → Sub c (if b then x else y)
-sub_if true c x y f g = f
-sub_if false c x y f g = g
-
 pub sub_dropped : (held : List ℕ) (t : ℕ) (gone : List Row) (c : Cache) → ((row : Row) → Contains gone row → Contains c.rows row) → Sub c (dropped held t gone c)
 sub_dropped held t some c inside = record { from = from; next = refl; keys = are_apart-filter (λ row. not (is_among some row)) c.rows }
   where
@@ -104,29 +99,8 @@ sub_swept held c = record {
   keys = λ k. k;
 }
 
-pub sub_expired : (held : List ℕ) (t : ℕ) (c : Cache) → Sub c (expired_dropped held t c)
-sub_expired held t c = sub_dropped held t (spent c.conf t c.rows) c (go (nat_lt 0 c.conf.ttl))
-  where
-    go : (b : Bool) (row : Row) → Contains (if b then leaving c.conf (filter (is_expired c.conf t) c.rows) else []) row → Contains c.rows row
-    go true row h = (Contains-filter (is_expired c.conf t) c.rows row (leaving_from c.conf (filter (is_expired c.conf t) c.rows) row h)).0
-    go false row h = absurd (none_in_nil row h)
-
 pub sub_expunged : (held : List ℕ) (t : ℕ) (c : Cache) → Sub c (expunged held t c)
 sub_expunged held t c = let d = sub_dropped held t (leaving c.conf c.rows) c (leaving_from c.conf c.rows) in record { from = d.from; next = d.next; keys = d.keys }
 
-pub sub_deleted : (held key : List ℕ) (t : ℕ) (c : Cache) → Sub c (deleted held key t c)
-sub_deleted held key t c =
-    let gone = filter (has_key key) c.rows in
-    sub_if (is_some (live_row key t c)) c (dropped held t gone c) c (sub_dropped held t gone c (λ row h. (Contains-filter (has_key key) c.rows row h).0)) (sub_refl c)
-
 pub sub_cleared : (held : List ℕ) (t : ℕ) (c : Cache) → Sub c (cleared held t c)
 sub_cleared held t c = let d = sub_dropped held t (leaving c.conf c.rows) c (leaving_from c.conf c.rows) in record { from = d.from; next = d.next; keys = d.keys }
-
-pub sub_room : (held : List ℕ) (n t : ℕ) (c : Cache) → Sub c (with_room held n t c)
-sub_room held n t c =
-    let first = swept held c in
-    let second = expired_dropped held t first in
-    let f = sub_swept held c in
-    let s = sub_trans c first second f (sub_expired held t first) in
-    sub_if (has_gap n first) c first (if has_gap n second then second else expunged held t second) f
-    (sub_if (has_gap n second) c second (expunged held t second) s (sub_trans c second (expunged held t second) s (sub_expunged held t second)))

@@ -12,7 +12,7 @@ use Rattle.apcu_model.specs.declared.request.Request.{Request}
 use Rattle.apcu_model.specs.declared.request.Request.TheVariants as request
 use Rattle.apcu_model.specs.Cache.{Row, Cache, has_key}
 use Rattle.apcu_model.specs.Expiry.{is_hard_expired, live_row}
-use Rattle.apcu_model.specs.History.{Stage, start_of, is_scalar, is_shallow, are_shallow, opened, opened_at, held_places, after_event, after_events, IsNumbered, stage_of}
+use Rattle.apcu_model.specs.History.{Stage, start_of, is_scalar, is_shallow, are_shallow, opened, opened_at, window_of, held_places, after_event, after_events, IsNumbered, stage_of}
 use Rattle.apcu_model.proofs.KeyLookups.{found_there}
 use Rattle.apcu_model.proofs.RowNumbers.{Numbers, Grown, grown_after, numbers_start}
 use Rattle.seg_words.specs.Members.{Contains-cases, Contains-filter, none_in_nil}
@@ -54,20 +54,7 @@ opened_one worker t (request.Fetch key) c = go (live_row key t c) refl
     go : (o : Option Row) → live_row key t c ≡ o → OpensOn worker c (opened_at worker o)
     go None live = inl refl
     go (Some row) live = scalar row live (is_scalar row.graph) refl
-opened_one worker t (request.Store key graph ttl exclusive) c = inl refl
-opened_one worker t (request.Exists key) c = inl refl
-opened_one worker t (request.Delete key) c = inl refl
-opened_one worker t (request.Inc key step ttl) c = inl refl
-opened_one worker t (request.Cas key expect set) c = inl refl
-opened_one worker t (request.Entry g) c = inl refl
-opened_one worker t request.Clear c = inl refl
-opened_one worker t (request.KeyInfo key) c = inl refl
-opened_one worker t (request.CacheInfo limited) c = inl refl
-opened_one worker t (request.SmaInfo limited) c = inl refl
-opened_one worker t (request.Chunk wanted from size list fields) c = inl refl
-opened_one worker t (request.ChunkDelete wanted from size) c = inl refl
-opened_one worker t (request.Totals wanted list) c = inl refl
-opened_one worker t request.Retire c = inl refl
+opened_one worker t _ c = inl refl
 
 one_number : (worker : ℕ) (c : Cache) (new : List (ℕ × ℕ)) → OpensOn worker c new → (new ≡ []) ⊎ ((n : ℕ) × (new ≡ (worker, n) ∷ []))
 one_number worker c new (inl e) = inl e
@@ -136,3 +123,27 @@ is_numbered conf h short shallow =
     } in
     let g = grown_all (start_of conf) h start (omega (arith, short)) shallow in
     record { one = g.single; numbers = λ p q c d e. (g.numbers.apart p q c d e).place; whole = g.whole.whole }
+
+-- ---- whose windows change
+
+-- what an event opens is a window of its own worker
+opens_own : (w v : ℕ) → v ≢ w → (t : ℕ) (r : Request) (c : Cache) (l : List (ℕ × ℕ)) → lookup (λ x. x == v) (opened w t r c ++ l) ≡ lookup (λ x. x == v) l
+opens_own w v ne t (request.Fetch key) c l = found (live_row key t c)
+  where
+    other : (w == v) ≡ false
+    other = ne_eqb w v (λ q. ne (sym q))
+
+    one : (b : Bool) (n : ℕ) → lookup (λ x. x == v) (cond b [] ((w, n) ∷ []) ++ l) ≡ lookup (λ x. x == v) l
+    one true n = refl
+    one false n = ap (λ b. cond b (Some n) (lookup (λ x. x == v) l)) other
+
+    found : (o : Option Row) → lookup (λ x. x == v) (opened_at w o ++ l) ≡ lookup (λ x. x == v) l
+    found None = refl
+    found (Some row) = one (is_scalar row.graph) row.number
+opens_own w v ne t _ c l = refl
+
+-- the windows of others stay as they were
+pub window_stays : (m : Stage) (e : Event) (v : ℕ) → v ≢ e.worker → window_of (after_event m e) v ≡ window_of m v
+window_stays m e v other =
+    opens_own e.worker v other e.t e.request m.cache (filter (λ (w : ℕ × ℕ). not (w.0 == e.worker)) m.windows)
+    ∙ lookup-filter-keys (λ x. x == v) (λ k. not (k == e.worker)) true (λ k h. ap not (ne_eqb k e.worker (λ q. other (sym (eqb-true k v h) ∙ q)))) m.windows

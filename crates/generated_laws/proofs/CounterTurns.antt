@@ -23,7 +23,8 @@ use Rattle.generated_laws.specs.Summary.{is_no, is_declined}
 use Rattle.generated_laws.proofs.RowFacts.{key_is, found_there}
 use Rattle.generated_laws.proofs.CountLemmas.{count_alike}
 use Rattle.generated_laws.proofs.NewRows.{value_at, live_is, finds_own, finds_other, finds_changed}
-use Rattle.generated_laws.proofs.SmallRows.{IsRoomy, Alike, new_row, laid_changed, few_held}
+use Rattle.apcu_model.proofs.FirstMoment.{new_row}
+use Rattle.generated_laws.proofs.SmallRows.{IsRoomy, Alike, laid_changed, few_held}
 use Rattle.generated_laws.proofs.ScriptKeys.{names_of, few_names, value_named, counter_named, value_small, counter_small, other_counter}
 use Rattle.generated_laws.proofs.Turns.{Turn, Does, Watches, Ends, request_of, IsTurn, stores_in, times_in, sums_in, begun_counters, counter_value, Good, good_same, good_looked, IsShort, few_begun, Inserted, inserted_so, good_store}
 

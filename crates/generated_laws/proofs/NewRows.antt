@@ -1,15 +1,15 @@
 -- Counts and look-ups in a list with a new row.
 use Rattle.std.proofs.Common.{◌≡◌, ℕ, ◌+◌, ◌≤◌, ◌&&◌, ◌||◌, Bool, true, false, not, cond, if◌then◌else◌, List, [], ◌∷◌, ◌++◌, map, filter, Option, Some, refl, sym, ap, ◌∙◌, arith}
-use Rattle.std.specs.Prelude.{find, option_map, nat_lt, ◌==◌}
+use Rattle.std.specs.Prelude.{find, option_map, nat_lt}
 use Rattle.std.specs.Str.{bytes_eq}
 use Rattle.std.specs.List.{count_by, list_any}
-use Rattle.std.proofs.lemmas.Bool.{false≢true, false_from_ne_true, ltb-true, or_parts}
+use Rattle.std.proofs.lemmas.Bool.{false≢true, false_from_ne_true, or_parts}
 use Rattle.seg_words.specs.Members.{count-cons, count-append, filter_none, any_from}
 use Rattle.php_graph.specs.declared.kind.Kind.{Kind}
 use Rattle.apcu_model.specs.Cache.{Row, Cache, has_key}
 use Rattle.apcu_model.specs.Change.{with_row}
-use Rattle.apcu_model.specs.Expiry.{is_hard_expired, is_expired, live_row}
-use Rattle.apcu_model.specs.declared.conf.Conf.{Conf}
+use Rattle.apcu_model.specs.Expiry.{is_hard_expired, live_row}
+use Rattle.apcu_model.proofs.FirstMoment.{none_before}
 use Rattle.generated_laws.proofs.RowFacts.{key_is, is_key}
 use Rattle.generated_laws.proofs.CountLemmas.{count_both}
 
@@ -67,18 +67,6 @@ find_alike : {X : Type 0} (p q : X → Bool) (xs : List X) → ((x : X) → p x 
 find_alike {X = X} p q [] same = refl
 find_alike {X = X} p q (x ∷ xs) same =
     ap (λ b. cond b (Some x) (find p xs)) (same x) ∙ ap (λ (o : Option X). cond (q x) (Some x) o) (find_alike p q xs same)
-
-none_before : (a : ℕ) → nat_lt a 0 ≡ false
-none_before a = false_from_ne_true (nat_lt a 0) (λ t. omega (arith, ltb-true a 0 t))
-
-pub never_expired : (conf : Conf) (row : Row) → is_expired conf 0 row ≡ false
-never_expired conf row = rw (none_before (row.ctime + row.ttl), none_before (row.atime + conf.ttl)) (both (nat_lt 0 row.ttl) (row.ttl == 0 && nat_lt 0 conf.ttl))
-  where
-    both : (a b : Bool) → ((a && false) || (b && false)) ≡ false
-    both true true = refl
-    both true false = refl
-    both false true = refl
-    both false false = refl
 
 -- at the moment 0 every row is live
 pub live_is : (key : List ℕ) (c : Cache) → live_row key 0 c ≡ find (has_key key) c.rows

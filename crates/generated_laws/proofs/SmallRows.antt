@@ -1,31 +1,27 @@
 -- What storing few small values leaves: few rows, all small, no two alike, and room for one more.
-use Rattle.std.proofs.Common.{◌≡◌, ◌⊎◌, inl, inr, ℕ, ◌+◌, ◌-◌, ◌%◌, ◌^◌, ◌<◌, ◌≤◌, ◌&&◌, Bool, true, false, not, cond, if◌then◌else◌, List, [], ◌∷◌, ◌++◌, length, map, filter, Option, Some, None, refl, sym, ap, ◌∙◌, subst, arith}
-use Rattle.std.proofs.Math.Nat as nat
-use Rattle.std.specs.Prelude.{◌/◌, nat_lt, nat_le, find, is_some, ◌==◌, max, min}
+use Rattle.std.proofs.Common.{◌≡◌, ◌⊎◌, inl, inr, ℕ, ◌+◌, ◌-◌, ◌%◌, ◌^◌, ◌<◌, ◌≤◌, ◌&&◌, Bool, true, false, not, cond, List, [], ◌∷◌, ◌++◌, length, map, filter, Option, Some, None, refl, sym, ap, ◌∙◌, subst, arith}
+use Rattle.std.specs.Prelude.{nat_le, find, is_some, ◌==◌, max, min}
 use Rattle.std.specs.Str.{bytes_eq}
 use Rattle.std.specs.List.{Contains, count_by, range_with_len}
-use Rattle.std.proofs.lemmas.Bool.{and_parts, false≢true, false_from_ne_true, ltb-true, lt-ltb, eqb-true, eq-eqb, not-true}
-use Rattle.std.proofs.lemmas.List.{length-append, length-map, append-nil}
+use Rattle.std.proofs.lemmas.Bool.{and_parts, false≢true, false_from_ne_true, lt-ltb, eqb-true, eq-eqb, not-true}
+use Rattle.std.proofs.lemmas.List.{length-append, length-map}
 use Rattle.std.proofs.lemmas.List.Sums.{length-filter, count_by-le-length}
 use Rattle.std.proofs.lemmas.List.Elements.{Contains-append_left, Contains-append_right, Contains-append_cases}
 use Rattle.seg_words.specs.declared.gaps.Extent.{Extent}
 use Rattle.seg_words.specs.Gaps.{meets, is_free, is_whole, fits, first_fit}
-use Rattle.seg_words.specs.Members.{Contains-cases, Contains-filter, Contains-map, any_there, none_in_nil, count-append, filter_none, map_there}
+use Rattle.seg_words.specs.Members.{Contains-cases, Contains-filter, Contains-map, any_there, none_in_nil, count-append, map_there}
 use Rattle.php_graph.specs.declared.kind.Kind.{Kind}
 use Rattle.php_graph.specs.Size.{block_size}
 use Rattle.apcu_model.specs.declared.conf.Conf.{Conf}
 use Rattle.apcu_model.specs.Conf.{piece_of, most_of}
-use Rattle.apcu_model.specs.declared.request.StoreAnswer.TheVariants as answers
-use Rattle.apcu_model.specs.Cache.{Row, Cache, risen, has_key, extent_of, gap_of}
-use Rattle.apcu_model.specs.Change.{is_held, dropped, expired_in, left_of, removed_with, swept, expired_dropped, expunged, has_gap, with_room, with_row, placed, put_in, inserted}
-use Rattle.apcu_model.specs.Expiry.{is_expired}
-use Rattle.apcu_model.specs.Facts.{left_all}
+use Rattle.apcu_model.specs.Cache.{Row, Cache, has_key, extent_of, gap_of}
+use Rattle.apcu_model.specs.Change.{is_held, swept, with_row, put_in, inserted}
 use Rattle.apcu_model.specs.History.{Stage, held_places, is_copied, is_in_mask}
-use Rattle.apcu_model.specs.SlotOrder.{is_in_slot, slot_of}
+use Rattle.apcu_model.proofs.FirstMoment.{piece_one, most_one, placed_at_once, Placed, replaced_rows}
 use Rattle.generated_laws.proofs.RowFacts.{key_is, is_key, with_there}
 use Rattle.generated_laws.proofs.CountLemmas.{at_most, count-map, count_alike, count_none, count_filter, count_both, pigeons}
 use Rattle.generated_laws.proofs.GapLemmas.{AreSmall, gap_there}
-use Rattle.generated_laws.proofs.NewRows.{with_counted, never_expired}
+use Rattle.generated_laws.proofs.NewRows.{with_counted}
 
 -- a shape with as much room as this needs
 pub record IsRoomy (conf : Conf) : Type 0 where
@@ -33,14 +29,6 @@ pub record IsRoomy (conf : Conf) : Type 0 where
   pub slots : conf.slots ≤ 4096
   pub words : 1048576 ≤ conf.words
   pub one : conf.segments ≡ 1
-
--- the words of the only segment, and of the largest block
-piece_one : (conf : Conf) → conf.segments ≡ 1 → piece_of conf ≡ conf.words
-unfolding piece_of
-piece_one conf one = ap (λ n. conf.words / n) one ∙ nat.div-one conf.words
-
-most_one : (conf : Conf) → conf.segments ≡ 1 → most_of conf ≡ conf.words - conf.slots
-most_one conf one = ap (λ n. if n == 1 then conf.words - conf.slots else piece_of conf) one
 
 -- all rows, removed ones too
 abbrev pub all_rows : Cache → List Row
@@ -150,14 +138,11 @@ inserts_so conf names held key graph c roomy most laid few short = go (some_of (
     gap : is_some (gap_of first n) ≡ true
     gap = has_room conf names n first roomy most (laid_swept conf names held c laid) few short
 
-    room : with_room held n 0 c ≡ first
-    room = ap (λ b. if b then first else if has_gap n (expired_dropped held 0 first) then expired_dropped held 0 first else expunged held 0 (expired_dropped held 0 first)) gap
-
-    fitting : nat_lt (most_of c.conf) n ≡ false
-    fitting = subst (λ (f : Conf). nat_lt (most_of f) n ≡ false) (sym laid.shape) (false_from_ne_true (nat_lt (most_of conf) n) (λ t. omega (arith, ltb-true (most_of conf) n t, most_one conf roomy.one, roomy.slots, roomy.words, short)))
+    fits : n ≤ most_of c.conf
+    fits = subst (λ (f : Conf). n ≤ most_of f) (sym laid.shape) (omega (arith, most_one conf roomy.one, roomy.slots, roomy.words, short))
 
     go : (place : ℕ) × (gap_of first n ≡ Some place) → (place : ℕ) × (gap_of first n ≡ Some place) × (inserted held key graph 0 false 0 c ≡ put_in held key graph 0 0 n first (Some place))
-    go p = (p.0, p.1, ap (λ b. if b then record { answer = answers.TooLarge; cache = c } else put_in held key graph 0 0 n (with_room held n 0 c) (gap_of (with_room held n 0 c) n)) fitting ∙ (ap (λ (d : Cache). put_in held key graph 0 0 n d (gap_of d n)) room ∙ ap (λ (o : Option ℕ). put_in held key graph 0 0 n first o) p.1))
+    go p = (p.0, p.1, placed_at_once held key graph c p.0 fits p.1)
 
 -- the words of a gap meet no row's block: so no row stands there
 free_place : (place n : ℕ) (extents : List Extent) → 0 < n → is_free place n extents ≡ true → (e : Extent) → Contains extents e → 0 < e.size → (e.place == place) ≡ false
@@ -187,50 +172,6 @@ no_row_there n place c some pos gap r h =
     let whole = and_parts (place % 2 == 0 && nat_le c.conf.slots place && nat_le (place + n) c.conf.words && is_free place n extents) (is_whole (piece_of c.conf) place n) fit in
     let free = (and_parts (place % 2 == 0 && nat_le c.conf.slots place && nat_le (place + n) c.conf.words) (is_free place n extents) whole.0).1 in
     free_place place n extents some free (extent_of r) (Contains-map extent_of (all_rows c) r h) (pos r h)
-
--- rows that leave
-abbrev pub dated_rows : List Row → List Row
-dated_rows rows = map {A = Row} (λ row. record row { dtime = 0 }) rows
-
-abbrev pub replaced_rows : List ℕ → List ℕ → List Row → List Row
-replaced_rows held key rows = dated_rows (filter (is_held held) (filter (has_key key) rows))
-
--- the parts of the cache after an insertion
-pub record Placed (held : List ℕ) (new : Row) (c d : Cache) : Type 0 where
-  pub shape : d.conf ≡ c.conf
-  pub rows : d.rows ≡ with_row new c.rows
-  pub removed : d.removed ≡ c.removed ++ replaced_rows held new.key c.rows
-  pub next : d.next_number ≡ risen c.next_number
-
-abbrev pub new_row : List ℕ → List Kind → ℕ → ℕ → ℕ → Row
-new_row key graph n place number = record { key = key; graph = graph; ttl = 0; ctime = 0; mtime = 0; atime = 0; dtime = 0; hits = 0; place = place; size = n; number = number }
-
-pub placed_parts : (held key : List ℕ) (graph : List Kind) (n : ℕ) (c : Cache) (place : ℕ) → Placed held (new_row key graph n place c.next_number) c (placed held key graph 0 0 n c place)
-placed_parts held key graph n c place = record {
-  shape = refl;
-  rows = ap (λ (l : List Row). with_row (new_row key graph n place c.next_number) l) kept;
-  removed = removed;
-  next = refl;
-}
-  where
-    here : List Row
-    here = filter (is_in_slot c.conf (slot_of c.conf key)) c.rows
-
-    -- none expires
-    none : expired_in c.conf 0 (slot_of c.conf key) c.rows ≡ []
-    none = filter_none (is_expired c.conf 0) here (λ row h. never_expired c.conf row)
-
-    after_sweep : Cache
-    after_sweep = dropped held 0 (expired_in c.conf 0 (slot_of c.conf key) c.rows) c
-
-    kept : after_sweep.rows ≡ c.rows
-    kept = ap (λ (l : List Row). left_of l c.rows) none ∙ left_all c.rows
-
-    same : after_sweep.removed ≡ c.removed
-    same = ap (λ (l : List Row). removed_with held 0 l c.removed) none ∙ append-nil c.removed
-
-    removed : (dropped held 0 (filter (has_key key) after_sweep.rows) after_sweep).removed ≡ c.removed ++ replaced_rows held key c.rows
-    removed = ap (λ (l : List Row). l ++ replaced_rows held key after_sweep.rows) same ∙ ap (λ (l : List Row). c.removed ++ replaced_rows held key l) kept
 
 -- no new row is like an old one
 counted_placed : (p : Row → Bool) (held : List ℕ) (new : Row) (c d : Cache) → Placed held new c d → count_by (has_key new.key) c.rows ≤ 1 → ((r : Row) → p (let r' : Row = record r { dtime = 0 } in r') ≡ p r)

@@ -19,7 +19,8 @@ use Rattle.script_read.specs.GeneratedScripts.{Draw, Fetches, Stores, Counts, va
 use Rattle.generated_laws.specs.Summary.{stored_by, times_by, counted_by}
 use Rattle.generated_laws.proofs.CountLemmas.{count_alike}
 use Rattle.generated_laws.proofs.NewRows.{value_at, finds_other, finds_changed}
-use Rattle.generated_laws.proofs.SmallRows.{IsRoomy, Laid, Alike, Placed, new_row, laid_changed, laid_swept, laid_placed, placed_parts, inserts_so, no_row_there}
+use Rattle.apcu_model.proofs.FirstMoment.{Placed, new_row, placed_parts}
+use Rattle.generated_laws.proofs.SmallRows.{IsRoomy, Laid, Alike, laid_changed, laid_swept, laid_placed, inserts_so, no_row_there}
 use Rattle.generated_laws.proofs.ScriptKeys.{names_of, few_names, value_named, value_small, counter_no_value}
 
 -- what a worker does in turn: a draw of its own, a look at a counter, or its end

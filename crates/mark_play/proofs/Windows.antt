@@ -1,9 +1,8 @@
 -- The windows of workers after an event.
-use Rattle.std.proofs.Common.{◌≡◌, ◌≢◌, inl, inr, ℕ, ◌<◌, ◌==◌, ◌&&◌, Bool, true, false, not, cond, List, [], ◌∷◌, ◌++◌, length, set, filter, Option, Some, None, refl, ap, sym, ◌∙◌, subst, arith, get_or-set_same, get_or-set_other}
+use Rattle.std.proofs.Common.{◌≡◌, inl, inr, ℕ, ◌<◌, ◌==◌, ◌&&◌, Bool, true, false, not, cond, List, [], ◌∷◌, ◌++◌, length, filter, Option, Some, None, refl, ap, sym, ◌∙◌, subst, arith, get_or-set_same, get_or-set_other}
 use Rattle.std.specs.Prelude.{Contains, slice_index_or, slice_set, find}
 use Rattle.std.specs.Map.{lookup}
-use Rattle.std.proofs.lemmas.Bool.{and_parts, eqb-true, ne_eqb, eq-eqb, cases_eq, le-leb}
-use Rattle.std.proofs.lemmas.Map.Entries.{lookup-filter-keys}
+use Rattle.std.proofs.lemmas.Bool.{and_parts, eq-eqb, cases_eq, le-leb}
 use Rattle.std.proofs.lemmas.List.Elements.{Contains-append_left}
 use Rattle.std.proofs.lemmas.Slice.Eq.{bytes_eq-Decides}
 use Rattle.apcu_model.specs.declared.conf.Conf.{Conf}
@@ -16,6 +15,7 @@ use Rattle.apcu_model.specs.Expiry.{live_row, is_hard_expired}
 use Rattle.apcu_model.specs.Levels.{most_levels}
 use Rattle.apcu_model.specs.History.{Stage, window_of, is_scalar, is_shallow, opened, opened_at, after_event}
 use Rattle.apcu_model.specs.Numbers.{AreBelow, KeepsNumbers}
+use Rattle.apcu_model.proofs.Windows.{window_stays}
 use Rattle.mark_play.specs.declared.answering.Window.{Window}
 use Rattle.mark_play.specs.Asks.{MayAsk}
 use Rattle.mark_play.specs.Windows.{window_on, window_by}
@@ -23,41 +23,6 @@ use Rattle.mark_play.specs.ReplayStages.{number_in, IsWindowIn}
 use Rattle.mark_play.proofs.FoundRows.{found_there, found_passes}
 
 -- ---- in the history
-
--- what an event opens is a window of its own worker
-opens_own : (w v : ℕ) → v ≢ w → (t : ℕ) (r : Request) (c : Cache) (l : List (ℕ × ℕ)) → lookup (λ x. x == v) (opened w t r c ++ l) ≡ lookup (λ x. x == v) l
-opens_own w v ne t (request.Fetch key) c l = found (live_row key t c)
-  where
-    other : (w == v) ≡ false
-    other = ne_eqb w v (λ q. ne (sym q))
-
-    one : (b : Bool) (n : ℕ) → lookup (λ x. x == v) (cond b [] ((w, n) ∷ []) ++ l) ≡ lookup (λ x. x == v) l
-    one true n = refl
-    one false n = ap (λ b. cond b (Some n) (lookup (λ x. x == v) l)) other
-
-    found : (o : Option Row) → lookup (λ x. x == v) (opened_at w o ++ l) ≡ lookup (λ x. x == v) l
-    found None = refl
-    found (Some row) = one (is_scalar row.graph) row.number
-opens_own w v ne t (request.Store key value ttl exclusive) c l = refl
-opens_own w v ne t (request.Exists key) c l = refl
-opens_own w v ne t (request.Delete key) c l = refl
-opens_own w v ne t (request.Inc key step ttl) c l = refl
-opens_own w v ne t (request.Cas key expect set) c l = refl
-opens_own w v ne t (request.Entry g) c l = refl
-opens_own w v ne t request.Clear c l = refl
-opens_own w v ne t (request.KeyInfo key) c l = refl
-opens_own w v ne t (request.CacheInfo limited) c l = refl
-opens_own w v ne t (request.SmaInfo limited) c l = refl
-opens_own w v ne t (request.Chunk search from size list fields) c l = refl
-opens_own w v ne t (request.ChunkDelete search from size) c l = refl
-opens_own w v ne t (request.Totals search list) c l = refl
-opens_own w v ne t request.Retire c l = refl
-
--- the windows of others stay as they were
-pub window_stays : (m : Stage) (e : Event) (v : ℕ) → v ≢ e.worker → window_of (after_event m e) v ≡ window_of m v
-window_stays m e v other =
-    opens_own e.worker v other e.t e.request m.cache (filter (λ (w : ℕ × ℕ). not (w.0 == e.worker)) m.windows)
-    ∙ lookup-filter-keys (λ x. x == v) (λ k. not (k == e.worker)) true (λ k h. ap not (ne_eqb k e.worker (λ q. other (sym (eqb-true k v h) ∙ q)))) m.windows
 
 none_own : (w : ℕ) (ws : List (ℕ × ℕ)) → lookup (λ x. x == w) (filter (λ (x : ℕ × ℕ). not (x.0 == w)) ws) ≡ None
 none_own w [] = refl
@@ -78,20 +43,7 @@ own_of w t (request.Fetch key) c l none = found (live_row key t c)
     found : (o : Option Row) → lookup (λ x. x == w) (opened_at w o ++ l) ≡ number_in (window_on key o)
     found None = none
     found (Some row) = one (is_scalar row.graph) row.number
-own_of w t (request.Store key value ttl exclusive) c l none = none
-own_of w t (request.Exists key) c l none = none
-own_of w t (request.Delete key) c l none = none
-own_of w t (request.Inc key step ttl) c l none = none
-own_of w t (request.Cas key expect set) c l none = none
-own_of w t (request.Entry g) c l none = none
-own_of w t request.Clear c l none = none
-own_of w t (request.KeyInfo key) c l none = none
-own_of w t (request.CacheInfo limited) c l none = none
-own_of w t (request.SmaInfo limited) c l none = none
-own_of w t (request.Chunk search from size list fields) c l none = none
-own_of w t (request.ChunkDelete search from size) c l none = none
-own_of w t (request.Totals search list) c l none = none
-own_of w t request.Retire c l none = none
+own_of w t _ c l none = none
 
 -- the event's own worker has the window that its request opens
 pub window_own : (m : Stage) (e : Event) → window_of (after_event m e) e.worker ≡ number_in (window_by e.t e.request m.cache)
@@ -146,20 +98,7 @@ window_new t (request.Fetch key) c w below one is = go (live_row key t c) refl i
     go : (o : Option Row) → live_row key t c ≡ o → window_on key o ≡ Some w → IsWindowIn c w
     go None live q = absurd (cc q)
     go (Some row) live q = some row live (is_scalar row.graph) q
-window_new t (request.Store key value ttl exclusive) c w below one is = absurd (cc is)
-window_new t (request.Exists key) c w below one is = absurd (cc is)
-window_new t (request.Delete key) c w below one is = absurd (cc is)
-window_new t (request.Inc key step ttl) c w below one is = absurd (cc is)
-window_new t (request.Cas key expect set) c w below one is = absurd (cc is)
-window_new t (request.Entry g) c w below one is = absurd (cc is)
-window_new t request.Clear c w below one is = absurd (cc is)
-window_new t (request.KeyInfo key) c w below one is = absurd (cc is)
-window_new t (request.CacheInfo limited) c w below one is = absurd (cc is)
-window_new t (request.SmaInfo limited) c w below one is = absurd (cc is)
-window_new t (request.Chunk search from size list fields) c w below one is = absurd (cc is)
-window_new t (request.ChunkDelete search from size) c w below one is = absurd (cc is)
-window_new t (request.Totals search list) c w below one is = absurd (cc is)
-window_new t request.Retire c w below one is = absurd (cc is)
+window_new t _ c w below one is = absurd (cc is)
 
 -- all windows stay windows
 pub keys_after : (c d : Cache) (windows : List (Option Window)) (worker : ℕ) (o : Option Window) → length windows ≡ 64 → worker < 64 → KeepsNumbers c d
@@ -175,17 +114,4 @@ keys_after c d windows worker o full low keeps new old v w is = elim (cases_eq v
 -- what may be asked has few enough entries in one another
 pub flat_ask : (conf : Conf) (searched : Option Pattern) (r : Request) → MayAsk conf searched r → is_shallow r ≡ true
 flat_ask conf searched (request.Entry g) may = le-leb (length g.levels) most_levels may
-flat_ask conf searched (request.Fetch key) may = refl
-flat_ask conf searched (request.Store key value ttl exclusive) may = refl
-flat_ask conf searched (request.Exists key) may = refl
-flat_ask conf searched (request.Delete key) may = refl
-flat_ask conf searched (request.Inc key step ttl) may = refl
-flat_ask conf searched (request.Cas key expect set) may = refl
-flat_ask conf searched request.Clear may = refl
-flat_ask conf searched (request.KeyInfo key) may = refl
-flat_ask conf searched (request.CacheInfo limited) may = refl
-flat_ask conf searched (request.SmaInfo limited) may = refl
-flat_ask conf searched (request.Chunk search from size list fields) may = refl
-flat_ask conf searched (request.ChunkDelete search from size) may = refl
-flat_ask conf searched (request.Totals search list) may = refl
-flat_ask conf searched request.Retire may = refl
+flat_ask conf searched _ may = refl

@@ -17,14 +17,19 @@ found_passes p (y ∷ ys) x h = go (p y) refl (found_passes p ys x) h
     go false is later q = let k = later q in (Contains-later y ys x k.0, k.1)
 
 -- a test under which nothing of what is looked for falls away
+pub find-kept : {X : Type 0} (p q : X → Bool) (xs : List X) → ((x : X) → Contains xs x → p x ≡ true → q x ≡ true) → find p (filter q xs) ≡ find p xs
+find-kept p q [] h = refl
+find-kept p q (x ∷ xs) h =
+    let rest = find-kept p q xs (λ y c. h y (Contains-later x xs y c)) in
+    elim (cases_Bool (q x)) [
+      | inl stay ↦ rw stay (ap (λ o. cond (p x) (Some x) o) rest)
+      | inr lost ↦
+          let other : p x ≡ false = false_from_ne_true (p x) (λ t. false≢true (sym lost ∙ h x (Contains-first x xs) t)) in
+          rw (lost, other) rest
+    ]
+
 pub find-filter : {X : Type 0} (p q : X → Bool) (xs : List X) → ((x : X) → p x ≡ true → q x ≡ true) → find p (filter q xs) ≡ find p xs
-find-filter p q [] h = refl
-find-filter p q (x ∷ xs) h = elim (cases_Bool (q x)) [
-  | inl stay ↦ rw stay (ap (λ o. cond (p x) (Some x) o) (find-filter p q xs h))
-  | inr lost ↦
-      let other : p x ≡ false = false_from_ne_true (p x) (λ t. false≢true (sym lost ∙ h x t)) in
-      rw (lost, other) (find-filter p q xs h)
-]
+find-filter p q xs h = find-kept p q xs (λ x c. h x)
 
 -- a test under which all of it does
 pub find-gone : {X : Type 0} (p q : X → Bool) (xs : List X) → ((x : X) → p x ≡ true → q x ≡ false) → find p (filter q xs) ≡ None

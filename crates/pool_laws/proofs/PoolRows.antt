@@ -1,38 +1,33 @@
 -- What an event leaves of a pool's rows: a request that is not the pool's leaves them as they are.
-use Rattle.std.proofs.Common.{◌≡◌, ℕ, ◌+◌, ◌≤◌, ◌&&◌, ◌||◌, Bool, true, false, not, cond, if◌then◌else◌, List, [], ◌∷◌, ◌++◌, length, map, filter, Option, Some, None, option_map, refl, sym, ap, ◌∙◌, inl, inr, arith}
-use Rattle.std.specs.Prelude.{ℤ, ◌==◌, nat_lt, nat_le, is_some, find}
+use Rattle.std.proofs.Common.{◌≡◌, ℕ, ◌+◌, ◌≤◌, ◌&&◌, ◌||◌, Bool, true, false, not, cond, if◌then◌else◌, List, [], ◌∷◌, ◌++◌, length, map, Option, Some, None, option_map, refl, sym, ap, ◌∙◌, subst, inl, inr, arith}
+use Rattle.std.specs.Prelude.{ℤ, ◌==◌, nat_lt, find, Contains}
 use Rattle.std.specs.List.{list_all, list_any, AllByRecursion}
 use Rattle.std.proofs.lemmas.Bool.{and_parts, and_from, or_parts, or_from, or_cases, cases_Bool, false≢true, false_from_ne_true, not-true, not_from_false, ltb-true, lt-ltb, le-ltb, and_left, and_right}
 use Rattle.std.proofs.lemmas.Slice.Eq.{bytes_eq-Decides}
 use Rattle.php_graph.specs.declared.kind.Kind.{Kind}
-use Rattle.php_graph.specs.declared.kind.Kind.TheVariants as kinds
 use Rattle.php_graph.specs.Size.{block_size}
 use Rattle.apcu_model.specs.declared.conf.Conf.{Conf}
 use Rattle.apcu_model.specs.declared.request.Request.{Request}
 use Rattle.apcu_model.specs.declared.request.Request.TheVariants as request
-use Rattle.apcu_model.specs.declared.request.StoreAnswer.TheVariants as answers
-use Rattle.apcu_model.specs.Cache.{Row, Cache, risen, has_key, gap_of}
-use Rattle.seg_words.specs.Members.{filter_then}
-use Rattle.apcu_model.specs.Change.{dropped, expired_in, is_among, left_of, leaving, spent, swept, expired_dropped, expunged, has_gap, with_room, with_row, put_in, inserted}
-use Rattle.apcu_model.specs.Chunks.{chunk_rows, is_item, chunk_end}
-use Rattle.apcu_model.specs.Conf.{most_of}
-use Rattle.apcu_model.specs.Facts.{left_all}
-use Rattle.apcu_model.specs.Counters.{integer_in, with_integer_at, integer_set, with_integer, sum_of, counted_on, counted_at, is_expected}
-use Rattle.apcu_model.specs.Expiry.{is_expired, is_hard_expired, is_soft_expired, live_row}
-use Rattle.apcu_model.specs.Generators.{filled, given_by, missed_levels, looked_for}
+use Rattle.apcu_model.specs.Cache.{Row, Cache, risen, has_key}
+use Rattle.seg_words.specs.Members.{Contains-cases, none_in_nil}
+use Rattle.apcu_model.specs.Change.{dropped, expired_in, is_among, leaving, swept, expunged, with_row, placed, inserted}
+use Rattle.apcu_model.specs.Facts.{among_from, one_by_key}
+use Rattle.apcu_model.specs.Counters.{with_integer_at, integer_set, with_integer}
+use Rattle.apcu_model.specs.Expiry.{is_expired, is_hard_expired, is_soft_expired}
 use Rattle.apcu_model.specs.Levels.{EntryLevel}
 use Rattle.apcu_model.specs.Lookups.{looked_up, touched}
 use Rattle.apcu_model.specs.PatternMatches.{key_matches}
 use Rattle.apcu_model.specs.Rows.{are_apart, touched_at}
 use Rattle.apcu_model.specs.Sequential.{cache_after}
-use Rattle.apcu_model.specs.SlotOrder.{is_in_slot, slot_of}
+use Rattle.apcu_model.specs.SlotOrder.{slot_of}
 use Rattle.simple_pool.specs.Names.{braced}
 use Rattle.pool_laws.specs.PoolKeys.{is_key_of, holds_text}
 use Rattle.pool_laws.specs.Maps.{Entry}
 use Rattle.pool_laws.specs.Pools.{are_bytes, named_keys, is_clear}
-use Rattle.apcu_model.proofs.RowsApart.{left_passing, are_apart-filter, are_apart-map, are_apart-with_row}
-use Rattle.pool_laws.proofs.DeletedRows.{is_in_chunk, left_chunk}
-use Rattle.pool_laws.proofs.FilteredLists.{find-filter, find-map, all-filter, all-map, all-push}
+use Rattle.apcu_model.proofs.RequestSteps.{IsLeaving, Stores, Sets, Steps, along, deletes, expired_leave}
+use Rattle.apcu_model.proofs.RowsApart.{are_apart-filter, are_apart-map, are_apart-with_row}
+use Rattle.pool_laws.proofs.FilteredLists.{find-kept, find-map, all-filter, all-map, all-push}
 
 -- ---- rows as a pool sees them
 
@@ -195,8 +190,15 @@ abbrev pub IsOther : (List ℕ → Type 0) → List ℕ → Type 0
 IsOther P key = (own : List ℕ) → P own → own ≡ key → ⊥
 
 module _ (name : List ℕ) (t : ℕ) (P : List ℕ → Type 0) where
-  pub same : (c : Cache) → Step name t P c c
-  same c = record { shape = refl; calm = λ e. e; rows = λ n a e key own s le. refl; keys = λ k. k; apart = λ k. k }
+  -- nothing that is seen has changed
+  unchanged : (c new : Cache) → new.conf ≡ c.conf → new.expunges ≡ c.expunges → new.rows ≡ c.rows → Step name t P c new
+  unchanged c new shape count rows = record {
+    shape = shape;
+    calm = λ e. sym count ∙ e;
+    rows = λ n k e key own s le. ap (seen key s) rows;
+    keys = λ k. ap (are_tame name) rows ∙ k;
+    apart = λ k. ap are_apart rows ∙ k;
+  }
 
   onward : (a b c : Cache) → Step name t P a b → Step name t P b c → Step name t P a c
   onward a b c f g = record {
@@ -207,45 +209,35 @@ module _ (name : List ℕ) (t : ℕ) (P : List ℕ → Type 0) where
     apart = λ k. g.apart (f.apart k);
   }
 
-  either : (b : Bool) (c x y : Cache) → Step name t P c x → Step name t P c y → Step name t P c (if b then x else y)
-  either true c x y f g = f
-  either false c x y f g = g
+  -- ---- rows leave
+
+  -- the request deletes no row of P's keys
+  abbrev Spares : Request → Type 0
+  Spares r = (row : Row) → deletes r row ≡ true → P row.key → ⊥
 
   -- no row goes that a later look-up of the pool would find
-  abbrev pub Spares : (Row → Bool) → Conf → Type 0
-  Spares pass conf = conf.ttl ≡ 0 → (key : List ℕ) → P key → (s : ℕ) → t ≤ s → (row : Row) → passes key s row ≡ true → pass row ≡ false
-
-  -- the rows that go are those that pass the test
-  abbrev pub Leaves : (Row → Bool) → List Row → List Row → Type 0
-  Leaves pass gone rows = are_apart rows ≡ true → left_of gone rows ≡ filter (λ row. not (pass row)) rows
-
-  pub step_dropped : (held : List ℕ) (pass : Row → Bool) (gone : List Row) (c : Cache) → Spares pass c.conf → Leaves pass gone c.rows → Step name t P c (dropped held t gone c)
-  step_dropped held pass gone c spares leaves = record {
+  step_dropped : (held : List ℕ) (r : Request) (gone : List Row) (c : Cache) → Spares r → ((row : Row) → Contains gone row → IsLeaving r t c row) → Step name t P c (dropped held t gone c)
+  step_dropped held r gone c spares leaves = record {
     shape = refl;
     calm = λ e. e;
-    rows = λ n k e key own s le. ap (seen key s) (leaves k)
-        ∙ ap (option_map entry_of)
-        (find-filter (passes key s) (λ row. not (pass row)) c.rows (λ row p. not_from_false (pass row) (spares n key own s le row p)));
+    rows = λ n k e key own s le.
+        ap (option_map entry_of) (find-kept (passes key s) (λ row. not (is_among gone row)) c.rows (λ row there p. not_from_false (is_among gone row) (stays n k key own s le row there p)));
     keys = all-filter (λ (row : Row). is_tame name row.key) (λ row. not (is_among gone row)) c.rows;
     apart = are_apart-filter (λ row. not (is_among gone row)) c.rows;
   }
+    where
+      stays : c.conf.ttl ≡ 0 → are_apart c.rows ≡ true → (key : List ℕ) → P key → (s : ℕ) → t ≤ s → (row : Row) → Contains c.rows row → passes key s row ≡ true → is_among gone row ≡ false
+      stays n k key own s le row there p = false_from_ne_true (is_among gone row) (λ h.
+          let one = among_from gone row h in
+          let going = leaves one.0 one.1 in
+          let why = subst (λ (x : Row). (is_expired c.conf t x || deletes r x) ≡ true) (one_by_key c.rows one.0 row k going.there there one.2) going.why in
+          let of_key = key_is key row (and_parts (has_key key row) (not (is_hard_expired s row)) p).0 in
+          elim (or_cases (is_expired c.conf t row) (deletes r row) why) [
+            | inl old ↦ false≢true (sym (not_expired c.conf t row n (was_live t s key row le p)) ∙ old)
+            | inr asked ↦ spares row asked (subst P (sym of_key) own)
+          ])
 
-  spares_live : (conf : Conf) → Spares (is_expired conf t) conf
-  spares_live conf n key own s le row p = not_expired conf t row n (was_live t s key row le p)
-
-  -- without a limit of the cache's own none goes for room
-  left_spent : (conf : Conf) (rows : List Row) → conf.ttl ≡ 0 → left_of (spent conf t rows) rows ≡ rows
-  left_spent conf rows none = ap (λ (b : Bool). left_of (if b then leaving conf (filter (is_expired conf t) rows) else []) rows) (le-ltb 0 conf.ttl (omega (arith, none))) ∙ left_all rows
-
-  step_expired : (held : List ℕ) (c : Cache) → Step name t P c (expired_dropped held t c)
-  step_expired held c = record {
-    shape = refl;
-    calm = λ e. e;
-    rows = λ n k e key own s le. ap (seen key s) (left_spent c.conf c.rows n);
-    keys = all-filter (λ (row : Row). is_tame name row.key) (λ row. not (is_among (spent c.conf t c.rows) row)) c.rows;
-    apart = are_apart-filter (λ row. not (is_among (spent c.conf t c.rows) row)) c.rows;
-  }
-
+  -- all rows go, and the cache counts it
   step_expunged : (held : List ℕ) (c : Cache) → Step name t P c (expunged held t c)
   step_expunged held c = record {
     shape = refl;
@@ -255,54 +247,22 @@ module _ (name : List ℕ) (t : ℕ) (P : List ℕ → Type 0) where
     apart = are_apart-filter (λ row. not (is_among (leaving c.conf c.rows) row)) c.rows;
   }
 
-  step_room : (held : List ℕ) (n : ℕ) (c : Cache) → Step name t P c (with_room held n t c)
-  step_room held n c =
-      let first = swept held c in
-      let second = expired_dropped held t first in
-      let f : Step name t P c first = record { shape = refl; calm = λ e. e; rows = λ n a e key own s le. refl; keys = λ k. k; apart = λ k. k } in
-      let s = onward c first second f (step_expired held first) in
-      either (has_gap n first) c first (if has_gap n second then second else expunged held t second) f
-      (either (has_gap n second) c second (expunged held t second) s (onward c second (expunged held t second) s (step_expunged held second)))
+  -- ---- a row comes
 
-  spares_slot : (conf : Conf) (key : List ℕ) → Spares (λ row. is_in_slot conf (slot_of conf key) row && is_expired conf t row) conf
-  spares_slot conf key n own is s le row p = and_right (is_in_slot conf (slot_of conf key) row) (is_expired conf t row) (spares_live conf n own is s le row p)
-
-  left_slot : (conf : Conf) (key : List ℕ) (rows : List Row) → Leaves (λ row. is_in_slot conf (slot_of conf key) row && is_expired conf t row) (expired_in conf t (slot_of conf key) rows) rows
-  left_slot conf key rows apart =
-      ap (λ gone. left_of gone rows) (filter_then (is_in_slot conf (slot_of conf key)) (is_expired conf t) rows)
-      ∙ left_passing (λ row. is_in_slot conf (slot_of conf key) row && is_expired conf t row) rows apart
-
-  step_put : (held key : List ℕ) (graph : List Kind) (ttl n : ℕ) (c : Cache) (place : Option ℕ) → is_tame name key ≡ true → IsOther P key
-      → Step name t P c (put_in held key graph ttl t n c place).cache
-  step_put held key graph ttl n c None tame apart = same c
-  step_put held key graph ttl n c (Some place) tame apart =
+  step_placed : (held key : List ℕ) (r : Request) (graph : List Kind) (ttl n : ℕ) (c : Cache) (place : ℕ) → Spares r → is_tame name key ≡ true → IsOther P key → Step name t P c (placed held key graph ttl t n c place)
+  step_placed held key r graph ttl n c place spares tame other =
       let gone = expired_in c.conf t (slot_of c.conf key) c.rows in
-      let after_sweep = dropped held t gone c in
+      let left = dropped held t gone c in
       let new : Row = record { key = key; graph = graph; ttl = ttl; ctime = t; mtime = t; atime = t; dtime = 0; hits = 0; place = place; size = n; number = c.next_number } in
-      let f = step_dropped held (λ row. is_in_slot c.conf (slot_of c.conf key) row && is_expired c.conf t row) gone c (spares_slot c.conf key) (left_slot c.conf key c.rows) in
+      let f = step_dropped held r gone c spares (expired_leave r t (slot_of c.conf key) c) in
       record {
         shape = refl;
         calm = λ e. e;
         rows = λ n k e own is s le.
-            seen_beside own s new after_sweep.rows (false_from_ne_true (has_key own new) (λ h. apart own is (sym (key_is own new h)))) ∙ f.rows n k e own is s le;
-        keys = λ k. tame_with name new after_sweep.rows tame (f.keys k);
-        apart = λ k. are_apart-with_row new after_sweep.rows (f.apart k);
+            seen_beside own s new left.rows (false_from_ne_true (has_key own new) (λ h. other own is (sym (key_is own new h)))) ∙ f.rows n k e own is s le;
+        keys = λ k. tame_with name new left.rows tame (f.keys k);
+        apart = λ k. are_apart-with_row new left.rows (f.apart k);
       }
-
-  pub step_inserted : (held key : List ℕ) (graph : List Kind) (ttl : ℕ) (exclusive : Bool) (c : Cache) → is_tame name key ≡ true → IsOther P key
-      → Step name t P c (inserted held key graph ttl exclusive t c).cache
-  step_inserted held key graph ttl exclusive c tame apart = go (nat_lt (most_of c.conf) n) (exclusive && is_some (live_row key t c))
-    where
-      n : ℕ
-      n = block_size (length key) graph
-
-      room : Cache
-      room = with_room held n t c
-
-      go : (a b : Bool) → Step name t P c (if a then record { answer = answers.TooLarge; cache = c } else if b then record { answer = answers.Exists; cache = c } else put_in held key graph ttl t n room (gap_of room n)).cache
-      go true b = same c
-      go false true = same c
-      go false false = onward c room (put_in held key graph ttl t n room (gap_of room n)).cache (step_room held n c) (step_put held key graph ttl n room (gap_of room n) tame apart)
 
   -- ---- rows change
 
@@ -321,7 +281,7 @@ module _ (name : List ℕ) (t : ℕ) (P : List ℕ → Type 0) where
   }
 
   pub step_looked : (key : List ℕ) (o : Option Row) (c : Cache) → Step name t P c (looked_up key t o c)
-  step_looked key None c = record { shape = refl; calm = λ e. e; rows = λ n a e own is s le. refl; keys = λ k. k; apart = λ k. k }
+  step_looked key None c = unchanged c (looked_up key t None c) refl refl refl
   step_looked key (Some row) c =
       step_map c (looked_up key t (Some row) c) (touched_at key t) refl refl refl
       (λ r. touched_same (λ (x : Row). x.key) r (has_key key r) refl) (λ r. touched_same (λ (x : Row). x.ctime) r (has_key key r) refl) (λ r. touched_same (λ (x : Row). x.ttl) r (has_key key r) refl)
@@ -330,14 +290,6 @@ module _ (name : List ℕ) (t : ℕ) (P : List ℕ → Type 0) where
       touched_same : {A : Type 0} (view : Row → A) (r : Row) (b : Bool) → view (touched t r) ≡ view r → view (if b then touched t r else r) ≡ view r
       touched_same view r true e = e
       touched_same view r false e = refl
-
-  step_looked_for : (levels : List EntryLevel) (c : Cache) → Step name t P c (looked_for levels t c)
-  step_looked_for [] c = same c
-  step_looked_for (level ∷ levels) c =
-      let row = live_row level.key t c in
-      let missed = looked_up level.key t None c in
-      either (is_some row) c (looked_up level.key t row c) (looked_for levels t missed) (step_looked level.key row c)
-      (onward c missed (looked_for levels t missed) (step_looked level.key None c) (step_looked_for levels missed))
 
   step_set : (key : List ℕ) (n : ℤ) (c : Cache) → IsOther P key → Step name t P c (integer_set key n t c)
   step_set key n c apart =
@@ -353,32 +305,19 @@ module _ (name : List ℕ) (t : ℕ) (P : List ℕ → Type 0) where
       other own r true is h differ = absurd (differ (sym (key_is own r h) ∙ key_is key r is))
       other own r false is h differ = refl
 
-  step_counted_on : (key : List ℕ) (step : ℤ) (c : Cache) (o : Option ℤ) → IsOther P key → Step name t P c (counted_on key step t c o).cache
-  step_counted_on key step c None apart = same c
-  step_counted_on key step c (Some n) apart = step_set key (sum_of n step) c apart
-
-  step_counted : (held key : List ℕ) (step : ℤ) (ttl : ℕ) (c : Cache) (o : Option Row) → is_tame name key ≡ true → IsOther P key → Step name t P c (counted_at held key step ttl t c o).cache
-  step_counted held key step ttl c (Some row) tame apart = step_counted_on key step c (integer_in row.graph) apart
-  step_counted held key step ttl c None tame apart = step_inserted held key (kinds.Int step ∷ []) ttl false c tame apart
-
   -- the keys are tame, and none of P
+  abbrev IsSafe : List ℕ → Type 0
+  IsSafe key = (is_tame name key ≡ true) × IsOther P key
+
   abbrev pub AreSafe : List (List ℕ) → Type 0
-  AreSafe keys = AllByRecursion (λ key. (is_tame name key ≡ true) × IsOther P key) keys
+  AreSafe keys = AllByRecursion IsSafe keys
 
-  step_filled : (held : List ℕ) (value : List Kind) (levels : List EntryLevel) (c : Cache) → AreSafe (map {A = EntryLevel} (λ level. level.key) levels) → Step name t P c (filled held value t levels c).cache
-  step_filled held value [] c safe = same c
-  step_filled held value (level ∷ levels) c safe =
-      let inner = (filled held value t levels c).cache in
-      onward c inner (inserted held level.key value level.ttl true t inner).cache (step_filled held value levels c safe.1) (step_inserted held level.key value level.ttl true inner safe.0.0 safe.0.1)
-
-  safe_missed : (levels : List EntryLevel) (c : Cache) → AreSafe (map {A = EntryLevel} (λ level. level.key) levels) → AreSafe (map {A = EntryLevel} (λ level. level.key) (missed_levels levels t c))
-  safe_missed [] c safe = tt
-  safe_missed (level ∷ levels) c safe = go (is_some (live_row level.key t c)) (safe_missed levels c safe.1)
-    where
-      go : (b : Bool) → AreSafe (map {A = EntryLevel} (λ level. level.key) (missed_levels levels t c))
-          → AreSafe (map {A = EntryLevel} (λ level. level.key) (if b then [] else level ∷ missed_levels levels t c))
-      go true later = tt
-      go false later = (safe.0, later)
+  safe_level : (levels : List EntryLevel) → AreSafe (map {A = EntryLevel} (λ level. level.key) levels) → (level : EntryLevel) → Contains levels level → IsSafe level.key
+  safe_level [] safe level h = absurd (none_in_nil level h)
+  safe_level (first ∷ levels) safe level h = elim (Contains-cases first levels level h) [
+    | inl e ↦ subst (λ (x : EntryLevel). IsSafe x.key) e safe.0
+    | inr l ↦ safe_level levels safe.1 level l
+  ]
 
   -- ---- an event
 
@@ -387,33 +326,39 @@ module _ (name : List ℕ) (t : ℕ) (P : List ℕ → Type 0) where
   Passes_by (request.ChunkDelete wanted from size) = (key : List ℕ) → P key → key_matches wanted key ≡ false
   Passes_by _ = Unit {0}
 
+  stores_safe : (r : Request) → AreSafe (named_keys r) → (key : List ℕ) → Stores r key → (is_tame name key ≡ true) × IsOther P key
+  stores_safe (request.Store k graph ttl exclusive) safe key e = subst IsSafe e safe.0
+  stores_safe (request.Inc k step ttl) safe key e = subst IsSafe e safe.0
+  stores_safe (request.Entry g) safe key e = subst IsSafe e.2 (safe_level g.levels safe e.0 e.1)
+  stores_safe _ safe key e = absurd e
+
+  sets_other : (r : Request) → AreSafe (named_keys r) → (key : List ℕ) → Sets r key → IsOther P key
+  sets_other (request.Inc k step ttl) safe key e = subst (IsOther P) e safe.0.1
+  sets_other (request.Cas k expect n) safe key e = subst (IsOther P) e safe.0.1
+  sets_other _ safe key e = absurd e
+
+  spared : (r : Request) → AreSafe (named_keys r) → Passes_by r → Spares r
+  spared (request.Delete key) safe by row h own = safe.0.1 row.key own (key_is key row h)
+  spared (request.ChunkDelete wanted from size) safe by row h own = false≢true (sym (by row.key own) ∙ h)
+  spared _ safe by row h own = false≢true h
+
+  steps : (held : List ℕ) (r : Request) → is_clear r ≡ false → AreSafe (named_keys r) → Passes_by r → Steps held t r (λ n c d. Step name t P c d)
+  steps held r clear safe by = record {
+    same = λ c. unchanged c c refl refl refl;
+    onward = λ m n a b c f g. onward a b c f g;
+    wider = λ m n c d l f. f;
+    sweep = λ c. unchanged c (swept held c) refl refl refl;
+    drop = λ gone c leaves. step_dropped held r gone c (spared r safe by) leaves;
+    expunge = step_expunged held;
+    clear = λ c is. absurd (false≢true (sym clear ∙ ap is_clear is));
+    place = λ key graph ttl c place may fits. let k = stores_safe r safe key may in step_placed held key r graph ttl (block_size (length key) graph) c place (spared r safe by) k.0 k.1;
+    look = step_looked;
+    set = λ key n was c row may live is. step_set key n c (sets_other r safe key may);
+  }
+
   pub step_after : (held : List ℕ) (r : Request) (c : Cache) → is_clear r ≡ false → AreSafe (named_keys r) → Passes_by r → Step name t P c (cache_after held t r c)
-  step_after held (request.Store key graph ttl exclusive) c clear safe by = step_inserted held key graph ttl exclusive c safe.0.0 safe.0.1
-  step_after held (request.Fetch key) c clear safe by = step_looked key (live_row key t c) c
-  step_after held (request.Exists key) c clear safe by = same c
-  step_after held (request.Delete key) c clear safe by =
-      either (is_some (live_row key t c)) c (dropped held t (filter (has_key key) c.rows) c) c
-      (step_dropped held (has_key key) (filter (has_key key) c.rows) c (λ n own is s le row p.
-      false_from_ne_true (has_key key row) (λ h. safe.0.1 own is (sym (key_is own row (and_parts (has_key own row) (not (is_hard_expired s row)) p).0) ∙ key_is key row h))) (left_passing (has_key key) c.rows))
-      (same c)
-  step_after held (request.Inc key step ttl) c clear safe by = step_counted held key step ttl c (live_row key t c) safe.0.0 safe.0.1
-  step_after held (request.Cas key expect set) c clear safe by = either (is_expected expect (live_row key t c)) c (integer_set key set t c) c (step_set key set c safe.0.1) (same c)
-  step_after held (request.Entry g) c clear safe by =
-      let looked = looked_for g.levels t c in
-      let missed = missed_levels g.levels t c in
-      onward c looked (filled held (given_by g t c) t missed looked).cache (step_looked_for g.levels c) (step_filled held (given_by g t c) missed looked (safe_missed g.levels c safe))
-  step_after held request.Clear c clear safe by = absurd (false≢true (sym clear))
-  step_after held (request.KeyInfo key) c clear safe by = same c
-  step_after held (request.CacheInfo limited) c clear safe by = same c
-  step_after held (request.SmaInfo limited) c clear safe by = same c
-  step_after held (request.Chunk wanted from size list fields) c clear safe by = same c
-  step_after held (request.ChunkDelete wanted from size) c clear safe by =
-      step_dropped held (is_in_chunk wanted t c from size) (chunk_rows wanted t c from size) c (λ n own is s le row p.
-      let found = key_is own row (and_parts (has_key own row) (not (is_hard_expired s row)) p).0 in
-      let none : key_matches wanted row.key ≡ false = ap (key_matches wanted) found ∙ by own is in
-      let item = and_right (not (is_hard_expired t row)) (key_matches wanted row.key) none in
-      let end = chunk_end wanted t c from size in
-      and_left (is_item wanted t row && nat_le from (slot_of c.conf row.key)) (nat_lt (slot_of c.conf row.key) end)
-      (and_left (is_item wanted t row) (nat_le from (slot_of c.conf row.key)) item)) (left_chunk wanted t c from size)
-  step_after held (request.Totals wanted list) c clear safe by = same c
-  step_after held request.Retire c clear safe by = same c
+  step_after held r c clear safe by = along held t r (λ n c d. Step name t P c d) (steps held r clear safe by) c
+
+  pub step_inserted : (held key : List ℕ) (graph : List Kind) (ttl : ℕ) (exclusive : Bool) (c : Cache) → is_tame name key ≡ true → IsOther P key
+      → Step name t P c (inserted held key graph ttl exclusive t c).cache
+  step_inserted held key graph ttl exclusive c tame other = step_after held (request.Store key graph ttl exclusive) c refl ((tame, other), tt) tt

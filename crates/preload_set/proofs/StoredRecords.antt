@@ -1,11 +1,8 @@
 -- What storing a bundle's records leaves: no row ends behind the words of the records so far.
-use Rattle.std.proofs.Common.{◌≡◌, inl, inr, ℕ, ◌+◌, ◌-◌, ◌%◌, ◌≤◌, Bool, true, false, if◌then◌else◌, List, [], ◌∷◌, ◌++◌, length, map, filter, Option, Some, None, refl, sym, ap, ap₂, ◌∙◌, subst, arith}
-use Rattle.std.specs.Prelude.{◌/◌, ◌==◌, ◌&&◌, ◌||◌, nat_lt, is_some}
+use Rattle.std.proofs.Common.{◌≡◌, inl, inr, ℕ, ◌+◌, ◌%◌, ◌≤◌, Bool, true, false, if◌then◌else◌, List, [], ◌∷◌, ◌++◌, length, map, filter, Option, Some, None, refl, sym, ap, ◌∙◌, subst, arith}
 use Rattle.std.specs.Option.{option_to_list}
 use Rattle.std.specs.Str.{bytes_eq}
 use Rattle.std.specs.List.{Contains}
-use Rattle.std.proofs.Math.Nat as nat
-use Rattle.std.proofs.lemmas.Bool.{false_from_ne_true, ltb-true}
 use Rattle.std.proofs.lemmas.List.{append-nil, length-map}
 use Rattle.std.proofs.lemmas.Slice.Eq.{bytes_eq-Decides}
 use Rattle.std.proofs.lemmas.List.Sums.{sum_by-append, sum_by-cons}
@@ -18,10 +15,9 @@ use Rattle.apcu_model.specs.declared.conf.Conf.{Conf}
 use Rattle.apcu_model.specs.Conf.{piece_of, most_of}
 use Rattle.apcu_model.specs.declared.request.StoreAnswer.TheVariants as answers
 use Rattle.apcu_model.specs.Cache.{Row, Cache, has_key, extent_of, gap_of, empty_cache}
-use Rattle.apcu_model.specs.Change.{is_held, dropped, expired_in, left_of, removed_with, swept, expired_dropped, expunged, has_gap, with_room, with_row, placed, put_in, Insertion, inserted}
-use Rattle.apcu_model.specs.Expiry.{is_expired}
-use Rattle.apcu_model.specs.Facts.{left_all}
-use Rattle.apcu_model.specs.SlotOrder.{is_in_slot, slot_of}
+use Rattle.apcu_model.specs.Change.{is_held, swept, with_row, placed, Insertion, inserted}
+use Rattle.apcu_model.specs.Facts.{dated}
+use Rattle.apcu_model.proofs.FirstMoment.{piece_one, most_one, placed_at_once, Placed, new_row, placed_parts, replaced_rows}
 use Rattle.script_read.specs.Arguments.{or_else}
 use Rattle.preload_set.specs.Bundle.{Record}
 use Rattle.preload_set.specs.Loader.{words_of, last_value, values_at}
@@ -72,13 +68,6 @@ words_joined records r =
 
 -- ---- the gap
 
-piece_one : (conf : Conf) → conf.segments ≡ 1 → piece_of conf ≡ conf.words
-unfolding piece_of
-piece_one conf one = ap (λ n. conf.words / n) one ∙ nat.div-one conf.words
-
-most_one : (conf : Conf) → conf.segments ≡ 1 → most_of conf ≡ conf.words - conf.slots
-most_one conf one = ap (λ n. if n == 1 then conf.words - conf.slots else piece_of conf) one
-
 pub record HasGap (conf : Conf) (before : List Record) (n : ℕ) (c : Cache) : Type 0 where
   pub place : ℕ
   pub is : gap_of c n ≡ Some place
@@ -103,8 +92,6 @@ has_low_gap conf before n c one room filled =
     even : (x y : ℕ) → x % 2 ≡ 0 → y % 2 ≡ 0 → (x + y) % 2 ≡ 0
     even x y h k = omega (arith, h, k)
 
--- ---- an insertion makes no room but by the sweep, and places its row
-
 filled_swept : (conf : Conf) (before : List Record) (c : Cache) → Filled conf before c → Filled conf before (swept [] c)
 filled_swept conf before c filled = record {
   shape = filled.shape;
@@ -114,70 +101,10 @@ filled_swept conf before c filled = record {
   values = filled.values;
 }
 
-inserts_so : (conf : Conf) (before : List Record) (r : Record) (c : Cache) (place : ℕ) → IsOne conf → conf.slots + words_of before + block_size (length r.0) r.1 ≤ conf.words → Filled conf before c
-    → let n = block_size (length r.0) r.1 in
-    gap_of (swept [] c) n ≡ Some place → inserted [] r.0 r.1 0 false 0 c ≡ put_in [] r.0 r.1 0 0 n (swept [] c) (Some place)
-inserts_so conf before r c place one room filled is =
-    ap (λ b. if b then record { answer = answers.TooLarge; cache = c } else put_in [] r.0 r.1 0 0 n (with_room [] n 0 c) (gap_of (with_room [] n 0 c) n)) fitting
-    ∙ (ap (λ (d : Cache). put_in [] r.0 r.1 0 0 n d (gap_of d n)) enough ∙ ap (λ (o : Option ℕ). put_in [] r.0 r.1 0 0 n first o) is)
-  where
-    n : ℕ
-    n = block_size (length r.0) r.1
-
-    first : Cache
-    first = swept [] c
-
-    enough : with_room [] n 0 c ≡ first
-    enough = ap (λ (o : Option ℕ). if is_some o then first else if has_gap n (expired_dropped [] 0 first) then expired_dropped [] 0 first else expunged [] 0 (expired_dropped [] 0 first)) is
-
-    fitting : nat_lt (most_of c.conf) n ≡ false
-    fitting = subst (λ (f : Conf). nat_lt (most_of f) n ≡ false) (sym filled.shape) (false_from_ne_true (nat_lt (most_of conf) n) (λ t. omega (arith, ltb-true (most_of conf) n t, most_one conf one.one, room)))
-
 -- ---- the new row
-
-none_before : (a : ℕ) → nat_lt a 0 ≡ false
-none_before a = false_from_ne_true (nat_lt a 0) (λ t. omega (arith, ltb-true a 0 t))
-
-never_expired : (conf : Conf) (row : Row) → is_expired conf 0 row ≡ false
-never_expired conf row = rw (none_before (row.ctime + row.ttl), none_before (row.atime + conf.ttl)) (both (nat_lt 0 row.ttl) (row.ttl == 0 && nat_lt 0 conf.ttl))
-  where
-    both : (a b : Bool) → ((a && false) || (b && false)) ≡ false
-    both true true = refl
-    both true false = refl
-    both false true = refl
-    both false false = refl
-
-abbrev new_row : Record → ℕ → ℕ → Row
-new_row r place number = record { key = r.0; graph = r.1; ttl = 0; ctime = 0; mtime = 0; atime = 0; dtime = 0; hits = 0; place = place; size = block_size (length r.0) r.1; number = number }
 
 abbrev after_placing : Record → Cache → ℕ → Cache
 after_placing r c place = placed [] r.0 r.1 0 0 (block_size (length r.0) r.1) c place
-
-record Placed (new : Row) (c d : Cache) : Type 0 where
-  pub rows : d.rows ≡ with_row new c.rows
-  pub removed : d.removed ≡ c.removed
-
-placed_parts : (r : Record) (c : Cache) (place : ℕ) → Placed (new_row r place c.next_number) c (after_placing r c place)
-placed_parts r c place = record {
-  rows = ap (λ (l : List Row). with_row (new_row r place c.next_number) l) kept;
-  removed = ap₂ (λ (l m : List Row). l ++ map {A = Row} {B = Row} (λ row. record row { dtime = 0 }) m) same (filter_none (is_held []) (filter (has_key r.0) after_sweep.rows) (λ row h. refl)) ∙ append-nil c.removed;
-}
-  where
-    here : List Row
-    here = filter (is_in_slot c.conf (slot_of c.conf r.0)) c.rows
-
-    -- none expires
-    none : expired_in c.conf 0 (slot_of c.conf r.0) c.rows ≡ []
-    none = filter_none (is_expired c.conf 0) here (λ row h. never_expired c.conf row)
-
-    after_sweep : Cache
-    after_sweep = dropped [] 0 (expired_in c.conf 0 (slot_of c.conf r.0) c.rows) c
-
-    kept : after_sweep.rows ≡ c.rows
-    kept = ap (λ (l : List Row). left_of l c.rows) none ∙ left_all c.rows
-
-    same : after_sweep.removed ≡ c.removed
-    same = ap (λ (l : List Row). removed_with [] 0 l c.removed) none ∙ append-nil c.removed
 
 at_most_one : {A : Type 0} (o : Option A) → length (option_to_list o) ≤ 1
 at_most_one (Some x) = omega arith
@@ -186,7 +113,7 @@ at_most_one None = omega arith
 filled_placed : (conf : Conf) (before : List Record) (r : Record) (c : Cache) (place : ℕ) → place ≤ conf.slots + words_of before → Filled conf before c → Filled conf (before ++ r ∷ []) (after_placing r c place)
 filled_placed conf before r c place low filled = record {
   shape = filled.shape;
-  removed = parts.removed ∙ filled.removed;
+  removed = parts.removed ∙ (none_held ∙ filled.removed);
   low = λ row h. elim (with_there new c.rows row (subst (λ (l : List Row). Contains l row) parts.rows h)) [
     | inl e ↦
         let at : place ≡ row.place = ap (λ (q : Row). q.place) e in
@@ -199,10 +126,13 @@ filled_placed conf before r c place low filled = record {
 }
   where
     new : Row
-    new = new_row r place c.next_number
+    new = new_row r.0 r.1 (block_size (length r.0) r.1) place c.next_number
 
-    parts : Placed new c (after_placing r c place)
-    parts = placed_parts r c place
+    parts : Placed [] new c (after_placing r c place)
+    parts = placed_parts [] r.0 r.1 (block_size (length r.0) r.1) c place
+
+    none_held : c.removed ++ replaced_rows [] r.0 c.rows ≡ c.removed
+    none_held = ap (λ (l : List Row). c.removed ++ dated 0 l) (filter_none (is_held []) (filter (has_key r.0) c.rows) (λ row h. refl)) ∙ append-nil c.removed
 
     words : words_of (before ++ r ∷ []) ≡ words_of before + block_size (length r.0) r.1
     words = words_joined before r
@@ -227,7 +157,9 @@ pub record IsStored (conf : Conf) (before : List Record) (r : Record) (made : In
 
 pub record_stored : (conf : Conf) (before : List Record) (r : Record) (c : Cache) → IsOne conf → conf.slots + words_of before + block_size (length r.0) r.1 ≤ conf.words → Filled conf before c → IsStored conf before r (inserted [] r.0 r.1 0 false 0 c)
 record_stored conf before r c one room filled =
+    let n = block_size (length r.0) r.1 in
     let first = filled_swept conf before c filled in
-    let g = has_low_gap conf before (block_size (length r.0) r.1) (swept [] c) one room first in
-    subst (λ (x : Insertion). IsStored conf before r x) (sym (inserts_so conf before r c g.place one room filled g.is))
+    let g = has_low_gap conf before n (swept [] c) one room first in
+    let fits : n ≤ most_of c.conf = subst (λ (f : Conf). n ≤ most_of f) (sym filled.shape) (omega (arith, most_one conf one.one, room)) in
+    subst (λ (x : Insertion). IsStored conf before r x) (sym (placed_at_once [] r.0 r.1 c g.place fits g.is))
     (record { answer = refl; filled = filled_placed conf before r (swept [] c) g.place g.low first })

@@ -1,21 +1,17 @@
 -- The writer's windows, and the masks that its probes gather.
-use Rattle.std.proofs.Common.{◌≡◌, ◌≢◌, ℕ, zero, suc, ◌^◌, ◌<◌, ◌==◌, ◌&&◌, ◌||◌, ⊎_elim, Bool, true, false, not, cond, ltb, List, [], ◌∷◌, ◌++◌, length, set, slice_set, filter, Option, Some, None, refl, ap, sym, ◌∙◌, subst, arith}
+use Rattle.std.proofs.Common.{◌≡◌, ◌≢◌, ℕ, zero, suc, ◌^◌, ◌<◌, ◌==◌, ◌&&◌, ◌||◌, ⊎_elim, Bool, true, false, not, ltb, List, [], ◌∷◌, ◌++◌, length, set, slice_set, Some, refl, ap, sym, ◌∙◌, subst, arith}
 use Rattle.std.specs.Prelude.{Contains, is_some, nat_lt}
 use Rattle.std.specs.Int.{bit_at}
 use Rattle.std.specs.List.{list_all, range_with_len}
-use Rattle.std.specs.Map.{lookup}
 use Rattle.std.proofs.lemmas.Bool.{and_from, eqb-true, ne_eqb, lt-ltb}
-use Rattle.std.proofs.lemmas.Map.Entries.{lookup-filter-keys}
 use mathlib.Core.Option.{some, some-injective, some-ne-none}
 use lib.ListN.{get_elem?}
 use Rattle.atomic_table.proofs.Lists.{at_set}
 use Rattle.seg_words.specs.Windows.{is_named}
 use Rattle.apcu_model.specs.declared.request.Event.{Event}
-use Rattle.apcu_model.specs.declared.request.Request.{Request}
-use Rattle.apcu_model.specs.declared.request.Request.TheVariants as request
 use Rattle.apcu_model.specs.Cache.{Row, Cache}
-use Rattle.apcu_model.specs.Expiry.{live_row}
-use Rattle.apcu_model.specs.History.{Stage, window_of, is_in_mask, is_legal_mask, is_scalar, opened, opened_at, after_event}
+use Rattle.apcu_model.specs.History.{Stage, window_of, is_in_mask, is_legal_mask, after_event}
+use Rattle.apcu_model.proofs.Windows.{window_stays}
 use Rattle.pin_table.specs.declared.views.Known.{Known}
 use Rattle.pin_table.specs.declared.views.WriterState.{WriterState}
 use Rattle.pin_table.specs.Order.{StateInOrder}
@@ -73,41 +69,6 @@ legal_mask workers m d p old run tied count small =
             let less : ltb v workers ≡ true = lt-ltb v workers (let l = at_less d.windows v k.0 k.1 in omega (arith, l, run.order.seats, run.order.all_seats, count)) in
             let opens : is_some (window_of m v) ≡ true = ap is_some t.window in
             rw (other, less, opens) refl
-
--- what an event opens is a window of its own worker
-opens_own : (w v : ℕ) → v ≢ w → (t : ℕ) (r : Request) (c : Cache) (l : List (ℕ × ℕ)) → lookup (λ x. x == v) (opened w t r c ++ l) ≡ lookup (λ x. x == v) l
-opens_own w v ne t (request.Fetch key) c l = found (live_row key t c)
-  where
-    other : (w == v) ≡ false
-    other = ne_eqb w v (λ q. ne (sym q))
-
-    one : (b : Bool) (n : ℕ) → lookup (λ x. x == v) (cond b [] ((w, n) ∷ []) ++ l) ≡ lookup (λ x. x == v) l
-    one true n = refl
-    one false n = ap (λ b. cond b (Some n) (lookup (λ x. x == v) l)) other
-
-    found : (o : Option Row) → lookup (λ x. x == v) (opened_at w o ++ l) ≡ lookup (λ x. x == v) l
-    found None = refl
-    found (Some row) = one (is_scalar row.graph) row.number
-opens_own w v ne t (request.Store key value ttl exclusive) c l = refl
-opens_own w v ne t (request.Exists key) c l = refl
-opens_own w v ne t (request.Delete key) c l = refl
-opens_own w v ne t (request.Inc key step ttl) c l = refl
-opens_own w v ne t (request.Cas key expect set) c l = refl
-opens_own w v ne t (request.Entry g) c l = refl
-opens_own w v ne t request.Clear c l = refl
-opens_own w v ne t (request.KeyInfo key) c l = refl
-opens_own w v ne t (request.CacheInfo limited) c l = refl
-opens_own w v ne t (request.SmaInfo limited) c l = refl
-opens_own w v ne t (request.Chunk search from size list fields) c l = refl
-opens_own w v ne t (request.ChunkDelete search from size) c l = refl
-opens_own w v ne t (request.Totals search list) c l = refl
-opens_own w v ne t request.Retire c l = refl
-
--- the windows of others stay as they were
-pub window_stays : (m : Stage) (e : Event) (v : ℕ) → v ≢ e.worker → window_of (after_event m e) v ≡ window_of m v
-window_stays m e v other =
-    opens_own e.worker v other e.t e.request m.cache (filter (λ (w : ℕ × ℕ). not (w.0 == e.worker)) m.windows)
-    ∙ lookup-filter-keys (λ x. x == v) (λ k. not (k == e.worker)) true (λ k h. ap not (ne_eqb k e.worker (λ q. other (sym (eqb-true k v h) ∙ q)))) m.windows
 
 -- the rows under open windows are still in the cache, with their places and numbers
 pub record StayOpen (windows : List ℕ) (c d : Cache) : Type 0 where
