@@ -1,6 +1,7 @@
 -- A step of an iterator, slot by slot.
 use Rattle.std.proofs.Common.{◌≡◌, ◌∙◌, ℕ, ◌+◌, ◌<◌, ◌≤◌, ◌&&◌, not, List, ◌++◌, length, map, filter, sym, ap, arith}
 use Rattle.std.proofs.lemmas.List.{map-append}
+use Rattle.apcu_model.specs.declared.conf.TheConstants.{MOST_USABLE_WORDS}
 use Rattle.apcu_model.specs.declared.searching.Fields.{Fields}
 use Rattle.apcu_model.specs.declared.searching.List.{List as RowList}
 use Rattle.apcu_model.specs.declared.searching.List.TheVariants.{Active, Deleted}
@@ -45,7 +46,7 @@ slot_more f choice s from at old new active low were is =
 -- they are few
 pub between_few : (wanted : Option Pattern) (t : ℕ) (s : Entries) (from upto : ℕ)
     → AreFew s.conf.words s.rows s.removed → 0 < s.conf.slots → from ≤ upto → upto ≤ s.conf.slots
-    → length (items_between wanted t (uncounted s) from upto) ≤ 16777216
+    → length (items_between wanted t (uncounted s) from upto) ≤ MOST_USABLE_WORDS
 between_few wanted t s from upto few some low high =
     let p = is_between (is_item wanted t) s.conf from upto in
     omega (

@@ -82,7 +82,7 @@ rows_of_chunk {s} wanted t from size places sound low are =
           omega (
             arith,
             ap (count_by (is_at at)) ordered,
-            all_slots one s.conf (filter pass s.rows) (omega (arith, sound.good.slots_least)),
+            all_slots one s.conf (filter pass s.rows) (omega (arith, sound.usable.slots_least)),
             some_of one pass s.rows,
             sound.once at,
           );

@@ -14,6 +14,7 @@ use Rattle.seg_words.specs.Windows.{Aside}
 use Rattle.sma_blocks.specs.Live.{live_blocks}
 use Rattle.sma_blocks.specs.Order.{ready_blocks}
 use Rattle.sma_blocks.specs.Ready.{AreBlocks}
+use Rattle.apcu_model.specs.declared.conf.TheConstants.{MOST_USABLE_WORDS}
 use Rattle.apcu_model.specs.Cache.{Row, extent_of}
 use Rattle.entry_slots.specs.declared.slots.EntrySlots.{EntrySlots}
 use Rattle.entry_slots.specs.Entries.{Entries, blocks_of}
@@ -83,7 +84,7 @@ extents_sum (row ∷ rows) =
 pub record AreFew (n : ℕ) (rows removed : List Row) : Type 0 where
   pub count : length rows + length removed ≤ n
   pub words : sum_by size_of rows + sum_by size_of removed ≤ n
-  pub most : n ≤ 16777216
+  pub most : n ≤ MOST_USABLE_WORDS
 
 pub are_few : (e : EntrySlots) (words : List ℕ) (aside : Aside) (s : Entries)
     → Stands e words aside s → AreFew s.conf.words s.rows s.removed
@@ -117,7 +118,7 @@ are_few e words aside s stand =
         extents_sum s.rows,
         extents_sum s.removed,
       );
-      most = stand.good.words_most;
+      most = stand.usable.words_most;
     }
 
 -- so many removed rows were passed

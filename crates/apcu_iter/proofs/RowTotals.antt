@@ -1,6 +1,7 @@
 -- What rows come to, where no number is at its last.
 use Rattle.std.proofs.Common.{◌≡◌, ◌∙◌, ℕ, ◌+◌, ◌-◌, ◌^◌, ◌≤◌, List, length, filter, min, refl, ap, arith}
 use Rattle.std.specs.Prelude.{sum_by, Option}
+use Rattle.apcu_model.specs.declared.conf.TheConstants.{MOST_USABLE_WORDS}
 use Rattle.apcu_model.specs.declared.searching.List.{List as RowList}
 use Rattle.apcu_model.specs.declared.searching.List.TheVariants.{Active, Deleted}
 use Rattle.apcu_model.specs.declared.searching.Pattern.{Pattern}
@@ -22,16 +23,16 @@ pub record AreTotals (sums : Sums) (rows : List Row) : Type 0 where
   pub count : sums.count ≡ length rows
   pub hits : sums.hits ≡ min (sum_by (λ (row : Row). row.hits) rows) (2 ^ 64 - 1)
   pub words : sums.words ≡ sum_by (λ (row : Row). row.size) rows
-  pub small : sums.words ≤ 16777216
+  pub small : sums.words ≤ MOST_USABLE_WORDS
 
-few_within : (n k : ℕ) → n ≡ within (0 + k) → k ≤ 16777216 → n ≡ k
+few_within : (n k : ℕ) → n ≡ within (0 + k) → k ≤ MOST_USABLE_WORDS → n ≡ k
 few_within n k is few = grind (arith, is, few)
 
 zero_within : (n k : ℕ) → n ≡ within (0 + k) → n ≡ min k (2 ^ 64 - 1)
 zero_within n k is = grind (arith, is)
 
 sums_few : (s : Entries) (choice : Choice) (rows : List Row) (sums : Sums)
-    → length rows ≤ 16777216 → sum_by size_of rows ≤ 16777216
+    → length rows ≤ MOST_USABLE_WORDS → sum_by size_of rows ≤ MOST_USABLE_WORDS
     → sums ≡ with_rows no_sums (filter (is_chosen choice) rows)
     → AreTotals sums (filter (is_chosen choice) rows)
 sums_few s choice rows sums count words is =

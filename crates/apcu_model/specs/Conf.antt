@@ -3,7 +3,7 @@ use Rattle.std.specs.Prelude.{◌≡◌, ℕ, ◌+◌, ◌-◌, ◌*◌, ◌/◌
 use Rattle.std.proofs.Common.{ap, sym, subst, ◌∙◌, arith}
 use Rattle.std.proofs.Math.Nat as nat
 use Rattle.apcu_model.specs.declared.conf.Conf.{Conf}
-use Rattle.apcu_model.specs.declared.conf.TheConstants.{MOST_SEGMENTS, MOST_SLOTS, MOST_WORDS}
+use Rattle.apcu_model.specs.declared.conf.TheConstants.{MOST_SEGMENTS, MOST_SLOTS, MOST_USABLE_WORDS, MOST_WORDS}
 
 -- the words of one segment
 unfoldable pub piece_of : Conf → ℕ
@@ -14,6 +14,7 @@ piece_of conf = conf.words / conf.segments
 abbrev pub most_of : Conf → ℕ
 most_of conf = if conf.segments == 1 then conf.words - conf.slots else piece_of conf
 
+-- a shape that a cache of the program may have
 pub record IsGood (conf : Conf) : Type 0 where
   pub segments_least : 1 ≤ conf.segments
   pub segments_most : conf.segments ≤ MOST_SEGMENTS
@@ -25,15 +26,42 @@ pub record IsGood (conf : Conf) : Type 0 where
   pub slots_most : conf.slots ≤ MOST_SLOTS
   pub room : conf.slots + 16 ≤ piece_of conf
 
+-- A shape for which an engine can make a cache. It may have more words than a good one, and all else
+-- is asked of both.
+pub record IsUsable (conf : Conf) : Type 0 where
+  pub segments_least : 1 ≤ conf.segments
+  pub segments_most : conf.segments ≤ MOST_SEGMENTS
+  pub words_even : conf.words % (2 * conf.segments) ≡ 0
+  pub words_least : 32 ≤ conf.words
+  pub words_most : conf.words ≤ MOST_USABLE_WORDS
+  pub slots_even : conf.slots % 2 ≡ 0
+  pub slots_least : 2 ≤ conf.slots
+  pub slots_most : conf.slots ≤ MOST_SLOTS
+  pub room : conf.slots + 16 ≤ piece_of conf
+
+-- an engine can make a cache of each good shape
+pub usable_of : {conf : Conf} → IsGood conf → IsUsable conf
+usable_of good = record {
+  segments_least = good.segments_least;
+  segments_most = good.segments_most;
+  words_even = good.words_even;
+  words_least = good.words_least;
+  words_most = omega (arith, good.words_most);
+  slots_even = good.slots_even;
+  slots_least = good.slots_least;
+  slots_most = good.slots_most;
+  room = good.room;
+}
+
 -- the words of a segment are an even number, and all words too
-pub piece_even : {conf : Conf} → IsGood conf → piece_of conf % 2 ≡ 0
+pub piece_even : {conf : Conf} → IsUsable conf → piece_of conf % 2 ≡ 0
 unfolding piece_of
-piece_even {conf} good =
-    let some = good.segments_least in
+piece_even {conf} usable =
+    let some = usable.segments_least in
     let q = conf.words / (2 * conf.segments) in
     let whole : conf.words ≡ (2 * q) * conf.segments =
     sym (nat.div-add-mod' conf.words (2 * conf.segments))
-    ∙ ap (λ (r : ℕ). q * (2 * conf.segments) + r) good.words_even
+    ∙ ap (λ (r : ℕ). q * (2 * conf.segments) + r) usable.words_even
     ∙ omega (
       arith,
       sym (nat.mul_assoc q 2 conf.segments),
@@ -43,11 +71,11 @@ piece_even {conf} good =
     ap (λ (x : ℕ). x / conf.segments) whole ∙ nat.mul-div_cancel (2 * q) some in
     omega arith
 
-pub words_even_of : {conf : Conf} → IsGood conf → conf.words % 2 ≡ 0
-words_even_of {conf} good =
+pub words_even_of : {conf : Conf} → IsUsable conf → conf.words % 2 ≡ 0
+words_even_of {conf} usable =
     let q = conf.words / (2 * conf.segments) in
     let whole = nat.div-add-mod' conf.words (2 * conf.segments) in
-    let even = good.words_even in
+    let even = usable.words_even in
     let twice : q * (2 * conf.segments) ≡ 2 * (q * conf.segments) =
     nat.mul_left_comm q 2 conf.segments in
     omega arith
@@ -57,8 +85,8 @@ pub piece_most : (conf : Conf) → piece_of conf ≤ conf.words
 unfolding piece_of
 piece_most conf = nat.div-le_self conf.words conf.segments
 
-pub room_of : {conf : Conf} → IsGood conf → conf.slots + 16 ≤ conf.words
-room_of {conf} good = let room = good.room in omega (arith, piece_most conf)
+pub room_of : {conf : Conf} → IsUsable conf → conf.slots + 16 ≤ conf.words
+room_of {conf} usable = let room = usable.room in omega (arith, piece_most conf)
 
 -- a shape with one segment is good by bounds on words and slots alone
 pub good_one : (words slots ttl : ℕ) → words % 2 ≡ 0 → 32 ≤ words → words ≤ MOST_WORDS

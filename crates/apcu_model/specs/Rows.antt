@@ -3,7 +3,7 @@ use Rattle.std.specs.Prelude.{ℕ, ◌≡◌, ◌&&◌, not, Bool, true, if◌th
 use Rattle.std.specs.List.{list_any}
 use Rattle.apcu_model.specs.declared.state.State.{State}
 use Rattle.apcu_model.specs.Cache.{Row, Cache, has_key}
-use Rattle.apcu_model.specs.Conf.{IsGood}
+use Rattle.apcu_model.specs.Conf.{IsUsable}
 use Rattle.apcu_model.specs.Lookups.{touched}
 
 -- no two rows with one key: each row's key differs from those of the rows after it
@@ -30,5 +30,5 @@ cache_in s = record {
 
 -- what holds of a state before and after each request
 pub record IsValid (s : State) : Type 0 where
-  pub good : IsGood s.conf
+  pub usable : IsUsable s.conf
   pub apart : are_apart s.rows.items ≡ true

@@ -1,9 +1,12 @@
 ghost use Rattle.std.specs.Prelude.{◌≡◌, ◌↔◌, IsTrue};
-ghost use Rattle.apcu_model.specs.Conf.{IsGood, most_of, piece_of};
+ghost use Rattle.apcu_model.specs.Conf.{IsGood, IsUsable, most_of, piece_of};
 ghost use Rattle.apcu_model.specs.declared.conf.TheConstants.{USUAL_WORDS};
 
 /// The most words of all segments together: 128 MB.
 pub const MOST_WORDS: u32 = 16_777_216;
+
+/// The most words of all segments together that an engine may be asked for: 2 GB.
+pub const MOST_USABLE_WORDS: u32 = 268_435_456;
 
 /// The most slots of a cache.
 pub const MOST_SLOTS: u32 = 1_048_576;
@@ -70,6 +73,28 @@ impl Conf {
             && self.slots >= 2
             && self.slots <= MOST_SLOTS
             && self.slots + 16 <= self.piece()
+    }
+
+    /// Whether an engine can make a cache of this shape: all that `good` asks, but `words` may be up
+    /// to 268,435,456. A good shape is usable.
+    pub fn usable(&self) -> bool
+        ensures { IsTrue result ↔ IsUsable self.now }
+    {
+        let Conf {
+            words,
+            slots,
+            ttl: _,
+            segments,
+        } = *self;
+        segments >= 1
+            && segments <= MOST_SEGMENTS
+            && words % (2 * segments) == 0
+            && words >= 32
+            && words <= MOST_USABLE_WORDS
+            && slots % 2 == 0
+            && slots >= 2
+            && slots <= MOST_SLOTS
+            && slots + 16 <= self.piece()
     }
 
     /// The number of words of a segment.

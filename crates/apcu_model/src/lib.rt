@@ -23,7 +23,7 @@ mod tables;
 mod telling;
 
 pub use ask::Ask;
-pub use conf::{Clock, Conf, MOST_SEGMENTS, MOST_SLOTS, MOST_WORDS};
+pub use conf::{Clock, Conf, MOST_SEGMENTS, MOST_SLOTS, MOST_USABLE_WORDS, MOST_WORDS};
 pub use generator::{Gen, GenKind};
 pub use integers::integer;
 pub use items::{Chunk, ItemRow, Items};

@@ -1,7 +1,7 @@
 ghost use Rattle.std.specs.Prelude.{◌≡◌, ℕ, ◌<◌, ◌^◌, false, [], length, MatchOption};
 ghost use Rattle.std.specs.Prelude.{IfOk, OnOk, OnErr};
 ghost use Rattle.apcu_model.specs.Cache.{counts_of, empty_cache};
-ghost use Rattle.apcu_model.specs.Conf.{IsGood};
+ghost use Rattle.apcu_model.specs.Conf.{IsUsable};
 ghost use Rattle.apcu_model.specs.Sequential.{cache_after, is_iteration, reply_to};
 ghost use Rattle.apcu_model.specs.declared.request.Request.TheVariants.{Store, Fetch, Exists};
 ghost use Rattle.apcu_model.specs.declared.request.Request.TheVariants.{Delete, Inc, Cas, Clear};
@@ -42,7 +42,7 @@ impl Model for Plain {
 impl Plain {
     /// An empty cache of this shape. Its memory is taken from `alloc` as rows come in.
     pub fn new(alloc: Global, conf: &Conf) -> Plain
-        requires { IsGood conf.now }
+        requires { IsUsable conf.now }
         ensures { result ≡ empty_cache conf.now }
     {
         Plain {

@@ -6,7 +6,7 @@ ghost use Rattle.apcu_model.specs.Change.{cleared, deleted, expired_dropped, exp
 ghost use Rattle.apcu_model.specs.Change.{placed, put_in, with_room};
 ghost use Rattle.apcu_model.specs.Expiry.{live_row};
 ghost use Rattle.apcu_model.specs.Rows.{IsValid, cache_in};
-ghost use Rattle.apcu_model.specs.Conf.{IsGood};
+ghost use Rattle.apcu_model.specs.Conf.{IsUsable};
 ghost use Rattle.apcu_model.specs.Lookups.{looked_up};
 ghost use Rattle.apcu_model.specs.Sequential.{found_in, is_stored};
 
@@ -46,7 +46,7 @@ impl State {
     // The least place where a block of so many words fits. The list has room for all blocks.
     fn gap(&self, n: u32, extents: &mut Vec<Extent>) -> Option<u32>
         requires room { vec_len self.now.rows ≤ vec_capacity extents.old }
-        requires good { IsGood self.now.conf }
+        requires usable { IsUsable self.now.conf }
         ensures place { result ≡ gap_of (cache_in self.now) n }
         ensures capacity { vec_capacity extents.new ≡ vec_capacity extents.old }
     {

@@ -6,7 +6,7 @@ ghost use Rattle.php_graph.specs.ByteStrings.{AreBytes};
 ghost use Rattle.apcu_model.specs.Infos.{info_array, info_counts, info_gap, info_gaps, info_list};
 ghost use Rattle.apcu_model.specs.Infos.{gaps_in, info_members, info_numbered, info_segment};
 ghost use Rattle.apcu_model.specs.Infos.{info_values};
-ghost use Rattle.apcu_model.specs.Conf.{IsGood};
+ghost use Rattle.apcu_model.specs.Conf.{IsUsable};
 ghost use Rattle.php_graph.specs.Size.{cells_of};
 ghost use Rattle.php_graph.specs.declared.kind.Kind.TheVariants as kinds;
 ghost use Rattle.std.specs.List.{range_with_len};
@@ -345,7 +345,7 @@ pub fn tell_words(alloc: Global, conf: Conf, free: u32) -> Result<Graph, AllocEr
 
 /// What `apcu_sma_info` tells of the segments with their gaps.
 pub fn tell_gaps(alloc: Global, conf: Conf, free: u32, gaps: &[Extent]) -> Result<Graph, AllocError>
-    requires { IsGood conf }
+    requires { IsUsable conf }
     ensures { IfOk result
         (λ g. g ≡ info_array (info_words conf free ++ info_gaps conf gaps.now) 1) }
 {
@@ -360,7 +360,7 @@ fn segment_places(
     free: u32,
     gaps: &[Extent],
 ) -> Result<Telling, AllocError>
-    requires { IsGood conf }
+    requires { IsUsable conf }
     ensures info { IfOk result
         (λ t. t ≡ info_array (info_words conf free ++ info_gaps conf gaps.now) 1) }
     ensures tellable { IfOk result (λ t. IsTellable t) }

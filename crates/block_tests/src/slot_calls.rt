@@ -5,7 +5,7 @@ ghost use Rattle.std.specs.Prelude.{slice_index};
 ghost use Rattle.seg_words.specs.Kept.{Kept, KeptBeside};
 ghost use Rattle.seg_words.specs.Windows.{is_named};
 ghost use Rattle.php_graph.specs.Size.{block_size};
-ghost use Rattle.apcu_model.specs.Conf.{IsGood};
+ghost use Rattle.apcu_model.specs.Conf.{IsUsable};
 ghost use Rattle.entry_slots.specs.Lists.{has_place};
 ghost use Rattle.entry_slots.specs.Entries.{no_entries, chain_of, listed};
 ghost use Rattle.entry_slots.specs.Standing.{Stand, entries};
@@ -76,7 +76,7 @@ fn set_and_use<S: Segment>(
     t: u64,
 ) -> Option<Read>
     requires short { length key.now < 2 ^ 32 }
-    requires good { IsGood conf.now }
+    requires usable { IsUsable conf.now }
     requires all { length (S.words seg.old) ≡ conf.now.words }
     requires closed { (at : ℕ) → is_named (S.aside seg.old).windows at ≡ false }
     requires enough { length (S.words seg.old) ≤ 4 * length gaps }
@@ -191,7 +191,7 @@ fn clear<S: Segment>(
     g: &Graph,
 ) -> Option<(u32, u32, Option<u32>)>
     requires short { length key.now < 2 ^ 32 }
-    requires good { IsGood conf.now }
+    requires usable { IsUsable conf.now }
     requires all { length (S.words seg.old) ≡ conf.now.words }
     requires closed { (at : ℕ) → is_named (S.aside seg.old).windows at ≡ false }
     requires enough { length (S.words seg.old) ≤ 4 * length gaps }

@@ -4,7 +4,7 @@ ghost use Rattle.std.specs.Prelude.{◌≡◌, ℕ, ◌<◌, ◌^◌, false, len
 ghost use Rattle.seg_words.specs.Kept.{KeptBeside};
 ghost use Rattle.seg_words.specs.Windows.{is_named};
 ghost use Rattle.php_graph.specs.Size.{block_size};
-ghost use Rattle.apcu_model.specs.Conf.{IsGood};
+ghost use Rattle.apcu_model.specs.Conf.{IsUsable};
 ghost use Rattle.entry_slots.specs.Entries.{with_taken, linked, old_place};
 ghost use Rattle.entry_slots.specs.Standing.{Stand, entries};
 
@@ -24,7 +24,7 @@ pub(crate) fn number(alloc: Global, n: i64) -> Result<Graph, Fail> {
 }
 
 pub(crate) fn small() -> Conf
-    ensures good { IsGood result }
+    ensures usable { IsUsable result }
     ensures words { result.words ≡ 512 }
 {
     Conf {

@@ -4,7 +4,7 @@ ghost use Rattle.seg_words.specs.Windows.{is_named};
 ghost use Rattle.std.specs.Borrow.{sem};
 ghost use Rattle.apcu_model.specs.Cache.{empty_cache, counts_of};
 ghost use Rattle.entry_slots.specs.Standing.{IsStanding};
-ghost use Rattle.apcu_model.specs.Conf.{IsGood};
+ghost use Rattle.apcu_model.specs.Conf.{IsUsable};
 
 use crate::cache_counts::CacheCounts;
 use apcu_model::{Conf, Counts};
@@ -41,7 +41,7 @@ impl Core {
     ///
     /// `gaps` is the memory of the index of gaps: zeros, one for every four words.
     pub fn format<S: Segment>(seg: &mut S, conf: &Conf, gaps: MaxRow) -> Core
-        requires good { IsGood conf.now }
+        requires usable { IsUsable conf.now }
         requires all { length (S.words seg.old) ≡ conf.now.words }
         requires closed { (at : ℕ) → is_named (S.aside seg.old).windows at ≡ false }
         requires enough { length (S.words seg.old) ≤ 4 * length gaps }

@@ -39,9 +39,9 @@ pub(crate) struct Both {
 }
 
 impl Both {
-    // Caches of this shape, which is a good one.
+    // Caches of this shape, which is a usable one.
     pub(crate) fn new(rt: &impl Abort, alloc: Global, conf: &Conf) -> Result<Both, Fail> {
-        assert!(rt; conf.good());
+        assert!(rt; conf.usable());
         Ok(Both {
             alloc,
             small: Small::new(alloc, conf)?,

@@ -1,7 +1,7 @@
 //! The cache over words of which blocks are held for workers, as copies under way hold them.
 
 ghost use Rattle.std.specs.Prelude.{◌≡◌, ◌⊎◌, ℕ, ◌%◌, ◌<◌, ◌≤◌, ◌^◌, true, false, length};
-ghost use Rattle.apcu_model.specs.Conf.{IsGood};
+ghost use Rattle.apcu_model.specs.Conf.{IsUsable};
 ghost use Rattle.seg_words.specs.Kept.{Kept};
 ghost use Rattle.seg_words.specs.Windows.{has};
 ghost use Rattle.entry_slots.specs.Lists.{has_place};
@@ -110,7 +110,7 @@ impl Model for Held {
 
 impl Held {
     pub(crate) fn new(alloc: Global, conf: &Conf) -> Result<Held, AllocError>
-        requires { IsGood conf.now }
+        requires { IsUsable conf.now }
     {
         let mut words = HeldWords::new(alloc, conf.words)?;
         let gaps = MaxRow::new(alloc, conf.words as usize / 4 + 1)?;

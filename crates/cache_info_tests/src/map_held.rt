@@ -2,7 +2,7 @@
 //! rows are dropped, and stay until a store sweeps them.
 
 ghost use Rattle.std.specs.Prelude.{◌≡◌, ℕ, ◌<◌, ◌^◌, true, false, length, replicate, slice_set};
-ghost use Rattle.apcu_model.specs.Conf.{IsGood};
+ghost use Rattle.apcu_model.specs.Conf.{IsUsable};
 ghost use Rattle.seg_words.specs.Windows.{has};
 ghost use Rattle.entry_slots.specs.Lists.{has_place};
 ghost use Rattle.entry_slots.specs.Entries.{listed};
@@ -74,7 +74,7 @@ impl Model for Held {
 
 impl Held {
     fn new(alloc: Global, conf: &Conf) -> Result<Held, AllocError>
-        requires { IsGood conf.now }
+        requires { IsUsable conf.now }
     {
         let mut words = HeldWords::new(alloc, conf.words)?;
         let gaps = MaxRow::new(alloc, conf.words as usize / 4 + 1)?;
@@ -155,7 +155,7 @@ fn is_done(rt: &impl Abort, alloc: Global, held: &mut Held, act: Act) -> Result<
 
 // The map after what was done, and how many blocks of 16 words fit.
 fn tells(rt: &impl Abort, alloc: Global, acts: &[Act], map: &str, fits: u32) -> Result<(), Fail> {
-    assert!(rt; ONE.good());
+    assert!(rt; ONE.usable());
     let mut held = Held::new(alloc, &ONE)?;
     for act in acts {
         assert!(rt; is_done(rt, alloc, &mut held, *act)?);

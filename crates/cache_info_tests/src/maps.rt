@@ -38,7 +38,7 @@ fn tells(
     map: &str,
     fits: u32,
 ) -> Result<(), Fail> {
-    assert!(rt; conf.good());
+    assert!(rt; conf.usable());
     let mut small = Small::new(alloc, conf)?;
     play(rt, alloc, &mut small, acts)?;
     let mut out = ByteOut::new(alloc);

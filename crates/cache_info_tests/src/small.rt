@@ -1,6 +1,6 @@
 //! A cache over words in memory.
 
-ghost use Rattle.apcu_model.specs.Conf.{IsGood};
+ghost use Rattle.apcu_model.specs.Conf.{IsUsable};
 
 use crate::asking::{answer_of, flag};
 use apcu_model::{Conf, Counts, Request, StoreAnswer};
@@ -42,7 +42,7 @@ impl Model for Small {
 
 impl Small {
     pub(crate) fn new(alloc: Global, conf: &Conf) -> Result<Small, AllocError>
-        requires { IsGood conf.now }
+        requires { IsUsable conf.now }
     {
         let mut words = VecWords::new(alloc, conf.words)?;
         let gaps = MaxRow::new(alloc, conf.words as usize / 4 + 1)?;

@@ -6,7 +6,7 @@ ghost use Rattle.apcu_model.specs.Sequential.{is_iteration};
 use crate::asking::{Act, NO, NONE, YES, segments, shape};
 use crate::both::Both;
 use crate::draws::{Draw, key};
-use apcu_model::{Conf, Request};
+use apcu_model::{Conf, MOST_WORDS, Request};
 use notation::ByteOut;
 use php_graph::Bytes;
 use std::alloc::Global;
@@ -133,6 +133,41 @@ fn tells_of_a_key(rt: HostRuntime) -> Result<(), Fail> {
         &rt,
         rt.alloc(),
         &shape(512, 0),
+        &[
+            (100, b"a", Act::Put(1, 10), YES),
+            (105, b"a", Act::Fetch, Some(1)),
+        ],
+        TEXTS,
+    )
+}
+
+// Two words more than a good shape has.
+#[test]
+fn tells_of_more_words_than_are_good(rt: HostRuntime) -> Result<(), Fail> {
+    const LARGE: Conf = shape(MOST_WORDS + 2, 0);
+    const TEXTS: &[Text] = &[
+        (
+            Told::Cache(true),
+            &[
+                "a:8:{s:9:\"num_slots\";i:32;s:3:\"ttl\";i:0;s:8:\"num_hits\";i:1;",
+                "s:10:\"num_misses\";i:0;s:11:\"num_inserts\";i:1;s:11:\"num_entries\";i:1;",
+                "s:8:\"expunges\";i:0;s:8:\"mem_size\";i:128;}",
+            ],
+        ),
+        (
+            Told::Segment(false),
+            &[
+                "a:4:{s:7:\"num_seg\";i:1;s:8:\"seg_size\";i:134217744;",
+                "s:9:\"avail_mem\";i:134217360;s:11:\"block_lists\";a:1:{i:0;a:1:{i:0;a:2:{",
+                "s:4:\"size\";i:134217360;s:6:\"offset\";i:384;}}}}",
+            ],
+        ),
+    ];
+    assert!(rt; !LARGE.good());
+    told_after(
+        &rt,
+        rt.alloc(),
+        &LARGE,
         &[
             (100, b"a", Act::Put(1, 10), YES),
             (105, b"a", Act::Fetch, Some(1)),

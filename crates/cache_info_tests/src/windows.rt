@@ -119,15 +119,15 @@ fn ask_held(
     Ok(draw.t)
 }
 
-// A cache of this shape, which is a good one.
+// A cache of this shape, which is a usable one.
 fn held_of(rt: &impl Abort, alloc: Global, conf: &Conf) -> Result<Held, Fail> {
-    assert!(rt; conf.good());
+    assert!(rt; conf.usable());
     Ok(Held::new(alloc, conf)?)
 }
 
 // A plain one.
 fn plain_of(rt: &impl Abort, alloc: Global, conf: &Conf) -> Plain {
-    assert!(rt; conf.good());
+    assert!(rt; conf.usable());
     Plain::new(alloc, conf)
 }
 

@@ -48,9 +48,9 @@ impl Drop for Table {
 }
 
 impl Table {
-    // A table of this shape, which is a good one.
+    // A table of this shape, which is a usable one.
     pub(crate) fn new(rt: &impl Abort, alloc: Global, conf: &Conf) -> Result<Table, Fail> {
-        assert!(rt; conf.good());
+        assert!(rt; conf.usable());
         let search = Search::new(alloc, &RegexMaker, None)?;
         let replay = Replay::new(alloc, conf, MOST)?;
         Ok(Table {

@@ -1,7 +1,7 @@
 //! The cache over words and the plain one, which are asked the same.
 
 ghost use Rattle.std.specs.Prelude.{◌≡◌, ◌%◌, ◌≤◌};
-ghost use Rattle.apcu_model.specs.Conf.{IsGood};
+ghost use Rattle.apcu_model.specs.Conf.{IsUsable};
 
 use crate::calls::{Answer, Call};
 use crate::draws::{Draw, Kinds};
@@ -16,7 +16,7 @@ use std::test::Fail;
 
 pub(crate) fn shape(words: u32, ttl: u32) -> Conf
     requires even { (words % 2 ≡ 0) × (512 ≤ words) × (words ≤ 65536) }
-    ensures good { IsGood result }
+    ensures usable { IsUsable result }
     ensures words { result.words ≡ words }
 {
     Conf {

@@ -1,7 +1,7 @@
 //! What the cache over words does, and what iterators give of it.
 
 ghost use Rattle.std.specs.Prelude.{◌≡◌, ℕ, ◌≤◌, false, length};
-ghost use Rattle.apcu_model.specs.Conf.{IsGood};
+ghost use Rattle.apcu_model.specs.Conf.{IsUsable};
 ghost use Rattle.apcu_model.specs.Levels.{most_levels};
 ghost use Rattle.seg_words.specs.Windows.{has};
 ghost use Rattle.cache_core.specs.CoreCache.{CacheStands};
@@ -90,7 +90,7 @@ impl Model for Small {
 
 impl Small {
     pub(crate) fn new(alloc: Global, conf: &Conf) -> Result<Small, Fail>
-        requires { IsGood conf.now }
+        requires { IsUsable conf.now }
     {
         let mut words = VecWords::new(alloc, conf.words)?;
         let gaps = MaxRow::new(alloc, conf.words as usize / 4 + 1)?;

@@ -5,6 +5,7 @@ use Rattle.std.proofs.lemmas.List.{length-set, get_or-set_other}
 use Rattle.std.proofs.lemmas.List.Elements.{Contains-append_left, Contains-append_right}
 use Rattle.std.specs.List.{Contains, filter, count_by}
 use Rattle.seg_words.specs.declared.layout.TheConstants.{KEY_LENGTH, IMAGE_LENGTH}
+use Rattle.apcu_model.specs.declared.conf.TheConstants.{MOST_USABLE_WORDS}
 use Rattle.entry_slots.specs.declared.head.TheConstants.{NEXT}
 use Rattle.seg_words.specs.Windows.{Aside, is_named}
 use Rattle.seg_words.specs.Blocks.{IsTold, MayStore}
@@ -78,14 +79,14 @@ spot_after first (row ∷ rows) spot homes = spot_after (row.place + NEXT) rows 
 -- it is read, and may be stored
 pub record IsLinkWord (ws windows : List ℕ) (m : ℕ) : Type 0 where
   pub inside : m < length ws
-  pub short : length ws ≤ 16777216
+  pub short : length ws ≤ MOST_USABLE_WORDS
   pub told : IsTold windows m
   pub may : MayStore ws windows m
 
 pub spot_word : {e : EntrySlots} {ws : List ℕ} {aside : Aside} {s : Entries} (m : ℕ) → Stands e ws aside s → Spot e ws aside m → IsLinkWord ws aside.windows m
 spot_word {e} {ws} {aside} {s} m h (inl low) = record {
-  inside = omega (arith, h.from, h.to, h.ready.end, room_of h.good);
-  short = omega (arith, h.to, h.ready.end, h.good.words_most);
+  inside = omega (arith, h.from, h.to, h.ready.end, room_of h.usable);
+  short = omega (arith, h.to, h.ready.end, h.usable.words_most);
   told = told_slot e.sma ws aside m h.ready low;
   may = may_slot e.sma ws aside m h.ready low;
 }

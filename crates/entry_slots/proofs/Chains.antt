@@ -74,7 +74,7 @@ small_after {e = e} {ws = ws} {aside = aside} {at = at} h =
       | inl l ↦
           let own = in_own_slot s at l in
           let slot = slot_of s.conf own.0.key in
-          let lt : slot < e.sma.from = omega (arith, slot_small (hash_of own.0.key) s.conf.slots h.stand.good.slots_least, h.stand.from) in
+          let lt : slot < e.sma.from = omega (arith, slot_small (hash_of own.0.key) s.conf.slots h.stand.usable.slots_least, h.stand.from) in
           let small = small_next e ws aside at (chain_of s slot) (home_chain slot h.stand) in
           omega (arith, next_row s at slot h.stand lt own.1, small)
       | inr r ↦

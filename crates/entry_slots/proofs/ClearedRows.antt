@@ -115,7 +115,7 @@ module _ {e : EntrySlots} {ws : List ℕ} {aside : Aside} (s : Entries) (h : Sta
     apart = refl;
     number = h.number;
     count = refl;
-    good = h.good;
+    usable = h.usable;
     from = ef ∙ h.from;
     to = et ∙ h.to;
     piece = es ∙ h.piece;

@@ -5,7 +5,7 @@ use Rattle.seg_words.specs.Windows.{Aside}
 use Rattle.sma_blocks.specs.Live.{live_blocks}
 use Rattle.sma_blocks.specs.Ready.{IsReady}
 use Rattle.apcu_model.specs.declared.conf.Conf.{Conf}
-use Rattle.apcu_model.specs.Conf.{IsGood, piece_of}
+use Rattle.apcu_model.specs.Conf.{IsUsable, piece_of}
 use Rattle.entry_slots.specs.declared.slots.EntrySlots.{EntrySlots}
 use Rattle.entry_slots.specs.Entries.{Entries}
 use Rattle.entry_slots.specs.Standing.{Stands}
@@ -15,9 +15,9 @@ use Rattle.seg_words.specs.Members.{none_in_nil}
 abbrev pub bare : Conf → ℕ → Entries
 bare conf number = record { conf = conf; rows = []; removed = []; next_number = number; unlinked = []; taken = [] }
 
-pub bare_stands : (e : EntrySlots) (ws : List ℕ) (aside : Aside) (conf : Conf) → IsGood conf → ((slot : ℕ) → slot < conf.slots → slice_index ws slot ≡ 0) → e.removed ≡ 0 → e.count ≡ 0
+pub bare_stands : (e : EntrySlots) (ws : List ℕ) (aside : Aside) (conf : Conf) → IsUsable conf → ((slot : ℕ) → slot < conf.slots → slice_index ws slot ≡ 0) → e.removed ≡ 0 → e.count ≡ 0
     → IsReady e.sma ws aside → live_blocks ws e.sma.from ≡ [] → e.sma.from ≡ conf.slots → e.sma.to ≡ conf.words → e.sma.piece ≡ piece_of conf → Stands e ws aside (bare conf e.next_number)
-bare_stands e ws aside conf good ended removed count ready live from to piece = record {
+bare_stands e ws aside conf usable ended removed count ready live from to piece = record {
   chains = ended;
   removed_chain = removed;
   rows = λ row x. absurd (none_in_nil row x);
@@ -29,7 +29,7 @@ bare_stands e ws aside conf good ended removed count ready live from to piece = 
   apart = refl;
   number = refl;
   count = count;
-  good = good;
+  usable = usable;
   from = from;
   to = to;
   piece = piece;

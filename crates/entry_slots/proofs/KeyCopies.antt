@@ -10,6 +10,7 @@ use Rattle.php_graph.specs.ByteStrings.{AreBytes}
 use Rattle.value_image.specs.PackedBytes.{words_of, bytes_of}
 use Rattle.value_image.specs.Laws.{BytesArePacked}
 use Rattle.value_image.specs.Rows.{StandsAt}
+use Rattle.apcu_model.specs.declared.conf.TheConstants.{MOST_USABLE_WORDS}
 use Rattle.apcu_model.specs.Cache.{Row}
 use Rattle.entry_slots.specs.declared.slots.EntrySlots.{EntrySlots}
 use Rattle.entry_slots.proofs.RowBlocks.{IsHome, room}
@@ -19,7 +20,7 @@ pub record IsKeyAt (ws windows : List ℕ) (at : ℕ) (key : List ℕ) : Type 0 
   pub back : take (length key) (bytes_of (drop (at + HEAD_WORDS) ws)) ≡ key
   pub inside : at + HEAD_WORDS + words_in (length key) ≤ length ws
   pub told : (i : ℕ) → at + HEAD_WORDS ≤ i → i < at + HEAD_WORDS + words_in (length key) → IsTold windows i
-  pub short : length ws ≤ 16777216
+  pub short : length ws ≤ MOST_USABLE_WORDS
 
 bytes_back : BytesArePacked → (ws : List ℕ) (at : ℕ) (key : List ℕ) → AreBytes key → StandsAt ws at (words_of key) → take (length key) (bytes_of (drop at ws)) ≡ key
 bytes_back law ws at key are stands =

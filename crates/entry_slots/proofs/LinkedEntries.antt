@@ -37,8 +37,8 @@ module _ {e : EntrySlots} {ws : List ℕ} {aside : Aside} (s : Entries) (h : Sta
     ready = h.ready;
     live = taken_live (extent_of (stored_row key g ttl t at s.next_number)) h taken;
     entry = entry;
-    past = omega (arith, h.from, h.good.slots_least);
-    short = omega (arith, h.to, h.good.words_most, h.ready.end);
+    past = omega (arith, h.from, h.usable.slots_least);
+    short = omega (arith, h.to, h.usable.words_most, h.ready.end);
   }
 
   row_elsewhere : (row : Row) → Contains s.rows row → row.place ≢ at
@@ -99,7 +99,7 @@ module _ {e : EntrySlots} {ws : List ℕ} {aside : Aside} (s : Entries) (h : Sta
         apart = law.rows.more row s.rows h.apart;
         number = en;
         count = ec;
-        good = h.good;
+        usable = h.usable;
         from = h.from;
         to = h.to;
         piece = h.piece;

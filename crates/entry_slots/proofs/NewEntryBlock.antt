@@ -127,7 +127,7 @@ module _ {e : EntrySlots} {ws : List ℕ} {aside : Aside} {s : Entries} (h : Sta
     apart = h.apart;
     number = h.number;
     count = h.count;
-    good = h.good;
+    usable = h.usable;
     from = h.from;
     to = h.to;
     piece = h.piece;

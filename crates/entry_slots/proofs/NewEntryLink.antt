@@ -5,6 +5,7 @@ use Rattle.std.proofs.lemmas.List.Elements.{Contains-append_right}
 use Rattle.std.proofs.lemmas.List.{length-map, append-nil}
 use Rattle.std.specs.List.{Contains, find, list_any}
 use Rattle.seg_words.specs.declared.layout.TheConstants.{HEAD_WORDS}
+use Rattle.apcu_model.specs.declared.conf.TheConstants.{MOST_USABLE_WORDS}
 use Rattle.entry_slots.specs.declared.head.TheConstants.{NEXT}
 use Rattle.seg_words.specs.declared.gaps.Extent.{Extent}
 use Rattle.seg_words.specs.Windows.{Aside}
@@ -95,11 +96,11 @@ module _ {e : EntrySlots} {ws : List ℕ} {aside : Aside} (s : Entries) (h : Sta
   block : Extent
   block = record { place = at; size = block_size (length key) g }
 
-  pub taken_room : (at + (HEAD_WORDS + words_in (length key) + image_length g) ≤ length ws) × (length ws ≤ 16777216) × (HEAD_WORDS + words_in (length key) + image_length g ≤ block_size (length key) g)
+  pub taken_room : (at + (HEAD_WORDS + words_in (length key) + image_length g) ≤ length ws) × (length ws ≤ MOST_USABLE_WORDS) × (HEAD_WORDS + words_in (length key) + image_length g ≤ block_size (length key) g)
   taken_room =
       let bounds = live_bounds e.sma ws aside (record { place = at; size = block_size (length key) g }) h.ready (taken_live (record { place = at; size = block_size (length key) g }) h taken) in
       let enough = block_enough (HEAD_WORDS + words_in (length key) + image_length g) in
-      (omega (arith, bounds.1, enough), omega (arith, h.to, h.good.words_most, h.ready.end), enough)
+      (omega (arith, bounds.1, enough), omega (arith, h.to, h.usable.words_most, h.ready.end), enough)
 
   pub taken_write : MayWrite ws aside.windows (at + NEXT) (11 + words_in (length key) + image_length g)
   taken_write = let r = taken_room in record {

@@ -10,6 +10,7 @@ use Rattle.sma_blocks.specs.Live.{live_blocks}
 use Rattle.sma_blocks.specs.Ready.{IsReady}
 use Rattle.seg_words.specs.Layout.{words_in}
 use Rattle.php_graph.specs.Size.{image_length}
+use Rattle.apcu_model.specs.declared.conf.TheConstants.{MOST_USABLE_WORDS}
 use Rattle.apcu_model.specs.Cache.{Row, extent_of}
 use Rattle.entry_slots.specs.declared.slots.EntrySlots.{EntrySlots}
 use Rattle.entry_slots.specs.Lists.{is_at}
@@ -26,10 +27,10 @@ pub record IsHome (e : EntrySlots) (ws : List ℕ) (aside : Aside) (row : Row) :
   pub live : Contains (live_blocks ws e.sma.from) (extent_of row)
   pub entry : IsEntry ws row
   pub past : 2 ≤ e.sma.from
-  pub short : length ws ≤ 16777216
+  pub short : length ws ≤ MOST_USABLE_WORDS
 
-stands_short : {e : EntrySlots} {ws : List ℕ} {aside : Aside} {s : Entries} → Stands e ws aside s → (2 ≤ e.sma.from) × (length ws ≤ 16777216)
-stands_short h = (omega (arith, h.from, h.good.slots_least), omega (arith, h.to, h.good.words_most, h.ready.end))
+stands_short : {e : EntrySlots} {ws : List ℕ} {aside : Aside} {s : Entries} → Stands e ws aside s → (2 ≤ e.sma.from) × (length ws ≤ MOST_USABLE_WORDS)
+stands_short h = (omega (arith, h.from, h.usable.slots_least), omega (arith, h.to, h.usable.words_most, h.ready.end))
 
 pub home_row : {e : EntrySlots} {ws : List ℕ} {aside : Aside} {s : Entries} (row : Row) → Stands e ws aside s → Contains s.rows row → IsHome e ws aside row
 home_row {s = s} row h c = record {
@@ -66,7 +67,7 @@ pub record IsRoom (from : ℕ) (ws windows : List ℕ) (row : Row) : Type 0 wher
   pub low : from ≤ row.place
   pub some : 2 ≤ row.place
   pub high : row.place + row.size ≤ length ws
-  pub short : length ws ≤ 16777216
+  pub short : length ws ≤ MOST_USABLE_WORDS
   pub enough : HEAD_WORDS + words_in (length row.key) + image_length row.graph ≤ row.size
   pub told : (i : ℕ) → row.place ≤ i → i < row.place + row.size → i ≢ row.place + PIN_COUNT → IsTold windows i
 

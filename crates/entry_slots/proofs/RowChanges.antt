@@ -117,7 +117,7 @@ module _ {e : EntrySlots} {ws : List ℕ} {aside : Aside} {s : Entries} (h : Sta
         apart = law.rows.changed f s.rows keeps.key ∙ h.apart;
         number = h.number;
         count = h.count ∙ sym (length-map s.rows f);
-        good = h.good;
+        usable = h.usable;
         from = h.from;
         to = h.to;
         piece = h.piece;

@@ -53,7 +53,7 @@ relisted law {e} {ws} {aside} s h ws' change entry chains first removed unlinked
   apart = h.apart;
   number = h.number;
   count = h.count;
-  good = h.good;
+  usable = h.usable;
   from = h.from;
   to = h.to;
   piece = h.piece;
@@ -224,7 +224,7 @@ given_stands law {e} {ws} {aside} s h at q there place sma' ws' live same ef et 
       apart = h.apart;
       number = h.number;
       count = h.count;
-      good = h.good;
+      usable = h.usable;
       from = ef ∙ h.from;
       to = et ∙ h.to;
       piece = es ∙ h.piece;

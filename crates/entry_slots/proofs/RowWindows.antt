@@ -57,7 +57,7 @@ closed_stands e ws old new s fewer h = record {
   apart = h.apart;
   number = h.number;
   count = h.count;
-  good = h.good;
+  usable = h.usable;
   from = h.from;
   to = h.to;
   piece = h.piece;
@@ -85,7 +85,7 @@ opened_stands e ws old new s at there more h =
       apart = h.apart;
       number = h.number;
       count = h.count;
-      good = h.good;
+      usable = h.usable;
       from = h.from;
       to = h.to;
       piece = h.piece;
@@ -130,7 +130,7 @@ listed_copied e ws aside s at h there =
 pub block_inside : (e : EntrySlots) (ws : List ℕ) (aside : Aside) (s : Entries) (block : Extent) → Stands e ws aside s → Contains (blocks_of s) block → (0 < block.place) × (block.place + block.size ≤ length ws)
 block_inside e ws aside s block h c =
     let b = live_bounds e.sma ws aside block h.ready (same_there (live_blocks ws e.sma.from) (blocks_of s) block h.blocks c) in
-    (omega (arith, b.0, h.from, h.good.slots_least), b.1)
+    (omega (arith, b.0, h.from, h.usable.slots_least), b.1)
 
 pub blocks_lie_apart : (e : EntrySlots) (ws : List ℕ) (aside : Aside) (s : Entries) (one other : Extent) → Stands e ws aside s → Contains (blocks_of s) one → Contains (blocks_of s) other → LieApart one other
 unfolding Apart
@@ -140,7 +140,7 @@ blocks_lie_apart e ws aside s one other h c d =
 
 pub sound : (e : EntrySlots) (ws : List ℕ) (aside : Aside) (s : Entries) → Stands e ws aside s → IsSound s ws aside.windows
 sound e ws aside s h = record {
-  good = h.good;
+  usable = h.usable;
   apart = h.apart;
   once = once h;
   placed = false_from_ne_true (has_place 0 (listed s)) (λ there. let own = listed_at s 0 h there in omega (arith, own.2, (room own.3).some));

@@ -75,7 +75,7 @@ taken_stands law {e} {ws} {aside} s at n sma' ws' h some fit live same ef et es 
       apart = h.apart;
       number = h.number;
       count = h.count;
-      good = h.good;
+      usable = h.usable;
       from = ef ∙ h.from;
       to = et ∙ h.to;
       piece = es ∙ h.piece;
@@ -109,7 +109,7 @@ take_none {e} {ws} {aside} {s} sma' ws' aside' h ef et es ready ew ea =
       apart = k.apart;
       number = k.number;
       count = k.count;
-      good = k.good;
+      usable = k.usable;
       from = ef ∙ k.from;
       to = et ∙ k.to;
       piece = es ∙ k.piece;

@@ -99,7 +99,7 @@ unlink_stands law {e} {ws} {aside} s h at slot m next lt there link en count ec 
       apart = law.rows.picked (λ r. not (is_at at r)) s.rows h.apart;
       number = h.number;
       count = omega (arith, ec, h.count, fewer own.0 in_rows place);
-      good = h.good;
+      usable = h.usable;
       from = h.from;
       to = h.to;
       piece = h.piece;

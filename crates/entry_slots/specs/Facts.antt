@@ -6,7 +6,7 @@ use Rattle.seg_words.specs.Windows.{Aside, is_named}
 use Rattle.seg_words.specs.declared.layout.TheConstants.{PIN_COUNT}
 use Rattle.seg_words.specs.Blocks.{IsTold, MayProbe, image_place, image_end}
 use Rattle.apcu_model.specs.Cache.{Row}
-use Rattle.apcu_model.specs.Conf.{IsGood}
+use Rattle.apcu_model.specs.Conf.{IsUsable}
 use Rattle.apcu_model.specs.Rows.{are_apart}
 use Rattle.entry_slots.specs.Lists.{is_at, begins_at, has_place, first_place, place_after}
 use Rattle.entry_slots.specs.Entries.{Entries, chain_of, listed, unlinked_at}
@@ -30,7 +30,7 @@ LieApart one other =
 -- rows have one key, no place begins two blocks, no row or removed row is at 0, and each of them
 -- may be probed.
 pub record IsSound (s : Entries) (words windows : List ℕ) : Type 0 where
-  pub good : IsGood s.conf
+  pub usable : IsUsable s.conf
   pub apart : are_apart s.rows ≡ true
   pub once : (at : ℕ) → count_by (is_at at) s.rows
       + (count_by (is_at at) s.removed

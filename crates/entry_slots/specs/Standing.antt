@@ -15,7 +15,7 @@ use Rattle.value_image.specs.PackedBytes.{words_of}
 use Rattle.value_image.specs.Rows.{StandsAt}
 use Rattle.value_image.specs.Image.{IsImageOf}
 use Rattle.apcu_model.specs.Cache.{Row}
-use Rattle.apcu_model.specs.Conf.{IsGood, piece_of}
+use Rattle.apcu_model.specs.Conf.{IsUsable, piece_of}
 use Rattle.apcu_model.specs.Rows.{are_apart}
 use Rattle.entry_slots.specs.declared.head.TheConstants.{NEXT, TTL, CTIME, MTIME, ATIME, DTIME}
 use Rattle.entry_slots.specs.declared.head.TheConstants.{HITS, NUMBER}
@@ -78,7 +78,7 @@ pub record Stands (e : EntrySlots) (words : List ℕ) (aside : Aside) (s : Entri
   pub number : e.next_number ≡ s.next_number
   pub count : e.count ≡ length s.rows
   -- the bounds are those of the shape
-  pub good : IsGood s.conf
+  pub usable : IsUsable s.conf
   pub from : e.sma.from ≡ s.conf.slots
   pub to : e.sma.to ≡ s.conf.words
   pub piece : e.sma.piece ≡ piece_of s.conf

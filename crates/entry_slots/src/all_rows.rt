@@ -6,7 +6,7 @@ ghost use Rattle.std.specs.Prelude.{sum_by};
 ghost use Rattle.seg_words.specs.Kept.{Kept, KeptBeside};
 ghost use Rattle.seg_words.specs.Windows.{is_named};
 ghost use Rattle.sma_blocks.specs.Ready.{ChangesBefore};
-ghost use Rattle.apcu_model.specs.Conf.{IsGood};
+ghost use Rattle.apcu_model.specs.Conf.{IsUsable};
 ghost use Rattle.apcu_model.specs.Cache.{Row};
 ghost use Rattle.entry_slots.specs.Entries.{IsWhole, no_entries};
 ghost use Rattle.entry_slots.specs.Standing.{Stand, IsStanding, entries};
@@ -23,7 +23,7 @@ impl EntrySlots {
     ///
     /// `gaps` is the memory of the index of gaps: zeros, one for every four words.
     pub fn format<S: Segment>(seg: &mut S, conf: &Conf, gaps: MaxRow) -> EntrySlots
-        requires good { IsGood conf.now }
+        requires usable { IsUsable conf.now }
         requires all { length (S.words seg.old) ≡ conf.now.words }
         requires closed { (at : ℕ) → is_named (S.aside seg.old).windows at ≡ false }
         requires enough { length (S.words seg.old) ≤ 4 * length gaps }

@@ -1,6 +1,6 @@
 ghost use Rattle.std.specs.Prelude.{◌≡◌, ℕ, ◌+◌, ◌<◌, ◌≤◌, length, None, IfOk, OnOk, OnErr};
 ghost use Rattle.std.specs.Prelude.{slice_index_or};
-ghost use Rattle.apcu_model.specs.Conf.{IsGood};
+ghost use Rattle.apcu_model.specs.Conf.{IsUsable};
 ghost use Rattle.apcu_model.specs.declared.journal.TheConstants.{MOST_EVENTS};
 ghost use Rattle.apcu_model.specs.Asking.{asked};
 ghost use Rattle.apcu_model.specs.History.{start_of, is_legal_mask, reply_in, after_event};
@@ -71,7 +71,7 @@ impl Replay {
     /// Begins with an empty cache of this shape, for so many events at most. All words are taken
     /// here.
     pub fn new(alloc: Global, conf: &Conf, events: u32) -> Result<Replay, AllocError>
-        requires good { IsGood conf.now }
+        requires usable { IsUsable conf.now }
         requires few { events ≤ MOST_EVENTS }
         ensures { IfOk result (λ r. r ≡ record { stage = start_of conf.now; left = events }) }
     {

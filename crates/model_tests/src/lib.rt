@@ -13,4 +13,6 @@ mod options;
 #[cfg(test)]
 mod play;
 #[cfg(test)]
+mod shapes;
+#[cfg(test)]
 mod tasks;

@@ -177,6 +177,6 @@ fn keeps_a_journal(rt: HostRuntime) -> Result<(), Fail> {
     let mark = Mark { worker: 3, mask: 5 };
     journal.push(mark);
     expect_mark(&rt, &journal, mark);
-    assert!(rt; small(0).good());
+    assert!(rt; small(0).usable());
     Ok(())
 }

@@ -1,5 +1,5 @@
 ghost use Rattle.std.specs.Prelude.{◌≡◌, false, IfOk};
-ghost use Rattle.apcu_model.specs.Conf.{IsGood};
+ghost use Rattle.apcu_model.specs.Conf.{IsUsable};
 ghost use Rattle.apcu_model.specs.Sequential.{is_iteration};
 
 use apcu_model::*;
@@ -44,7 +44,7 @@ struct Pair {
 
 impl Pair {
     fn new(alloc: Global, conf: &Conf) -> Pair
-        requires { IsGood conf.now }
+        requires { IsUsable conf.now }
     {
         Pair {
             alloc,
@@ -367,7 +367,7 @@ fn do_call(rt: &impl Abort, pair: &mut Pair, call: Call, t: u64) -> Result<(), F
 }
 
 pub(crate) fn small(ttl: u32) -> Conf
-    ensures { IsGood result }
+    ensures { IsUsable result }
 {
     Conf {
         words: 512,

@@ -15,7 +15,7 @@ use Rattle.apcu_model.specs.declared.request.Reply.{Reply}
 use Rattle.apcu_model.specs.declared.request.Reply.TheVariants.{Flag, Ended}
 use Rattle.apcu_model.specs.Cache.{Row}
 use Rattle.apcu_model.specs.Change.{inserted}
-use Rattle.apcu_model.specs.Conf.{IsGood, room_of}
+use Rattle.apcu_model.specs.Conf.{IsGood, room_of, usable_of}
 use Rattle.apcu_model.specs.History.{Stage, held_places, is_copied, is_in_mask, is_legal_mask, reply_in}
 use Rattle.apcu_model.specs.Sequential.{is_stored}
 use Rattle.script_read.specs.declared.script.Step.{Step}
@@ -156,7 +156,7 @@ begins conf scripts worker script there = record {
 bundle_loads : (conf : Conf) (scripts : List (List Step)) (worker : ℕ) (records : List Record) (marks : List Mark) (q : Play) → IsGood conf → conf.segments ≡ 1 → words_of records ≤ conf.words - conf.slots → script_of scripts worker ≡ Some (loader_of records)
     → AllBy worker marks → length marks ≡ length records + 1 → played conf scripts marks ≡ Some q → IsLoaded worker records q
 bundle_loads conf scripts worker records marks q good one room script own count is =
-    goes_on conf scripts worker [] records marks (nothing_played conf scripts) q (record { even = good.slots_even; one = one }) (omega (arith, room, room_of good)) script own count (begins conf scripts worker (loader_of records) script) is
+    goes_on conf scripts worker [] records marks (nothing_played conf scripts) q (record { even = good.slots_even; one = one }) (omega (arith, room, room_of (usable_of good))) script own count (begins conf scripts worker (loader_of records) script) is
 
 -- what comes first can be played alone
 played_front : (conf : Conf) (scripts : List (List Step)) (p : Play) (own others : List Mark) (q : Play) → played_from conf scripts p (own ++ others) ≡ Some q → (m : Play) × (played_from conf scripts p own ≡ Some m)

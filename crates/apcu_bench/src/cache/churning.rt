@@ -155,7 +155,7 @@ fn times(rt: &HostRuntime, cache: &mut WordCache, most: u32, stores: u32) -> io:
 pub fn measure_churn(rt: &HostRuntime, plan: Plan, stores: u32) -> io::Result<()> {
     let slots = plan.rows.clamp(2, 1_048_576) / 2 * 2;
     let conf = plan.shape(slots.saturating_mul(64), slots, 0);
-    if !conf.good() {
+    if !conf.usable() {
         return Ok(());
     }
     let mut cache = WordCache::new(rt.alloc(), &conf)?;

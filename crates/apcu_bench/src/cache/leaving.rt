@@ -80,7 +80,7 @@ fn report_often(
 /// expired, and prints what was measured.
 pub fn measure_leaving(rt: &HostRuntime, plan: Plan, values: &Values) -> io::Result<()> {
     let conf = shape(plan);
-    if !conf.good() {
+    if !conf.usable() {
         return Ok(());
     }
     let mut cache = WordCache::new(rt.alloc(), &conf)?;

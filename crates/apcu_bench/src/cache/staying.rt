@@ -5,7 +5,7 @@ use crate::cache::plan::Plan;
 use crate::cache::steps::{INTEGERS, Step, TEXTS};
 use crate::cache::values::Values;
 use crate::cache::word_cache::{Act, WordCache};
-use apcu_model::Conf;
+use apcu_model::{Conf, MOST_SLOTS, MOST_WORDS};
 use std::io;
 
 // Of so many rows one has a short text, one a long one, and the others a truth value.
@@ -29,8 +29,8 @@ fn report(
 
 /// The shape of a cache of so many rows, with as many slots.
 pub fn shape(plan: Plan) -> Conf {
-    let slots = plan.rows.clamp(2, 1_048_576) / 2 * 2;
-    plan.shape((18 * slots).clamp(64, 16_777_216), slots, 0)
+    let slots = plan.rows.clamp(2, MOST_SLOTS) / 2 * 2;
+    plan.shape((18 * slots).clamp(64, MOST_WORDS), slots, 0)
 }
 
 // Measures each kind of call on texts once.
@@ -112,7 +112,7 @@ fn report_filled(
 /// Measures each kind of call.
 pub fn measure_staying(rt: &HostRuntime, plan: Plan, values: &Values) -> io::Result<()> {
     let conf = shape(plan);
-    if !conf.good() {
+    if !conf.usable() {
         return Ok(());
     }
     let mut cache = WordCache::new(rt.alloc(), &conf)?;

@@ -75,7 +75,7 @@ fn report_filled(
 /// what was measured.
 pub fn measure_telling(rt: &HostRuntime, plan: Plan, values: &Values) -> io::Result<()> {
     let conf = shape(plan);
-    if !conf.good() {
+    if !conf.usable() {
         return Ok(());
     }
     let mut cache = WordCache::new(rt.alloc(), &conf)?;

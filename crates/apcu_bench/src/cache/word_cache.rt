@@ -1,7 +1,7 @@
 //! The cache that is measured, and its calls.
 
 ghost use Rattle.std.specs.Prelude.{◌≡◌, ◌≤◌, length, IfSome};
-ghost use Rattle.apcu_model.specs.Conf.{IsGood};
+ghost use Rattle.apcu_model.specs.Conf.{IsUsable};
 ghost use Rattle.apcu_model.specs.Cache.{Row};
 ghost use Rattle.apcu_model.specs.Levels.{most_levels};
 ghost use Rattle.seg_words.specs.Kept.{Kept};
@@ -125,7 +125,7 @@ impl Model for WordCache {
 impl WordCache {
     /// A cache of this shape without rows.
     pub fn new(alloc: Global, conf: &Conf) -> Result<WordCache, AllocError>
-        requires { IsGood conf.now }
+        requires { IsUsable conf.now }
     {
         let mut words = VecWords::new(alloc, conf.words)?;
         let gaps = MaxRow::new(alloc, conf.words as usize / 4 + 1)?;

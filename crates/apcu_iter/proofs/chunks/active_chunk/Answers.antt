@@ -52,7 +52,7 @@ from_vec-requires g c =
     let all = slot_more (item_of c.args.fields) test s c.args.from at c.loop-slot.items.items c.list_slot.new.items.items c.requires.list i.step.low i.items added in
     let few = are_few c.args.slots.now (g.S.WordsIn.words c.args.seg.now) (g.S.WordsIn.aside c.args.seg.now) s c.requires.stand in
     let items = items_between test.pattern test.t (uncounted s) c.args.from (at + 1) in
-    let most = between_few test.pattern test.t s c.args.from (at + 1) few (omega (arith, c.requires.stand.good.slots_least)) (omega (arith, i.step.low)) (omega (arith, c.loop-slot-test.true, c.slots-end.ensures.slots)) in
+    let most = between_few test.pattern test.t s c.args.from (at + 1) few (omega (arith, c.requires.stand.usable.slots_least)) (omega (arith, i.step.low)) (omega (arith, c.loop-slot-test.true, c.slots-end.ensures.slots)) in
     omega (arith, most, ap (length {A = ItemRow}) all, length-map items (item_of c.args.fields))
 
 pub returns-then-len-size-clause-chunk : goal.returns-then-len-size-clause-chunk

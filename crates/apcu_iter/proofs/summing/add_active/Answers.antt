@@ -30,6 +30,6 @@ returns-clause-sums g c =
     let s = entries c.args.slots.now in
     let i = c.loop-slot.invariant in
     let p = is_chosen c.args.test.now in
-    let some : 0 < s.conf.slots = omega (arith, c.requires.stand.good.slots_least) in
+    let some : 0 < s.conf.slots = omega (arith, c.requires.stand.usable.slots_least) in
     let end : c.loop-slot.slot ≡ s.conf.slots = omega (arith, c.loop-slot-test.false, c.loop-slot.auto.slot-end, c.slots-slot-end.ensures.slots) in
     i.sums ∙ ap (λ n. with_rows no_sums (slots_before p s.conf s.rows n)) end ∙ all_slots_sum p s.conf s.rows some

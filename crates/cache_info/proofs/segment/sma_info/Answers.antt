@@ -6,7 +6,7 @@ use Rattle.sma_blocks.specs.declared.sma.Sma.{Sma}
 use Rattle.sma_blocks.specs.Live.{live_blocks}
 use Rattle.std.proofs.lemmas.Result.{IfOk-weaker}
 use Rattle.php_graph.specs.declared.graph.Graph.{Graph}
-use Rattle.apcu_model.specs.Conf.{IsGood}
+use Rattle.apcu_model.specs.Conf.{IsUsable}
 use Rattle.apcu_model.specs.Infos.{sma_info_of, info_array, info_words, info_gaps}
 use Rattle.entry_slots.specs.declared.slots.EntrySlots.{EntrySlots}
 use Rattle.entry_slots.specs.Entries.{Entries}
@@ -43,4 +43,4 @@ returns-clause-info g c =
 
 pub tell_gaps-requires : goal.tell_gaps-requires
 tell_gaps-requires g c =
-    subst IsGood (ap (λ (x : Entries). x.conf) c.requires.stand.whole ∙ sym c.conf-conf.ensures) c.requires.stand.stand.good
+    subst IsUsable (ap (λ (x : Entries). x.conf) c.requires.stand.whole ∙ sym c.conf-conf.ensures) c.requires.stand.stand.usable

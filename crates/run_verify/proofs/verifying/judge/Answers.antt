@@ -1,5 +1,6 @@
 use Rattle.std.proofs.Common.{◌≡◌, ◌+◌, ◌-◌, ◌≤◌, ◌++◌, ◌∙◌, List, Option, Some, true, false, length, take, drop, arith, ap, sym, subst, refl}
 use Rattle.std.specs.Prelude.{option_map, IfSome}
+use Rattle.apcu_model.specs.Conf.{usable_of}
 use Rattle.reply_text.specs.Lines.{texts_of}
 use Rattle.reply_text.specs.Output.{worker_texts}
 use Rattle.script_read.specs.Budgets.{all_events}
@@ -14,6 +15,9 @@ use Rattle.run_verify.specs.declared.seat.Seat.{Seat}
 use Rattle.run_verify.proofs.EventCounts.{timed_all}
 use Rattle.run_verify.proofs.JudgedLines.{judged_none, judged_more, judged_stop, judged_short, judged_whole, none_more, line_mark, line_before, written_back}
 use Rattle.run_verify.proofs.verifying.judge.Goals as goal
+
+pub new-replay-requires-clause-usable : goal.new-replay-requires-clause-usable
+new-replay-requires-clause-usable g c = usable_of c.requires.good
 
 pub lines-init : goal.lines-init
 lines-init g c =

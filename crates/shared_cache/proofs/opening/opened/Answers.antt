@@ -1,10 +1,14 @@
 use Rattle.std.proofs.Common.{◌≡◌, ◌∙◌, ◌≤◌, ℕ, List, length, sum, sym, ap, subst}
 use Rattle.apcu_model.specs.declared.journal.TheConstants.{MOST_EVENTS}
 use Rattle.apcu_model.specs.Cache.{Cache, empty_cache}
+use Rattle.apcu_model.specs.Conf.{usable_of}
 use Rattle.pin_table.specs.declared.views.WriterState.{WriterState}
 use Rattle.pin_table.specs.Lists.{first_passes, first_state}
 use Rattle.shared_cache.proofs.CopyEvents.{first_settled}
 use Rattle.shared_cache.proofs.opening.opened.Goals as goal
+
+pub format-core-requires-clause-usable : goal.format-core-requires-clause-usable
+format-core-requires-clause-usable c = usable_of c.requires.may.good
 
 pub invariant_of-result : goal.invariant_of-result
 invariant_of-result c =

@@ -17,7 +17,7 @@ returns-in_default g c =
     let sound = c.standing_laws.ensures.sound c.args.slots.now (g.S.WordsIn.words c.args.seg.now) (g.S.WordsIn.aside c.args.seg.now) (entries c.args.slots.now) c.requires.ready.stand in
     let left = drops_kept c.removed_places.ensures.kept c.expunge_all.ensures in
     record {
-      drops = all_left c.move_held.ensures.moves sound.good.slots_least left.drops;
+      drops = all_left c.move_held.ensures.moves sound.usable.slots_least left.drops;
       stand = left.stand;
       rest = left.rest ∙ c.move_held.ensures.rest;
     }
@@ -34,13 +34,13 @@ free_beside-requires-clause-whole g c = (
 pub free_beside-requires-clause-unnamed : goal.free_beside-requires-clause-unnamed
 free_beside-requires-clause-unnamed g c = λ at h.
     let sound = c.standing_laws.ensures.sound c.args.slots.now (g.S.WordsIn.words c.args.seg.now) (g.S.WordsIn.aside c.args.seg.now) (entries c.args.slots.now) c.requires.ready.stand in
-    ap (λ (a : Aside). is_named a.windows at) c.removed_places.ensures.kept.aside ∙ left_unnamed c.move_held.ensures.moves sound.good.slots_least at h
+    ap (λ (a : Aside). is_named a.windows at) c.removed_places.ensures.kept.aside ∙ left_unnamed c.move_held.ensures.moves sound.usable.slots_least at h
 
 pub returns : goal.returns
 returns g c =
     let sound = c.standing_laws.ensures.sound c.args.slots.now (g.S.WordsIn.words c.args.seg.now) (g.S.WordsIn.aside c.args.seg.now) (entries c.args.slots.now) c.requires.ready.stand in
     record {
-      drops = all_gone c.move_held.ensures.moves sound.good.slots_least c.free_beside.ensures.freed (c.free_beside.ensures.beside.aside ∙ c.removed_places.ensures.kept.aside);
+      drops = all_gone c.move_held.ensures.moves sound.usable.slots_least c.free_beside.ensures.freed (c.free_beside.ensures.beside.aside ∙ c.removed_places.ensures.kept.aside);
       stand = c.free_beside.ensures.stand;
       rest = c.free_beside.ensures.beside.rest ∙ (c.removed_places.ensures.kept.rest ∙ c.move_held.ensures.rest);
     }

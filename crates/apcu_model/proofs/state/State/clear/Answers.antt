@@ -11,4 +11,4 @@ returns-clause-cache c = λ t.
     ap
     (λ (rows : List Row). let d : Cache = record (cache_in s) { rows = rows; hits = 0; misses = 0; inserts = 0; expunges = 0 } in d)
     c.clear.ensures.items
-    ∙ sym (ap (λ (d : Cache). let e : Cache = record d { hits = 0; misses = 0; inserts = 0; expunges = 0 } in e) (dropped_of t (leaving s.conf s.rows.items) [] s (left_none s.conf s.rows.items c.requires.good.slots_least)))
+    ∙ sym (ap (λ (d : Cache). let e : Cache = record d { hits = 0; misses = 0; inserts = 0; expunges = 0 } in e) (dropped_of t (leaving s.conf s.rows.items) [] s (left_none s.conf s.rows.items c.requires.usable.slots_least)))

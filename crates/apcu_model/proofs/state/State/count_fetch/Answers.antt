@@ -12,7 +12,7 @@ returns-then-is_live-clause-valid c =
     let whole : take c.args.self.now.rows.len (new ++ drop (length new) old) ≡ new = grind (arith, common_steps) in
     let kept : are_apart new ≡ true =
     ap are_apart c.touch_in.ensures ∙ (are_apart-map (touched_at key c.args.t) (touched_key key c.args.t) c.deref_mut.result.now ∙ (ap are_apart c.deref_mut.ensures.value ∙ c.requires.apart)) in
-    record { good = c.requires.good; apart = ap are_apart whole ∙ kept }
+    record { usable = c.requires.usable; apart = ap are_apart whole ∙ kept }
 
 pub returns-then-is_live-clause-cache : goal.returns-then-is_live-clause-cache
 returns-then-is_live-clause-cache c = grind (arith, common_steps)

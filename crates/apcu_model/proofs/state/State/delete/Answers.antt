@@ -21,7 +21,7 @@ pub returns-clause-valid : goal.returns-clause-valid
 returns-clause-valid c =
     let s = c.args.self.now in
     record {
-      good = c.requires.good;
+      usable = c.requires.usable;
       apart = ap are_apart c.drop_key.ensures ∙ are_apart-filter (λ row. not (has_key c.args.key.now row)) s.rows.items c.requires.apart;
     }
 

@@ -16,14 +16,14 @@ returns-then-self-gt0-clause-cache c =
     let gone = leaving s.conf (filter over s.rows.items) in
     let left = filter (λ row. not (over row)) s.rows.items in
     ap (λ (rows : List Row). let d : Cache = record (cache_in s) { rows = rows } in d) c.drop_expired.ensures.items
-    ∙ (sym (dropped_of c.args.t gone left s (left_in_order s.conf over s.rows.items c.requires.apart c.requires.good.slots_least))
+    ∙ (sym (dropped_of c.args.t gone left s (left_in_order s.conf over s.rows.items c.requires.apart c.requires.usable.slots_least))
     ∙ ap (λ (l : List Row). dropped [] c.args.t l (cache_in s)) (sym (cond-true (nat_lt 0 s.conf.ttl) gone [] limited)))
 
 pub returns-then-self-gt0-clause-valid : goal.returns-then-self-gt0-clause-valid
 returns-then-self-gt0-clause-valid c =
     let s = c.args.self.now in
     record {
-      good = c.requires.good;
+      usable = c.requires.usable;
       apart = ap are_apart c.drop_expired.ensures.items ∙ are_apart-filter (λ row. not (is_expired s.conf c.args.t row)) s.rows.items c.requires.apart;
     }
 

@@ -13,4 +13,4 @@ returns-clause-cache c = λ t.
     c.clear.ensures.items
     c.saturating_add-self.ensures
     ∙ sym
-    (ap (λ (d : Cache). let e : Cache = record d { hits = 0; misses = 0; inserts = 0; expunges = risen s.expunges } in e) (dropped_of t (leaving s.conf s.rows.items) [] s (left_none s.conf s.rows.items c.requires.good.slots_least)))
+    (ap (λ (d : Cache). let e : Cache = record d { hits = 0; misses = 0; inserts = 0; expunges = risen s.expunges } in e) (dropped_of t (leaving s.conf s.rows.items) [] s (left_none s.conf s.rows.items c.requires.usable.slots_least)))

@@ -32,7 +32,7 @@ returns-clause-valid c =
     let new = new_row s d.key d.graph d.ttl c.args.t d.size c.args.place in
     let after_sweep = ap are_apart c.drop_expired_in.ensures.items ∙ are_apart-filter (λ row. not (is_in_slot s.conf slot row && is_expired s.conf c.args.t row)) s.rows.items c.requires.valid.apart in
     record {
-      good = c.requires.valid.good;
+      usable = c.requires.valid.usable;
       apart = ap are_apart c.put_row.ensures.items ∙ are_apart-with_row new c.drop_expired_in.new.rows.items after_sweep;
     }
 

@@ -14,4 +14,4 @@ returns-clause-valid c =
     let whole : take c.args.self.now.rows.len (new ++ drop (length new) old) ≡ new = grind (arith, common_steps) in
     let kept : are_apart new ≡ true =
     ap are_apart c.set_in.ensures ∙ (are_apart-map (with_integer_at key (to_z w64 (of_z w64 c.args.n)) c.args.t) (set_key key (to_z w64 (of_z w64 c.args.n)) c.args.t) c.deref_mut.result.now ∙ (ap are_apart c.deref_mut.ensures.value ∙ c.requires.apart)) in
-    record { good = c.requires.good; apart = ap are_apart whole ∙ kept }
+    record { usable = c.requires.usable; apart = ap are_apart whole ∙ kept }

@@ -16,21 +16,21 @@ chain_short : (s : Entries) (slot count passed : ℕ) → count ≡ length s.row
 chain_short s slot count passed e le = omega (arith, length-filter (is_in_slot s.conf slot) s.rows, count_by-le-length (is_in_slot s.conf slot) s.rows)
 
 pub nonzero_rem-slot : goal.nonzero_rem-slot
-nonzero_rem-slot g c = omega (arith, c.from.ensures, c.requires.stand.from, c.requires.stand.good.slots_least)
+nonzero_rem-slot g c = omega (arith, c.from.ensures, c.requires.stand.from, c.requires.stand.usable.slots_least)
 
 pub overflow_cast-slot : goal.overflow_cast-slot
 overflow_cast-slot g c =
-    let lt = slot_small c.hash_of.result c.from.result (omega (arith, c.from.ensures, c.requires.stand.from, c.requires.stand.good.slots_least)) in
-    omega (arith, lt, c.from.ensures, c.requires.stand.from, c.requires.stand.good.slots_most)
+    let lt = slot_small c.hash_of.result c.from.result (omega (arith, c.from.ensures, c.requires.stand.from, c.requires.stand.usable.slots_least)) in
+    omega (arith, lt, c.from.ensures, c.requires.stand.from, c.requires.stand.usable.slots_most)
 
 pub first_in-at-requires : goal.first_in-at-requires
 first_in-at-requires g c =
-    let lt = slot_small c.hash_of.result c.from.result (omega (arith, c.from.ensures, c.requires.stand.from, c.requires.stand.good.slots_least)) in
+    let lt = slot_small c.hash_of.result c.from.result (omega (arith, c.from.ensures, c.requires.stand.from, c.requires.stand.usable.slots_least)) in
     record { stand = c.requires.stand; slot = omega (arith, lt, c.from.ensures, c.requires.stand.from) }
 
 pub loop-passed-init : goal.loop-passed-init
 loop-passed-init g c =
-    let lt = slot_small c.hash_of.result c.from.result (omega (arith, c.from.ensures, c.requires.stand.from, c.requires.stand.good.slots_least)) in
+    let lt = slot_small c.hash_of.result c.from.result (omega (arith, c.from.ensures, c.requires.stand.from, c.requires.stand.usable.slots_least)) in
     record {
       walk = walk_start c.args.key.now (entries c.args.self.now) (c.hash_of.result % c.from.result) c.first_in-at.result c.requires.stand (omega (arith, lt, c.from.ensures)) c.first_in-at.ensures.first;
       kept = record { words = c.first_in-at.ensures.kept.words; aside = c.first_in-at.ensures.kept.aside; rest = c.first_in-at.ensures.kept.rest };

@@ -8,13 +8,13 @@ use Rattle.entry_slots.proofs.EmptyEntries.{bare_stands}
 use Rattle.entry_slots.proofs.slots.EntrySlots.format.Goals as goal
 
 pub end_chains-requires-clause-inside : goal.end_chains-requires-clause-inside
-end_chains-requires-clause-inside g c = omega (arith, room_of c.requires.good, c.requires.all)
+end_chains-requires-clause-inside g c = omega (arith, room_of c.requires.usable, c.requires.all)
 
 pub format-requires-clause-even_piece : goal.format-requires-clause-even_piece
-format-requires-clause-even_piece g c = ap (λ (x : ℕ). x % 2) c.piece.ensures ∙ piece_even c.requires.good
+format-requires-clause-even_piece g c = ap (λ (x : ℕ). x % 2) c.piece.ensures ∙ piece_even c.requires.usable
 
 pub format-requires-clause-room : goal.format-requires-clause-room
-format-requires-clause-room g c = omega (arith, room_of c.requires.good, c.requires.all, c.end_chains.ensures.others.count)
+format-requires-clause-room g c = omega (arith, room_of c.requires.usable, c.requires.all, c.end_chains.ensures.others.count)
 
 pub returns-clause-stand : goal.returns-clause-stand
 returns-clause-stand g c =
@@ -22,7 +22,7 @@ returns-clause-stand g c =
     let aside : Aside = g.S.WordsIn.aside c.format.new.seg in
     let e' : EntrySlots = record { sma = c.format.result; removed = 0; next_number = 1; count = 0; standing = c.new.result } in
     subst (λ x. Stands e' ws aside x) (sym c.new.ensures)
-    (bare_stands e' ws aside c.args.conf.now c.requires.good
+    (bare_stands e' ws aside c.args.conf.now c.requires.usable
     (λ slot lt. c.format.ensures.before.before slot lt ∙ c.end_chains.ensures.ended slot lt)
     refl refl c.format.ensures.ready
     (ap (live_blocks ws) c.format.ensures.from ∙ c.format.ensures.empty)

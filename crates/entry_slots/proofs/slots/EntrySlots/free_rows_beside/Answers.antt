@@ -11,7 +11,7 @@ use Rattle.entry_slots.proofs.GhostEntries.{restand}
 use Rattle.entry_slots.proofs.slots.EntrySlots.free_rows_beside.Goals as goal
 
 pub end_all-requires-clause-inside : goal.end_all-requires-clause-inside
-end_all-requires-clause-inside g c = let h = c.requires.stand in omega (arith, h.from, h.to, h.ready.end, room_of h.good)
+end_all-requires-clause-inside g c = let h = c.requires.stand in omega (arith, h.from, h.to, h.ready.end, room_of h.usable)
 
 pub end_all-requires-clause-ready : goal.end_all-requires-clause-ready
 end_all-requires-clause-ready g c = c.requires.stand.ready

@@ -33,7 +33,7 @@ link_word : {e : EntrySlots} {ws : List ℕ} {aside : Aside} (s : Entries) (h : 
 link_word s h slot m target ws' h' lt link = spot_word m h' (cut_spot h' slot lt m 0 link.front link.back link.split link.follows)
 
 pub slot_for-slot-requires : goal.slot_for-slot-requires
-slot_for-slot-requires g c = let h = c.requires.stand in (omega (arith, h.from, h.good.slots_least), omega (arith, h.from, h.good.slots_most))
+slot_for-slot-requires g c = let h = c.requires.stand in (omega (arith, h.from, h.usable.slots_least), omega (arith, h.from, h.usable.slots_most))
 
 pub link_to-link-requires : goal.link_to-link-requires
 link_to-link-requires g c =

@@ -54,4 +54,4 @@ pub returns-clause-none : goal.returns-clause-none
 returns-clause-none g c =
     let h = c.requires.stand in
     let short = path_short c.loop-passed.invariant.path in
-    absurd (omega (arith, short, c.loop-passed-test.false, removed_few h, h.ready.end, h.good.slots_least, h.from))
+    absurd (omega (arith, short, c.loop-passed-test.false, removed_few h, h.ready.end, h.usable.slots_least, h.from))

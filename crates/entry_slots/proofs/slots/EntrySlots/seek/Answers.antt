@@ -15,13 +15,13 @@ low slot slots hash e two = omega (arith, e, slot_small hash slots two)
 pub first_in-at-requires : goal.first_in-at-requires
 first_in-at-requires g c =
     let s = entries c.args.self.now in
-    record { stand = c.requires.stand; slot = low c.args.slot s.conf.slots (hash_of c.args.key.now) c.requires.slot c.requires.stand.good.slots_least }
+    record { stand = c.requires.stand; slot = low c.args.slot s.conf.slots (hash_of c.args.key.now) c.requires.slot c.requires.stand.usable.slots_least }
 
 pub loop-passed-init : goal.loop-passed-init
 loop-passed-init g c =
     let s = entries c.args.self.now in
     record {
-      path = path_start s c.args.slot c.args.key.now c.args.t c.first_in-at.result c.requires.stand (low c.args.slot s.conf.slots (hash_of c.args.key.now) c.requires.slot c.requires.stand.good.slots_least) c.first_in-at.ensures.first;
+      path = path_start s c.args.slot c.args.key.now c.args.t c.first_in-at.result c.requires.stand (low c.args.slot s.conf.slots (hash_of c.args.key.now) c.requires.slot c.requires.stand.usable.slots_least) c.first_in-at.ensures.first;
       kept = record { words = c.first_in-at.ensures.kept.words; aside = c.first_in-at.ensures.kept.aside; rest = c.first_in-at.ensures.kept.rest };
     }
 
@@ -63,20 +63,20 @@ next_of-at-requires g c =
 pub returns-then-at-eq0-clause-spot : goal.returns-then-at-eq0-clause-spot
 returns-then-at-eq0-clause-spot g c =
     let s = entries c.args.self.now in
-    let lt = low c.args.slot s.conf.slots (hash_of c.args.key.now) c.requires.slot c.requires.stand.good.slots_least in
+    let lt = low c.args.slot s.conf.slots (hash_of c.args.key.now) c.requires.slot c.requires.stand.usable.slots_least in
     spot_last c.loop-passed.invariant.path lt c.requires.slot (path_end c.requires.stand c.loop-passed.invariant.path c.if-at-eq0.true) c.if-at-eq0.true
 
 pub returns-then-key_is-clause-spot : goal.returns-then-key_is-clause-spot
 returns-then-key_is-clause-spot g c =
     let s = entries c.args.self.now in
-    let lt = low c.args.slot s.conf.slots (hash_of c.args.key.now) c.requires.slot c.requires.stand.good.slots_least in
+    let lt = low c.args.slot s.conf.slots (hash_of c.args.key.now) c.requires.slot c.requires.stand.usable.slots_least in
     let step = path_step c.loop-passed.invariant.path c.if-at-eq0.false in
     spot_here step lt c.requires.slot (sym c.if-key_is.true ∙ c.key_is.ensures.is step.row (step_listed step))
 
 pub returns-clause-spot : goal.returns-clause-spot
 returns-clause-spot g c =
     let s = entries c.args.self.now in
-    let lt = low c.args.slot s.conf.slots (hash_of c.args.key.now) c.requires.slot c.requires.stand.good.slots_least in
+    let lt = low c.args.slot s.conf.slots (hash_of c.args.key.now) c.requires.slot c.requires.stand.usable.slots_least in
     spot_last c.loop-passed.invariant.path lt c.requires.slot (path_whole c.loop-passed.invariant.path (chain_short s c.args.slot c.args.self.now.count c.loop-passed._passed c.requires.stand.count c.loop-passed-test.false)) refl
 
 pub loop-passed-preserved : goal.loop-passed-preserved

@@ -10,6 +10,7 @@ use Rattle.php_graph.specs.declared.kind.Kind.TheVariants as kinds
 use Rattle.php_graph.specs.Graph.{kind_at}
 use Rattle.seg_words.specs.Layout.{words_in}
 use Rattle.php_graph.specs.Size.{image_length}
+use Rattle.apcu_model.specs.declared.conf.TheConstants.{MOST_USABLE_WORDS}
 use Rattle.apcu_model.specs.Cache.{Row, extent_of}
 use Rattle.entry_slots.specs.declared.slots.EntrySlots.{EntrySlots}
 use Rattle.entry_slots.specs.Entries.{with_number}
@@ -25,7 +26,7 @@ use Rattle.entry_slots.proofs.slots.EntrySlots.set_int.Goals as goal
 
 -- the word of the integer is in the block
 value_in : {e : EntrySlots} {ws : List ℕ} {aside : Aside} (row : Row) (v : ℤ) → IsHome e ws aside row → kind_at row.graph 1 ≡ Some (kinds.Int v) → (at len i : ℕ) → row.place ≡ at → len ≡ length row.key → i ≡ at + 13 + (len + 7) / 8
-    → (i < at + row.size) × (at + row.size ≤ length ws) × (length ws ≤ 16777216) × (14 ≤ row.size)
+    → (i < at + row.size) × (at + row.size ≤ length ws) × (length ws ≤ MOST_USABLE_WORDS) × (14 ≤ row.size)
 value_in row v h int at len i e el ei =
     let w = room h in
     let two : image_length row.graph ≡ 2 = ap image_length (graph_one row.graph v h.entry.image.graph int) in

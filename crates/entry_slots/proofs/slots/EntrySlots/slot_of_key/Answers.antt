@@ -4,13 +4,13 @@ use Rattle.entry_slots.proofs.Chains.{slot_small}
 use Rattle.entry_slots.proofs.slots.EntrySlots.slot_of_key.Goals as goal
 
 pub nonzero_rem-result : goal.nonzero_rem-result
-nonzero_rem-result c = let h = c.requires.stand.stand in omega (arith, c.from.ensures, h.from, h.good.slots_least)
+nonzero_rem-result c = let h = c.requires.stand.stand in omega (arith, c.from.ensures, h.from, h.usable.slots_least)
 
 pub overflow_cast-result : goal.overflow_cast-result
 overflow_cast-result c =
     let h = c.requires.stand.stand in
-    let lt = slot_small c.hash_of.result c.from.result (omega (arith, c.from.ensures, h.from, h.good.slots_least)) in
-    omega (arith, lt, c.from.ensures, h.from, h.good.slots_most)
+    let lt = slot_small c.hash_of.result c.from.result (omega (arith, c.from.ensures, h.from, h.usable.slots_least)) in
+    omega (arith, lt, c.from.ensures, h.from, h.usable.slots_most)
 
 pub returns : goal.returns
 returns c =

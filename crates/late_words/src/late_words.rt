@@ -1,0 +1,78 @@
+ghost use Rattle.std.specs.Prelude.{◌≡◌, ℕ, ◌<◌, ◌≤◌, ◌^◌, length, replicate, IfOk};
+ghost use Rattle.std.specs.Prelude.{vec_capacity};
+ghost use Rattle.seg_words.specs.Windows.{nothing_aside};
+ghost use Rattle.late_words.specs.Zeros.{with_zeros, short_with};
+
+use seg_words::{Segment, WordsIn};
+use std::alloc::{AllocError, Global};
+
+/// Words in memory, which nobody else copies: no window is ever open.
+///
+/// Memory for all of them is taken at once. Those behind the last one that was stored are 0, and
+/// their memory is neither read nor written.
+#[derive(Drop)]
+pub struct LateWords {
+    // The words up to the last one that was stored.
+    written: Vec<u64>,
+    // How many words there are.
+    len: u32,
+    ghost within: { length written.items ≤ len },
+    ghost room: { len ≤ vec_capacity written },
+    ghost short: { len < 2 ^ 32 },
+}
+
+impl LateWords {
+    /// So many words, each 0. None of them is written.
+    pub fn new(alloc: Global, len: u32) -> Result<LateWords, AllocError>
+        ensures { IfOk result (λ v. ⟦<LateWords as WordsIn>⟧.words v ≡ replicate len 0) }
+    {
+        let written = Vec::with_capacity(alloc, len as usize)?;
+        Ok(LateWords { written, len })
+    }
+}
+
+impl WordsIn for LateWords {
+    type Rest = ();
+
+    ghost words = { λ s. with_zeros s.written.items s.len };
+
+    ghost aside = { λ _. nothing_aside };
+
+    ghost rest = { λ _. tt };
+
+    ghost short = { λ s. short_with s.written.items s.len s.within s.short };
+
+    fn len(&self) -> u32 {
+        self.len
+    }
+
+    fn load(&mut self, i: u32) -> u64 {
+        let at = i as usize;
+        if at < self.written.len() {
+            return self.written[at];
+        }
+        0
+    }
+}
+
+impl Segment for LateWords {
+    fn store(&mut self, i: u32, w: u64) {
+        let at = i as usize;
+        if at < self.written.len() {
+            self.written[at] = w;
+            return;
+        }
+        let Ok(()) = self.written.resize(at, 0) else {
+            unreachable!();
+        };
+        self.written.push_reserved(w);
+    }
+
+    fn mask(&self) -> u64 {
+        0
+    }
+
+    fn probe(&mut self, at: u32) -> bool {
+        true
+    }
+}
