@@ -3,6 +3,7 @@ ghost use Rattle.std.specs.Prelude.{false};
 ghost use Rattle.seg_words.specs.Windows.{has, is_named};
 ghost use Rattle.seg_words.specs.Blocks.{IsTold};
 
+use late_words::LateWords;
 use seg_words::{
     Extent, HeldWords, Segment, VecWords, WordsIn, first_fit, fit_laws, gap_laws, probe_laws,
     words_in,
@@ -244,6 +245,21 @@ fn stores_and_loads(rt: HostRuntime) -> Result<(), Fail> {
     assert_eq!(rt; told, (0, 7, u64::MAX));
     let mut again = VecWords::from_words(words.into_words());
     assert_eq!(rt; (again.len(), again.load(1), again.mask()), (14, 7, 0));
+    Ok(())
+}
+
+// The words between are zeros, and so are those behind.
+#[test]
+fn late_words_are_zeros_first(rt: HostRuntime) -> Result<(), Fail> {
+    let mut words = LateWords::new(rt.alloc(), 14)?;
+    assert_eq!(rt; (words.len(), words.load(13), words.mask()), (14, 0, 0));
+    words.store(9, u64::MAX);
+    words.store(1, 7);
+    assert!(rt; words.probe(2));
+    let told = (words.load(0), words.load(1), words.load(8));
+    assert_eq!(rt; told, (0, 7, 0));
+    let behind = (words.load(9), words.load(10), words.load(13));
+    assert_eq!(rt; behind, (u64::MAX, 0, 0));
     Ok(())
 }
 
