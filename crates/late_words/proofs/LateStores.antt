@@ -1,5 +1,5 @@
 -- The words after one was stored.
-use Rattle.std.proofs.Common.{◌≡◌, ◌∙◌, ℕ, zero, suc, ◌+◌, ◌-◌, ◌<◌, ◌≤◌, List, [], ◌∷◌, ◌++◌, length, replicate, take, slice_set, refl, sym, ap, arith}
+use Rattle.std.proofs.Common.{◌≡◌, ◌∙◌, ℕ, suc, ◌+◌, ◌-◌, ◌<◌, ◌≤◌, List, [], ◌∷◌, ◌++◌, length, replicate, take, slice_set, sym, ap, arith}
 use Rattle.std.proofs.lemmas.List.{append_assoc, length-append, length-replicate, length-set, set-append_left, set-append_right, take_all, replicate-append-replicate}
 use Rattle.std.proofs.Math.Seq.{set-append_seam}
 use Rattle.late_words.specs.Zeros.{with_zeros}

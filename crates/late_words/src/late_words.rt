@@ -53,6 +53,33 @@ impl WordsIn for LateWords {
         }
         0
     }
+
+    fn load_eight(&mut self, i: u32) -> [u64; 8] {
+        let at = i as usize;
+        let words = self.written.as_slice();
+        if at + 8 <= words.len() {
+            return [
+                words[at],
+                words[at + 1],
+                words[at + 2],
+                words[at + 3],
+                words[at + 4],
+                words[at + 5],
+                words[at + 6],
+                words[at + 7],
+            ];
+        }
+        [
+            self.load(i),
+            self.load(i + 1),
+            self.load(i + 2),
+            self.load(i + 3),
+            self.load(i + 4),
+            self.load(i + 5),
+            self.load(i + 6),
+            self.load(i + 7),
+        ]
+    }
 }
 
 impl Segment for LateWords {

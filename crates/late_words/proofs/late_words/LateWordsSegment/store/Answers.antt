@@ -1,4 +1,4 @@
-use Rattle.std.proofs.Common.{◌∙◌, ◌++◌, ◌∷◌, [], ap, length, sym, arith}
+use Rattle.std.proofs.Common.{◌∙◌, ◌++◌, ◌∷◌, [], ap, sym, arith}
 use Rattle.std.specs.Prelude.{vec_len}
 use Rattle.late_words.specs.Zeros.{with_zeros, length_with}
 use Rattle.late_words.proofs.LateStores.{stored_behind}
