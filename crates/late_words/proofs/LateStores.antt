@@ -1,15 +1,8 @@
 -- The words after one was stored.
 use Rattle.std.proofs.Common.{◌≡◌, ◌∙◌, ℕ, suc, ◌+◌, ◌-◌, ◌<◌, ◌≤◌, List, [], ◌∷◌, ◌++◌, length, replicate, take, slice_set, sym, ap, arith}
-use Rattle.std.proofs.lemmas.List.{append_assoc, length-append, length-replicate, length-set, set-append_left, set-append_right, take_all, replicate-append-replicate}
+use Rattle.std.proofs.lemmas.List.{append_assoc, length-append, length-replicate, set-append_right, take_all, replicate-append-replicate}
 use Rattle.std.proofs.Math.Seq.{set-append_seam}
 use Rattle.late_words.specs.Zeros.{with_zeros}
-
--- among those that were written
-pub stored_there : (xs : List ℕ) (len at w : ℕ) → at < length xs
-    → with_zeros (slice_set xs at w) len ≡ slice_set (with_zeros xs len) at w
-stored_there xs len at w low =
-    ap (λ n. slice_set xs at w ++ replicate (len - n) 0) (length-set xs at w)
-    ∙ sym (set-append_left xs (replicate (len - length xs) 0) at w low)
 
 -- a zero among zeros
 zeros_cut : (n k : ℕ) → k < n → replicate n 0 ≡ replicate {A = ℕ} k 0 ++ 0 ∷ replicate (n - (k + 1)) 0
