@@ -144,7 +144,6 @@ fn tells_of_a_key(rt: HostRuntime) -> Result<(), Fail> {
 // Two words more than a good shape has.
 #[test]
 fn tells_of_more_words_than_are_good(rt: HostRuntime) -> Result<(), Fail> {
-    const LARGE: Conf = shape(MOST_WORDS + 2, 0);
     const TEXTS: &[Text] = &[
         (
             Told::Cache(true),
@@ -163,11 +162,12 @@ fn tells_of_more_words_than_are_good(rt: HostRuntime) -> Result<(), Fail> {
             ],
         ),
     ];
-    assert!(rt; !LARGE.good());
+    let large = shape(MOST_WORDS + 2, 0);
+    assert!(rt; !large.good());
     told_after(
         &rt,
         rt.alloc(),
-        &LARGE,
+        &large,
         &[
             (100, b"a", Act::Put(1, 10), YES),
             (105, b"a", Act::Fetch, Some(1)),
