@@ -7,11 +7,12 @@ use apcu_model::{Conf, Counts, Request, StoreAnswer};
 use cache_core::Core;
 use cache_info::{cache_info, key_info, sma_info};
 use counter_entry::{IncAnswer, cas, inc};
+use late_words::LateWords;
 use max_tree::MaxRow;
 use notation::ByteOut;
 use php_graph::{Bytes, Graph};
 use seg_report::{fits, map_text};
-use seg_words::{VecWords, WordsIn};
+use seg_words::WordsIn;
 use std::alloc::{AllocError, Global};
 use std::marker::Model;
 
@@ -25,7 +26,7 @@ fn counted(answer: IncAnswer) -> Option<i64> {
 // A cache over words in memory. Contracts see the cache.
 #[derive(Drop)]
 pub(crate) struct Small {
-    words: VecWords,
+    words: LateWords,
     core: Core,
 }
 
@@ -37,14 +38,14 @@ impl Model for Small {
 
     ghost view = { λ s. cache_of s.core };
 
-    ghost invariant = { λ s. CacheStands ⟦<VecWords as WordsIn>⟧ s.core s.words };
+    ghost invariant = { λ s. CacheStands ⟦<LateWords as WordsIn>⟧ s.core s.words };
 }
 
 impl Small {
     pub(crate) fn new(alloc: Global, conf: &Conf) -> Result<Small, AllocError>
         requires { IsUsable conf.now }
     {
-        let mut words = VecWords::new(alloc, conf.words)?;
+        let mut words = LateWords::new(alloc, conf.words)?;
         let gaps = MaxRow::new(alloc, conf.words as usize / 4 + 1)?;
         let core = Core::format(&mut words, conf, gaps);
         Ok(Small { words, core })
