@@ -1,10 +1,10 @@
 #!/usr/bin/env bash
 # The commands of examples/README.md print what stands there behind them.
-# Usage: bench/examples.sh [PROGRAM]; it needs php with apcu and pcntl.
+# Usage: bench/examples.sh [PROGRAM], where PROGRAM is the built apcu_run; it needs php with apcu and pcntl.
 set -eu
-program=${1:+$(realpath "$1")}
-cd "$(dirname "${BASH_SOURCE[0]}")/.."
-program=${program:-./apcu_run}
+here=$(cd "$(dirname "${BASH_SOURCE[0]}")" && pwd)
+program=$(realpath "${1:-$here/../crates/apcu_run/out/apcu_run}")
+cd "$here/.."
 command='' wanted='' count=0 others=0
 
 # Runs the command that was read, and compares.
