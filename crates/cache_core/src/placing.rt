@@ -1,6 +1,8 @@
 //! A new row in a block that was taken for it.
 
 ghost use Rattle.std.specs.Prelude.{◌≡◌, ◌<◌, ◌^◌, length, Contains};
+ghost use Rattle.php_graph.specs.Graph.{IsGraph};
+ghost use Rattle.value_image.specs.Contained.{graph_of};
 ghost use Rattle.apcu_model.specs.SlotOrder.{slot_of};
 ghost use Rattle.entry_slots.specs.Entries.{block_for};
 ghost use Rattle.entry_slots.specs.Spots.{IsSpotOf};
@@ -12,9 +14,9 @@ ghost use Rattle.cache_core.specs.Spots.{IsSpotIfAny};
 
 use crate::lower::lower_laws;
 use entry_slots::{EntrySlots, Spot};
-use php_graph::Graph;
 use seg_words::Segment;
 use ttl_expunge::{is_let_go, seek_swept};
+use value_image::Content;
 
 // A new row in the block at `at`, in the place of the row of its key, which is dropped. That row,
 // or the end of its chain, is at the spot.
@@ -23,28 +25,29 @@ fn replace<S: Segment>(
     seg: &mut S,
     at: u32,
     key: &[u8],
-    g: &Graph,
+    content: &Content<'_>,
     ttl: u32,
     t: u64,
     spot: Spot,
 )
     requires ready { MayDropRows S.WordsIn slots.old seg.old }
     requires short { length key.now < 2 ^ 32 }
-    requires taken { Contains (entries slots.old).taken (block_for at key.now g.now) }
+    requires graph { IsGraph (graph_of content.now) }
+    requires taken { Contains (entries slots.old).taken (block_for at key.now (graph_of content.now)) }
     requires spot { IsSpotOf (entries slots.old) key.now t spot }
     ensures replaces { Replaces (entries slots.old) (entries slots.new)
-        (S.aside seg.old) (S.aside seg.new) at key.now g.now ttl t }
+        (S.aside seg.old) (S.aside seg.new) at key.now (graph_of content.now) ttl t }
     ensures stand { Stand S.WordsIn slots.new seg.new }
     ensures rest { S.rest seg.new ≡ S.rest seg.old }
 {
     lower_laws();
     let old = spot.at;
     if old == 0 {
-        slots.link_at(seg, at, key, g, ttl, t, spot);
+        slots.link_at(seg, at, key, content, ttl, t, spot);
         return;
     }
     let is_free = is_let_go(slots, seg, old);
-    slots.link_at(seg, at, key, g, ttl, t, spot);
+    slots.link_at(seg, at, key, content, ttl, t, spot);
     if is_free {
         slots.free_unlinked(seg, old);
     } else {
@@ -91,7 +94,7 @@ pub(crate) fn put_in<S: Segment>(
     key: &[u8],
     slot: u32,
     spot: Option<Spot>,
-    g: &Graph,
+    content: &Content<'_>,
     ttl: u32,
     limit: u32,
     t: u64,
@@ -101,13 +104,14 @@ pub(crate) fn put_in<S: Segment>(
     requires slot { slot ≡ slot_of (entries slots.old).conf key.now }
     requires spot { IsSpotIfAny (entries slots.old) key.now t spot }
     requires limit { limit ≡ (entries slots.old).conf.ttl }
-    requires taken { Contains (entries slots.old).taken (block_for at key.now g.now) }
+    requires graph { IsGraph (graph_of content.now) }
+    requires taken { Contains (entries slots.old).taken (block_for at key.now (graph_of content.now)) }
     ensures puts { Puts (entries slots.old) (entries slots.new)
-        (S.aside seg.old) (S.aside seg.new) at key.now g.now ttl t }
+        (S.aside seg.old) (S.aside seg.new) at key.now (graph_of content.now) ttl t }
     ensures stand { Stand S.WordsIn slots.new seg.new }
     ensures rest { S.rest seg.new ≡ S.rest seg.old }
 {
     lower_laws();
     let spot = spot_swept(slots, seg, key, slot, spot, limit, t);
-    replace(slots, seg, at, key, g, ttl, t, spot);
+    replace(slots, seg, at, key, content, ttl, t, spot);
 }

@@ -1,9 +1,12 @@
 //! Storing.
 
 ghost use Rattle.std.specs.Prelude.{◌≡◌, ℕ, ◌<◌, ◌^◌, ◌-◌, ◌&&◌, nat_lt, true, false, List};
-ghost use Rattle.std.specs.Prelude.{length, ◌==◌, None, if◌then◌else◌, IfOk, IfErr, OnOk};
+ghost use Rattle.std.specs.Prelude.{[], ◌∷◌, length, ◌==◌, None, if◌then◌else◌, IfOk, IfErr, OnOk};
 ghost use Rattle.seg_words.specs.Kept.{Kept};
+ghost use Rattle.php_graph.specs.declared.kind.Kind.TheVariants.{Str};
+ghost use Rattle.php_graph.specs.Graph.{IsGraph};
 ghost use Rattle.php_graph.specs.Size.{block_size};
+ghost use Rattle.value_image.specs.Contained.{graph_of};
 ghost use Rattle.apcu_model.specs.declared.request.Request.TheVariants as requests;
 ghost use Rattle.apcu_model.specs.declared.request.Reply.TheVariants.{Flag};
 ghost use Rattle.apcu_model.specs.Change.{inserted, swept};
@@ -22,9 +25,10 @@ use crate::lower::lower_laws;
 use crate::placing::put_in;
 use apcu_model::StoreAnswer;
 use entry_slots::Spot;
-use php_graph::{Graph, block_words};
+use php_graph::Graph;
 use seg_words::{Segment, WordsIn};
 use ttl_expunge::{make_room_next, sweep_removed};
+use value_image::{Content, content_block_words, text_content};
 
 impl Core {
     /// Stores a value at the moment `t`, in seconds. `ttl` is in seconds, 0 is no limit; an
@@ -52,13 +56,66 @@ impl Core {
             → IsUnchanged S.WordsIn self.old self.new seg.old seg.new }
         ensures next { MayInsert S.WordsIn (makes_room result) self.new seg.new }
     {
+        let _places = g.places();
+        self.store_content(seg, key, &Content::Graph(g), ttl, exclusive, t)
+    }
+
+    /// Stores a byte string as `store` does the graph that has it as its only place. No graph is
+    /// made of it: its bytes go from the slice into the row.
+    pub fn store_bytes<S: Segment>(
+        &mut self,
+        seg: &mut S,
+        key: &[u8],
+        bytes: &[u8],
+        ttl: u32,
+        exclusive: bool,
+        t: u64,
+    ) -> StoreAnswer
+        requires short { length key.now < 2 ^ 32 }
+        requires few { length bytes.now < 2 ^ 32 }
+        requires ready { MayInsert S.WordsIn false self.old seg.old }
+        ensures answer { IsBy (S.aside seg.new) (λ held. (inserted held
+            key.now (Str bytes.now ∷ []) ttl exclusive t (cache_of self.old)).answer) result }
+        ensures does { Does S.WordsIn self.old self.new seg.old seg.new t
+            (requests.Store key.now (Str bytes.now ∷ []) ttl exclusive)
+            (Flag (is_stored result)) }
+        ensures early { makes_room result ≡ false
+            → IsUnchanged S.WordsIn self.old self.new seg.old seg.new }
+        ensures next { MayInsert S.WordsIn (makes_room result) self.new seg.new }
+    {
+        let content = text_content(bytes);
+        self.store_content(seg, key, &content, ttl, exclusive, t)
+    }
+
+    // Stores a graph, or a byte string as a graph. It is the first insertion of its event.
+    fn store_content<S: Segment>(
+        &mut self,
+        seg: &mut S,
+        key: &[u8],
+        content: &Content<'_>,
+        ttl: u32,
+        exclusive: bool,
+        t: u64,
+    ) -> StoreAnswer
+        requires short { length key.now < 2 ^ 32 }
+        requires graph { IsGraph (graph_of content.now) }
+        requires ready { MayInsert S.WordsIn false self.old seg.old }
+        ensures answer { IsBy (S.aside seg.new) (λ held. (inserted held
+            key.now (graph_of content.now) ttl exclusive t (cache_of self.old)).answer) result }
+        ensures does { Does S.WordsIn self.old self.new seg.old seg.new t
+            (requests.Store key.now (graph_of content.now) ttl exclusive)
+            (Flag (is_stored result)) }
+        ensures early { makes_room result ≡ false
+            → IsUnchanged S.WordsIn self.old self.new seg.old seg.new }
+        ensures next { MayInsert S.WordsIn (makes_room result) self.new seg.new }
+    {
         lower_laws();
         let slot = self.slots.slot_of_key(key);
-        match self.seek_new(seg, key, slot, g, exclusive, t) {
+        match self.seek_new(seg, key, slot, content, exclusive, t) {
             Err(answer) => answer,
             Ok(spot) => {
                 self.sweep(seg);
-                self.add(seg, key, slot, spot, g, ttl, t)
+                self.add(seg, key, slot, spot, content, ttl, t)
             }
         }
     }
@@ -85,10 +142,12 @@ impl Core {
         ensures next { MayInsert S.WordsIn true self.new seg.new }
     {
         lower_laws();
+        let _places = g.places();
+        let content = Content::Graph(g);
         let slot = self.slots.slot_of_key(key);
-        match self.seek_new(seg, key, slot, g, exclusive, t) {
+        match self.seek_new(seg, key, slot, &content, exclusive, t) {
             Err(answer) => answer,
-            Ok(spot) => self.add(seg, key, slot, spot, g, ttl, t),
+            Ok(spot) => self.add(seg, key, slot, spot, &content, ttl, t),
         }
     }
 
@@ -99,27 +158,28 @@ impl Core {
         seg: &mut S,
         key: &[u8],
         slot: u32,
-        g: &Graph,
+        content: &Content<'_>,
         exclusive: bool,
         t: u64,
     ) -> Result<Option<Spot>, StoreAnswer>
         requires short { length key.now < 2 ^ 32 }
         requires slot { slot ≡ slot_of self.now.conf key.now }
+        requires graph { IsGraph (graph_of content.now) }
         requires stand { CacheStands S.WordsIn self.now seg.old }
         ensures added { OnOk result ((held : List ℕ) (ttl : ℕ)
-            → inserted held key.now g.now ttl exclusive t (cache_of self.now)
-            ≡ added held key.now g.now ttl t (cache_of self.now)) }
-        ensures fits { OnOk result (block_size (length key.now) g.now < 2 ^ 32) }
+            → inserted held key.now (graph_of content.now) ttl exclusive t (cache_of self.now)
+            ≡ added held key.now (graph_of content.now) ttl t (cache_of self.now)) }
+        ensures fits { OnOk result (block_size (length key.now) (graph_of content.now) < 2 ^ 32) }
         ensures spot { IfOk result (λ found.
             IsSpotIfAny (entries self.now.slots) key.now t found) }
         ensures refused { IfErr result (λ answer. (held : List ℕ) (ttl : ℕ)
-            → inserted held key.now g.now ttl exclusive t (cache_of self.now)
+            → inserted held key.now (graph_of content.now) ttl exclusive t (cache_of self.now)
             ≡ record { answer = answer; cache = cache_of self.now }) }
         ensures early { IfErr result (λ answer. makes_room answer ≡ false) }
         ensures kept { Kept S.WordsIn seg.old seg.new }
     {
         let room = self.conf.most();
-        let n = block_words(key.len() as u64, g);
+        let n = content_block_words(key.len() as u64, content);
         if n > u64::from(room) {
             return Err(StoreAnswer::TooLarge);
         }
@@ -154,24 +214,25 @@ impl Core {
         key: &[u8],
         slot: u32,
         spot: Option<Spot>,
-        g: &Graph,
+        content: &Content<'_>,
         ttl: u32,
         t: u64,
     ) -> StoreAnswer
         requires short { length key.now < 2 ^ 32 }
         requires slot { slot ≡ slot_of self.old.conf key.now }
-        requires fits { block_size (length key.now) g.now < 2 ^ 32 }
+        requires graph { IsGraph (graph_of content.now) }
+        requires fits { block_size (length key.now) (graph_of content.now) < 2 ^ 32 }
         requires spot { IsSpotIfAny (entries self.old.slots) key.now t spot }
         requires ready { MayInsert S.WordsIn true self.old seg.old }
         ensures added { IsBy (S.aside seg.new)
-            (λ held. added held key.now g.now ttl t (cache_of self.old))
+            (λ held. added held key.now (graph_of content.now) ttl t (cache_of self.old))
             (record { answer = result; cache = cache_of self.new }) }
         ensures room { makes_room result ≡ true }
         ensures step { IsStep S.WordsIn self.old self.new seg.old seg.new }
         ensures next { MayInsert S.WordsIn true self.new seg.new }
     {
         lower_laws();
-        let n = block_words(key.len() as u64, g);
+        let n = content_block_words(key.len() as u64, content);
         let limit = self.conf.ttl;
         let before = self.slots.rows();
         let (place, full) = make_room_next(&mut self.slots, seg, n as u32, limit, t);
@@ -181,7 +242,18 @@ impl Core {
         };
         let after = self.slots.rows();
         let spot = if_still(spot, before, after);
-        put_in(&mut self.slots, seg, at, key, slot, spot, g, ttl, limit, t);
+        put_in(
+            &mut self.slots,
+            seg,
+            at,
+            key,
+            slot,
+            spot,
+            content,
+            ttl,
+            limit,
+            t,
+        );
         self.cache_counts = self.cache_counts.after_insert();
         StoreAnswer::Stored
     }

@@ -25,6 +25,7 @@ use crate::writing::{NewHead, put_entry};
 use php_graph::{Graph, hash_of};
 use seg_words::{HEAD_WORDS, IMAGE_LENGTH, KEY_LENGTH, Segment, WordsIn, words_in};
 use sma_blocks::Sma;
+use value_image::Content;
 
 /// Entries in hash chains: each of the words before the first block begins the chain of one slot,
 /// and a list of removed entries begins beside them. An entry is a block of twelve words, its key
@@ -229,6 +230,7 @@ impl EntrySlots {
     {
         lower_laws();
         let _places = g.places();
+        let content = Content::Graph(g);
         let slot = self.slot_for(key);
         let link = self.link_to(seg, slot, replaced);
         let new_head = NewHead {
@@ -237,11 +239,11 @@ impl EntrySlots {
             now: t,
             number: self.next_number,
         };
-        put_entry(seg, at, key, g, new_head);
+        put_entry(seg, at, key, &content, new_head);
         seg.store(link, u64::from(at));
         self.next_number = self.next_number.saturating_add(1);
         self.count = count_after(self.count, replaced);
-        self.standing = self.standing.then(&Change::Link(at, key, g, ttl, t));
+        self.standing = self.standing.then(&Change::Link(at, key, &content, ttl, t));
     }
 
     // The slot of a key.

@@ -13,6 +13,8 @@ ghost use Rattle.entry_slots.specs.Entries.{chain_of, block_for};
 ghost use Rattle.entry_slots.specs.Entries.{linked, unlinked_at};
 ghost use Rattle.entry_slots.specs.Standing.{Stand, IsStanding, entries};
 ghost use Rattle.entry_slots.specs.Spots.{IsSpot, IsSpotOf};
+ghost use Rattle.php_graph.specs.Graph.{IsGraph};
+ghost use Rattle.value_image.specs.Contained.{graph_of};
 
 use crate::head::NEXT;
 use crate::lower::lower_laws;
@@ -20,8 +22,9 @@ use crate::reading::{count_after, next_of};
 use crate::slots::EntrySlots;
 use crate::standing::Change;
 use crate::writing::{NewHead, put_entry};
-use php_graph::{Graph, hash_of};
+use php_graph::hash_of;
 use seg_words::{Segment, WordsIn};
+use value_image::Content;
 
 /// Where the row of a key stands in the chain of its slot, or where a new one would. It is of use
 /// until a row of the chain comes or goes.
@@ -136,40 +139,42 @@ impl EntrySlots {
         next_of(seg, at)
     }
 
-    /// Makes the block at `at`, which was taken for this key and value, a row of the moment `t`, as
-    /// `link` does: in the place of the row at the spot, whose block is loose from now on, or last
-    /// where there is none.
+    /// Makes the block at `at`, which was taken for this key and content, a row of the moment `t`,
+    /// as `link` does: in the place of the row at the spot, whose block is loose from now on, or
+    /// last where there is none.
     pub fn link_at<S: Segment>(
         &mut self,
         seg: &mut S,
         at: u32,
         key: &[u8],
-        g: &Graph,
+        content: &Content<'_>,
         ttl: u32,
         t: u64,
         spot: Spot,
     )
         requires short { length key.now < 2 ^ 32 }
+        requires graph { IsGraph (graph_of content.now) }
         requires stand { Stand S.WordsIn self.old seg.old }
-        requires taken { Contains (entries self.old).taken (block_for at key.now g.now) }
+        requires taken { Contains (entries self.old).taken
+            (block_for at key.now (graph_of content.now)) }
         requires spot { IsSpotOf (entries self.old) key.now t spot }
-        ensures linked { entries self.new ≡ linked at key.now g.now ttl t (entries self.old) }
+        ensures linked { entries self.new
+            ≡ linked at key.now (graph_of content.now) ttl t (entries self.old) }
         ensures stand { Stand S.WordsIn self.new seg.new }
         ensures beside { KeptBeside S.WordsIn seg.old seg.new }
     {
         lower_laws();
-        let _places = g.places();
         let new_head = NewHead {
             next: self.behind_spot(seg, spot.at),
             ttl,
             now: t,
             number: self.next_number,
         };
-        put_entry(seg, at, key, g, new_head);
+        put_entry(seg, at, key, content, new_head);
         seg.store(spot.link, u64::from(at));
         self.next_number = self.next_number.saturating_add(1);
         self.count = count_after(self.count, spot.at);
-        self.standing = self.standing.then(&Change::Link(at, key, g, ttl, t));
+        self.standing = self.standing.then(&Change::Link(at, key, content, ttl, t));
     }
 
     /// Takes the row at the spot out of its chain, as `unlink` does. Its block is loose from now

@@ -3,8 +3,8 @@ ghost use Rattle.std.specs.Borrow.{ftrue};
 ghost use Rattle.entry_slots.specs.Entries.{Entries, no_entries};
 
 use apcu_model::Conf;
-use php_graph::Graph;
 use std::marker::Model;
+use value_image::Content;
 
 /// The entries that the words beside it are said to stand for. It exists only in proofs.
 #[derive(Drop)]
@@ -38,8 +38,8 @@ pub enum Change<'a> {
     TakeOff(u32),
     /// The unlinked row is gone, and so is its block.
     Give(u32),
-    /// A row came with this key, value, time to live and moment.
-    Link(u32, &'a [u8], &'a Graph, u32, u64),
+    /// A row came with this key, content, time to live and moment.
+    Link(u32, &'a [u8], &'a Content<'a>, u32, u64),
     /// All rows are gone.
     Clear,
 }

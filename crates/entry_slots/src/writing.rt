@@ -3,14 +3,15 @@
 ghost use Rattle.std.specs.Prelude.{◌≡◌, ◌+◌, ◌<◌, ◌^◌, length};
 ghost use Rattle.seg_words.specs.Kept.{KeptBeside};
 ghost use Rattle.seg_words.specs.Layout.{words_in};
+ghost use Rattle.php_graph.specs.Graph.{IsGraph};
 ghost use Rattle.php_graph.specs.Size.{image_length};
+ghost use Rattle.value_image.specs.Contained.{graph_of};
 ghost use Rattle.value_image.specs.Rows.{written, MayWrite};
 ghost use Rattle.entry_slots.specs.EntryWords.{entry_words};
 
 use crate::lower::lower_laws;
-use php_graph::Graph;
 use seg_words::{HEAD_WORDS, Segment, words_in};
-use value_image::{persist, put_bytes};
+use value_image::{Content, content_words, persist_content, put_bytes};
 
 // The head of a new entry: what stands there beside its key and its value.
 #[derive(Clone, Copy)]
@@ -24,20 +25,27 @@ pub(crate) struct NewHead {
 }
 
 // Writes the words of an entry's block from word 1 on.
-pub(crate) fn put_entry<S: Segment>(seg: &mut S, at: u32, key: &[u8], g: &Graph, new_head: NewHead)
+pub(crate) fn put_entry<S: Segment>(
+    seg: &mut S,
+    at: u32,
+    key: &[u8],
+    content: &Content<'_>,
+    new_head: NewHead,
+)
     requires short { length key.now < 2 ^ 32 }
-    requires small { image_length g.now < 2 ^ 32 }
+    requires graph { IsGraph (graph_of content.now) }
+    requires small { image_length (graph_of content.now) < 2 ^ 32 }
     requires apart { MayWrite (S.words seg.old) (S.aside seg.old).windows (at + 1)
-        (11 + words_in (length key.now) + image_length g.now) }
+        (11 + words_in (length key.now) + image_length (graph_of content.now)) }
     ensures words { S.words seg.new
-        ≡ written (S.words seg.old) (at + 1) (entry_words key.now g.now new_head) }
+        ≡ written (S.words seg.old) (at + 1) (entry_words key.now (graph_of content.now) new_head) }
     ensures beside { KeptBeside S.WordsIn seg.old seg.new }
 {
     lower_laws();
     let first = [
         u64::from(new_head.next),
         key.len() as u64,
-        g.words(),
+        content_words(content),
         u64::from(new_head.ttl),
         new_head.now,
         new_head.now,
@@ -49,7 +57,7 @@ pub(crate) fn put_entry<S: Segment>(seg: &mut S, at: u32, key: &[u8], g: &Graph,
     ];
     put_words(seg, at + 1, &first);
     put_bytes(seg, at + HEAD_WORDS, key);
-    persist(seg, at + HEAD_WORDS + words_in(key.len() as u32), g);
+    persist_content(seg, at + HEAD_WORDS + words_in(key.len() as u32), content);
 }
 
 // Writes words from a place on.

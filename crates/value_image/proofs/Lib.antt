@@ -13,3 +13,4 @@ pub mod OneGraph
 pub mod Counts
 pub mod ScalarGraphs
 pub mod Texts
+pub mod SingleTexts

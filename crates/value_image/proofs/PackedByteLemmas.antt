@@ -181,6 +181,18 @@ bytes-more out ws buf rest i w room lt e eb before =
     ∙ (take-inner (take (8 * i) out) (little_bytes 8 w) rest (post_of (8 * i) (length out - 8 * i) out) (8 * (i + 1)) n
     ∙ (ap (λ (a : List ℕ). a ++ little_bytes 8 w) before ∙ bytes-next ws i w lt e))
 
+-- a buffer with the bytes of eight words more
+pub bytes-more-eight : (out ws buf eight : List ℕ) (i n : ℕ) → 64 * i + 64 ≤ length out → length eight ≡ 8 → 8 * i + 8 ≤ length ws → ((k : ℕ) → k < 8 → slice_index eight k ≡ get_or ws (8 * i + k) 0)
+    → buf ≡ bytes_of eight → take (64 * i) out ≡ bytes_of (take (8 * i) ws)
+    → take (64 * (i + 1)) (put_mid (64 * i) n out buf) ≡ bytes_of (take (8 * (i + 1)) ws)
+bytes-more-eight out ws buf eight i n room size inside each eb before =
+    let front = length-take-le (64 * i) out (omega arith) in
+    let own = length-bytes_of eight in
+    let all : 64 * (i + 1) ≡ length (take (64 * i) out) + length (bytes_of eight) = omega (arith, front, own) in
+    ap (λ (bs : List ℕ). take (64 * (i + 1)) (put_mid (64 * i) n out bs)) (eb ∙ sym (append-nil (bytes_of eight)))
+    ∙ (take-inner (take (64 * i) out) (bytes_of eight) [] (post_of (64 * i) n out) (64 * (i + 1)) all
+    ∙ (ap (λ (a : List ℕ). a ++ bytes_of eight) before ∙ bytes-eight ws eight i size inside each))
+
 -- ---- and back
 
 abbrev AreSmall : List ℕ → Type 0

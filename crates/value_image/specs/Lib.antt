@@ -5,3 +5,4 @@ pub mod Image
 pub mod Reading
 pub mod Laws
 pub mod Texts
+pub mod Contained

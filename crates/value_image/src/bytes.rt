@@ -45,7 +45,9 @@ fn last_word(bytes: &[u8]) -> u64
     LittleEndian::read_u64(&bytes[bytes.len() - 8..]) >> (64 - 8 * left)
 }
 
-/// Fills the buffer with the bytes of the words from place `at` on. It takes no memory.
+/// Fills the buffer with the bytes of the words from place `at` on. It takes no memory. Each word is
+/// loaded once, eight at a time while there are eight, so that they are written without a look at
+/// where the words are in between.
 pub fn get_bytes<W: WordsIn>(from: &mut W, at: u32, out: &mut [u8])
     requires inside { at + words_in (length out.old) ≤ length (W.words from.old) }
     requires told { (i : ℕ) → at ≤ i → i < at + words_in (length out.old)
@@ -54,7 +56,11 @@ pub fn get_bytes<W: WordsIn>(from: &mut W, at: u32, out: &mut [u8])
     ensures kept { Kept W.WordsIn from.old from.new }
 {
     let full = out.len() / 8;
-    for i in 0..full {
+    'eights: for i in 0..full / 8 {
+        let words = from.load_eight(at + 8 * i as u32);
+        LittleEndian::write_u64_into(&words, &mut out[64 * i..64 * i + 64]);
+    }
+    'words: for i in full / 8 * 8..full {
         let word = from.load(at + i as u32);
         LittleEndian::write_u64(&mut out[8 * i..], word);
     }

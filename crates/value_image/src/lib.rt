@@ -2,6 +2,7 @@
 #![tactic(auto)]
 
 mod bytes;
+mod contents;
 mod laws;
 mod numbers;
 mod read;
@@ -11,6 +12,7 @@ mod write;
 mod write_members;
 
 pub use bytes::{get_bytes, put_bytes};
+pub use contents::{Content, content_block_words, content_words, persist_content, text_content};
 pub use laws::{bytes_are_packed, images_are_runs, images_differ, runs_are_written, runs_stand};
 pub use read::unpersist;
 pub use text::{push_string, string_len};

@@ -42,6 +42,20 @@ pub(crate) fn put_two<S: Segment>(seg: &mut S, at: u32, first: u64, second: u64)
 }
 
 // Writes a byte string, and gives the place behind it.
+pub(crate) fn put_text<S: Segment>(seg: &mut S, at: u32, bytes: &[u8]) -> u32
+    requires short { length bytes.now < 2 ^ 32 }
+    requires apart { MayWrite (S.words seg.old) (S.aside seg.old).windows at
+        (1 + words_in (length bytes.now)) }
+    ensures words { S.words seg.new ≡ written (S.words seg.old) at (string_words bytes.now) }
+    ensures end { result ≡ at + (1 + words_in (length bytes.now)) }
+    ensures beside { KeptBeside S.WordsIn seg.old seg.new }
+{
+    let next = put_one(seg, at, STR + 8 * bytes.len() as u64);
+    put_bytes(seg, next, bytes);
+    next + words_in(bytes.len() as u32)
+}
+
+// Writes a byte string of a graph, and gives the place behind it.
 pub(crate) fn put_string<S: Segment>(seg: &mut S, at: u32, bytes: &Bytes) -> u32
     requires { MayWrite (S.words seg.old) (S.aside seg.old).windows at
         (1 + words_in (length bytes.now)) }
@@ -49,10 +63,7 @@ pub(crate) fn put_string<S: Segment>(seg: &mut S, at: u32, bytes: &Bytes) -> u32
     ensures end { result ≡ at + (1 + words_in (length bytes.now)) }
     ensures beside { KeptBeside S.WordsIn seg.old seg.new }
 {
-    let bytes = bytes.as_slice();
-    let next = put_one(seg, at, STR + 8 * bytes.len() as u64);
-    put_bytes(seg, next, bytes);
-    next + words_in(bytes.len() as u32)
+    put_text(seg, at, bytes.as_slice())
 }
 
 // Writes a key of an array, and gives the place behind it.

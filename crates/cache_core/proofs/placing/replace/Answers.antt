@@ -8,12 +8,13 @@ use Rattle.cache_core.specs.Placing.{Replaces}
 use Rattle.std.proofs.lemmas.List.Folds.{list_any-append}
 use Rattle.cache_core.proofs.ReplacedRows.{old_is, spot_some, spot_none, replaces_none, replaces_old, replaced_free, replaced_held, old_loose, old_unrefused}
 use Rattle.entry_slots.specs.Standing.{entries}
+use Rattle.value_image.specs.Contained.{graph_of}
 use Rattle.cache_core.proofs.placing.replace.Goals as goal
 
 pub returns-then-old-eq0-clause-replaces : goal.returns-then-old-eq0-clause-replaces
 returns-then-old-eq0-clause-replaces g c =
     let sound = c.lower_laws.ensures.standing.sound c.args.slots.now (g.S.WordsIn.words c.args.seg.now) (g.S.WordsIn.aside c.args.seg.now) (entries c.args.slots.now) c.requires.ready.stand in
-    replaces_none c.args.at c.args.key.now c.args.g.now c.args.ttl c.args.t (spot_none c.args.key.now c.args.spot.at sound c.requires.spot.old_is c.if-old-eq0.true) c.link_at.ensures.beside.aside c.requires.ready.refused c.link_at.ensures.linked
+    replaces_none c.args.at c.args.key.now (graph_of c.args.content.now) c.args.ttl c.args.t (spot_none c.args.key.now c.args.spot.at sound c.requires.spot.old_is c.if-old-eq0.true) c.link_at.ensures.beside.aside c.requires.ready.refused c.link_at.ensures.linked
 
 pub is_let_go-is_free-requires : goal.is_let_go-is_free-requires
 is_let_go-is_free-requires g c =
@@ -51,9 +52,9 @@ returns-then-is_free-clause-replaces g c =
     let a : Aside = g.S.WordsIn.aside c.is_let_go-is_free.new.seg in
     let same : g.S.WordsIn.aside c.free_unlinked.new.seg ≡ a = c.free_unlinked.ensures.beside.aside ∙ c.link_at-2.ensures.beside.aside in
     let free : has c.args.spot.at (held_blocks a) ≡ false = not-true (has c.args.spot.at (held_blocks a)) (sym c.is_let_go-is_free.ensures.free ∙ c.if-is_free.true) in
-    subst (λ (x : Aside). Replaces s (entries c.free_unlinked.new.self) (g.S.WordsIn.aside c.args.seg.now) x c.args.at c.args.key.now c.args.g.now c.args.ttl c.args.t) (sym same)
-    (replaces_old c.args.at c.args.key.now c.args.g.now c.args.ttl c.args.t o c.is_let_go-is_free.ensures.probes.met c.requires.ready.refused
-    (replaced_free (held_blocks a) c.args.at c.args.key.now c.args.g.now c.args.ttl c.args.t o free (c.free_unlinked.ensures.freed ∙ ap (freed_at c.args.spot.at) c.link_at-2.ensures.linked)))
+    subst (λ (x : Aside). Replaces s (entries c.free_unlinked.new.self) (g.S.WordsIn.aside c.args.seg.now) x c.args.at c.args.key.now (graph_of c.args.content.now) c.args.ttl c.args.t) (sym same)
+    (replaces_old c.args.at c.args.key.now (graph_of c.args.content.now) c.args.ttl c.args.t o c.is_let_go-is_free.ensures.probes.met c.requires.ready.refused
+    (replaced_free (held_blocks a) c.args.at c.args.key.now (graph_of c.args.content.now) c.args.ttl c.args.t o free (c.free_unlinked.ensures.freed ∙ ap (freed_at c.args.spot.at) c.link_at-2.ensures.linked)))
 
 pub returns-else-is_free-clause-replaces : goal.returns-else-is_free-clause-replaces
 returns-else-is_free-clause-replaces g c =
@@ -63,9 +64,9 @@ returns-else-is_free-clause-replaces g c =
     let a : Aside = g.S.WordsIn.aside c.is_let_go-is_free.new.seg in
     let same : g.S.WordsIn.aside c.to_removed.new.seg ≡ a = c.to_removed.ensures.beside.aside ∙ c.link_at-2.ensures.beside.aside in
     let is : has c.args.spot.at (held_blocks a) ≡ true = not-false (has c.args.spot.at (held_blocks a)) (sym c.is_let_go-is_free.ensures.free ∙ c.if-is_free.false) in
-    subst (λ (x : Aside). Replaces s (entries c.to_removed.new.self) (g.S.WordsIn.aside c.args.seg.now) x c.args.at c.args.key.now c.args.g.now c.args.ttl c.args.t) (sym same)
-    (replaces_old c.args.at c.args.key.now c.args.g.now c.args.ttl c.args.t o c.is_let_go-is_free.ensures.probes.met c.requires.ready.refused
-    (replaced_held (held_blocks a) c.args.at c.args.key.now c.args.g.now c.args.ttl c.args.t o is (c.to_removed.ensures.removed ∙ ap (removed_at c.args.spot.at c.args.t) c.link_at-2.ensures.linked)))
+    subst (λ (x : Aside). Replaces s (entries c.to_removed.new.self) (g.S.WordsIn.aside c.args.seg.now) x c.args.at c.args.key.now (graph_of c.args.content.now) c.args.ttl c.args.t) (sym same)
+    (replaces_old c.args.at c.args.key.now (graph_of c.args.content.now) c.args.ttl c.args.t o c.is_let_go-is_free.ensures.probes.met c.requires.ready.refused
+    (replaced_held (held_blocks a) c.args.at c.args.key.now (graph_of c.args.content.now) c.args.ttl c.args.t o is (c.to_removed.ensures.removed ∙ ap (removed_at c.args.spot.at c.args.t) c.link_at-2.ensures.linked)))
 
 pub lower_laws-requires : goal.lower_laws-requires
 lower_laws-requires g c = grind (arith, common_steps)

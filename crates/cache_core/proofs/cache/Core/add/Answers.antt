@@ -18,6 +18,7 @@ use Rattle.cache_core.specs.declared.cache.Core.{Core}
 use Rattle.cache_core.specs.CoreCache.{cache_of, CacheStands}
 use Rattle.cache_core.proofs.CoreCacheLemmas.{whole_made}
 use Rattle.cache_core.proofs.AddedRows.{none_added, row_added}
+use Rattle.value_image.specs.Contained.{graph_of}
 use Rattle.cache_core.proofs.cache.Core.add.Goals as goal
 
 made_as : {s s1 : Entries} {a0 a1 : Aside} {n n' t : ℕ} {r r' : Option ℕ} {full : Bool} → n ≡ n' → r ≡ r' → MakesRoom s s1 a0 a1 n t r full → MakesRoom s s1 a0 a1 n' t r' full
@@ -52,10 +53,10 @@ pub put_in-requires-clause-spot : goal.put_in-requires-clause-spot
 put_in-requires-clause-spot g c =
     let old = entries c.args.self.now.slots in
     let new = entries c.make_room_next-place.new.slots in
-    let made = made_as c.block_words-n.ensures c.in-Some.is c.make_room_next-place.ensures.made in
+    let made = made_as c.content_block_words-n.ensures c.in-Some.is c.make_room_next-place.ensures.made in
     let now = g.S.WordsIn.aside c.make_room_next-place.new.seg in
     let cache = cache_of c.args.self.now in
-    let n = block_size (length c.args.key.now) c.args.g.now in
+    let n = block_size (length c.args.key.now) (graph_of c.args.content.now) in
     let rows : new.rows ≡ (with_room (held_blocks now) n c.args.t cache).rows = ap (λ (x : Entries). x.rows) (made.room cache now c.requires.ready.stand.whole (goes_nowhere now now refl)) in
     let same : c.rows-after.result ≡ c.rows-before.result → HaveSameRows old new = λ e. record {
       conf = made.conf_is;
@@ -68,11 +69,11 @@ pub returns-in_default : goal.returns-in_default
 returns-in_default g c =
     let core = c.args.self.now in
     let new : Core = record { slots = c.make_room_next-place.new.slots; conf = core.conf; cache_counts = c.after_room-self.result } in
-    let made = made_as c.block_words-n.ensures c.in_default.is c.make_room_next-place.ensures.made in
+    let made = made_as c.content_block_words-n.ensures c.in_default.is c.make_room_next-place.ensures.made in
     let after = c.after_room-self.ensures in
     let whole = c.requires.ready.stand.whole in
     let now = g.S.WordsIn.aside c.make_room_next-place.new.seg in
-    let none = none_added c.lower_laws.ensures core c.args.key.now c.args.g.now c.args.ttl c.args.t new whole made refl
+    let none = none_added c.lower_laws.ensures core c.args.key.now (graph_of c.args.content.now) c.args.ttl c.args.t new whole made refl
     (record { hits = after.hits; misses = after.misses; inserts = after.inserts; expunges = after.expunges }) in
     let stands : CacheStands g.S.WordsIn new c.make_room_next-place.new.seg = record { stand = c.make_room_next-place.ensures.stand; whole = whole_made new _ (made.room (cache_of core) now whole (goes_nowhere now now refl)) (none now (goes_nowhere now now refl)).0 } in
     record {
@@ -86,12 +87,12 @@ pub returns : goal.returns
 returns g c =
     let core = c.args.self.now in
     let new : Core = record { slots = c.put_in.new.slots; conf = core.conf; cache_counts = c.after_insert-self.result } in
-    let made = made_as c.block_words-n.ensures c.in-Some.is c.make_room_next-place.ensures.made in
+    let made = made_as c.content_block_words-n.ensures c.in-Some.is c.make_room_next-place.ensures.made in
     let puts = c.put_in.ensures.puts in
     let after = c.after_room-self.ensures in
     let between = g.S.WordsIn.aside c.make_room_next-place.new.seg in
     let now = g.S.WordsIn.aside c.put_in.new.seg in
-    let done = row_added c.lower_laws.ensures core c.args.key.now c.args.g.now c.args.ttl c.args.t new c.after_room-self.result c.requires.ready.stand.whole made puts refl
+    let done = row_added c.lower_laws.ensures core c.args.key.now (graph_of c.args.content.now) c.args.ttl c.args.t new c.after_room-self.result c.requires.ready.stand.whole made puts refl
     (record { hits = after.hits; misses = after.misses; inserts = after.inserts; expunges = after.expunges }) c.after_insert-self.ensures in
     let all = done now (goes_nowhere now now refl) in
     let stands : CacheStands g.S.WordsIn new c.put_in.new.seg = record { stand = c.put_in.ensures.stand; whole = whole_made new _ all.1 all.0 } in

@@ -61,6 +61,7 @@ put_entry-requires g c =
     let r = taken_room s h c.args.at c.args.key.now c.args.g.now c.requires.taken in
     record {
       short = c.requires.short;
+      graph = c.places-places.ensures.graph;
       small = omega (arith, r.0, r.1);
       apart = write_along (g.S.WordsIn.words c.args.seg.now) (g.S.WordsIn.words c.behind.new.seg) (g.S.WordsIn.aside c.args.seg.now) (g.S.WordsIn.aside c.behind.new.seg) (c.args.at + 1) (11 + words_in (length c.args.key.now) + image_length c.args.g.now)
           (c.behind.ensures.kept.words ∙ c.link_to-link.ensures.kept.words) (c.behind.ensures.kept.aside ∙ c.link_to-link.ensures.kept.aside) (taken_write s h c.args.at c.args.key.now c.args.g.now c.requires.taken);

@@ -4,6 +4,7 @@ use Rattle.std.proofs.lemmas.List.Elements.{recursion_from_All, All-from_get_or}
 use Rattle.seg_words.specs.Windows.{Aside}
 use Rattle.seg_words.specs.Layout.{words_in}
 use Rattle.php_graph.specs.Size.{image_length}
+use Rattle.value_image.specs.Contained.{graph_of}
 use Rattle.value_image.specs.Rows.{written, MayWrite}
 use Rattle.apcu_model.specs.SlotOrder.{slot_of}
 use Rattle.entry_slots.specs.declared.slots.EntrySlots.{EntrySlots}
@@ -42,12 +43,13 @@ pub put_entry-requires : goal.put_entry-requires
 put_entry-requires g c =
     let s = entries c.args.self.now in
     let h = c.requires.stand in
-    let r = taken_room s h c.args.at c.args.key.now c.args.g.now c.requires.taken in
+    let r = taken_room s h c.args.at c.args.key.now (graph_of c.args.content.now) c.requires.taken in
     record {
       short = c.requires.short;
+      graph = c.requires.graph;
       small = omega (arith, r.0, r.1);
-      apart = write_along (g.S.WordsIn.words c.args.seg.now) (g.S.WordsIn.words c.behind_spot.new.seg) (g.S.WordsIn.aside c.args.seg.now) (g.S.WordsIn.aside c.behind_spot.new.seg) (c.args.at + 1) (11 + words_in (length c.args.key.now) + image_length c.args.g.now)
-          c.behind_spot.ensures.kept.words c.behind_spot.ensures.kept.aside (taken_write s h c.args.at c.args.key.now c.args.g.now c.requires.taken);
+      apart = write_along (g.S.WordsIn.words c.args.seg.now) (g.S.WordsIn.words c.behind_spot.new.seg) (g.S.WordsIn.aside c.args.seg.now) (g.S.WordsIn.aside c.behind_spot.new.seg) (c.args.at + 1) (11 + words_in (length c.args.key.now) + image_length (graph_of c.args.content.now))
+          c.behind_spot.ensures.kept.words c.behind_spot.ensures.kept.aside (taken_write s h c.args.at c.args.key.now (graph_of c.args.content.now) c.requires.taken);
     }
 
 pub store-requires : goal.store-requires
@@ -56,11 +58,11 @@ store-requires g c =
     let h = c.requires.stand in
     let new_head : NewHead = record { next = c.behind_spot.result; ttl = c.args.ttl; now = c.args.t; number = c.args.self.now.next_number } in
     let ws : List ℕ = g.S.WordsIn.words c.args.seg.now in
-    let ws1 : List ℕ = written ws (c.args.at + 1) (entry_words c.args.key.now c.args.g.now new_head) in
+    let ws1 : List ℕ = written ws (c.args.at + 1) (entry_words c.args.key.now (graph_of c.args.content.now) new_head) in
     let link = spot_link c.args.spot h c.requires.spot.in_chain in
-    let h1 = entry_stands s h c.args.at c.args.key.now c.args.g.now c.requires.taken c.lower_laws.ensures new_head in
+    let h1 = entry_stands s h c.args.at c.args.key.now (graph_of c.args.content.now) c.requires.taken c.lower_laws.ensures new_head in
     let w = link_word s h c.args.spot.slot c.args.spot.link c.args.spot.at ws1 h1 (omega (arith, h.from, c.requires.spot.in_chain.low)) link in
-    let words : g.S.WordsIn.words c.put_entry.new.seg ≡ ws1 = c.put_entry.ensures.words ∙ ap (λ (v : List ℕ). written v (c.args.at + 1) (entry_words c.args.key.now c.args.g.now new_head)) c.behind_spot.ensures.kept.words in
+    let words : g.S.WordsIn.words c.put_entry.new.seg ≡ ws1 = c.put_entry.ensures.words ∙ ap (λ (v : List ℕ). written v (c.args.at + 1) (entry_words c.args.key.now (graph_of c.args.content.now) new_head)) c.behind_spot.ensures.kept.words in
     record {
       place = subst (λ (v : List ℕ). c.args.spot.link < length v) (sym words) w.inside;
       apart = may_along ws1 (g.S.WordsIn.words c.put_entry.new.seg) (g.S.WordsIn.aside c.args.seg.now) (g.S.WordsIn.aside c.put_entry.new.seg) c.args.spot.link words (c.put_entry.ensures.beside.aside ∙ c.behind_spot.ensures.kept.aside) w.may;
@@ -70,7 +72,7 @@ pub count_after-self-requires : goal.count_after-self-requires
 count_after-self-requires g c =
     let s = entries c.args.self.now in
     let h = c.requires.stand in
-    let r = taken_room s h c.args.at c.args.key.now c.args.g.now c.requires.taken in
+    let r = taken_room s h c.args.at c.args.key.now (graph_of c.args.content.now) c.requires.taken in
     let few = rows_few h in
     omega (arith, r.1, few)
 
@@ -83,16 +85,16 @@ returns-clause-stand g c =
     let new_head : NewHead = record { next = c.behind_spot.result; ttl = c.args.ttl; now = c.args.t; number = c.args.self.now.next_number } in
     let ws : List ℕ = g.S.WordsIn.words c.args.seg.now in
     let slot : ℕ = c.args.spot.slot in
-    let ws1 : List ℕ = written ws (c.args.at + 1) (entry_words c.args.key.now c.args.g.now new_head) in
+    let ws1 : List ℕ = written ws (c.args.at + 1) (entry_words c.args.key.now (graph_of c.args.content.now) new_head) in
     let is : slot ≡ slot_of s.conf c.args.key.now = c.requires.spot.slot_is in
     let link = spot_link c.args.spot h c.requires.spot.in_chain in
-    let words1 : g.S.WordsIn.words c.put_entry.new.seg ≡ ws1 = c.put_entry.ensures.words ∙ ap (λ (v : List ℕ). written v (c.args.at + 1) (entry_words c.args.key.now c.args.g.now new_head)) c.behind_spot.ensures.kept.words in
+    let words1 : g.S.WordsIn.words c.put_entry.new.seg ≡ ws1 = c.put_entry.ensures.words ∙ ap (λ (v : List ℕ). written v (c.args.at + 1) (entry_words c.args.key.now (graph_of c.args.content.now) new_head)) c.behind_spot.ensures.kept.words in
     let words : g.S.WordsIn.words c.store.new.self ≡ slice_set ws1 c.args.spot.link c.args.at = c.store.ensures.words ∙ (ap (λ (v : List ℕ). slice_set v c.args.spot.link c.from.result) words1 ∙ ap (λ (n : ℕ). slice_set ws1 c.args.spot.link n) c.from.ensures) in
     let bytes : AllByRecursion (λ b. b < 256) c.args.key.now = recursion_from_All (λ b. b < 256) c.args.key.now (All-from_get_or (λ b. b < 256) c.args.key.now 0 (λ i lt. omega (arith, c.type_inv.key i))) in
     let e' = record c.args.self.now { next_number = c.saturating_add-self.result; count = c.count_after-self.result; standing = c.then-self.result } in
     subst (λ x. Stands e' (g.S.WordsIn.words c.store.new.self) (g.S.WordsIn.aside c.store.new.self) x) (sym c.then-self.ensures)
     (restand {e' = e'} (stands_along (g.S.WordsIn.words c.store.new.self) (g.S.WordsIn.aside c.store.new.self)
-    (link_stands s h c.args.at c.args.key.now c.args.g.now taken c.lower_laws.ensures new_head c.places-places.ensures.graph (c.requires.short, bytes) (omega (arith, c.ranges.ttl)) refl c.args.spot.at slot c.args.spot.link replaces is (omega (arith, h.from, c.requires.spot.in_chain.low)) link
+    (link_stands s h c.args.at c.args.key.now (graph_of c.args.content.now) taken c.lower_laws.ensures new_head c.requires.graph (c.requires.short, bytes) (omega (arith, c.ranges.ttl)) refl c.args.spot.at slot c.args.spot.link replaces is (omega (arith, h.from, c.requires.spot.in_chain.low)) link
     (λ some. c.behind_spot.ensures.next some) c.behind_spot.ensures.none
     c.saturating_add-self.result c.count_after-self.result (omega (arith, c.saturating_add-self.ensures)) c.count_after-self.ensures)
     words (c.store.ensures.aside ∙ (c.put_entry.ensures.beside.aside ∙ c.behind_spot.ensures.kept.aside))) refl refl refl refl)

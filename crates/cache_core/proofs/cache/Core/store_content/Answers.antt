@@ -12,7 +12,8 @@ use Rattle.cache_core.proofs.Events.{insert_kept, still, steps}
 use Rattle.cache_core.proofs.Insertions.{added_swept}
 use Rattle.cache_core.proofs.InsertionAnswers.{IsInserted, answers, does_store, refused}
 use Rattle.cache_core.proofs.SpotsAfterRoom.{same_spot_if}
-use Rattle.cache_core.proofs.cache.Core.store.Goals as goal
+use Rattle.value_image.specs.Contained.{graph_of}
+use Rattle.cache_core.proofs.cache.Core.store_content.Goals as goal
 
 pub seek_new-requires-clause-slot : goal.seek_new-requires-clause-slot
 seek_new-requires-clause-slot g c = c.slot_of_key-slot.ensures.slot ∙ ap (λ (x : Entries). slot_of x.conf c.args.key.now) c.requires.ready.stand.whole
@@ -32,10 +33,10 @@ returns-in-Err g c =
     let core = c.args.self.now in
     let a = c.in-Err.answer in
     let aside = g.S.WordsIn.aside c.seek_new.new.seg in
-    let is = refused c.args.key.now c.args.g.now c.args.ttl c.args.exclusive c.args.t aside (cache_of core) a c.in-Err.ensures.refused in
+    let is = refused c.args.key.now (graph_of c.args.content.now) c.args.ttl c.args.exclusive c.args.t aside (cache_of core) a c.in-Err.ensures.refused in
     record {
-      answer = answers c.args.key.now c.args.g.now c.args.ttl c.args.exclusive c.args.t aside (cache_of core) a (cache_of core) is;
-      does = does_store c.args.key.now c.args.g.now c.args.ttl c.args.exclusive c.args.t is (still core c.seek_new.ensures.kept c.requires.ready.stand);
+      answer = answers c.args.key.now (graph_of c.args.content.now) c.args.ttl c.args.exclusive c.args.t aside (cache_of core) a (cache_of core) is;
+      does = does_store c.args.key.now (graph_of c.args.content.now) c.args.ttl c.args.exclusive c.args.t is (still core c.seek_new.ensures.kept c.requires.ready.stand);
       early = λ early. record { core = refl; kept = c.seek_new.ensures.kept };
       next = subst (λ b. MayInsert g.S.WordsIn b core c.seek_new.new.seg) (sym c.in-Err.ensures.early) (insert_kept core c.seek_new.ensures.kept c.requires.ready);
     }
@@ -45,15 +46,15 @@ returns-in-Ok g c =
     let core = c.args.self.now in
     let old = cache_of core in
     let aside = g.S.WordsIn.aside c.add.new.seg in
-    let is : IsInserted aside c.args.key.now c.args.g.now c.args.ttl c.args.exclusive c.args.t old c.add.result (cache_of c.add.new.self) = λ later on.
+    let is : IsInserted aside c.args.key.now (graph_of c.args.content.now) c.args.ttl c.args.exclusive c.args.t old c.add.result (cache_of c.add.new.self) = λ later on.
     let held = held_blocks later in
     let swept = c.sweep.ensures.swept later (goes_on (g.S.WordsIn.aside c.sweep.new.seg) aside later c.add.ensures.step.goes on) in
     c.add.ensures.added later on
-    ∙ (ap (added held c.args.key.now c.args.g.now c.args.ttl c.args.t) swept
-    ∙ (added_swept held c.args.key.now c.args.g.now c.args.ttl c.args.t old ∙ sym (c.in-Ok.ensures.added held c.args.ttl))) in
+    ∙ (ap (added held c.args.key.now (graph_of c.args.content.now) c.args.ttl c.args.t) swept
+    ∙ (added_swept held c.args.key.now (graph_of c.args.content.now) c.args.ttl c.args.t old ∙ sym (c.in-Ok.ensures.added held c.args.ttl))) in
     record {
-      answer = answers c.args.key.now c.args.g.now c.args.ttl c.args.exclusive c.args.t aside old c.add.result (cache_of c.add.new.self) is;
-      does = does_store c.args.key.now c.args.g.now c.args.ttl c.args.exclusive c.args.t is (steps (still core c.seek_new.ensures.kept c.requires.ready.stand) (steps c.sweep.ensures.step c.add.ensures.step));
+      answer = answers c.args.key.now (graph_of c.args.content.now) c.args.ttl c.args.exclusive c.args.t aside old c.add.result (cache_of c.add.new.self) is;
+      does = does_store c.args.key.now (graph_of c.args.content.now) c.args.ttl c.args.exclusive c.args.t is (steps (still core c.seek_new.ensures.kept c.requires.ready.stand) (steps c.sweep.ensures.step c.add.ensures.step));
       early = λ early. absurd (false≢true (sym early ∙ c.add.ensures.room));
       next = subst (λ b. MayInsert g.S.WordsIn b c.add.new.self c.add.new.seg) (sym c.add.ensures.room) c.add.ensures.next;
     }

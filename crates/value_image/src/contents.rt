@@ -1,0 +1,72 @@
+//! What an image is made of: a graph, or a byte string of which no graph is made.
+
+ghost use Rattle.std.specs.Prelude.{◌≡◌, ◌<◌, ◌^◌, [], ◌∷◌, length};
+ghost use Rattle.php_graph.specs.declared.kind.Kind.TheVariants.{Str};
+ghost use Rattle.php_graph.specs.Graph.{IsGraph};
+ghost use Rattle.php_graph.specs.Size.{block_size, image_length};
+ghost use Rattle.seg_words.specs.Kept.{KeptBeside};
+ghost use Rattle.value_image.specs.Image.{image_of};
+ghost use Rattle.value_image.specs.Rows.{written, MayWrite};
+ghost use Rattle.value_image.specs.Contained.{graph_of};
+
+use crate::write::persist;
+use crate::write_members::put_text;
+use php_graph::Graph;
+use seg_words::{HEAD_WORDS, Segment, words_in};
+
+/// What an image is made of. A byte string stands for the graph that has it as its only place.
+#[derive(Clone, Copy, Drop)]
+pub enum Content<'a> {
+    /// The places of a graph.
+    Graph(&'a Graph),
+    /// A byte string, of which no graph is made.
+    Text(&'a [u8]),
+}
+
+/// A byte string as what an image is made of.
+pub fn text_content(bytes: &[u8]) -> Content<'_>
+    requires short { length bytes.now < 2 ^ 32 }
+    ensures text { graph_of result ≡ Str bytes.now ∷ [] }
+    ensures graph { IsGraph (graph_of result) }
+{
+    Content::Text(bytes)
+}
+
+/// The length of the image, in words.
+pub fn content_words(content: &Content<'_>) -> u64
+    requires graph { IsGraph (graph_of content.now) }
+    ensures words { result ≡ image_length (graph_of content.now) }
+    ensures small { result < 2 ^ 60 }
+{
+    match content {
+        Content::Graph(g) => g.words(),
+        Content::Text(bytes) => 1 + u64::from(words_in(bytes.len() as u32)),
+    }
+}
+
+/// The words of an entry's block: its head, its key and the image, filled up to an even number.
+pub fn content_block_words(key_len: u64, content: &Content<'_>) -> u64
+    requires short { key_len < 2 ^ 32 }
+    requires graph { IsGraph (graph_of content.now) }
+    ensures { result ≡ block_size key_len (graph_of content.now) }
+{
+    let words = u64::from(HEAD_WORDS + words_in(key_len as u32)) + content_words(content);
+    words + words % 2
+}
+
+/// Writes the image from place `at` on. It takes no memory.
+pub fn persist_content<S: Segment>(seg: &mut S, at: u32, content: &Content<'_>)
+    requires graph { IsGraph (graph_of content.now) }
+    requires apart { MayWrite (S.words seg.old) (S.aside seg.old).windows at
+        (image_length (graph_of content.now)) }
+    ensures words { S.words seg.new
+        ≡ written (S.words seg.old) at (image_of (graph_of content.now)) }
+    ensures beside { KeptBeside S.WordsIn seg.old seg.new }
+{
+    match content {
+        Content::Graph(g) => persist(seg, at, g),
+        Content::Text(bytes) => {
+            put_text(seg, at, bytes);
+        }
+    }
+}
