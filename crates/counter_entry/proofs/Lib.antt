@@ -1,2 +1,3 @@
+pub mod Besides
 pub mod IntegerLookUps
 pub mod Levels

@@ -1,6 +1,8 @@
-ghost use Rattle.std.specs.Prelude.{◌≡◌, ◌<◌, ◌^◌, false, length};
+ghost use Rattle.std.specs.Prelude.{◌≡◌, ◌<◌, ◌^◌, false, length, IfSome};
+ghost use Rattle.seg_words.specs.Kept.{KeptBeside};
 ghost use Rattle.apcu_model.specs.declared.request.Request.TheVariants.{Inc};
 ghost use Rattle.apcu_model.specs.Counters.{begun};
+ghost use Rattle.apcu_model.specs.Expiry.{live_row};
 ghost use Rattle.cache_core.specs.CoreCache.{cache_of};
 ghost use Rattle.cache_core.specs.Events.{MayInsert, Does, IsBy, IsStep, IsUnchanged};
 ghost use Rattle.cache_core.specs.Integers.{NameNoScalar};
@@ -20,7 +22,7 @@ use std::alloc::Global;
 /// key finds and the step, in 64 bits with a sign, where the sum wraps. The row keeps its time to
 /// live, and counts neither a hit nor a miss. Where a look-up finds no row, a new one counts from 0
 /// and lives for `ttl` seconds; 0 is no limit. It takes no memory: `alloc` is for the empty list of
-/// further places that the new value has.
+/// further places that the new value has. Only a new row asks whether anybody copies.
 ///
 /// It is the first change of its event, and no window may name a row that holds null, a truth value
 /// or an integer.
@@ -42,6 +44,8 @@ pub fn inc<S: Segment>(
         (Inc key.now step ttl) (reply_of result) }
     ensures none { result ≡ answers.NotInteger
         → IsUnchanged S.WordsIn core.old core.new seg.old seg.new }
+    ensures beside { IfSome (live_row key.now t (cache_of core.old))
+        (λ _. KeptBeside S.WordsIn seg.old seg.new) }
 {
     match look_for(core, seg, key, t) {
         Found::Nothing => begin(alloc, core, seg, key, step, ttl, t),

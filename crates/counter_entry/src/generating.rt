@@ -1,7 +1,7 @@
 //! Values by generators: found under one of their keys, or made and stored under those that missed.
 
 ghost use Rattle.std.specs.Prelude.{◌≡◌, ◌<◌, ◌≤◌, ◌^◌, ◌||◌, true, false, List, length, take};
-ghost use Rattle.std.specs.Prelude.{IfOk};
+ghost use Rattle.std.specs.Prelude.{IfOk, IfNone};
 ghost use Rattle.seg_words.specs.Kept.{Kept, KeptBeside};
 ghost use Rattle.apcu_model.specs.declared.request.Request.TheVariants.{Entry};
 ghost use Rattle.apcu_model.specs.declared.request.Reply.TheVariants.{Gave};
@@ -12,6 +12,7 @@ ghost use Rattle.apcu_model.specs.Levels.{EntryLevel, most_levels};
 ghost use Rattle.cache_core.specs.CoreCache.{cache_of, CacheStands};
 ghost use Rattle.cache_core.specs.Events.{MayInsert, DoesIf, IsBy, IsStep, makes_room};
 ghost use Rattle.counter_entry.specs.Generating.{place_under, fate_of};
+ghost use Rattle.counter_entry.specs.declared.answer.Fate.TheVariants.{Found};
 
 use crate::answer::Fate;
 use apcu_model::{Gen, GenKind, StoreAnswer};
@@ -61,6 +62,7 @@ pub fn entry<S: Segment>(
         (Entry generator.now) result (λ r. Gave r.0) }
     ensures fate { IfOk result (λ r. IsBy (S.aside seg.new) (λ held. fate_of
         (entered held generator.now t (cache_of core.old)).outermost) r.1) }
+    ensures beside { IfOk result (λ r. r.1 ≡ Found → KeptBeside S.WordsIn seg.old seg.new) }
 {
     let origin = look_through(alloc, core, seg, generator, t)?;
     count_lookups(core, seg, origin.missing, origin.at, t);
@@ -145,6 +147,7 @@ fn fill<S: Segment>(
         (record { outermost = result.last; cache = cache_of core.new }) }
     ensures step { IsStep S.WordsIn core.old core.new seg.old seg.new }
     ensures next { MayInsert S.WordsIn result.swept core.new seg.new }
+    ensures kept { IfNone result.last (Kept S.WordsIn seg.old seg.new) }
 {
     if missing == 0 {
         return Progress {

@@ -11,6 +11,7 @@ use Rattle.cache_core.specs.Events.{IsUnchanged}
 use Rattle.cache_core.proofs.CoreCacheLemmas.{cache_kept}
 use Rattle.cache_core.proofs.Events.{insert_kept, does_nothing, still, steps, by_now}
 use Rattle.counter_entry.specs.Numbers.{answer_at, begun_answer, new_counter}
+use Rattle.counter_entry.proofs.Besides.{if_none, if_some, beside_kept, both_beside}
 use Rattle.counter_entry.proofs.IntegerLookUps.{nothing_of, counter_of, holds_int, unnamed_at, reply_is, other_counted, other_answer, begun_number}
 use Rattle.counter_entry.proofs.counting.inc.Goals as goal
 
@@ -49,6 +50,7 @@ returns-in-Nothing g c =
         cache = λ later on. ap (λ (x : Count). x.cache) (c.begin.ensures.counted later on ∙ sym (counts (held_blocks later)));
         step = steps (still c.args.core.now c.look_for.ensures.kept c.requires.ready.stand) c.begin.ensures.step;
       };
+      beside = if_none _ (live_row key c.args.t old) nothing;
       none = λ other. absurd (begun_number n _ (sym (by_now (λ held. begun_answer n (new_counter held key n c.args.ttl c.args.t old).answer) c.begin.ensures.answer) ∙ other));
     }
 
@@ -63,4 +65,10 @@ returns-in-Other g c =
           (λ held. ap (λ (x : Count). number_reply x.number) (sym (other_counted held key c.args.step c.args.ttl c.args.t old c.in-Other.ensures.found)))
           (λ held. ap (λ (x : Count). x.cache) (sym (other_counted held key c.args.step c.args.ttl c.args.t old c.in-Other.ensures.found)));
       none = λ other. same;
+      beside = if_some (live_row key c.args.t old) (beside_kept c.look_for.ensures.kept);
     }
+
+pub returns-in-Integer-clause-beside : goal.returns-in-Integer-clause-beside
+returns-in-Integer-clause-beside g c =
+    if_some (live_row c.args.key.now c.args.t (cache_of c.args.core.now))
+    (both_beside (beside_kept c.look_for.ensures.kept) c.set_int.ensures.beside)

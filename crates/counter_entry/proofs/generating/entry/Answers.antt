@@ -6,6 +6,7 @@ use Rattle.apcu_model.specs.Generators.{Filling, entered}
 use Rattle.cache_core.specs.CoreCache.{cache_of}
 use Rattle.cache_core.proofs.Events.{still, steps}
 use Rattle.counter_entry.specs.Generating.{fate_of}
+use Rattle.counter_entry.proofs.Besides.{beside_kept, both_beside, none_kept, found_none}
 use Rattle.counter_entry.proofs.Levels.{few_missed, filled_missed}
 use Rattle.counter_entry.proofs.generating.entry.Goals as goal
 use Rattle.counter_entry.proofs.generating.entry.Given as given
@@ -24,6 +25,12 @@ progressed g c later on =
 
 pub returns-clause-fate : goal.returns-clause-fate
 returns-clause-fate g c = λ later on. c.fate.ensures ∙ ap (λ (f : Filling). fate_of f.outermost) (progressed g c later on)
+
+pub returns-clause-beside : goal.returns-clause-beside
+returns-clause-beside g c = λ found.
+    both_beside (beside_kept c.look_through.ensures.kept)
+    (both_beside c.count_lookups.ensures.beside
+    (beside_kept (none_kept c.fill-progress.result.last (found_none c.fill-progress.result.last (sym c.fate.ensures ∙ found)) c.fill-progress.ensures.kept)))
 
 pub returns-clause-does : goal.returns-clause-does
 returns-clause-does g c = record {
