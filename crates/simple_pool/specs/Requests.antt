@@ -18,7 +18,7 @@ use Rattle.simple_pool.specs.Names.{is_good_name, is_good_key, pool_key, pattern
 abbrev pub pool_step : ℕ
 pool_step = 100
 
--- the value is kept for ever
+-- the value is kept for so many seconds, or for ever where they are 0
 abbrev pub store_of : List ℕ → List ℕ × List Kind → ℕ → Request
 store_of pool pair ttl = asks.Store (pool_key pool pair.0) pair.1 ttl false
 

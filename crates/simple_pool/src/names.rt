@@ -1,6 +1,6 @@
 //! Names and keys of pools.
 
-ghost use Rattle.std.specs.Prelude.{◌≡◌, ◌<◌, ◌≤◌, not, true, IfOk, length};
+ghost use Rattle.std.specs.Prelude.{◌≡◌, ◌<◌, ◌^◌, ◌≤◌, not, true, IfOk, length};
 ghost use Rattle.std.specs.List.{list_all};
 ghost use Rattle.simple_pool.specs.Names.{is_good_key, is_good_name, is_name_byte, is_reserved};
 ghost use Rattle.simple_pool.specs.Names.{braced, escaped, pattern_of, pool_key};
@@ -54,17 +54,18 @@ pub fn pool_key(alloc: Global, pool: &[u8], key: &[u8]) -> Result<Bytes, AllocEr
     requires key { is_good_key key.now ≡ true }
     ensures { IfOk result (λ bytes. bytes ≡ pool_key pool.now key.now) }
 {
-    let mut bytes = braced(alloc, pool)?;
+    let mut bytes = braced(alloc, pool, key.len())?;
     bytes.extend_from_slice(key)?;
     Ok(Bytes::from_vec(bytes))
 }
 
-// The name in braces.
-fn braced(alloc: Global, pool: &[u8]) -> Result<Vec<u8>, AllocError>
-    requires { length pool.now ≤ 64 }
+// The name in braces, in a block with room for so many bytes behind it.
+fn braced(alloc: Global, pool: &[u8], behind: usize) -> Result<Vec<u8>, AllocError>
+    requires name { length pool.now ≤ 64 }
+    requires behind { behind < 2 ^ 32 }
     ensures { IfOk result (λ bytes. bytes.items ≡ braced pool.now) }
 {
-    let mut bytes = Vec::new(alloc);
+    let mut bytes = Vec::with_capacity(alloc, pool.len() + 2 + behind)?;
     bytes.push(b'{')?;
     bytes.extend_from_slice(pool)?;
     bytes.push(b'}')?;
@@ -76,7 +77,7 @@ pub fn pool_pattern(alloc: Global, pool: &[u8]) -> Result<Pattern, AllocError>
     requires { is_good_name pool.now ≡ true }
     ensures { IfOk result (λ pattern. pattern ≡ pattern_of pool.now) }
 {
-    let bytes = braced(alloc, pool)?;
+    let bytes = braced(alloc, pool, 0)?;
     let Ok(text) = str::from_utf8(&bytes) else {
         unreachable!()
     };
