@@ -10,7 +10,8 @@ enum {
 	MARK_TEXT = 0,
 	MARK_PHP = 1,       /* as serialize writes it */
 	MARK_DOUBLE = 2,
-	MARK_SERIALIZER = 3 /* as a serializer of another module writes it */
+	MARK_OTHER = 3,     /* as a serializer of another module writes it */
+	MARK_COPY = 4       /* an array as it is */
 };
 
 /* What other modules register, as APCu has it: they find the function by a constant. */
@@ -74,23 +75,22 @@ zend_string *apcu_serializers_names(void)
 	return smart_str_extract(&names);
 }
 
-/* Null, and an exception or nothing, where there is no text. */
-static zend_string *text_of(zval *value)
+/* False, and an exception or nothing, where there is no text. */
+static bool write_text(smart_str *text, zval *value)
 {
-	smart_str text = {0};
 	php_serialize_data_t data;
 
 	BG(serialize_lock)++;
 	PHP_VAR_SERIALIZE_INIT(data);
-	php_var_serialize(&text, value, &data);
+	php_var_serialize(text, value, &data);
 	PHP_VAR_SERIALIZE_DESTROY(data);
 	BG(serialize_lock)--;
 
 	if (EG(exception)) {
-		smart_str_free(&text);
-		return NULL;
+		smart_str_free(text);
+		return false;
 	}
-	return text.s;
+	return text->s != NULL;
 }
 
 static bool value_of(zval *out, const unsigned char *text, size_t len)
@@ -115,14 +115,14 @@ static bool value_of(zval *out, const unsigned char *text, size_t len)
 /* PHP's serializer, as a module that asks for it by its name would call it. */
 static int php_serialize(unsigned char **buf, size_t *len, const zval *value, void *config)
 {
-	zend_string *text = text_of((zval *) value);
+	smart_str text = {0};
 
-	if (!text) {
+	if (!write_text(&text, (zval *) value)) {
 		return 0;
 	}
-	*len = ZSTR_LEN(text);
-	*buf = (unsigned char *) estrndup(ZSTR_VAL(text), *len);
-	zend_string_release(text);
+	*len = ZSTR_LEN(text.s);
+	*buf = (unsigned char *) estrndup(ZSTR_VAL(text.s), *len);
+	smart_str_free(&text);
 	return 1;
 }
 
@@ -131,20 +131,43 @@ static int php_unserialize(zval *value, unsigned char *buf, size_t len, void *co
 	return value_of(value, buf, len);
 }
 
+static void pack_text(apcu_value *out, smart_str *text, char mark)
+{
+	smart_str_appendc(text, mark);
+	out->text = text->s;
+	out->bytes = ZSTR_VAL(text->s);
+	out->len = ZSTR_LEN(text->s);
+}
+
 static bool pack_by_php(apcu_value *out, zval *value)
 {
 	smart_str text = {0};
 
-	text.s = text_of(value);
-	if (!text.s) {
+	if (!write_text(&text, value)) {
 		return false;
 	}
-	text.a = ZSTR_LEN(text.s); /* so the mark makes it grow */
-	smart_str_appendc(&text, MARK_PHP);
-	out->text = text.s;
-	out->bytes = ZSTR_VAL(text.s);
-	out->len = ZSTR_LEN(text.s);
+	pack_text(out, &text, MARK_PHP);
 	return true;
+}
+
+/* Arrays as they are, and by PHP's serializer where there is an object in them. */
+static bool pack_by_none(apcu_value *out, zval *value)
+{
+	smart_str bytes = {0};
+	apcu_copied copied = Z_TYPE_P(value) == IS_ARRAY ? apcu_copy_write(&bytes, value) : APCU_COPY_HAS_OBJECT;
+
+	switch (copied) {
+		case APCU_COPIED:
+			pack_text(out, &bytes, MARK_COPY);
+			return true;
+		case APCU_COPY_HAS_OBJECT:
+			smart_str_free(&bytes);
+			return pack_by_php(out, value);
+		default:
+			smart_str_free(&bytes);
+			php_error_docref(NULL, E_WARNING, "Cannot store resources in apcu cache");
+			return false;
+	}
 }
 
 static bool pack_by_other(apcu_value *out, const zval *value)
@@ -155,7 +178,7 @@ static bool pack_by_other(apcu_value *out, const zval *value)
 		return false;
 	}
 	out->data = erealloc(out->data, len + 1);
-	out->data[len] = MARK_SERIALIZER;
+	out->data[len] = MARK_OTHER;
 	out->bytes = (const char *) out->data;
 	out->len = len + 1;
 	return true;
@@ -199,10 +222,10 @@ bool apcu_pack(apcu_value *out, zval *value)
 			php_error_docref(NULL, E_WARNING, "Cannot store resources in apcu cache");
 			return false;
 	}
-	if (serializer && serializer->serialize != php_serialize) {
-		return pack_by_other(out, value);
+	if (!serializer) {
+		return pack_by_none(out, value);
 	}
-	return pack_by_php(out, value);
+	return serializer->serialize == php_serialize ? pack_by_php(out, value) : pack_by_other(out, value);
 }
 
 void apcu_value_free(apcu_value *value)
@@ -232,11 +255,13 @@ static bool unpack_bytes(zval *out, const char *bytes, size_t len, char mark)
 			break;
 		case MARK_PHP:
 			return value_of(out, (const unsigned char *) bytes, len);
-		case MARK_SERIALIZER:
+		case MARK_OTHER:
 			if (serializer && serializer->unserialize(out, (unsigned char *) bytes, len, serializer->config)) {
 				return true;
 			}
 			break;
+		case MARK_COPY:
+			return apcu_copy_read(out, bytes, len);
 	}
 	ZVAL_NULL(out);
 	return false;
