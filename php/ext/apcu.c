@@ -17,34 +17,32 @@ static PHP_GINIT_FUNCTION(apcu)
 	memset(apcu_globals, 0, sizeof *apcu_globals);
 }
 
-/* Where no cache has the shape, the server does not start, as with APCu; where the system has no
- * memory, it starts without a cache. */
+/* Where there are too many slots for the words, the server does not start, as with APCu. Where there
+ * are too many words, or the system has no memory for them, it starts without a cache. */
 static void start_cache(void)
 {
 	cache_shape shape = apcu_settings_shape();
 	size_t bytes = 0;
 
-	switch (apcu_shm_start(&shape, !APCU_G(coredump_unmap), &bytes)) {
-		case APCU_SHM_MADE:
-			return;
-		case APCU_SHM_NO_MAPPING:
+	if (apcu_shm_is_good(&shape)) {
+		if (!apcu_shm_start(&shape, !APCU_G(coredump_unmap), &bytes)) {
 			APCU_G(enabled) = false;
 			zend_error(E_CORE_WARNING, "apc_mmap: Failed to mmap %zu bytes. Is your apc.shm_size too large?", bytes);
-			return;
-		default:
-			break;
+		}
+		return;
 	}
 
-	/* The same cache with few slots would be one: then the slots are too many, else the words. */
-	size_t most = (size_t) shape.slots * sizeof(uint64_t);
-	shape.slots = 256;
-	if (apcu_shm_start(&shape, true, &bytes) == APCU_SHM_MADE) {
-		apcu_shm_stop();
+	size_t slots = shape.slots;
+	shape.slots = 2;
+	if (apcu_shm_is_good(&shape)) {
 		zend_error_noreturn(E_CORE_ERROR, "Unable to allocate %zu bytes of shared memory for cache structures. "
-			"Either apc.shm_size is too small or apc.entries_hint too large", most);
+			"Either apc.shm_size is too small or apc.entries_hint too large", slots * sizeof(uint64_t));
+	}
+	for (shape.words = (uint32_t) 1 << 31; shape.words > 2 && !apcu_shm_is_good(&shape); shape.words /= 2) {
 	}
 	APCU_G(enabled) = false;
-	zend_error(E_CORE_WARNING, "apc.shm_size is too large: there is no cache of " ZEND_LONG_FMT " bytes", APCU_G(shm_size));
+	zend_error(E_CORE_WARNING, "apc.shm_size is " ZEND_LONG_FMT " bytes, and no cache has more than %zu",
+		APCU_G(shm_size), (size_t) shape.words * sizeof(uint64_t));
 }
 
 static PHP_MINIT_FUNCTION(apcu)

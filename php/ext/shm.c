@@ -9,9 +9,10 @@
 
 apcu_shared *apcu_shm;
 
-/* What the library takes while a cache is made comes out of the mapping; all else is malloc's. Both
- * are written under the lock alone, or before there is a second process. */
-static bool is_making;
+/* Where the library's memory comes from: while a cache is made, out of the mapping; while a shape is
+ * judged, there is none; else it is malloc's. Written under the lock alone, or before there is a
+ * second process. */
+static enum { FROM_MALLOC, FROM_MAPPING, FROM_NOWHERE } source;
 static bool was_remade;
 
 /* What the library asks for memory, and whether there was some. Where there is none, `at` is not
@@ -53,10 +54,14 @@ static void *take(size_t size)
 
 struct tried rattle_alloc(size_t size, size_t align)
 {
-	if (is_making) {
-		return given(align <= 64 ? take(size) : NULL);
+	switch (source) {
+		case FROM_MAPPING:
+			return given(align <= 64 ? take(size) : NULL);
+		case FROM_NOWHERE:
+			return given(NULL);
+		default:
+			return given(malloc(size ? size : 1));
 	}
-	return given(malloc(size ? size : 1));
 }
 
 struct tried rattle_realloc(void *at, size_t kept, size_t size, size_t align)
@@ -85,21 +90,31 @@ int rattle_errno(void)
 }
 
 /* Makes an empty cache. What a cache before it left in the memory is not read. */
-static uint32_t make(void)
+static void make(void)
 {
 	apcu_shm->is_made = false;
 	apcu_shm->used = sizeof *apcu_shm;
 	memset(&apcu_shm->last, 0, sizeof apcu_shm->last);
 
-	is_making = true;
+	source = FROM_MAPPING;
 	uint8_t *at = take(cache_size());
-	uint32_t made = at ? cache_new(&apcu_shm->shape, at) : CACHE_NO_ROOM;
-	is_making = false;
+	bool is_made = at && cache_new(&apcu_shm->shape, at) == CACHE_MADE;
+	source = FROM_MALLOC;
 
 	apcu_shm->cache = at;
 	apcu_shm->start_time = time(NULL);
-	apcu_shm->is_made = made == CACHE_MADE;
-	return made;
+	apcu_shm->is_made = is_made;
+}
+
+bool apcu_shm_is_good(const cache_shape *shape)
+{
+	uint8_t *at = malloc(cache_size());
+
+	source = FROM_NOWHERE;
+	bool is_good = at && cache_new(shape, at) == CACHE_NO_ROOM;
+	source = FROM_MALLOC;
+	free(at);
+	return is_good;
 }
 
 static bool make_lock(pthread_mutex_t *lock)
@@ -116,12 +131,12 @@ static bool make_lock(pthread_mutex_t *lock)
 	return made;
 }
 
-apcu_shm_result apcu_shm_start(const cache_shape *shape, bool is_dumped, size_t *bytes)
+bool apcu_shm_start(const cache_shape *shape, bool is_dumped, size_t *bytes)
 {
 	size_t page = (size_t) sysconf(_SC_PAGESIZE);
 	size_t size = (size_t) shape->words * 8;
 
-	/* Beside its words a cache has an index, of half a word for each four. What is too much is
+	/* Beside its words a cache has an index, of less than a word for each four. What is too much is
 	 * given back below. */
 	size += size / 4 + 1024 * 1024;
 	size = (size + page - 1) / page * page;
@@ -129,7 +144,7 @@ apcu_shm_result apcu_shm_start(const cache_shape *shape, bool is_dumped, size_t 
 
 	void *at = mmap(NULL, size, PROT_READ | PROT_WRITE, MAP_SHARED | MAP_ANONYMOUS, -1, 0);
 	if (at == MAP_FAILED) {
-		return APCU_SHM_NO_MAPPING;
+		return false;
 	}
 #ifdef MADV_HUGEPAGE
 	madvise(at, size, MADV_HUGEPAGE);
@@ -143,21 +158,18 @@ apcu_shm_result apcu_shm_start(const cache_shape *shape, bool is_dumped, size_t 
 	apcu_shm = at;
 	apcu_shm->size = size;
 	apcu_shm->shape = *shape;
-	if (!make_lock(&apcu_shm->lock) || !make_lock(&apcu_shm->entry_lock)) {
-		apcu_shm_stop();
-		return APCU_SHM_NO_MAPPING;
+	if (make_lock(&apcu_shm->lock) && make_lock(&apcu_shm->entry_lock)) {
+		make();
 	}
-
-	uint32_t made = make();
-	if (made != CACHE_MADE) {
+	if (!apcu_shm->is_made) {
 		apcu_shm_stop();
-		return made == CACHE_BAD_SHAPE ? APCU_SHM_BAD_SHAPE : APCU_SHM_NO_ROOM;
+		return false;
 	}
 
 	size_t used = (apcu_shm->used + page - 1) / page * page;
 	munmap((char *) at + used, size - used);
 	apcu_shm->size = used;
-	return APCU_SHM_MADE;
+	return true;
 }
 
 void apcu_shm_stop(void)

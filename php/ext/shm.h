@@ -30,16 +30,13 @@ typedef struct {
 /* Null where there is no cache in this process. */
 extern apcu_shared *apcu_shm;
 
-typedef enum {
-	APCU_SHM_MADE,
-	APCU_SHM_NO_MAPPING, /* the system gave no memory, or no lock that processes share */
-	APCU_SHM_BAD_SHAPE,  /* no cache has this shape */
-	APCU_SHM_NO_ROOM     /* the mapping is too small for it */
-} apcu_shm_result;
+/* Whether a cache may have this shape. */
+bool apcu_shm_is_good(const cache_shape *shape);
 
-/* Maps memory and makes an empty cache in it; `bytes` is how much was asked for. Where it answers
- * another word than APCU_SHM_MADE, nothing is mapped. */
-apcu_shm_result apcu_shm_start(const cache_shape *shape, bool is_dumped, size_t *bytes);
+/* Maps memory and makes an empty cache of a good shape in it, which core dumps have or have not.
+ * False where the system gives no memory, or no lock that processes share: then nothing is mapped.
+ * `bytes` is how much was asked for. */
+bool apcu_shm_start(const cache_shape *shape, bool is_dumped, size_t *bytes);
 
 /* Unmaps it, in this process alone. */
 void apcu_shm_stop(void);
