@@ -42,5 +42,6 @@ cd "$build"
     && make -j "${JOBS:-2}" >> log 2>&1 \
     || { tail -n 30 log >&2; echo "build.sh: see $build/log" >&2; exit 1; }
 grep -E '\.[ch]:[0-9]+:.*warning:' log >&2 || true
-cp modules/apcu.so "$ext/modules/apcu.so"
+cp modules/apcu.so "$ext/modules/apcu.so.new"
+mv "$ext/modules/apcu.so.new" "$ext/modules/apcu.so" # processes that run keep theirs
 echo "$ext/modules/apcu.so"

@@ -136,9 +136,9 @@ bool apcu_shm_start(const cache_shape *shape, bool is_dumped, size_t *bytes)
 	size_t page = (size_t) sysconf(_SC_PAGESIZE);
 	size_t size = (size_t) shape->words * 8;
 
-	/* Beside its words a cache has an index, of less than a word for each four. What is too much is
+	/* Beside its words a cache has an index of some four bytes for each four of them. What is too much is
 	 * given back below. */
-	size += size / 4 + 1024 * 1024;
+	size += size / 6 + 64 * 1024;
 	size = (size + page - 1) / page * page;
 	*bytes = size;
 
