@@ -78,24 +78,30 @@ cache_shape apcu_settings_shape(void)
 	return shape;
 }
 
-/* Whether the value that a text of serialize begins with may need a class. While the server starts
- * there are none, and PHP has no room for objects yet. What is no such text may get either answer. */
-static bool has_object(const char *at, const char *end)
+typedef enum { PLAIN, HAS_OBJECT, NO_VALUE } text_kind;
+
+/* What a text of serialize begins with. While the server starts there are no classes, and PHP has no
+ * room for objects yet. What looks plain may be no value all the same. */
+static text_kind kind_of(const char *at, const char *end)
 {
 	size_t depth = 0;
 
-	while (at < end) {
+	do {
 		zend_ulong len = 0;
 
+		if (at == end) {
+			return NO_VALUE;
+		}
 		switch (*at) {
 			case 's':
-				for (at += 2; at < end && *at >= '0' && *at <= '9' && len < (zend_ulong) (end - at); at++) {
-					len = len * 10 + (zend_ulong) (*at - '0');
+				for (at++; at < end && (*at == ':' || (*at >= '0' && *at <= '9')) && len < (zend_ulong) (end - at); at++) {
+					len = *at == ':' ? len : len * 10 + (zend_ulong) (*at - '0');
 				}
-				if (end - at < 4 || len > (zend_ulong) (end - at) - 4) {
-					return true;
+				/* Quotes stand round the bytes, and a semicolon behind. */
+				if (end - at < 3 || len > (zend_ulong) (end - at) - 3) {
+					return NO_VALUE;
 				}
-				at += len + 4;
+				at += len + 3;
 				break;
 			case 'a':
 			case 'N':
@@ -107,25 +113,26 @@ static bool has_object(const char *at, const char *end)
 				depth += *at == 'a';
 				at = memchr(at, *at == 'a' ? '{' : ';', end - at);
 				if (!at) {
-					return true;
+					return NO_VALUE;
 				}
 				at++;
 				break;
 			case '}':
 				if (depth == 0) {
-					return true;
+					return NO_VALUE;
 				}
 				depth--;
 				at++;
 				break;
+			case 'O':
+			case 'C':
+			case 'E':
+				return HAS_OBJECT;
 			default:
-				return true;
+				return NO_VALUE;
 		}
-		if (depth == 0) {
-			return false;
-		}
-	}
-	return true;
+	} while (depth > 0);
+	return PLAIN;
 }
 
 static void preload_file(const char *path, zend_string *key)
@@ -147,9 +154,10 @@ static void preload_file(const char *path, zend_string *key)
 	fclose(file);
 
 	const char *at = ZSTR_VAL(text), *end = at + ZSTR_LEN(text);
-	if (has_object(at, end)) {
-		zend_error(E_CORE_WARNING, "apc.preload_path: %s holds an object or is no serialized value, and is left out", path);
-	} else {
+	text_kind kind = kind_of(at, end);
+	if (kind == HAS_OBJECT) {
+		zend_error(E_CORE_WARNING, "apc.preload_path: %s holds an object, and is left out", path);
+	} else if (kind == PLAIN) {
 		zval value;
 		php_unserialize_data_t data;
 
