@@ -57,7 +57,7 @@ static PHP_MINIT_FUNCTION(apcu)
 		start_cache();
 	}
 	if (APCU_G(enabled) && APCU_G(preload_path)) {
-		apcu_preload();
+		apcu_preload(APCU_G(preload_path));
 	}
 	apcu_iterator_start(register_class_APCUIterator(zend_ce_iterator), module_number);
 	return SUCCESS;

@@ -56,8 +56,10 @@ void apcu_settings_stop(int type, int module_number);
 /* The shape of a cache that the settings ask for. */
 cache_shape apcu_settings_shape(void);
 
-/* Stores the files of apc.preload_path, each under its name. */
-void apcu_preload(void);
+/* preload.c */
+
+/* Stores each file NAME.data of the folder under its name, unless there is a row. */
+void apcu_preload(const char *folder);
 
 /* values.c */
 
@@ -75,6 +77,10 @@ typedef struct {
 
 /* False where a value can't be stored; a warning or an exception says why. It may run PHP code. */
 bool apcu_pack(apcu_value *out, zval *value);
+
+/* A value of which there is a text of serialize already. */
+void apcu_pack_text(apcu_value *out, const char *text, size_t len);
+
 void apcu_value_free(apcu_value *value);
 
 /* The value of an answer. The bytes of a string are `bytes`; where they are those of `text`, it is
@@ -104,7 +110,9 @@ bool apcu_copy_read(zval *out, const char *bytes, size_t len);
 /* The second of a call, as apc.use_request_time wants it. */
 time_t apcu_time(void);
 
+/* Whether the value was stored; an exclusive one never is over a row that lives. */
 bool apcu_store_value(zend_string *key, zval *value, zend_long ttl, bool is_exclusive);
+bool apcu_store_packed(zend_string *key, const apcu_value *value, time_t t, zend_long ttl, bool is_exclusive);
 bool apcu_delete_key(const zend_string *key);
 
 /* iterator.c */

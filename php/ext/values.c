@@ -184,16 +184,29 @@ static bool pack_by_other(apcu_value *out, const zval *value)
 	return true;
 }
 
-bool apcu_pack(apcu_value *out, zval *value)
+static void start(apcu_value *out)
 {
-	ZVAL_DEREF(value);
 	out->kind = CACHE_STR;
 	out->number = 0;
 	out->bytes = "";
 	out->len = 0;
 	out->text = NULL;
 	out->data = NULL;
+}
 
+void apcu_pack_text(apcu_value *out, const char *text, size_t len)
+{
+	smart_str bytes = {0};
+
+	start(out);
+	smart_str_appendl(&bytes, text, len);
+	pack_text(out, &bytes, MARK_PHP);
+}
+
+bool apcu_pack(apcu_value *out, zval *value)
+{
+	start(out);
+	ZVAL_DEREF(value);
 	switch (Z_TYPE_P(value)) {
 		case IS_UNDEF:
 		case IS_NULL:
