@@ -97,15 +97,8 @@ static PHP_MINFO_FUNCTION(apcu)
 	display_ini_entries(zend_module);
 }
 
-static const zend_module_dep apcu_deps[] = {
-	ZEND_MOD_REQUIRED("pcre")
-	ZEND_MOD_END
-};
-
 zend_module_entry apcu_module_entry = {
-	STANDARD_MODULE_HEADER_EX,
-	NULL,
-	apcu_deps,
+	STANDARD_MODULE_HEADER,
 	PHP_APCU_EXTNAME,
 	ext_functions,
 	PHP_MINIT(apcu),
