@@ -26,7 +26,6 @@ static void start_cache(void)
 
 	if (apcu_shm_is_good(&shape)) {
 		if (!apcu_shm_start(&shape, !APCU_G(coredump_unmap), &bytes)) {
-			APCU_G(enabled) = false;
 			zend_error(E_CORE_WARNING, "apc_mmap: Failed to mmap %zu bytes. Is your apc.shm_size too large?", bytes);
 		}
 		return;
@@ -40,23 +39,20 @@ static void start_cache(void)
 	}
 	for (shape.words = (uint32_t) 1 << 31; shape.words > 2 && !apcu_shm_is_good(&shape); shape.words /= 2) {
 	}
-	APCU_G(enabled) = false;
 	zend_error(E_CORE_WARNING, "apc.shm_size is " ZEND_LONG_FMT " bytes, and no cache has more than %zu",
 		APCU_G(shm_size), (size_t) shape.words * sizeof(uint64_t));
 }
 
 static PHP_MINIT_FUNCTION(apcu)
 {
-	apcu_settings_start(type, module_number);
+	bool is_cli = strcmp(sapi_module.name, "cli") == 0;
 
-	if (!APCU_G(enable_cli) && strcmp(sapi_module.name, "cli") == 0) {
-		APCU_G(enabled) = false;
-	}
-	if (APCU_G(enabled)) {
+	apcu_settings_start(type, module_number);
+	if (APCU_G(enabled) && (APCU_G(enable_cli) || !is_cli)) {
 		apcu_serializers_start(module_number);
 		start_cache();
 	}
-	if (APCU_G(enabled) && APCU_G(preload_path)) {
+	if (apcu_shm && APCU_G(preload_path)) {
 		apcu_preload(APCU_G(preload_path));
 	}
 	apcu_iterator_start(register_class_APCUIterator(zend_ce_iterator), module_number);
@@ -76,7 +72,7 @@ static PHP_RINIT_FUNCTION(apcu)
 	ZEND_TSRMLS_CACHE_UPDATE();
 #endif
 	APCU_G(request_time) = 0;
-	if (APCU_G(enabled)) {
+	if (apcu_shm) {
 		/* Modules that start after this one have registered by now. */
 		apcu_serializers_find();
 	}
@@ -85,9 +81,7 @@ static PHP_RINIT_FUNCTION(apcu)
 
 static PHP_RSHUTDOWN_FUNCTION(apcu)
 {
-	if (APCU_G(enabled)) {
-		apcu_entry_leave();
-	}
+	apcu_entry_leave();
 	return SUCCESS;
 }
 

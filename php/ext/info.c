@@ -261,12 +261,13 @@ PHP_FUNCTION(apcu_sma_info)
 void apcu_info_print(void)
 {
 	php_info_print_table_start();
-	php_info_print_table_row(2, "APCu Support", APCU_G(enabled) ? "Enabled" : "Disabled");
+	php_info_print_table_row(2, "APCu Support", apcu_shm ? "Enabled" : "Disabled");
 	php_info_print_table_row(2, "Version", PHP_APCU_VERSION);
+	php_info_print_table_row(2, "Cache", "Yilumbaso");
 	php_info_print_table_row(2, "APCu Debugging", "Disabled");
 	php_info_print_table_row(2, "MMAP Support", "Enabled");
 	php_info_print_table_row(2, "MMAP File Mask", APCU_G(mmap_file_mask));
-	if (APCU_G(enabled)) {
+	if (apcu_shm) {
 		zend_string *names = apcu_serializers_names();
 		char remade[MAX_LENGTH_OF_LONG + 1];
 

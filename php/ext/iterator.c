@@ -323,11 +323,9 @@ static size_t fetch_chunk(apcu_iterator *it)
 	search s;
 
 	drop_chunk(it);
-	if (it->slot >= it->end || !search_start(&s, it)) {
+	if (it->slot >= it->end) {
 		return 0;
 	}
-	search_end(&s);
-
 	apcu_rows_start(&list, 256, 8192);
 	while (count <= it->chunk_size && list_some(it, &list)) {
 		/* Values may run PHP code, and that may search too: so all keys are matched before. */
@@ -357,7 +355,7 @@ static size_t fetch_chunk(apcu_iterator *it)
 static void add_totals(apcu_iterator *it)
 {
 	time_t t = apcu_time();
-	apcu_iterator all = {.end = apcu_shm ? apcu_shm->shape.slots : 0};
+	apcu_iterator all = {.end = apcu_shm->shape.slots};
 	apcu_rows list;
 	search s;
 
@@ -417,7 +415,7 @@ ZEND_METHOD(APCUIterator, __construct)
 		php_error_docref(NULL, E_ERROR, "APCUIterator chunk size must be 0 or greater");
 		return;
 	}
-	if (!APCU_G(enabled)) {
+	if (!apcu_shm) {
 		zend_throw_error(NULL, "APC must be enabled to use APCUIterator");
 		return;
 	}
