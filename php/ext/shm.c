@@ -1,4 +1,5 @@
 #include <errno.h>
+#include <signal.h>
 #include <stdatomic.h>
 #include <stdlib.h>
 #include <string.h>
@@ -180,6 +181,24 @@ void apcu_shm_stop(void)
 	}
 }
 
+/* As HANDLE_UNBLOCK_INTERRUPTIONS. That one takes the first signal that waits for granted, where
+ * another one that comes just then may have let all go already. */
+static void let_signals(void)
+{
+#ifdef ZEND_SIGNALS
+	if (UNEXPECTED(SIGG(depth)-- == SIGG(blocked))) {
+		sigset_t all, before;
+
+		sigfillset(&all);
+		pthread_sigmask(SIG_BLOCK, &all, &before);
+		if (SIGG(phead)) {
+			zend_signal_handler_unblock();
+		}
+		pthread_sigmask(SIG_SETMASK, &before, NULL);
+	}
+#endif
+}
+
 /* Its last owner died. Where a call was under way, what it left may be half a change, and nothing of
  * it is read again: a new cache takes its place. Whoever dies here leaves is_busy as it is, and the
  * next owner begins anew. */
@@ -205,7 +224,7 @@ bool apcu_lock(void)
 	int error = pthread_mutex_lock(&apcu_shm->lock);
 	if (UNEXPECTED(error != 0)) {
 		if (error != EOWNERDEAD) {
-			HANDLE_UNBLOCK_INTERRUPTIONS();
+			let_signals();
 			return false;
 		}
 		recover();
@@ -223,7 +242,7 @@ void apcu_unlock(void)
 
 	was_remade = false;
 	pthread_mutex_unlock(&apcu_shm->lock);
-	HANDLE_UNBLOCK_INTERRUPTIONS();
+	let_signals();
 	if (UNEXPECTED(is_told)) {
 		php_log_err("apcu: a process died while it changed the cache; an empty one has taken its place");
 	}
