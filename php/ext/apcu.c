@@ -1,0 +1,116 @@
+#include "php_apcu.h"
+
+#include "SAPI.h"
+#include "ext/standard/info.h"
+#include "php_ini.h"
+#include "zend_interfaces.h"
+
+#include "apcu_arginfo.h"
+
+ZEND_DECLARE_MODULE_GLOBALS(apcu)
+
+static PHP_GINIT_FUNCTION(apcu)
+{
+#if defined(ZTS) && defined(COMPILE_DL_APCU)
+	ZEND_TSRMLS_CACHE_UPDATE();
+#endif
+	memset(apcu_globals, 0, sizeof *apcu_globals);
+}
+
+/* Where there are too many slots for the words, the server does not start, as with APCu. Where there
+ * are too many words, or the system has no memory for them, it starts without a cache. */
+static void start_cache(void)
+{
+	cache_shape shape = apcu_settings_shape();
+	size_t bytes = 0;
+
+	if (apcu_shm_is_good(&shape)) {
+		if (!apcu_shm_start(&shape, !APCU_G(coredump_unmap), &bytes)) {
+			zend_error(E_CORE_WARNING, "apc_mmap: Failed to mmap %zu bytes. Is your apc.shm_size too large?", bytes);
+		}
+		return;
+	}
+
+	size_t slots = shape.slots;
+	shape.slots = 2;
+	if (apcu_shm_is_good(&shape)) {
+		zend_error_noreturn(E_CORE_ERROR, "Unable to allocate %zu bytes of shared memory for cache structures. "
+			"Either apc.shm_size is too small or apc.entries_hint too large", slots * sizeof(uint64_t));
+	}
+	for (shape.words = (uint32_t) 1 << 31; shape.words > 2 && !apcu_shm_is_good(&shape); shape.words /= 2) {
+	}
+	zend_error(E_CORE_WARNING, "apc.shm_size is " ZEND_LONG_FMT " bytes, and no cache has more than %zu",
+		APCU_G(shm_size), (size_t) shape.words * sizeof(uint64_t));
+}
+
+static PHP_MINIT_FUNCTION(apcu)
+{
+	bool is_cli = strcmp(sapi_module.name, "cli") == 0;
+
+	apcu_settings_start(type, module_number);
+	if (APCU_G(enabled) && (APCU_G(enable_cli) || !is_cli)) {
+		apcu_serializers_start(module_number);
+		start_cache();
+	}
+	if (apcu_shm && APCU_G(preload_path)) {
+		apcu_preload(APCU_G(preload_path));
+	}
+	apcu_iterator_start(register_class_APCUIterator(zend_ce_iterator), module_number);
+	return SUCCESS;
+}
+
+static PHP_MSHUTDOWN_FUNCTION(apcu)
+{
+	apcu_shm_stop();
+	apcu_settings_stop(type, module_number);
+	return SUCCESS;
+}
+
+static PHP_RINIT_FUNCTION(apcu)
+{
+#if defined(ZTS) && defined(COMPILE_DL_APCU)
+	ZEND_TSRMLS_CACHE_UPDATE();
+#endif
+	APCU_G(request_time) = 0;
+	if (apcu_shm) {
+		/* Modules that start after this one have registered by now. */
+		apcu_serializers_find();
+	}
+	return SUCCESS;
+}
+
+static PHP_RSHUTDOWN_FUNCTION(apcu)
+{
+	apcu_entry_leave();
+	return SUCCESS;
+}
+
+static PHP_MINFO_FUNCTION(apcu)
+{
+	apcu_info_print();
+	display_ini_entries(zend_module);
+}
+
+zend_module_entry apcu_module_entry = {
+	STANDARD_MODULE_HEADER,
+	PHP_APCU_EXTNAME,
+	ext_functions,
+	PHP_MINIT(apcu),
+	PHP_MSHUTDOWN(apcu),
+	PHP_RINIT(apcu),
+	PHP_RSHUTDOWN(apcu),
+	PHP_MINFO(apcu),
+	PHP_APCU_VERSION,
+	PHP_MODULE_GLOBALS(apcu),
+	PHP_GINIT(apcu),
+	NULL,
+	NULL,
+	STANDARD_MODULE_PROPERTIES_EX
+};
+
+#ifdef COMPILE_DL_APCU
+# ifdef ZTS
+ZEND_TSRMLS_CACHE_DEFINE()
+# endif
+ZEND_GET_MODULE(apcu)
+#endif

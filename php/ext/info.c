@@ -1,0 +1,283 @@
+#include "php_apcu.h"
+
+#include "ext/standard/info.h"
+
+void apcu_rows_start(apcu_rows *list, size_t room, size_t size)
+{
+	/* The library wants memory that was written before. */
+	list->rows = ecalloc(room, sizeof *list->rows);
+	list->room = room;
+	list->count = 0;
+	list->keys = ecalloc(size, 1);
+	list->size = size;
+	list->used = 0;
+}
+
+void apcu_rows_free(apcu_rows *list)
+{
+	efree(list->rows);
+	efree(list->keys);
+}
+
+bool apcu_rows_add(apcu_rows *list, uint32_t slot)
+{
+	uint64_t count = cache_list_rows(apcu_shm->cache, slot, 0, list->rows + list->count, list->room - list->count);
+	size_t used = list->used;
+
+	/* As many as there is room for may be not all. */
+	if (count == list->room - list->count) {
+		return false;
+	}
+	for (uint64_t i = 0; i < count; i++) {
+		const cache_row *row = &list->rows[list->count + i];
+
+		if (row->key_len > list->size - used
+				|| !cache_copy(apcu_shm->cache, row->key_place, (uint8_t *) list->keys + used, row->key_len)) {
+			return false;
+		}
+		used += row->key_len;
+	}
+	list->count += count;
+	list->used = used;
+	return true;
+}
+
+void apcu_rows_grow(apcu_rows *list)
+{
+	list->rows = safe_erealloc(list->rows, list->room, 2 * sizeof *list->rows, 0);
+	memset(list->rows + list->room, 0, list->room * sizeof *list->rows);
+	list->room *= 2;
+	list->keys = safe_erealloc(list->keys, list->size, 2, 0);
+	memset(list->keys + list->size, 0, list->size);
+	list->size *= 2;
+}
+
+/* All rows of the cache at one moment, and its counts. False where there is no cache. */
+static bool list_all(apcu_rows *list, cache_counts *counts)
+{
+	bool is_whole = false;
+
+	if (!apcu_lock()) {
+		return false;
+	}
+	*counts = cache_get_counts(apcu_shm->cache);
+	apcu_unlock();
+
+	apcu_rows_start(list, (size_t) counts->entries + 64, (size_t) counts->entries * 32 + 1024);
+	for (;;) {
+		list->count = list->used = 0;
+		if (!apcu_lock()) {
+			apcu_rows_free(list);
+			return false;
+		}
+		*counts = cache_get_counts(apcu_shm->cache);
+		is_whole = true;
+		for (uint32_t slot = 0; slot < apcu_shm->shape.slots && is_whole; slot++) {
+			is_whole = apcu_rows_add(list, slot);
+		}
+		apcu_unlock();
+		if (is_whole) {
+			return true;
+		}
+		apcu_rows_grow(list);
+	}
+}
+
+static void add_rows(zval *info, const apcu_rows *list)
+{
+	zval rows, removed, slots;
+	const char *key = list->keys;
+
+	array_init_size(&rows, (uint32_t) list->count);
+	array_init(&removed);
+	array_init(&slots);
+	for (size_t i = 0; i < list->count; i++) {
+		const cache_row *row = &list->rows[i];
+		zval told, *count;
+
+		array_init_size(&told, 9);
+		add_assoc_stringl(&told, "info", key, row->key_len);
+		add_assoc_long(&told, "ttl", row->ttl);
+		add_assoc_double(&told, "num_hits", (double) row->hits);
+		add_assoc_long(&told, "mtime", (zend_long) row->mtime);
+		add_assoc_long(&told, "creation_time", (zend_long) row->ctime);
+		add_assoc_long(&told, "deletion_time", (zend_long) row->dtime);
+		add_assoc_long(&told, "access_time", (zend_long) row->atime);
+		add_assoc_long(&told, "ref_count", 0);
+		add_assoc_long(&told, "mem_size", (zend_long) row->size * 8);
+		add_next_index_zval(&rows, &told);
+
+		count = zend_hash_index_find(Z_ARRVAL(slots), row->slot);
+		if (count) {
+			Z_LVAL_P(count)++;
+		} else {
+			add_index_long(&slots, row->slot, 1);
+		}
+		key += row->key_len;
+	}
+	add_assoc_zval(info, "cache_list", &rows);
+	/* No row is held here after it was removed. */
+	add_assoc_zval(info, "deleted_list", &removed);
+	add_assoc_zval(info, "slot_distribution", &slots);
+}
+
+PHP_FUNCTION(apcu_cache_info)
+{
+	bool is_limited = false, is_there;
+	cache_counts counts;
+	cache_shape shape;
+	time_t start_time;
+	apcu_rows list;
+
+	ZEND_PARSE_PARAMETERS_START(0, 1)
+		Z_PARAM_OPTIONAL
+		Z_PARAM_BOOL(is_limited)
+	ZEND_PARSE_PARAMETERS_END();
+
+	if (is_limited) {
+		is_there = apcu_lock();
+		if (is_there) {
+			counts = cache_get_counts(apcu_shm->cache);
+			apcu_unlock();
+		}
+	} else {
+		is_there = list_all(&list, &counts);
+	}
+	if (!is_there) {
+		php_error_docref(NULL, E_WARNING, "No APC info available.  Perhaps APC is not enabled? Check apc.enabled in your ini file");
+		RETURN_FALSE;
+	}
+	shape = apcu_shm->shape;
+	start_time = apcu_shm->start_time;
+
+	array_init_size(return_value, 13);
+	add_assoc_long(return_value, "num_slots", shape.slots);
+	add_assoc_long(return_value, "ttl", shape.ttl);
+	add_assoc_double(return_value, "num_hits", (double) counts.hits);
+	add_assoc_double(return_value, "num_misses", (double) counts.misses);
+	add_assoc_double(return_value, "num_inserts", (double) counts.inserts);
+	add_assoc_long(return_value, "num_entries", (zend_long) counts.entries);
+	add_assoc_double(return_value, "expunges", (double) counts.expunges);
+	add_assoc_long(return_value, "start_time", (zend_long) start_time);
+	add_assoc_double(return_value, "mem_size", (double) counts.row_words * 8);
+	add_assoc_string(return_value, "memory_type", "mmap");
+	if (!is_limited) {
+		add_rows(return_value, &list);
+		apcu_rows_free(&list);
+	}
+}
+
+PHP_FUNCTION(apcu_key_info)
+{
+	zend_string *key;
+	cache_row row = {0};
+
+	ZEND_PARSE_PARAMETERS_START(1, 1)
+		Z_PARAM_STR(key)
+	ZEND_PARSE_PARAMETERS_END();
+
+	if (apcu_lock()) {
+		/* At the second 0 no row's time is over: those that no fetch finds are told of too. */
+		row = cache_find_row(apcu_shm->cache, (const uint8_t *) ZSTR_VAL(key), ZSTR_LEN(key), 0);
+		apcu_unlock();
+	}
+	if (row.place == 0) {
+		RETURN_NULL();
+	}
+	array_init_size(return_value, 7);
+	add_assoc_long(return_value, "hits", (zend_long) row.hits);
+	add_assoc_long(return_value, "access_time", (zend_long) row.atime);
+	add_assoc_long(return_value, "mtime", (zend_long) row.mtime);
+	add_assoc_long(return_value, "creation_time", (zend_long) row.ctime);
+	add_assoc_long(return_value, "deletion_time", (zend_long) row.dtime);
+	add_assoc_long(return_value, "ttl", row.ttl);
+	add_assoc_long(return_value, "refs", 0);
+}
+
+/* All gaps at one moment. The counts tell how many words are free, so there are never more gaps than
+ * these; what is taken here is far less, and grows where it must. */
+static size_t list_gaps(cache_gap **gaps)
+{
+	size_t room = 256;
+	uint64_t count = 0;
+
+	for (;; room *= 2) {
+		*gaps = ecalloc(room, sizeof **gaps);
+		if (apcu_lock()) {
+			count = cache_list_gaps(apcu_shm->cache, 0, *gaps, room);
+			apcu_unlock();
+		}
+		if (count < room) {
+			return (size_t) count;
+		}
+		efree(*gaps);
+	}
+}
+
+PHP_FUNCTION(apcu_sma_info)
+{
+	bool is_limited = false;
+	cache_counts counts;
+
+	ZEND_PARSE_PARAMETERS_START(0, 1)
+		Z_PARAM_OPTIONAL
+		Z_PARAM_BOOL(is_limited)
+	ZEND_PARSE_PARAMETERS_END();
+
+	if (!apcu_lock()) {
+		php_error_docref(NULL, E_WARNING, "No APC SMA info available.  Perhaps APC is disabled via apc.enabled?");
+		RETURN_FALSE;
+	}
+	counts = cache_get_counts(apcu_shm->cache);
+	apcu_unlock();
+
+	array_init_size(return_value, 4);
+	add_assoc_long(return_value, "num_seg", apcu_shm->shape.segments);
+	add_assoc_double(return_value, "seg_size", (double) apcu_shm->shape.words * 8);
+	add_assoc_double(return_value, "avail_mem", (double) counts.free_words * 8);
+	if (is_limited) {
+		return;
+	}
+
+	zval segments, blocks;
+	cache_gap *gaps;
+	size_t count = list_gaps(&gaps);
+
+	array_init(&segments);
+	array_init_size(&blocks, (uint32_t) count);
+	for (size_t i = 0; i < count; i++) {
+		zval block;
+
+		array_init_size(&block, 2);
+		add_assoc_long(&block, "size", (zend_long) gaps[i].size * 8);
+		add_assoc_long(&block, "offset", (zend_long) gaps[i].place * 8);
+		add_next_index_zval(&blocks, &block);
+	}
+	efree(gaps);
+	add_next_index_zval(&segments, &blocks);
+	add_assoc_zval(return_value, "block_lists", &segments);
+}
+
+void apcu_info_print(void)
+{
+	php_info_print_table_start();
+	php_info_print_table_row(2, "APCu Support", apcu_shm ? "Enabled" : "Disabled");
+	php_info_print_table_row(2, "Version", PHP_APCU_VERSION);
+	php_info_print_table_row(2, "Cache", "Yilumbaso");
+	php_info_print_table_row(2, "APCu Debugging", "Disabled");
+	php_info_print_table_row(2, "MMAP Support", "Enabled");
+	php_info_print_table_row(2, "MMAP File Mask", APCU_G(mmap_file_mask));
+	if (apcu_shm) {
+		zend_string *names = apcu_serializers_names();
+		char remade[MAX_LENGTH_OF_LONG + 1];
+
+		php_info_print_table_row(2, "Serialization Support", ZSTR_VAL(names));
+		zend_string_release(names);
+		snprintf(remade, sizeof remade, ZEND_ULONG_FMT, (zend_ulong) apcu_shm->remade);
+		php_info_print_table_row(2, "Made Anew After A Kill", remade);
+	} else {
+		php_info_print_table_row(2, "Serialization Support", "Disabled");
+	}
+	php_info_print_table_row(2, "Build Date", __DATE__ " " __TIME__);
+	php_info_print_table_end();
+}

@@ -1,0 +1,145 @@
+/* The extension apcu: the functions, the class and the settings of APCu, over the cache of cache_c. */
+#ifndef PHP_APCU_H
+#define PHP_APCU_H
+
+#ifdef HAVE_CONFIG_H
+# include "config.h"
+#endif
+
+#include "php.h"
+#include "zend_smart_str.h"
+#include "shm.h"
+
+#define PHP_APCU_EXTNAME "apcu"
+
+/* The version of APCu whose functions these are; ext-apcu of a composer.json is compared with it. */
+#define PHP_APCU_VERSION "5.1.22"
+
+ZEND_BEGIN_MODULE_GLOBALS(apcu)
+	/* Settings, by their names in an ini file. */
+	bool enabled;
+	bool enable_cli;
+	bool slam_defense;
+	bool coredump_unmap;
+	bool use_request_time;
+	zend_long shm_segments;
+	zend_long shm_size;
+	zend_long entries_hint;
+	zend_long gc_ttl;
+	zend_long ttl;
+	zend_long smart;
+	char *mmap_file_mask;
+	char *preload_path;
+	char *serializer_name;
+
+	time_t request_time;  /* 0: not asked for yet */
+	uint32_t entry_level; /* how deep calls of apcu_entry lie in one another */
+	pid_t entry_owner;    /* the process that took the lock round them */
+	uint32_t lengths[64]; /* bytes of a long string that was fetched, by a hash of its key */
+ZEND_END_MODULE_GLOBALS(apcu)
+
+ZEND_EXTERN_MODULE_GLOBALS(apcu)
+#define APCU_G(v) ZEND_MODULE_GLOBALS_ACCESSOR(apcu, v)
+
+#if defined(ZTS) && defined(COMPILE_DL_APCU)
+ZEND_TSRMLS_CACHE_EXTERN()
+#endif
+
+extern zend_module_entry apcu_module_entry;
+#define phpext_apcu_ptr &apcu_module_entry
+
+/* settings.c */
+
+void apcu_settings_start(int type, int module_number);
+void apcu_settings_stop(int type, int module_number);
+
+/* The shape of a cache that the settings ask for. */
+cache_shape apcu_settings_shape(void);
+
+/* preload.c */
+
+/* Stores each file NAME.data of the folder under its name, unless there is a row. */
+void apcu_preload(const char *folder);
+
+/* values.c */
+
+/* A value as the cache keeps it. A string's last byte says what its bytes are, and nobody else reads
+ * them. */
+typedef struct {
+	uint32_t kind;       /* CACHE_NULL, CACHE_BOOL, CACHE_INT or CACHE_STR */
+	uint64_t number;
+	const char *bytes;
+	size_t len;
+	char eight[sizeof(double) + 1];
+	zend_string *text;   /* what bytes are of, or null */
+	unsigned char *data; /* the same, by another module */
+} apcu_value;
+
+/* False where a value can't be stored; a warning or an exception says why. It may run PHP code. */
+bool apcu_pack(apcu_value *out, zval *value);
+
+/* A value of which there is a text of serialize already. */
+void apcu_pack_text(apcu_value *out, const char *text, size_t len);
+
+void apcu_value_free(apcu_value *value);
+
+/* The value of an answer. The bytes of a string are `bytes`; where they are those of `text`, it is
+ * used up. False where there is none; then `out` is null or undefined. It may run PHP code. */
+bool apcu_unpack(zval *out, const cache_answer *answer, const char *bytes, zend_string *text);
+
+void apcu_serializers_start(int module_number);
+
+/* Looks for apc.serializer among those that were registered, until it is there. */
+void apcu_serializers_find(void);
+
+/* Their names, with commas between. */
+zend_string *apcu_serializers_names(void);
+
+/* copies.c */
+
+typedef enum { APCU_COPIED, APCU_COPY_HAS_OBJECT, APCU_COPY_HAS_RESOURCE } apcu_copied;
+
+/* Writes an array as it is, unless one of its members is or holds what can't be written so. */
+apcu_copied apcu_copy_write(smart_str *out, zval *array);
+
+/* False where the bytes are none that were written; then `out` is null. */
+bool apcu_copy_read(zval *out, const char *bytes, size_t len);
+
+/* functions.c */
+
+/* The second of a call, as apc.use_request_time wants it. */
+time_t apcu_time(void);
+
+/* Whether the value was stored; an exclusive one never is over a row that lives. */
+bool apcu_store_value(zend_string *key, zval *value, zend_long ttl, bool is_exclusive);
+bool apcu_store_packed(zend_string *key, const apcu_value *value, time_t t, zend_long ttl, bool is_exclusive);
+bool apcu_delete_key(const zend_string *key);
+
+/* iterator.c */
+
+void apcu_iterator_start(zend_class_entry *ce, int module_number);
+
+/* Removes what an iterator still finds. False, and an error, where it is none. */
+bool apcu_iterator_delete(zval *object);
+
+/* info.c */
+
+/* Rows that were listed under the lock, and the bytes of their keys one after another. */
+typedef struct {
+	cache_row *rows;
+	size_t count, room;
+	char *keys;
+	size_t used, size;
+} apcu_rows;
+
+void apcu_rows_start(apcu_rows *list, size_t room, size_t size);
+void apcu_rows_free(apcu_rows *list);
+
+/* Under the lock: adds all rows of a slot. False where there is no room for them all; then none was
+ * added, and apcu_rows_grow, outside the lock, gives more. */
+bool apcu_rows_add(apcu_rows *list, uint32_t slot);
+void apcu_rows_grow(apcu_rows *list);
+
+void apcu_info_print(void);
+
+#endif

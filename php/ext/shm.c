@@ -1,0 +1,289 @@
+#include <errno.h>
+#include <signal.h>
+#include <stdatomic.h>
+#include <stdlib.h>
+#include <string.h>
+#include <sys/mman.h>
+#include <unistd.h>
+
+#include "php_apcu.h"
+
+apcu_shared *apcu_shm;
+
+/* Where the library's memory comes from: while a cache is made, out of the mapping; while a shape is
+ * judged, there is none; else it is malloc's. Written under the lock alone, or before there is a
+ * second process. */
+static enum { FROM_MALLOC, FROM_MAPPING, FROM_NOWHERE } source;
+static bool was_remade;
+
+/* What the library asks for memory, and whether there was some. Where there is none, `at` is not
+ * null, but nobody looks there. */
+struct tried {
+	bool ok;
+	void *at;
+};
+
+struct tried rattle_alloc(size_t size, size_t align);
+struct tried rattle_realloc(void *at, size_t kept, size_t size, size_t align);
+void rattle_dealloc(void *at);
+int rattle_errno(void);
+
+static struct tried given(void *at)
+{
+	static char nothing;
+
+	return at ? (struct tried) {true, at} : (struct tried) {false, &nothing};
+}
+
+static bool is_mapped(const void *at)
+{
+	return apcu_shm && (const char *) at >= (const char *) apcu_shm
+		&& (const char *) at < (const char *) apcu_shm + apcu_shm->size;
+}
+
+/* Bytes of the mapping, at the start of a cache line. */
+static void *take(size_t size)
+{
+	size_t from = (apcu_shm->used + 63) / 64 * 64;
+
+	if (from > apcu_shm->size || size > apcu_shm->size - from) {
+		return NULL;
+	}
+	apcu_shm->used = from + size;
+	return (char *) apcu_shm + from;
+}
+
+struct tried rattle_alloc(size_t size, size_t align)
+{
+	switch (source) {
+		case FROM_MAPPING:
+			return given(align <= 64 ? take(size) : NULL);
+		case FROM_NOWHERE:
+			return given(NULL);
+		default:
+			return given(malloc(size ? size : 1));
+	}
+}
+
+struct tried rattle_realloc(void *at, size_t kept, size_t size, size_t align)
+{
+	if (!is_mapped(at)) {
+		return given(realloc(at, size ? size : 1));
+	}
+
+	struct tried more = rattle_alloc(size, align);
+	if (more.ok) {
+		memcpy(more.at, at, kept);
+	}
+	return more;
+}
+
+void rattle_dealloc(void *at)
+{
+	if (!is_mapped(at)) {
+		free(at);
+	}
+}
+
+int rattle_errno(void)
+{
+	return 0;
+}
+
+/* Makes an empty cache. What a cache before it left in the memory is not read. */
+static void make(void)
+{
+	apcu_shm->is_made = false;
+	apcu_shm->used = sizeof *apcu_shm;
+	memset(&apcu_shm->last, 0, sizeof apcu_shm->last);
+
+	source = FROM_MAPPING;
+	uint8_t *at = take(cache_size());
+	bool is_made = at && cache_new(&apcu_shm->shape, at) == CACHE_MADE;
+	source = FROM_MALLOC;
+
+	apcu_shm->cache = at;
+	apcu_shm->start_time = time(NULL);
+	apcu_shm->is_made = is_made;
+}
+
+bool apcu_shm_is_good(const cache_shape *shape)
+{
+	uint8_t *at = malloc(cache_size());
+
+	source = FROM_NOWHERE;
+	bool is_good = at && cache_new(shape, at) == CACHE_NO_ROOM;
+	source = FROM_MALLOC;
+	free(at);
+	return is_good;
+}
+
+static bool make_lock(pthread_mutex_t *lock)
+{
+	pthread_mutexattr_t attr;
+
+	if (pthread_mutexattr_init(&attr) != 0) {
+		return false;
+	}
+	bool made = pthread_mutexattr_setpshared(&attr, PTHREAD_PROCESS_SHARED) == 0
+		&& pthread_mutexattr_setrobust(&attr, PTHREAD_MUTEX_ROBUST) == 0
+		&& pthread_mutex_init(lock, &attr) == 0;
+	pthread_mutexattr_destroy(&attr);
+	return made;
+}
+
+bool apcu_shm_start(const cache_shape *shape, bool is_dumped, size_t *bytes)
+{
+	size_t page = (size_t) sysconf(_SC_PAGESIZE);
+	size_t size = (size_t) shape->words * 8;
+
+	/* Beside its words a cache has an index of some four bytes for each four of them. What is too much is
+	 * given back below. */
+	size += size / 6 + 64 * 1024;
+	size = (size + page - 1) / page * page;
+	*bytes = size;
+
+	void *at = mmap(NULL, size, PROT_READ | PROT_WRITE, MAP_SHARED | MAP_ANONYMOUS, -1, 0);
+	if (at == MAP_FAILED) {
+		return false;
+	}
+#ifdef MADV_HUGEPAGE
+	madvise(at, size, MADV_HUGEPAGE);
+#endif
+#ifdef MADV_DONTDUMP
+	if (!is_dumped) {
+		madvise(at, size, MADV_DONTDUMP);
+	}
+#endif
+
+	apcu_shm = at;
+	apcu_shm->size = size;
+	apcu_shm->shape = *shape;
+	if (make_lock(&apcu_shm->lock) && make_lock(&apcu_shm->entry_lock)) {
+		make();
+	}
+	if (!apcu_shm->is_made) {
+		apcu_shm_stop();
+		return false;
+	}
+
+	size_t used = (apcu_shm->used + page - 1) / page * page;
+	munmap((char *) at + used, size - used);
+	apcu_shm->size = used;
+	return true;
+}
+
+void apcu_shm_stop(void)
+{
+	if (apcu_shm) {
+		munmap(apcu_shm, apcu_shm->size);
+		apcu_shm = NULL;
+	}
+}
+
+/* As HANDLE_UNBLOCK_INTERRUPTIONS. That one takes the first signal that waits for granted, where
+ * another one that comes just then may have let all go already. */
+static void let_signals(void)
+{
+#ifdef ZEND_SIGNALS
+	if (UNEXPECTED(SIGG(depth)-- == SIGG(blocked))) {
+		sigset_t all, before;
+
+		sigfillset(&all);
+		pthread_sigmask(SIG_BLOCK, &all, &before);
+		if (SIGG(phead)) {
+			zend_signal_handler_unblock();
+		}
+		pthread_sigmask(SIG_SETMASK, &before, NULL);
+	}
+#endif
+}
+
+/* Its last owner died. Where a call was under way, what it left may be half a change, and nothing of
+ * it is read again: a new cache takes its place. Whoever dies here leaves is_busy as it is, and the
+ * next owner begins anew. */
+static void recover(void)
+{
+	if (apcu_shm->is_busy) {
+		make();
+		apcu_shm->remade++;
+		was_remade = true;
+		atomic_signal_fence(memory_order_seq_cst);
+		apcu_shm->is_busy = false;
+	}
+	pthread_mutex_consistent(&apcu_shm->lock);
+}
+
+bool apcu_lock(void)
+{
+	if (UNEXPECTED(!apcu_shm)) {
+		return false;
+	}
+	HANDLE_BLOCK_INTERRUPTIONS();
+
+	int error = pthread_mutex_lock(&apcu_shm->lock);
+	if (UNEXPECTED(error != 0)) {
+		if (error != EOWNERDEAD) {
+			let_signals();
+			return false;
+		}
+		recover();
+	}
+	if (UNEXPECTED(!apcu_shm->is_made)) {
+		apcu_unlock();
+		return false;
+	}
+	return true;
+}
+
+void apcu_unlock(void)
+{
+	bool is_told = was_remade;
+
+	was_remade = false;
+	pthread_mutex_unlock(&apcu_shm->lock);
+	let_signals();
+	if (UNEXPECTED(is_told)) {
+		php_log_err("apcu: a process died while it changed the cache; an empty one has taken its place");
+	}
+}
+
+/* A process that is killed has written what stands before the instruction at which it died, so the
+ * order that the compiler keeps is enough. */
+cache_answer apcu_ask(const cache_request *request, const zend_string *key, const char *bytes, size_t len)
+{
+	apcu_shm->is_busy = true;
+	atomic_signal_fence(memory_order_seq_cst);
+	cache_answer answer = cache_ask(apcu_shm->cache, request,
+		(const uint8_t *) ZSTR_VAL(key), ZSTR_LEN(key), (const uint8_t *) bytes, len);
+	atomic_signal_fence(memory_order_seq_cst);
+	apcu_shm->is_busy = false;
+	return answer;
+}
+
+void apcu_entry_begin(void)
+{
+	if (APCU_G(entry_level)++ > 0) {
+		return;
+	}
+	if (pthread_mutex_lock(&apcu_shm->entry_lock) == EOWNERDEAD) {
+		/* It guards no memory, so there is nothing to mend. */
+		pthread_mutex_consistent(&apcu_shm->entry_lock);
+	}
+	APCU_G(entry_owner) = getpid();
+}
+
+void apcu_entry_end(void)
+{
+	if (APCU_G(entry_level) > 0 && --APCU_G(entry_level) == 0 && APCU_G(entry_owner) == getpid()) {
+		pthread_mutex_unlock(&apcu_shm->entry_lock);
+	}
+}
+
+void apcu_entry_leave(void)
+{
+	if (APCU_G(entry_level) > 0) {
+		APCU_G(entry_level) = 1;
+		apcu_entry_end();
+	}
+}

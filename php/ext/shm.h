@@ -1,0 +1,60 @@
+/* The memory that all processes of one fork share: a cache, the lock round its calls, and the lock
+ * round callbacks of apcu_entry. */
+#ifndef APCU_SHM_H
+#define APCU_SHM_H
+
+#include <pthread.h>
+#include <time.h>
+
+#include "php.h"
+#include "cache_c.h"
+
+typedef struct {
+	pthread_mutex_t lock;       /* one call of the cache at a time */
+	pthread_mutex_t entry_lock; /* one callback of apcu_entry at a time */
+	volatile bool is_made;      /* there is a cache */
+	volatile bool is_busy;      /* a call that may change it is under way */
+	uint64_t remade;            /* how often a process died in such a call, and the cache was made anew */
+	time_t start_time;          /* when the cache was made or cleared */
+	struct {
+		zend_ulong hash;
+		size_t len;
+		time_t t;
+		pid_t pid;
+	} last;                     /* who stored which key last; for apc.slam_defense alone */
+	cache_shape shape;
+	size_t size, used;          /* bytes of the mapping, and of those that were given out */
+	uint8_t *cache;             /* the handle */
+} apcu_shared;
+
+/* Null where there is no cache in this process. */
+extern apcu_shared *apcu_shm;
+
+/* Whether a cache may have this shape. */
+bool apcu_shm_is_good(const cache_shape *shape);
+
+/* Maps memory and makes an empty cache of a good shape in it, which core dumps have or have not.
+ * False where the system gives no memory, or no lock that processes share: then nothing is mapped.
+ * `bytes` is how much was asked for. */
+bool apcu_shm_start(const cache_shape *shape, bool is_dumped, size_t *bytes);
+
+/* Unmaps it, in this process alone. */
+void apcu_shm_stop(void);
+
+/* Takes the lock. False where there is no cache; then there is nothing to unlock. While it is held
+ * nobody may call what can run PHP code, take PHP's memory or leave by a bailout. Signals wait. */
+bool apcu_lock(void);
+void apcu_unlock(void);
+
+/* One event of the cache, under the lock. */
+cache_answer apcu_ask(const cache_request *request, const zend_string *key, const char *bytes, size_t len);
+
+/* The lock round callbacks of apcu_entry. It is taken once a process, however deep the callbacks lie
+ * in one another, and a forked child does not give back what its parent took. */
+void apcu_entry_begin(void);
+void apcu_entry_end(void);
+
+/* At the end of a request: gives back what a callback that never returned left taken. */
+void apcu_entry_leave(void);
+
+#endif
