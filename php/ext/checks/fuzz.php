@@ -617,6 +617,8 @@ final class Digest
 function start_one(string $how, int $seed, array $others): array
 {
     [$own, $its] = stream_socket_pair(STREAM_PF_UNIX, STREAM_SOCK_STREAM, STREAM_IPPROTO_IP);
+    stream_set_timeout($own, 3600);
+    stream_set_timeout($its, 3600);
     $id = pcntl_fork();
     if ($id !== 0) {
         fclose($its);

@@ -25,7 +25,7 @@ play() {
         export LD_PRELOAD="$scratch/clock.so" CLOCK_FILE="$clock" PHP_INI_SCAN_DIR
         PHP_INI_SCAN_DIR=$(settings_of "$so")
         # A call that never ends is stopped.
-        exec timeout -k 5 60 php -d apc.enable_cli=1 -d apc.use_request_time=0 -d apc.shm_size=64M -d apc.ttl=0 "$@" \
+        exec timeout -k 5 300 php -d apc.enable_cli=1 -d apc.use_request_time=0 -d apc.shm_size=64M -d apc.ttl=0 "$@" \
             "$here/fuzz.php" "$how" "$seed" "$count"
     ) 2>&1 || echo "status $?"
     rm -f "$clock"

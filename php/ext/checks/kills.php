@@ -15,6 +15,7 @@ const PATIENCE = 10;
 function start(callable $what, array &$others): array
 {
     [$own, $its] = stream_socket_pair(STREAM_PF_UNIX, STREAM_SOCK_STREAM, STREAM_IPPROTO_IP);
+    stream_set_timeout($its, 3600);
     $id = pcntl_fork();
     if ($id === 0) {
         fclose($own);
