@@ -95,8 +95,7 @@ report('a handler that calls the cache', function () {
     $parent = getmypid();
     $sends = pcntl_fork();
     if ($sends === 0) {
-        for ($i = 0; $i < 100; $i++) {
-            posix_kill($parent, SIGUSR1);
+        while (posix_kill($parent, SIGUSR1)) {
             usleep(500);
         }
         exit(0);
@@ -105,6 +104,7 @@ report('a handler that calls the cache', function () {
         apcu_store('time', str_repeat('x', 1000));
         apcu_fetch('time');
     }
+    posix_kill($sends, SIGKILL);
     end_of($sends);
     exit(6);
 });
