@@ -1,0 +1,41 @@
+#!/usr/bin/env bash
+# Processor time of each call of PHP beside PHP's APCu, in one process, in one run: keys of 10 and of 60 bytes, 1,000 and 100,000
+# rows of three kinds each. Both are measured in turn in each round; a ratio is ours / APCu's.
+# Usage: bench/ext/run.sh [SO]; it needs php-apcu. ROUNDS and NOISY in the environment are those of bench/quiet.sh.
+set -eu
+here=$(cd "$(dirname "${BASH_SOURCE[0]}")/../../php/ext/checks" && pwd)
+. "$here/common.sh"
+here=$(cd "$(dirname "${BASH_SOURCE[0]}")" && pwd)
+. "$here/../quiet.sh"
+
+# Times of both, ours first.
+both() {
+    local so
+    for so in "$ours" "$base"; do
+        php_with "$so" -d apc.shm_size=128M -d apc.entries_hint=$(($2 > 4096 / 3 ? $2 * 3 : 4096)) "$here/calls.php" "$1" "$2" times |
+            tr '\n' ' '
+    done
+    echo
+}
+
+settings_of "$ours" >/dev/null
+settings_of "$base" >/dev/null
+php_with "$base" "$here/calls.php" 10 1 names >"$scratch/names"
+echo '| ratio | ours, ns | APCu, ns | key, bytes | rows | call |'
+echo '|---|---|---|---|---|---|'
+for rows in 1000 100000; do
+    for bytes in 10 60; do
+        measured 1 both "$bytes" "$rows"
+        tr ' ' '\n' <<<"$found" | awk -v bytes="$bytes" -v rows="$rows" '
+            NR == FNR { time[NR] = $1; next }
+            { name[++count] = $0 }
+            END {
+                for (i = 1; i <= count; i++) {
+                    ours = time[i]; apcu = time[i + count]
+                    ratio = apcu > 0 ? sprintf("%.2f", ours / apcu) : "-"
+                    printf "| %s | %s | %s | %d | %d | %s |\n", ratio, ours, apcu, bytes, rows, name[i]
+                }
+            }' - "$scratch/names"
+    done
+done
+tell_of_quiet

@@ -1,0 +1,67 @@
+# What the scripts of this folder share. A script sets `here`, its folder, before it reads this file. The extension that
+# is looked at is the first argument of each, or APCU_SO in the environment, or what ../build.sh left; APCU_BASE is
+# PHP's APCu beside it, or else the one that PHP loads.
+ours=$(realpath -- "${1:-${APCU_SO:-$here/../modules/apcu.so}}")
+base=$(realpath -- "${APCU_BASE:-$(php-config --extension-dir)/apcu.so}")
+scratch=$(mktemp -d)
+# Processes that a script started and that its end has to stop.
+started=()
+
+clean_up() {
+    local id
+    for id in "${started[@]}"; do kill -- "$id" 2>/dev/null || true; done
+    wait
+    [ -n "${KEEP:-}" ] || rm -rf "$scratch"
+}
+trap clean_up EXIT
+
+for file in "$ours" "$base"; do
+    [ -f "$file" ] || { echo "no extension: $file" >&2; exit 1; }
+done
+if cmp -s "$ours" "$base"; then echo "This is PHP's APCu beside itself."; fi
+
+# Makes the folder of settings that PHP reads for an extension in place of its APCu, and prints its name; for a
+# program of PHP's: cli or fpm.
+settings_of() {
+    local so=$1 sapi=${2:-cli} folder file
+    folder="$scratch/settings.$sapi.$(cksum <<<"$so" | cut -d ' ' -f 1)"
+    if [ ! -d "$folder" ]; then
+        mkdir "$folder"
+        for file in "$(php-config --ini-dir | sed "s,/cli/,/$sapi/,")"/*.ini; do
+            grep -Eq '^ *extension *= *"?apcu' "$file" || ln -s "$file" "$folder/"
+        done
+        echo "extension=$so" >"$folder/20-cache.ini"
+    fi
+    echo "$folder"
+}
+
+# Runs PHP with an extension: php_with SO ARGUMENT..
+php_with() {
+    local so=$1
+    shift
+    PHP_INI_SCAN_DIR=$(settings_of "$so") php -d apc.enable_cli=1 -d apc.use_request_time=0 "$@"
+}
+
+# Prints the folder of APCu's own source, of the Debian package, which is fetched into the scratch folder; or SOURCE.
+# Only the lists that this needs are read, none of the system's are changed.
+source_of_apcu() {
+    local folder="$scratch/source" codename options
+    if [ -n "${SOURCE:-}" ]; then
+        echo "$SOURCE"
+        return
+    fi
+    mkdir -p "$folder"/{lists,cache/archives}/partial
+    codename=$(. /etc/os-release && echo "$VERSION_CODENAME")
+    echo "deb-src [signed-by=/usr/share/keyrings/debian-archive-keyring.gpg] http://deb.debian.org/debian $codename main" \
+        >"$folder/sources.list"
+    options=(-q -o Dir::Etc::sourcelist="$folder/sources.list" -o Dir::Etc::sourceparts=- -o APT::Sandbox::User=root
+        -o Dir::State::lists="$folder/lists" -o Dir::Cache="$folder/cache" -o Debug::NoLocking=1)
+    (
+        cd "$folder"
+        apt-get "${options[@]}" update
+        apt-get "${options[@]}" --download-only source php-apcu
+        tar -xJf php-apcu_*.orig.tar.xz
+    ) >"$folder/log" 2>&1 || { cat "$folder/log" >&2; return 1; }
+    # The package has the version for old PHP, too.
+    find "$folder" -maxdepth 1 -name 'apcu-*' | sort -V | tail -n 1
+}

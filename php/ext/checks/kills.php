@@ -1,0 +1,129 @@
+<?php
+
+// Four processes call the cache, and so many times one of them is killed at any moment and another one takes its
+// place. After each kill a process that is never killed has to be answered, within ten seconds; no value may be
+// another's or half written; at the end all have to come to an end by themselves.
+// php kills.php KILLS; its status is 0, 1 where a value was wrong and 2 where a process stood still.
+
+declare(strict_types=1);
+
+require __DIR__ . '/work.php';
+
+const PATIENCE = 10;
+
+/** What a process has to do, over its end of a pair of streams. */
+function start(callable $what, array &$others): array
+{
+    [$own, $its] = stream_socket_pair(STREAM_PF_UNIX, STREAM_SOCK_STREAM, STREAM_IPPROTO_IP);
+    stream_set_timeout($its, 3600);
+    $id = pcntl_fork();
+    if ($id === 0) {
+        fclose($own);
+        foreach ($others as $other) {
+            fclose($other['stream']);
+        }
+        mt_srand();
+        exit($what($its));
+    }
+    fclose($its);
+    return ['id' => $id, 'stream' => $own];
+}
+
+/** Works until the other end is closed. */
+function worker($stream): int
+{
+    stream_set_blocking($stream, false);
+    for ($made = 0; ; $made++) {
+        $fault = work_once();
+        if ($fault !== null) {
+            fwrite(STDERR, "$fault\n");
+            return 3;
+        }
+        if ($made % 50 === 0 && fread($stream, 1) === '' && feof($stream)) {
+            return 0;
+        }
+    }
+}
+
+/** Answers each number, after it was stored and found. */
+function asked($stream): int
+{
+    while (($number = fgets($stream)) !== false) {
+        $stored = apcu_store('alive', $number);
+        $found = apcu_fetch('alive', $is_there);
+        // Another process may have cleared the cache, and a kill may have emptied it.
+        $answer = $stored && ($found === $number || !$is_there) ? times_made_anew() ?? 'none' : 'wrong';
+        fwrite($stream, "$answer\n");
+    }
+    return 0;
+}
+
+function stop_all(array $all): void
+{
+    foreach ($all as $one) {
+        posix_kill($one['id'], SIGKILL);
+        pcntl_waitpid($one['id'], $status);
+    }
+}
+
+/** Whether something comes within the time. */
+function is_answered($stream): bool
+{
+    [$read, $write, $except] = [[$stream], null, null];
+    return stream_select($read, $write, $except, PATIENCE) === 1;
+}
+
+$wanted = (int) ($argv[1] ?? 300);
+$all = [];
+$all['asked'] = start('asked', $all);
+for ($i = 0; $i < 4; $i++) {
+    $all[$i] = start('worker', $all);
+}
+[$wrong, $anew, $begun] = [0, 'none', microtime(true)];
+for ($kills = 1; $kills <= $wanted; $kills++) {
+    usleep(mt_rand(500, 15000));
+    $at = mt_rand(0, 3);
+    posix_kill($all[$at]['id'], SIGKILL);
+    pcntl_waitpid($all[$at]['id'], $status);
+    if (!pcntl_wifsignaled($status) || pcntl_wtermsig($status) !== SIGKILL) {
+        $wrong++;
+        echo 'a process ended by itself: ', pcntl_wifsignaled($status) ? 'signal ' . pcntl_wtermsig($status) : pcntl_wexitstatus($status), "\n";
+    }
+    fclose($all[$at]['stream']);
+    unset($all[$at]);
+    fwrite($all['asked']['stream'], "$kills\n");
+    if (!is_answered($all['asked']['stream'])) {
+        printf("after %d kills nobody was answered for %d seconds\n", $kills, PATIENCE);
+        stop_all($all);
+        exit(2);
+    }
+    $answer = trim((string) fgets($all['asked']['stream']));
+    if ($answer === 'wrong' || $answer === '') {
+        $wrong++;
+        echo "after $kills kills: a wrong answer\n";
+    } else {
+        $anew = $answer;
+    }
+    $all[$at] = start('worker', $all);
+}
+$took = microtime(true) - $begun;
+// All others end by themselves once their streams are closed.
+$end = microtime(true) + PATIENCE;
+foreach ($all as $one) {
+    fclose($one['stream']);
+}
+foreach ($all as $name => $one) {
+    while (($ended = pcntl_waitpid($one['id'], $status, WNOHANG)) === 0 && microtime(true) < $end) {
+        usleep(10000);
+    }
+    if ($ended === 0) {
+        printf("after %d kills a process did not end in %d seconds\n", $wanted, PATIENCE);
+        stop_all([$one]);
+        $wrong = -1;
+    } elseif (!pcntl_wifexited($status) || pcntl_wexitstatus($status) !== 0) {
+        $wrong++;
+        echo "a process ended with another status\n";
+    }
+}
+printf("%d kills, made anew %s times, %d faults, %.1f s\n", $wanted, $anew, max($wrong, 0), $took);
+exit($wrong < 0 ? 2 : min($wrong, 1));
