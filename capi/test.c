@@ -138,6 +138,19 @@ static void requests(void) {
     WANT(exists("brief", 25) == CACHE_YES);
     WANT(exists("brief", 26) == CACHE_NO);
 
+    /* The last second, and a time that ends behind it. */
+    cache_request last = {.kind = CACHE_STORE, .value = CACHE_NULL, .ttl = UINT32_MAX};
+    last.t = UINT64_MAX;
+    WANT(ask(last, "last", "").kind == CACHE_YES);
+    WANT(exists("last", UINT64_MAX) == CACHE_YES);
+    WANT(exists("last", 0) == CACHE_YES);
+
+    /* A sum that no integer holds. */
+    cache_request most = {.kind = CACHE_COUNT, .t = 21, .number = (uint64_t)INT64_MAX};
+    WANT(ask(most, "much", "").number == INT64_MAX);
+    a = ask((cache_request){.kind = CACHE_COUNT, .t = 21, .number = 2}, "much", "");
+    WANT(a.kind == CACHE_INT && a.number == INT64_MIN + 1);
+
     cache_request delete = {.kind = CACHE_DELETE, .t = 21};
     WANT(ask(delete, "n", "").kind == CACHE_YES);
     WANT(ask(delete, "n", "").kind == CACHE_NO);
