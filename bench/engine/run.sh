@@ -6,8 +6,9 @@
 # a text of 8 bytes, a text of 100, and two integers, and six a truth value; 100 rows (1,000 beside 100,000) hold 10 KB
 # and eight hold 1 MB. A fetched text is copied into a new string of PHP's on both sides. Slots are the usual 4,096, or as
 # many as rows where there are more. Each figure is the least of all batches of 10,000 calls or less, without what the
-# loop takes. Ratios stand first: ours with the lock / APCu's, and ours alone / APCu's. A round is kept only where the
-# machine is quiet (../quiet.sh).
+# loop takes. Then some calls that 1 to 8 processes make at once: nanoseconds by the clock for each call of all. Ratios
+# stand first: ours with the lock / APCu's, and ours alone / APCu's. A round is kept only where the machine is quiet
+# (../quiet.sh).
 # Usage: bench/engine/run.sh [ROWS..]; it needs php with apcu, and php-dev. CACHE_C_LIB=FILE in the environment is the
 # library; else it is proved and built by rt.
 set -eu -o pipefail
@@ -27,18 +28,16 @@ fi
 # PHP's headers and APCu's stand where Debian's packages put them; warnings in them are not ours.
 read -ra includes <<<"$(php-config --includes | sed 's/-I/-isystem /g')"
 cc -std=gnu11 -O2 -fPIC -shared -Wall -Wextra "${includes[@]}" -isystem "$(php-config --include-dir)/ext/apcu" \
-    "$here/engine.c" "$here/../../capi/shared_cache.c" "$library" -lpthread -o "$scratch/engine.so"
+    "$here/engine.c" "$here/calls.c" "$here/../../capi/shared_cache.c" "$library" -lpthread -o "$scratch/engine.so"
 
-# One round at so many rows: lines of a side, picoseconds, and the call.
-once() {
+# What a function of the module prints, at so many rows: lines of a side, picoseconds, and the call.
+lines() {
     php -d apc.enabled=1 -d apc.enable_cli=1 -d apc.shm_size=128M -d apc.ttl=0 \
-        -d apc.entries_hint=$(($1 > 4096 ? $1 : 4096)) -d extension="$scratch/engine.so" -r "engine_bench($1);"
+        -d apc.entries_hint=$(($2 > 4096 ? $2 : 4096)) -d extension="$scratch/engine.so" -r "$1;"
 }
 
-for rows in $sizes; do
-    keep_rounds "$rounds" 1 once "$rows"
-    echo "| locked / APCu | alone / APCu | $rows rows | locked, ns | alone, ns | APCu, ns |"
-    echo '|---|---|---|---|---|---|'
+# The rows of a table of the rounds: ratios, the call, and nanoseconds of the sides.
+table() {
     awk '
         {
             side = $1
@@ -47,18 +46,38 @@ for rows in $sizes; do
             if (!(($0, side) in least) || ps < least[$0, side]) least[$0, side] = ps
             if (!($0 in seen)) { seen[$0]; names[++count] = $0 }
         }
-        function ns(ps) { return sprintf(ps < 1e6 ? "%.1f" : "%.0f", ps / 1000) }
+        function ns(name, side) {
+            if (!((name, side) in least)) return "-"
+            return sprintf(least[name, side] < 1e6 ? "%.1f" : "%.0f", least[name, side] / 1000)
+        }
+        function ratio(name, side) {
+            if (!((name, side) in least)) return "-"
+            return sprintf("%.2f", least[name, side] / least[name, "apcu"])
+        }
         END {
             if (!count) print "| - | - | - | - | - | - |"
             for (i = 1; i <= count; i++) {
                 name = names[i]
-                locked = least[name, "locked"]
-                plain = least[name, "plain"]
-                apcu = least[name, "apcu"]
-                printf "| %.2f | %.2f | %s | %s | %s | %s |\n", locked / apcu, plain / apcu, name, ns(locked), ns(plain),
-                    ns(apcu)
+                printf "| %s | %s | %s | %s | %s | %s |\n", ratio(name, "locked"), ratio(name, "plain"), name,
+                    ns(name, "locked"), ns(name, "plain"), ns(name, "apcu")
             }
         }' "$scratch/kept"
     echo
+}
+
+heading() {
+    echo "| locked / APCu | alone / APCu | $1 | locked, ns | alone, ns | APCu, ns |"
+    echo '|---|---|---|---|---|---|'
+}
+
+for rows in $sizes; do
+    keep_rounds "$rounds" 1 lines "engine_bench($rows)" "$rows"
+    heading "$rows rows"
+    table
+done
+for processes in 1 2 4 8; do
+    keep_rounds "$rounds" "$processes" lines "engine_at_once(1000, $processes)" 1000
+    heading "1000 rows, $processes at once"
+    table
 done
 tell_of_quiet
