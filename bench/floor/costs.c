@@ -1,7 +1,7 @@
 /* What the parts of a call cost on this machine: locks, atomic steps, a division, memory. Prints
- * lines "PICOSECONDS PART": the least of seven rounds of a million. Then the longest that one turn
- * of an empty loop takes of 100,000, least of the rounds: so far the host itself stops a program.
- */
+ * lines "PICOSECONDS PART": the least of a hundred rounds of all parts. Then what a page costs that
+ * is written for the first time, and the longest that one turn of an empty loop takes of 100,000,
+ * as the least of seven rounds: so far the host itself stops a program. */
 #define _GNU_SOURCE
 #include <inttypes.h>
 #include <pthread.h>
@@ -13,7 +13,7 @@
 #include <sys/mman.h>
 #include <time.h>
 
-enum { ROUNDS = 7, TIMES = 1000000, TURNS = 100000 };
+enum { ROUNDS = 7, PART_ROUNDS = 100, TIMES = 50000, TURNS = 100000 };
 
 static pthread_rwlock_t shared_lock;
 static pthread_mutex_t mutex, robust;
@@ -80,16 +80,12 @@ static uint64_t nanoseconds(void) {
     return (uint64_t)t.tv_sec * 1000000000 + (uint64_t)t.tv_nsec;
 }
 
+/* One round of a part: picoseconds a time. */
 static uint64_t picoseconds(void (*part)(void)) {
-    uint64_t least = UINT64_MAX;
-    for (int round = 0; round < ROUNDS; round++) {
-        uint64_t begin = nanoseconds();
-        for (int i = 0; i < TIMES; i++)
-            part();
-        uint64_t each = (nanoseconds() - begin) * 1000 / TIMES;
-        least = each < least ? each : least;
-    }
-    return least;
+    uint64_t begin = nanoseconds();
+    for (int i = 0; i < TIMES; i++)
+        part();
+    return (nanoseconds() - begin) * 1000 / TIMES;
 }
 
 /* A page that is written for the first time. */
@@ -140,31 +136,38 @@ static void make_locks(void) {
     pthread_mutex_init(&robust, &of);
 }
 
+static const struct {
+    const char *name;
+    void (*part)(void);
+} parts[] = {
+    {"nothing", nothing},
+    {"a lock of readers and writers, taken and given back by a reader", read_pair},
+    {"the same by a writer", write_pair},
+    {"a mutex of all processes, taken and given back", mutex_pair},
+    {"the same, robust", robust_pair},
+    {"an atomic exchange", swap},
+    {"an atomic addition", add},
+    {"an atomic comparison with exchange", compare_and_swap},
+    {"a division of a hash", divide},
+    {"a mask of a hash", mask},
+    {"a copy of 8 bytes whose number is not known before", copy_eight},
+    {"24 bytes, taken and given back", take_24},
+    {"300 bytes, taken and given back", take_300},
+    {"2,000 bytes, taken and given back", take_2000},
+};
+enum { PARTS = sizeof parts / sizeof *parts };
+
 int main(void) {
-    static const struct {
-        const char *name;
-        void (*part)(void);
-    } parts[] = {
-        {"a lock of readers and writers, taken and given back by a reader", read_pair},
-        {"the same by a writer", write_pair},
-        {"a mutex of all processes, taken and given back", mutex_pair},
-        {"the same, robust", robust_pair},
-        {"an atomic exchange", swap},
-        {"an atomic addition", add},
-        {"an atomic comparison with exchange", compare_and_swap},
-        {"a division of a hash", divide},
-        {"a mask of a hash", mask},
-        {"a copy of 8 bytes whose number is not known before", copy_eight},
-        {"24 bytes, taken and given back", take_24},
-        {"300 bytes, taken and given back", take_300},
-        {"2,000 bytes, taken and given back", take_2000},
-    };
+    uint64_t least[PARTS];
     make_locks();
-    uint64_t loop = picoseconds(nothing);
-    for (size_t i = 0; i < sizeof parts / sizeof *parts; i++) {
-        uint64_t all = picoseconds(parts[i].part);
-        printf("%" PRIu64 " %s\n", all > loop ? all - loop : 0, parts[i].name);
-    }
+    memset(least, 0xFF, sizeof least);
+    for (int round = 0; round < PART_ROUNDS; round++)
+        for (size_t i = 0; i < PARTS; i++) {
+            uint64_t each = picoseconds(parts[i].part);
+            least[i] = each < least[i] ? each : least[i];
+        }
+    for (size_t i = 1; i < PARTS; i++)
+        printf("%" PRIu64 " %s\n", least[i] > least[0] ? least[i] - least[0] : 0, parts[i].name);
     printf("%" PRIu64 " a page of 4 KB, written for the first time\n", fresh_page(MADV_NOHUGEPAGE));
     printf("%" PRIu64 " the same, in pages of 2 MB\n", fresh_page(MADV_HUGEPAGE));
     printf("%" PRIu64 " the longest of 100,000 turns of an empty loop\n", longest_turn());
