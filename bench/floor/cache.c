@@ -175,25 +175,29 @@ static void give(uint32_t block) {
 /* A row: what its words are. Its key follows them, and then its value: a mark and a number, or a
  * mark with a length and the bytes. */
 enum { SIZE, NEXT, KEY_LEN, IMAGE_LEN, TTL, CTIME, MTIME, ATIME, DTIME, HITS, NUMBER, PINS, KEY };
-enum { KEY_BYTES = 10, KEY_WORDS = 2, VALUE = KEY + KEY_WORDS };
 enum { INTEGER_MARK = 2, TEXT_MARK = 3 };
+
+struct key {
+    size_t len;
+    char bytes[16];
+};
 
 static uint32_t slots;
 static uint64_t hits, misses, inserts, now = 1000;
 
-static uint64_t hash(const char *key) {
+static uint64_t hash(const struct key *key) {
     uint64_t h = 5381;
-    for (int i = 0; i < KEY_BYTES; i++)
-        h = h * 33 + (unsigned char)key[i];
+    for (size_t i = 0; i < key->len; i++)
+        h = h * 33 + (unsigned char)key->bytes[i];
     return h | UINT64_C(1) << 63;
 }
 
-static bool has_key(uint32_t row, const char *key) {
-    return words[row + KEY_LEN] == KEY_BYTES && memcmp(&words[row + KEY], key, KEY_BYTES) == 0;
+static bool has_key(uint32_t row, const struct key *key) {
+    return words[row + KEY_LEN] == key->len && memcmp(&words[row + KEY], key->bytes, key->len) == 0;
 }
 
 /* The row of a key or 0, and the word that links to it. */
-static uint32_t find(const char *key, uint32_t *link) {
+static uint32_t find(const struct key *key, uint32_t *link) {
     uint32_t row;
     *link = (uint32_t)(slots == 4096 ? hash(key) % 4096 : hash(key) % slots);
     while ((row = (uint32_t)words[*link]) && !has_key(row, key))
@@ -205,9 +209,13 @@ static bool is_live(uint32_t row) {
     return words[row + TTL] == 0 || words[row + CTIME] + words[row + TTL] >= now;
 }
 
-static uint32_t find_live(const char *key) {
+static uint32_t find_live(const struct key *key) {
     uint32_t link, row = find(key, &link);
     return row && is_live(row) ? row : 0;
+}
+
+static uint32_t value_place(uint32_t row, const struct key *key) {
+    return row + KEY + (uint32_t)(key->len + 7) / 8;
 }
 
 /* What a call is given besides its key. */
@@ -216,16 +224,18 @@ struct value {
     size_t len;
 };
 
-typedef bool call(const char *key, const struct value *value);
+typedef bool call(const struct key *key, const struct value *value);
 
-static bool exists(const char *key, const struct value *value) {
+static bool exists(const struct key *key, const struct value *value) {
     (void)value;
     return find_live(key) != 0;
 }
 
-static bool exists_not(const char *key, const struct value *value) { return !exists(key, value); }
+static bool exists_not(const struct key *key, const struct value *value) {
+    return !exists(key, value);
+}
 
-static bool fetch(const char *key, const struct value *value) {
+static bool fetch(const struct key *key, const struct value *value) {
     uint32_t row = find_live(key);
     if (!row) {
         misses++;
@@ -234,50 +244,49 @@ static bool fetch(const char *key, const struct value *value) {
     hits++;
     words[row + HITS]++;
     words[row + ATIME] = now;
-    uint64_t mark = words[row + VALUE];
+    uint32_t at = value_place(row, key);
+    uint64_t mark = words[at];
     if (!value->text)
         return mark == INTEGER_MARK;
     char *text = malloc(mark / 8);
     if (!text)
         return false;
-    memcpy(text, &words[row + VALUE + 1], mark / 8);
+    memcpy(text, &words[at + 1], mark / 8);
     __asm__ volatile("" ::"r"(text) : "memory"); /* the text is used */
     free(text);
     return mark % 8 == TEXT_MARK;
 }
 
-static bool inc(const char *key, const struct value *value) {
+static bool inc(const struct key *key, const struct value *value) {
     (void)value;
     uint32_t row = find_live(key);
     if (!row)
         return false;
-    words[row + VALUE + 1]++;
+    words[value_place(row, key) + 1]++;
     words[row + MTIME] = now;
     return true;
 }
 
-static bool store(const char *key, const struct value *value) {
+static bool store(const struct key *key, const struct value *value) {
     size_t image = 1 + (value->text ? (value->len + 7) / 8 : 1);
-    uint32_t size = (uint32_t)(VALUE + image), row = take(size + size % 2), link;
+    uint32_t size = (uint32_t)(value_place(0, key) + image), row = take(size + size % 2), link;
     if (!row)
         return false;
-    uint32_t old = find(key, &link);
-    const uint64_t head[KEY] = {words[row], old ? words[old + NEXT] : 0,
-                                KEY_BYTES,  image,
-                                0,          now,
-                                now,        now,
-                                0,          0,
-                                ++inserts,  0};
+    uint32_t old = find(key, &link), at = value_place(row, key);
+    const uint64_t head[KEY] = {[SIZE] = words[row],  [NEXT] = old ? words[old + NEXT] : 0,
+                                [KEY_LEN] = key->len, [IMAGE_LEN] = image,
+                                [CTIME] = now,        [MTIME] = now,
+                                [ATIME] = now,        [NUMBER] = ++inserts};
     memcpy(&words[row], head, sizeof head);
-    words[row + KEY + KEY_WORDS - 1] = 0;
-    memcpy(&words[row + KEY], key, KEY_BYTES);
+    words[at - 1] = 0;
+    memcpy(&words[row + KEY], key->bytes, key->len);
     if (value->text) {
-        words[row + VALUE] = 8 * value->len + TEXT_MARK;
-        words[row + VALUE + image - 1] = 0;
-        memcpy(&words[row + VALUE + 1], value->text, value->len);
+        words[at] = 8 * value->len + TEXT_MARK;
+        words[at + image - 1] = 0;
+        memcpy(&words[at + 1], value->text, value->len);
     } else {
-        words[row + VALUE] = INTEGER_MARK;
-        words[row + VALUE + 1] = 7;
+        words[at] = INTEGER_MARK;
+        words[at + 1] = 7;
     }
     words[link] = row;
     if (old)
@@ -285,11 +294,11 @@ static bool store(const char *key, const struct value *value) {
     return true;
 }
 
-static bool add_there(const char *key, const struct value *value) {
+static bool add_there(const struct key *key, const struct value *value) {
     return find_live(key) || !store(key, value);
 }
 
-static bool delete (const char *key, const struct value *value) {
+static bool delete (const struct key *key, const struct value *value) {
     (void)value;
     uint32_t link, row = find(key, &link);
     if (!row)
@@ -299,9 +308,9 @@ static bool delete (const char *key, const struct value *value) {
     return true;
 }
 
-static bool nothing(const char *key, const struct value *value) {
+static bool nothing(const struct key *key, const struct value *value) {
     (void)value;
-    return key[0] == 'k';
+    return key->len != 0;
 }
 
 /* Of ten rows one holds each of these values, and seven an integer. */
@@ -332,8 +341,7 @@ static const struct measure {
 };
 enum { MEASURES = sizeof measures / sizeof *measures };
 
-typedef char key_bytes[KEY_BYTES + 1];
-static key_bytes *keys[KINDS];
+static struct key *keys[KINDS];
 static size_t count; /* of each kind */
 static uint64_t least[MEASURES], wrong;
 
@@ -343,15 +351,14 @@ static uint64_t nanoseconds(void) {
     return (uint64_t)t.tv_sec * 1000000000 + (uint64_t)t.tv_nsec;
 }
 
-static void shuffle(key_bytes *of) {
+static void shuffle(struct key *of) {
     static uint64_t drawn = 1;
     for (size_t i = count; i > 1; i--) {
         drawn = drawn * UINT64_C(6364136223846793005) + UINT64_C(1442695040888963407);
         size_t j = (size_t)(drawn >> 33) % i;
-        key_bytes key;
-        memcpy(key, of[i - 1], sizeof key);
-        memcpy(of[i - 1], of[j], sizeof key);
-        memcpy(of[j], key, sizeof key);
+        struct key key = of[i - 1];
+        of[i - 1] = of[j];
+        of[j] = key;
     }
 }
 
@@ -360,7 +367,7 @@ static void time_calls(const struct measure *of, uint64_t *ps) {
         size_t to = count - from < BATCH ? count : from + BATCH;
         uint64_t begin = nanoseconds();
         for (size_t i = from; i < to; i++)
-            wrong += !of->call(keys[of->kind][i], &values[of->kind]);
+            wrong += !of->call(&keys[of->kind][i], &values[of->kind]);
         uint64_t each = (nanoseconds() - begin) * 1000 / (to - from);
         *ps = each < *ps ? each : *ps;
     }
@@ -377,14 +384,14 @@ int main(int argc, char **argv) {
     words[slots] = WORDS - slots + 1;
     put_gap(slots, WORDS - slots);
     for (int kind = 0; kind < KINDS; kind++)
-        keys[kind] = zeros(count, sizeof(key_bytes));
+        keys[kind] = zeros(count, sizeof(struct key));
     for (size_t i = 0; i < count * 10; i++) {
-        key_bytes key;
+        struct key key;
         int kind = i % 10 < INTEGER ? (int)(i % 10) : INTEGER;
-        snprintf(key, sizeof key, "k%09zu", i % 1000000000);
-        wrong += !store(key, &values[kind]);
+        key.len = (size_t)snprintf(key.bytes, sizeof key.bytes, "k%09zu", i % 1000000000);
+        wrong += !store(&key, &values[kind]);
         if (i % 10 < KINDS)
-            memcpy(keys[kind][i / 10], key, sizeof key);
+            keys[kind][i / 10] = key;
     }
     memset(least, 0xFF, sizeof least);
     for (size_t round = 0; round < 3 + 400000 / rows; round++) {

@@ -11,7 +11,7 @@ scratch=$(mktemp -d)
 trap 'rm -rf "$scratch"' EXIT
 . "$here/../quiet.sh"
 for program in costs cache fetch; do
-    cc -std=gnu11 -O2 -Wall -Wextra -Wpedantic "$here/$program.c" -lpthread -o "$scratch/$program"
+    cc -std=gnu11 -O3 -Wall -Wextra -Wpedantic "$here/$program.c" -lpthread -o "$scratch/$program"
 done
 
 # A table of what a program prints in the rounds: lines of picoseconds and what took them. Its heading, its unit's
