@@ -1,0 +1,160 @@
+/* Deaths one by one. A child enters, stores over a row and leaves; its parent steps it, and kills it
+ * behind its first instruction, behind its second, and so on: at each where the lock is taken and
+ * given back, and at some of the call. Then the parent enters, and finds the old text or the new
+ * one whole, or an empty cache that was made anew. Then the same of a child that makes the cache
+ * anew, since another one died inside a call.
+ * Usage: deaths. Ends with status 77 where processes may not be stepped. */
+#define _GNU_SOURCE
+#include "shared_cache.h"
+
+#include <signal.h>
+#include <stdio.h>
+#include <stdlib.h>
+#include <string.h>
+#include <sys/ptrace.h>
+#include <sys/wait.h>
+#include <unistd.h>
+
+enum { NO_STEPS = 77 };
+
+/* Nothing of the cache depends on the clock here. */
+static const uint64_t now = 1000;
+static const char before[] = "the text that was there", after[] = "another and a longer text";
+
+static cache_answer ask(uint8_t *at, cache_request request, const char *text) {
+    request.t = now;
+    return cache_ask(at, &request, (const uint8_t *)"key", 3, (const uint8_t *)text, strlen(text));
+}
+
+static bool stores(uint8_t *at, const char *text) {
+    return ask(at, (cache_request){.kind = CACHE_STORE, .value = CACHE_STR}, text).kind ==
+           CACHE_YES;
+}
+
+static bool holds(uint8_t *at, const char *text) {
+    char found[64] = {0};
+    cache_answer a = ask(at, (cache_request){.kind = CACHE_LOOK}, "");
+    return a.kind == CACHE_STR && a.len == strlen(text) &&
+           cache_copy(at, a.place, (uint8_t *)found, a.len) && memcmp(found, text, a.len) == 0;
+}
+
+/* What a child does. */
+static void store_over(void) {
+    stores(shared_enter(), after);
+    shared_leave();
+}
+
+static void enter_only(void) {
+    shared_enter();
+    shared_leave();
+}
+
+static void die_inside(void) {
+    shared_enter();
+    raise(SIGKILL);
+}
+
+/* Lets a child do this, and kills it behind so many instructions; -1 is never. How many it did. */
+static long step(void (*work)(void), long most) {
+    int status;
+    pid_t child = fork();
+    if (child == 0) {
+        if (ptrace(PTRACE_TRACEME, 0, NULL, NULL) != 0)
+            _exit(NO_STEPS);
+        raise(SIGSTOP);
+        work();
+        _exit(0);
+    }
+    if (child < 0 || waitpid(child, &status, 0) != child || !WIFSTOPPED(status) ||
+        ptrace(PTRACE_SETOPTIONS, child, NULL, PTRACE_O_EXITKILL) != 0) {
+        puts("no process may be stepped here");
+        exit(NO_STEPS);
+    }
+    long steps = 0;
+    while (steps != most && ptrace(PTRACE_SINGLESTEP, child, NULL, NULL) == 0 &&
+           waitpid(child, &status, 0) == child && WIFSTOPPED(status))
+        steps++;
+    if (WIFSTOPPED(status)) {
+        kill(child, SIGKILL);
+        waitpid(child, &status, 0);
+    }
+    return steps;
+}
+
+static void kill_inside(void) {
+    pid_t child = fork();
+    if (child == 0)
+        die_inside();
+    waitpid(child, NULL, 0);
+}
+
+/* The instructions at which a child is killed: all of its first and last hundreds, where the lock
+ * is taken and given back, and some between. */
+static long following(long at, long all) {
+    enum { EACH = 120, BETWEEN = 47 };
+    return at < EACH || at >= all - EACH ? at + 1 : at + BETWEEN;
+}
+
+/* How often there was the old text, the new one, an empty cache, and what must not be. */
+struct found {
+    unsigned old, new, empty, wrong;
+};
+
+/* What the parent finds after a death; then the row has its old text again. */
+static void find(struct found *found, bool must_be_empty) {
+    uint8_t *at = shared_enter();
+    static uint64_t inside;
+    bool is_new_cache = shared_get_deaths().inside != inside;
+    inside = shared_get_deaths().inside;
+    bool is_empty = cache_get_counts(at).entries == 0;
+    if (is_new_cache != is_empty || (must_be_empty && !is_empty))
+        found->wrong++;
+    else if (is_empty)
+        found->empty++;
+    else if (holds(at, before))
+        found->old++;
+    else if (holds(at, after))
+        found->new ++;
+    else
+        found->wrong++;
+    if (!stores(at, before) || !holds(at, before))
+        found->wrong++;
+    shared_leave();
+}
+
+/* Lets a child die at its instructions, after another one died inside a call or none did. */
+static struct found find_all(void (*work)(void), bool after_a_death) {
+    struct found found = {0};
+    if (after_a_death)
+        kill_inside();
+    long all = step(work, -1);
+    find(&(struct found){0}, after_a_death);
+    for (long at = 0; at <= all; at = following(at, all)) {
+        if (after_a_death)
+            kill_inside();
+        step(work, at);
+        find(&found, after_a_death);
+    }
+    return found;
+}
+
+static void tell(const char *of, struct found found) {
+    printf("deaths in %s: %u left the old text, %u the new one, %u an empty cache; %u wrong\n", of,
+           found.old, found.new, found.empty, found.wrong);
+}
+
+int main(void) {
+    cache_shape shape = {.words = 512, .slots = 16, .segments = 1};
+    if (shared_start(&shape) != CACHE_MADE)
+        return 1;
+    stores(shared_enter(), before);
+    shared_leave();
+    struct found stored = find_all(store_over, false);
+    tell("a store", stored);
+    struct found made = find_all(enter_only, true);
+    tell("making anew", made);
+    bool is_good = stored.wrong == 0 && stored.old > 0 && stored.new > 0 && stored.empty > 0 &&
+                   made.wrong == 0 && made.empty > 0;
+    puts(is_good ? "as it should be" : "not as it should be");
+    return is_good ? 0 : 1;
+}

@@ -1,0 +1,66 @@
+#!/usr/bin/env bash
+# Compiles the programs of this folder over the library for C, runs each in bounded time, and judges what it prints:
+# `test` calls each export, `forked` has eight processes that count to a million and 300 that are killed, `deaths` kills
+# one behind instruction after instruction, and `full` fills 2 GB of words and reads them back. The last line is 'N passed, N failed'; what
+# this machine or this library can't do is skipped and said.
+# Usage: capi/run.sh. CACHE_C_LIB=FILE in the environment is the library; else it is proved and built by rt.
+set -eu -o pipefail
+here=$(cd "$(dirname "${BASH_SOURCE[0]}")" && pwd)
+scratch=$(mktemp -d)
+trap 'rm -rf "$scratch"' EXIT
+passed=0 failed=0
+
+library=${CACHE_C_LIB:-}
+if [ -z "$library" ]; then
+    (cd "$here/../crates/cache_c" && rt lib)
+    library=$here/../crates/cache_c/out/libcache_c.a
+fi
+flags=(-std=c11 -O2 -Wall -Wextra -Wpedantic -Wshadow -Wconversion -Werror)
+
+pass() { passed=$((passed + 1)) && echo "passed: $1"; }
+fail() { failed=$((failed + 1)) && echo "failed: $1"; }
+skip() { echo "skipped: $1"; }
+
+# Within so many seconds this program with its words ends well, and prints these lines.
+run() {
+    local seconds=$1 command status=0 line
+    read -ra command <<<"$2"
+    shift 2
+    timeout -s KILL "$seconds" "$scratch/${command[0]}" "${command[@]:1}" >"$scratch/printed" || status=$?
+    sed 's/^/    /' "$scratch/printed"
+    case $status in
+        0) ;;
+        77) skip "${command[*]}" && return ;;
+        137) fail "${command[*]}: not in $seconds seconds" && return ;;
+        *) fail "${command[*]}: status $status" && return ;;
+    esac
+    for line in "$@"; do
+        grep -qxE "$line" "$scratch/printed" || { fail "${command[*]}: no line '$line'" && return; }
+    done
+    pass "${command[*]}"
+}
+
+for program in test forked deaths full; do
+    cc "${flags[@]}" "$here/$program.c" "$here/shared_cache.c" "$library" -lpthread -o "$scratch/$program"
+done
+pass 'each program is compiled without a warning'
+
+run 60 test '[1-9][0-9]* passed, 0 failed'
+if grep -q 'No pointer is null' "$here/cache_c.h"; then
+    skip 'test nulls: the header says that no pointer is null'
+else
+    run 60 'test nulls' '[1-9][0-9]* passed, 0 failed'
+fi
+run 300 'forked 125000 300' '8 children counted to 1000000 of 1000000' '300 kills: .*' \
+    '0 children read a torn text .*'
+run 300 deaths 'deaths in a store: .*; 0 wrong' 'deaths in making anew: 0 .*, 0 .*; 0 wrong'
+run 120 'full 16777216' 'all read back, .*'
+# Words and index take 2.4 GB.
+free_kb=$(awk '$1 == "MemAvailable:" { print $2 }' /proc/meminfo)
+if [ "$free_kb" -ge 3000000 ]; then
+    run 300 'full 268435456' 'all read back, .*'
+else
+    skip "full 268435456: $free_kb KB of memory are free"
+fi
+echo "$passed passed, $failed failed"
+[ "$failed" = 0 ]

@@ -1,0 +1,165 @@
+/* See shared_cache.h. */
+#define _GNU_SOURCE
+#include "shared_cache.h"
+
+#include <errno.h>
+#include <pthread.h>
+#include <stdatomic.h>
+#include <stdlib.h>
+#include <string.h>
+#include <sys/mman.h>
+
+enum { LINE = 64 }; /* bytes of a line of the processor's cache; a multiple of every alignment */
+
+/* What the mapping begins with. Behind it stand the handle and then the room, from which the
+ * cache's words and index are taken. All of it stands at one address in every process, so that
+ * pointers of one are good in each. */
+struct head {
+    pthread_mutex_t lock;
+    atomic_bool busy; /* a call is under way: the words may be those of half a change */
+    shared_deaths deaths;
+};
+
+/* The same in every process, since it is set before the first fork. */
+static struct head *head;
+static size_t size; /* of the mapping */
+static cache_shape shape;
+static uint8_t *handle;
+static unsigned char *room, *end;
+
+/* This process's own: whether cache_new runs, and what is left of the room for it. */
+static bool is_making;
+static unsigned char *next;
+
+static size_t whole_lines(size_t n) { return (n + LINE - 1) / LINE * LINE; }
+
+/* The library asks for memory by four functions, which its user defines. An answer has a pointer
+ * that is not null, also where there is no memory. */
+struct tried {
+    bool ok;
+    void *at;
+};
+
+static struct tried got(void *at) {
+    static char nothing;
+    return (struct tried){at != NULL, at ? at : &nothing};
+}
+
+static bool is_in_room(const void *at) {
+    return (uintptr_t)at >= (uintptr_t)room && (uintptr_t)at < (uintptr_t)end;
+}
+
+/* What cache_new takes is for all processes. What any other call takes it gives back before it
+ * ends, so that is this process's own, and goes with it. */
+struct tried rattle_alloc(size_t n, size_t align) {
+    (void)align; /* at most 16, which malloc and whole lines keep */
+    if (!is_making)
+        return got(malloc(n ? n : 1));
+    if (n > (size_t)(end - next))
+        return got(NULL);
+    void *at = next;
+    next += whole_lines(n); /* what is left of the room is whole lines, too */
+    return got(at);
+}
+
+struct tried rattle_realloc(void *at, size_t kept, size_t n, size_t align) {
+    if (!is_in_room(at))
+        return got(realloc(at, n ? n : 1));
+    struct tried more = rattle_alloc(n, align);
+    if (more.ok)
+        memcpy(more.at, at, kept < n ? kept : n);
+    return more;
+}
+
+/* The room is taken from the start each time, so nothing is given back to it. */
+void rattle_dealloc(void *at) {
+    if (!is_in_room(at))
+        free(at);
+}
+
+int rattle_errno(void) { return errno; }
+
+/* Makes an empty cache. Nothing of an older one is read, and each process takes the same places
+ * for it: one that is killed in here leaves nothing that the next one needs. */
+static uint32_t make(void) {
+    next = room;
+    is_making = true;
+    uint32_t made = cache_new(&shape, handle);
+    is_making = false;
+    return made;
+}
+
+/* Makes the lock: of all processes, and one whose owner may die. */
+static bool make_lock(void) {
+    pthread_mutexattr_t kind;
+    if (pthread_mutexattr_init(&kind) != 0)
+        return false;
+    bool made = pthread_mutexattr_setpshared(&kind, PTHREAD_PROCESS_SHARED) == 0 &&
+                pthread_mutexattr_setrobust(&kind, PTHREAD_MUTEX_ROBUST) == 0 &&
+                pthread_mutex_init(&head->lock, &kind) == 0;
+    pthread_mutexattr_destroy(&kind);
+    return made;
+}
+
+uint32_t shared_start(const cache_shape *wanted) {
+    if (!wanted)
+        return CACHE_BAD_SHAPE;
+    shape = *wanted;
+    size_t before = whole_lines(sizeof *head) + whole_lines(cache_size());
+    /* A word has 8 bytes, and the index of free blocks some more than one for each. Pages that
+     * are not touched take no memory. */
+    size = before + whole_lines(10 * (size_t)shape.words) + 65536;
+    void *map = mmap(NULL, size, PROT_READ | PROT_WRITE, MAP_SHARED | MAP_ANONYMOUS, -1, 0);
+    if (map == MAP_FAILED)
+        return CACHE_NO_ROOM;
+    head = map;
+    handle = (uint8_t *)map + whole_lines(sizeof *head);
+    room = (unsigned char *)map + before;
+    end = (unsigned char *)map + size;
+    uint32_t made = make_lock() ? make() : CACHE_NO_ROOM;
+    if (made != CACHE_MADE)
+        shared_end();
+    return made;
+}
+
+void shared_end(void) {
+    munmap(head, size);
+    head = NULL;
+}
+
+/* A process that is killed has done all its writes up to an instruction and none behind it. So the
+ * compiler alone must keep the order of this flag and what the call writes. */
+static void set_busy(bool busy) {
+    atomic_signal_fence(memory_order_seq_cst);
+    atomic_store_explicit(&head->busy, busy, memory_order_relaxed);
+    atomic_signal_fence(memory_order_seq_cst);
+}
+
+uint8_t *shared_enter(void) {
+    int locked = pthread_mutex_lock(&head->lock);
+    if (locked == EOWNERDEAD) {
+        /* The lock is ours. Where no call was under way its cache stands there whole. Where one
+         * was, the flag stays until a new cache is made. Whoever dies in here leaves the lock to
+         * the next one as it found it, with the same news. */
+        bool is_inside = atomic_load_explicit(&head->busy, memory_order_relaxed);
+        if (is_inside && make() != CACHE_MADE)
+            abort();
+        if (is_inside)
+            head->deaths.inside++;
+        else
+            head->deaths.outside++;
+        set_busy(false);
+        pthread_mutex_consistent(&head->lock);
+    } else if (locked != 0) {
+        abort(); /* it is no lock: somebody wrote over it */
+    }
+    set_busy(true);
+    return handle;
+}
+
+void shared_leave(void) {
+    set_busy(false);
+    pthread_mutex_unlock(&head->lock);
+}
+
+shared_deaths shared_get_deaths(void) { return head->deaths; }

@@ -1,0 +1,30 @@
+/* One cache for a process and those that it forks: memory that they share, the functions by which
+ * the library asks for it, and a lock that outlives its owner. */
+#ifndef SHARED_CACHE_H
+#define SHARED_CACHE_H
+
+#include "cache_c.h"
+
+/* Maps memory and makes an empty cache of this shape there: CACHE_MADE, or what cache_new says,
+ * or CACHE_NO_ROOM where the system has no memory or no lock. A process has one cache, and makes
+ * it before it forks. */
+uint32_t shared_start(const cache_shape *shape);
+
+/* Gives the memory back. No process may be inside. */
+void shared_end(void);
+
+/* Waits for the lock, and gives the handle of the cache, which is this process's until
+ * shared_leave. If the lock's last owner died inside a call, the cache is made anew: it stands
+ * there empty. Not for signal handlers. */
+uint8_t *shared_enter(void);
+void shared_leave(void);
+
+/* How many owners of the lock died: inside a call, and where no call was under way. */
+typedef struct {
+    uint64_t inside, outside;
+} shared_deaths;
+
+/* Is asked between shared_enter and shared_leave. */
+shared_deaths shared_get_deaths(void);
+
+#endif

@@ -1,0 +1,303 @@
+/* Each export in one process: what it answers, and what it refuses. Prints each line that is not
+ * so, and how many were.
+ * Usage: test [nulls], which tries null pointers alone. */
+#define _GNU_SOURCE
+#include "shared_cache.h"
+
+#include <stdio.h>
+#include <stdlib.h>
+#include <string.h>
+#include <sys/mman.h>
+#include <sys/resource.h>
+
+static unsigned passed, failed;
+
+#define WANT(condition) want(condition, __LINE__, #condition)
+
+static void want(bool is_so, int line, const char *condition) {
+    if (is_so) {
+        passed++;
+    } else {
+        failed++;
+        printf("test.c:%d: not so: %s\n", line, condition);
+    }
+}
+
+static const cache_shape shape = {.words = 1 << 16, .slots = 64, .segments = 1};
+static uint8_t *at; /* the handle */
+
+static cache_answer ask(cache_request request, const char *key, const char *text) {
+    return cache_ask(at, &request, (const uint8_t *)key, strlen(key), (const uint8_t *)text,
+                     strlen(text));
+}
+
+/* Requests at a second. */
+static cache_answer look(const char *key, uint64_t t) {
+    return ask((cache_request){.kind = CACHE_LOOK, .t = t}, key, "");
+}
+
+static uint32_t exists(const char *key, uint64_t t) {
+    return ask((cache_request){.kind = CACHE_EXISTS, .t = t}, key, "").kind;
+}
+
+static uint32_t store(const char *key, uint32_t value, uint64_t number, const char *text,
+                      uint64_t t) {
+    cache_request request = {.kind = CACHE_STORE, .value = value, .t = t, .number = number};
+    return ask(request, key, text).kind;
+}
+
+static cache_row row_of(const char *key, uint64_t t) {
+    return cache_find_row(at, (const uint8_t *)key, strlen(key), t);
+}
+
+/* Whether these bytes stand at the place. */
+static bool stand(uint32_t place, const char *text) {
+    uint8_t found[64] = {0};
+    size_t len = strlen(text);
+    return len <= sizeof found && cache_copy(at, place, found, len) &&
+           memcmp(found, text, len) == 0;
+}
+
+static void shapes(void) {
+    static const cache_shape bad[] = {
+        {.words = 0, .slots = 2, .segments = 1},
+        {.words = 33, .slots = 2, .segments = 1},
+        {.words = 1 << 16, .slots = 0, .segments = 1},
+        {.words = 1 << 16, .slots = 3, .segments = 1},
+        {.words = 1 << 16, .slots = 1 << 16, .segments = 1},
+        {.words = 1 << 16, .slots = 2, .segments = 0},
+        {.words = 1 << 16, .slots = 2, .segments = 65},
+        {.words = UINT32_MAX, .slots = 2, .segments = 1},
+    };
+    uint8_t *place = malloc(cache_size());
+    for (size_t i = 0; i < sizeof bad / sizeof *bad; i++)
+        WANT(cache_new(&bad[i], place) == CACHE_BAD_SHAPE);
+    WANT(shared_start(&bad[0]) == CACHE_BAD_SHAPE);
+
+    /* A process that gets no more memory. */
+    cache_shape large = {.words = 1 << 24, .slots = 4096, .segments = 1};
+    struct rlimit whole, little;
+    getrlimit(RLIMIT_AS, &whole);
+    little = (struct rlimit){.rlim_cur = 64 << 20, .rlim_max = whole.rlim_max};
+    setrlimit(RLIMIT_AS, &little);
+    WANT(cache_new(&large, place) == CACHE_NO_ROOM);
+    WANT(shared_start(&large) == CACHE_NO_ROOM);
+    setrlimit(RLIMIT_AS, &whole);
+    free(place);
+}
+
+static void values(void) {
+    WANT(look("a", 1).kind == CACHE_ABSENT);
+    WANT(store("a", CACHE_STR, 0, "hello, world", 2) == CACHE_YES);
+    cache_answer a = look("a", 3);
+    WANT(a.kind == CACHE_STR && a.len == 12 && stand(a.place, "hello, world"));
+    WANT(store("a", CACHE_STR, 0, "", 3) == CACHE_YES);
+    a = look("a", 3);
+    WANT(a.kind == CACHE_STR && a.len == 0);
+    WANT(store("", CACHE_STR, 0, "no key at all", 3) == CACHE_YES);
+    a = look("", 3);
+    WANT(a.kind == CACHE_STR && stand(a.place, "no key at all"));
+    WANT(store("i", CACHE_INT, (uint64_t)INT64_MIN, "", 4) == CACHE_YES);
+    a = look("i", 4);
+    WANT(a.kind == CACHE_INT && a.number == INT64_MIN);
+    WANT(store("b", CACHE_BOOL, 9, "", 5) == CACHE_YES);
+    a = look("b", 5);
+    WANT(a.kind == CACHE_BOOL && a.number == 1);
+    WANT(store("b", CACHE_BOOL, 0, "", 5) == CACHE_YES);
+    a = look("b", 5);
+    WANT(a.kind == CACHE_BOOL && a.number == 0);
+    WANT(store("z", CACHE_NULL, 0, "", 6) == CACHE_YES);
+    WANT(look("z", 6).kind == CACHE_NULL);
+}
+
+static void requests(void) {
+    cache_request add = {.kind = CACHE_ADD, .value = CACHE_INT, .t = 10, .number = 1};
+    WANT(ask(add, "n", "").kind == CACHE_YES);
+    WANT(ask(add, "n", "").kind == CACHE_NO);
+    WANT(exists("n", 10) == CACHE_YES);
+    WANT(exists("m", 10) == CACHE_NO);
+
+    cache_request count = {.kind = CACHE_COUNT, .t = 11, .number = (uint64_t)-5};
+    cache_answer a = ask(count, "n", "");
+    WANT(a.kind == CACHE_INT && a.number == -4);
+    a = ask(count, "of its own", "");
+    WANT(a.kind == CACHE_INT && a.number == -5);
+    WANT(ask(count, "b", "").kind == CACHE_NO_NUMBER);
+
+    cache_request swap = {.kind = CACHE_SWAP, .t = 12, .number = 1, .set = 2};
+    WANT(ask(swap, "n", "").kind == CACHE_NO);
+    swap.number = (uint64_t)-4;
+    WANT(ask(swap, "n", "").kind == CACHE_YES);
+    WANT(ask(swap, "none", "").kind == CACHE_NO);
+    a = look("n", 12);
+    WANT(a.kind == CACHE_INT && a.number == 2);
+
+    /* A row of five seconds is there in the fifth, and is not in the sixth. */
+    cache_request brief = {.kind = CACHE_STORE, .value = CACHE_INT, .ttl = 5, .t = 20};
+    WANT(ask(brief, "brief", "").kind == CACHE_YES);
+    WANT(exists("brief", 25) == CACHE_YES);
+    WANT(exists("brief", 26) == CACHE_NO);
+
+    /* The last second, and a time that ends behind it. */
+    cache_request last = {.kind = CACHE_STORE, .value = CACHE_NULL, .ttl = UINT32_MAX};
+    last.t = UINT64_MAX;
+    WANT(ask(last, "last", "").kind == CACHE_YES);
+    WANT(exists("last", UINT64_MAX) == CACHE_YES);
+    WANT(exists("last", 0) == CACHE_YES);
+
+    /* A sum that no integer holds. */
+    cache_request most = {.kind = CACHE_COUNT, .t = 21, .number = (uint64_t)INT64_MAX};
+    WANT(ask(most, "much", "").number == INT64_MAX);
+    a = ask((cache_request){.kind = CACHE_COUNT, .t = 21, .number = 2}, "much", "");
+    WANT(a.kind == CACHE_INT && a.number == INT64_MIN + 1);
+
+    cache_request delete = {.kind = CACHE_DELETE, .t = 21};
+    WANT(ask(delete, "n", "").kind == CACHE_YES);
+    WANT(ask(delete, "n", "").kind == CACHE_NO);
+    WANT(look("n", 21).kind == CACHE_ABSENT);
+
+    /* A value that is larger than the cache drops no row. */
+    size_t len = 8 * (size_t)shape.words;
+    char *large = malloc(len + 1);
+    memset(large, 'x', len);
+    large[len] = '\0';
+    WANT(store("large", CACHE_STR, 0, large, 22) == CACHE_NO);
+    WANT(exists("i", 22) == CACHE_YES);
+    free(large);
+}
+
+/* What is told of a row and of all: every row has its place once, and rows, gaps and slots are all
+ * words. */
+static void told(void) {
+    WANT(store("told", CACHE_STR, 0, "a text", 30) == CACHE_YES);
+    look("told", 31);
+    look("told", 32);
+    cache_row row = row_of("told", 33);
+    WANT(row.place != 0 && row.slot < shape.slots && row.key_len == 4);
+    WANT(stand(row.key_place, "told") && stand(row.value.place, "a text"));
+    WANT(row.value.kind == CACHE_STR && row.value.len == 6);
+    WANT(row.ctime == 30 && row.mtime == 30 && row.atime == 32 && row.hits == 2);
+    WANT(row.ttl == 0 && row.dtime == 0 && row.size >= 2);
+    WANT(row_of("told", 33).hits == 2);
+    WANT(row_of("brief", 25).ttl == 5);
+    WANT(row_of("brief", 26).place == 0);
+    WANT(row_of("nobody", 33).place == 0);
+
+    cache_counts counts = cache_get_counts(at);
+    cache_row rows[8] = {0};
+    uint64_t all = 0, words = 0;
+    bool found = false;
+    for (uint32_t slot = 0; slot <= shape.slots; slot++) {
+        uint64_t n, skip = 0;
+        /* Three at a time, to see that the next ones follow. */
+        for (; (n = cache_list_rows(at, slot, skip, rows, 3)) > 0; skip += n)
+            for (uint64_t i = 0; i < n; i++) {
+                all++;
+                words += rows[i].size;
+                found = found || (rows[i].place == row.place && slot == row.slot);
+                WANT(rows[i].slot == slot || slot == shape.slots);
+            }
+    }
+    WANT(found);
+    WANT(all == counts.entries && words == counts.row_words);
+    WANT(cache_list_rows(at, shape.slots + 1, 0, rows, 8) == 0);
+    WANT(cache_list_rows(at, row.slot, 0, rows, 0) == 0);
+
+    cache_gap gap = {0};
+    uint64_t free_words = 0;
+    for (uint32_t from = 0; cache_list_gaps(at, from, &gap, 1) == 1; from = gap.place + 1)
+        free_words += gap.size;
+    WANT(free_words == counts.free_words);
+    WANT(cache_list_gaps(at, shape.words, &gap, 1) == 0);
+    WANT(cache_list_gaps(at, 0, &gap, 0) == 0);
+
+    look("told", 34);
+    look("nobody", 34);
+    cache_counts later = cache_get_counts(at);
+    WANT(later.hits == counts.hits + 1 && later.misses == counts.misses + 1);
+    store("told", CACHE_INT, 1, "", 34);
+    WANT(cache_get_counts(at).inserts == counts.inserts + 1);
+
+    WANT(ask((cache_request){.kind = CACHE_CLEAR, .t = 35}, "", "").kind == CACHE_YES);
+    counts = cache_get_counts(at);
+    WANT(counts.entries == 0 && counts.row_words == 0 && counts.hits == 0 && counts.misses == 0);
+    WANT(exists("told", 35) == CACHE_NO);
+}
+
+/* What no call may be asked, and what it says; none of it changes the cache. */
+static void refused(void) {
+    const uint8_t *key = (const uint8_t *)"k";
+    cache_request fetch = {.kind = CACHE_LOOK, .t = 40};
+    cache_request put = {.kind = CACHE_STORE, .value = CACHE_STR, .t = 40};
+    store("k", CACHE_STR, 0, "kept", 40);
+
+    WANT(ask((cache_request){.kind = 8, .t = 40}, "k", "").kind == CACHE_BAD);
+    WANT(ask((cache_request){.kind = UINT32_MAX, .t = 40}, "k", "").kind == CACHE_BAD);
+    WANT(store("k", 4, 0, "", 40) == CACHE_BAD);
+    WANT(store("k", UINT32_MAX, 0, "", 40) == CACHE_BAD);
+
+    /* Four gigabytes that nobody may read. */
+    size_t long_len = (size_t)1 << 32;
+    uint8_t *long_text =
+        mmap(NULL, long_len, PROT_NONE, MAP_PRIVATE | MAP_ANONYMOUS | MAP_NORESERVE, -1, 0);
+    WANT(long_text != MAP_FAILED);
+    WANT(cache_ask(at, &fetch, long_text, long_len, key, 0).kind == CACHE_BAD);
+    WANT(cache_ask(at, &put, key, 1, long_text, long_len).kind == CACHE_BAD);
+    WANT(cache_find_row(at, long_text, long_len, 40).place == 0);
+    munmap(long_text, long_len);
+
+    cache_answer kept = look("k", 40);
+    uint8_t out[8] = {0};
+    WANT(kept.kind == CACHE_STR && stand(kept.place, "kept"));
+    WANT(!cache_copy(at, shape.words, out, 1));
+    WANT(!cache_copy(at, UINT32_MAX, out, 8));
+    WANT(!cache_copy(at, shape.words - 1, out, SIZE_MAX));
+    WANT(cache_copy(at, shape.words - 1, out, 8));
+    WANT(cache_copy(at, kept.place, out, 0));
+}
+
+static void nulls(void) {
+    const uint8_t *key = (const uint8_t *)"k";
+    cache_request fetch = {.kind = CACHE_LOOK, .t = 50};
+    cache_request put = {.kind = CACHE_STORE, .value = CACHE_STR, .t = 50};
+    store("k", CACHE_STR, 0, "kept", 50);
+    WANT(cache_new(NULL, at) != CACHE_MADE);
+    WANT(cache_new(&shape, NULL) != CACHE_MADE);
+    WANT(cache_ask(NULL, &fetch, key, 1, key, 0).kind == CACHE_BAD);
+    WANT(cache_ask(at, NULL, key, 1, key, 0).kind == CACHE_BAD);
+    WANT(cache_ask(at, &fetch, NULL, 1, key, 0).kind == CACHE_BAD);
+    WANT(cache_ask(at, &put, key, 1, NULL, 1).kind == CACHE_BAD);
+    WANT(!cache_copy(NULL, 0, &(uint8_t){0}, 1));
+    WANT(!cache_copy(at, 0, NULL, 1));
+    WANT(cache_get_counts(NULL).free_words == 0);
+    WANT(cache_find_row(NULL, key, 1, 50).place == 0);
+    WANT(cache_find_row(at, NULL, 1, 50).place == 0);
+    WANT(cache_list_rows(NULL, 0, 0, &(cache_row){0}, 1) == 0);
+    WANT(cache_list_rows(at, 0, 0, NULL, 1) == 0);
+    WANT(cache_list_gaps(NULL, 0, &(cache_gap){0}, 1) == 0);
+    WANT(cache_list_gaps(at, 0, NULL, 1) == 0);
+    WANT(look("k", 50).kind == CACHE_STR);
+}
+
+int main(int argc, char **argv) {
+    bool only_nulls = argc > 1 && strcmp(argv[1], "nulls") == 0;
+    uint32_t made = shared_start(&shape);
+    WANT(made == CACHE_MADE);
+    if (made == CACHE_MADE) {
+        at = shared_enter();
+        if (only_nulls) {
+            nulls();
+        } else {
+            values();
+            requests();
+            told();
+            refused();
+        }
+        shared_leave();
+        shared_end();
+    }
+    if (!only_nulls)
+        shapes();
+    printf("%u passed, %u failed\n", passed, failed);
+    return failed != 0;
+}
