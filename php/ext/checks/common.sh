@@ -43,18 +43,22 @@ php_with() {
 }
 
 # Prints the folder of APCu's own source, of the Debian package, which is fetched into the scratch folder; or SOURCE.
-# Only the lists that this needs are read, none of the system's are changed.
+# It is asked for where the system has its packages from; only the lists that this needs are read, none of the system's
+# are changed.
 source_of_apcu() {
-    local folder="$scratch/source" codename options
+    local folder="$scratch/source" options file
     if [ -n "${SOURCE:-}" ]; then
         echo "$SOURCE"
         return
     fi
-    mkdir -p "$folder"/{lists,cache/archives}/partial
-    codename=$(. /etc/os-release && echo "$VERSION_CODENAME")
-    echo "deb-src [signed-by=/usr/share/keyrings/debian-archive-keyring.gpg] http://deb.debian.org/debian $codename main" \
-        >"$folder/sources.list"
-    options=(-q -o Dir::Etc::sourcelist="$folder/sources.list" -o Dir::Etc::sourceparts=- -o APT::Sandbox::User=root
+    mkdir -p "$folder"/{lists,cache/archives,parts}/partial
+    for file in /etc/apt/sources.list /etc/apt/sources.list.d/*.list; do
+        [ -f "$file" ] && sed -n 's/^ *deb /deb-src /p' "$file" >"$folder/parts/$(basename "$file" .list).list"
+    done
+    for file in /etc/apt/sources.list.d/*.sources; do
+        [ -f "$file" ] && sed 's/^Types:.*/Types: deb-src/' "$file" >"$folder/parts/$(basename "$file")"
+    done
+    options=(-q -o Dir::Etc::sourcelist=/dev/null -o Dir::Etc::sourceparts="$folder/parts" -o APT::Sandbox::User=root
         -o Dir::State::lists="$folder/lists" -o Dir::Cache="$folder/cache" -o Debug::NoLocking=1)
     (
         cd "$folder"
