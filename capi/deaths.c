@@ -106,7 +106,7 @@ static void find(struct found *found, bool must_be_empty) {
     static uint64_t inside;
     bool is_new_cache = shared_get_deaths().inside != inside;
     inside = shared_get_deaths().inside;
-    bool is_empty = cache_get_counts(at).entries == 0;
+    bool is_empty = ask(at, (cache_request){.kind = CACHE_LOOK}, "").kind == CACHE_ABSENT;
     if (is_new_cache != is_empty || (must_be_empty && !is_empty))
         found->wrong++;
     else if (is_empty)
