@@ -221,7 +221,7 @@ static bool peek(zend_string *key, cache_row *row, zval *value)
 		return false;
 	}
 	/* A value that can't be read is told as null. */
-	apcu_unpack(value, &row->value, text ? ZSTR_VAL(text) : "", text);
+	apcu_unpack(value, &row->value, text ? ZSTR_VAL(text) : NULL, text);
 	return true;
 }
 

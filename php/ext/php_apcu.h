@@ -83,9 +83,10 @@ void apcu_pack_text(apcu_value *out, const char *text, size_t len);
 
 void apcu_value_free(apcu_value *value);
 
-/* The value of an answer. The bytes of a string are `bytes`; where they are those of `text`, it is
- * used up. False where there is none; then `out` is null or undefined. It may run PHP code. */
-bool apcu_unpack(zval *out, const cache_answer *answer, const char *bytes, zend_string *text);
+/* The value of an answer, of a string by its bytes, which are written over. They may be those of `text`;
+ * that is used up in any case. `out` was a value before, or undefined. False where there is no value; then
+ * `out` is null or as it was. It may run PHP code. */
+bool apcu_unpack(zval *out, const cache_answer *answer, char *bytes, zend_string *text);
 
 void apcu_serializers_start(int module_number);
 

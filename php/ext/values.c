@@ -93,6 +93,7 @@ static bool write_text(smart_str *text, zval *value)
 	return text->s != NULL;
 }
 
+/* `out` was a value before, or undefined. */
 static bool value_of(zval *out, const unsigned char *text, size_t len)
 {
 	const unsigned char *at = text;
@@ -107,6 +108,7 @@ static bool value_of(zval *out, const unsigned char *text, size_t len)
 	if (!is_read) {
 		php_error_docref(NULL, E_NOTICE, "Error at offset " ZEND_LONG_FMT " of " ZEND_LONG_FMT " bytes",
 			(zend_long) (at - text), (zend_long) len);
+		zval_ptr_dtor(out);
 		ZVAL_NULL(out);
 	}
 	return is_read;
@@ -251,12 +253,21 @@ void apcu_value_free(apcu_value *value)
 	}
 }
 
-static bool unpack_bytes(zval *out, const char *bytes, size_t len, char mark)
+/* Bytes with a zero where their mark was. Those of `text` are used up with it where it becomes null. */
+static bool unpack_bytes(zval *out, char *bytes, size_t len, char mark, zend_string **text)
 {
 	switch (mark) {
 		case MARK_TEXT:
-			ZVAL_STRINGL(out, bytes, len);
+			if (*text) {
+				/* There may have been room for more than came. */
+				ZVAL_NEW_STR(out, ZSTR_LEN(*text) == len ? *text : zend_string_truncate(*text, len, 0));
+				*text = NULL;
+			} else {
+				ZVAL_STRINGL(out, bytes, len);
+			}
 			return true;
+		case MARK_PHP:
+			return value_of(out, (const unsigned char *) bytes, len);
 		case MARK_DOUBLE:
 			if (len == sizeof(double)) {
 				double number;
@@ -266,8 +277,6 @@ static bool unpack_bytes(zval *out, const char *bytes, size_t len, char mark)
 				return true;
 			}
 			break;
-		case MARK_PHP:
-			return value_of(out, (const unsigned char *) bytes, len);
 		case MARK_OTHER:
 			if (serializer && serializer->unserialize(out, (unsigned char *) bytes, len, serializer->config)) {
 				return true;
@@ -280,8 +289,10 @@ static bool unpack_bytes(zval *out, const char *bytes, size_t len, char mark)
 	return false;
 }
 
-bool apcu_unpack(zval *out, const cache_answer *answer, const char *bytes, zend_string *text)
+bool apcu_unpack(zval *out, const cache_answer *answer, char *bytes, zend_string *text)
 {
+	bool is_read = true;
+
 	switch (answer->kind) {
 		case CACHE_NULL:
 			ZVAL_NULL(out);
@@ -293,34 +304,20 @@ bool apcu_unpack(zval *out, const cache_answer *answer, const char *bytes, zend_
 			ZVAL_LONG(out, answer->number);
 			break;
 		case CACHE_STR:
-			if (answer->len > 0) {
-				size_t len = answer->len - 1;
+			is_read = answer->len > 0;
+			if (is_read) {
+				size_t len = (size_t) answer->len - 1;
 				char mark = bytes[len];
-				bool is_read = true;
 
-				if (text) {
-					/* Room for more may have been taken than came. */
-					ZSTR_VAL(text)[len] = '\0';
-					if (mark == MARK_TEXT) {
-						ZVAL_NEW_STR(out, ZSTR_LEN(text) == len ? text : zend_string_truncate(text, len, 0));
-						return true;
-					}
-				}
-				is_read = unpack_bytes(out, bytes, len, mark);
-				if (text) {
-					zend_string_release(text);
-				}
-				return is_read;
+				bytes[len] = '\0';
+				is_read = unpack_bytes(out, bytes, len, mark, &text);
 			}
-			ZEND_FALLTHROUGH;
+			break;
 		default:
-			if (text) {
-				zend_string_release(text);
-			}
-			return false;
+			is_read = false;
 	}
 	if (text) {
 		zend_string_release(text);
 	}
-	return true;
+	return is_read;
 }
