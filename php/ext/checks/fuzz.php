@@ -7,7 +7,6 @@
 // a hundred turns ends a process, whose place a new one takes; over odd seeds time moves. Time is the file CLOCK_FILE.
 //
 // Left out is what docs/DIFFERENCES.md lets differ (its numbers):
-//  5, 7    where time moves, a key is asked for with apcu_exists before it is deleted or its row is told of;
 //  6       a ttl is from 0 to 2,147,483,647;
 //  11, 12  where time moves, no two keys share a slot;
 //  13 - 18 the cache is never full, and no size of a row or of memory is told;
@@ -367,9 +366,6 @@ final class Calls
     {
         Notes::add('delete');
         $keys = mt_rand(0, 2) > 0 ? $this->key() : $this->keys();
-        if ($this->is_moving) {
-            $keys = is_array($keys) ? array_values(array_filter($keys, 'apcu_exists')) : (apcu_exists($keys) ? $keys : 'none');
-        }
         return apcu_delete($keys);
     }
 
@@ -432,9 +428,6 @@ final class Calls
             default:
                 Notes::add('key_info');
                 $key = $this->key();
-                if ($this->is_moving && !apcu_exists($key)) {
-                    return null;
-                }
                 $row = apcu_key_info($key);
                 return is_array($row) ? $this->without_change($key, $this->row($row)) : $row;
         }
@@ -495,10 +488,6 @@ final class Calls
         $odd = pick([5, 1.5, null, true, [], new stdClass(), 'a', '5', [5], [null], [1.5], [[]]]);
         $which = mt_rand(0, 18);
         Notes::add("odd $which");
-        // Where time moves, a key that is to be deleted may be there no more.
-        if ($which === 3 && $this->is_moving) {
-            $which = 2;
-        }
         return match ($which) {
             0 => apcu_store($odd, 1),
             1 => apcu_add($odd),
