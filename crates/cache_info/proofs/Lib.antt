@@ -1,4 +1,4 @@
-mod GapRuns
+pub mod GapRuns
 mod EntryHeads
 mod ListedRows
-mod InfoAnswers
+pub mod InfoAnswers
