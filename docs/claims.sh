@@ -12,7 +12,7 @@ import glob, os, re, sys
 BEGIN, END = "<!-- what stands from here on is written by claims.sh -->", "<!-- up to here -->"
 HEAD = "| promise | clause | edits of the gate | further edits | tests |\n|---|---|---|---|---|\n"
 OWNER = re.compile(r"^( *)(?:pub(?:\([a-z ]+\))? )?(?:unsafe )?(impl|trait)\b(.*)")
-FUNCTION = re.compile(r"^( *)(?:pub(?:\([a-z ]+\))? )?(?:const )?(?:unsafe )?fn (\w+)")
+FUNCTION = re.compile(r'^( *)(?:pub(?:\([a-z ]+\))? )?(?:const )?(?:unsafe )?(?:extern "C" )?fn (\w+)')
 CLAUSE = re.compile(r"^ *(?:ensures|requires)\*? (?:(\w+) )?\{")
 DEFINED = re.compile(r"^(?=(?:\w+ )*(?:abbrev|record|data) )", re.M)
 faults = []

@@ -1,0 +1,129 @@
+/* The proved cache as a library for C.
+ *
+ * One call at a time: the caller holds a lock round each call, and the calls of all processes are
+ * ordered by it. A handle is memory in which cache_new made a cache, and nothing else: no caller
+ * reads or writes it. While cache_new runs, rattle_alloc gives memory that each process has at the
+ * same address, as the handle's own.
+ *
+ * No pointer is null, not even one to no bytes; a struct or an array that a call writes was written
+ * before. rattle_alloc, rattle_realloc, rattle_dealloc and rattle_errno are the caller's. */
+#ifndef CACHE_C_H
+#define CACHE_C_H
+
+#include <stdbool.h>
+#include <stddef.h>
+#include <stdint.h>
+
+/* A shape: all words (8 bytes each) of the segments, how many of them are slots, after how many
+ * seconds an unused row is stale (0: never), and how many segments there are. */
+typedef struct {
+    uint32_t words, slots, ttl, segments;
+} cache_shape;
+
+enum {
+    CACHE_MADE,      /* there is an empty cache */
+    CACHE_BAD_SHAPE, /* no cache has this shape: there is none */
+    CACHE_NO_ROOM    /* memory is missing: there is none */
+};
+
+/* How many bytes a handle takes, aligned as 16. */
+size_t cache_size(void);
+
+/* Makes an empty cache of this shape in the memory at `at`, which then is its handle. Any other
+ * number than CACHE_MADE says why there is none. */
+uint32_t cache_new(const cache_shape *shape, uint8_t *at);
+
+/* What is asked. Each is one event of the cache. */
+enum {
+    CACHE_STORE,  /* apcu_store: key, value, ttl */
+    CACHE_ADD,    /* apcu_add: the same, but never over a live row */
+    CACHE_LOOK,   /* apcu_fetch: key; counts a hit or a miss */
+    CACHE_EXISTS, /* apcu_exists: key */
+    CACHE_DELETE, /* apcu_delete: key */
+    CACHE_COUNT,  /* apcu_inc: key, number is the step, ttl of a new row */
+    CACHE_SWAP,   /* apcu_cas: key, number is expected, set is set */
+    CACHE_CLEAR   /* apcu_clear_cache */
+};
+
+/* Kinds of values; an answer has them too. */
+enum { CACHE_NULL, CACHE_BOOL, CACHE_INT, CACHE_STR };
+
+typedef struct {
+    uint32_t kind;   /* which request */
+    uint32_t value;  /* which kind of value is stored */
+    uint32_t ttl;    /* seconds; 0: no limit */
+    uint64_t t;      /* the second of the call */
+    uint64_t number; /* an integer's 64 bits, or a truth value */
+    uint64_t set;    /* an integer's 64 bits */
+} cache_request;
+
+/* The answers that are no values. */
+enum {
+    CACHE_OTHER = 4, /* a value of another kind */
+    CACHE_ABSENT,    /* no live row has the key */
+    CACHE_NO,        /* it was not done, or it is not so */
+    CACHE_YES,       /* it was done, or it is so */
+    CACHE_NO_NUMBER, /* nothing was counted */
+    CACHE_BAD,       /* no such request or value, or a slice of 4 GB or more: nothing was asked */
+    CACHE_NO_MEMORY  /* for the value that is stored: nothing was asked */
+};
+
+typedef struct {
+    uint32_t kind;  /* a kind of value, or an answer above */
+    uint32_t place; /* of the bytes of a string */
+    int64_t number; /* an integer, or a truth value */
+    uint64_t len;   /* how many bytes a string has */
+} cache_answer;
+
+/* Asks the cache for one event. The place of a string's bytes is good until the next event. */
+cache_answer cache_ask(uint8_t *at, const cache_request *ask, const uint8_t *key, size_t key_len,
+                       const uint8_t *bytes, size_t bytes_len);
+
+/* Fills the memory with the bytes from this place on; false where there are not so many words. */
+bool cache_copy(uint8_t *at, uint32_t place, uint8_t *out, size_t len);
+
+/* What is told from here on changes nothing, and is no event. */
+
+typedef struct {
+    uint64_t hits, misses;        /* fetches that found a row, or none */
+    uint64_t inserts;             /* rows that were stored */
+    uint64_t expunges;            /* how often room was made by dropping rows */
+    uint64_t entries;             /* rows, those whose time is over too */
+    uint64_t row_words, free_words; /* of the rows' blocks, and of the gaps */
+} cache_counts;
+
+cache_counts cache_get_counts(uint8_t *at);
+
+/* A row. Moments are in seconds; sizes and places in words. */
+typedef struct {
+    uint32_t place;     /* of its block; 0: there is no row */
+    uint32_t slot;      /* the list that it stands in */
+    uint32_t key_place; /* of the bytes of its key, for cache_copy; good until the next event */
+    uint32_t key_len;   /* how many bytes that are */
+    uint32_t ttl;       /* seconds; 0: none of its own */
+    uint32_t size;      /* of its block */
+    uint64_t ctime;     /* created */
+    uint64_t mtime;     /* changed last */
+    uint64_t atime;     /* used last */
+    uint64_t dtime;     /* dropped, for a removed row; else 0 */
+    uint64_t hits;      /* how often it was fetched */
+    cache_answer value; /* as a look-up answers it */
+} cache_row;
+
+/* The row that a look-up of the key at the moment t finds; it counts nothing. */
+cache_row cache_find_row(uint8_t *at, const uint8_t *key, size_t key_len, uint64_t t);
+
+/* The rows of a slot, expired ones too, in their order and after the first `skip`: how many were
+ * written, at most `room`. The slots are 0 to shape.slots - 1; shape.slots are the removed rows, and
+ * a larger number has none. */
+uint64_t cache_list_rows(uint8_t *at, uint32_t slot, uint64_t skip, cache_row *out, size_t room);
+
+/* A gap between blocks, in words. */
+typedef struct {
+    uint32_t place, size;
+} cache_gap;
+
+/* The gaps at or past a place, by rising place: how many were written, at most `room`. */
+uint64_t cache_list_gaps(uint8_t *at, uint32_t from, cache_gap *out, size_t room);
+
+#endif

@@ -1,0 +1,7 @@
+pub mod Lookups
+pub mod RowLists
+pub mod SingleValues
+pub mod Standing
+pub mod Steps
+pub mod ToldRows
+pub mod Walks

@@ -1,0 +1,74 @@
+-- `cache_find_row` meets its contract: the cache is lent for a lifetime that is made for the call of `find`, and comes back once it is over.
+use Rattle.cache_c.proofs.Steps.{ℕ, [], ◌∷◌, ◌++◌, refl, w64, proved, full_share, id⊢, emp, ftrue, fex, flft, flent, fsep, named, vint, vptr, fact, fact_i, tables, ‵, raw, ◌⊛◌, some, later, prop, ◌$◌, ◌∵◌, !, qed, done, move, keep, drop, use0, use1, use2, use3, split, join, fsplit, fjoin, fpack, fpick, pick, await, regoal, suffices, group, enter, addr, stop, no_more, and_then, returns, alloc_all, pass_all, free_all, look_at, get, through, sets, lands_as, u8, u64, yes, uint_vals, uint_Tells, Ptr, RawPtr, block_ptr, in_a_block, rawptr_vals, rawptr_Tells, MutRef, MutBor, plain, nothing, heard, peeks, calls_at, lasts, triple_of, Stays, walk_of, stay_dropped, Goes-dropped, ends_at, framed}
+use prog.Wp.{WpFn}
+use denote.Builtin.{SliceRefOf}
+use denote.Laws.{Is, shows}
+use denote.Lend.{lends_ref, ref_back}
+use denote.Memory.{mem}
+use denote.Slice.{ShrSlice, slice_val, shr_slice_vals, shr_slice_Tells}
+use types.SemTy.{Body}
+use types.Tokens.{lft_new, lft_end}
+use lib.ListN.{length}
+use Rattle.cache_core.specs.CoreCache.{cache_of}
+use Rattle.cache_c.specs.declared.cache.Cache.{Cache}
+use Rattle.cache_c.specs.declared.rows.ToldRow.{ToldRow}
+use Rattle.cache_c.specs.Memory.{stands_at, lies}
+use Rattle.cache_c.specs.Standing.{IsStanding, IsKept, words_of}
+use Rattle.cache_c.specs.Told.{IsFoundBy, found_row}
+use Rattle.cache_c.proofs.Standing.{stands_kept}
+use Rattle.cache_c.specs.contracts.cache_find_row as f
+use Rattle.cache_c.proofs.cache_find_row.Statement.{statement}
+use Rattle.cache_c.proofs.cache_find_row.Code as code
+use Rattle.cache_c.specs.contracts.cache.Cache.{the_row as R}
+use Rattle.cache_c.specs.contracts.rows.ToldRow.{the_row as B}
+use Rattle.cache_c.proofs.rows.ToldRow.TheLaws as answer
+use Rattle.cache_c.specs.contracts.cache.Cache.find as g
+use Rattle.cache_c.proofs.cache.Cache.find.Met.{met}
+
+abbrev stayed : Stays f.ended.signature.params f.ended.kept
+stayed = (stay_dropped _ yes, (stay_dropped _ yes, (stay_dropped _ yes, tt)))
+
+pub cache_find_row_spec : {M : Type 1} → statement M
+cache_find_row_spec 𝓤 𝓛 𝓜 𝓡 wired =
+    let c = f.clauses 𝓛 𝓜.mem 𝓡.returns in let W = walk_of 𝓛 f.ended stayed c in let 𝓣 = tables 𝓤 𝓛.H 𝓜 𝓡 𝓡.env in
+    proved 𝓛 f.ended stayed c 𝓜 𝓡 (Goes-dropped 𝓛 1 (plain (λ _. RawPtr)) yes (λ κs x w. refl), (Goes-dropped 𝓛 1 (SliceRefOf (0 ∷ []) tt (plain (λ _. u8)) (λ _. tt)) yes (λ κs x w. refl), (Goes-dropped 𝓛 1 (plain (λ _. u64)) yes (λ κs x w. refl), tt)))
+    f.Key.name code.function (code.unfolded 𝓤 𝓛.H 𝓜 𝓡 wired)
+    (λ κs. (rawptr_vals, (shr_slice_vals, (uint_vals w64, tt)))) (λ κs. (rawptr_Tells, (shr_slice_Tells (named 0) κs.0 u8, (uint_Tells w64, tt)))) (λ κs qs bounds a n are.
+    let key = a.1.0 in let t = a.1.1.0 in
+    let y : Ptr → W.Ghost = λ p. ((κs, qs, bounds, (p, (key, (t, tt))), (rawptr_vals p, (shr_slice_vals key, (uint_vals w64 t, tt)))), n) in
+    let Tokens = ‵ (flft κs.0 qs.0) ⊛ ‵ ftrue in
+    let Lent = ‵ ((ShrSlice (named 0) κs.0 u8).own_val key (shr_slice_vals key)) ⊛ ‵ (u64.own_val t (uint_vals w64 t)) ⊛ ‵ ftrue in
+    qed 𝓛 ((Tokens ⊛ (‵ (RawPtr.own_val a.0 (rawptr_vals a.0)) ⊛ Lent)) ∷ ‵ (stands_at a.0 n) ∷ []) ∵
+    split ! $ move ! (1 ∷ []) $ split ! $ drop ! $ move ! (2 ∷ []) $
+    -- [the cache; what is lent; the tokens]
+    fsplit ! $ move ! (1 ∷ []) $ fpick ! (λ stand. drop ! $
+    in_a_block ! a.0 (λ p. lies p n) (id⊢ 𝓤 _) (λ b o e.
+    regoal ! (λ p. prop (WpFn 𝓤 𝓛.H 𝓣.C 𝓣.Λ code.function (rawptr_vals p ++ (slice_val key.ref_ptr (length key.now) ∷ vint w64 t ∷ [])) (W.post (y p)))) e refl $
+    enter ! _ _ _ _ _ $ alloc_all ! (λ l. pass_all ! refl ((tt, tt), ((tt, (tt, (record { fits = are.1.0.0.1.0 }, tt))), ((tt, record { fits = are.1.1.0.1 }), tt))) $
+    sets ! (addr ! (through ! refl (stop !))) refl (tt, tt) $
+    lft_new ! tt (λ α. move ! (1 ∷ []) $
+    let Loan : ℕ → MutBor Cache = λ δ. record { ref_ptr = (b, o); ghost_name = δ; now = n } in
+    use1 𝓛 (later (some (λ (δ : ℕ). ‵ ((MutRef (named 0) (α ∷ []) R).own_val (Loan δ) (vptr b o ∷ [])) ⊛ ‵ (flent (α ∷ []) (Body (mem R) b o δ)))))
+    (lends_ref 𝓛 R (named 0) (α ∷ []) n b o) $ await ! tt $ pick ! (λ δ. split ! $
+    -- [the loan; what the lender keeps; the token of α; what is lent; the tokens]
+    let G = triple_of 𝓛 g.signature (g.spec 𝓛 𝓜.mem 𝓡.returns) in
+    let z : G.Ghost = (((α ∷ [], κs), (full_share, qs), tt, (Loan δ, (key, (t, tt))), (vptr b o ∷ [], (shr_slice_vals key, (uint_vals w64 t, tt)))), tt) in
+    move ! (0 ∷ 3 ∷ []) $ join ! $ move ! (2 ∷ 3 ∷ []) $ join ! $ join ! $
+    use0 𝓛 (raw (fact 𝓤 (IsStanding n))) (fact_i 𝓤 (IsStanding n) (emp 𝓤) stand) $ move ! (1 ∷ 0 ∷ []) $ use2 𝓛 (raw (G.pre z)) (id⊢ 𝓤 _) $
+    calls_at ! (framed 𝓤 𝓛.H 𝓜 (tables 𝓤 𝓛.H 𝓜 𝓡 𝓡.env)) G (met 𝓤 𝓛 𝓜 𝓡 (code.calls-cache_c::cache::Cache::find 𝓡.env wired)) z
+    (and_then ! (get ! refl) (and_then ! (get ! refl) (and_then ! (get ! refl) (no_more !)))) (λ v.
+    let Told : ToldRow → Cache → Type 0 = λ r new. IsFoundBy (words_of new) (cache_of n.core) key.now (found_row key.now t (cache_of n.core)) r in
+    use1 𝓛 (later (some (λ (r : ToldRow). ((‵ (flft (α ∷ []) full_share) ⊛ Tokens) ⊛ ‵ (B.own_val r (v ∷ []))) ⊛
+    some (λ (ws : Cache × (Unit {0} × (Unit {0} × Unit {0}))). ‵ (lasts g.ended z.0.0 z.0.3 ws) ⊛ (raw (fact 𝓤 (IsKept n ws.0)) ⊛ raw (fact 𝓤 (Told r ws.0))))))) (id⊢ 𝓤 _) $
+    await ! tt $ pick ! (λ r. split ! $ split ! $ split ! $ lft_end ! tt $
+    -- [α is over; the tokens; the answer; the ensures; what the lender keeps]
+    move ! (3 ∷ []) $ pick ! (λ ws. split ! $ move ! (1 ∷ []) $ split ! $ heard ! _ (λ kept. heard ! _ (λ told. fsplit ! $ fsplit ! $
+    move ! (3 ∷ 6 ∷ 0 ∷ []) $ use3 𝓛 (later (‵ (lies (block_ptr b o) ws.0))) (ref_back 𝓛 R (α ∷ []) δ ws.0 b o) $ await ! tt $
+    -- [the cache; its borrow; nothing; the tokens; the answer]
+    move ! (4 ∷ []) $ peeks ! B (Is B) (shows 𝓛 B) r (v ∷ []) (λ is. lands_as ! refl refl ((answer.the_row_laws.lawful 𝓛).typed r _ is).0 $
+    returns ! (look_at ! 0 refl) $ free_all ! refl $ keep ! (1 ∷ 0 ∷ 4 ∷ []) $
+    suffices ! _ (ends_at 𝓛 f.ended stayed c (y (block_ptr b o)) v r (tt, (tt, (tt, tt))) (tt, (tt, (tt, tt)))) $
+    nothing ! $ fpack ! (IsStanding ws.0) (λ _. ftrue) (stands_kept kept stand) $ move ! (1 ∷ 0 ∷ []) $ fjoin ! $
+    nothing ! $ fpack ! (IsKept n ws.0 × Told r ws.0) (λ _. ftrue) (kept, told) $ move ! (1 ∷ 0 ∷ []) $ fjoin ! $
+    fpack ! Cache (λ new. fsep (stands_at (block_ptr b o) new) (fex (IsKept n new × Told r new) (λ _. ftrue))) ws.0 $ move ! (1 ∷ 0 ∷ []) $
+    nothing ! $ nothing ! $ join ! $ nothing ! $ join ! $ nothing ! $ join ! $ move ! (3 ∷ []) $ group ! 3 $ done !))))))))))))

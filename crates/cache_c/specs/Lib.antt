@@ -1,0 +1,5 @@
+pub mod Asked
+pub mod Made
+pub mod Memory
+pub mod Standing
+pub mod Told

@@ -1,0 +1,29 @@
+-- A cache that was made.
+use Rattle.std.specs.Prelude.{◌≡◌, ℕ, ◌⊎◌}
+use Rattle.apcu_model.specs.declared.conf.Conf.{Conf}
+use Rattle.apcu_model.specs.Conf.{IsUsable}
+use Rattle.apcu_model.specs.Cache.{empty_cache}
+use Rattle.cache_core.specs.CoreCache.{cache_of}
+use Rattle.cache_c.specs.declared.cache.Cache.{Cache}
+use Rattle.cache_c.specs.declared.making.Shape.{Shape}
+use Rattle.cache_c.specs.declared.making.TheConstants.{BAD_SHAPE, NO_ROOM}
+use Rattle.cache_c.specs.Standing.{IsStanding}
+
+-- the shape that is asked for
+abbrev pub conf_of : Shape → Conf
+conf_of shape = record {
+  words = shape.words;
+  slots = shape.slots;
+  ttl = shape.ttl;
+  segments = shape.segments;
+}
+
+-- its words stand for the empty cache of this shape
+pub record IsEmpty (conf : Conf) (cache : Cache) : Type 0 where
+  pub stand : IsStanding cache
+  pub empty : cache_of cache.core ≡ empty_cache conf
+
+-- why none was made: no cache has this shape, or memory is missing for one that has
+abbrev pub IsRefusal : Shape → ℕ → Type 0
+IsRefusal shape why =
+    ((why ≡ BAD_SHAPE) × (IsUsable (conf_of shape) → ⊥)) ⊎ ((why ≡ NO_ROOM) × IsUsable (conf_of shape))

@@ -1,0 +1,90 @@
+-- A cache behind a pointer.
+use Rattle.std.specs.Prelude.{◌≡◌, ℕ, ◌<◌, ◌^◌, Bool, List, Option, Some, None, drop}
+use Rattle.std.specs.Borrow.{full_share}
+use Rattle.std.specs.Ptr.{lies_at, room_at}
+use base.Fml.{Fml, fsep, fex, ftrue}
+use denote.RawPtr.{Ptr}
+use denote.Array.{Array}
+use denote.Builtin.{u8}
+use denote.Slice.{Room}
+use Rattle.cache_c.specs.declared.cache.Cache.{Cache}
+use Rattle.cache_c.specs.declared.asking.Ask.{Ask}
+use Rattle.cache_c.specs.declared.asking.Answer.{Answer}
+use Rattle.cache_c.specs.declared.counts.ToldCounts.{ToldCounts}
+use Rattle.cache_c.specs.declared.rows.ToldRow.{ToldRow}
+use Rattle.cache_c.specs.contracts.rows.ToldRow.{the_row as row_type}
+use Rattle.cache_c.specs.contracts.cache.Cache.{the_row}
+use Rattle.cache_c.specs.Standing.{IsStanding, IsKept, words_of}
+use Rattle.cache_c.specs.declared.making.Shape.{Shape}
+use Rattle.cache_c.specs.declared.making.TheConstants.{MADE}
+use Rattle.cache_c.specs.Asked.{asked_for, IsAnswered, HasCopied}
+use Rattle.cache_c.specs.Made.{conf_of, IsEmpty, IsRefusal}
+use Rattle.cache_c.specs.Told.{counts_told, found_row, rows_of}
+use Rattle.cache_c.specs.Told.{IsFoundBy, AreListedBy}
+use Rattle.cache_core.specs.CoreCache.{cache_of}
+
+-- a cache lies there
+abbrev pub lies : Ptr → Cache → Fml
+lies at cache = lies_at the_row full_share at cache
+
+-- and its words stand for it
+abbrev pub stands_at : Ptr → Cache → Fml
+stands_at at cache = fsep (lies at cache) (fex (IsStanding cache) (λ _. ftrue))
+
+-- It stands there still, and this call was its last event, with what was asked for and the reply
+-- that the answer tells; or the answer says that it was none, and nothing changed.
+abbrev pub has_asked : Cache → Ptr → Ask → List ℕ → List ℕ → Answer → Fml
+has_asked old at ask key bytes answer = fex Cache (λ new. fsep (stands_at at new)
+    (fex (IsAnswered old new ask.t (asked_for ask key bytes) answer) (λ _. ftrue)))
+
+-- room for a cache
+abbrev pub room : Ptr → Fml
+room at = room_at the_row at
+
+-- The number says that a cache was made, and it stands there, empty; or it says why none was, and
+-- the room is given back.
+abbrev pub is_told : Shape → Ptr → ℕ → Option Cache → Fml
+is_told shape at number (Some cache) =
+    fsep (stands_at at cache)
+    (fex ((number ≡ MADE) × IsEmpty (conf_of shape) cache) (λ _. ftrue))
+is_told shape at number None = fsep (room at) (fex (IsRefusal shape number) (λ _. ftrue))
+
+abbrev pub is_given : Shape → Ptr → ℕ → Fml
+is_given shape at number = fex (Option Cache) (λ made. is_told shape at number made)
+
+-- so many bytes lie there
+abbrev pub bytes_at : Ptr → ℕ → List ℕ → Fml
+bytes_at at len bytes =
+    fsep (lies_at (Array u8 len) full_share at bytes) (fex (len < 2 ^ 63) (λ _. ftrue))
+
+-- The cache stands there as it was, and the caller's memory holds what was copied.
+abbrev pub has_copied : Cache → List ℕ → Ptr → ℕ → Ptr → ℕ → Bool → Fml
+has_copied old before at place out len done =
+    fex (Cache × List ℕ) (λ new. fsep (stands_at at new.0) (fsep (bytes_at out len new.1)
+    (fex (IsKept old new.0 × HasCopied (words_of old) place before new.1 done) (λ _. ftrue))))
+
+-- The cache stands there as it was, and what was told of it is so.
+abbrev pub has_told : Cache → Ptr → (Cache → Type 0) → Fml
+has_told old at Told = fex Cache (λ new. fsep (stands_at at new)
+    (fex (IsKept old new × Told new) (λ _. ftrue)))
+
+-- so of its counts
+abbrev pub has_counted : Cache → Ptr → ToldCounts → Fml
+has_counted old at counts = has_told old at (λ new. counts ≡ counts_told (cache_of old.core))
+
+-- of the row of a key
+abbrev pub has_found : Cache → Ptr → List ℕ → ℕ → ToldRow → Fml
+has_found old at key t row = has_told old at (λ new. IsFoundBy (words_of new) (cache_of old.core)
+    key (found_row key t (cache_of old.core)) row)
+
+-- so many rows lie there
+abbrev pub rows_at : Ptr → ℕ → List ToldRow → Fml
+rows_at at room rows =
+    fsep (lies_at (Array row_type room) full_share at rows) (fex (Room row_type room) (λ _. ftrue))
+
+-- The cache stands there as it was, and the caller's memory has what was told of the rows of a list.
+abbrev pub has_listed : Cache → List ToldRow → Ptr → ℕ → ℕ → Ptr → ℕ → ℕ → Fml
+has_listed old before at slot skip out room count =
+    fex (Cache × List ToldRow) (λ new. fsep (stands_at at new.0) (fsep (rows_at out room new.1)
+    (fex (IsKept old new.0 × AreListedBy (words_of new.0) slot
+    (drop skip (rows_of (cache_of old.core) slot)) before new.1 count) (λ _. ftrue))))

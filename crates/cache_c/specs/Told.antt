@@ -1,0 +1,80 @@
+-- What is told of a cache by numbers.
+use Rattle.std.specs.Prelude.{◌≡◌, ◌≢◌, ℕ, ◌==◌, if◌then◌else◌, nat_lt, min, ⊤, List, []}
+use Rattle.std.specs.Prelude.{◌∷◌, length, filter, take, drop, Option, Some, None}
+use Rattle.apcu_model.specs.declared.row_info.RowInfo.{RowInfo}
+use Rattle.apcu_model.specs.Cache.{Row, Cache}
+use Rattle.apcu_model.specs.Expiry.{live_row}
+use Rattle.apcu_model.specs.SlotOrder.{slot_of, is_in_slot}
+use Rattle.apcu_model.specs.Infos.{info_of_row, row_words, gap_words_of}
+use Rattle.cache_c.specs.declared.rows.ToldRow.{ToldRow}
+use Rattle.cache_c.specs.declared.counts.ToldCounts.{ToldCounts}
+use Rattle.cache_c.specs.Asked.{StandAt, IsValueBy, is_short}
+
+-- ---- rows
+
+-- what is noted of a row beside its key and its value, by these numbers
+abbrev pub noted_by : ToldRow → RowInfo
+noted_by told = record {
+  ttl = told.ttl;
+  ctime = told.ctime;
+  mtime = told.mtime;
+  atime = told.atime;
+  dtime = told.dtime;
+  hits = told.hits;
+  size = told.size;
+}
+
+-- The numbers tell this row of a list: the place of its block, its key by the place of its bytes,
+-- what the information calls note of it, and its value.
+pub record IsRowBy (words : List ℕ) (list : ℕ) (row : Row) (told : ToldRow) : Type 0 where
+  pub place : told.place ≡ row.place
+  pub some : told.place ≢ 0
+  pub slot : told.slot ≡ list
+  pub key_len : told.key_len ≡ length row.key
+  pub key : StandAt words told.key_place row.key
+  pub noted : noted_by told ≡ info_of_row row
+  pub value : IsValueBy words row.graph told.value
+
+-- so does each of them the row of its place in the list
+abbrev pub AreRowsBy : List ℕ → ℕ → List Row → List ToldRow → Type 0
+AreRowsBy words slot [] [] = ⊤
+AreRowsBy words slot (row ∷ rows) (told ∷ tolds) =
+    IsRowBy words slot row told × AreRowsBy words slot rows tolds
+AreRowsBy words slot _ _ = ⊥
+
+-- The first places of a slice tell rows of a list, as many as there are and there is room for, and
+-- the others are as they were.
+pub record AreListedBy (words : List ℕ) (slot : ℕ) (all : List Row) (old new : List ToldRow)
+    (n : ℕ) : Type 0 where
+  pub count : n ≡ min (length all) (length old)
+  pub rows : AreRowsBy words slot (take n all) (take n new)
+  pub others : drop n new ≡ drop n old
+
+-- the rows of a list: a slot's, or behind the slots the removed rows
+abbrev pub rows_of : Cache → ℕ → List Row
+rows_of c slot =
+    if nat_lt slot c.conf.slots then filter (is_in_slot c.conf slot) c.rows else
+    if slot == c.conf.slots then c.removed else []
+
+-- the row that a look-up of a key finds; no key that is too long has one
+abbrev pub found_row : List ℕ → ℕ → Cache → Option Row
+found_row key t c = if is_short key then live_row key t c else None
+
+-- the numbers tell the row of the key, or that there is none
+abbrev pub IsFoundBy : List ℕ → Cache → List ℕ → Option Row → ToldRow → Type 0
+IsFoundBy words c key None told = told.place ≡ 0
+IsFoundBy words c key (Some row) told = IsRowBy words (slot_of c.conf key) row told
+
+-- ---- counts
+
+-- what is counted in a cache, the words of the blocks of its rows, and those of its gaps
+abbrev pub counts_told : Cache → ToldCounts
+counts_told c = record {
+  hits = c.hits;
+  misses = c.misses;
+  inserts = c.inserts;
+  expunges = c.expunges;
+  entries = length c.rows;
+  row_words = row_words c;
+  free_words = gap_words_of c;
+}

@@ -1,0 +1,113 @@
+//! The engine as a library for C: a handle to a cache, and the calls on it.
+#![tactic(auto)]
+
+mod asking;
+mod cache;
+mod copying;
+mod counts;
+mod making;
+mod rows;
+mod scalars;
+mod values;
+
+ghost use Rattle.std.specs.Prelude.{◌≡◌, ℕ, List};
+ghost use denote.Param.{layout};
+ghost use prog.Memory.{size};
+ghost use Rattle.cache_c.specs.contracts.cache.Cache.{the_row};
+ghost use types.Logic.{sem};
+ghost use base.Fml.{fsep};
+ghost use Rattle.cache_c.specs.declared.cache.Cache.{Cache};
+ghost use Rattle.cache_c.specs.Memory.{room, stands_at, bytes_at};
+ghost use Rattle.cache_c.specs.Memory.{has_asked, has_copied, is_given};
+ghost use Rattle.cache_c.specs.Memory.{has_counted, has_found, has_listed, rows_at};
+ghost use Rattle.cache_c.specs.declared.rows.ToldRow.{ToldRow};
+
+pub use asking::{Answer, Ask};
+pub use cache::Cache;
+pub use counts::ToldCounts;
+pub use making::Shape;
+use making::{MADE, made};
+pub use rows::ToldRow;
+use std::alloc::Global;
+
+/// How many bytes a cache takes beside its words, aligned as 16.
+#[unsafe(no_mangle)]
+pub extern "C" fn cache_size() -> usize
+    ensures { result ≡ size (layout the_row) }
+{
+    std::mem::size_of::<Cache>()
+}
+
+/// Makes an empty cache of this shape in the room at `at`; else the number says why it did not.
+#[unsafe(no_mangle)]
+pub unsafe extern "C" fn cache_new(alloc: Global, shape: &Shape, at: *mut u8) -> u32
+    requires* { sem 𝓛 (room at) }
+    ensures* { sem 𝓛 (is_given shape.now at result) }
+{
+    match made(alloc, shape) {
+        Ok(cache) => {
+            std::ptr::write(at.cast::<Cache>(), cache);
+            MADE
+        }
+        Err(why) => why,
+    }
+}
+
+/// Asks the cache at `at` for one event.
+#[unsafe(no_mangle)]
+pub unsafe extern "C" fn cache_ask(at: *mut u8, ask: &Ask, key: &[u8], bytes: &[u8]) -> Answer
+    ghost cache: { Cache }
+    requires* { sem 𝓛 (stands_at at cache) }
+    ensures* { sem 𝓛 (has_asked cache at ask.now key.now bytes.now result) }
+{
+    (&mut *at.cast::<Cache>()).ask(ask, key, bytes)
+}
+
+/// Fills the `len` bytes at `out` with those that stand in the cache at `at` from a place on; false
+/// where there are not so many words.
+#[unsafe(no_mangle)]
+pub unsafe extern "C" fn cache_copy(at: *mut u8, place: u32, out: *mut u8, len: usize) -> bool
+    ghost old: { Cache × List ℕ }
+    requires* { sem 𝓛 (fsep (stands_at at old.0) (bytes_at out len old.1)) }
+    ensures* { sem 𝓛 (has_copied old.0 old.1 at place out len result) }
+{
+    (&mut *at.cast::<Cache>()).copy(place, std::slice::from_raw_parts_mut(out, len))
+}
+
+/// What the cache at `at` counts, and its words. Nothing changes.
+#[unsafe(no_mangle)]
+pub unsafe extern "C" fn cache_get_counts(at: *mut u8) -> ToldCounts
+    ghost cache: { Cache }
+    requires* { sem 𝓛 (stands_at at cache) }
+    ensures* { sem 𝓛 (has_counted cache at result) }
+{
+    (&mut *at.cast::<Cache>()).counts()
+}
+
+/// The row that a look-up of the key at the moment `t` finds in the cache at `at`. Nothing changes.
+#[unsafe(no_mangle)]
+pub unsafe extern "C" fn cache_find_row(at: *mut u8, key: &[u8], t: u64) -> ToldRow
+    ghost cache: { Cache }
+    requires* { sem 𝓛 (stands_at at cache) }
+    ensures* { sem 𝓛 (has_found cache at key.now t result) }
+{
+    (&mut *at.cast::<Cache>()).find(key, t)
+}
+
+/// Writes rows of a list of the cache at `at`, after the first `skip`, to the `room` places at
+/// `out`: those of a slot, or behind the slots the removed rows. It answers how many there were.
+/// Nothing changes.
+#[unsafe(no_mangle)]
+pub unsafe extern "C" fn cache_list_rows(
+    at: *mut u8,
+    slot: u32,
+    skip: u64,
+    out: *mut ToldRow,
+    room: usize,
+) -> u64
+    ghost old: { Cache × List ToldRow }
+    requires* { sem 𝓛 (fsep (stands_at at old.0) (rows_at out room old.1)) }
+    ensures* { sem 𝓛 (has_listed old.0 old.1 at slot skip out room result) }
+{
+    (&mut *at.cast::<Cache>()).list_rows(slot, skip, std::slice::from_raw_parts_mut(out, room))
+}

@@ -1,0 +1,231 @@
+//! Rows as C reads them.
+
+ghost use Rattle.std.specs.Prelude.{◌≡◌, ℕ, ◌<◌, ◌^◌, true, length, drop, List, None};
+ghost use Rattle.php_graph.specs.declared.kind.Kind.{Kind};
+ghost use Rattle.seg_words.specs.Windows.{nothing_aside};
+ghost use Rattle.value_image.specs.Texts.{IsToldImage};
+ghost use Rattle.apcu_model.specs.Cache.{Row};
+ghost use Rattle.apcu_model.specs.SlotOrder.{slot_of};
+ghost use Rattle.entry_slots.specs.Lists.{has_place, first_place, FollowsIn};
+ghost use Rattle.entry_slots.specs.Entries.{IsListed, listed, FollowsInChain};
+ghost use Rattle.entry_slots.specs.Standing.{entries};
+ghost use Rattle.cache_core.specs.Looking.{scalar_of};
+ghost use Rattle.cache_core.specs.CoreCache.{cache_of};
+ghost use Rattle.cache_c.specs.Standing.{IsStanding, IsKept, words_of};
+ghost use Rattle.cache_c.specs.Asked.{IsValueBy};
+ghost use Rattle.cache_c.specs.Told.{IsRowBy, IsFoundBy, AreListedBy, rows_of, found_row};
+
+use crate::asking::{ABSENT, Answer, OTHER, plain, scalar};
+use crate::cache::Cache;
+use crate::scalars::read_scalar;
+use crate::values::STR;
+use entry_slots::standing_laws;
+use php_graph::hash_of;
+use seg_words::HEAD_WORDS;
+use value_image::{bytes_are_packed, string_len};
+
+/// A row of a cache. Moments are in seconds, places and sizes in words.
+#[repr(C)]
+#[derive(Clone, Copy)]
+pub struct ToldRow {
+    /// The place of its block; 0 where there is no row.
+    pub place: u32,
+    /// The list it stands in: its slot's, or behind the slots that of the removed rows.
+    pub slot: u32,
+    /// Where the bytes of its key stand.
+    pub key_place: u32,
+    /// How many bytes its key has.
+    pub key_len: u32,
+    /// How many seconds it lives from its creation on; 0 is for ever.
+    pub ttl: u32,
+    /// The size of its block.
+    pub size: u32,
+    /// When it was created.
+    pub ctime: u64,
+    /// When its value was changed last.
+    pub mtime: u64,
+    /// When it was used last.
+    pub atime: u64,
+    /// When it was dropped, for a removed row; else 0.
+    pub dtime: u64,
+    /// How often it was fetched.
+    pub hits: u64,
+    /// Its value, as a look-up answers it.
+    pub value: Answer,
+}
+
+// There is no row.
+fn no_row() -> ToldRow
+    ensures { result.place ≡ 0 }
+{
+    ToldRow {
+        place: 0,
+        slot: 0,
+        key_place: 0,
+        key_len: 0,
+        ttl: 0,
+        size: 0,
+        ctime: 0,
+        mtime: 0,
+        atime: 0,
+        dtime: 0,
+        hits: 0,
+        value: plain(ABSENT),
+    }
+}
+
+impl Cache {
+    /// The row that a look-up of the key at the moment `t`, in seconds, finds. Nothing is counted.
+    pub(crate) fn find(&mut self, key: &[u8], t: u64) -> ToldRow
+        requires stand { IsStanding self.old }
+        ensures same { IsKept self.old self.new }
+        ensures row { IsFoundBy (words_of self.new) (cache_of self.old.core) key.now
+            (found_row key.now t (cache_of self.old.core)) result }
+    {
+        if key.len() >= 4_294_967_296 {
+            return no_row();
+        }
+        let Some((at, _value)) = self.core.peek(&mut self.words, key, t) else {
+            return no_row();
+        };
+        let slot = self.slot_of(key);
+        self.row(slot, at)
+    }
+
+    // The slot of a key.
+    fn slot_of(&self, key: &[u8]) -> u32
+        requires stand { IsStanding self.now }
+        ensures slot { result ≡ slot_of (cache_of self.now.core).conf key.now }
+    {
+        let slots = self.core.conf().slots;
+        (hash_of(key) % u64::from(slots)) as u32
+    }
+
+    /// Fills the slice with the rows of a list, in their order and after the first `skip`: a slot's,
+    /// or behind the slots the removed rows. It answers how many were written.
+    pub(crate) fn list_rows(&mut self, slot: u32, skip: u64, out: &mut [ToldRow]) -> u64
+        requires stand { IsStanding self.old }
+        ensures same { IsKept self.old self.new }
+        ensures rows { AreListedBy (words_of self.new) slot
+            (drop skip (rows_of (cache_of self.old.core) slot)) out.old out.new result }
+    {
+        standing_laws();
+        let mut at = self.skipped(slot, skip);
+        for i in 0..out.len() {
+            if at == 0 {
+                return i as u64;
+            }
+            out[i] = self.row(slot, at);
+            at = self.after(at);
+        }
+        out.len() as u64
+    }
+
+    // The place of the row that stands in a list after the first `skip`; 0 where there is none.
+    fn skipped(&mut self, slot: u32, skip: u64) -> u32
+        requires stand { IsStanding self.old }
+        ensures same { IsKept self.old self.new }
+        ensures place { result
+            ≡ first_place (drop skip (rows_of (cache_of self.old.core) slot)) }
+    {
+        standing_laws();
+        let mut at = self.first(slot);
+        for _passed in 0..skip {
+            if at == 0 {
+                return 0;
+            }
+            at = self.after(at);
+        }
+        at
+    }
+
+    // The place of the first row of a list; 0 where there is none.
+    fn first(&mut self, slot: u32) -> u32
+        requires stand { IsStanding self.old }
+        ensures same { IsKept self.old self.new }
+        ensures place { result ≡ first_place (rows_of (cache_of self.old.core) slot) }
+    {
+        let slots = self.core.slots();
+        if slot < slots.slots() {
+            return slots.first_in(&mut self.words, slot);
+        }
+        if slot == slots.slots() {
+            return slots.first_removed();
+        }
+        0
+    }
+
+    // The place of the row that follows one in its list; 0 at the end.
+    fn after(&mut self, at: u32) -> u32
+        requires stand { IsStanding self.old }
+        requires there { has_place at (listed (entries self.old.core.slots)) ≡ true }
+        ensures same { IsKept self.old self.new }
+        ensures row { FollowsInChain (entries self.old.core.slots) at result }
+        ensures removed { FollowsIn (entries self.old.core.slots).removed at result }
+    {
+        self.core.slots().after(&mut self.words, at)
+    }
+
+    // What is told of the row at a place, which stands in this list.
+    fn row(&mut self, slot: u32, at: u32) -> ToldRow
+        requires stand { IsStanding self.old }
+        requires there { has_place at (listed (entries self.old.core.slots)) ≡ true }
+        ensures same { IsKept self.old self.new }
+        ensures told { (row : Row) → IsListed (entries self.old.core.slots) at row
+            → IsRowBy (words_of self.new) slot row result }
+    {
+        standing_laws();
+        bytes_are_packed();
+        let head = self.core.slots().head(&mut self.words, at);
+        let value = self.value(head.image);
+        ToldRow {
+            place: at,
+            slot,
+            key_place: at + HEAD_WORDS,
+            key_len: head.key_len,
+            ttl: head.ttl,
+            size: head.size,
+            ctime: head.ctime,
+            mtime: head.mtime,
+            atime: head.atime,
+            dtime: head.dtime,
+            hits: head.hits,
+            value,
+        }
+    }
+
+    // The value of which the image stands at a place.
+    fn value(&mut self, image: u32) -> Answer
+        requires image { (g : List Kind)
+            × IsToldImage (words_of self.old) nothing_aside.windows image g }
+        ensures same { IsKept self.old self.new }
+        ensures told { (g : List Kind)
+            → IsToldImage (words_of self.old) nothing_aside.windows image g
+            → IsValueBy (words_of self.new) g result }
+    {
+        match read_scalar(&mut self.words, image) {
+            Some(value) => scalar(value),
+            None => self.text(image),
+        }
+    }
+
+    // The same of a value that is no scalar.
+    pub(crate) fn text(&mut self, image: u32) -> Answer
+        requires image { (g : List Kind)
+            × IsToldImage (words_of self.old) nothing_aside.windows image g }
+        ensures same { IsKept self.old self.new }
+        ensures told { (g : List Kind)
+            → IsToldImage (words_of self.old) nothing_aside.windows image g
+            → scalar_of g ≡ None → IsValueBy (words_of self.new) g result }
+    {
+        match string_len(&mut self.words, image) {
+            Some(len) => Answer {
+                kind: STR,
+                place: image + 1,
+                number: 0,
+                len: u64::from(len),
+            },
+            None => plain(OTHER),
+        }
+    }
+}
