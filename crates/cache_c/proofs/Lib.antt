@@ -3,5 +3,6 @@ pub mod RowLists
 pub mod SingleValues
 pub mod Standing
 pub mod Steps
+pub mod ToldGaps
 pub mod ToldRows
 pub mod Walks

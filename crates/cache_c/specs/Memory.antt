@@ -11,7 +11,9 @@ use Rattle.cache_c.specs.declared.cache.Cache.{Cache}
 use Rattle.cache_c.specs.declared.asking.Ask.{Ask}
 use Rattle.cache_c.specs.declared.asking.Answer.{Answer}
 use Rattle.cache_c.specs.declared.counts.ToldCounts.{ToldCounts}
+use Rattle.cache_c.specs.declared.counts.Gap.{Gap}
 use Rattle.cache_c.specs.declared.rows.ToldRow.{ToldRow}
+use Rattle.cache_c.specs.contracts.counts.Gap.{the_row as gap_type}
 use Rattle.cache_c.specs.contracts.rows.ToldRow.{the_row as row_type}
 use Rattle.cache_c.specs.contracts.cache.Cache.{the_row}
 use Rattle.cache_c.specs.Standing.{IsStanding, IsKept, words_of}
@@ -19,8 +21,9 @@ use Rattle.cache_c.specs.declared.making.Shape.{Shape}
 use Rattle.cache_c.specs.declared.making.TheConstants.{MADE}
 use Rattle.cache_c.specs.Asked.{asked_for, IsAnswered, HasCopied}
 use Rattle.cache_c.specs.Made.{conf_of, IsEmpty, IsRefusal}
-use Rattle.cache_c.specs.Told.{counts_told, found_row, rows_of}
-use Rattle.cache_c.specs.Told.{IsFoundBy, AreListedBy}
+use Rattle.cache_c.specs.Told.{counts_told, found_row, rows_of, gaps_from}
+use Rattle.cache_c.specs.Told.{IsFoundBy, AreListedBy, AreGapsBy}
+use Rattle.apcu_model.specs.Infos.{gaps_of}
 use Rattle.cache_core.specs.CoreCache.{cache_of}
 
 -- a cache lies there
@@ -88,3 +91,15 @@ has_listed old before at slot skip out room count =
     fex (Cache × List ToldRow) (λ new. fsep (stands_at at new.0) (fsep (rows_at out room new.1)
     (fex (IsKept old new.0 × AreListedBy (words_of new.0) slot
     (drop skip (rows_of (cache_of old.core) slot)) before new.1 count) (λ _. ftrue))))
+
+-- so many gaps lie there
+abbrev pub gaps_at : Ptr → ℕ → List Gap → Fml
+gaps_at at room gaps =
+    fsep (lies_at (Array gap_type room) full_share at gaps) (fex (Room gap_type room) (λ _. ftrue))
+
+-- The cache stands there as it was, and the caller's memory has what was told of its gaps.
+abbrev pub has_gaps : Cache → List Gap → Ptr → ℕ → Ptr → ℕ → ℕ → Fml
+has_gaps old before at from out room count =
+    fex (Cache × List Gap) (λ new. fsep (stands_at at new.0) (fsep (gaps_at out room new.1)
+    (fex (IsKept old new.0 × AreGapsBy (gaps_from from (gaps_of (cache_of old.core)))
+    before new.1 count) (λ _. ftrue))))

@@ -1,6 +1,7 @@
 -- What is told of a cache by numbers.
-use Rattle.std.specs.Prelude.{◌≡◌, ◌≢◌, ℕ, ◌==◌, if◌then◌else◌, nat_lt, min, ⊤, List, []}
-use Rattle.std.specs.Prelude.{◌∷◌, length, filter, take, drop, Option, Some, None}
+use Rattle.std.specs.Prelude.{◌≡◌, ◌≢◌, ℕ, ◌==◌, if◌then◌else◌, nat_lt, nat_le, min, ⊤, List, []}
+use Rattle.std.specs.Prelude.{◌∷◌, length, map, filter, take, drop, Option, Some, None}
+use Rattle.seg_words.specs.declared.gaps.Extent.{Extent}
 use Rattle.apcu_model.specs.declared.row_info.RowInfo.{RowInfo}
 use Rattle.apcu_model.specs.Cache.{Row, Cache}
 use Rattle.apcu_model.specs.Expiry.{live_row}
@@ -8,6 +9,7 @@ use Rattle.apcu_model.specs.SlotOrder.{slot_of, is_in_slot}
 use Rattle.apcu_model.specs.Infos.{info_of_row, row_words, gap_words_of}
 use Rattle.cache_c.specs.declared.rows.ToldRow.{ToldRow}
 use Rattle.cache_c.specs.declared.counts.ToldCounts.{ToldCounts}
+use Rattle.cache_c.specs.declared.counts.Gap.{Gap}
 use Rattle.cache_c.specs.Asked.{StandAt, IsValueBy, is_short}
 
 -- ---- rows
@@ -78,3 +80,20 @@ counts_told c = record {
   row_words = row_words c;
   free_words = gap_words_of c;
 }
+
+-- ---- gaps
+
+-- a gap by its numbers
+abbrev pub gap_told : Extent → Gap
+gap_told gap = record { place = gap.place; size = gap.size }
+
+-- those of the gaps that begin at a place or past it
+abbrev pub gaps_from : ℕ → List Extent → List Extent
+gaps_from from gaps = filter (λ gap. nat_le from gap.place) gaps
+
+-- The first places of a slice tell gaps of a list, as many as there are and there is room for, and
+-- the others are as they were.
+pub record AreGapsBy (all : List Extent) (old new : List Gap) (n : ℕ) : Type 0 where
+  pub count : n ≡ min (length all) (length old)
+  pub gaps : take n new ≡ map gap_told (take n all)
+  pub others : drop n new ≡ drop n old

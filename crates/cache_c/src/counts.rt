@@ -1,9 +1,11 @@
-//! The counts of a cache, as C reads them.
+//! The counts of a cache and its gaps, as C reads them.
 
-ghost use Rattle.std.specs.Prelude.{◌≡◌};
+ghost use Rattle.std.specs.Prelude.{◌≡◌, option_map, find, nat_le};
+ghost use Rattle.seg_words.specs.declared.gaps.Extent.{Extent};
+ghost use Rattle.apcu_model.specs.Infos.{gaps_of};
 ghost use Rattle.cache_core.specs.CoreCache.{cache_of};
 ghost use Rattle.cache_c.specs.Standing.{IsStanding, IsKept};
-ghost use Rattle.cache_c.specs.Told.{counts_told};
+ghost use Rattle.cache_c.specs.Told.{counts_told, AreGapsBy, gaps_from};
 
 use crate::cache::Cache;
 
@@ -27,6 +29,16 @@ pub struct ToldCounts {
     pub free_words: u64,
 }
 
+/// A gap between blocks, in words.
+#[repr(C)]
+#[derive(Clone, Copy)]
+pub struct Gap {
+    /// Its first word.
+    pub place: u32,
+    /// How many words it has.
+    pub size: u32,
+}
+
 impl Cache {
     /// What it counts, and its words.
     pub(crate) fn counts(&mut self) -> ToldCounts
@@ -47,5 +59,34 @@ impl Cache {
             row_words: u64::from(row_words),
             free_words: u64::from(free_words),
         }
+    }
+
+    // The first gap at or past a place, as its place and its size.
+    fn gap(&mut self, from: u32) -> Option<(u32, u32)>
+        requires stand { IsStanding self.old }
+        ensures same { IsKept self.old self.new }
+        ensures gap { result ≡ option_map (λ (gap : Extent). (gap.place, gap.size))
+            (find (λ gap. nat_le from gap.place) (gaps_of (cache_of self.old.core))) }
+    {
+        self.core.slots().sma().gap_from(&mut self.words, from)
+    }
+
+    /// Fills the slice with the gaps at or past a place, by rising place. It answers how many were
+    /// written.
+    pub(crate) fn list_gaps(&mut self, from: u32, out: &mut [Gap]) -> u64
+        requires stand { IsStanding self.old }
+        ensures same { IsKept self.old self.new }
+        ensures gaps { AreGapsBy (gaps_from from (gaps_of (cache_of self.old.core)))
+            out.old out.new result }
+    {
+        let mut from = from;
+        for i in 0..out.len() {
+            let Some((place, size)) = self.gap(from) else {
+                return i as u64;
+            };
+            out[i] = Gap { place, size };
+            from = place + size;
+        }
+        out.len() as u64
     }
 }

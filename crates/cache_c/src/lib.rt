@@ -19,12 +19,14 @@ ghost use base.Fml.{fsep};
 ghost use Rattle.cache_c.specs.declared.cache.Cache.{Cache};
 ghost use Rattle.cache_c.specs.Memory.{room, stands_at, bytes_at};
 ghost use Rattle.cache_c.specs.Memory.{has_asked, has_copied, is_given};
-ghost use Rattle.cache_c.specs.Memory.{has_counted, has_found, has_listed, rows_at};
+ghost use Rattle.cache_c.specs.Memory.{has_counted, has_found, has_listed, has_gaps};
+ghost use Rattle.cache_c.specs.Memory.{rows_at, gaps_at};
+ghost use Rattle.cache_c.specs.declared.counts.Gap.{Gap};
 ghost use Rattle.cache_c.specs.declared.rows.ToldRow.{ToldRow};
 
 pub use asking::{Answer, Ask};
 pub use cache::Cache;
-pub use counts::ToldCounts;
+pub use counts::{Gap, ToldCounts};
 pub use making::Shape;
 use making::{MADE, made};
 pub use rows::ToldRow;
@@ -110,4 +112,15 @@ pub unsafe extern "C" fn cache_list_rows(
     ensures* { sem 𝓛 (has_listed old.0 old.1 at slot skip out room result) }
 {
     (&mut *at.cast::<Cache>()).list_rows(slot, skip, std::slice::from_raw_parts_mut(out, room))
+}
+
+/// Writes the gaps of the cache at `at` from a place on, by rising place, to the `room` places at
+/// `out`. It answers how many there were. Nothing changes.
+#[unsafe(no_mangle)]
+pub unsafe extern "C" fn cache_list_gaps(at: *mut u8, from: u32, out: *mut Gap, room: usize) -> u64
+    ghost old: { Cache × List Gap }
+    requires* { sem 𝓛 (fsep (stands_at at old.0) (gaps_at out room old.1)) }
+    ensures* { sem 𝓛 (has_gaps old.0 old.1 at from out room result) }
+{
+    (&mut *at.cast::<Cache>()).list_gaps(from, std::slice::from_raw_parts_mut(out, room))
 }
