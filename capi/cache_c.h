@@ -64,8 +64,7 @@ enum {
     CACHE_NO,        /* it was not done, or it is not so */
     CACHE_YES,       /* it was done, or it is so */
     CACHE_NO_NUMBER, /* nothing was counted */
-    CACHE_BAD,       /* no such request or value, or a slice of 4 GB or more: nothing was asked */
-    CACHE_NO_MEMORY  /* for the value that is stored: nothing was asked */
+    CACHE_BAD        /* no such request or value, or a slice of 4 GB or more: nothing was asked */
 };
 
 typedef struct {

@@ -1,6 +1,7 @@
 //! One event.
 
-ghost use Rattle.std.specs.Prelude.{◌≡◌, ℕ, pos, ◌<◌, ◌^◌, List, length, None};
+ghost use Rattle.std.specs.Prelude.{◌≡◌, ℕ, pos, ◌<◌, ◌^◌, List, [], ◌∷◌, length, None};
+ghost use Rattle.php_graph.specs.declared.kind.Kind.TheVariants.{Str};
 ghost use Rattle.std.specs.Int.{w64, cast_signed};
 ghost use Rattle.apcu_model.specs.declared.request.Request.TheVariants as requests;
 ghost use Rattle.apcu_model.specs.declared.request.Reply.TheVariants as replies;
@@ -10,11 +11,11 @@ ghost use Rattle.apcu_model.specs.Cache.{Row};
 ghost use Rattle.cache_core.specs.Looking.{scalar_of, IsRowOf};
 ghost use Rattle.cache_core.specs.CoreCache.{cache_of};
 ghost use Rattle.cache_c.specs.Standing.{IsStanding, IsKept, words_of};
-ghost use Rattle.cache_c.specs.Asked.{asked_for, stored, value_of};
+ghost use Rattle.cache_c.specs.Asked.{asked_for, stored, value_of, scalar_value};
 ghost use Rattle.cache_c.specs.Asked.{IsAnswered, IsDone, IsToldBy, IsValueBy, IsScalarBy};
 
 use crate::cache::Cache;
-use crate::values::{BOOL, INT, NULL, value_from};
+use crate::values::{BOOL, INT, NULL, STR, scalar_from};
 use apcu_model::StoreAnswer;
 use cache_core::{Look, Scalar};
 use counter_entry::{IncAnswer, cas, inc};
@@ -83,8 +84,6 @@ pub const YES: u32 = 7;
 pub const NO_NUMBER: u32 = 8;
 /// Nothing is asked: the request or the value is of no kind, or a slice has 4 GB or more.
 pub const BAD: u32 = 9;
-/// Memory is missing for the value.
-pub const NO_MEMORY: u32 = 10;
 
 // An answer without numbers.
 pub(crate) fn plain(kind: u32) -> Answer
@@ -178,7 +177,7 @@ impl Cache {
         }
     }
 
-    // Stores a value under the key.
+    // Stores a value of this kind under the key.
     fn store(
         &mut self,
         key: &[u8],
@@ -196,10 +195,43 @@ impl Cache {
         ensures answered { IsAnswered self.old self.new t
             (stored key.now ttl exclusive (value_of kind number bytes.now)) result }
     {
-        let Ok(value) = value_from(self.alloc, kind, number, bytes) else {
-            return plain(NO_MEMORY);
-        };
-        let Some(value) = value else {
+        if kind == STR {
+            return self.store_text(key, bytes, ttl, exclusive, t);
+        }
+        self.store_scalar(key, kind, number, ttl, exclusive, t)
+    }
+
+    // The same of a string: its bytes go from the slice into the row.
+    fn store_text(&mut self, key: &[u8], bytes: &[u8], ttl: u32, exclusive: bool, t: u64) -> Answer
+        requires short { length key.now < 2 ^ 32 }
+        requires value { length bytes.now < 2 ^ 32 }
+        requires stand { IsStanding self.old }
+        ensures done { IsDone self.old self.new t
+            (requests.Store key.now (Str bytes.now ∷ []) ttl exclusive) result }
+    {
+        stored(
+            self.core
+                .store_bytes(&mut self.words, key, bytes, ttl, exclusive, t),
+        )
+    }
+
+    // The same of a scalar, if the kind is one's.
+    fn store_scalar(
+        &mut self,
+        key: &[u8],
+        kind: u32,
+        number: u64,
+        ttl: u32,
+        exclusive: bool,
+        t: u64,
+    ) -> Answer
+        requires short { length key.now < 2 ^ 32 }
+        requires stand { IsStanding self.old }
+        ensures stand { IsStanding self.new }
+        ensures answered { IsAnswered self.old self.new t
+            (stored key.now ttl exclusive (scalar_value kind number)) result }
+    {
+        let Some(value) = scalar_from(self.alloc, kind, number) else {
             return plain(BAD);
         };
         let answer = self
