@@ -94,7 +94,8 @@ enum {
     CACHE_NO,        /* it was not done, or it is not so */
     CACHE_YES,       /* it was done, or it is so */
     CACHE_NO_NUMBER, /* nothing was counted */
-    CACHE_BAD        /* no such request or value, or a slice of 4 GB or more: nothing was asked */
+    CACHE_BAD,       /* no such request or value: nothing was asked */
+    CACHE_TOO_LONG   /* a key or a string of 4 GB or more: nothing was asked */
 };
 
 typedef struct {

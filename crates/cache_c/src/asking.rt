@@ -83,8 +83,10 @@ pub const NO: u32 = 6;
 pub const YES: u32 = 7;
 /// Nothing was counted.
 pub const NO_NUMBER: u32 = 8;
-/// Nothing is asked: the request or the value is of no kind, or a slice has 4 GB or more.
+/// Nothing is asked: the request or the value is of no kind.
 pub const BAD: u32 = 9;
+/// Nothing is asked: the key or the string has 4 GB or more.
+pub const TOO_LONG: u32 = 10;
 
 // An answer without numbers.
 pub(crate) fn plain(kind: u32) -> Answer
@@ -161,7 +163,7 @@ impl Cache {
             (asked_for ask.now key.now bytes.now) result }
     {
         if key.len() >= 4_294_967_296 || bytes.len() >= 4_294_967_296 {
-            return plain(BAD);
+            return plain(TOO_LONG);
         }
         let t = ask.t;
         let ttl = ask.ttl;
