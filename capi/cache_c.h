@@ -2,17 +2,47 @@
  *
  * One call at a time: the caller holds a lock round each call, and the calls of all processes are
  * ordered by it. A handle is memory in which cache_new made a cache, and nothing else: no caller
- * reads or writes it. While cache_new runs, rattle_alloc gives memory that each process has at the
- * same address, as the handle's own.
+ * reads, writes or moves it.
  *
- * No pointer is null, not even one to no bytes; a struct or an array that a call writes was written
- * before. rattle_alloc, rattle_realloc, rattle_dealloc and rattle_errno are the caller's. */
+ * No pointer is null, not even one to no bytes: no call looks, and with a null it is undefined.
+ * Each points to as many bytes or places as the length beside it says, which are less than 2^63
+ * bytes. What a call only reads may lie anywhere. What it writes lies in no other argument, and in
+ * no memory of the cache; it may be new memory, since whatever lies there counts as its old bytes.
+ *
+ * No other input is undefined: each request, kind, place, slot and number has an answer. */
 #ifndef CACHE_C_H
 #define CACHE_C_H
 
 #include <stdbool.h>
 #include <stddef.h>
 #include <stdint.h>
+
+#ifdef __cplusplus
+extern "C" {
+#endif
+
+/* The library asks for memory by four functions, which its user defines. */
+
+/* Memory, or that there is none. `at` is not null, also where there is none. */
+typedef struct cache_tried {
+    bool ok;
+    void *at;
+} cache_tried;
+
+/* So many bytes, aligned as `align`, which is at most 16. What is asked for while cache_new runs
+ * stays for as long as the cache, and each process has it at the same address, as the handle. What
+ * another call asks for it gives back before it ends. */
+cache_tried rattle_alloc(size_t size, size_t align);
+
+/* Memory of `size` bytes in place of that at `at`, whose first `kept` bytes go along. Where there
+ * is none, that at `at` stays. */
+cache_tried rattle_realloc(void *at, size_t kept, size_t size, size_t align);
+
+/* The memory at `at` isn't asked for any longer. */
+void rattle_dealloc(void *at);
+
+/* The number of the system's last error. The cache never asks for it. */
+int rattle_errno(void);
 
 /* A shape: all words (8 bytes each) of the segments, how many of them are slots, after how many
  * seconds an unused row is stale (0: never), and how many segments there are. */
@@ -64,8 +94,8 @@ enum {
     CACHE_NO,        /* it was not done, or it is not so */
     CACHE_YES,       /* it was done, or it is so */
     CACHE_NO_NUMBER, /* nothing was counted */
-    CACHE_BAD,       /* no such request or value, or a slice of 4 GB or more: nothing was asked */
-    CACHE_NO_MEMORY  /* for the value that is stored: nothing was asked */
+    CACHE_BAD,       /* no such request or value: nothing was asked */
+    CACHE_TOO_LONG   /* a key or a string of 4 GB or more: nothing was asked */
 };
 
 typedef struct {
@@ -125,5 +155,9 @@ typedef struct {
 
 /* The gaps at or past a place, by rising place: how many were written, at most `room`. */
 uint64_t cache_list_gaps(uint8_t *at, uint32_t from, cache_gap *out, size_t room);
+
+#ifdef __cplusplus
+}
+#endif
 
 #endif

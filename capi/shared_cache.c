@@ -33,16 +33,9 @@ static unsigned char *next;
 
 static size_t whole_lines(size_t n) { return (n + LINE - 1) / LINE * LINE; }
 
-/* The library asks for memory by four functions, which its user defines. An answer has a pointer
- * that is not null, also where there is no memory. */
-struct tried {
-    bool ok;
-    void *at;
-};
-
-static struct tried got(void *at) {
+static cache_tried got(void *at) {
     static char nothing;
-    return (struct tried){at != NULL, at ? at : &nothing};
+    return (cache_tried){at != NULL, at ? at : &nothing};
 }
 
 static bool is_in_room(const void *at) {
@@ -51,7 +44,7 @@ static bool is_in_room(const void *at) {
 
 /* What cache_new takes is for all processes. What any other call takes it gives back before it
  * ends, so that is this process's own, and goes with it. */
-struct tried rattle_alloc(size_t n, size_t align) {
+cache_tried rattle_alloc(size_t n, size_t align) {
     (void)align; /* at most 16, which malloc and whole lines keep */
     if (!is_making)
         return got(malloc(n ? n : 1));
@@ -62,10 +55,10 @@ struct tried rattle_alloc(size_t n, size_t align) {
     return got(at);
 }
 
-struct tried rattle_realloc(void *at, size_t kept, size_t n, size_t align) {
+cache_tried rattle_realloc(void *at, size_t kept, size_t n, size_t align) {
     if (!is_in_room(at))
         return got(realloc(at, n ? n : 1));
-    struct tried more = rattle_alloc(n, align);
+    cache_tried more = rattle_alloc(n, align);
     if (more.ok)
         memcpy(more.at, at, kept < n ? kept : n);
     return more;

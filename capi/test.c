@@ -241,9 +241,10 @@ static void refused(void) {
     uint8_t *long_text =
         mmap(NULL, long_len, PROT_NONE, MAP_PRIVATE | MAP_ANONYMOUS | MAP_NORESERVE, -1, 0);
     WANT(long_text != MAP_FAILED);
-    WANT(cache_ask(at, &fetch, long_text, long_len, key, 0).kind == CACHE_BAD);
-    WANT(cache_ask(at, &put, key, 1, long_text, long_len).kind == CACHE_BAD);
+    WANT(cache_ask(at, &fetch, long_text, long_len, key, 0).kind == CACHE_TOO_LONG);
+    WANT(cache_ask(at, &put, key, 1, long_text, long_len).kind == CACHE_TOO_LONG);
     WANT(cache_find_row(at, long_text, long_len, 40).place == 0);
+    WANT(!cache_copy(at, 0, long_text, long_len));
     munmap(long_text, long_len);
 
     cache_answer kept = look("k", 40);
@@ -251,7 +252,6 @@ static void refused(void) {
     WANT(kept.kind == CACHE_STR && stand(kept.place, "kept"));
     WANT(!cache_copy(at, shape.words, out, 1));
     WANT(!cache_copy(at, UINT32_MAX, out, 8));
-    WANT(!cache_copy(at, shape.words - 1, out, SIZE_MAX));
     WANT(cache_copy(at, shape.words - 1, out, 8));
     WANT(cache_copy(at, kept.place, out, 0));
 }

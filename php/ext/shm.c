@@ -16,23 +16,12 @@ apcu_shared *apcu_shm;
 static enum { FROM_MALLOC, FROM_MAPPING, FROM_NOWHERE } source;
 static bool was_remade;
 
-/* What the library asks for memory, and whether there was some. Where there is none, `at` is not
- * null, but nobody looks there. */
-struct tried {
-	bool ok;
-	void *at;
-};
-
-struct tried rattle_alloc(size_t size, size_t align);
-struct tried rattle_realloc(void *at, size_t kept, size_t size, size_t align);
-void rattle_dealloc(void *at);
-int rattle_errno(void);
-
-static struct tried given(void *at)
+/* What the library gets when it asks for memory. */
+static cache_tried given(void *at)
 {
 	static char nothing;
 
-	return at ? (struct tried) {true, at} : (struct tried) {false, &nothing};
+	return at ? (cache_tried) {true, at} : (cache_tried) {false, &nothing};
 }
 
 static bool is_mapped(const void *at)
@@ -53,7 +42,7 @@ static void *take(size_t size)
 	return (char *) apcu_shm + from;
 }
 
-struct tried rattle_alloc(size_t size, size_t align)
+cache_tried rattle_alloc(size_t size, size_t align)
 {
 	switch (source) {
 		case FROM_MAPPING:
@@ -65,13 +54,13 @@ struct tried rattle_alloc(size_t size, size_t align)
 	}
 }
 
-struct tried rattle_realloc(void *at, size_t kept, size_t size, size_t align)
+cache_tried rattle_realloc(void *at, size_t kept, size_t size, size_t align)
 {
 	if (!is_mapped(at)) {
 		return given(realloc(at, size ? size : 1));
 	}
 
-	struct tried more = rattle_alloc(size, align);
+	cache_tried more = rattle_alloc(size, align);
 	if (more.ok) {
 		memcpy(more.at, at, kept);
 	}

@@ -1,6 +1,7 @@
 //! One event.
 
-ghost use Rattle.std.specs.Prelude.{◌≡◌, ℕ, pos, ◌<◌, ◌^◌, List, length, None};
+ghost use Rattle.std.specs.Prelude.{◌≡◌, ℕ, ◌<◌, ◌^◌, List, [], ◌∷◌, length, None};
+ghost use Rattle.php_graph.specs.declared.kind.Kind.TheVariants.{Str};
 ghost use Rattle.std.specs.Int.{w64, cast_signed};
 ghost use Rattle.apcu_model.specs.declared.request.Request.TheVariants as requests;
 ghost use Rattle.apcu_model.specs.declared.request.Reply.TheVariants as replies;
@@ -10,11 +11,12 @@ ghost use Rattle.apcu_model.specs.Cache.{Row};
 ghost use Rattle.cache_core.specs.Looking.{scalar_of, IsRowOf};
 ghost use Rattle.cache_core.specs.CoreCache.{cache_of};
 ghost use Rattle.cache_c.specs.Standing.{IsStanding, IsKept, words_of};
-ghost use Rattle.cache_c.specs.Asked.{asked_for, stored, value_of};
+ghost use Rattle.cache_c.specs.Asked.{asked_for, stored, value_of, scalar_value};
 ghost use Rattle.cache_c.specs.Asked.{IsAnswered, IsDone, IsToldBy, IsValueBy, IsScalarBy};
+ghost use Rattle.cache_c.specs.Asked.{plain_answer};
 
 use crate::cache::Cache;
-use crate::values::{BOOL, INT, NULL, value_from};
+use crate::values::{BOOL, INT, NULL, STR, scalar_from};
 use apcu_model::StoreAnswer;
 use cache_core::{Look, Scalar};
 use counter_entry::{IncAnswer, cas, inc};
@@ -81,14 +83,14 @@ pub const NO: u32 = 6;
 pub const YES: u32 = 7;
 /// Nothing was counted.
 pub const NO_NUMBER: u32 = 8;
-/// Nothing is asked: the request or the value is of no kind, or a slice has 4 GB or more.
+/// Nothing is asked: the request or the value is of no kind.
 pub const BAD: u32 = 9;
-/// Memory is missing for the value.
-pub const NO_MEMORY: u32 = 10;
+/// Nothing is asked: the key or the string has 4 GB or more.
+pub const TOO_LONG: u32 = 10;
 
 // An answer without numbers.
 pub(crate) fn plain(kind: u32) -> Answer
-    ensures { result ≡ record { kind = kind; place = 0; number = pos 0; len = 0 } }
+    ensures { result ≡ plain_answer kind }
 {
     Answer {
         kind,
@@ -98,11 +100,11 @@ pub(crate) fn plain(kind: u32) -> Answer
     }
 }
 
-// Whether it was done.
-fn flag(done: bool) -> Answer
-    ensures { (words : List ℕ) → IsToldBy words (replies.Flag done) result }
+// The kind of the answer whether it was done.
+fn flag(done: bool) -> u32
+    ensures { (words : List ℕ) → IsToldBy words (replies.Flag done) (plain_answer result) }
 {
-    plain(if done { YES } else { NO })
+    if done { YES } else { NO }
 }
 
 // What a scalar's value is.
@@ -141,13 +143,14 @@ fn counted(answer: IncAnswer) -> Answer
     }
 }
 
-// Whether a value was stored.
-fn stored(answer: StoreAnswer) -> Answer
-    ensures { (words : List ℕ) → IsToldBy words (replies.Flag (is_stored answer)) result }
+// That of the answer whether a value was stored.
+fn stored(answer: StoreAnswer) -> u32
+    ensures { (words : List ℕ) → IsToldBy words (replies.Flag (is_stored answer))
+        (plain_answer result) }
 {
     match answer {
-        StoreAnswer::Stored => plain(YES),
-        StoreAnswer::TooLarge | StoreAnswer::Exists | StoreAnswer::NoRoom => plain(NO),
+        StoreAnswer::Stored => YES,
+        StoreAnswer::TooLarge | StoreAnswer::Exists | StoreAnswer::NoRoom => NO,
     }
 }
 
@@ -160,25 +163,27 @@ impl Cache {
             (asked_for ask.now key.now bytes.now) result }
     {
         if key.len() >= 4_294_967_296 || bytes.len() >= 4_294_967_296 {
-            return plain(BAD);
+            return plain(TOO_LONG);
         }
         let t = ask.t;
         let ttl = ask.ttl;
         let number = ask.number;
-        match ask.kind {
+        // An answer without numbers is made once, behind all kinds of requests.
+        let kind = match ask.kind {
+            LOOK => return self.look(key, t),
+            COUNT => return self.count(key, number, ttl, t),
             STORE => self.store(key, ask.value, number, bytes, ttl, false, t),
             ADD => self.store(key, ask.value, number, bytes, ttl, true, t),
-            LOOK => self.look(key, t),
             EXISTS => self.exists(key, t),
             DELETE => self.delete(key, t),
-            COUNT => self.count(key, number, ttl, t),
             SWAP => self.swap(key, number, ask.set, t),
             CLEAR => self.clear(t),
-            _ => plain(BAD),
-        }
+            _ => BAD,
+        };
+        plain(kind)
     }
 
-    // Stores a value under the key.
+    // Stores a value of this kind under the key.
     fn store(
         &mut self,
         key: &[u8],
@@ -188,19 +193,52 @@ impl Cache {
         ttl: u32,
         exclusive: bool,
         t: u64,
-    ) -> Answer
+    ) -> u32
         requires short { length key.now < 2 ^ 32 }
         requires value { length bytes.now < 2 ^ 32 }
         requires stand { IsStanding self.old }
         ensures stand { IsStanding self.new }
         ensures answered { IsAnswered self.old self.new t
-            (stored key.now ttl exclusive (value_of kind number bytes.now)) result }
+            (stored key.now ttl exclusive (value_of kind number bytes.now)) (plain_answer result) }
     {
-        let Ok(value) = value_from(self.alloc, kind, number, bytes) else {
-            return plain(NO_MEMORY);
-        };
-        let Some(value) = value else {
-            return plain(BAD);
+        if kind == STR {
+            return self.store_text(key, bytes, ttl, exclusive, t);
+        }
+        self.store_scalar(key, kind, number, ttl, exclusive, t)
+    }
+
+    // The same of a string: its bytes go from the slice into the row.
+    fn store_text(&mut self, key: &[u8], bytes: &[u8], ttl: u32, exclusive: bool, t: u64) -> u32
+        requires short { length key.now < 2 ^ 32 }
+        requires value { length bytes.now < 2 ^ 32 }
+        requires stand { IsStanding self.old }
+        ensures done { IsDone self.old self.new t
+            (requests.Store key.now (Str bytes.now ∷ []) ttl exclusive) (plain_answer result) }
+    {
+        stored(
+            self.core
+                .store_bytes(&mut self.words, key, bytes, ttl, exclusive, t),
+        )
+    }
+
+    // The same of a scalar, if the kind is one's.
+    fn store_scalar(
+        &mut self,
+        key: &[u8],
+        kind: u32,
+        number: u64,
+        ttl: u32,
+        exclusive: bool,
+        t: u64,
+    ) -> u32
+        requires short { length key.now < 2 ^ 32 }
+        requires stand { IsStanding self.old }
+        ensures stand { IsStanding self.new }
+        ensures answered { IsAnswered self.old self.new t
+            (stored key.now ttl exclusive (scalar_value kind number)) (plain_answer result) }
+    {
+        let Some(value) = scalar_from(self.alloc, kind, number) else {
+            return BAD;
         };
         let answer = self
             .core
@@ -222,19 +260,19 @@ impl Cache {
     }
 
     // Whether a look-up finds the key.
-    fn exists(&mut self, key: &[u8], t: u64) -> Answer
+    fn exists(&mut self, key: &[u8], t: u64) -> u32
         requires short { length key.now < 2 ^ 32 }
         requires stand { IsStanding self.old }
-        ensures done { IsDone self.old self.new t (requests.Exists key.now) result }
+        ensures done { IsDone self.old self.new t (requests.Exists key.now) (plain_answer result) }
     {
         flag(self.core.exists(&mut self.words, key, t))
     }
 
     // Deletes the row of the key.
-    fn delete(&mut self, key: &[u8], t: u64) -> Answer
+    fn delete(&mut self, key: &[u8], t: u64) -> u32
         requires short { length key.now < 2 ^ 32 }
         requires stand { IsStanding self.old }
-        ensures done { IsDone self.old self.new t (requests.Delete key.now) result }
+        ensures done { IsDone self.old self.new t (requests.Delete key.now) (plain_answer result) }
     {
         flag(self.core.delete(&mut self.words, key, t))
     }
@@ -260,11 +298,12 @@ impl Cache {
     }
 
     // Sets the integer where it is the expected one.
-    fn swap(&mut self, key: &[u8], expect: u64, set: u64, t: u64) -> Answer
+    fn swap(&mut self, key: &[u8], expect: u64, set: u64, t: u64) -> u32
         requires short { length key.now < 2 ^ 32 }
         requires stand { IsStanding self.old }
         ensures done { IsDone self.old self.new t
-            (requests.Cas key.now (cast_signed w64 expect) (cast_signed w64 set)) result }
+            (requests.Cas key.now (cast_signed w64 expect) (cast_signed w64 set))
+            (plain_answer result) }
     {
         let expect = expect.cast_signed();
         let set = set.cast_signed();
@@ -272,12 +311,12 @@ impl Cache {
     }
 
     // Drops all rows.
-    fn clear(&mut self, t: u64) -> Answer
+    fn clear(&mut self, t: u64) -> u32
         requires stand { IsStanding self.old }
-        ensures done { IsDone self.old self.new t requests.Clear result }
+        ensures done { IsDone self.old self.new t requests.Clear (plain_answer result) }
     {
         self.core.clear(&mut self.words, t);
-        plain(YES)
+        YES
     }
 
     // What is told of the row of the key, which stands at this place, if it holds no

@@ -7,8 +7,8 @@ ghost use Rattle.cache_c.specs.Made.{conf_of, IsEmpty, IsRefusal};
 use crate::cache::Cache;
 use apcu_model::Conf;
 use cache_core::Core;
+use late_words::LateWords;
 use max_tree::MaxRow;
-use seg_words::VecWords;
 use std::alloc::{AllocError, Global};
 
 /// The shape of a cache, as `Conf` of `apcu_model` has it.
@@ -37,7 +37,7 @@ fn empty(alloc: Global, conf: &Conf) -> Result<Cache, AllocError>
     requires usable { IsUsable conf.now }
     ensures { IfOk result (λ cache. IsEmpty conf.now cache) }
 {
-    let mut words = VecWords::new(alloc, conf.words)?;
+    let mut words = LateWords::new(alloc, conf.words)?;
     let gaps = MaxRow::new(alloc, (conf.words as usize).div_ceil(4))?;
     let core = Core::format(&mut words, conf, gaps);
     Ok(Cache { core, words, alloc })

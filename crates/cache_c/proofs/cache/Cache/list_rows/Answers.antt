@@ -28,7 +28,7 @@ returns-then-at-eq0-clause-rows c =
     let all = rows_of (cache_of old.core) c.args.slot in
     let rows = drop c.args.skip all in
     let laws = c.standing_laws.ensures in
-    let none = row_end laws.walked laws.sound old.core.slots old.words.items.items nothing_aside s c.requires.stand.stand c.args.slot (c.args.skip + i) c.loop-i.at all (lists_are s (cache_of old.core) c.args.slot c.requires.stand.whole)
+    let none = row_end laws.walked laws.sound old.core.slots (words_of old) nothing_aside s c.requires.stand.stand c.args.slot (c.args.skip + i) c.loop-i.at all (lists_are s (cache_of old.core) c.args.slot c.requires.stand.whole)
     (sym c.if-at-eq0.true ∙ inv.at ∙ ap first_place (drop_more i c.args.skip all)) in
     let over : length rows ≤ i = none_left rows i (drop_more i c.args.skip all ∙ none) in
     record {
@@ -48,7 +48,7 @@ row-requires-clause-there c =
     let i = c.loop-i.i in
     let all = rows_of (cache_of old.core) c.args.slot in
     let laws = c.standing_laws.ensures in
-    let here = row_here laws.walked laws.sound old.core.slots old.words.items.items nothing_aside s c.requires.stand.stand c.args.slot (c.args.skip + i) c.loop-i.at all (lists_are s (cache_of old.core) c.args.slot c.requires.stand.whole)
+    let here = row_here laws.walked laws.sound old.core.slots (words_of old) nothing_aside s c.requires.stand.stand c.args.slot (c.args.skip + i) c.loop-i.at all (lists_are s (cache_of old.core) c.args.slot c.requires.stand.whole)
     (inv.at ∙ ap first_place (drop_more i c.args.skip all)) c.if-at-eq0.false in
     subst (λ (core : Core). has_place c.loop-i.at (listed (entries core.slots)) ≡ true) (sym inv.same.core) here.in_listed
 
@@ -63,7 +63,7 @@ after-at-requires-clause-there c =
     let i = c.loop-i.i in
     let all = rows_of (cache_of old.core) c.args.slot in
     let laws = c.standing_laws.ensures in
-    let here = row_here laws.walked laws.sound old.core.slots old.words.items.items nothing_aside s c.requires.stand.stand c.args.slot (c.args.skip + i) c.loop-i.at all (lists_are s (cache_of old.core) c.args.slot c.requires.stand.whole)
+    let here = row_here laws.walked laws.sound old.core.slots (words_of old) nothing_aside s c.requires.stand.stand c.args.slot (c.args.skip + i) c.loop-i.at all (lists_are s (cache_of old.core) c.args.slot c.requires.stand.whole)
     (inv.at ∙ ap first_place (drop_more i c.args.skip all)) c.if-at-eq0.false in
     subst (λ (core : Core). has_place c.loop-i.at (listed (entries core.slots)) ≡ true) (sym (c.row.ensures.same.core ∙ inv.same.core)) here.in_listed
 
@@ -80,7 +80,7 @@ loop-i-preserved c =
     let rows = drop c.args.skip all in
     let are = lists_are s (cache_of old.core) c.args.slot c.requires.stand.whole in
     let laws = c.standing_laws.ensures in
-    let here = row_here laws.walked laws.sound old.core.slots old.words.items.items nothing_aside s c.requires.stand.stand c.args.slot (c.args.skip + i) at all are
+    let here = row_here laws.walked laws.sound old.core.slots (words_of old) nothing_aside s c.requires.stand.stand c.args.slot (c.args.skip + i) at all are
     (inv.at ∙ ap first_place (drop_more i c.args.skip all)) c.if-at-eq0.false in
     let row = here.left.row in
     let rest = drop (c.args.skip + i + 1) all in
@@ -92,7 +92,7 @@ loop-i-preserved c =
     let next = c.after-at.result in
     let chain = subst (λ (x : Core). FollowsInChain (entries x.slots) at next) core c.after-at.ensures.row in
     let removed = subst (λ (x : Core). FollowsIn (entries x.slots).removed at next) core c.after-at.ensures.removed in
-    let follows = row_next laws.walked laws.sound old.core.slots old.words.items.items nothing_aside s c.requires.stand.stand c.args.slot (c.args.skip + i) at all are next chain removed here in
+    let follows = row_next laws.walked laws.sound old.core.slots (words_of old) nothing_aside s c.requires.stand.stand c.args.slot (c.args.skip + i) at all are next chain removed here in
     let one : c.args.skip + i + 1 ≡ c.args.skip + (i + 1) = omega arith in
     record {
       at = follows ∙ ap (λ k. first_place (drop k all)) one ∙ sym (ap first_place (drop_more (i + 1) c.args.skip all));
