@@ -1,7 +1,7 @@
 <?php
 
 // Four processes call the cache, and so many times one of them is killed at any moment and another one takes its
-// place. After each kill a process that is never killed has to be answered, within ten seconds; no value may be
+// place. After each kill a process that is never killed has to be answered, within twenty seconds; no value may be
 // another's or half written; at the end all have to come to an end by themselves.
 // php kills.php KILLS; its status is 0, 1 where a value was wrong and 2 where a process stood still.
 
@@ -9,7 +9,7 @@ declare(strict_types=1);
 
 require __DIR__ . '/work.php';
 
-const PATIENCE = 10;
+const PATIENCE = 20;
 
 /** What a process has to do, over its end of a pair of streams. */
 function start(callable $what, array &$others): array

@@ -9,7 +9,7 @@
 
 declare(strict_types=1);
 
-const PATIENCE = 5;
+const PATIENCE = 20;
 /** Instructions of a call that is stepped through. */
 const MOST = 20000;
 
