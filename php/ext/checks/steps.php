@@ -69,7 +69,14 @@ function stopped(callable $call): int
 
 function told_by(string $steps, int $id, int $count): int
 {
-    return (int) trim((string) shell_exec(escapeshellarg($steps) . " $id $count"));
+    exec(escapeshellarg($steps) . " $id $count", $told, $status);
+    posix_kill($id, SIGKILL);
+    pcntl_waitpid($id, $end);
+    if ($status !== 0) {
+        echo "the process was not stepped through\n";
+        exit(1);
+    }
+    return (int) ($told[0] ?? 0);
 }
 
 /** What a process finds: 0 as before, 1 as after, 2 empty, 3 something else, 4 it can't be used; 5 no answer came. */

@@ -12,10 +12,13 @@ cc -O2 -o "$scratch/steps" "$here/steps.c"
 
 # What is tried over an extension: try SO CALL POINTS
 try() {
-    # timeout's own group holds all processes, and all of them are gone at its end.
+    # timeout's own group holds all processes, and all of them are gone at its end, or at this script's.
     PHP_INI_SCAN_DIR=$(settings_of "$1") timeout -s KILL 3600 php -d apc.enable_cli=1 -d apc.use_request_time=0 \
-        -d apc.shm_size=1M -d apc.entries_hint=512 -d error_log=/dev/null "$here/steps.php" "$scratch/steps" "$2" "$3" 2>&1
+        -d apc.shm_size=1M -d apc.entries_hint=512 -d error_log=/dev/null "$here/steps.php" "$scratch/steps" "$2" "$3" 2>&1 &
+    started=("-$!")
+    wait "$!"
 }
+trap 'exit 1' TERM INT
 
 status=0
 for call in 'store over' 'store new' 'store two' 'store with no room' add 'add, there' fetch exists delete 'delete found' inc \
