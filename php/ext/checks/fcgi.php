@@ -3,11 +3,11 @@
 // A small client of FastCGI over a local socket: asks a script, so many times in so many processes.
 // php fcgi.php SOCKET SCRIPT COUNT PROCESSES [QUERY]
 // prints how many answers were good (their text begins with ok), lost (the worker was killed), and late (none within
-// ten seconds); other answers are printed. Its status is 1 where there is such one, and 2 where one was late.
+// twenty seconds); other answers are printed. Its status is 1 where there is such one, and 2 where one was late.
 
 declare(strict_types=1);
 
-const PATIENCE = 10;
+const PATIENCE = 20;
 
 function record(int $type, string $content): string
 {

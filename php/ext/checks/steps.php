@@ -4,16 +4,20 @@
 // cache as it was before the call, as it is after it, or empty; and has to be able to use it. Each instruction from the
 // call's beginning to its end has its turn, or one in so many.
 // php steps.php STEPS CALL POINTS
-// STEPS is the built steps.c, and POINTS at how many places of the call a process dies; 0: at each.
+// STEPS is the built steps.c, and POINTS at how many places of the call a process dies; 0: at each, or
+// a thousand times where the call is long.
 
 declare(strict_types=1);
 
-const PATIENCE = 5;
+const PATIENCE = 20;
+/** Instructions of a call that is stepped through. */
+const MOST = 20000;
 
-/** The rows before each call. */
-function before(): array
+/** The rows before each call; with a filler of so many bytes. */
+function before(int $filler = 0): array
 {
-    return ['text' => str_repeat('a', 300), 'list' => [1, 'two' => 2.5, 'x'], 'number' => 5, 'other' => 'stays', 'null' => null];
+    return ['text' => str_repeat('a', 300), 'list' => [1, 'two' => 2.5, 'x'], 'number' => 5, 'other' => 'stays', 'null' => null]
+        + ($filler > 0 ? ['filler' => str_repeat('f', $filler)] : []);
 }
 
 /** What each call does, and the states between which it may leave the cache: before it, after each of its events. */
@@ -26,7 +30,7 @@ function calls(): array
         'store over' => [fn () => apcu_store('text', $new), [['text' => $new] + $before]],
         'store new' => [fn () => apcu_store('more', [$new, 1]), [['more' => [$new, 1]] + $before]],
         'store two' => [fn () => apcu_store(['text' => 1, 'more' => 2]), [['text' => 1] + $before, ['text' => 1, 'more' => 2] + $before]],
-        'store with no room' => [fn () => apcu_store('big', str_repeat('c', 900000)), [['big' => str_repeat('c', 900000)]]],
+        'store with no room' => [fn () => apcu_store('big', str_repeat('c', 6000)), [['big' => str_repeat('c', 6000)]]],
         'add' => [fn () => apcu_add('more', 1), [['more' => 1] + $before]],
         'add, there' => [fn () => apcu_add('text', 1), []],
         'fetch' => [fn () => apcu_fetch(['text', 'list', 'none']), []],
@@ -43,10 +47,10 @@ function calls(): array
     ];
 }
 
-function fill(): void
+function fill(int $filler): void
 {
     apcu_clear_cache();
-    apcu_store(before());
+    apcu_store(before($filler));
 }
 
 /** A child that has stopped itself before its call, and will do it behind it. */
@@ -65,11 +69,18 @@ function stopped(callable $call): int
 
 function told_by(string $steps, int $id, int $count): int
 {
-    return (int) trim((string) shell_exec(escapeshellarg($steps) . " $id $count"));
+    exec(escapeshellarg($steps) . " $id $count", $told, $status);
+    posix_kill($id, SIGKILL);
+    pcntl_waitpid($id, $end);
+    if ($status !== 0) {
+        echo "the process was not stepped through\n";
+        exit(1);
+    }
+    return (int) ($told[0] ?? 0);
 }
 
 /** What a process finds: 0 as before, 1 as after, 2 empty, 3 something else, 4 it can't be used; 5 no answer came. */
-function found(array $after): int
+function found(array $after, int $filler): int
 {
     $id = pcntl_fork();
     if ($id === 0) {
@@ -79,7 +90,7 @@ function found(array $after): int
         }
         ksort($rows);
         $is = 3;
-        foreach ([before(), ...$after, []] as $i => $wanted) {
+        foreach ([before($filler), ...$after, []] as $i => $wanted) {
             ksort($wanted);
             if ($rows === $wanted) {
                 $is = $i === 0 ? 0 : ($wanted === [] ? 2 : 1);
@@ -87,6 +98,7 @@ function found(array $after): int
             }
         }
         // It goes on: rows, counts and gaps hold together.
+        apcu_delete('filler');
         $used = true;
         for ($i = 0; $i < 20; $i++) {
             $used = $used && apcu_store("use $i", str_repeat("$i", 500)) && apcu_fetch("use $i") === str_repeat("$i", 500);
@@ -111,30 +123,50 @@ function found(array $after): int
 
 [, $steps, $name, $points] = $argv;
 [$call, $after] = calls()[$name] ?? exit("no call $name\n");
-fill();
+fill(0);
+// Less is free than that call needs.
+$filler = $name === 'store with no room' ? (int) apcu_sma_info(true)['avail_mem'] - 5000 : 0;
+fill($filler);
 $call();
-fill();
-$all = told_by($steps, stopped($call), 100000000);
-if ($all < 100) {
+fill($filler);
+// A long call is not stepped through, but killed at moments of its time.
+$all = told_by($steps, stopped($call), MOST);
+$took = 0;
+if ($all === 0) {
+    fill($filler);
+    $begun = hrtime(true);
+    $call();
+    $took = intdiv(hrtime(true) - $begun, 1000);
+} elseif ($all < 100) {
     echo "$name: the call was not stepped through\n";
     exit(1);
 }
-$points = (int) $points === 0 ? $all : min($all, (int) $points);
+$points = (int) $points > 0 ? (int) $points : ($all ?: 1000);
+$unit = $all > 0 ? 'instructions' : 'microseconds';
 $ends = array_fill(0, 6, 0);
 for ($i = 0; $i < $points; $i++) {
-    // One place in each part of the call, at random.
-    [$from, $to] = [intdiv($all * $i, $points), intdiv($all * ($i + 1), $points)];
-    $at = mt_rand($from, max($from, $to - 1));
-    fill();
-    told_by($steps, stopped($call), $at);
-    $end = found($after);
+    fill($filler);
+    if ($all > 0) {
+        // One place in each part of the call, at random.
+        $from = intdiv($all * $i, $points);
+        $at = mt_rand($from, max($from, intdiv($all * ($i + 1), $points) - 1));
+        told_by($steps, stopped($call), $at);
+    } else {
+        $at = mt_rand(0, $took);
+        $id = stopped($call);
+        posix_kill($id, SIGCONT);
+        usleep($at);
+        posix_kill($id, SIGKILL);
+        pcntl_waitpid($id, $status);
+    }
+    $end = found($after, $filler);
     $ends[$end]++;
     if ($end > 2) {
-        printf("%s: killed after %d of %d instructions: %s\n", $name, $at, $all, [3 => 'another state', 4 => 'it is of no use', 5 => 'nobody was answered'][$end]);
+        printf("%s: killed after %d of %d %s: %s\n", $name, $at, $all ?: $took, $unit, [3 => 'another state', 4 => 'it is of no use', 5 => 'nobody was answered'][$end]);
     }
     if ($end === 5) {
         exit(2);
     }
 }
-printf("%-20s %7d instructions, died at %5d: as before %5d, after %5d, empty %5d\n", $name, $all, $points, ...array_slice($ends, 0, 3));
+printf("%-20s %7d %-12s died %5d times: as before %5d, after %5d, empty %5d\n", $name, $all ?: $took, "$unit,", $points, ...array_slice($ends, 0, 3));
 exit($ends[3] + $ends[4] > 0 ? 1 : 0);

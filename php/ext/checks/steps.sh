@@ -1,7 +1,7 @@
 #!/usr/bin/env bash
 # A process that dies at an instruction of a call, whichever it is, leaves the cache as it was before, as it is after, or
 # empty, and the next process can use it (steps.php). Each kind of call is stepped through by ptrace (steps.c), and
-# killed at so many places, one in each part. The same over PHP's APCu for one call, which is only told.
+# killed at so many places, one in each part; a long one at moments of its time. The same over PHP's APCu for one call, which is only told.
 # Usage: php/ext/checks/steps.sh [SO [POINTS]]: 150 places a call without POINTS, and 0 is each instruction. It needs cc
 # and php with pcntl and posix.
 set -eu
@@ -12,10 +12,13 @@ cc -O2 -o "$scratch/steps" "$here/steps.c"
 
 # What is tried over an extension: try SO CALL POINTS
 try() {
-    # timeout's own group holds all processes, and all of them are gone at its end.
+    # timeout's own group holds all processes, and all of them are gone at its end, or at this script's.
     PHP_INI_SCAN_DIR=$(settings_of "$1") timeout -s KILL 3600 php -d apc.enable_cli=1 -d apc.use_request_time=0 \
-        -d apc.shm_size=1M -d apc.entries_hint=512 -d error_log=/dev/null "$here/steps.php" "$scratch/steps" "$2" "$3" 2>&1
+        -d apc.shm_size=1M -d apc.entries_hint=512 -d error_log=/dev/null "$here/steps.php" "$scratch/steps" "$2" "$3" 2>&1 &
+    started=("-$!")
+    wait "$!"
 }
+trap 'exit 1' TERM INT
 
 status=0
 for call in 'store over' 'store new' 'store two' 'store with no room' add 'add, there' fetch exists delete 'delete found' inc \
