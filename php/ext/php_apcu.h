@@ -35,7 +35,7 @@ ZEND_BEGIN_MODULE_GLOBALS(apcu)
 	time_t request_time;  /* 0: not asked for yet */
 	uint32_t entry_level; /* how deep calls of apcu_entry lie in one another */
 	pid_t entry_owner;    /* the process that took the lock round them */
-	uint32_t lengths[64]; /* bytes of a long string that was fetched, by a hash of its key */
+	uint32_t lengths[64]; /* bytes of a long string that was fetched, by its key */
 ZEND_END_MODULE_GLOBALS(apcu)
 
 ZEND_EXTERN_MODULE_GLOBALS(apcu)
