@@ -16,8 +16,8 @@ use Rattle.run_verify.proofs.EventCounts.{timed_all}
 use Rattle.run_verify.proofs.JudgedLines.{judged_none, judged_more, judged_stop, judged_short, judged_whole, none_more, line_mark, line_before, written_back}
 use Rattle.run_verify.proofs.verifying.judge.Goals as goal
 
-pub new-replay-requires-clause-usable : goal.new-replay-requires-clause-usable
-new-replay-requires-clause-usable g c = usable_of c.requires.good
+pub new-requires-clause-usable : goal.new-requires-clause-usable
+new-requires-clause-usable g c = usable_of c.requires.good
 
 pub lines-init : goal.lines-init
 lines-init g c =
