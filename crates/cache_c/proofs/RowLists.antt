@@ -1,20 +1,20 @@
 -- Walks along the lists of rows, and rows that are told one after the other.
-use Rattle.std.proofs.Common.{◌≡◌, ◌≢◌, ◌∙◌, ℕ, zero, suc, ◌+◌, ◌-◌, ◌<◌, ◌≤◌, Bool, true, false, List, [], ◌∷◌, ◌++◌, length, take, drop, min, refl, sym, ap, subst, arith}
+use Rattle.std.proofs.Common.{◌≡◌, ◌≢◌, ◌∙◌, ℕ, zero, suc, ◌+◌, ◌-◌, ◌<◌, ◌≤◌, Bool, true, false, List, [], ◌∷◌, ◌++◌, length, take, drop, refl, sym, ap, subst, arith}
 use Rattle.std.specs.Prelude.{if◌then◌else◌, nat_lt, ◌==◌}
 use Rattle.std.proofs.lemmas.Bool.{false≢true}
 use Rattle.std.proofs.lemmas.Bool.Decides.{nat_tests}
-use Rattle.std.proofs.lemmas.List.{take_more_set, drop-set-lt, length-set, length-drop, length-take-le}
+use Rattle.std.proofs.lemmas.List.{take_more_set}
 use Rattle.std.proofs.Math.Seq.{drop-nil}
 use Rattle.std.specs.List.{slice_set}
 use Rattle.seg_words.specs.Windows.{Aside}
 use Rattle.apcu_model.specs.Cache.{Row, Cache}
 use Rattle.entry_slots.specs.declared.slots.EntrySlots.{EntrySlots}
-use Rattle.entry_slots.specs.Lists.{has_place, first_place, place_after, FollowsIn}
+use Rattle.entry_slots.specs.Lists.{first_place, FollowsIn}
 use Rattle.entry_slots.specs.Entries.{Entries, entries_of, chain_of, FollowsInChain}
 use Rattle.entry_slots.specs.Standing.{Stands}
 use Rattle.entry_slots.specs.RowWalks.{AllAreSound, AllAreWalked, IsHere, chain_here, chain_end, removed_here, removed_end}
 use Rattle.cache_c.specs.declared.rows.ToldRow.{ToldRow}
-use Rattle.cache_c.specs.Told.{IsRowBy, AreRowsBy, AreListedBy, rows_of}
+use Rattle.cache_c.specs.Told.{IsRowBy, AreRowsBy, rows_of}
 
 -- the rows of a list, as entries have them
 abbrev pub list_of : Entries → ℕ → List Row

@@ -1,16 +1,14 @@
 -- The numbers of a row tell it.
-use Rattle.std.proofs.Common.{◌≡◌, ◌≢◌, ◌∙◌, ℕ, ◌+◌, ◌<◌, ◌^◌, Bool, true, List, [], ◌∷◌, length, Option, Some, None, refl, sym, ap, subst, arith}
-use Rattle.std.specs.Prelude.{find, not, ◌&&◌}
+use Rattle.std.proofs.Common.{◌≡◌, ◌≢◌, ℕ, ◌+◌, ◌<◌, Bool, List, [], ◌∷◌, Some, refl, sym, subst, arith}
 use Rattle.php_graph.specs.declared.kind.Kind.{Kind}
 use Rattle.php_graph.specs.declared.kind.Kind.TheVariants as kinds
-use Rattle.seg_words.specs.Windows.{Aside, nothing_aside}
+use Rattle.seg_words.specs.Windows.{Aside}
 use Rattle.value_image.specs.Laws.{BytesArePacked}
 use Rattle.value_image.specs.Texts.{IsToldImage}
 use Rattle.apcu_model.specs.Cache.{Row}
-use Rattle.apcu_model.specs.Infos.{info_of_row}
 use Rattle.entry_slots.specs.declared.head.Head.{Head}
 use Rattle.entry_slots.specs.declared.slots.EntrySlots.{EntrySlots}
-use Rattle.entry_slots.specs.Entries.{Entries, IsListed}
+use Rattle.entry_slots.specs.Entries.{IsListed}
 use Rattle.entry_slots.specs.Standing.{Stands, entries}
 use Rattle.entry_slots.specs.Reading.{IsHeadOf}
 use Rattle.entry_slots.proofs.KeyCopies.{key_at}
@@ -20,9 +18,7 @@ use Rattle.cache_core.specs.declared.scalar.Scalar.TheVariants as scalars
 use Rattle.cache_core.specs.Looking.{scalar_of, HasImage}
 use Rattle.php_graph.specs.Size.{image_length}
 use Rattle.value_image.specs.Image.{IsImageOf}
-use Rattle.seg_words.specs.Blocks.{IsTold}
 use Rattle.cache_c.specs.declared.asking.Answer.{Answer}
-use Rattle.cache_c.specs.declared.asking.TheConstants as asking
 use Rattle.cache_c.specs.declared.rows.ToldRow.{ToldRow}
 use Rattle.cache_c.specs.Asked.{IsValueBy, IsScalarBy, StandAt}
 use Rattle.cache_c.specs.Told.{IsRowBy}

@@ -17,7 +17,7 @@ use Rattle.cache_core.specs.CoreCache.{cache_of}
 use Rattle.cache_c.specs.declared.cache.Cache.{Cache}
 use Rattle.cache_c.specs.declared.counts.Gap.{Gap}
 use Rattle.cache_c.specs.Memory.{stands_at, lies, gaps_at}
-use Rattle.cache_c.specs.Standing.{IsStanding, IsKept, words_of}
+use Rattle.cache_c.specs.Standing.{IsStanding, IsKept}
 use Rattle.apcu_model.specs.Infos.{gaps_of}
 use Rattle.cache_c.specs.Told.{AreGapsBy, gaps_from}
 use Rattle.cache_c.proofs.Standing.{stands_kept}

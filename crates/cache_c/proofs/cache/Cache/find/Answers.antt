@@ -1,10 +1,8 @@
-use Rattle.std.proofs.Common.{◌≡◌, ◌∙◌, ◌<◌, ◌^◌, List, length, true, false, Some, None, Option, sym, ap, subst, arith}
+use Rattle.std.proofs.Common.{◌≡◌, ◌∙◌, true, false, Some, None, Option, sym, ap, subst, arith}
 use Rattle.std.proofs.lemmas.Bool.Decides.{nat_tests}
-use Rattle.std.specs.Prelude.{nat_lt, if◌then◌else◌, option_map}
+use Rattle.std.specs.Prelude.{if◌then◌else◌}
 use Rattle.apcu_model.specs.Cache.{Row}
 use Rattle.apcu_model.specs.Expiry.{live_row}
-use Rattle.apcu_model.specs.SlotOrder.{slot_of}
-use Rattle.entry_slots.specs.Entries.{IsListed, listed}
 use Rattle.entry_slots.specs.Standing.{entries}
 use Rattle.cache_core.specs.CoreCache.{cache_of}
 use Rattle.cache_info.proofs.InfoAnswers.{live_at, live_listed}

@@ -1,4 +1,4 @@
-use Rattle.std.proofs.Common.{◌≡◌, ◌∙◌, ℕ, ◌+◌, ◌-◌, ◌<◌, ◌≤◌, List, [], ◌∷◌, ◌++◌, length, min, map, take, drop, Some, None, refl, sym, ap, subst, arith}
+use Rattle.std.proofs.Common.{◌≡◌, ◌∙◌, ℕ, ◌+◌, ◌-◌, ◌<◌, List, ◌++◌, length, map, take, drop, refl, sym, ap, subst, arith}
 use Rattle.std.specs.Prelude.{nat_le, find, option_map}
 use Rattle.std.proofs.lemmas.List.{drop-set-lt, length-set, length-take-le}
 use Rattle.seg_words.specs.declared.gaps.Extent.{Extent}
@@ -9,7 +9,6 @@ use Rattle.entry_slots.specs.Entries.{Entries}
 use Rattle.cache_core.specs.declared.cache.Core.{Core}
 use Rattle.cache_core.specs.CoreCache.{cache_of}
 use Rattle.cache_info.proofs.GapRuns.{left_from, pair_of, gap_found, gap_none, gaps_behind}
-use Rattle.cache_c.specs.declared.counts.Gap.{Gap}
 use Rattle.cache_c.specs.Told.{gap_told, gaps_from, AreGapsBy}
 use Rattle.cache_c.proofs.Standing.{stands_kept}
 use Rattle.cache_c.proofs.RowLists.{drop_more}

@@ -1,7 +1,6 @@
-use Rattle.std.proofs.Common.{◌≡◌, ◌∙◌, ◌≢◌, ℕ, ◌+◌, ◌<◌, ◌≤◌, true, List, [], ◌∷◌, length, min, take, drop, refl, sym, ap, subst, arith}
+use Rattle.std.proofs.Common.{◌≡◌, ◌∙◌, ℕ, ◌+◌, ◌<◌, ◌≤◌, true, List, ◌∷◌, length, take, drop, refl, sym, ap, subst, arith}
 use Rattle.std.proofs.lemmas.List.{drop-set-lt, length-set}
 use Rattle.seg_words.specs.Windows.{nothing_aside}
-use Rattle.apcu_model.specs.Cache.{Row}
 use Rattle.entry_slots.specs.Lists.{has_place, first_place, FollowsIn}
 use Rattle.entry_slots.specs.Entries.{listed, IsListed, FollowsInChain}
 use Rattle.entry_slots.specs.Standing.{entries}

@@ -1,4 +1,4 @@
-use Rattle.std.proofs.Common.{◌≡◌, ◌∙◌, ℕ, ◌≤◌, true, drop, sym, ap, subst, arith}
+use Rattle.std.proofs.Common.{◌≡◌, ◌∙◌, ℕ, true, drop, sym, ap, subst, arith}
 use Rattle.seg_words.specs.Windows.{nothing_aside}
 use Rattle.entry_slots.specs.Lists.{has_place, first_place, FollowsIn}
 use Rattle.entry_slots.specs.Entries.{listed, FollowsInChain}

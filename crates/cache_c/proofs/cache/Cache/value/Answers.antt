@@ -1,8 +1,7 @@
-use Rattle.std.proofs.Common.{◌≡◌, ◌∙◌, ℕ, List, sym, subst}
+use Rattle.std.proofs.Common.{ℕ, List, sym, subst}
 use Rattle.php_graph.specs.Size.{image_length}
 use Rattle.seg_words.specs.Windows.{nothing_aside}
 use Rattle.value_image.specs.Texts.{IsToldImage}
-use Rattle.cache_c.specs.Standing.{IsKept, words_of}
 use Rattle.cache_c.proofs.ToldRows.{scalar_told}
 use Rattle.cache_c.proofs.cache.Cache.value.Goals as goal
 
