@@ -1,0 +1,13 @@
+<?php
+
+// Misses in a hundred fetches since the cache was cleared, how often rows were dropped for want of room, and how many rows
+// there are. With `?clear` it clears first.
+
+declare(strict_types=1);
+
+if (isset($_GET['clear'])) {
+    apcu_clear_cache();
+}
+$told = apcu_cache_info(true);
+$all = $told['num_hits'] + $told['num_misses'];
+printf("%.2f %d %d\n", $all > 0 ? 100 * $told['num_misses'] / $all : 0, $told['expunges'], $told['num_entries']);
