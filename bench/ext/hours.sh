@@ -1,0 +1,30 @@
+#!/usr/bin/env bash
+# php-fpm with eight workers under load for so many minutes, while one of them is killed each second: each reply is judged by
+# a value that tells its key and its number (hours.php). A line a minute, and one of all. The status is 1 where a reply was
+# wrong, none came in ten seconds, or the server ended.
+# Usage: bench/ext/hours.sh [MINUTES [SO]] (60); it needs php-fpm. SIZE in the environment is the cache's size (2M, in which
+# all values have room; in 1M they have not), CLIENTS=N how many processes ask (12).
+set -eu
+here=$(cd "$(dirname "${BASH_SOURCE[0]}")/../../php/ext/checks" && pwd)
+minutes=${1:-60}
+if [ $# -gt 0 ]; then shift; fi
+. "$here/common.sh"
+here=$(cd "$(dirname "${BASH_SOURCE[0]}")" && pwd)
+. "$here/server.sh"
+cp "$here/site/numbers.php" "$scratch/"
+chmod a+r "$scratch/numbers.php"
+socket="$scratch/hours.sock"
+serve_fpm "$ours" "$socket" 8 -d apc.shm_size="${SIZE:-2M}"
+status=0
+timeout "$(awk -v minutes="$minutes" 'BEGIN { printf "%d", minutes * 60 + 180 }')" \
+    php "$here/hours.php" "$socket" "$scratch/numbers.php" "$master" "$minutes" "${CLIENTS:-12}" || status=1
+if ! kill -0 "$master"; then
+    echo 'the server has ended'
+    status=1
+fi
+stop "$master"
+# What the server says beside its workers' ends by the kills.
+grep -vE 'signal 9|child [0-9]+ started|fpm is running|ready to handle|Terminating|bye-bye|systemd monitor|an empty one has' \
+    "$socket.log" | head -n 20 || true
+echo "status $status"
+exit "$status"
