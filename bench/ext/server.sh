@@ -8,10 +8,10 @@ nginx=$(command -v nginx || echo /usr/sbin/nginx)
 chmod 755 "$scratch"
 as_user=$([ "$(id -u)" != 0 ] || echo nobody)
 
-# Waits up to ten seconds until a command is true.
+# Waits up to half a minute until a command is true.
 soon() {
     local i
-    for ((i = 0; i < 100; i++)); do
+    for ((i = 0; i < 300; i++)); do
         if "$@" 2>/dev/null; then return 0; fi
         sleep 0.1
     done
@@ -25,7 +25,9 @@ free_port() {
     } exit(1);'
 }
 
-# Starts php-fpm with so many workers, and sets `master`: serve_fpm SO SOCKET WORKERS [-d NAME=VALUE..]
+# Starts php-fpm with so many workers, and sets `master`: serve_fpm SO SOCKET WORKERS [-d NAME=VALUE..]. What `fpm_env` has,
+# lines of the pool's section, is added.
+fpm_env=
 serve_fpm() {
     local so=$1 socket=$2 workers=$3 own
     shift 3
@@ -42,6 +44,7 @@ listen = $socket
 listen.backlog = 511
 pm = static
 pm.max_children = $workers
+$fpm_env
 END
     PHP_INI_SCAN_DIR=$(settings_of "$own" fpm) "$fpm" -y "$socket.conf" -d apc.use_request_time=0 "$@" >>"$socket.log" 2>&1 &
     master=$!
@@ -96,7 +99,7 @@ END
 
 has_ended() { ! kill -0 "$1" 2>/dev/null; }
 
-# Stops processes that a script started, and what they started; by force where one does not end in ten seconds.
+# Stops processes that a script started, and what they started; by force where one does not end in half a minute.
 stop() {
     local id workers
     for id in "$@"; do
