@@ -170,6 +170,23 @@ void apcu_shm_stop(void)
 	}
 }
 
+/* As pthread_mutex_lock, of a robust mutex. One that waits may be killed after it was woken and before
+ * it took the lock. Where somebody else has taken it meanwhile, the kernel wakes nobody for the dead
+ * one, nor does the new owner, which knows of no waiter. So who waits looks again after a second. */
+static int take_lock(pthread_mutex_t *mutex)
+{
+	int error = pthread_mutex_trylock(mutex);
+
+	while (error == EBUSY || error == ETIMEDOUT) {
+		struct timespec until;
+
+		clock_gettime(CLOCK_REALTIME, &until);
+		until.tv_sec++;
+		error = pthread_mutex_timedlock(mutex, &until);
+	}
+	return error;
+}
+
 /* As HANDLE_UNBLOCK_INTERRUPTIONS. That one takes the first signal that waits for granted, where
  * another one that comes just then may have let all go already. */
 static void let_signals(void)
@@ -210,7 +227,7 @@ bool apcu_lock(void)
 	}
 	HANDLE_BLOCK_INTERRUPTIONS();
 
-	int error = pthread_mutex_lock(&apcu_shm->lock);
+	int error = take_lock(&apcu_shm->lock);
 	if (UNEXPECTED(error != 0)) {
 		if (error != EOWNERDEAD) {
 			let_signals();
@@ -255,7 +272,7 @@ void apcu_entry_begin(void)
 	if (APCU_G(entry_level)++ > 0) {
 		return;
 	}
-	if (pthread_mutex_lock(&apcu_shm->entry_lock) == EOWNERDEAD) {
+	if (take_lock(&apcu_shm->entry_lock) == EOWNERDEAD) {
 		/* It guards no memory, so there is nothing to mend. */
 		pthread_mutex_consistent(&apcu_shm->entry_lock);
 	}
