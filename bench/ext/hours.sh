@@ -1,9 +1,9 @@
 #!/usr/bin/env bash
-# php-fpm with eight workers under load for so many minutes, while one of them is killed each second: each reply is judged by
-# a value that tells its key and its number (hours.php). A line a minute, and one of all. The status is 1 where a reply was
-# wrong, none came in ten seconds, or the server ended.
-# Usage: bench/ext/hours.sh [MINUTES [SO]] (60); it needs php-fpm. SIZE in the environment is the cache's size (2M, in which
-# all values have room; in 1M they have not), CLIENTS=N how many processes ask (12).
+# php-fpm with eight workers under load for so many minutes, while one of them is killed each second: each reply is
+# judged by a value that tells its key and its number (hours.php). A line a minute, and one of all. The status is 1
+# where a reply was wrong, none came in ten seconds, or the server ended.
+# Usage: bench/ext/hours.sh [MINUTES [SO]] (60); it needs php-fpm. SIZE in the environment is the cache's size (2M, in
+# which all values have room; in 1M they have not), CLIENTS=N how many processes ask (12).
 set -eu
 here=$(cd "$(dirname "${BASH_SOURCE[0]}")/../../php/ext/checks" && pwd)
 minutes=${1:-60}

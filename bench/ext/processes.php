@@ -1,10 +1,9 @@
 <?php
 
-// Calls of many processes on one cache, each kind of work for some time:
-// php processes.php PROCESSES MILLISECONDS names|times
-// prints the names of the works, one a line; or in one line, for each work, nanoseconds of the clock for which there was
-// one call, all processes taken together, and then the longest call in nanoseconds, of a second run in which each call
-// is timed. A work that counts is judged: no call may be lost.
+// Calls of many processes on one cache, each kind of work for some time: php processes.php PROCESSES MILLISECONDS
+// names|times prints the names of the works, one a line; or in one line, for each work, nanoseconds of the clock for
+// which there was one call, all processes taken together, and then the longest call in nanoseconds, of a second run
+// in which each call is timed. A work that counts is judged: no call may be lost.
 
 declare(strict_types=1);
 

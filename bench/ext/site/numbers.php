@@ -1,7 +1,7 @@
 <?php
 
-// What hours.php asks workers for: `?key=K` gives the value under a key, `?key=K&number=N` stores one that tells both, and
-// `?anew` says how often the cache was made anew after a kill.
+// What hours.php asks workers for: `?key=K` gives the value under a key, `?key=K&number=N` stores one that tells
+// both, and `?anew` says how often the cache was made anew after a kill.
 
 declare(strict_types=1);
 

@@ -1,6 +1,7 @@
 <?php
 
-// A cache of several servers: this server's rows in shared memory, for ten seconds, and all servers' rows in Redis, for an hour.
+// A cache of several servers: this server's rows in shared memory, for ten seconds, and all servers' rows in Redis,
+// for an hour.
 
 declare(strict_types=1);
 

@@ -1,7 +1,8 @@
 <?php
 
-// What servers.sh asks a server for: `?product=N` tells who loaded a product's row, `&change` stores another first and
-// `&delete` deletes it, here and there; `?times` tells microseconds of a hit here, a hit there and a miss, medians of a hundred.
+// What servers.sh asks a server for: `?product=N` tells who loaded a product's row, `&change` stores another first
+// and `&delete` deletes it, here and there; `?times` tells microseconds of a hit here, a hit there and a miss,
+// medians of a hundred.
 
 declare(strict_types=1);
 
