@@ -8,6 +8,7 @@
 #include <stdlib.h>
 #include <string.h>
 #include <sys/mman.h>
+#include <time.h>
 
 enum { LINE = 64 }; /* bytes of a line of the processor's cache; a multiple of every alignment */
 
@@ -128,8 +129,21 @@ static void set_busy(bool busy) {
     atomic_signal_fence(memory_order_seq_cst);
 }
 
+/* Waits for the lock. Who waits may be killed after it was woken and before it took the lock: then
+ * nobody else is woken, though the lock may be free. So each looks again after a second. */
+static int take_lock(void) {
+    int taken = pthread_mutex_trylock(&head->lock);
+    while (taken == EBUSY || taken == ETIMEDOUT) {
+        struct timespec until;
+        clock_gettime(CLOCK_REALTIME, &until);
+        until.tv_sec++;
+        taken = pthread_mutex_timedlock(&head->lock, &until);
+    }
+    return taken;
+}
+
 uint8_t *shared_enter(void) {
-    int locked = pthread_mutex_lock(&head->lock);
+    int locked = take_lock();
     if (locked == EOWNERDEAD) {
         /* The lock is ours. Where no call was under way its cache stands there whole. Where one
          * was, the flag stays until a new cache is made. Whoever dies in here leaves the lock to
