@@ -1,5 +1,4 @@
 use byte_box::{ByteBox, strings_cross};
-use std::alloc::Global;
 use std::cmp::Ordering;
 use std::fs;
 use std::mem::size_of;
@@ -72,14 +71,6 @@ const LARGE: usize = 1 << 20;
 // As many pages as five hundred such blocks have, and some more.
 const HALF: u64 = 131_072;
 
-// The length of a string of the first bytes, which is made in a block that has room for all.
-fn length_of(rt: &impl Abort, alloc: Global, text: &[u8], len: usize) -> Result<usize, Fail> {
-    assert!(rt; len <= text.len());
-    let mut bytes = Vec::with_capacity(alloc, text.len())?;
-    bytes.extend_from_slice(&text[..len])?;
-    Ok(ByteBox::from_vec(bytes).len())
-}
-
 // Blocks are given back with their strings: after a thousand large ones, one after the other, the
 // process has not grown by half of them. They are of few bytes, of many with some room beside them,
 // and of many with none.
@@ -89,7 +80,9 @@ fn gives_blocks_back(rt: HostRuntime) -> Result<(), Fail> {
     for len in [1, LARGE - 9, LARGE] {
         let most = pages(&rt)?.saturating_add(HALF);
         for _ in 0..1_000 {
-            assert_eq!(rt; length_of(&rt, rt.alloc(), text.as_slice(), len)?, len);
+            let mut bytes = Vec::with_capacity(rt.alloc(), LARGE)?;
+            bytes.extend_from_slice(&text[..len])?;
+            assert_eq!(rt; ByteBox::from_vec(bytes).len(), len);
         }
         assert!(rt; pages(&rt)? < most, "{len} bytes");
     }
