@@ -4,23 +4,26 @@
 // One input of apcu_run from the scripts of several processes: a worker for each, in the order in which they started.
 // With --one there is one worker, which makes the calls of all processes in the order of their seconds. So the time is
 // the same for all, as it was for the site. Of one second's order only that of each process is known.
+//
+// php join.php [--one] [--output FILE] FOLDER > INPUT
+// The same of what the extension recorded, whose order is known. The file then has what apcu_run would have printed, for
+// its --verify.
 
 declare(strict_types=1);
 
 namespace ApcuRecord;
 
 require __DIR__ . '/lines.php';
+require __DIR__ . '/events/files.php';
+require __DIR__ . '/events/events.php';
+require __DIR__ . '/events/stretches.php';
+require __DIR__ . '/events/joined.php';
 
-const MOST_WORKERS = 64;
-const MOST_BYTES = 67_108_864;
-
-$files = array_slice($argv, 1);
-$is_one = ($files[0] ?? '') === '--one';
-if ($is_one) {
-    array_shift($files);
-}
-if ($files === []) {
-    give_up('usage: php join.php [--one] FILES.. > INPUT');
+ini_set('memory_limit', '-1');
+[$is_one, $output, $files] = asked(array_slice($argv, 1));
+if (array_filter($files, is_recorded(...)) !== []) {
+    join_recorded($files, $is_one, $output);
+    exit;
 }
 // Of what a folder of the recorder has.
 $scripts = in_order(array_filter($files, fn (string $path): bool => preg_match('/\.(left|replies)$/D', $path) !== 1));
@@ -37,6 +40,22 @@ if ($is_one) {
 }
 tell(count($taken) . ' of ' . count($scripts) . ' scripts');
 tell_left($taken);
+
+/** @return array{bool, ?string, list<string>} whether there is one worker, the file of the output, the other files */
+function asked(array $words): array
+{
+    $usage = 'usage: php join.php [--one] [--output FILE] FILES.. > INPUT';
+    [$is_one, $output, $files] = [false, null, []];
+    while ($words !== []) {
+        $word = array_shift($words);
+        match ($word) {
+            '--one' => $is_one = true,
+            '--output' => $output = array_shift($words) ?? give_up($usage),
+            default => $files[] = $word,
+        };
+    }
+    return $files === [] ? give_up($usage) : [$is_one, $output, $files];
+}
 
 /** The scripts by their first second. */
 function in_order(array $paths): array
