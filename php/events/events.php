@@ -54,8 +54,8 @@ function events_of(Recorded $file): \Generator
     $what = null;
     foreach (lines_of($file->stream) as $line) {
         if ($line[-1] !== "\n") {
-            tell("{$file->path}: it ends within a line, which is left out");
-            return;
+            $what = 'it ends within a line';
+            break;
         }
         $is_call = $line[0] >= '0' && $line[0] <= '9';
         if ($call !== null) {
@@ -84,10 +84,12 @@ function events_of(Recorded $file): \Generator
             break;
         }
     }
+    if ($what === null && $call !== null) {
+        $what = "event $number has no reply";
+    }
     if ($what !== null) {
-        tell("{$file->path}: $what; this and what is behind it is left out");
-    } elseif ($call !== null) {
-        tell("{$file->path}: its last event has no reply, and is left out");
+        $file->is_cut = true;
+        tell("{$file->path}: $what; what comes from there on is left out");
     }
 }
 

@@ -9,6 +9,9 @@ namespace ApcuRecord;
 /** A file of a process, read up to its first event. */
 final class Recorded
 {
+    /** Something of it can't be read, or was not written whole. */
+    public bool $is_cut = false;
+
     /** @param resource $stream */
     public function __construct(
         public readonly string $path,

@@ -65,7 +65,8 @@ function told_right(array $files, Extent $extent, int $events, int $seconds, arr
 {
     $processes = counted(count($files), 'process', 'processes');
     $what = $files[0]->has_values ? '' : '; values were left out, so this is of their lengths';
-    if ($events === $extent->events && $extent->missing === 0) {
+    $is_whole = array_filter($files, static fn (Recorded $file): bool => $file->is_cut) === [];
+    if ($is_whole && $events === $extent->events && $extent->missing === 0) {
         echo counted($events, 'event'), " of $processes in ", counted($extent->seconds(), 'second'), ": each reply is right$what\n";
         return RIGHT;
     }
