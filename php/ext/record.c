@@ -345,6 +345,8 @@ void apcu_record_note(const cache_request *request, const zend_string *key, cons
 
 	uint64_t number = apcu_shm->events++;
 	if (noted_count < MOST_NOTED) {
+		/* Those of an answer are told by apcu_record_copied. */
+		bytes = request->kind == CACHE_LOOK ? NULL : bytes;
 		noted[noted_count++] = (event) {*request, *answer, key, bytes, len, number, apcu_shm->remade};
 	}
 }
