@@ -27,18 +27,20 @@ if (array_filter($files, is_recorded(...)) !== []) {
 }
 // Of what a folder of the recorder has.
 $scripts = in_order(array_filter($files, fn (string $path): bool => preg_match('/\.(left|replies)$/D', $path) !== 1));
-$taken = taken($scripts, $is_one ? PHP_INT_MAX : MOST_WORKERS);
+$taken = $is_one ? $scripts : array_slice($scripts, 0, MOST_WORKERS);
 if ($taken === []) {
     give_up('none of these files is a script');
 }
+$last = last_second($taken);
 if ($is_one) {
-    write_merged($taken);
+    write_merged($taken, $last);
 } else {
     foreach ($taken as $path) {
-        copied($path);
+        write_script($path, $last);
     }
 }
-tell(count($taken) . ' of ' . count($scripts) . ' scripts');
+tell(count($taken) . ' of ' . count($scripts) . ' scripts'
+    . (count($taken) < count($scripts) ? ': an input has at most ' . MOST_WORKERS . ' workers' : ''));
 tell_left($taken);
 
 /** @return array{bool, ?string, list<string>} whether there is one worker, the file of the output, the other files */
@@ -79,40 +81,50 @@ function in_order(array $paths): array
     return array_keys($starts);
 }
 
-/** As many scripts as the program takes; those that are left out are told. */
-function taken(array $scripts, int $most): array
+/** Up to which second all calls of these scripts fit in an input; where some do not, that is told. */
+function last_second(array $paths): int
 {
-    $taken = [];
-    $bytes = 0;
-    foreach ($scripts as $path) {
-        $size = filesize($path);
-        if (count($taken) < $most && $bytes + $size <= MOST_BYTES) {
-            $taken[] = $path;
-            $bytes += $size;
+    $sizes = [];
+    foreach ($paths as $path) {
+        foreach (parts_of($path) as [$second, $text, $questions]) {
+            $sizes[$second] = ($sizes[$second] ?? 0) + strlen($text) + $questions;
         }
     }
-    if (count($taken) < count($scripts)) {
-        tell(count($scripts) - count($taken) . ' scripts are left out: an input has at most ' . MOST_WORKERS
-            . ' workers and ' . MOST_BYTES . ' bytes');
+    ksort($sizes);
+    // Lines `worker`, and a report's questions at the end of each.
+    $bytes = 64 * count($paths);
+    $last = $first = array_key_first($sizes) ?? 0;
+    foreach ($sizes as $second => $size) {
+        $bytes += $size;
+        if ($bytes > MOST_BYTES) {
+            tell('the first ' . max(0, $last - $first + 1) . ' of ' . (array_key_last($sizes) - $first + 1)
+                . ' seconds: an input has at most ' . MOST_BYTES . ' bytes');
+            return $last;
+        }
+        $last = $second;
     }
-    return $taken;
+    return PHP_INT_MAX;
 }
 
-function copied(string $path): void
+function write_script(string $path, int $last): void
 {
-    $file = opened($path);
-    while (($text = (string) fread($file, 1 << 20)) !== '') {
-        put(STDOUT, $text);
+    put(STDOUT, "worker\n");
+    foreach (parts_of($path) as [$second, $text]) {
+        if ($second <= $last) {
+            put(STDOUT, $text);
+        }
     }
 }
 
 /** All calls in the order of their seconds. In one second those of each process are spread evenly. */
-function write_merged(array $paths): void
+function write_merged(array $paths, int $last): void
 {
     $seconds = [];
     foreach ($paths as $number => $path) {
         foreach (parts_of($path) as [$second, $text]) {
-            $seconds[$second][$number][] = $text;
+            if ($second <= $last) {
+                $seconds[$second][$number][] = $text;
+            }
         }
     }
     ksort($seconds);
@@ -136,28 +148,33 @@ function spread(array $scripts): array
     return array_map(static fn (int $at): string => $texts[$at], array_keys($places));
 }
 
-/** The calls of a script by their second, each part with its own lines `request` and `time`. */
+/**
+ * The calls of a script by their second, each part with its own lines `request` and `time`, and with how many bytes a
+ * report asks for its entries.
+ */
 function parts_of(string $path): \Generator
 {
-    [$request, $second, $calls] = [0, 0, ''];
+    [$request, $second, $calls, $questions] = [0, 0, '', 0];
     foreach (lines_of(opened($path)) as $line) {
         $word = word_of($line);
         if ($word === 'time' || $word === 'request') {
-            yield from part($request, $second, $calls);
+            yield from part($request, $second, $calls, $questions);
             $second = second_of($line);
             $request = $word === 'request' ? $second : $request;
-            $calls = '';
+            [$calls, $questions] = ['', 0];
         } elseif ($word !== 'worker') {
             $calls .= $line;
+            $questions += $word === 'apcu_entry' ? strlen(key_of($line) ?? '') + 30 : 0;
         }
     }
-    yield from part($request, $second, $calls);
+    yield from part($request, $second, $calls, $questions);
 }
 
-function part(int $request, int $second, string $calls): \Generator
+function part(int $request, int $second, string $calls, int $questions): \Generator
 {
     if ($calls !== '') {
-        yield [$second, "request i:$request;\n" . ($second === $request ? '' : "time i:$second;\n") . $calls];
+        $front = "request i:$request;\n" . ($second === $request ? '' : "time i:$second;\n");
+        yield [$second, $front . $calls, $questions];
     }
 }
 
