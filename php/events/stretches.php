@@ -54,8 +54,11 @@ final class Stretch
         }
         $this->bytes += $bytes;
         $this->moments[$worker] = $event->moment;
-        $this->scripts[$worker] = ($this->scripts[$worker] ?? "worker\n") . $call;
-        $this->replies[$worker] = ($this->replies[$worker] ?? "worker $worker\n") . $event->reply;
+        $this->scripts[$worker] ??= "worker\n";
+        $this->replies[$worker] ??= "worker $worker\n";
+        // Text is added in place, where no copy is made of what stands there.
+        $this->scripts[$worker] .= $call;
+        $this->replies[$worker] .= $event->reply;
         $this->journal .= "$worker\n";
         if ($this->events++ === 0) {
             $this->first = $second;
