@@ -16,7 +16,6 @@ require __DIR__ . '/report/page.php';
 const SETTINGS = [
     '--shm-size 8M', '--shm-size 16M', '--shm-size 32M', '--shm-size 64M', '--shm-size 128M',
     '--shm-size 32M --ttl 60', '--shm-size 32M --ttl 3600',
-    '--shm-size 16M --segments 2', '--shm-size 8M --segments 4',
 ];
 
 const USAGE = 'usage: php report.php [--program PATH] [--html FILE] [--try "OPTIONS"].. INPUT';

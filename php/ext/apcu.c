@@ -1,4 +1,5 @@
 #include "php_apcu.h"
+#include "record.h"
 
 #include "SAPI.h"
 #include "ext/standard/info.h"
@@ -43,6 +44,13 @@ static void start_cache(void)
 		APCU_G(shm_size), (size_t) shape.words * sizeof(uint64_t));
 }
 
+static void tell(const char *fault)
+{
+	if (UNEXPECTED(fault)) {
+		php_log_err(fault);
+	}
+}
+
 static PHP_MINIT_FUNCTION(apcu)
 {
 	bool is_cli = strcmp(sapi_module.name, "cli") == 0;
@@ -51,6 +59,9 @@ static PHP_MINIT_FUNCTION(apcu)
 	if (APCU_G(enabled) && (APCU_G(enable_cli) || !is_cli)) {
 		apcu_serializers_start(module_number);
 		start_cache();
+	}
+	if (apcu_shm && APCU_G(record_dir) && *APCU_G(record_dir)) {
+		apcu_record_start(APCU_G(record_dir), APCU_G(record_values));
 	}
 	if (apcu_shm && APCU_G(preload_path)) {
 		apcu_preload(APCU_G(preload_path));
@@ -61,6 +72,7 @@ static PHP_MINIT_FUNCTION(apcu)
 
 static PHP_MSHUTDOWN_FUNCTION(apcu)
 {
+	tell(apcu_record_stop());
 	apcu_shm_stop();
 	apcu_settings_stop(type, module_number);
 	return SUCCESS;
@@ -82,6 +94,7 @@ static PHP_RINIT_FUNCTION(apcu)
 static PHP_RSHUTDOWN_FUNCTION(apcu)
 {
 	apcu_entry_leave();
+	tell(apcu_record_leave());
 	return SUCCESS;
 }
 

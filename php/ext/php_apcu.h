@@ -31,6 +31,8 @@ ZEND_BEGIN_MODULE_GLOBALS(apcu)
 	char *mmap_file_mask;
 	char *preload_path;
 	char *serializer_name;
+	char *record_dir;
+	bool record_values;
 
 	time_t request_time;  /* 0: not asked for yet */
 	uint32_t entry_level; /* how deep calls of apcu_entry lie in one another */

@@ -7,6 +7,7 @@
 #include <unistd.h>
 
 #include "php_apcu.h"
+#include "record.h"
 
 apcu_shared *apcu_shm;
 
@@ -15,6 +16,9 @@ apcu_shared *apcu_shm;
  * second process. */
 static enum { FROM_MALLOC, FROM_MAPPING, FROM_NOWHERE } source;
 static bool was_remade;
+
+/* Something waits until the lock is given back: events to be recorded, or that the cache was made anew. */
+static bool has_news;
 
 /* What the library gets when it asks for memory. */
 static cache_tried given(void *at)
@@ -85,6 +89,7 @@ static void make(void)
 	apcu_shm->is_made = false;
 	apcu_shm->used = sizeof *apcu_shm;
 	memset(&apcu_shm->last, 0, sizeof apcu_shm->last);
+	apcu_shm->events = 0;
 
 	source = FROM_MAPPING;
 	uint8_t *at = take(cache_size());
@@ -213,7 +218,7 @@ static void recover(void)
 	if (apcu_shm->is_busy) {
 		make();
 		apcu_shm->remade++;
-		was_remade = true;
+		was_remade = has_news = true;
 		atomic_signal_fence(memory_order_seq_cst);
 		apcu_shm->is_busy = false;
 	}
@@ -244,13 +249,20 @@ bool apcu_lock(void)
 
 void apcu_unlock(void)
 {
-	bool is_told = was_remade;
+	bool is_news = has_news, is_told = was_remade;
+	const char *fault = NULL;
 
-	was_remade = false;
+	has_news = was_remade = false;
 	pthread_mutex_unlock(&apcu_shm->lock);
+	if (UNEXPECTED(is_news)) {
+		fault = apcu_record_write();
+	}
 	let_signals();
 	if (UNEXPECTED(is_told)) {
 		php_log_err("apcu: a process died while it changed the cache; an empty one has taken its place");
+	}
+	if (UNEXPECTED(fault)) {
+		php_log_err(fault);
 	}
 }
 
@@ -262,6 +274,10 @@ cache_answer apcu_ask(const cache_request *request, const zend_string *key, cons
 	atomic_signal_fence(memory_order_seq_cst);
 	cache_answer answer = cache_ask(apcu_shm->cache, request,
 		(const uint8_t *) ZSTR_VAL(key), ZSTR_LEN(key), (const uint8_t *) bytes, len);
+	if (UNEXPECTED(apcu_is_recorded)) {
+		apcu_record_note(request, key, bytes, len, &answer);
+		has_news = true;
+	}
 	atomic_signal_fence(memory_order_seq_cst);
 	apcu_shm->is_busy = false;
 	return answer;

@@ -15,6 +15,8 @@ typedef struct {
 	volatile bool is_made;      /* there is a cache */
 	volatile bool is_busy;      /* a call that may change it is under way */
 	uint64_t remade;            /* how often a process died in such a call, and the cache was made anew */
+	uint64_t events;            /* how many events this cache had, while they are recorded */
+	bool is_record_over;        /* a process could not record its events */
 	time_t start_time;          /* when the cache was made or cleared */
 	struct {
 		zend_ulong hash;

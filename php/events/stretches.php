@@ -1,0 +1,168 @@
+<?php
+
+// A stretch is a run of events that begins with an empty cache: with the cache's first one, or with a call that clears it.
+
+declare(strict_types=1);
+
+namespace ApcuRecord;
+
+/** What the program takes. */
+const MOST_WORKERS = 64;
+const MOST_BYTES = 67_108_864;
+const MOST_EVENTS = 4_194_304;
+const LATEST_SECOND = 999_999_999_999;
+
+/** Some events as scripts, and what apcu_run would have printed for them. */
+final class Stretch
+{
+    public int $events = 0;
+    /** Seconds from the first event to the last. */
+    public int $first = 0;
+    public int $last = 0;
+    /** Why it ends before the events do. */
+    public ?string $cut = null;
+    /** @var list<array{Event, int}> the events, and their seconds, where they are to be kept */
+    public array $kept = [];
+    private array $scripts = [];
+    private array $replies = [];
+    private array $moments = [];
+    private array $workers = [];
+    private string $journal = '';
+    /** With what ends of workers and their lines take. */
+    private int $bytes = 32 * MOST_WORKERS;
+
+    public function __construct(private readonly int $most_workers, private readonly bool $is_kept)
+    {
+    }
+
+    /** Adds what came in this second since the start. False where there is no room; then it was not added. */
+    public function add(Event $event, int $second): bool
+    {
+        if ($event->moment < 0 || $event->moment > LATEST_SECOND) {
+            $this->cut = "no script can say the second of event {$event->number}";
+            return false;
+        }
+        $worker = $this->workers[$event->file] ??= $this->worker_of(count($this->workers));
+        $call = $event->call;
+        if ($event->moment !== ($this->moments[$worker] ?? 0)) {
+            $call = "time i:{$event->moment};\n$call";
+        }
+        $bytes = strlen($call) + strlen($event->reply) + strlen((string) $worker) + 1;
+        if ($this->bytes + $bytes > MOST_BYTES || $this->events + MOST_WORKERS >= MOST_EVENTS) {
+            $this->cut = 'there is no room for event ' . $event->number;
+            return false;
+        }
+        $this->bytes += $bytes;
+        $this->moments[$worker] = $event->moment;
+        $this->scripts[$worker] ??= "worker\n";
+        $this->replies[$worker] ??= "worker $worker\n";
+        // Text is added in place, where no copy is made of what stands there.
+        $this->scripts[$worker] .= $call;
+        $this->replies[$worker] .= $event->reply;
+        $this->journal .= "$worker\n";
+        if ($this->events++ === 0) {
+            $this->first = $second;
+        }
+        $this->last = $second;
+        if ($this->is_kept) {
+            $this->kept[] = [$event, $second];
+        }
+        return true;
+    }
+
+    /** A process has a worker of its own; where there are too many, some share one, for their order is known. */
+    private function worker_of(int $process): int
+    {
+        return $process % $this->most_workers;
+    }
+
+    public function processes(): int
+    {
+        return count($this->workers);
+    }
+
+    public function scripts(): string
+    {
+        return implode($this->scripts);
+    }
+
+    /** Each worker ends behind all events. */
+    public function output(): string
+    {
+        $ends = implode(array_map(static fn (int $worker): string => "$worker\n", array_keys($this->scripts)));
+        return implode($this->replies) . "journal\n{$this->journal}$ends";
+    }
+}
+
+/** How far what is recorded reaches. */
+final class Extent
+{
+    public int $events = 0;
+    public int $missing = 0;
+    /** @var list<Gap> */
+    public array $gaps = [];
+    private ?int $first = null;
+    private int $last = 0;
+
+    public function take(Event|Gap $event): void
+    {
+        if ($event instanceof Gap) {
+            $this->missing += $event->last - $event->first + 1;
+            $this->gaps[] = $event;
+            return;
+        }
+        $this->events++;
+        // A deletion has the second 0, and a row that is over at once one that is past.
+        if ($event->moment > 0) {
+            $this->first ??= $event->moment;
+            $this->last = max($this->last, $event->moment);
+        }
+    }
+
+    public function seconds(): int
+    {
+        return $this->first === null ? 0 : $this->last - $this->first + 1;
+    }
+}
+
+/**
+ * The stretches, each as long as it can be. Behind missing events, or where one is full, the next one begins where the
+ * cache is empty again.
+ *
+ * @param iterable<Event|Gap> $events
+ * @return \Generator<int, Stretch>
+ */
+function stretches(
+    iterable $events,
+    Extent $extent,
+    int $most_workers = MOST_WORKERS,
+    bool $is_kept = false,
+): \Generator
+{
+    $stretch = null;
+    foreach ($events as $event) {
+        $extent->take($event);
+        if ($event instanceof Gap) {
+            if ($stretch !== null) {
+                $stretch->cut = $event->told();
+                yield $stretch;
+                $stretch = null;
+            }
+            continue;
+        }
+        if ($stretch !== null && $event->number > 0 && $stretch->add($event, $extent->seconds())) {
+            continue;
+        }
+        if ($stretch !== null) {
+            yield $stretch;
+            $stretch = null;
+        }
+        if ($event->number === 0 || $event->clears()) {
+            $stretch = new Stretch($most_workers, $is_kept);
+            $stretch->add($event, $extent->seconds());
+        }
+    }
+    if ($stretch !== null) {
+        yield $stretch;
+    }
+}

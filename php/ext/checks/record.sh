@@ -1,0 +1,169 @@
+#!/usr/bin/env bash
+# What the extension records is judged by php/judge.php: each reply is right, of the suites for PSR-6 and PSR-16, of the
+# shop of bench/record and of random calls of some processes. One reply that is changed is found, as are two events whose
+# places are changed, and a call that is left out; a build of the extension that does not count now and then is caught,
+# and one that gives rows whose time is over. A folder that can't be judged whole is told. Then what recording costs.
+# Usage: php/ext/checks/record.sh [SO [PROGRAM]]; it needs what suites.sh needs, and php-dev for the builds that are
+# wrong. VISITS in the environment says how many visits each of four clients makes (1500).
+set -eu
+here=$(cd "$(dirname "$0")" && pwd)
+. "$here/common.sh"
+top=$(cd "$here/../../.." && pwd)
+program=${2:-$top/apcu_run}
+visits=${VISITS:-1500}
+status=0
+
+# Judges a folder: judge FOLDER STATUS WORDS..; what it prints has to have these words.
+judge() {
+    local folder=$1 wanted=$2 got=0 word
+    shift 2
+    php "$top/php/judge.php" --program "$program" "$folder" >"$scratch/verdict" 2>&1 || got=$?
+    sed 's/^/    /' "$scratch/verdict"
+    if [ "$got" != "$wanted" ]; then
+        echo "the status is $got and not $wanted: $folder" >&2
+        status=1
+    fi
+    for word in "$@"; do
+        grep -qF -- "$word" "$scratch/verdict" || { echo "not told: $word" >&2; status=1; }
+    done
+}
+
+suite() {
+    local name=$1 folder="$scratch/suite.$1"
+    timeout 300 env PHP_INI_SCAN_DIR="$(settings_of "$ours")" php -d apc.enable_cli=1 -d apc.ttl=0 \
+        -d apc.record_dir="$folder" -d zend.assertions=1 /usr/bin/phpunit --no-configuration --do-not-cache-result \
+        --bootstrap "$top/bench/record/suites/load.php" "$top/bench/record/suites/${name}Test.php" >"$folder.out" 2>&1 || true
+}
+
+check_suites() {
+    local name runs=()
+    [ -x /usr/bin/phpunit ] || { echo 'no phpunit: no suites'; return; }
+    for name in Pool Simple Namespaced TagAware; do
+        suite "$name" &
+        runs+=($!)
+    done
+    for name in "${runs[@]}"; do wait "$name"; done
+    for name in Pool Simple Namespaced TagAware; do
+        echo "suite $name"
+        judge "$scratch/suite.$name" 0 'each reply is right'
+    done
+}
+
+check_shop() {
+    local server seed clients=() address=127.0.0.1:8124
+    set -m
+    PHP_CLI_SERVER_WORKERS=4 php_with "$ours" -d apc.shm_size=8M -d apc.record_dir="$scratch/shop" -S "$address" \
+        -t "$top/bench/record/site" >/dev/null 2>&1 &
+    server=$!
+    set +m
+    started+=("-$server")
+    sleep 2
+    for seed in 1 2 3 4; do
+        php "$top/bench/record/visits.php" "http://$address" "$visits" "$seed" &
+        clients+=($!)
+    done
+    for seed in "${clients[@]}"; do wait "$seed"; done
+    kill -- "-$server"
+    wait "$server" 2>/dev/null || true
+    echo "the shop, $((4 * visits)) visits"
+    judge "$scratch/shop" 0 'each reply is right'
+}
+
+# Random calls by an extension: work FOLDER SO SETTING..
+work() {
+    local folder=$1 so=$2
+    shift 2
+    php_with "$so" -d apc.shm_size=4M -d apc.record_dir="$folder" "$@" "$here/record-work.php" 6 5000 1
+}
+
+check_changes() {
+    local kind at
+    for kind in reply swap left gone; do
+        rm -rf "$scratch/changed"
+        cp -r "$scratch/work" "$scratch/changed"
+        at=$(php "$here/record-change.php" "$kind" "$scratch/changed")
+        echo "changed ($kind) at event $at"
+        case $kind in
+            gone) judge "$scratch/changed" 2 "event $at is missing" 'each of these replies is right' ;;
+            *) judge "$scratch/changed" 9 "event $at," 'not the due reply' ;;
+        esac
+    done
+}
+
+# Builds the extension with one text of a file changed, and judges what it records: wrong NAME FILE OLD NEW
+wrong() {
+    local name=$1 folder="$scratch/build.$1"
+    mkdir -p "$folder/php/ext"
+    cp "$here"/../*.[ch] "$here/../config.m4" "$here/../build.sh" "$folder/php/ext/"
+    php -r '[, $file, $old, $new] = $argv; $text = file_get_contents($file);
+        substr_count($text, $old) === 1 || exit("$old does not stand there once\n");
+        file_put_contents($file, str_replace($old, $new, $text));' "$folder/php/ext/$2" "$3" "$4"
+    CACHE_C_LIB="$here/../build/cache_c/libcache_c.a" "$folder/php/ext/build.sh" >/dev/null
+    echo "a build that is wrong: $name"
+    work "$scratch/wrong.$name" "$folder/php/ext/modules/apcu.so"
+    judge "$scratch/wrong.$name" 9 'not the due reply'
+}
+
+check_folders() {
+    local file
+    echo 'an empty folder'
+    mkdir "$scratch/empty"
+    judge "$scratch/empty" 1 'there is no record of the extension'
+    echo 'files of two servers'
+    cp -r "$scratch/work" "$scratch/two"
+    cp "$scratch/without"/* "$scratch/two/"
+    judge "$scratch/two" 0 'files of 2 servers'
+    echo 'a file that ends within a line'
+    cp -r "$scratch/work" "$scratch/cut"
+    file=$(ls -S "$scratch/cut"/* | head -n 1)
+    truncate -s $(($(stat -c %s "$file") - 3)) "$file"
+    judge "$scratch/cut" 2 'ends within a line' 'each of these replies is right'
+}
+
+# Milliseconds of processor time of 100,000 stores and fetches, the least of five times.
+spent() {
+    local run TIMEFORMAT='%U %S'
+    for run in 1 2 3 4 5; do
+        rm -rf "$scratch/cost"
+        { time php_with "$ours" -d apc.shm_size=128M "$@" "$top/bench/record/cost.php" 100000 >/dev/null; } 2>&1
+    done | awk '{ t = ($1 + $2) * 1000 } NR == 1 || t < least { least = t } END { printf "%.0f\n", least }'
+}
+
+check_costs() {
+    local off on without
+    off=$(spent)
+    on=$(spent -d apc.record_dir="$scratch/cost")
+    without=$(spent -d apc.record_dir="$scratch/cost" -d apc.record_values=0)
+    echo "100,000 stores and fetches of 100 bytes: $off ms; recorded $on ms, without values $without ms"
+    awk -v off="$off" -v on="$on" 'BEGIN { exit !(on <= 1.25 * off) }' || { echo 'recording costs more than a quarter' >&2; status=1; }
+}
+
+echo 'random calls'
+work "$scratch/work" "$ours"
+judge "$scratch/work" 0 'each reply is right'
+echo 'the same, without values'
+work "$scratch/without" "$ours" -d apc.record_values=0
+judge "$scratch/without" 0 'each reply is right; values were left out'
+check_changes
+check_folders
+check_suites
+check_shop
+if [ -f "$here/../build/cache_c/libcache_c.a" ]; then
+    wrong uncounted shm.c '	if (UNEXPECTED(apcu_is_recorded)) {
+		apcu_record_note' '	if (request->kind == CACHE_COUNT && answer.kind == CACHE_INT && apcu_shm->events % 500 == 0) {
+		cache_request back = *request;
+		back.number = 0 - back.number;
+		cache_ask(apcu_shm->cache, &back, (const uint8_t *) ZSTR_VAL(key), ZSTR_LEN(key), (const uint8_t *) "", 0);
+	}
+	if (UNEXPECTED(apcu_is_recorded)) {
+		apcu_record_note'
+    wrong outlived shm.c '	cache_answer answer = cache_ask(apcu_shm->cache, request,
+' '	cache_request late = *request;
+	late.t -= late.kind == CACHE_LOOK;
+	cache_answer answer = cache_ask(apcu_shm->cache, &late,
+'
+else
+    echo 'no library of the build: no builds that are wrong'
+fi
+check_costs
+exit "$status"
