@@ -1,7 +1,7 @@
 <?php
 
 // php record-change.php KIND FOLDER: changes what was recorded at one event, in the middle of all, and prints its number.
-// KIND is reply (another number is given), swap (two events of two processes change their places), left (a call is left
+// KIND is reply (another number is given), swap (two calls of two processes change their places), left (a call is left
 // out, and those behind it are numbered as if it had not been), or gone (the same, and its number is missing).
 
 declare(strict_types=1);
@@ -17,39 +17,53 @@ $files = recorded_files([$folder]);
 $events = iterator_to_array(all_events($files), false);
 [$at, $other] = found_event($events, $kind);
 foreach ($files as $number => $file) {
-    // A call of which the next one is another process's can only be moved where both files are written anew.
-    $lines = [];
-    $moment = null;
+    $mine = [];
     foreach ($events as $place => $event) {
-        if ($event->file !== $number || (in_array($kind, ['left', 'gone'], true) && $place === $at)) {
-            continue;
+        if ($event->file === $number && ($place !== $at || !in_array($kind, ['left', 'gone'], true))) {
+            $mine[named($kind, $place, $at, $other)] = $event;
         }
-        $reply = $kind === 'reply' && $place === $at ? preg_replace('/\Ai:(-?)[0-9]+/', 'i:${1}123456789', $event->reply) : $event->reply;
-        $name = match (true) {
-            $kind === 'swap' && $place === $at => $other,
-            $kind === 'swap' && $place === $other => $at,
-            $kind === 'left' && $place > $at => $place - 1,
-            default => $place,
-        };
-        $time = $event->moment === $moment ? '' : "time i:{$event->moment};\n";
-        $moment = $event->moment;
-        $lines[$name] = "$time$name {$event->call}$reply";
     }
-    ksort($lines);
-    $head = implode(array_slice(file($file->path), 0, 7));
-    file_put_contents($file->path, "{$head}part 0\n" . implode($lines));
+    ksort($mine);
+    $text = implode(array_slice(file($file->path), 0, 7)) . "part 0\n";
+    $moment = null;
+    foreach ($mine as $name => $event) {
+        $reply = $kind === 'reply' && $name === $at ? preg_replace('/\Ai:-?[0-9]+/', 'i:123456789', $event->reply) : $event->reply;
+        $text .= ($event->moment === $moment ? '' : "time i:{$event->moment};\n") . "$name {$event->call}$reply";
+        $moment = $event->moment;
+    }
+    file_put_contents($file->path, $text);
 }
 echo $at, "\n";
 
-/** A counter that two processes count on, one right after the other. */
+/** The number of the event at a place, when the change is made. */
+function named(string $kind, int $place, int $at, int $other): int
+{
+    return match (true) {
+        $kind === 'swap' && $place === $at => $other,
+        $kind === 'swap' && $place === $other => $at,
+        $kind === 'left' && $place > $at => $place - 1,
+        default => $place,
+    };
+}
+
+/**
+ * The places of a call that counts and of the next one that counts on the same key, from another number. To be swapped
+ * they are of two processes; else they stand one right behind the other.
+ */
 function found_event(array $events, string $kind): array
 {
-    for ($at = intdiv(count($events), 2); $at + 1 < count($events); $at++) {
-        [$one, $two] = [$events[$at], $events[$at + 1]];
-        if (is_counted($one) && is_counted($two) && key_of($one->call) === key_of($two->call) && $one->reply !== $two->reply
-            && ($kind !== 'swap' || $one->file !== $two->file)
+    $last = [];
+    for ($at = intdiv(count($events), 2); $at < count($events); $at++) {
+        $key = key_of($events[$at]->call);
+        if (!is_counted($events[$at])) {
+            continue;
+        }
+        $before = $last[$key] ?? null;
+        $last[$key] = $at;
+        if ($before !== null && counted_from($events[$before]) !== counted_from($events[$at])
+            && ($kind === 'swap' ? $events[$before]->file !== $events[$at]->file : $before === $at - 1)
         ) {
-            return [$at, $at + 1];
+            return [$before, $at];
         }
     }
     give_up('no two calls count on one key');
@@ -58,4 +72,10 @@ function found_event(array $events, string $kind): array
 function is_counted(Event $event): bool
 {
     return str_starts_with($event->call, 'apcu_inc') && !str_contains($event->call, ' i:0;') && str_starts_with($event->reply, 'i:');
+}
+
+function counted_from(Event $event): int
+{
+    preg_match('/; i:(-?[0-9]+);/', $event->call, $step);
+    return (int) substr($event->reply, 2) - (int) $step[1];
 }
