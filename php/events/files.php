@@ -61,7 +61,8 @@ function recorded_files(array $paths, ?string $server = null): array
             [$file, $start] = begun($name);
             if ($file !== null) {
                 $servers[$file->server][] = $file;
-                $starts[$file->server] = min($starts[$file->server] ?? PHP_INT_MAX, $start);
+                // A file may begin with a deletion, which is at the second 0.
+                $starts[$file->server] = max($starts[$file->server] ?? 0, $start);
             }
         }
     }
