@@ -57,13 +57,13 @@ END
 unshare -m bash -eu -c '
     mount --make-rprivate /
     mount -t tmpfs -o size=1G none "$1"
-    mkdir "$1"/{upper,work,root}
-    mount -t overlay -o "lowerdir=/,upperdir=$1/upper,workdir=$1/work" none "$1/root"
-    cp "$2" "$3" "$1/root/var/tmp/"
-    mount -t proc none "$1/root/proc"
-    mount -t tmpfs none "$1/root/tmp"
+    mkdir "$1"/{upper,work,tree}
+    mount -t overlay -o "lowerdir=/,upperdir=$1/upper,workdir=$1/work" none "$1/tree"
+    cp "$2" "$3" "$1/tree/var/tmp/"
+    mount -t proc none "$1/tree/proc"
+    mount -t tmpfs none "$1/tree/tmp"
     for i in null zero urandom random tty; do
-        [ -e "$1/root/dev/$i" ] || { touch "$1/root/dev/$i" && mount --bind "/dev/$i" "$1/root/dev/$i"; }
+        [ -e "$1/tree/dev/$i" ] || { touch "$1/tree/dev/$i" && mount --bind "/dev/$i" "$1/tree/dev/$i"; }
     done
-    chroot "$1/root" env -i PATH="$PATH" DEBIAN_FRONTEND=noninteractive bash "/var/tmp/$(basename "$2")" "/var/tmp/$(basename "$3")"
+    chroot "$1/tree" env -i PATH="$PATH" DEBIAN_FRONTEND=noninteractive bash "/var/tmp/$(basename "$2")" "/var/tmp/$(basename "$3")"
 ' - "$(mkdir -p "$scratch/overlay" && echo "$scratch/overlay")" "$scratch/in" "$package"
