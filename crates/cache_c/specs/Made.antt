@@ -26,4 +26,5 @@ pub record IsEmpty (conf : Conf) (cache : Cache) : Type 0 where
 -- why none was made: no cache has this shape, or memory is missing for one that has
 abbrev pub IsRefusal : Shape → ℕ → Type 0
 IsRefusal shape why =
-    ((why ≡ BAD_SHAPE) × (IsUsable (conf_of shape) → ⊥)) ⊎ ((why ≡ NO_ROOM) × IsUsable (conf_of shape))
+    ((why ≡ BAD_SHAPE) × (IsUsable (conf_of shape) → ⊥)) ⊎
+    ((why ≡ NO_ROOM) × IsUsable (conf_of shape))

@@ -85,7 +85,8 @@ abbrev pub rows_at : Ptr → ℕ → List ToldRow → Fml
 rows_at at room rows =
     fsep (lies_at (Array row_type room) full_share at rows) (fex (Room row_type room) (λ _. ftrue))
 
--- The cache stands there as it was, and the caller's memory has what was told of the rows of a list.
+-- The cache stands there as it was, and the caller's memory has what was told of the rows of a
+-- list.
 abbrev pub has_listed : Cache → List ToldRow → Ptr → ℕ → ℕ → Ptr → ℕ → ℕ → Fml
 has_listed old before at slot skip out room count =
     fex (Cache × List ToldRow) (λ new. fsep (stands_at at new.0) (fsep (rows_at out room new.1)

@@ -1,4 +1,5 @@
-//! The engine as a library for C: a handle to a cache, and the calls on it.
+//! The engine as a library for C: a handle to a cache, and the calls on it. No call looks for null:
+//! C comes to them by its header, which does.
 #![tactic(auto)]
 
 mod asking;
@@ -42,7 +43,7 @@ pub extern "C" fn cache_size() -> usize
 
 /// Makes an empty cache of this shape in the room at `at`; else the number says why it did not.
 #[unsafe(no_mangle)]
-pub unsafe extern "C" fn cache_new(alloc: Global, shape: &Shape, at: *mut u8) -> u32
+pub unsafe extern "C" fn cache_new_unchecked(alloc: Global, shape: &Shape, at: *mut u8) -> u32
     requires* { sem 𝓛 (room at) }
     ensures* { sem 𝓛 (is_given shape.now at result) }
 {
@@ -57,7 +58,12 @@ pub unsafe extern "C" fn cache_new(alloc: Global, shape: &Shape, at: *mut u8) ->
 
 /// Asks the cache at `at` for one event.
 #[unsafe(no_mangle)]
-pub unsafe extern "C" fn cache_ask(at: *mut u8, ask: &Ask, key: &[u8], bytes: &[u8]) -> Answer
+pub unsafe extern "C" fn cache_ask_unchecked(
+    at: *mut u8,
+    ask: &Ask,
+    key: &[u8],
+    bytes: &[u8],
+) -> Answer
     ghost cache: { Cache }
     requires* { sem 𝓛 (stands_at at cache) }
     ensures* { sem 𝓛 (has_asked cache at ask.now key.now bytes.now result) }
@@ -68,7 +74,12 @@ pub unsafe extern "C" fn cache_ask(at: *mut u8, ask: &Ask, key: &[u8], bytes: &[
 /// Fills the `len` bytes at `out` with those that stand in the cache at `at` from a place on; false
 /// where there are not so many words.
 #[unsafe(no_mangle)]
-pub unsafe extern "C" fn cache_copy(at: *mut u8, place: u32, out: *mut u8, len: usize) -> bool
+pub unsafe extern "C" fn cache_copy_unchecked(
+    at: *mut u8,
+    place: u32,
+    out: *mut u8,
+    len: usize,
+) -> bool
     ghost old: { Cache × List ℕ }
     requires* { sem 𝓛 (fsep (stands_at at old.0) (bytes_at out len old.1)) }
     ensures* { sem 𝓛 (has_copied old.0 old.1 at place out len result) }
@@ -78,7 +89,7 @@ pub unsafe extern "C" fn cache_copy(at: *mut u8, place: u32, out: *mut u8, len: 
 
 /// What the cache at `at` counts, and its words. Nothing changes.
 #[unsafe(no_mangle)]
-pub unsafe extern "C" fn cache_get_counts(at: *mut u8) -> ToldCounts
+pub unsafe extern "C" fn cache_get_counts_unchecked(at: *mut u8) -> ToldCounts
     ghost cache: { Cache }
     requires* { sem 𝓛 (stands_at at cache) }
     ensures* { sem 𝓛 (has_counted cache at result) }
@@ -88,7 +99,7 @@ pub unsafe extern "C" fn cache_get_counts(at: *mut u8) -> ToldCounts
 
 /// The row that a look-up of the key at the moment `t` finds in the cache at `at`. Nothing changes.
 #[unsafe(no_mangle)]
-pub unsafe extern "C" fn cache_find_row(at: *mut u8, key: &[u8], t: u64) -> ToldRow
+pub unsafe extern "C" fn cache_find_row_unchecked(at: *mut u8, key: &[u8], t: u64) -> ToldRow
     ghost cache: { Cache }
     requires* { sem 𝓛 (stands_at at cache) }
     ensures* { sem 𝓛 (has_found cache at key.now t result) }
@@ -100,7 +111,7 @@ pub unsafe extern "C" fn cache_find_row(at: *mut u8, key: &[u8], t: u64) -> Told
 /// `out`: those of a slot, or behind the slots the removed rows. It answers how many there were.
 /// Nothing changes.
 #[unsafe(no_mangle)]
-pub unsafe extern "C" fn cache_list_rows(
+pub unsafe extern "C" fn cache_list_rows_unchecked(
     at: *mut u8,
     slot: u32,
     skip: u64,
@@ -117,7 +128,12 @@ pub unsafe extern "C" fn cache_list_rows(
 /// Writes the gaps of the cache at `at` from a place on, by rising place, to the `room` places at
 /// `out`. It answers how many there were. Nothing changes.
 #[unsafe(no_mangle)]
-pub unsafe extern "C" fn cache_list_gaps(at: *mut u8, from: u32, out: *mut Gap, room: usize) -> u64
+pub unsafe extern "C" fn cache_list_gaps_unchecked(
+    at: *mut u8,
+    from: u32,
+    out: *mut Gap,
+    room: usize,
+) -> u64
     ghost old: { Cache × List Gap }
     requires* { sem 𝓛 (fsep (stands_at at old.0) (gaps_at out room old.1)) }
     ensures* { sem 𝓛 (has_gaps old.0 old.1 at from out room result) }

@@ -101,8 +101,8 @@ impl Cache {
         (hash_of(key) % u64::from(slots)) as u32
     }
 
-    /// Fills the slice with the rows of a list, in their order and after the first `skip`: a slot's,
-    /// or behind the slots the removed rows. It answers how many were written.
+    /// Fills the slice with the rows of a list, in their order and after the first `skip`: those of
+    /// a slot, or behind the slots the removed rows. It answers how many were written.
     pub(crate) fn list_rows(&mut self, slot: u32, skip: u64, out: &mut [ToldRow]) -> u64
         requires stand { IsStanding self.old }
         ensures same { IsKept self.old self.new }

@@ -1,4 +1,4 @@
--- `cache_find_row` meets its contract: the cache is lent for a lifetime that is made for the call of `find`, and comes back once it is over.
+-- `cache_find_row_unchecked` meets its contract: the cache is lent for a lifetime that is made for the call of `find`, and comes back once it is over.
 use Rattle.cache_c.proofs.Steps.{ℕ, [], ◌∷◌, ◌++◌, refl, w64, proved, full_share, id⊢, emp, ftrue, fex, flft, flent, fsep, named, vint, vptr, fact, fact_i, tables, ‵, raw, ◌⊛◌, some, later, prop, ◌$◌, ◌∵◌, !, qed, done, move, keep, drop, use0, use1, use2, use3, split, join, fsplit, fjoin, fpack, fpick, pick, await, regoal, suffices, group, enter, addr, stop, no_more, and_then, returns, alloc_all, pass_all, free_all, look_at, get, through, sets, lands_as, u8, u64, yes, uint_vals, uint_Tells, Ptr, RawPtr, block_ptr, in_a_block, rawptr_vals, rawptr_Tells, MutRef, MutBor, plain, nothing, heard, peeks, calls_at, lasts, triple_of, Stays, walk_of, stay_dropped, Goes-dropped, ends_at, framed}
 use prog.Wp.{WpFn}
 use denote.Builtin.{SliceRefOf}
@@ -16,9 +16,9 @@ use Rattle.cache_c.specs.Memory.{stands_at, lies}
 use Rattle.cache_c.specs.Standing.{IsStanding, IsKept, words_of}
 use Rattle.cache_c.specs.Told.{IsFoundBy, found_row}
 use Rattle.cache_c.proofs.Standing.{stands_kept}
-use Rattle.cache_c.specs.contracts.cache_find_row as f
-use Rattle.cache_c.proofs.cache_find_row.Statement.{statement}
-use Rattle.cache_c.proofs.cache_find_row.Code as code
+use Rattle.cache_c.specs.contracts.cache_find_row_unchecked as f
+use Rattle.cache_c.proofs.cache_find_row_unchecked.Statement.{statement}
+use Rattle.cache_c.proofs.cache_find_row_unchecked.Code as code
 use Rattle.cache_c.specs.contracts.cache.Cache.{the_row as R}
 use Rattle.cache_c.specs.contracts.rows.ToldRow.{the_row as B}
 use Rattle.cache_c.proofs.rows.ToldRow.TheLaws as answer
@@ -28,8 +28,8 @@ use Rattle.cache_c.proofs.cache.Cache.find.Met.{met}
 abbrev stayed : Stays f.ended.signature.params f.ended.kept
 stayed = (stay_dropped _ yes, (stay_dropped _ yes, (stay_dropped _ yes, tt)))
 
-pub cache_find_row_spec : {M : Type 1} → statement M
-cache_find_row_spec 𝓤 𝓛 𝓜 𝓡 wired =
+pub cache_find_row_unchecked_spec : {M : Type 1} → statement M
+cache_find_row_unchecked_spec 𝓤 𝓛 𝓜 𝓡 wired =
     let c = f.clauses 𝓛 𝓜.mem 𝓡.returns in let W = walk_of 𝓛 f.ended stayed c in let 𝓣 = tables 𝓤 𝓛.H 𝓜 𝓡 𝓡.env in
     proved 𝓛 f.ended stayed c 𝓜 𝓡 (Goes-dropped 𝓛 1 (plain (λ _. RawPtr)) yes (λ κs x w. refl), (Goes-dropped 𝓛 1 (SliceRefOf (0 ∷ []) tt (plain (λ _. u8)) (λ _. tt)) yes (λ κs x w. refl), (Goes-dropped 𝓛 1 (plain (λ _. u64)) yes (λ κs x w. refl), tt)))
     f.Key.name code.function (code.unfolded 𝓤 𝓛.H 𝓜 𝓡 wired)

@@ -1,4 +1,4 @@
--- `cache_get_counts` meets its contract: the cache is lent for a lifetime that is made for the call of `counts`, and comes back once it is over.
+-- `cache_get_counts_unchecked` meets its contract: the cache is lent for a lifetime that is made for the call of `counts`, and comes back once it is over.
 use Rattle.cache_c.proofs.Steps.{◌≡◌, [], ◌∷◌, refl, proved, full_share, id⊢, emp, ftrue, fex, flft, flent, fsep, named, vptr, fact, fact_i, tables, ‵, raw, ◌⊛◌, some, later, prop, ◌$◌, ◌∵◌, !, qed, done, move, keep, drop, use0, use1, use2, use3, split, join, fsplit, fjoin, fpack, fpick, pick, await, regoal, suffices, group, enter, addr, stop, no_more, and_then, returns, alloc_all, pass_all, free_all, look_at, get, through, sets, lands_as, yes, Ptr, RawPtr, block_ptr, in_a_block, rawptr_vals, rawptr_Tells, MutRef, MutBor, plain, nothing, heard, peeks, calls_at, lasts, on_entry, triple_of, Stays, walk_of, stay_dropped, Goes-dropped, ends_at, framed}
 use Rattle.std.proofs.Common.{ℕ}
 use prog.Wp.{WpFn}
@@ -14,9 +14,9 @@ use Rattle.cache_c.specs.Memory.{stands_at, lies}
 use Rattle.cache_c.specs.Standing.{IsStanding, IsKept}
 use Rattle.cache_c.specs.Told.{counts_told}
 use Rattle.cache_c.proofs.Standing.{stands_kept}
-use Rattle.cache_c.specs.contracts.cache_get_counts as f
-use Rattle.cache_c.proofs.cache_get_counts.Statement.{statement}
-use Rattle.cache_c.proofs.cache_get_counts.Code as code
+use Rattle.cache_c.specs.contracts.cache_get_counts_unchecked as f
+use Rattle.cache_c.proofs.cache_get_counts_unchecked.Statement.{statement}
+use Rattle.cache_c.proofs.cache_get_counts_unchecked.Code as code
 use Rattle.cache_c.specs.contracts.cache.Cache.{the_row as R}
 use Rattle.cache_c.specs.contracts.counts.ToldCounts.{the_row as B}
 use Rattle.cache_c.proofs.counts.ToldCounts.TheLaws as answer
@@ -26,8 +26,8 @@ use Rattle.cache_c.proofs.cache.Cache.counts.Met.{met}
 abbrev stayed : Stays f.ended.signature.params f.ended.kept
 stayed = (stay_dropped _ yes, tt)
 
-pub cache_get_counts_spec : {M : Type 1} → statement M
-cache_get_counts_spec 𝓤 𝓛 𝓜 𝓡 wired =
+pub cache_get_counts_unchecked_spec : {M : Type 1} → statement M
+cache_get_counts_unchecked_spec 𝓤 𝓛 𝓜 𝓡 wired =
     let c = f.clauses 𝓛 𝓜.mem 𝓡.returns in let W = walk_of 𝓛 f.ended stayed c in let 𝓣 = tables 𝓤 𝓛.H 𝓜 𝓡 𝓡.env in
     proved 𝓛 f.ended stayed c 𝓜 𝓡 (Goes-dropped 𝓛 0 (plain (λ _. RawPtr)) yes (λ κs x w. refl), tt)
     f.Key.name code.function (code.unfolded 𝓤 𝓛.H 𝓜 𝓡 wired)

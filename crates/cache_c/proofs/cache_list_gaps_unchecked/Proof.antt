@@ -1,4 +1,4 @@
--- `cache_list_gaps` meets its contract: the cache and the caller's memory are lent for a lifetime that is made for the call of `list_gaps`, and come back once it is over.
+-- `cache_list_gaps_unchecked` meets its contract: the cache and the caller's memory are lent for a lifetime that is made for the call of `list_gaps`, and come back once it is over.
 use Rattle.cache_c.proofs.Steps.{ℕ, List, [], ◌∷◌, ◌++◌, refl, w64, proved, full_share, id⊢, emp, ftrue, fex, flft, flent, fsep, feq, named, Val, vint, vptr, fact, fact_i, tables, ‵, raw, ◌⊛◌, some, later, prop, ◌$◌, ◌∵◌, !, qed, done, move, keep, drop, use0, use1, use2, use3, split, join, fsplit, fjoin, fpack, fpick, feq_i, feq_l, pick, await, regoal, suffices, group, enter, addr, stop, no_more, and_then, returns, alloc_all, pass_all, free_all, look_at, get, through, sets, lands_as, u64, yes, uint_Makes, uint_vals, uint_Tells, uint_Lawful, Ptr, RawPtr, block_ptr, lies_at, in_a_block, rawptr_vals, rawptr_Tells, MutRef, MutBor, plain, nothing, owned, heard, peeks, calls_at, lasts, on_entry, triple_of, Stays, walk_of, stay_dropped, Goes-dropped, ends_at, framed}
 use Rattle.std.proofs.Common.{sym, subst, w32, length}
 use prog.Wp.{WpFn}
@@ -21,9 +21,9 @@ use Rattle.cache_c.specs.Standing.{IsStanding, IsKept}
 use Rattle.apcu_model.specs.Infos.{gaps_of}
 use Rattle.cache_c.specs.Told.{AreGapsBy, gaps_from}
 use Rattle.cache_c.proofs.Standing.{stands_kept}
-use Rattle.cache_c.specs.contracts.cache_list_gaps as f
-use Rattle.cache_c.proofs.cache_list_gaps.Statement.{statement}
-use Rattle.cache_c.proofs.cache_list_gaps.Code as code
+use Rattle.cache_c.specs.contracts.cache_list_gaps_unchecked as f
+use Rattle.cache_c.proofs.cache_list_gaps_unchecked.Statement.{statement}
+use Rattle.cache_c.proofs.cache_list_gaps_unchecked.Code as code
 use Rattle.cache_c.specs.contracts.cache.Cache.{the_row as R}
 use Rattle.cache_c.specs.contracts.counts.Gap.{the_row as E}
 use Rattle.cache_c.specs.contracts.cache.Cache.list_gaps as g
@@ -32,8 +32,8 @@ use Rattle.cache_c.proofs.cache.Cache.list_gaps.Met.{met}
 abbrev stayed : Stays f.ended.signature.params f.ended.kept
 stayed = (stay_dropped _ yes, (stay_dropped _ yes, (stay_dropped _ yes, (stay_dropped _ yes, tt))))
 
-pub cache_list_gaps_spec : {M : Type 1} → statement M
-cache_list_gaps_spec 𝓤 𝓛 𝓜 𝓡 wired =
+pub cache_list_gaps_unchecked_spec : {M : Type 1} → statement M
+cache_list_gaps_unchecked_spec 𝓤 𝓛 𝓜 𝓡 wired =
     let c = f.clauses 𝓛 𝓜.mem 𝓡.returns in let W = walk_of 𝓛 f.ended stayed c in let 𝓣 = tables 𝓤 𝓛.H 𝓜 𝓡 𝓡.env in
     proved 𝓛 f.ended stayed c 𝓜 𝓡 (Goes-dropped 𝓛 0 (plain (λ _. RawPtr)) yes (λ κs x w. refl), (Goes-dropped 𝓛 0 (plain (λ _. u32)) yes (λ κs x w. refl), (Goes-dropped 𝓛 0 (plain (λ _. RawPtr)) yes (λ κs x w. refl), (Goes-dropped 𝓛 0 (plain (λ _. usize)) yes (λ κs x w. refl), tt))))
     f.Key.name code.function (code.unfolded 𝓤 𝓛.H 𝓜 𝓡 wired)
