@@ -1,5 +1,5 @@
 #!/usr/bin/env bash
-# Writes the tables of crates of ARCHITECTURE.md, between its two marks: what each crate is, by the first sentence of its
+# Writes the table and lists of crates of ARCHITECTURE.md, between its two marks: what each crate is, by the first sentence of its
 # own comment, what it stands on, by crates.txt, and the functions that carry it, by the lines 'carries:' of claims.txt;
 # and whose proofs cite lemmas out of the proofs of a lower crate, by their imports.
 # With --check it writes nothing, and ends with status 1 where ARCHITECTURE.md is not what it would write.
@@ -63,22 +63,22 @@ def cited(name):
         for crate, file in re.findall(r"^(?:pub )?use Rattle\.(\w+)\.proofs\.(\w+)", open(path, encoding="utf-8").read(), re.M):
             if crate in below and crate != name:
                 found.setdefault(crate, set()).add(file)
-    return "; ".join(f"`{crate}`: {', '.join(f'`{file}`' for file in sorted(files))}" for crate, files in found.items())
+    return "; ".join(f"`{crate}` ({', '.join(f'`{file}`' for file in sorted(files))})" for crate, files in found.items())
 
 
 rows = "".join(f"| `{name}` | {about(name)} | {stands_on(name)} | {functions(name)} |\n"
                for name in below if not name.endswith("_tests"))
-tests = "".join(f"| `{name}` | {about(name)} | {stands_on(name)} |\n" for name in below if name.endswith("_tests"))
-proofs = "".join(f"| `{name}` | {cited(name)} |\n" for name in below if cited(name))
+tests = "".join(f"- `{name}`: {stands_on(name)}\n" for name in below if name.endswith("_tests"))
+proofs = "".join(f"- `{name}`: {cited(name)}\n" for name in below if cited(name))
 made = f"""
 | crate | what it is | stands on | functions that carry it |
 |---|---|---|---|
 {rows}
-| crate of tests | what it is | stands on |
-|---|---|---|
+Crates of tests, and what they stand on:
+
 {tests}
-| crate whose proofs | cite proofs of |
-|---|---|
+Crates whose proofs cite proofs of lower ones, and which:
+
 {proofs}
 """
 page = open(PAGE, encoding="utf-8").read()
