@@ -1,5 +1,5 @@
 #!/usr/bin/env bash
-# Writes the coverage and the tables of CLAIMS.md, between its two marks, from the rows of claims.txt, the lines 'clause:'
+# Writes the coverage and the lists of CLAIMS.md, between its two marks, from the rows of claims.txt, the lines 'clause:'
 # of the edits and the repository's history. It writes nothing and ends with status 1 where a row names a clause or a test
 # that is not there, where an edit names no clause, or one that is in no row. With --check it writes nothing in any case,
 # and ends with status 1 where CLAIMS.md is not what it would write; without the history it takes over what the page says
@@ -11,7 +11,6 @@ exec python3 - "$@" <<'PYTHON'
 import glob, os, re, subprocess, sys
 
 BEGIN, END = "<!-- what stands from here on is written by claims.sh -->", "<!-- up to here -->"
-HEAD = "| promise | clauses | edits | tests |\n|---|---|---|---|\n"
 PAGE = "docs/CLAIMS.md"
 OWNER = re.compile(r"^( *)(?:pub(?:\([a-z ]+\))? )?(?:unsafe )?(impl|trait)\b(.*)")
 FUNCTION = re.compile(r'^( *)(?:pub(?:\([a-z ]+\))? )?(?:const )?(?:unsafe )?(?:extern "C" )?fn (\w+)')
@@ -66,13 +65,13 @@ class Source:
     """What the crates have: functions with their clauses, tests and their files, and the definitions of specs/."""
 
     def __init__(self):
-        self.functions, self.tests, self.files, self.traits, self.definitions = {}, set(), set(), {}, {}
+        self.functions, self.tests, self.files, self.traits, self.definitions = {}, set(), {}, {}, {}
         for path in sorted(glob.glob("crates/*/src/**/*.rt", recursive=True)):
             crate = path.split("/")[1]
             for trait, owner, name, clauses, test in functions_in(path):
                 if test:
                     self.tests.add(f"{crate}::{name}")
-                    self.files.add(f"{crate}/{os.path.basename(path)[:-len('.rt')]}")
+                    self.files.setdefault(f"{crate}/{os.path.basename(path)[:-len('.rt')]}", []).append(f"{crate}::{name}")
                 key = f"{crate}::{owner}::{name}" if owner else f"{crate}::{name}"
                 self.functions.setdefault(key, []).append((trait, name, clauses))
                 if owner and not trait:
@@ -135,7 +134,7 @@ class Clauses:
 
 
 def rows_of(source):
-    """The tables by their names, each with what is said of it and its rows (a promise, its clauses, those that are alike,
+    """The lists by their names, each with what is said of it and its rows (a promise, its clauses, those that are alike,
     and its tests); and by their folders where edits were last tried."""
     tables, tried = {}, {}
     for part in re.split(r"\n\s*\n", open("docs/claims.txt", encoding="utf-8").read()):
@@ -186,7 +185,7 @@ def check(tables, edits, source):
                       for clauses in row["alike"] for key in clauses.keys if key not in known)
 
 
-# ---- the tables
+# ---- the lists of rows
 
 def names(clauses, tier, edits, home):
     """The edits of one tier that name one of these clauses, each once, without the crate where it is the row's."""
@@ -201,13 +200,20 @@ def edits_for(row, edits):
     return gate, [name for name in names(row["alike"], "must-fail", edits, home) if name not in gate], further
 
 
-def line_of(row, edits):
+def in_files(tests, source):
+    """These tests, and all of one file by its name."""
+    whole = {test: file for file, others in source.files.items() if len(others) > 1 and set(others) <= set(tests)
+             for test in others}
+    return list(dict.fromkeys(whole.get(test, test) for test in tests))
+
+
+def line_of(row, edits, source):
     gate, others, further = edits_for(row, edits)
-    tried = [", ".join(gate)] * bool(gate) + ["alike: " + ", ".join(others)] * bool(others) + \
+    tried = [", ".join(gate)] * bool(gate) + ["alike " + ", ".join(others)] * bool(others) + \
         [f"+{len(further)}"] * bool(further)
-    cells = [row["promise"], "; ".join(str(each) for each in row["clause"]), "; ".join(tried) or "none",
-             ", ".join(f"`{test}`" for test in row["test"]) or "none"]
-    return "| " + " | ".join(cells) + " |\n"
+    tests = ", ".join(f"`{test}`" for test in in_files(row["test"], source))
+    return (f"- {row['promise']}\n  {'; '.join(str(each) for each in row['clause'])}. "
+            f"Edits: {'; '.join(tried) or 'none'}. Tests: {tests or 'none'}.\n")
 
 
 # ---- coverage
@@ -281,7 +287,7 @@ def main(words):
         sys.exit("\n".join(dict.fromkeys(faults)))
     page = open(PAGE, encoding="utf-8").read()
     text = "\n\n".join([coverage(tables, edits, tried, page).rstrip()] + [
-        f"## {name}\n\n{about}{HEAD}{''.join(line_of(row, edits) for row in rows)}".rstrip()
+        f"## {name}\n\n{about}{''.join(line_of(row, edits, source) for row in rows)}".rstrip()
         for name, (about, rows) in tables.items() if name != "-"])
     before, begin, rest = page.partition(BEGIN)
     _, end, after = rest.partition(END)
