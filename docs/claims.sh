@@ -209,7 +209,7 @@ def in_files(tests, source):
 
 def line_of(row, edits, source):
     gate, others, further = edits_for(row, edits)
-    tried = [", ".join(gate)] * bool(gate) + ["alike " + ", ".join(others)] * bool(others) + \
+    tried = [", ".join(gate)] * bool(gate) + [f"{len(others)} alike"] * bool(others) + \
         [f"+{len(further)}"] * bool(further)
     tests = ", ".join(f"`{test}`" for test in in_files(row["test"], source))
     return (f"- {row['promise']}\n  {'; '.join(str(each) for each in row['clause'])}. "
