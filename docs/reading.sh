@@ -15,7 +15,7 @@ PARTS = {"AnswersSeed": "generated runs", "AnswersOutput": "verdicts", "map_afte
 # What is read in an hour: a file, and of the two that serve all tasks the definitions alone that are named.
 SPINE = [
     ("apcu_play/Run", "a text was written whole", ["WritesAll", "Replays"]),
-    ("apcu_play/Tasks", "what is printed for the input's scripts", ["WasRead", "AnswersInput", "AnswersTask"]),
+    ("apcu_play/Tasks", "what is printed for the input's scripts", ["WasRead", "played_text", "AnswersInput", "AnswersTask"]),
     ("apcu_play/Inputs", "which scripts the input spells", ["AreCrew", "AreFew"]),
     ("script_read/Play", "what a worker asks next, and the play of a journal", None),
     ("apcu_model/History", "events, windows, and which masks are legal", None),
