@@ -335,10 +335,12 @@ def clause_span(path):
 
 def spine(root, played):
     begin, end = clause_span(root)
-    rows, total, done = f"| [`{CRATE}/src/{os.path.basename(root)}`](../{root}) | {begin}-{end} | the clause |\n", end - begin + 1, {}
+    rows = f"| [`{CRATE}/src/{os.path.basename(root)}`](../{root}) | {begin}-{end} | the clause |\n"
+    total, done = end - begin + 1, {}
     for name, about, words in SPINE:
         file = played.file(path_of(name))
-        parts = [part for part in played.words[path_of(name)] if words is None or part in [file.parts[word] for word in words]]
+        named = [file.parts[word] for word in words or []]
+        parts = [part for part in played.words[path_of(name)] if words is None or part in named]
         total += sum(part.lines for part in parts)
         done[path_of(name)] = {id(part) for part in parts}
         rows += f"| {link(name)} | {spans(parts)} | {about} |\n"
