@@ -251,8 +251,8 @@ def trial(folder, about, tried):
     if then is None:
         return None
     new = sum(change_of(path, open(path, encoding="utf-8").read()) not in then for path in paths)
-    return (f"- {about}: {len(paths)}. All were last tried, and refused, before commit `{commit}` ({date}), {len(then)} "
-            f"then. Of today's {new} are new or changed since, and so are sources.\n")
+    return (f"- {about}: {len(paths)}. The last recorded run of all, at commit `{commit}` ({date}), had {len(then)}, "
+            f"each refused. Of today's {new} are new or changed since, and so are sources.\n")
 
 
 def coverage(tables, edits, tried, old):
