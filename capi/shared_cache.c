@@ -85,7 +85,7 @@ static uint32_t make(void) {
 
 uint32_t shared_start(const cache_shape *wanted) {
     if (!wanted)
-        return CACHE_BAD_SHAPE;
+        return CACHE_NO_POINTER;
     shape = *wanted;
     size_t before = whole_lines(sizeof *head) + whole_lines(cache_size());
     /* A word has 8 bytes, and the index of free blocks some more than one for each. Pages that
