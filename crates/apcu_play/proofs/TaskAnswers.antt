@@ -91,7 +91,7 @@ input_answers s bundle map bytes crew ends printed done are few p before after r
 )
 
 pub output_answers : (s : Settings) (len : ℕ) (bytes output : List ℕ) (scripts : List (List Step)) (ends : Status) (printed : List ℕ) → AreInFront len bytes scripts → output ≡ drop len bytes → all_events s.conf.slots scripts ≤ most_events
-    → PrintsVerdict s.conf (all_timed s.clock scripts) output ends printed → AnswersBytes s (Verify len) bytes ends printed
+    → PrintsVerdict s.conf s.clock scripts output ends printed → AnswersBytes s (Verify len) bytes ends printed
 output_answers s len bytes output scripts ends printed are behind few p before after read = record {
   input = bytes;
   scripts = scripts;
@@ -99,6 +99,7 @@ output_answers s len bytes output scripts ends printed are behind few p before a
   read = read;
   spelled = are;
   few = few;
+  readable = p.readable;
   judged = p.judged ∙ ap (verdict_of s.conf (all_timed s.clock scripts)) behind;
   text = p.text;
   ended = p.ended;

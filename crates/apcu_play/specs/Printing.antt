@@ -12,6 +12,7 @@ use Rattle.reply_text.specs.Output.{journal_lines}
 use Rattle.seg_report.specs.Lines.{map_text}
 use Rattle.run_verify.specs.declared.verifying.Verdict.{Verdict}
 use Rattle.run_verify.specs.Verdicts.{verdict_of}
+use Rattle.run_verify.specs.ReadPatterns.{AreReadable}
 use Rattle.apcu_play.specs.declared.status.Status.{Status}
 use Rattle.apcu_play.specs.Tasks.{LoadsFirst, played_text, verdict_text, ending_for}
 
@@ -30,11 +31,12 @@ pub record PrintsCrew (conf : Conf) (clock : Clock) (bundle : Option ℕ) (map :
   pub first : LoadsFirst bundle crew journal
   pub text : printed ≡ played_text map conf (all_timed clock crew) journal
 
--- This is the line of the verdict on an output, and a run that has written it ends so. The scripts
--- are as the clock sees them.
-pub record PrintsVerdict (conf : Conf) (scripts : List (List Step)) (output : List ℕ)
-    (ends : Status) (printed : List ℕ) : Type 0 where
+-- This is the line of the verdict on an output, and a run that has written it ends so. Each pattern
+-- of the scripts is one.
+pub record PrintsVerdict (conf : Conf) (clock : Clock) (scripts : List (List Step))
+    (output : List ℕ) (ends : Status) (printed : List ℕ) : Type 0 where
   pub verdict : Verdict
-  pub judged : verdict ≡ verdict_of conf scripts output
+  pub readable : AreReadable scripts
+  pub judged : verdict ≡ verdict_of conf (all_timed clock scripts) output
   pub text : printed ≡ verdict_text verdict
   pub ended : ends ≡ ending_for verdict

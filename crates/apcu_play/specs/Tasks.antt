@@ -20,6 +20,7 @@ use Rattle.generated_laws.specs.Summary.{Summary, summary_text}
 use Rattle.run_verify.specs.declared.verifying.Verdict.{Verdict}
 use Rattle.run_verify.specs.declared.verifying.Verdict.TheVariants.{Yes, NoJournal, Event, Byte}
 use Rattle.run_verify.specs.Verdicts.{verdict_of}
+use Rattle.run_verify.specs.ReadPatterns.{AreReadable}
 use Rattle.seg_report.specs.Lines.{map_text}
 use Rattle.crew_play.specs.PlayedScripts.{ComeFirst}
 use Rattle.crew_play.specs.GeneratedRuns.{IsWatched}
@@ -122,8 +123,8 @@ ending_for NoJournal = Differs
 ending_for (Event k) = Differs
 ending_for (Byte place) = Differs
 
--- The first so many bytes of the whole input spell these scripts, and this is the verdict on the
--- rest as an output of theirs, as the clock sees them.
+-- The first so many bytes of the whole input spell these scripts, whose patterns are patterns, and
+-- this is the verdict on the rest as an output of theirs, as the clock sees them.
 pub record AnswersOutput (s : Settings) (len : ℕ) (ends : Status)
     (left_before left_after : Option (List ℕ)) (printed : List ℕ) : Type 0 where
   pub input : List ℕ
@@ -132,6 +133,7 @@ pub record AnswersOutput (s : Settings) (len : ℕ) (ends : Status)
   pub read : WasRead left_before left_after input
   pub spelled : AreInFront len input scripts
   pub few : AreFew None s.conf scripts
+  pub readable : AreReadable scripts
   pub judged : verdict ≡ verdict_of s.conf (all_timed s.clock scripts) (drop len input)
   pub text : printed ≡ verdict_text verdict
   pub ended : ends ≡ ending_for verdict

@@ -9,6 +9,7 @@ ghost use Rattle.script_read.specs.Patterns.{SomeRefusable};
 ghost use Rattle.crew_play.specs.declared.play.CrewFault.TheVariants.{TooMany, Pattern};
 ghost use Rattle.reply_text.specs.Output.{worker_texts};
 ghost use Rattle.run_verify.specs.Verdicts.{verdict_of};
+ghost use Rattle.run_verify.specs.ReadPatterns.{AreReadable};
 ghost use Rattle.apcu_play.specs.Printing.{PrintsVerdict};
 ghost use Rattle.apcu_play.specs.Tasks.{ending_for, verdict_text};
 
@@ -68,6 +69,7 @@ fn verdict_on<M: Maker>(
     requires few { all_events conf.now.slots scripts.now ≤ most_events }
     ensures verdict { IfOk result (λ v.
         v ≡ verdict_of conf.now (all_timed clock scripts.now) output.now) }
+    ensures readable { OnOk result (AreReadable scripts.now) }
     ensures pattern { IfErr result (λ e. e ≡ Pattern
         → SomeRefusable (M.may_refuse maker.now) scripts.now) }
     ensures others { IfErr result (λ e. e ≢ TooMany) }
@@ -80,7 +82,8 @@ fn verdict_on<M: Maker>(
 }
 
 /// Judges an output of the scripts under a clock, and gathers the line of the verdict. Nothing is
-/// judged where the calls may make more than 4,194,304 events, each worker's end included.
+/// judged where the calls may make more than 4,194,304 events, each worker's end included, or where
+/// one of their patterns is none or is refused.
 pub(crate) fn judge<M: Maker>(
     alloc: Global,
     conf: &Conf,
@@ -90,7 +93,7 @@ pub(crate) fn judge<M: Maker>(
     clock: Clock,
 ) -> Result<Printed, CrewFault>
     requires good { IsGood conf.now }
-    ensures verdict { IfOk result (λ p. PrintsVerdict conf.now (all_timed clock scripts.now)
+    ensures verdict { IfOk result (λ p. PrintsVerdict conf.now clock scripts.now
         output.now p.ends (worker_texts 0 p.texts.items ++ p.rest)) }
     ensures few { OnOk result (all_events conf.now.slots scripts.now ≤ most_events) }
     ensures many { IfErr result (λ e. e ≡ TooMany

@@ -7,7 +7,7 @@ use std::process::ExitCode;
 /// How a run ended. Its number is the program's exit status.
 #[derive(Clone, Copy, Debug, PartialEq, Eq)]
 pub enum Status {
-    /// All calls were made, and what they answered was printed.
+    /// All calls were made, and what is told of them was printed; or the verdict is `yes`.
     Done,
     /// The words are not those of this program, or an option's value is out of its range.
     Usage,

@@ -82,6 +82,11 @@ impl<'a, R: Wait> Holding<'a, R> {
         *self.given_up.lock(self.rt)
     }
 
+    // How often a worker has come to a point for which somebody waits.
+    pub(crate) fn comings(&self) -> usize {
+        self.come.lock(self.rt).len()
+    }
+
     // Whether somebody waits for this.
     fn is_awaited(&self, come: Come) -> bool {
         self.holds.iter().any(|hold| hold.waits_for(come))

@@ -1,8 +1,11 @@
 //! Iterators: rows that are walked over, deleted and counted, and patterns that are refused.
 
-use crate::runs::{Run, SMALL, expect, expect_by, whole, words_of};
-use apcu_iter::RefuseAll;
+use crate::gates::Hold::Meet;
+use crate::gates::Holding;
+use crate::runs::{Run, SMALL, expect, expect_by, played, smooth, whole, words_of};
+use apcu_iter::{RefuseAll, RegexMaker};
 use apcu_play::Status;
+use io_edges::Point::Before;
 use std::test::Fail;
 
 // Two rows of one slot and one of the next, gone over with at least one row a step.
@@ -110,6 +113,24 @@ fn a_maker_that_refuses(rt: HostRuntime) -> Result<(), Fail> {
     ] {
         let case = whole(input, status, printed, told);
         expect_by(&rt, rt.alloc(), &words, &RefuseAll, case)?;
+    }
+    Ok(())
+}
+
+// A pattern that is refused comes to light before any worker makes a call.
+#[test]
+fn refused_before_a_call(rt: HostRuntime) -> Result<(), Fail> {
+    let words = words_of(rt.alloc(), SMALL)?;
+    for (maker_refuses, calls) in [(true, 0), (false, 1)] {
+        let gate = Holding::new(&rt, rt.alloc(), &[Meet(1, Before(0))])?;
+        let streams = smooth(BY_A_PATTERN);
+        let ended = if maker_refuses {
+            played(&rt, rt.alloc(), &words, streams, &RefuseAll, &gate)?
+        } else {
+            played(&rt, rt.alloc(), &words, streams, &RegexMaker, &gate)?
+        };
+        assert_eq!(rt; ended.status == Status::Pattern, maker_refuses);
+        assert_eq!(rt; gate.comings(), calls);
     }
     Ok(())
 }

@@ -1,6 +1,6 @@
 //! Workers on threads of their own, held at points of their scripts.
 
-use crate::gates::Hold::{self, Until};
+use crate::gates::Hold::{self, Meet, Until};
 use crate::gates::Holding;
 use crate::pieces::Piece::{self, Text, Zs};
 use crate::pieces::spelled;
@@ -287,6 +287,23 @@ fn workers_meet(rt: HostRuntime) -> Result<(), Fail> {
     for case in [ASKED_IN_TURN, COUNTED_IN_TURN, REPLACED_BEHIND_A_WALK] {
         expect_held(&rt, rt.alloc(), case)?;
     }
+    Ok(())
+}
+
+// The workers of a generated run wait for one another, each in front of a call. One that is played
+// behind another one, or not at all, comes alone or never.
+#[test]
+fn generated_workers_meet(rt: HostRuntime) -> Result<(), Fail> {
+    let alloc = rt.alloc();
+    let mut words = words_of(alloc, ["8M", "32", "0"])?;
+    for word in ["--generate", "7", "--workers", "8", "--calls", "200"] {
+        words.push(String::from_str(alloc, word)?)?;
+    }
+    let gate = Holding::new(&rt, alloc, &[Meet(8, Before(100))])?;
+    let ended = played(&rt, alloc, &words, smooth(b""), &RegexMaker, &gate)?;
+    assert_eq!(rt; ended.status, Status::Done);
+    assert!(rt; !gate.has_given_up());
+    assert_eq!(rt; gate.comings(), 8);
     Ok(())
 }
 

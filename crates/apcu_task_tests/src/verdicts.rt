@@ -156,6 +156,17 @@ fn scripts_that_are_refused(rt: HostRuntime) -> Result<(), Fail> {
             WALKS,
             (Status::TooMany, b"", b"apcu_run: too many events\n"),
         ),
+        // What is no pattern is refused, whatever stands behind the scripts.
+        (
+            &["--shm-size=4096", "--slots=32", "--verify=31"],
+            b"worker\nAPCUIterator s:3:\"/(/\";\n",
+            (Status::Pattern, b"", b"apcu_run: pattern\n"),
+        ),
+        (
+            &["--shm-size=4096", "--slots=32", "--verify=31"],
+            b"worker\nAPCUIterator s:3:\"/(/\";\njournal\n1\n",
+            (Status::Pattern, b"", b"apcu_run: pattern\n"),
+        ),
         (
             &["--shm-size=4096", "--slots=32", "--verify=31"],
             b"worker\nAPCUIterator s:3:\"/(/\";\njournal\n0\n0\n",

@@ -7,7 +7,7 @@ ghost use Rattle.seg_words.specs.Windows.{has};
 ghost use Rattle.cache_core.specs.CoreCache.{CacheStands};
 
 use crate::calls::{Act, Answer, Call};
-use crate::values::{generator_of, told, value_of};
+use crate::values::{Value, generator_of, told, value_of};
 use apcu_iter::{Search, chunk, chunk_delete, totals};
 use apcu_model::{Chunk, Conf, Counts, Fields, Gen, List, StoreAnswer, integer};
 use cache_core::{Core, Look, Scalar};
@@ -35,7 +35,7 @@ fn counted(answer: IncAnswer) -> Option<i64> {
     }
 }
 
-// A call of the cache alone.
+// A call of the cache alone. A text is stored from its bytes, and no graph is made of it.
 pub(crate) fn answer_of<S: Segment>(
     rt: &impl Abort,
     alloc: Global,
@@ -52,6 +52,12 @@ pub(crate) fn answer_of<S: Segment>(
 {
     let key = key.as_slice();
     match act {
+        Act::Store(Value::Text(len), ttl, exclusive) => {
+            assert!(rt; len < 1 << 20);
+            let bytes = vec![in alloc; b'z'; len]?;
+            let answer = core.store_bytes(words, key, &bytes, ttl, exclusive, t);
+            Ok(Answer::Flag(answer == StoreAnswer::Stored))
+        }
         Act::Store(value, ttl, exclusive) => {
             let value = value_of(rt, alloc, value)?;
             let answer = core.store(words, key, &value, ttl, exclusive, t);

@@ -24,8 +24,8 @@ pub record IsPlayed (conf : Conf) (scripts : List (List Step)) (journal : List M
   pub texts_are : texts ≡ texts_of conf scripts play.replies
   pub counts_are : counts ≡ counts_of play.stage.cache
 
--- So they were played. The core is the cache after that very play, and the words stand for it; no
--- window is open.
+-- So they were played. The core is the cache after that very play, and the words stand for it. They
+-- are words of one thread, which have no windows.
 pub record IsLeft (conf : Conf) (scripts : List (List Step)) (journal : List Mark)
     (texts : List (List ℕ)) (counts : Counts) (core : Core) (words : VecWords) : Type 0 where
   pub is_played : IsPlayed conf scripts journal texts counts

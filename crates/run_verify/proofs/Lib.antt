@@ -13,6 +13,7 @@ pub mod FieldlessStruct
 pub mod JudgedLines
 pub mod ExampleVerdicts
 pub mod RefusablePatterns
+pub mod ReadablePatterns
 pub mod GameSeats
 pub mod TimedScripts
 pub mod PoolAsks

@@ -5,3 +5,4 @@ pub mod Seats
 pub mod Marks
 pub mod Games
 pub mod JudgedOutputs
+pub mod ReadPatterns

@@ -1,7 +1,7 @@
 //! Judging an output: its journal part is played line by line, and then the output is compared with
 //! what those events print.
 
-ghost use Rattle.std.specs.Prelude.{◌≡◌, ◌≤◌, ◌-◌, ◌++◌, length, drop, Some, IfOk, IfErr};
+ghost use Rattle.std.specs.Prelude.{◌≡◌, ◌≤◌, ◌-◌, ◌++◌, length, drop, Some, IfOk, IfErr, OnOk};
 ghost use Rattle.apcu_model.specs.Conf.{IsGood};
 ghost use Rattle.reply_text.specs.Output.{worker_texts};
 ghost use Rattle.script_read.specs.Budgets.{all_events, most_events};
@@ -9,12 +9,14 @@ ghost use Rattle.script_read.specs.Clock.{all_timed};
 ghost use Rattle.script_read.specs.Patterns.{SomeRefusable};
 ghost use Rattle.run_verify.specs.Verdicts.{verdict_of, journal_part, byte_verdict};
 ghost use Rattle.run_verify.specs.Verdicts.{first_difference};
+ghost use Rattle.run_verify.specs.ReadPatterns.{AreReadable};
 ghost use Rattle.run_verify.specs.declared.fault.VerifyFault.TheVariants.{Pattern};
 
 use crate::budget::event_count;
 use crate::comparing::difference;
 use crate::fault::VerifyFault;
 use crate::marks::play_mark;
+use crate::patterns::try_patterns;
 use crate::played::Played;
 use crate::reading::{journal_at, line_end, read_mark};
 use crate::seats::{all_done, into_texts, seats_for};
@@ -118,7 +120,9 @@ fn judge<M: Maker>(
 /// and this clock. It is gone over once. Its journal is played by one thread, and its events are
 /// no more than those of the scripts.
 ///
-/// `Pattern` comes only where a call of the scripts has a pattern that may be refused.
+/// The regex of each pattern is made before the output is looked at, so there is a verdict only
+/// where each of them is a pattern. `Pattern` comes only where a call of the scripts has one that
+/// may be refused.
 pub fn verify<M: Maker>(
     alloc: Global,
     maker: &M,
@@ -131,9 +135,11 @@ pub fn verify<M: Maker>(
     requires few { all_events conf.now.slots scripts.now ≤ most_events }
     ensures verdict { IfOk result (λ v.
         v ≡ verdict_of conf.now (all_timed clock scripts.now) output.now) }
+    ensures readable { OnOk result (AreReadable scripts.now) }
     ensures pattern { IfErr result (λ fault. fault ≡ Pattern
         → SomeRefusable (M.may_refuse maker.now) scripts.now) }
 {
+    try_patterns(alloc, maker, scripts)?;
     let Some(part) = journal_at(output) else {
         return Ok(Verdict::NoJournal);
     };

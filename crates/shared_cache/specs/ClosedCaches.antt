@@ -29,8 +29,8 @@ pub record IsClosed (conf : Conf) (workers : ℕ) (ended : List PassView) (close
       → events_of b.known.worker history ≡ b.known.own
   pub others : (w : ℕ) → is_among w (known_list ended) ≡ false → events_of w history ≡ []
 
--- So it was closed. The core is the cache after that history, and the words stand for it; no window
--- is open.
+-- So it was closed. The core is the cache after that history, and the words stand for it. They are
+-- words of one thread, which have no windows.
 pub record IsClosedWhole (conf : Conf) (workers : ℕ) (ended : List PassView) (closed : Closed)
     (core : Core) (words : VecWords) : Type 0 where
   pub is_closed : IsClosed conf workers ended closed

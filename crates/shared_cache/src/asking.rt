@@ -8,7 +8,8 @@ ghost use Rattle.apcu_model.specs.Sequential.{info_reply};
 ghost use Rattle.shared_cache.specs.Asking.{MayAsk};
 ghost use Rattle.shared_cache.specs.Follows.{Follows, FollowsEntry};
 
-use crate::shared::{Shared, locked};
+use crate::shared::Shared;
+use crate::wait_lock::locked;
 use apcu_iter::Search;
 use apcu_model::{Chunk, Fields, Gen, List};
 use counter_entry::Fate;

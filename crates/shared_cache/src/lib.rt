@@ -23,6 +23,7 @@ mod recording;
 mod shared;
 mod texts;
 mod under_lock;
+mod wait_lock;
 
 pub use locked_cache::{Closed, Pinned};
 pub use opening::{Fresh, OpenFault, open_cache};

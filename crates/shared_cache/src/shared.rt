@@ -19,6 +19,7 @@ ghost use Rattle.shared_cache.specs.ClosedCaches.{IsClosed, IsClosedWhole};
 
 use crate::locked_cache::{Closed, LockedCache, Pinned};
 use crate::texts::{write_copy, write_string};
+use crate::wait_lock::{WaitLock, locked};
 use cache_core::Core;
 use counter_entry::IncAnswer;
 use notation::ByteOut;
@@ -27,8 +28,7 @@ use pin_table::{Copying, Ended, EndedList, Image, Pass, PinTable, TableName};
 use seg_words::VecWords;
 use std::alloc::{AllocError, Global};
 use std::marker::Model;
-use std::sync::{Mutex, MutexGuard, Wait};
-use std::thread::yield_now;
+use std::sync::Wait;
 use value_image::unpersist;
 
 /// A cache that many workers share. Its table, its shape and its budgets are those of its name.
@@ -42,7 +42,7 @@ pub struct Shared<N: TableName> {
     // for the empty list of further places that a new counter's value has
     pub(crate) alloc: Global,
     pub(crate) table: PinTable,
-    pub(crate) lock: Mutex<LockedCache<N>>,
+    pub(crate) lock: WaitLock<LockedCache<N>>,
 }
 
 impl<N: TableName> Drop for Shared<N> {
@@ -68,37 +68,6 @@ impl<N: TableName> Model for Shared<N> {
     ghost invariant = { λ s. s.table ≡ N.table };
 }
 
-// How often the lock is tried before its queue is joined.
-const TRIES: u32 = 40;
-
-// The most turns between two tries.
-const LONGEST_GAP: u32 = 64;
-
-// Lets other threads run, so many times.
-fn idle(works: u32) {
-    for _ in 0..works {
-        yield_now();
-    }
-}
-
-// Takes the lock. It is tried with longer and longer gaps first: a thread that has just had it, and
-// has what it guards in its processor's cache, then mostly goes on, and nobody sleeps. In the gaps
-// others may run, whoever has the lock among them.
-pub(crate) fn locked<'a, N: TableName, R: Wait>(
-    lock: &'a Mutex<LockedCache<N>>,
-    rt: &R,
-) -> MutexGuard<'a, LockedCache<N>> {
-    let mut gap = 1u32;
-    for _ in 0..TRIES {
-        if let Some(guard) = lock.try_lock() {
-            return guard;
-        }
-        idle(gap);
-        gap = gap.saturating_mul(2).min(LONGEST_GAP);
-    }
-    lock.lock(rt)
-}
-
 // What the counter is now, if it counted.
 fn number_of(answer: IncAnswer) -> Option<i64>
     ensures { number_reply result ≡ reply_of answer }
@@ -116,7 +85,7 @@ impl<N: TableName> Shared<N> {
         Shared {
             alloc,
             table,
-            lock: Mutex::new(locked_cache),
+            lock: WaitLock::new(locked_cache),
         }
     }
 

@@ -7,10 +7,12 @@ ghost use Rattle.value_image.specs.Rows.{MayWrite};
 use php_graph::{Builder, Bytes, Graph, Item, Key, Wants};
 use seg_words::{Segment, VecWords};
 use std::alloc::{AllocError, Global};
+use std::process::Abort;
 use std::test::Fail;
 use value_image::{
-    bytes_are_packed, get_bytes, images_are_runs, images_differ, persist, put_bytes,
-    runs_are_written, runs_stand, unpersist,
+    bytes_are_packed, content_block_words, content_words, get_bytes, images_are_runs,
+    images_differ, persist, persist_content, put_bytes, runs_are_written, runs_stand, text_content,
+    unpersist,
 };
 
 // A step in writing a value.
@@ -268,6 +270,47 @@ fn brings_texts_of_each_length_back(rt: HostRuntime) -> Result<(), Fail> {
     for (len, words) in texts {
         let back = text_back(rt.alloc(), len)?;
         assert_eq!(rt; back, Some((1, words)));
+    }
+    Ok(())
+}
+
+// Bytes of so many z, written behind three words, and read again.
+fn bytes_back(rt: &impl Abort, alloc: Global, len: usize) -> Result<Vec<u8>, Fail> {
+    assert!(rt; len <= 200);
+    let mut row = VecWords::new(alloc, 32)?;
+    put_bytes(&mut row, 3, &vec![in alloc; b'z'; len]?);
+    let mut out = vec![in alloc; b'-'; len]?;
+    get_bytes(&mut row, 3, &mut out);
+    Ok(out)
+}
+
+#[test]
+fn copies_bytes_of_each_length(rt: HostRuntime) -> Result<(), Fail> {
+    for len in [0, 1, 8, 63, 64, 65, 127, 128, 137, 200] {
+        let back = bytes_back(&rt, rt.alloc(), len)?;
+        let bytes = vec![in rt.alloc(); b'z'; len]?;
+        assert_eq!(rt; back.as_slice(), bytes.as_slice());
+    }
+    Ok(())
+}
+
+// The image of a byte string of which no graph is made, and how many words it and a block with a
+// key of nine bytes take.
+#[test]
+fn writes_bytes_without_a_graph(rt: HostRuntime) -> Result<(), Fail> {
+    let rows: [(&[u8], &[u64], u64, u64); 3] = [
+        (b"", &[0, 3, 0, 0], 1, 16),
+        (b"ab", &[0, 19, 0x6261, 0], 2, 16),
+        (b"abcdefghi", &[0, 75, 0x6867_6665_6463_6261, 0x69], 3, 18),
+    ];
+    for (bytes, words, image, block) in rows {
+        assert!(rt; bytes.len() < 17);
+        let content = text_content(bytes);
+        let mut row = VecWords::new(rt.alloc(), 4)?;
+        persist_content(&mut row, 1, &content);
+        assert_eq!(rt; row.into_words().as_slice(), words);
+        assert_eq!(rt; content_words(&content), image);
+        assert_eq!(rt; content_block_words(9, &content), block);
     }
     Ok(())
 }

@@ -1,5 +1,7 @@
 use byte_box::{ByteBox, strings_cross};
+use std::alloc::Global;
 use std::cmp::Ordering;
+use std::fs;
 use std::mem::size_of;
 use std::process::Abort;
 use std::test::Fail;
@@ -57,16 +59,55 @@ fn takes_blocks(rt: HostRuntime) -> Result<(), Fail> {
     Ok(())
 }
 
-// A block is given back with its string: so many of 3 GiB have no room beside one another, since a
-// process has addresses for 128 TiB. Nothing but the first bytes of a block is ever touched.
+// How many pages of addresses this process has.
+fn pages(rt: &HostRuntime) -> Result<u64, Fail> {
+    let told = fs::read_to_string(rt, "/proc/self/statm")?;
+    let first = told.as_str().split(' ').next().unwrap_or("");
+    Ok(first.parse::<u64>()?)
+}
+
+// A megabyte.
+const LARGE: usize = 1 << 20;
+
+// As many pages as five hundred such blocks have, and some more.
+const HALF: u64 = 131_072;
+
+// A string of these bytes: a copy, or in a block with room for a megabyte.
+fn string_of(
+    rt: &impl Abort,
+    alloc: Global,
+    text: &[u8],
+    is_copy: bool,
+) -> Result<ByteBox, Fail> {
+    assert!(rt; text.len() <= LARGE);
+    if is_copy {
+        return Ok(ByteBox::of(alloc, text)?);
+    }
+    let mut bytes = Vec::with_capacity(alloc, LARGE)?;
+    bytes.extend_from_slice(text)?;
+    Ok(ByteBox::from_vec(bytes))
+}
+
+// Blocks are given back with their strings: after a thousand large ones, one after the other, the
+// process has not grown by half of them. They are of few bytes, of many with some room beside them,
+// and of many with none.
 #[test]
 fn gives_blocks_back(rt: HostRuntime) -> Result<(), Fail> {
-    for _ in 0..25_000 {
-        for text in [&b"a"[..], b"more than fourteen bytes"] {
-            let mut bytes = Vec::with_capacity(rt.alloc(), 3 << 30)?;
-            bytes.extend_from_slice(text)?;
-            assert_eq!(rt; ByteBox::from_vec(bytes).as_slice(), text);
+    let many = Vec::from_elem(rt.alloc(), 7u8, 1_000_000)?;
+    let all = Vec::from_elem(rt.alloc(), 7u8, LARGE)?;
+    let rows = [
+        (&b"a"[..], false),
+        (many.as_slice(), false),
+        (all.as_slice(), false),
+        (all.as_slice(), true),
+    ];
+    for (text, is_copy) in rows {
+        let most = pages(&rt)?.saturating_add(HALF);
+        for _ in 0..1_000 {
+            let string = string_of(&rt, rt.alloc(), text, is_copy)?;
+            assert_eq!(rt; string.len(), text.len());
         }
+        assert!(rt; pages(&rt)? < most, "{} bytes", text.len());
     }
     Ok(())
 }
