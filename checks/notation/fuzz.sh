@@ -1,6 +1,6 @@
 #!/usr/bin/env bash
 # Random values that PHP's serialize writes are stored and fetched, and come back byte for byte.
-# Usage: bench/notation/fuzz.sh [SEEDS [PROGRAM]]; it needs php.
+# Usage: checks/notation/fuzz.sh [SEEDS [PROGRAM]]; it needs php.
 set -eu
 here=$(cd "$(dirname "${BASH_SOURCE[0]}")" && pwd)
 seeds=${1:-20}

@@ -3,7 +3,7 @@
 # are the same. What the recorder, join.php, report.php and map.php can't read or write is one line. Where a program is
 # given, it plays what was recorded, random calls too, and each reply is compared with APCu's; and a report is made of
 # it. Then what recording costs.
-# Usage: bench/record/run.sh [PROGRAM]; it needs php-apcu, php-uopz, phpunit, php-symfony-cache, php-psr-simple-cache
+# Usage: checks/record/run.sh [PROGRAM]; it needs php-apcu, php-uopz, phpunit, php-symfony-cache, php-psr-simple-cache
 # and php-cache-integration-tests. KEEP=FOLDER in the environment keeps what was recorded.
 set -eu
 here=$(cd "$(dirname "${BASH_SOURCE[0]}")" && pwd)
@@ -11,6 +11,8 @@ program=${1:-}
 work=${KEEP:-$(mktemp -d)}
 mkdir -p "$work"
 [ -n "${KEEP:-}" ] || trap 'rm -rf "$work"' EXIT
+# Stores and fetches so many values.
+stored="$here/../../bench/record/cost.php"
 suites=(Pool Simple Namespaced TagAware)
 plain=(php -d apc.enable_cli=1 -d apc.ttl=0 -d apc.use_request_time=0 -d zend.assertions=1)
 loaded=("${plain[@]}" -d extension=uopz -d uopz.exit=1)
@@ -63,7 +65,7 @@ check_answers() {
 fault() {
     local what=$1 words=$2 of="$work/fault"
     shift 2
-    "$@" "$here/cost.php" 3000 >"$of.out" 2>"$of.err" || { echo "$what: the site did not go on" >&2; return 1; }
+    "$@" "$stored" 3000 >"$of.out" 2>"$of.err" || { echo "$what: the site did not go on" >&2; return 1; }
     if [ "$(wc -l <"$of.err")" != 1 ] || ! grep -q "^apcu record: .*$words" "$of.err" || [ -s "$of.out" ]; then
         echo "$what: another message" >&2
         return 1
@@ -118,7 +120,7 @@ check_script() {
     php "$here/compare.php" "$of.apcu" "$of.replies" "$of.output"
 }
 
-# Random calls, of a moment or over some seconds, as bench/calls makes them.
+# Random calls, of a moment or over some seconds, as checks/calls makes them.
 random_calls() {
     APCU_RECORD_DIR="$work/$1.$2.replies" APCU_RECORD_REPLIES=1 "${recorded[@]}" -d apc.shm_size=64M \
         "$here/../calls/fuzz.php" "$1" "$2" "$3" printed >/dev/null
@@ -162,10 +164,10 @@ median() {
 cost() {
     local run
     for run in 1 2 3 4 5; do
-        spent "${plain[@]}" -d apc.shm_size=128M "$here/cost.php" 100000 >>"$work/cost.plain"
-        spent "${loaded[@]}" -d apc.shm_size=128M "$here/cost.php" 100000 >>"$work/cost.loaded"
+        spent "${plain[@]}" -d apc.shm_size=128M "$stored" 100000 >>"$work/cost.plain"
+        spent "${loaded[@]}" -d apc.shm_size=128M "$stored" 100000 >>"$work/cost.loaded"
         rm -rf "$work/cost"
-        APCU_RECORD_DIR="$work/cost" spent "${recorded[@]}" -d apc.shm_size=128M "$here/cost.php" 100000 \
+        APCU_RECORD_DIR="$work/cost" spent "${recorded[@]}" -d apc.shm_size=128M "$stored" 100000 \
             >>"$work/cost.recorded"
     done
     echo "100,000 stores and fetches, processor time of the whole program, median of 5 runs:"

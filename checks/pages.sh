@@ -2,7 +2,7 @@
 # That the pages are so: CLAIMS, READING, the tables of ARCHITECTURE, and DIFFERENCES with the tests of its cases are
 # what their scripts write, the Rust lines and the clause that README shows stand in the sources, the commands of
 # examples/README.md print what stands there, and each case of DIFFERENCES prints on both sides what its folder says.
-# Usage: bench/pages.sh [PROGRAM]; it needs php with apcu and pcntl.
+# Usage: checks/pages.sh [PROGRAM]; it needs php with apcu and pcntl.
 set -u
 program=${1:+$(realpath "$1")}
 cd "$(dirname "${BASH_SOURCE[0]}")/.."
@@ -28,6 +28,6 @@ for page in claims reading crates differences; do
 done
 shown 'ensures replayed' 'K.held out.new)) }$' crates/apcu_play/src/running.rt
 shown 'let conf = ' 'let found = ' crates/cache_tests/src/readme.rt
-bash bench/examples.sh ${program:+"$program"} || others=1
-bash bench/differences.sh ${program:+"$program"} || others=1
+bash checks/examples.sh ${program:+"$program"} || others=1
+bash checks/differences.sh ${program:+"$program"} || others=1
 exit $others

@@ -2,7 +2,7 @@
 # Random calls on few keys are answered as PHP's APCu answers them: those of a moment; those of some twenty seconds, in
 # which rows expire; and those of four workers at once, which PHP makes one by one in the order of the printed journal.
 # What docs/DIFFERENCES.md names is left out, and how many bytes rows take.
-# Usage: bench/calls/fuzz.sh [SEEDS [PROGRAM]]; it needs php with apcu.
+# Usage: checks/calls/fuzz.sh [SEEDS [PROGRAM]]; it needs php with apcu.
 set -eu
 here=$(cd "$(dirname "${BASH_SOURCE[0]}")" && pwd)
 seeds=${1:-20}

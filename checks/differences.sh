@@ -2,7 +2,7 @@
 # Plays each case of docs/differences/ on PHP's APCu and on the program, and tells each that prints something else than
 # its folder says. Where several workers meet, what stands there is judged as an output of the case's script, and so is
 # what the program prints of it. The page and the tests that are made of the cases have to be up to date.
-# Usage: bench/differences.sh [PROGRAM]; it needs php with apcu and pcntl.
+# Usage: checks/differences.sh [PROGRAM]; it needs php with apcu and pcntl.
 set -eu
 here=$(cd "$(dirname "${BASH_SOURCE[0]}")" && pwd)
 program=$(realpath "${1:-$here/../crates/apcu_run/out/apcu_run}")

@@ -1,7 +1,7 @@
 #!/usr/bin/env bash
 # Random calls of pools are answered as a PSR-16 cache over PHP's APCu answers them, reply by reply: those of a moment,
 # and those of some twenty seconds in which rows expire. What is no name or key of a pool is refused by both.
-# Usage: bench/pools/run.sh [SEEDS [PROGRAM]]; it needs php with apcu.
+# Usage: checks/pools/run.sh [SEEDS [PROGRAM]]; it needs php with apcu.
 set -eu
 here=$(cd "$(dirname "${BASH_SOURCE[0]}")" && pwd)
 seeds=${1:-20}

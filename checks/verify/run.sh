@@ -1,16 +1,16 @@
 #!/usr/bin/env bash
-# The program judges its own outputs with --verify: each one is `yes`, of the examples, of the scripts of bench/calls,
-# bench/play and bench/pools and of random ones of 1 to 64 workers; and none is that has been changed in a way that
-# leaves no legal one. Then the time and memory that a verdict takes on 64 MB of scripts and their output, beside the run
+# The program judges its own outputs with --verify: each one is `yes`, of the examples, of the scripts of calls/, pools/
+# and bench/play and of random ones of 1 to 64 workers; and none is that has been changed in a way that leaves no legal
+# one. Then the time and memory that a verdict takes on 64 MB of scripts and their output, beside the run
 # itself.
-# Usage: bench/verify/run.sh [COUNT [PROGRAM]]; it needs php. COUNT is how many random scripts there are.
+# Usage: checks/verify/run.sh [COUNT [PROGRAM]]; it needs php. COUNT is how many random scripts there are.
 set -eu
 here=$(cd "$(dirname "${BASH_SOURCE[0]}")" && pwd)
 count=${1:-1000}
 program=${2:-$here/../../crates/apcu_run/out/apcu_run}
 scratch=$(mktemp -d)
 trap 'rm -rf "$scratch"' EXIT
-. "$here/../play/scripts.sh"
+. "$here/../../bench/play/scripts.sh"
 
 for kind in moment seconds workers; do
     php "$here/../calls/fuzz.php" "$kind" 1 1000 script >"$scratch/calls.$kind"

@@ -3,7 +3,7 @@
 # in must-fail/, in place of the gate's, and `rt must-fail` tries them there as it tries those here. Tells of each crate
 # how many were refused, and each edit that was not: NOT REFUSED, BAD EDIT or NOT TRIED. Ends with status 1 where there
 # was one.
-# Usage: bench/edits.sh [CRATE..], after `rt all check`, while no other rt works here. No name means all crates that
+# Usage: checks/edits.sh [CRATE..], after `rt all check`, while no other rt works here. No name means all crates that
 # have such edits.
 set -u
 cd "$(dirname "$0")/.." || exit 2
@@ -42,7 +42,7 @@ if [ $# -eq 0 ]; then
 fi
 for name in "${names[@]}"; do
     if ! ls "crates/$name/more-edits"/*.edit >/dev/null 2>&1; then
-        echo "bench/edits.sh: crates/$name/more-edits has no edits" >&2
+        echo "checks/edits.sh: crates/$name/more-edits has no edits" >&2
         exit 2
     fi
 done

@@ -1,6 +1,6 @@
 #!/usr/bin/env bash
 # The commands of examples/README.md print what stands there behind them.
-# Usage: bench/examples.sh [PROGRAM], where PROGRAM is the built apcu_run; it needs php with apcu and pcntl.
+# Usage: checks/examples.sh [PROGRAM], where PROGRAM is the built apcu_run; it needs php with apcu and pcntl.
 set -eu
 here=$(cd "$(dirname "${BASH_SOURCE[0]}")" && pwd)
 program=$(realpath "${1:-$here/../crates/apcu_run/out/apcu_run}")
