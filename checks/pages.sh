@@ -1,8 +1,8 @@
 #!/usr/bin/env bash
-# That the pages are right: links, and paths of this repository in backquotes, lead to files; CLAIMS, READING, the tables
-# of ARCHITECTURE, and DIFFERENCES with the tests of its cases are what their scripts write; the Rust lines and the clause
-# that README shows are in the sources; the commands of examples/README.md print what it says; and each case of
-# DIFFERENCES prints on both sides what its folder says.
+# That the pages are right: links, and paths of this repository in backquotes, lead to files; CLAIMS, READING, the
+# tables of ARCHITECTURE, and DIFFERENCES with the tests of its cases are what their scripts write; the Rust lines and
+# the clause that README shows are in the sources; the commands of examples/README.md print what it says; and each case
+# of DIFFERENCES prints on both sides what its folder says.
 # Usage: checks/pages.sh [PROGRAM]; it needs php with apcu and pcntl.
 set -u
 program=${1:+$(realpath "$1")}
