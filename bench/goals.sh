@@ -1,17 +1,21 @@
 #!/usr/bin/env bash
 # What the speed of this cache is to be, beside PHP's APCu in the same run, as one table with the ratio (ours / PHP's)
-# first: generated runs of one and of four workers, and of 64 beside four; a million calls from a script to its output,
-# beside PHP's loop; fetches that are printed whole; stores of texts that change, without what as many lines take that
-# are read and find the row; stores of new rows where four fifths of 32 MB are taken, over words in memory and without a
-# lock on our side; a limited cache_info and key_info, likewise. A goal stands on the ratio or on our own figure, and a
-# store of texts has none: each changed word of it is one locked instruction. How each figure is measured is told in
-# generate/run.sh, play/run.sh and cache/run.sh, which have these parts in common with this script. Each time is the
-# least of three rounds, in each of which ours and PHP's are measured in turn, and which is kept only where the machine
-# is quiet before and after (quiet.sh).
+# first. A goal is of the ratio, of our own figure, or of ours / the floor:
+# - generated runs of one and of four workers, and of 64 beside four;
+# - a million calls from a script to its output, beside PHP's loop;
+# - fetches that are printed whole; their floor is a program in C that holds its output likewise (floor/fetch.c);
+# - stores of texts that change, without what as many lines take that are read and find the row; they have no goal,
+#   since each changed word is one locked instruction;
+# - stores of new rows where four fifths of 32 MB are taken, over words in memory and without a lock on our side; the
+#   longest is less the longest turn of an empty loop in its round, which is the host's (floor/turns.c);
+# - a limited cache_info, and key_info, over words in memory and without a lock too.
+# generate/run.sh, play/run.sh and cache/run.sh, which have these parts in common with this script, say how each figure
+# is measured. Each time is the least of three rounds, in each of which ours, PHP's and the floor are measured in turn;
+# a round is kept only where the machine is quiet before and after it (quiet.sh).
 # Usage: bench/goals.sh PROGRAM BENCH, where PROGRAM is the built apcu_run and BENCH the built apcu_bench; it needs php
-# with apcu and pcntl. BEFORE=PROGRAM and BEFORE_BENCH=BENCH in the environment are measured in turn with them, as a
-# column, and DIVIDE=N makes so many times fewer calls, which tries the script alone. It takes a few minutes, and up to
-# five more where it waits for a quiet machine.
+# with apcu and pcntl, and cc. BEFORE=PROGRAM and BEFORE_BENCH=BENCH in the environment are measured in turn with them,
+# as a column, and DIVIDE=N makes so many times fewer calls, which tries the script alone. It takes a few minutes, and
+# up to five more where it waits for a quiet machine.
 set -eu -o pipefail
 here=$(cd "$(dirname "${BASH_SOURCE[0]}")" && pwd)
 [ $# = 2 ] || { echo "usage: $0 PROGRAM BENCH" >&2; exit 1; }
@@ -30,6 +34,7 @@ php_has apcu pcntl || { echo "$0: php with apcu and pcntl is not there" >&2; exi
 for each in "$program" "$bench" ${BEFORE:+"$BEFORE"} ${BEFORE_BENCH:+"$BEFORE_BENCH"}; do
     [ -x "$each" ] || { echo "$0: no program: $each" >&2; exit 1; }
 done
+for each in fetch turns; do cc -std=gnu11 -O3 -Wall -Wextra -Wpedantic "$here/floor/$each.c" -o "$scratch/$each"; done
 
 # So many calls, or the part of them that is wanted.
 part() { echo $((($1 + divide - 1) / divide)); }
@@ -52,15 +57,16 @@ generated_in_turn() {
     check_counters 'generated runs'
 }
 
-# Writes a row of the table: what was measured, its unit and places, its goal (`ratio N`, `ours N`, or `none`), and the
-# figures of us, before and of PHP.
+# Writes a row of the table: what was measured, its unit and places, its goal (`ratio N`, `ours N`, `floor N`, or
+# `none`), and the figures of us, before, of PHP, and of the floor where there is one.
 row() { printf '%s|' "$@" >>"$scratch/rows" && echo >>"$scratch/rows"; }
 
-# Of the pairs in `found` number K of us, before and of PHP: the first less the second, divided by a number.
+# Of the pairs in `found` number K of us, before, of PHP, and of the floor where there are four sides: the first less
+# the second, divided by a number.
 figures() {
-    awk -v k="$1" -v unit="${2:-1}" '{
-        for (i = 0; i < 3; i++) {
-            first = i * NF / 3 + 2 * k - 1
+    awk -v k="$1" -v unit="${2:-1}" -v sides="${3:-3}" '{
+        for (i = 0; i < sides; i++) {
+            first = i * NF / sides + 2 * k - 1
             told = NF > 1 && $first != "-"
             printf "%s%s", (i ? "|" : ""), (told ? sprintf("%.6g", ($first - $(first + 1)) / unit) : "-")
         }
@@ -97,14 +103,19 @@ measured 1 in_turn million million_php
 row 'a million calls, script to output (goal: 0.30 where PHP takes 0.5)' s 2 'ratio 0.6' "$(figures 1 1e6)"
 
 say 'texts'
-for line in '10 KB 10000 5000 2' '64 KB 65536 800 12' '1 MB 1000000 50 350'; do
-    read -r size unit bytes calls most <<<"$line"
+# Microseconds of as many fetches in C, whose output is held until the last one.
+held() {
+    awk -v ns="$("$scratch/fetch" hold "$1" "$2")" -v calls="$2" 'BEGIN { printf "%.0f 0\n", ns * calls / 1000 }'
+}
+for line in '10 KB 10000 5000' '64 KB 65536 800' '1 MB 1000000 50'; do
+    read -r size unit bytes calls <<<"$line"
     calls=$(part "$calls")
     texts 1 "$calls" "$bytes" 0 >"$scratch/script"
     texts 1 0 "$bytes" 0 >"$scratch/idle"
     fetches_php() { echo "$(played_php text 1 "$calls" "$bytes" 0) 0"; }
-    measured 1 in_turn both_took fetches_php
-    row "a fetch of $size $unit, printed" us 2 "ours $most" "$(figures 1 "$calls")"
+    fetches() { echo "$(in_turn both_took fetches_php) $(held "$bytes" "$calls")"; }
+    measured 1 fetches
+    row "a fetch of $size $unit, printed" us 2 'floor 1.3' "$(figures 1 "$calls" 4)"
 done
 for line in '10 KB 10000 4000' '64 KB 65536 600' '1 MB 1000000 40'; do
     read -r size unit bytes calls <<<"$line"
@@ -128,10 +139,28 @@ cache_figures() {
     for side in ours before php; do cache_least "$side" "$@" <"$scratch/kept"; done | paste -sd '|'
 }
 
+# One round of stores and of as many turns of an empty loop; `beyond` is the longest store less the longest turn.
+churn_round() {
+    cache_round churn 65536 "$1"
+    echo "loop worst $("$scratch/turns" "$1")"
+}
+with_beyond() {
+    churn_round "$1" | awk '
+        { print }
+        $2 == "worst" { worst[$1] = $3 }
+        END {
+            for (side in worst) {
+                beyond = worst[side] - worst["loop"]
+                if (side != "loop") printf "%s beyond %.0f\n", side, (beyond > 0 ? beyond : 0)
+            }
+        }'
+}
+
 say 'stores at four fifths'
-keep_rounds "$rounds" 1 cache_round churn 65536 "$(part 100000)"
+keep_rounds "$rounds" 1 with_beyond "$(part 100000)"
 row 'a store at four fifths, one in a hundred' us 2 'ours 3' "$(cache_figures p99 '' 1e6)"
-row 'a store at four fifths, the worst' us 0 'ours 100' "$(cache_figures worst '' 1e6)"
+row 'a store at four fifths, one in a thousand' us 2 none "$(cache_figures p999 '' 1e6)"
+row 'a store at four fifths, the longest less that of an empty loop' us 0 'ours 100' "$(cache_figures beyond '' 1e6)"
 
 say 'what is told'
 keep_rounds "$rounds" 1 cache_round info "$(part 10000)"
@@ -142,17 +171,19 @@ row 'key_info of one of 1,000 rows' ns 0 'ratio 1' "$(cache_figures key_info not
 echo "$(nproc) processors; PHP $(php -r 'echo PHP_VERSION, " with APCu ", phpversion("apcu");')"
 awk -F'|' '
     function told(value, places) { return value == "-" ? "-" : sprintf("%.*f", places, value) }
+    function over(one, other) { return one == "-" || other + 0 == 0 ? "-" : one / other }
     BEGIN {
-        format = "%6s  %-7s  %-18s  %8s  %8s  %8s  %-5s  %s\n"
-        printf format, "ratio", "reached", "goal", "ours", "before", "php", "", "of"
+        format = "%6s  %-7s  %-18s  %8s  %8s  %8s  %8s  %-5s  %s\n"
+        printf format, "ratio", "reached", "goal", "ours", "before", "php", "floor", "", "of"
     }
     {
-        ratio = $5 == "-" || $7 == "-" ? "-" : $5 / $7
+        floor = NF > 8 ? $8 : "-"
         split($4, goal, " ")
-        value = goal[1] == "ratio" ? ratio : $5
+        value = goal[1] == "ratio" ? over($5, $7) : goal[1] == "floor" ? over($5, floor) : $5
         reached = goal[1] == "none" ? "-" : value == "-" ? "?" : value + 0 <= goal[2] + 0 ? "yes" : "no"
         if (noisy && reached != "-") reached = "?"
         wanted = goal[1] == "none" ? "none" : goal[1] " at most " goal[2]
-        printf format, told(ratio, 2), reached, wanted, told($5, $3), told($6, $3), told($7, $3), $2, $1
+        printf format, told(over($5, $7), 2), reached, wanted, told($5, $3), told($6, $3), told($7, $3),
+            told(floor, $3), $2, $1
     }' noisy="${NOISY:-}" "$scratch/rows"
 tell_of_quiet

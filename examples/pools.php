@@ -1,5 +1,5 @@
 <?php
-require __DIR__ . '/../bench/pools/pool.php';
+require __DIR__ . '/../checks/pools/pool.php';
 [$shop, $blog] = [new ApcuPools\Pool('shop'), new ApcuPools\Pool('blog')];
 $shop->set('title', 'Corner 24');
 echo $shop->get('title'), "\n";

@@ -2,8 +2,8 @@
 # Floors in C, which hold no promise and only tell what this machine gives: what locks, atomic steps and fresh memory cost
 # (costs.c), what the calls of a cache take over the same words and rows with an index of gaps and no lock (cache.c), and
 # what it takes to print fetched texts where all output is held, where it is written as a buffer fills, and where none is
-# made (fetch.c). Each figure is the least of the rounds, and a round is kept only where the machine is quiet
-# (../quiet.sh).
+# made (fetch.c). turns.c is for goals.sh. Each figure is the least of the rounds, and a round is kept only where the
+# machine is quiet (../quiet.sh).
 # Usage: bench/floor/run.sh
 set -eu -o pipefail
 here=$(cd "$(dirname "${BASH_SOURCE[0]}")" && pwd)

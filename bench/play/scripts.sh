@@ -1,4 +1,4 @@
-# Scripts whose calls are counted by the second or judged; other programs of bench/ read this file.
+# Scripts whose calls are counted by the second or judged; programs of bench/ and checks/ read this file.
 
 # Scripts of so many workers with so many calls.
 mixed() {

@@ -32,7 +32,7 @@ suite() {
     local name=$1 folder="$scratch/suite.$1"
     timeout 300 env PHP_INI_SCAN_DIR="$(settings_of "$ours")" php -d apc.enable_cli=1 -d apc.ttl=0 \
         -d apc.record_dir="$folder" -d zend.assertions=1 /usr/bin/phpunit --no-configuration --do-not-cache-result \
-        --bootstrap "$top/bench/record/suites/load.php" "$top/bench/record/suites/${name}Test.php" >"$folder.out" 2>&1 || true
+        --bootstrap "$top/checks/record/suites/load.php" "$top/checks/record/suites/${name}Test.php" >"$folder.out" 2>&1 || true
 }
 
 check_suites() {

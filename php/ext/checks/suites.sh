@@ -1,12 +1,12 @@
 #!/usr/bin/env bash
-# Debian's suites for PSR-6 and PSR-16 over Symfony's cache (bench/record/suites) have the same results, test by test,
+# Debian's suites for PSR-6 and PSR-16 over Symfony's cache (checks/record/suites) have the same results, test by test,
 # over an extension as over PHP's APCu, under each serializer.
 # Usage: php/ext/checks/suites.sh [SO]; it needs php-apcu, phpunit, php-symfony-cache, php-psr-simple-cache and
 # php-cache-integration-tests, and php-igbinary for one of the serializers.
 set -eu
 here=$(cd "$(dirname "${BASH_SOURCE[0]}")" && pwd)
 . "$here/common.sh"
-suites="$here/../../../bench/record/suites"
+suites="$here/../../../checks/record/suites"
 settings_of "$base" >/dev/null
 settings_of "$ours" >/dev/null
 serializers=(php default)

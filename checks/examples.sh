@@ -1,0 +1,40 @@
+#!/usr/bin/env bash
+# The commands of examples/README.md print what stands there behind them.
+# Usage: checks/examples.sh [PROGRAM], where PROGRAM is the built apcu_run; it needs php with apcu and pcntl.
+set -eu
+here=$(cd "$(dirname "${BASH_SOURCE[0]}")" && pwd)
+program=$(realpath "${1:-$here/../crates/apcu_run/out/apcu_run}")
+cd "$here/.."
+command='' wanted='' count=0 others=0
+
+# Runs the command that was read, and compares.
+check() {
+    local printed
+    [ -n "$command" ] || return 0
+    # A command may end with another status than 0, and say so.
+    printed=$(program=$program bash -c "${command//.\/apcu_run/\"\$program\"}" 2>&1 </dev/null) || true
+    wanted=$(printf '%s' "$wanted")
+    if [ "$printed" != "$wanted" ]; then
+        echo "another output: $command" >&2
+        diff <(echo "$wanted") <(echo "$printed") >&2 || true
+        others=1
+    fi
+    count=$((count + 1))
+    command='' wanted=''
+}
+
+while IFS= read -r line; do
+    case $line in
+        '    $ '*)
+            check
+            command=${line#'    $ '}
+            ;;
+        '    '*) [ -z "$command" ] || wanted+="${line#'    '}"$'\n' ;;
+        # An empty line may stand within what is printed.
+        '') [ -z "$command" ] || wanted+=$'\n' ;;
+        *) check ;;
+    esac
+done <examples/README.md
+check
+[ "$others" = 0 ] || exit 1
+echo "$count commands of examples/README.md print what stands there"

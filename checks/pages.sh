@@ -1,0 +1,57 @@
+#!/usr/bin/env bash
+# That the pages are right: links, and paths of this repository in backquotes, lead to files; CLAIMS, READING, the
+# tables of ARCHITECTURE, and DIFFERENCES with the tests of its cases are what their scripts write; the Rust lines and
+# the clause that README shows are in the sources; the commands of examples/README.md print what it says; and each case
+# of DIFFERENCES prints on both sides what its folder says.
+# Usage: checks/pages.sh [PROGRAM]; it needs php with apcu and pcntl.
+set -u
+program=${1:+$(realpath "$1")}
+cd "$(dirname "${BASH_SOURCE[0]}")/.."
+others=0
+
+tell() {
+    echo "$1" >&2
+    others=1
+}
+
+# The lines of README between two, without their four spaces, stand in a file as they are, but for where they begin.
+shown() {
+    local from=$1 to=$2 file=$3 lines
+    lines=$(sed -n "/^    $from/,/$to/p" README.md | sed 's/^ *//')
+    [ -n "$lines" ] || { tell "README.md does not show: $from"; return; }
+    python3 -c 'import sys
+text = "\n".join(line.strip() for line in open(sys.argv[2], encoding="utf-8"))
+sys.exit(sys.argv[1] not in text)' "$lines" "$file" || tell "README.md shows otherwise than $file: $from"
+}
+
+# Links and paths of all pages, but for what is built.
+lead_to_files() {
+    python3 - <<'PYTHON'
+import glob, os, re, sys
+
+LINK = re.compile(r"\]\(([^)#:\s]+)(?:#[^)]*)?\)")
+PATH = re.compile(r"`((?:bench|capi|checks|crates|docs|examples|php)/[\w./-]*)")
+lost = 0
+for page in sorted(glob.glob("**/*.md", recursive=True)):
+    if page == "docs/differences/page.md":
+        continue
+    text, folder = open(page, encoding="utf-8").read(), os.path.dirname(page)
+    named = [(link, os.path.join(folder, link)) for link in LINK.findall(text)]
+    named += [(path, path) for path in PATH.findall(text) if not re.search("NAME|/out/|/modules/", path)]
+    for name, path in named:
+        if not os.path.exists(path):
+            print(f"{page}: there is no {name}", file=sys.stderr)
+            lost = 1
+sys.exit(lost)
+PYTHON
+}
+
+lead_to_files || others=1
+for page in claims reading crates differences; do
+    bash "docs/$page.sh" --check || others=1
+done
+shown 'ensures replayed' 'K.held out.new)) }$' crates/apcu_play/src/running.rt
+shown 'let conf = ' 'let found = ' crates/cache_tests/src/readme.rt
+bash checks/examples.sh ${program:+"$program"} || others=1
+bash checks/differences.sh ${program:+"$program"} || others=1
+exit $others
