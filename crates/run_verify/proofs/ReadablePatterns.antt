@@ -1,16 +1,11 @@
 -- Of a list that is gone through, what holds of each of the first ones.
-use Rattle.std.proofs.Common.{◌≡◌, ◌∙◌, ◌+◌, ◌<◌, ℕ, Option, List, length, Some, None, inl, inr, ap, sym, subst, arith}
-use Rattle.std.specs.Prelude.{slice_get, ⊤}
+use Rattle.std.proofs.Common.{◌≡◌, ◌∙◌, ◌+◌, ◌<◌, ℕ, List, length, Some, inl, inr, ap, sym, subst, arith}
+use Rattle.std.specs.Prelude.{slice_get}
 use Rattle.std.proofs.lemmas.Bool.{cases_eq}
 use Rattle.std.proofs.lemmas.Option.{slice_get_within}
-use Rattle.apcu_model.specs.declared.searching.Pattern.{Pattern}
-use Rattle.run_verify.specs.ReadPatterns.{IsReadable}
 
 abbrev pub First : {A : Type 0} → (A → Type 0) → List A → ℕ → Type 0
 First {A} P l n = (k : ℕ) (x : A) → k < n → slice_get l k ≡ Some x → P x
-
-pub none_first : {A : Type 0} (P : A → Type 0) (l : List A) (n : ℕ) → n ≡ 0 → First P l n
-none_first P l n none k x low at = absurd (omega (arith, none, low))
 
 pub one_more : {A : Type 0} (P : A → Type 0) (l : List A) (n : ℕ) (x : A) → First P l n → slice_get l n ≡ Some x → P x → First P l (n + 1)
 one_more P l n x first here is k y low at = elim (cases_eq k n) [
@@ -20,9 +15,3 @@ one_more P l n x first here is k y low at = elim (cases_eq k n) [
 
 pub all_of : {A : Type 0} (P : A → Type 0) (l : List A) (n : ℕ) → n ≡ length l → First P l n → (k : ℕ) (x : A) → slice_get l k ≡ Some x → P x
 all_of P l n many first k x at = first k x (omega (arith, many, slice_get_within l k x at)) at
-
-pub none_readable : (wanted : Option Pattern) → wanted ≡ None → IsReadable wanted
-none_readable wanted none = subst IsReadable (sym none) tt
-
-pub some_readable : (wanted : Option Pattern) (p : Pattern) → wanted ≡ Some p → IsReadable (Some p) → IsReadable wanted
-some_readable wanted p is read = subst IsReadable (sym is) read

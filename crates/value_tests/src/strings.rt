@@ -73,12 +73,7 @@ const LARGE: usize = 1 << 20;
 const HALF: u64 = 131_072;
 
 // A string of these bytes: a copy, or in a block with room for a megabyte.
-fn string_of(
-    rt: &impl Abort,
-    alloc: Global,
-    text: &[u8],
-    is_copy: bool,
-) -> Result<ByteBox, Fail> {
+fn string_of(rt: &impl Abort, alloc: Global, text: &[u8], is_copy: bool) -> Result<ByteBox, Fail> {
     assert!(rt; text.len() <= LARGE);
     if is_copy {
         return Ok(ByteBox::of(alloc, text)?);

@@ -15,7 +15,7 @@ returns-in_err-try_script-clause-pattern g c =
 
 pub loop-worker-preserved : goal.loop-worker-preserved
 loop-worker-preserved g c =
-    one_more IsReadableScript c.args.scripts.now c.loop-worker.worker c.at.result.now c.loop-worker.invariant c.at.ensures c.in_ok-try_script.ensures
+    one_more IsReadableScript c.args.scripts.now c.loop-worker.worker c.at.result.now c.loop-worker.invariant c.at.ensures c.in_ok-try_script.ensures.readable
 
 pub returns-clause-readable : goal.returns-clause-readable
 returns-clause-readable g c =

@@ -3,7 +3,7 @@ use Rattle.std.proofs.lemmas.Result.{err_from_is_err_and}
 use Rattle.script_read.specs.declared.script.Step.{Step}
 use Rattle.script_read.specs.Patterns.{call_pattern}
 use Rattle.run_verify.specs.ReadPatterns.{IsReadable}
-use Rattle.run_verify.proofs.ReadablePatterns.{none_first, one_more, all_of}
+use Rattle.run_verify.proofs.ReadablePatterns.{one_more, all_of}
 use Rattle.run_verify.proofs.RefusablePatterns.{step_refusable}
 use Rattle.run_verify.proofs.patterns.try_script.Goals as goal
 
@@ -17,7 +17,7 @@ returns-in_err-try_call-clause-pattern g c =
 
 pub loop-number-preserved : goal.loop-number-preserved
 loop-number-preserved g c =
-    one_more (λ (step : Step). IsReadable (call_pattern step.call)) c.args.script.now c.loop-number.number c.at.result.now c.loop-number.invariant c.at.ensures.step c.in_ok-try_call.ensures
+    one_more (λ (step : Step). IsReadable (call_pattern step.call)) c.args.script.now c.loop-number.number c.at.result.now c.loop-number.invariant c.at.ensures.step c.in_ok-try_call.ensures.readable
 
 pub returns-clause-readable : goal.returns-clause-readable
 returns-clause-readable g c =
