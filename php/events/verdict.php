@@ -10,8 +10,6 @@ const RIGHT = 0;
 const NOT_JUDGED = 1;
 const RIGHT_IN_PART = 2;
 const WRONG = 9;
-/** The largest cache that the program plays. */
-const MOST_SIZE = 134_217_728;
 const MOST_GAPS = 3;
 
 /**
