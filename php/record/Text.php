@@ -125,9 +125,15 @@ final class Text
 
     private static function of_refused(mixed $value): ?string
     {
+        if (\is_float($value)) {
+            return self::stand_in(self::DOUBLE);
+        }
+        if (!\is_array($value) && !\is_object($value)) {
+            self::$why = 'unserializable';
+        }
         self::$met = [];
         self::$members = 0;
-        $length = isset(self::LEFT[self::$why]) ? 0 : (\is_float($value) ? self::DOUBLE : self::length($value, 0));
+        $length = isset(self::LEFT[self::$why]) ? 0 : self::length($value, 0);
         return isset(self::LEFT[self::$why]) ? null : self::stand_in($length);
     }
 
