@@ -6,15 +6,15 @@
 # be judged whole is told. Then what recording costs.
 # Usage: php/ext/checks/record.sh [SO [PROGRAM [CHECK..]]]; it needs what suites.sh needs, php-fpm, nginx and wrk for the
 # minute, and php-dev for the builds that are wrong. CHECK is calls, suites, shop, load, builds or costs; all without
-# one. VISITS in the environment says how many visits each of four clients makes (1500), and LOAD how
-# many seconds wrk does (60).
+# one. In the environment VISITS is how many visits each of four clients makes (1500), SECONDS_OF_LOAD how long wrk goes
+# on (60).
 set -eu
 here=$(cd "$(dirname "$0")" && pwd)
 . "$here/common.sh"
 top=$(cd "$here/../../.." && pwd)
 program=${2:-$top/apcu_run}
 visits=${VISITS:-1500}
-minute=${LOAD:-60}
+minute=${SECONDS_OF_LOAD:-60}
 status=0
 
 # Judges a folder: judge FOLDER STATUS WORDS..; what it prints has to have these words.
@@ -42,6 +42,7 @@ suite() {
 check_suites() {
     local name runs=()
     [ -x /usr/bin/phpunit ] || { echo 'no phpunit: no suites'; return; }
+    settings_of "$ours" >/dev/null
     for name in Pool Simple Namespaced TagAware; do
         suite "$name" &
         runs+=($!)
