@@ -1,9 +1,10 @@
 <?php
 
-// php join.php [--one] FILES.. > INPUT
+// php join.php [--one] FOLDER > INPUT
 // One input of apcu_run from the scripts of several processes: a worker for each, in the order in which they started.
 // With --one there is one worker, which makes the calls of all processes in the order of their seconds. So the time is
-// the same for all, as it was for the site. Of one second's order only that of each process is known.
+// the same for all, as it was for the site. Of one second's order only that of each process is known. In place of the
+// folder its files can be named.
 //
 // php join.php [--one] [--output FILE] FOLDER > INPUT
 // The same of what the extension recorded, whose order is known. The file then has what apcu_run would have printed, for
@@ -18,6 +19,11 @@ require __DIR__ . '/events/files.php';
 require __DIR__ . '/events/events.php';
 require __DIR__ . '/events/stretches.php';
 require __DIR__ . '/events/joined.php';
+require __DIR__ . '/report/site.php';
+
+/** What the recorder calls full, and nothing is written behind. */
+const FULL_BYTES = 62_000_000;
+const USUAL_SLOTS = 4096;
 
 ini_set('memory_limit', '-1');
 [$is_one, $output, $files] = asked(array_slice($argv, 1));
@@ -25,8 +31,7 @@ if (array_filter($files, is_recorded(...)) !== []) {
     join_recorded($files, $is_one, $output);
     exit;
 }
-// Of what a folder of the recorder has.
-$scripts = in_order(array_filter($files, fn (string $path): bool => preg_match('/\.(left|replies)$/D', $path) !== 1));
+$scripts = in_order(scripts_of($files));
 $taken = $is_one ? $scripts : array_slice($scripts, 0, MOST_WORKERS);
 if ($taken === []) {
     give_up('none of these files is a script');
@@ -46,7 +51,7 @@ tell_left($taken);
 /** @return array{bool, ?string, list<string>} whether there is one worker, the file of the output, the other files */
 function asked(array $words): array
 {
-    $usage = 'usage: php join.php [--one] [--output FILE] FILES.. > INPUT';
+    $usage = 'usage: php join.php [--one] [--output FILE] FOLDER > INPUT';
     [$is_one, $output, $files] = [false, null, []];
     while ($words !== []) {
         $word = array_shift($words);
@@ -57,6 +62,16 @@ function asked(array $words): array
         };
     }
     return $files === [] ? give_up($usage) : [$is_one, $output, $files];
+}
+
+/** What the recorder wrote: the files of folders, and others but for those that stand beside scripts. */
+function scripts_of(array $paths): array
+{
+    $scripts = [];
+    foreach ($paths as $path) {
+        array_push($scripts, ...(is_dir($path) ? glob("$path/*.apcu") : [$path]));
+    }
+    return array_filter($scripts, static fn (string $path): bool => preg_match('/\.(left|replies|site)$/D', $path) !== 1);
 }
 
 /** The scripts by their first second. */
@@ -84,21 +99,32 @@ function in_order(array $paths): array
 /** Up to which second all calls of these scripts fit in an input; where some do not, that is told. */
 function last_second(array $paths): int
 {
-    $sizes = [];
+    $sizes = $counts = [];
+    $full = PHP_INT_MAX;
     foreach ($paths as $path) {
-        foreach (parts_of($path) as [$second, $text, $questions]) {
+        foreach (parts_of($path) as [$second, $text, $questions, $events]) {
             $sizes[$second] = ($sizes[$second] ?? 0) + strlen($text) + $questions;
+            $counts[$second] = ($counts[$second] ?? 0) + $events;
         }
+        // What comes behind the last second of a full one was not recorded.
+        $full = filesize($path) > FULL_BYTES ? min($full, $second ?? PHP_INT_MAX) : $full;
     }
     ksort($sizes);
-    // Lines `worker`, and a report's questions at the end of each.
-    $bytes = 64 * count($paths);
+    // Lines `worker`, and a report's questions at the end of each; and the ends themselves.
+    [$bytes, $events] = [64 * count($paths), 2 * count($paths)];
     $last = $first = array_key_first($sizes) ?? 0;
     foreach ($sizes as $second => $size) {
         $bytes += $size;
-        if ($bytes > MOST_BYTES) {
-            tell('the first ' . max(0, $last - $first + 1) . ' of ' . (array_key_last($sizes) - $first + 1)
-                . ' seconds: an input has at most ' . MOST_BYTES . ' bytes');
+        $events += $counts[$second];
+        $why = match (true) {
+            $bytes > MOST_BYTES => 'an input has at most ' . MOST_BYTES . ' bytes',
+            $events > MOST_EVENTS => 'an input has at most ' . MOST_EVENTS . ' events',
+            $second > $full => "a process's file is full then",
+            default => null,
+        };
+        if ($why !== null) {
+            $last = $second === $first ? $first - 1 : $last;
+            tell('the first ' . ($last - $first + 1) . ' of ' . (array_key_last($sizes) - $first + 1) . " seconds: $why");
             return $last;
         }
         $last = $second;
@@ -149,47 +175,52 @@ function spread(array $scripts): array
 }
 
 /**
- * The calls of a script by their second, each part with its own lines `request` and `time`, and with how many bytes a
- * report asks for its entries.
+ * The calls of a script by their second, each part with its own lines `request` and `time`, with how many bytes a report
+ * asks for its entries, and with how many events it may have then.
  */
 function parts_of(string $path): \Generator
 {
-    [$request, $second, $calls, $questions] = [0, 0, '', 0];
+    [$request, $second, $calls, $questions, $events] = [0, 0, '', 0, 0];
     foreach (lines_of(opened($path)) as $line) {
         $word = word_of($line);
         if ($word === 'time' || $word === 'request') {
-            yield from part($request, $second, $calls, $questions);
+            yield from part($request, $second, $calls, $questions, $events);
             $second = second_of($line);
             $request = $word === 'request' ? $second : $request;
-            [$calls, $questions] = ['', 0];
+            [$calls, $questions, $events] = ['', 0, 0];
         } elseif ($word !== 'worker') {
             $calls .= $line;
             $questions += $word === 'apcu_entry' ? strlen(key_of($line) ?? '') + 30 : 0;
+            $events += most_events($word, $line);
         }
     }
-    yield from part($request, $second, $calls, $questions);
+    yield from part($request, $second, $calls, $questions, $events);
 }
 
-function part(int $request, int $second, string $calls, int $questions): \Generator
+/** How many events a call may have. A walk counts as one for each slot. */
+function most_events(string $word, string $line): int
+{
+    return match ($word) {
+        'apcu_entry' => 2,
+        'APCUIterator', 'APCUIterator_delete' => USUAL_SLOTS,
+        default => members_of($line, strlen($word) + 1) ?? 1,
+    };
+}
+
+function part(int $request, int $second, string $calls, int $questions, int $events): \Generator
 {
     if ($calls !== '') {
         $front = "request i:$request;\n" . ($second === $request ? '' : "time i:$second;\n");
-        yield [$second, $front . $calls, $questions];
+        yield [$second, $front . $calls, $questions, $events];
     }
 }
 
-/** How many calls the recorder left out of these scripts, by kind. */
+/** What the recorder left out of these scripts, and for how many values a string stands, by kind. */
 function tell_left(array $paths): void
 {
-    $sums = [];
-    foreach ($paths as $path) {
-        foreach (@file(substr($path, 0, -5) . '.left', FILE_IGNORE_NEW_LINES) ?: [] as $line) {
-            [$kind, $count] = explode("\t", $line);
-            $sums[$kind] = ($sums[$kind] ?? 0) + (int) $count;
+    foreach (sums_left($paths) as $how => $sums) {
+        foreach ($sums as $kind => $count) {
+            tell(($how === 'left' ? 'left out' : 'a string stands for') . ": $count of kind $kind");
         }
-    }
-    arsort($sums);
-    foreach ($sums as $kind => $count) {
-        tell("left out: $count of kind $kind");
     }
 }

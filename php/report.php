@@ -2,13 +2,17 @@
 
 // php report.php [--program PATH] [--html FILE] [--try "OPTIONS"].. INPUT
 // Plays an input of apcu_run once for each setting, and prints what came of it, as a table and as an HTML page, which also
-// has a picture of each cache's words at the end.
+// has a picture of each cache's words at the end. Where INPUT is a recorder's folder, join.php --one makes the input; then
+// the first setting is the site's own one, what its APCu itself came to stands behind it, and the last line tells what was
+// left out.
 
 declare(strict_types=1);
 
 namespace ApcuRecord;
 
 require __DIR__ . '/lines.php';
+require __DIR__ . '/events/files.php';
+require __DIR__ . '/report/site.php';
 require __DIR__ . '/report/map.php';
 require __DIR__ . '/report/play.php';
 require __DIR__ . '/report/page.php';
@@ -21,21 +25,46 @@ const SETTINGS = [
 const USAGE = 'usage: php report.php [--program PATH] [--html FILE] [--try "OPTIONS"].. INPUT';
 
 [$program, $page, $settings, $input] = asked(array_slice($argv, 1));
-$played = with_questions($input);
+$site = is_dir($input) ? site_of($input) : null;
+$played = with_questions(is_dir($input) ? joined($input) : $input);
 [$rows, $pictures] = [[], []];
 put(STDOUT, line('setting', array_values(COLUMNS)));
-foreach ($settings as $setting) {
-    [$output, $message] = play($program, $setting, $played);
+foreach (all_settings($settings, $site) as $setting) {
+    [$output, $message] = $site?->size > MOST_SIZE && $setting === $site->setting
+        ? [null, 'no more than ' . MOST_SIZE . ' bytes can be played']
+        : play($program, $setting, $played);
     if ($output === null) {
         $rows[$setting] = $message;
     } else {
         [$rows[$setting], $cells] = told($played, $output);
         $pictures[$setting] = $page === null ? '' : map_picture($cells);
     }
-    put(STDOUT, line($setting, is_array($rows[$setting]) ? shown_all($rows[$setting]) : $rows[$setting]));
+    tell_row($setting, $rows[$setting]);
+    if ($site?->row !== null && count($rows) === 1) {
+        $rows['APCu itself'] = $site->row;
+        tell_row('APCu itself', $site->row);
+    }
 }
+put(STDOUT, $site === null ? '' : "$site->left\n");
 if ($page !== null) {
-    put(opened($page, 'wb'), page(basename($input), $rows, $pictures), $page);
+    put(opened($page, 'wb'), page(basename($input), $rows, $pictures, $site?->left), $page);
+}
+
+/**
+ * The settings to play, the site's own one first.
+ *
+ * @param list<string> $tried those that were asked for
+ * @return list<string>
+ */
+function all_settings(array $tried, ?Site $site): array
+{
+    $others = $tried ?: array_map(static fn (string $setting): string => $setting . $site?->rest, SETTINGS);
+    return array_values(array_unique($site === null ? $others : [$site->setting, ...$others]));
+}
+
+function tell_row(string $setting, array|string $row): void
+{
+    put(STDOUT, line($setting, is_array($row) ? shown_all($row) : $row));
 }
 
 /** The program, the page, the settings and the input. */
@@ -61,7 +90,7 @@ function asked(array $words): array
         // Told before minutes of play, and what stands there is kept until there is something new.
         opened($page, 'cb');
     }
-    return [$program, $page, $settings ?: SETTINGS, $inputs[0]];
+    return [$program, $page, $settings, $inputs[0]];
 }
 
 /** A line of the table; or the message where there are no cells. */
@@ -77,9 +106,10 @@ function shown_all(array $row): array
     return array_map(shown(...), array_keys($row), array_values($row));
 }
 
-function shown(string $name, int|float $value): string
+function shown(string $name, int|float|null $value): string
 {
-    return match ($name) {
+    return match ($value === null ? '' : $name) {
+        '' => '-',
         'rate' => sprintf('%.2f %%', 100 * $value),
         'used', 'free' => sprintf('%.2f MB', $value / 1_048_576),
         default => (string) $value,

@@ -22,8 +22,8 @@ foreach (lines_of(opened($script)) as $line) {
     if ($seen->sets_time($line)) {
         continue;
     }
-    for (; str_starts_with((string) $theirs->current(), 'left '); $theirs->next()) {
-        $seen->left($theirs->current());
+    for (; Seen::is_note((string) $theirs->current()); $theirs->next()) {
+        $seen->note($theirs->current());
     }
     [$asked, $got] = [$theirs->current(), $ours->current()];
     $theirs->next();
@@ -39,8 +39,8 @@ foreach (lines_of(opened($script)) as $line) {
     }
     $seen->made($line);
 }
-for (; str_starts_with((string) $theirs->current(), 'left '); $theirs->next()) {
-    $seen->left($theirs->current());
+for (; Seen::is_note((string) $theirs->current()); $theirs->next()) {
+    $seen->note($theirs->current());
 }
 if ($theirs->valid() || $ours->current() !== "journal\n") {
     give_up('there are more replies than calls');
@@ -51,8 +51,8 @@ echo $unnamed === 0 ? '' : "  $unnamed: no row\n";
 foreach ($named as $row => $count) {
     echo "  $count: $row\n";
 }
-foreach ($seen->counts as $kind => $count) {
-    echo "  $count calls left out: $kind\n";
+foreach ($seen->counts as $what => $count) {
+    echo "  $count $what\n";
 }
 exit($unnamed === 0 ? 0 : 1);
 

@@ -17,12 +17,14 @@ final class Seen
         'search by an array' => 'Slashes and one flag', 'iterator' => 'Deleting by an iterator',
     ];
 
-    /** @var array<string, int> */
+    /** @var array<string, int> what was left out, and what a string stands for */
     public array $counts = [];
     public ?string $of_all = null;
     public int $now = 0;
     /** @var array<string, string> the row that names why a key's value was left out */
     private array $left = [];
+    /** @var array<string, string> the same of values for which a string stands in one of the next lines */
+    private array $stands = [];
     /** @var array<string, int> the last second of a row */
     private array $ends = [];
 
@@ -35,18 +37,32 @@ final class Seen
         return $word === 'time' || $word === 'request' || $word === 'worker';
     }
 
-    /** A line `left KIND KEYS`, with which the recorder says that a call is not in the script. */
-    public function left(string $line): void
+    public static function is_note(string $line): bool
     {
+        return str_starts_with($line, 'left ') || str_starts_with($line, 'stands ');
+    }
+
+    /**
+     * A line `left KIND KEYS`, with which the recorder says that a call is not in the script, or `stands KIND KEYS`: a
+     * string stands for a value in one of the next lines.
+     */
+    public function note(string $line): void
+    {
+        $word = word_of($line);
         $at = strcspn($line, ':') - 1;
         // No keys are `N;`.
         $at = str_ends_with($line, " N;\n") ? strlen($line) - 3 : $at;
-        $kind = trim(substr($line, 5, $at - 5));
+        $kind = trim(substr($line, strlen($word), $at - strlen($word)));
         $keys = @unserialize(substr($line, $at), ['allowed_classes' => false]);
-        $this->counts[$kind] = ($this->counts[$kind] ?? 0) + 1;
+        $what = $word === 'left' ? "calls left out: $kind" : "values for which a string stands: $kind";
+        $this->counts[$what] = ($this->counts[$what] ?? 0) + 1;
         $row = self::ROWS[$kind] ?? "a value that the recorder left out ($kind)";
         foreach (is_array($keys) ? array_filter($keys, 'is_string') : [] as $key) {
-            $this->left[$key] = $row;
+            if ($word === 'left') {
+                $this->left[$key] = $row;
+            } else {
+                $this->stands[$key] = $row;
+            }
         }
         $this->of_all = in_array($kind, ['pattern', 'search by an array', 'iterator'], true) ? $row : $this->of_all;
     }
@@ -65,6 +81,12 @@ final class Seen
                 $this->ends[$key] = $ttl > 0 ? $this->now + $ttl : PHP_INT_MAX;
             }
         }
+        foreach (keys_of_line($line) as $key) {
+            if (isset($this->stands[$key])) {
+                $this->left[$key] = $this->stands[$key];
+                unset($this->stands[$key]);
+            }
+        }
     }
 
     public function is_over(string $line): bool
@@ -80,8 +102,8 @@ final class Seen
     public function row_of_keys(string $line): ?string
     {
         foreach (keys_of_line($line) as $key) {
-            if (isset($this->left[$key])) {
-                return $this->left[$key];
+            if (isset($this->stands[$key]) || isset($this->left[$key])) {
+                return $this->stands[$key] ?? $this->left[$key];
             }
         }
         return $this->of_all;

@@ -81,7 +81,7 @@ check_faults() {
     fault 'APCu is off' 'APCu is off' php -d extension=uopz -d apc.enable_cli=0 "${prepended[@]}"
     # Where files may have so few bytes, a write ends as on a full disk.
     (trap '' XFSZ && ulimit -f 100 && fault 'full disk' 'Write of' env APCU_RECORD_DIR="$work/full" "${recorded[@]}")
-    php "$here/../../php/join.php" "$work/full"/* >/dev/null 2>&1 || { echo 'full disk: no script' >&2; return 1; }
+    php "$here/../../php/join.php" "$work/full" >/dev/null 2>&1 || { echo 'full disk: no script' >&2; return 1; }
 }
 
 # A program ends with one line that has these words, and prints nothing else on the file.
@@ -100,7 +100,9 @@ check_messages() {
     script=$work/script
     printf 'worker\nrequest i:0;\napcu_enabled\n' >"$script"
     message 'No such file' "$out" "$folder/join.php" "$work/none"
-    message 'is a folder' "$out" "$folder/join.php" "$work"
+    mkdir -p "$work/empty"
+    message 'none of these files' "$out" "$folder/join.php" "$work/empty"
+    message 'no record with' "$out" "$folder/report.php" --program "$folder/../apcu_run" "$work/empty"
     message 'No space left' /dev/full "$folder/join.php" "$script"
     message 'No such file' "$out" "$folder/map.php" "$work/none"
     message 'has no map' "$out" "$folder/map.php" "$script"
@@ -137,13 +139,16 @@ check_replies() {
     return "$failed"
 }
 
-# A report has a line for each setting, and the page a picture of each cache.
+# A report has a line for each setting, the site's own one first and APCu's counts behind it, what was left out in the
+# last one; and the page has a picture of each cache.
 check_report() {
-    local page="$work/page.html" script
-    script=$(ls "$work"/Simple.recorded/*.apcu)
+    local page="$work/page.html"
     php "$here/../../php/report.php" --program "$program" --html "$page" --try '--shm-size 1M' \
-        --try '--shm-size 1M --segments 2 --ttl 60' "$script" >"$work/table"
-    if [ "$(grep -c ' MB$' "$work/table")" != 2 ] || [ "$(grep -c '<svg' "$page")" != 2 ]; then
+        --try '--shm-size 1M --segments 2 --ttl 60' "$work/Simple.recorded" >"$work/table"
+    cat "$work/table"
+    if [ "$(grep -c ' MB$' "$work/table")" != 3 ] || [ "$(grep -c '<svg' "$page")" != 3 ] ||
+        ! sed -n 2p "$work/table" | grep -q '^--shm-size 32M  ' || ! sed -n 3p "$work/table" | grep -q '^APCu itself .* MB' ||
+        ! tail -n 1 "$work/table" | grep -q 'left out.*a string as long stands for' || ! grep -q '<p>.*left out' "$page"; then
         echo 'report: another table or page' >&2
         return 1
     fi

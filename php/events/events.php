@@ -52,7 +52,9 @@ function events_of(Recorded $file): \Generator
     $part = $moment = $call = null;
     $number = -1;
     $what = null;
-    foreach (lines_of($file->stream) as $line) {
+    $stream = opened($file->path);
+    fseek($stream, $file->at);
+    foreach (lines_of($stream) as $line) {
         if ($line[-1] !== "\n") {
             $what = 'it ends within a line';
             break;
@@ -116,7 +118,8 @@ function with_value(string $call): string
 }
 
 /**
- * All events by part and number, with a gap where numbers are missing.
+ * All events by part and number, with a gap where numbers are missing. A file is opened where its first event is due, so
+ * no more are open than processes lived at once.
  *
  * @param list<Recorded> $files
  * @return \Generator<int, Event|Gap>
@@ -126,6 +129,7 @@ function all_events(array $files): \Generator
     $streams = $waiting = [];
     $take = static function (int $at) use (&$streams, &$waiting, $files): void {
         if (!$streams[$at]->valid()) {
+            unset($streams[$at]);
             return;
         }
         $event = $streams[$at]->current();
@@ -136,20 +140,33 @@ function all_events(array $files): \Generator
         }
         $waiting[$event->part][$event->number] = $event;
     };
-    foreach ($files as $at => $file) {
-        $streams[$at] = events_of($file);
-        $take($at);
-    }
-    while ($waiting !== []) {
-        $part = min(array_keys($waiting));
-        for ($number = 0; isset($waiting[$part]) && $waiting[$part] !== []; $number++) {
+    $later = new Later($files);
+    $open = static function (int $part, int $number) use (&$streams, $later, $take, $files): void {
+        while ($later->first() !== null && $later->first() <= [$part, $number]) {
+            $at = $later->next();
+            $streams[$at] = events_of($files[$at]);
+            $take($at);
+        }
+    };
+    $open(0, 0);
+    while ($waiting !== [] || $later->first() !== null) {
+        $part = min([...array_keys($waiting), $later->first()[0] ?? PHP_INT_MAX]);
+        for ($number = 0; ; $number++) {
+            $open($part, $number);
             if (!isset($waiting[$part][$number])) {
-                $next = min(array_keys($waiting[$part]));
+                $next = min([
+                    ...array_keys($waiting[$part] ?? []),
+                    ($later->first()[0] ?? null) === $part ? $later->first()[1] : PHP_INT_MAX,
+                ]);
+                if ($next === PHP_INT_MAX) {
+                    break;
+                }
                 if ($next < $number) {
                     give_up("event $next of part $part stands in two files: {$files[$waiting[$part][$next]->file]->path} and another");
                 }
                 yield new Gap($part, $number, $next - 1);
                 $number = $next;
+                $open($part, $number);
             }
             $event = $waiting[$part][$number];
             unset($waiting[$part][$number]);
@@ -158,6 +175,31 @@ function all_events(array $files): \Generator
             yield $event;
         }
         unset($waiting[$part]);
+    }
+}
+
+/** The files that are not open yet, by their first events. */
+final class Later
+{
+    /** @var list<int> places of files, those of which the first event is due last in front */
+    private array $places;
+
+    /** @param list<Recorded> $files */
+    public function __construct(private readonly array $files)
+    {
+        $this->places = array_keys($files);
+        usort($this->places, static fn (int $one, int $other): int => $files[$other]->first <=> $files[$one]->first);
+    }
+
+    /** @return ?array{int, int} part and number of the first event of the next file */
+    public function first(): ?array
+    {
+        return $this->places === [] ? null : $this->files[end($this->places)]->first;
+    }
+
+    public function next(): int
+    {
+        return array_pop($this->places);
     }
 }
 

@@ -6,20 +6,27 @@ declare(strict_types=1);
 
 namespace ApcuRecord;
 
-/** A file of a process, read up to its first event. */
+/** The largest cache that the program plays. */
+const MOST_SIZE = 134_217_728;
+
+/** A file of a process, of which the head was read. */
 final class Recorded
 {
     /** Something of it can't be read, or was not written whole. */
     public bool $is_cut = false;
 
-    /** @param resource $stream */
+    /**
+     * @param int $at where its head ends
+     * @param array{int, int} $first part and number of its first event; below 0 where there is none
+     */
     public function __construct(
         public readonly string $path,
         public readonly string $server,
         public readonly int $process,
         public readonly Shape $shape,
         public readonly bool $has_values,
-        public readonly mixed $stream,
+        public readonly int $at,
+        public readonly array $first,
     ) {
     }
 }
@@ -97,9 +104,10 @@ function begun(string $path): array
         $head[$name] = $found[1];
     }
     $shape = new Shape((int) $head['shm-size'], (int) $head['slots'], (int) $head['ttl']);
-    $at = ftell($stream);
-    [, $time] = [fgets($stream), (string) fgets($stream)];
-    fseek($stream, $at);
-    $file = new Recorded($path, $head['server'], (int) $head['process'], $shape, $head['values'] === '1', $stream);
-    return [$file, str_starts_with($time, 'time ') ? second_of($time) : 0];
+    $at = (int) ftell($stream);
+    [$part, $time, $event] = [(string) fgets($stream), (string) fgets($stream), (string) fgets($stream)];
+    $is_event = str_starts_with($part, 'part ') && str_starts_with($time, 'time i:') && preg_match('/\A[0-9]/', $event) === 1;
+    $first = $is_event ? [(int) substr($part, 5), (int) $event] : [-1, -1];
+    $file = new Recorded($path, $head['server'], (int) $head['process'], $shape, $head['values'] === '1', $at, $first);
+    return [$file, $is_event ? second_of($time) : 0];
 }

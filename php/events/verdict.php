@@ -10,8 +10,6 @@ const RIGHT = 0;
 const NOT_JUDGED = 1;
 const RIGHT_IN_PART = 2;
 const WRONG = 9;
-/** The largest cache that the program plays. */
-const MOST_SIZE = 134_217_728;
 const MOST_GAPS = 3;
 
 /**
@@ -108,17 +106,23 @@ function verified(string $program, Shape $shape, Stretch $stretch): bool
 function explain(string $program, array $paths, string $server, int $wanted): void
 {
     $files = recorded_files($paths, $server);
-    foreach (stretches(all_events($files), new Extent(), 1, true) as $at => $stretch) {
+    foreach (stretches(all_events($files), new Extent(), MOST_WORKERS, true) as $at => $stretch) {
         if ($at === $wanted) {
             break;
         }
     }
-    [$status, $printed, $message] = run_program([$program, ...$files[0]->shape->options()], $stretch->scripts());
+    // Its scripts may be longer, and then end earlier.
+    $one = new Stretch(1, false);
+    $count = 0;
+    while ($count < $stretch->events && $one->add(...$stretch->kept[$count])) {
+        $count++;
+    }
+    [$status, $printed, $message] = run_program([$program, ...$files[0]->shape->options()], $one->scripts());
     if ($status !== 0) {
         give_up($message === '' ? "the program ended with status $status" : $message);
     }
     $place = strlen("worker 0\n");
-    foreach ($stretch->kept as [$event, $second]) {
+    foreach (array_slice($stretch->kept, 0, $count) as [$event, $second]) {
         $end = line_end($printed, $place);
         $due = substr($printed, $place, $end - $place);
         if ($due !== $event->reply) {

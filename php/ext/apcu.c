@@ -51,6 +51,19 @@ static void tell(const char *fault)
 	}
 }
 
+static void start_record(void)
+{
+	if (!apcu_shm || !APCU_G(record_dir) || !*APCU_G(record_dir)) {
+		return;
+	}
+#ifdef ZTS
+	/* What waits to be written is the process's, and no thread has a part of its own in it. */
+	php_log_err("apcu: where PHP has threads nothing is recorded; apc.record_dir is passed over");
+#else
+	apcu_record_start(APCU_G(record_dir), APCU_G(record_values));
+#endif
+}
+
 static PHP_MINIT_FUNCTION(apcu)
 {
 	bool is_cli = strcmp(sapi_module.name, "cli") == 0;
@@ -60,9 +73,7 @@ static PHP_MINIT_FUNCTION(apcu)
 		apcu_serializers_start(module_number);
 		start_cache();
 	}
-	if (apcu_shm && APCU_G(record_dir) && *APCU_G(record_dir)) {
-		apcu_record_start(APCU_G(record_dir), APCU_G(record_values));
-	}
+	start_record();
 	if (apcu_shm && APCU_G(preload_path)) {
 		apcu_preload(APCU_G(preload_path));
 	}

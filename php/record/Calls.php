@@ -65,22 +65,25 @@ final class Calls
     public static function store(string $word, int $count, mixed $key, mixed $value, mixed $ttl): string
     {
         self::$parts = null;
-        if ($ttl !== 0 && !self::is_ttl($ttl)) {
+        $ttl = self::seconds($ttl);
+        if ($ttl === null) {
             return self::left('argument', $key);
         }
         if (\is_string($key) && $count > 1) {
-            $text = Text::of($value);
-            return $text === null
-                ? self::left(Text::$why, $key)
-                : "$word " . \serialize($key) . " $text" . ($ttl === 0 ? "\n" : " i:$ttl;\n");
+            $text = Text::told($value, $key);
+            return $text === null ? '' : "$word " . \serialize($key) . " $text" . ($ttl === 0 ? "\n" : " i:$ttl;\n");
         }
         return \is_array($key) ? self::map($word, $key, $ttl) : self::left('argument');
     }
 
-    /** How long a row may live is said with 32 bits. */
-    public static function is_ttl(mixed $ttl): bool
+    /** How long a row may live, as PHP converts it for a file without strict types; null where a script can't say it. */
+    public static function seconds(mixed $ttl): ?int
     {
-        return \is_int($ttl) && $ttl >= 0 && $ttl <= self::MOST_TTL;
+        if (!\is_int($ttl)) {
+            $is_whole = (\is_float($ttl) || \is_string($ttl) && \is_numeric($ttl)) && (float) $ttl === \floor((float) $ttl);
+            $ttl = $is_whole || \is_bool($ttl) || $ttl === null ? (int) $ttl : -1;
+        }
+        return $ttl >= 0 && $ttl <= self::MOST_TTL ? $ttl : null;
     }
 
     public static function left(string $kind, mixed $keys = null): string
@@ -91,7 +94,7 @@ final class Calls
 
     /**
      * A store of many keys. APCu makes one store after the other, and copies each value by itself. So where the values
-     * may share something, and where one of them is refused, there is a line for each key.
+     * may share something, and where one of them can't be said, there is a line for each key.
      */
     private static function map(string $word, array $map, int $ttl): string
     {
@@ -128,8 +131,8 @@ final class Calls
 
     private static function count(string $word, array $args): string
     {
-        [$key, $step, $ttl] = [$args[0] ?? null, $args[1] ?? 1, $args[3] ?? 0];
-        if (!\is_string($key) || !\is_int($step) || !self::is_ttl($ttl)) {
+        [$key, $step, $ttl] = [$args[0] ?? null, $args[1] ?? 1, self::seconds($args[3] ?? 0)];
+        if (!\is_string($key) || !\is_int($step) || $ttl === null) {
             return self::left('argument', $key);
         }
         return "$word " . \serialize($key) . " i:$step;" . ($ttl === 0 ? "\n" : " i:$ttl;\n");

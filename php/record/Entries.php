@@ -60,14 +60,12 @@ final class Entries
 
     private static function line(mixed $key, mixed $answer, mixed $ttl): string
     {
-        if (!\is_string($key) || !Calls::is_ttl($ttl)) {
+        $ttl = Calls::seconds($ttl);
+        if (!\is_string($key) || $ttl === null) {
             return Calls::left('argument', $key);
         }
-        $text = Text::of($answer);
-        if ($text === null) {
-            return Calls::left(Text::$why, $key);
-        }
-        return 'apcu_entry ' . \serialize($key) . " ($text)" . ($ttl === 0 ? "\n" : " i:$ttl;\n");
+        $text = Text::told($answer, $key);
+        return $text === null ? '' : 'apcu_entry ' . \serialize($key) . " ($text)" . ($ttl === 0 ? "\n" : " i:$ttl;\n");
     }
 
     private static function end(): void

@@ -21,8 +21,10 @@ final class Script
     private static int $second_before = 0;
     private static int $request = 0;
     private static string $replies = '';
-    /** @var array<string, int> how many calls were left out, by kind */
+    /** @var array<string, int> how many calls were left out, and for how many values a string stands, by kind */
     private static array $left = [];
+    /** The recorder itself asks APCu. */
+    private static bool $is_asking = false;
     private static string $path = '';
     private static int $process = 0;
     /** @var resource|null */
@@ -49,7 +51,7 @@ final class Script
     /** Appends the lines of a call, which end with line feeds; none where it was left out. */
     public static function call(string $lines, ?int $now = null): void
     {
-        if ($lines === '') {
+        if ($lines === '' || self::$is_asking) {
             return;
         }
         $now ??= self::now();
@@ -86,15 +88,16 @@ final class Script
     /** Appends what APCu answered to the last lines. */
     public static function reply(string $lines): void
     {
-        self::$replies .= $lines;
+        self::$replies .= self::$is_asking ? '' : $lines;
     }
 
-    /** Counts a call that a script cannot say; its keys are told beside the replies. */
-    public static function left(string $kind, mixed $keys = null): void
+    /** Counts a call that a script can't say, or a value for which a string stands; keys are told beside the replies. */
+    public static function left(string $kind, mixed $keys = null, bool $has_stand_in = false): void
     {
-        self::$left[$kind] = (self::$left[$kind] ?? 0) + 1;
+        $how = $has_stand_in ? 'stands' : 'left';
+        self::$left["$how\t$kind"] = (self::$left["$how\t$kind"] ?? 0) + 1;
         if (self::$tells_replies) {
-            self::$replies .= "left $kind " . \serialize(\is_string($keys) ? [$keys] : $keys) . "\n";
+            self::$replies .= "$how $kind " . \serialize(\is_string($keys) ? [$keys] : $keys) . "\n";
         }
     }
 
@@ -143,6 +146,7 @@ final class Script
         foreach (self::$left as $kind => $count) {
             self::append('left', "$kind\t$count\n");
         }
+        self::append('site', self::counts());
         if (self::$replies !== '') {
             self::append('replies', self::$replies);
         }
@@ -164,6 +168,7 @@ final class Script
         if (self::$size === 0) {
             // What was stored is for the site's eyes.
             \chmod(self::$path . '.apcu', 0600);
+            self::append('site', self::setting());
             self::$buffer = "worker\n" . self::start() . self::$buffer;
         } elseif (self::$size > self::MOST) {
             // It was told when the file became full.
@@ -171,6 +176,24 @@ final class Script
         } else {
             self::$buffer = self::start() . self::$buffer;
         }
+    }
+
+    /** APCu's setting. */
+    private static function setting(): string
+    {
+        $names = ['shm_size', 'entries_hint', 'ttl', 'use_request_time'];
+        return \implode("\t", \array_map(static fn (string $name): string => (string) \ini_get("apc.$name"), $names)) . "\n";
+    }
+
+    /** What APCu has counted so far, and the moment. */
+    private static function counts(): string
+    {
+        self::$is_asking = true;
+        $told = \apcu_cache_info(true);
+        self::$is_asking = false;
+        $names = ['num_hits', 'num_misses', 'num_inserts', 'expunges', 'num_entries', 'mem_size'];
+        $counts = \array_map(static fn (string $name): string => \sprintf('%d', $told[$name] ?? 0), $names);
+        return \hrtime(true) . "\t" . \implode("\t", $counts) . "\n";
     }
 
     /** The start of the request, and the second of the first line where a request goes on. */

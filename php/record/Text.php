@@ -4,10 +4,10 @@ declare(strict_types=1);
 
 namespace ApcuRecord;
 
-/** Values as a script says them: as `serialize` writes them, but for those that it refuses. */
+/** Values as a script says them: as `serialize` writes them. For one that it can't say stands a string as long. */
 final class Text
 {
-    /** A value that begins in so many arrays and objects is refused. */
+    /** A value that begins in so many arrays and objects can't be said. */
     private const DEPTH = 512;
     /** More members than these in one value are not looked through. */
     private const MEMBERS = 1_000_000;
@@ -16,8 +16,12 @@ final class Text
     /** How a string begins that may spell a number; what may be a part that is shared. */
     private const NUMBER = '/:"[0-9-]/';
     private const SHARED = '/[rR]:[0-9]/';
+    /** APCu keeps a double as it keeps an integer, in eight bytes. */
+    private const DOUBLE = 8;
+    /** Of these no string stands there: APCu stores none of the first, and the second would take too long. */
+    private const LEFT = ['unserializable' => true, 'members' => true];
 
-    /** Why the last value was refused. */
+    /** Why a script can't say the last value; nothing where it can. */
     public static string $why = '';
     /** Whether no part of the last array is shared with another one. */
     public static bool $is_plain = false;
@@ -27,15 +31,26 @@ final class Text
      */
     public static string|int|bool|null $plain = null;
     public static string $string = '';
-    /** @var array<string, string> why objects of a class are refused, or nothing */
+    /** @var array<string, string> why a script can't say objects of a class, or nothing */
     private static array $classes = [];
     /** @var array<int, true> the objects of this value that were met */
     private static array $met = [];
     private static int $members = 0;
 
-    /** The value's text, or null. None of the site's code runs. */
+    /** The same as `of`; a value that can't be said is counted. */
+    public static function told(mixed $value, string $key): ?string
+    {
+        $text = self::of($value);
+        if (self::$why !== '') {
+            Script::left(self::$why, $key, $text !== null);
+        }
+        return $text;
+    }
+
+    /** The value's text, or that of a string which stands for it, or null. None of the site's code runs. */
     public static function of(mixed $value): ?string
     {
+        self::$why = '';
         if (\is_array($value)) {
             return self::of_array($value);
         }
@@ -54,6 +69,7 @@ final class Text
     /** Most arrays have plain members, and no doubtful keys. */
     public static function of_array(array $array): ?string
     {
+        self::$why = '';
         try {
             foreach ($array as self::$plain);
         } catch (\TypeError) {
@@ -80,11 +96,12 @@ final class Text
 
     private static function of_all(mixed $value): ?string
     {
+        self::$is_plain = false;
         self::$met = [];
         self::$members = 0;
         self::$why = self::refused($value, 0);
         if (self::$why !== '') {
-            return null;
+            return self::of_refused($value);
         }
         try {
             $text = \serialize($value);
@@ -94,12 +111,80 @@ final class Text
         }
         self::$is_plain = !\str_contains($text, ';r:') && !\str_contains($text, ';R:');
         self::$met = [];
-        self::$why = match (true) {
-            isset($text[self::SHORT]) && !self::has_memory(\strlen($text)) => 'memory',
-            \preg_match(self::NUMBER, $text) !== 0 && self::has_number($value) => 'key',
-            default => '',
-        };
-        return self::$why === '' ? $text : null;
+        if (isset($text[self::SHORT]) && !self::has_memory(\strlen($text))) {
+            self::$why = 'memory';
+            return null;
+        }
+        if (\preg_match(self::NUMBER, $text) !== 0 && self::has_number($value)) {
+            self::$why = 'key';
+            self::$is_plain = false;
+            return self::stand_in(\strlen($text));
+        }
+        return $text;
+    }
+
+    private static function of_refused(mixed $value): ?string
+    {
+        if (\is_float($value)) {
+            return self::stand_in(self::DOUBLE);
+        }
+        if (!\is_array($value) && !\is_object($value)) {
+            self::$why = 'unserializable';
+        }
+        self::$met = [];
+        self::$members = 0;
+        $length = isset(self::LEFT[self::$why]) ? 0 : self::length($value, 0);
+        return isset(self::LEFT[self::$why]) ? null : self::stand_in($length);
+    }
+
+    /** A string of so many bytes, which are the site's in nothing else. */
+    private static function stand_in(int $length): ?string
+    {
+        if ($length > self::SHORT && !self::has_memory($length)) {
+            self::$why = 'memory';
+            return null;
+        }
+        return "s:$length:\"" . \str_repeat('x', $length) . '";';
+    }
+
+    /**
+     * How many bytes `serialize` writes of a value, if objects with hooks had none. What is shared by references counts
+     * each time.
+     */
+    private static function length(mixed $value, int $depth): int
+    {
+        $front = \strlen('a::{}');
+        if (\is_object($value)) {
+            if ($value instanceof \UnitEnum) {
+                return \strlen(\serialize($value));
+            }
+            self::$classes[$value::class] ??= self::in_class($value);
+            $id = \spl_object_id($value);
+            if (self::$classes[$value::class] === 'unserializable') {
+                self::$why = 'unserializable';
+            }
+            if (isset(self::$met[$id])) {
+                return \strlen('r:10;');
+            }
+            self::$met[$id] = true;
+            $front = 3 + \strlen(\serialize($value::class));
+            $value = (array) $value;
+        } elseif (!\is_array($value)) {
+            return \strlen(\serialize($value));
+        }
+        $count = \count($value);
+        self::$members += $count;
+        if (self::$members > self::MEMBERS) {
+            self::$why = 'members';
+        }
+        if (isset(self::LEFT[self::$why]) || $depth > 2 * self::DEPTH) {
+            return 0;
+        }
+        $length = $front + \strlen((string) $count);
+        foreach ($value as $key => $member) {
+            $length += \strlen(\serialize($key)) + self::length($member, $depth + 1);
+        }
+        return $length;
     }
 
     /** Whether an array in the value has a string for a key that spells a number, as APCu's own answers have. */
@@ -129,7 +214,7 @@ final class Text
         return $limit <= 0 || \memory_get_usage() + 5 * $bytes < $limit;
     }
 
-    /** Why a value in so many arrays and objects is refused, or nothing. */
+    /** Why a value in so many arrays and objects can't be said, or nothing. */
     private static function refused(mixed $value, int $depth): string
     {
         return match (\gettype($value)) {

@@ -20,7 +20,7 @@ figcaption { font-family: monospace; padding: .15em .5em; }
 svg { width: 100%; }
 CSS;
 
-function page(string $name, array $rows, array $pictures): string
+function page(string $name, array $rows, array $pictures, ?string $left): string
 {
     $title = 'The cache of ' . htmlspecialchars($name);
     $sections = '';
@@ -32,7 +32,8 @@ function page(string $name, array $rows, array $pictures): string
         $sections .= '<figure><figcaption>' . htmlspecialchars($setting) . "</figcaption>\n$picture</figure>\n";
     }
     return "<!DOCTYPE html>\n<html lang=\"en\">\n<meta charset=\"utf-8\">\n<title>$title</title>\n<style>\n" . STYLE
-        . "\n</style>\n<h1>$title</h1>\n$sections</html>\n";
+        . "\n</style>\n<h1>$title</h1>\n$sections" . ($left === null ? '' : '<p>' . htmlspecialchars($left) . "</p>\n")
+        . "</html>\n";
 }
 
 function section(string $column, string $words, array $rows): string
@@ -42,14 +43,17 @@ function section(string $column, string $words, array $rows): string
     $text = '<h2>' . ucfirst($words) . "</h2>\n<table>\n";
     foreach ($rows as $setting => $row) {
         $text .= '<tr><td>' . htmlspecialchars($setting) . '</td>' . (is_array($row)
-            ? bar($row[$column] / $most, shown($column, $row[$column]))
+            ? bar($row[$column] === null ? null : $row[$column] / $most, shown($column, $row[$column]))
             : '<td class="fault">' . htmlspecialchars($row) . '</td><td></td>') . "</tr>\n";
     }
     return "$text</table>\n";
 }
 
-function bar(float $part, string $words): string
+function bar(?float $part, string $words): string
 {
+    if ($part === null) {
+        return "<td></td><td>$words</td>";
+    }
     $width = sprintf('%.2f', 100 * $part);
     return "<td><div class=\"bar\" style=\"width: $width%\"></div></td><td>$words</td>";
 }

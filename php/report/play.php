@@ -13,6 +13,20 @@ const COLUMNS = [
 /** It changes nothing and counts nothing. */
 const QUESTION = "apcu_cache_info b:1;\n";
 
+/** The input that join.php --one makes of a folder; what it tells goes on to whoever called this. */
+function joined(string $folder): string
+{
+    $input = @tempnam(sys_get_temp_dir(), 'apcu');
+    $input !== false || give_up(sys_get_temp_dir() . ': there is no place for an input');
+    register_shutdown_function(static fn () => unlink($input));
+    $words = [PHP_BINARY, dirname(__DIR__) . '/join.php', '--one', $folder];
+    $process = @proc_open($words, [1 => opened($input, 'wb')], $pipes);
+    if ($process === false) {
+        give_up('join.php cannot be started: ' . reason());
+    }
+    return proc_close($process) === 0 ? $input : exit(1);
+}
+
 /**
  * A copy of an input with questions in it: before each entry whether its row is there, which the entry's reply does not
  * tell; and at the end of each worker what the cache has come to.

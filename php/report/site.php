@@ -1,0 +1,140 @@
+<?php
+
+// What a folder of a recorder tells beside the calls: the site's own setting, what its APCu counted, what was left out.
+
+declare(strict_types=1);
+
+namespace ApcuRecord;
+
+/** A site that was recorded. */
+final class Site
+{
+    /**
+     * @param int $size bytes of its cache
+     * @param string $setting its own one, as options of the program
+     * @param string $rest what of it goes with any size and ttl
+     * @param array<string, int|float|null>|null $row what its APCu came to, as a row of the report
+     * @param string $left a line on what was left out
+     */
+    public function __construct(
+        public readonly int $size,
+        public readonly string $setting,
+        public readonly string $rest,
+        public readonly ?array $row,
+        public readonly string $left,
+    ) {
+    }
+}
+
+function site_of(string $folder): Site
+{
+    if (is_recorded($folder)) {
+        $first = recorded_files([$folder])[0];
+        $left = 'nothing was left out' . ($first->has_values ? '' : '; a string as long stands for each string');
+        return new Site(...options_of($first->shape, false), row: null, left: $left);
+    }
+    $lines = [];
+    foreach (glob("$folder/*.site") as $path) {
+        $of = array_map(static fn (string $line): array => explode("\t", $line), file($path, FILE_IGNORE_NEW_LINES));
+        $setting ??= array_shift($of);
+        array_push($lines, ...array_filter($of, static fn (array $line): bool => count($line) === 7));
+    }
+    [$size, $slots, $ttl, $by_request] = $setting ?? give_up("$folder: there is no record with the site's setting");
+    $shape = new Shape(bytes_of($size), slots_of((int) $slots), max(0, (int) $ttl));
+    return new Site(
+        ...options_of($shape, (bool) $by_request),
+        row: counted_by_apcu($lines),
+        left: told_left(sums_left(glob("$folder/*.apcu"))),
+    );
+}
+
+/** A size of an ini file in bytes. APCu takes fewer than a megabyte for megabytes. */
+function bytes_of(string $size): int
+{
+    $power = strpos(' kmg', strtolower(substr(" $size", -1))) ?: 0;
+    $bytes = (int) $size * 1024 ** $power;
+    return $bytes < 1_048_576 ? $bytes * 1_048_576 : intdiv($bytes, 16) * 16;
+}
+
+/** How many slots the extension makes of apc.entries_hint. */
+function slots_of(int $hint): int
+{
+    return max(256, min(1_048_576, 2 * intdiv(($hint > 0 ? $hint : 2000) + 1, 2)));
+}
+
+/** @return array{size: int, setting: string, rest: string} the options without those that the program takes for granted */
+function options_of(Shape $shape, bool $by_request): array
+{
+    $size = $shape->size % 1_048_576 === 0 ? intdiv($shape->size, 1_048_576) . 'M' : $shape->size;
+    $rest = ($shape->slots === 4096 ? '' : " --slots $shape->slots") . ($by_request ? ' --use-request-time 1' : '');
+    $setting = "--shm-size $size" . ($shape->ttl === 0 ? '' : " --ttl $shape->ttl") . $rest;
+    return ['size' => $shape->size, 'setting' => $setting, 'rest' => $rest];
+}
+
+/**
+ * What APCu counted, by its counts at the ends of requests. They begin anew where all rows went, so what was counted
+ * between the last of these ends and that is missing.
+ *
+ * @param list<list<string>> $lines
+ * @return array<string, int|float|null>|null
+ */
+function counted_by_apcu(array $lines): ?array
+{
+    if ($lines === []) {
+        return null;
+    }
+    usort($lines, static fn (array $one, array $other): int => (int) $one[0] <=> (int) $other[0]);
+    $sums = $last = [0, 0, 0];
+    foreach ($lines as [, $hits, $misses, $inserts, $expunges, $entries, $used]) {
+        $now = [(int) $hits, (int) $misses, (int) $inserts];
+        $last = is_anew($last, $now) ? [0, 0, 0] : $last;
+        foreach ($now as $at => $count) {
+            $sums[$at] += $count - $last[$at];
+        }
+        $last = $now;
+    }
+    $asked = $sums[0] + $sums[1];
+    return [
+        'rate' => $asked === 0 ? 0.0 : $sums[0] / $asked, 'inserts' => $sums[2], 'refused' => null,
+        'expunges' => (int) $expunges, 'entries' => (int) $entries, 'used' => (int) $used, 'free' => null,
+    ];
+}
+
+/** Whether counts began anew between two moments. */
+function is_anew(array $before, array $now): bool
+{
+    return $now[0] < $before[0] || $now[1] < $before[1] || $now[2] < $before[2];
+}
+
+/**
+ * What the recorder left out of scripts, and for how many values a string stands.
+ *
+ * @param list<string> $paths
+ * @return array{left: array<string, int>, stands: array<string, int>}
+ */
+function sums_left(array $paths): array
+{
+    $sums = ['left' => [], 'stands' => []];
+    foreach ($paths as $path) {
+        foreach (@file(substr($path, 0, -5) . '.left', FILE_IGNORE_NEW_LINES) ?: [] as $line) {
+            [$how, $kind, $count] = explode("\t", $line);
+            $sums[$how][$kind] = ($sums[$how][$kind] ?? 0) + (int) $count;
+        }
+    }
+    arsort($sums['left']);
+    arsort($sums['stands']);
+    return $sums;
+}
+
+function told_left(array $sums): string
+{
+    $kinds = static fn (array $of): string => implode(', ', array_map(
+        static fn (string $kind, int $count): string => "$kind $count",
+        array_keys($of),
+        array_values($of),
+    ));
+    return ($sums['left'] === [] ? 'no call was left out' : array_sum($sums['left']) . ' calls were left out ('
+        . $kinds($sums['left']) . '), and later fetches of their keys may count otherwise')
+        . ($sums['stands'] === [] ? '' : '; a string as long stands for ' . array_sum($sums['stands']) . ' values ('
+        . $kinds($sums['stands']) . ')');
+}
