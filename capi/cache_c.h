@@ -4,12 +4,16 @@
  * ordered by it. A handle is memory in which cache_new made a cache, and nothing else: no caller
  * reads, writes or moves it.
  *
- * No pointer is null, not even one to no bytes: no call looks, and with a null it is undefined.
- * Each points to as many bytes or places as the length beside it says, which are less than 2^63
- * bytes. What a call only reads may lie anywhere. What it writes lies in no other argument, and in
- * no memory of the cache; it may be new memory, since whatever lies there counts as its old bytes.
+ * A pointer is null, or points to as many bytes or places as the length beside it says. What a call
+ * only reads may lie anywhere. What it writes lies in no other argument, and in no memory of the
+ * cache; it may be new memory, since whatever lies there counts as its old bytes.
  *
- * No other input is undefined: each request, kind, place, slot and number has an answer. */
+ * No other input is undefined: each request, kind, place, slot and number has an answer. So has a
+ * null, and a length of 2^63 bytes or more. A null to no bytes is taken as no bytes.
+ *
+ * The exports of the library are cache_size and the functions whose names end in _unchecked. They
+ * are proved, where no pointer is null and a slice has less than 2^63 bytes. The functions that
+ * look for that first are C of this header: they are tested, and not proved. */
 #ifndef CACHE_C_H
 #define CACHE_C_H
 
@@ -53,7 +57,8 @@ typedef struct {
 enum {
     CACHE_MADE,      /* there is an empty cache */
     CACHE_BAD_SHAPE, /* no cache has this shape: there is none */
-    CACHE_NO_ROOM    /* memory is missing: there is none */
+    CACHE_NO_ROOM,   /* memory is missing: there is none */
+    CACHE_NO_POINTER /* a pointer is null: there is none */
 };
 
 /* How many bytes a handle takes, aligned as 16. */
@@ -61,7 +66,7 @@ size_t cache_size(void);
 
 /* Makes an empty cache of this shape in the memory at `at`, which then is its handle. Any other
  * number than CACHE_MADE says why there is none. */
-uint32_t cache_new(const cache_shape *shape, uint8_t *at);
+static inline uint32_t cache_new(const cache_shape *shape, uint8_t *at);
 
 /* What is asked. Each is one event of the cache. */
 enum {
@@ -94,7 +99,7 @@ enum {
     CACHE_NO,        /* it was not done, or it is not so */
     CACHE_YES,       /* it was done, or it is so */
     CACHE_NO_NUMBER, /* nothing was counted */
-    CACHE_BAD,       /* no such request or value: nothing was asked */
+    CACHE_BAD,       /* no such request or value, or a null: nothing was asked */
     CACHE_TOO_LONG   /* a key or a string of 4 GB or more: nothing was asked */
 };
 
@@ -106,11 +111,12 @@ typedef struct {
 } cache_answer;
 
 /* Asks the cache for one event. The place of a string's bytes is good until the next event. */
-cache_answer cache_ask(uint8_t *at, const cache_request *ask, const uint8_t *key, size_t key_len,
-                       const uint8_t *bytes, size_t bytes_len);
+static inline cache_answer cache_ask(uint8_t *at, const cache_request *ask, const uint8_t *key,
+                                     size_t key_len, const uint8_t *bytes, size_t bytes_len);
 
-/* Fills the memory with the bytes from this place on; false where there are not so many words. */
-bool cache_copy(uint8_t *at, uint32_t place, uint8_t *out, size_t len);
+/* Fills the memory with the bytes from this place on; false where there are not so many words, or a
+ * pointer is null. */
+static inline bool cache_copy(uint8_t *at, uint32_t place, uint8_t *out, size_t len);
 
 /* What is told from here on changes nothing, and is no event. */
 
@@ -122,7 +128,8 @@ typedef struct {
     uint64_t row_words, free_words; /* of the rows' blocks, and of the gaps */
 } cache_counts;
 
-cache_counts cache_get_counts(uint8_t *at);
+/* All are 0 where the handle is null. */
+static inline cache_counts cache_get_counts(uint8_t *at);
 
 /* A row. Moments are in seconds; sizes and places in words. */
 typedef struct {
@@ -140,21 +147,98 @@ typedef struct {
     cache_answer value; /* as a look-up answers it */
 } cache_row;
 
-/* The row that a look-up of the key at the moment t finds; it counts nothing. */
-cache_row cache_find_row(uint8_t *at, const uint8_t *key, size_t key_len, uint64_t t);
+/* The row that a look-up of the key at the moment t finds; it counts nothing. There is none where a
+ * pointer is null. */
+static inline cache_row cache_find_row(uint8_t *at, const uint8_t *key, size_t key_len,
+                                       uint64_t t);
 
 /* The rows of a slot, expired ones too, in their order and after the first `skip`: how many were
- * written, at most `room`. The slots are 0 to shape.slots - 1; shape.slots are the removed rows, and
- * a larger number has none. */
-uint64_t cache_list_rows(uint8_t *at, uint32_t slot, uint64_t skip, cache_row *out, size_t room);
+ * written, at most `room`, and 0 where a pointer is null. The slots are 0 to shape.slots - 1;
+ * shape.slots are the removed rows, and a larger number has none. */
+static inline uint64_t cache_list_rows(uint8_t *at, uint32_t slot, uint64_t skip, cache_row *out,
+                                       size_t room);
 
 /* A gap between blocks, in words. */
 typedef struct {
     uint32_t place, size;
 } cache_gap;
 
-/* The gaps at or past a place, by rising place: how many were written, at most `room`. */
-uint64_t cache_list_gaps(uint8_t *at, uint32_t from, cache_gap *out, size_t room);
+/* The gaps at or past a place, by rising place: how many were written, at most `room`, and 0 where a
+ * pointer is null. */
+static inline uint64_t cache_list_gaps(uint8_t *at, uint32_t from, cache_gap *out, size_t room);
+
+/* The exports: each is the call above whose name it begins with, but looks for nothing first. */
+
+uint32_t cache_new_unchecked(const cache_shape *shape, uint8_t *at);
+cache_answer cache_ask_unchecked(uint8_t *at, const cache_request *ask, const uint8_t *key,
+                                 size_t key_len, const uint8_t *bytes, size_t bytes_len);
+bool cache_copy_unchecked(uint8_t *at, uint32_t place, uint8_t *out, size_t len);
+cache_counts cache_get_counts_unchecked(uint8_t *at);
+cache_row cache_find_row_unchecked(uint8_t *at, const uint8_t *key, size_t key_len, uint64_t t);
+uint64_t cache_list_rows_unchecked(uint8_t *at, uint32_t slot, uint64_t skip, cache_row *out,
+                                   size_t room);
+uint64_t cache_list_gaps_unchecked(uint8_t *at, uint32_t from, cache_gap *out, size_t room);
+
+/* What looks first. */
+
+static inline uint32_t cache_new(const cache_shape *shape, uint8_t *at) {
+    if (!shape || !at)
+        return CACHE_NO_POINTER;
+    return cache_new_unchecked(shape, at);
+}
+
+static inline cache_answer cache_ask(uint8_t *at, const cache_request *ask, const uint8_t *key,
+                                     size_t key_len, const uint8_t *bytes, size_t bytes_len) {
+    static const uint8_t none = 0;
+    if (!at || !ask || (!key && key_len > 0) || (!bytes && bytes_len > 0)) {
+        cache_answer bad = {CACHE_BAD, 0, 0, 0};
+        return bad;
+    }
+    if (key_len > SIZE_MAX / 2 || bytes_len > SIZE_MAX / 2) {
+        cache_answer too_long = {CACHE_TOO_LONG, 0, 0, 0};
+        return too_long;
+    }
+    return cache_ask_unchecked(at, ask, key ? key : &none, key_len, bytes ? bytes : &none,
+                               bytes_len);
+}
+
+static inline bool cache_copy(uint8_t *at, uint32_t place, uint8_t *out, size_t len) {
+    uint8_t none = 0;
+    if (!at || (!out && len > 0) || len > SIZE_MAX / 2)
+        return false;
+    return cache_copy_unchecked(at, place, out ? out : &none, len);
+}
+
+static inline cache_counts cache_get_counts(uint8_t *at) {
+    if (!at) {
+        cache_counts none = {0, 0, 0, 0, 0, 0, 0};
+        return none;
+    }
+    return cache_get_counts_unchecked(at);
+}
+
+static inline cache_row cache_find_row(uint8_t *at, const uint8_t *key, size_t key_len,
+                                       uint64_t t) {
+    static const uint8_t none = 0;
+    if (!at || (!key && key_len > 0) || key_len > SIZE_MAX / 2) {
+        cache_row no_row = {0, 0, 0, 0, 0, 0, 0, 0, 0, 0, 0, {CACHE_ABSENT, 0, 0, 0}};
+        return no_row;
+    }
+    return cache_find_row_unchecked(at, key ? key : &none, key_len, t);
+}
+
+static inline uint64_t cache_list_rows(uint8_t *at, uint32_t slot, uint64_t skip, cache_row *out,
+                                       size_t room) {
+    if (!at || !out || room > SIZE_MAX / 2 / sizeof *out)
+        return 0;
+    return cache_list_rows_unchecked(at, slot, skip, out, room);
+}
+
+static inline uint64_t cache_list_gaps(uint8_t *at, uint32_t from, cache_gap *out, size_t room) {
+    if (!at || !out || room > SIZE_MAX / 2 / sizeof *out)
+        return 0;
+    return cache_list_gaps_unchecked(at, from, out, room);
+}
 
 #ifdef __cplusplus
 }

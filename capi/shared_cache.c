@@ -1,6 +1,7 @@
 /* See shared_cache.h. */
 #define _GNU_SOURCE
 #include "shared_cache.h"
+#include "robust_lock.h"
 
 #include <errno.h>
 #include <pthread.h>
@@ -8,7 +9,6 @@
 #include <stdlib.h>
 #include <string.h>
 #include <sys/mman.h>
-#include <time.h>
 
 enum { LINE = 64 }; /* bytes of a line of the processor's cache; a multiple of every alignment */
 
@@ -83,21 +83,9 @@ static uint32_t make(void) {
     return made;
 }
 
-/* Makes the lock: of all processes, and one whose owner may die. */
-static bool make_lock(void) {
-    pthread_mutexattr_t kind;
-    if (pthread_mutexattr_init(&kind) != 0)
-        return false;
-    bool made = pthread_mutexattr_setpshared(&kind, PTHREAD_PROCESS_SHARED) == 0 &&
-                pthread_mutexattr_setrobust(&kind, PTHREAD_MUTEX_ROBUST) == 0 &&
-                pthread_mutex_init(&head->lock, &kind) == 0;
-    pthread_mutexattr_destroy(&kind);
-    return made;
-}
-
 uint32_t shared_start(const cache_shape *wanted) {
     if (!wanted)
-        return CACHE_BAD_SHAPE;
+        return CACHE_NO_POINTER;
     shape = *wanted;
     size_t before = whole_lines(sizeof *head) + whole_lines(cache_size());
     /* A word has 8 bytes, and the index of free blocks some more than one for each. Pages that
@@ -110,7 +98,7 @@ uint32_t shared_start(const cache_shape *wanted) {
     handle = (uint8_t *)map + whole_lines(sizeof *head);
     room = (unsigned char *)map + before;
     end = (unsigned char *)map + size;
-    uint32_t made = make_lock() ? make() : CACHE_NO_ROOM;
+    uint32_t made = robust_lock_make(&head->lock) ? make() : CACHE_NO_ROOM;
     if (made != CACHE_MADE)
         shared_end();
     return made;
@@ -129,21 +117,8 @@ static void set_busy(bool busy) {
     atomic_signal_fence(memory_order_seq_cst);
 }
 
-/* Waits for the lock. Who waits may be killed after it was woken and before it took the lock: then
- * nobody else is woken, though the lock may be free. So each looks again after a second. */
-static int take_lock(void) {
-    int taken = pthread_mutex_trylock(&head->lock);
-    while (taken == EBUSY || taken == ETIMEDOUT) {
-        struct timespec until;
-        clock_gettime(CLOCK_REALTIME, &until);
-        until.tv_sec++;
-        taken = pthread_mutex_timedlock(&head->lock, &until);
-    }
-    return taken;
-}
-
 uint8_t *shared_enter(void) {
-    int locked = take_lock();
+    int locked = robust_lock_take(&head->lock);
     if (locked == EOWNERDEAD) {
         /* The lock is ours. Where no call was under way its cache stands there whole. Where one
          * was, the flag stays until a new cache is made. Whoever dies in here leaves the lock to

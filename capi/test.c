@@ -1,5 +1,5 @@
-/* Each export in one process: what it answers, and what it refuses. Prints each line that is not
- * so, and how many were.
+/* Each call in one process: what it answers, and what it refuses. Prints each line that is not so,
+ * and how many were.
  * Usage: test [nulls], which tries null pointers alone. */
 #define _GNU_SOURCE
 #include "shared_cache.h"
@@ -256,27 +256,65 @@ static void refused(void) {
     WANT(cache_copy(at, kept.place, out, 0));
 }
 
+/* Each call with each null, and with lengths that no slice has; none of it changes the cache. */
 static void nulls(void) {
     const uint8_t *key = (const uint8_t *)"k";
+    const size_t longest = (size_t)1 << 63;
     cache_request fetch = {.kind = CACHE_LOOK, .t = 50};
     cache_request put = {.kind = CACHE_STORE, .value = CACHE_STR, .t = 50};
+    cache_row row = {.place = 7};
+    cache_gap gap = {.size = 7};
+    uint8_t byte = 7;
     store("k", CACHE_STR, 0, "kept", 50);
-    WANT(cache_new(NULL, at) != CACHE_MADE);
-    WANT(cache_new(&shape, NULL) != CACHE_MADE);
+    cache_counts before = cache_get_counts(at);
+
+    WANT(cache_new(NULL, at) == CACHE_NO_POINTER);
+    WANT(cache_new(&shape, NULL) == CACHE_NO_POINTER);
+    WANT(cache_new(NULL, NULL) == CACHE_NO_POINTER);
+    WANT(shared_start(NULL) == CACHE_NO_POINTER);
     WANT(cache_ask(NULL, &fetch, key, 1, key, 0).kind == CACHE_BAD);
     WANT(cache_ask(at, NULL, key, 1, key, 0).kind == CACHE_BAD);
     WANT(cache_ask(at, &fetch, NULL, 1, key, 0).kind == CACHE_BAD);
     WANT(cache_ask(at, &put, key, 1, NULL, 1).kind == CACHE_BAD);
-    WANT(!cache_copy(NULL, 0, &(uint8_t){0}, 1));
+    WANT(cache_ask(at, &put, key, 1, NULL, SIZE_MAX).kind == CACHE_BAD);
+    WANT(cache_ask(at, &fetch, key, longest, key, 0).kind == CACHE_TOO_LONG);
+    WANT(cache_ask(at, &put, key, 1, key, SIZE_MAX).kind == CACHE_TOO_LONG);
+    WANT(!cache_copy(NULL, 0, &byte, 1));
     WANT(!cache_copy(at, 0, NULL, 1));
-    WANT(cache_get_counts(NULL).free_words == 0);
+    WANT(!cache_copy(at, 0, &byte, longest));
+    cache_counts none = cache_get_counts(NULL);
+    WANT(none.hits == 0 && none.misses == 0 && none.inserts == 0 && none.expunges == 0);
+    WANT(none.entries == 0 && none.row_words == 0 && none.free_words == 0);
     WANT(cache_find_row(NULL, key, 1, 50).place == 0);
+    WANT(cache_find_row(NULL, key, 1, 50).value.kind == CACHE_ABSENT);
     WANT(cache_find_row(at, NULL, 1, 50).place == 0);
-    WANT(cache_list_rows(NULL, 0, 0, &(cache_row){0}, 1) == 0);
-    WANT(cache_list_rows(at, 0, 0, NULL, 1) == 0);
-    WANT(cache_list_gaps(NULL, 0, &(cache_gap){0}, 1) == 0);
+    WANT(cache_find_row(at, key, longest, 50).place == 0);
+    uint32_t slot = row_of("k", 50).slot;
+    WANT(cache_list_rows(NULL, slot, 0, &row, 1) == 0);
+    WANT(cache_list_rows(at, slot, 0, NULL, 1) == 0);
+    WANT(cache_list_rows(at, slot, 0, &row, longest / sizeof row + 1) == 0);
+    WANT(cache_list_gaps(NULL, 0, &gap, 1) == 0);
     WANT(cache_list_gaps(at, 0, NULL, 1) == 0);
-    WANT(look("k", 50).kind == CACHE_STR);
+    WANT(cache_list_gaps(at, 0, &gap, longest / sizeof gap) == 0);
+    WANT(row.place == 7 && gap.size == 7 && byte == 7);
+
+    cache_counts after = cache_get_counts(at);
+    WANT(memcmp(&before, &after, sizeof before) == 0);
+
+    /* A null to nothing is nothing. */
+    WANT(look("", 50).kind == CACHE_ABSENT);
+    WANT(cache_ask(at, &put, NULL, 0, NULL, 0).kind == CACHE_YES);
+    cache_answer empty = cache_ask(at, &fetch, NULL, 0, NULL, 0);
+    WANT(empty.kind == CACHE_STR && empty.len == 0);
+    WANT(look("", 50).kind == CACHE_STR);
+    WANT(cache_find_row(at, NULL, 0, 50).place == row_of("", 50).place);
+    WANT(row_of("", 50).place != 0);
+    WANT(cache_copy(at, empty.place, NULL, 0));
+    WANT(!cache_copy(at, UINT32_MAX, NULL, 0));
+    WANT(cache_list_rows(at, slot, 0, NULL, 0) == 0);
+    WANT(cache_list_gaps(at, 0, NULL, 0) == 0);
+    cache_answer kept = look("k", 50);
+    WANT(kept.kind == CACHE_STR && kept.len == 4 && stand(kept.place, "kept"));
 }
 
 int main(int argc, char **argv) {

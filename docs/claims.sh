@@ -1,16 +1,17 @@
 #!/usr/bin/env bash
-# Writes the tables of CLAIMS.md, between its two marks, from the rows of claims.txt and the lines 'clause:' of the edits.
-# It writes nothing and ends with status 1 where a row names a clause or a test that is not there, where an edit names no
-# clause, or one that stands in no row. With --check it writes nothing in any case, and ends with status 1 where CLAIMS.md
-# is not what it would write.
+# Writes the coverage and the lists of CLAIMS.md, between its two marks, from the rows of claims.txt, the lines 'clause:'
+# of the edits and the repository's history. It writes nothing and ends with status 1 where a row names a clause or a test
+# that is not there, where an edit names no clause, or one that is in no row. With --check it writes nothing in any case,
+# and ends with status 1 where CLAIMS.md is not what it would write; without the history it takes over what the page says
+# of edits that were tried.
 # Usage: docs/claims.sh [--check]
 set -eu
 cd "$(dirname "$0")/.."
 exec python3 - "$@" <<'PYTHON'
-import glob, os, re, sys
+import glob, os, re, subprocess, sys
 
 BEGIN, END = "<!-- what stands from here on is written by claims.sh -->", "<!-- up to here -->"
-HEAD = "| promise | clause | edits of the gate | further edits | tests |\n|---|---|---|---|---|\n"
+PAGE = "docs/CLAIMS.md"
 OWNER = re.compile(r"^( *)(?:pub(?:\([a-z ]+\))? )?(?:unsafe )?(impl|trait)\b(.*)")
 FUNCTION = re.compile(r'^( *)(?:pub(?:\([a-z ]+\))? )?(?:const )?(?:unsafe )?(?:extern "C" )?fn (\w+)')
 CLAUSE = re.compile(r"^ *(?:ensures|requires)\*? (?:(\w+) )?\{")
@@ -64,13 +65,13 @@ class Source:
     """What the crates have: functions with their clauses, tests and their files, and the definitions of specs/."""
 
     def __init__(self):
-        self.functions, self.tests, self.files, self.traits, self.definitions = {}, set(), set(), {}, {}
+        self.functions, self.tests, self.files, self.traits, self.definitions = {}, set(), {}, {}, {}
         for path in sorted(glob.glob("crates/*/src/**/*.rt", recursive=True)):
             crate = path.split("/")[1]
             for trait, owner, name, clauses, test in functions_in(path):
                 if test:
                     self.tests.add(f"{crate}::{name}")
-                    self.files.add(f"{crate}/{os.path.basename(path)[:-len('.rt')]}")
+                    self.files.setdefault(f"{crate}/{os.path.basename(path)[:-len('.rt')]}", []).append(f"{crate}::{name}")
                 key = f"{crate}::{owner}::{name}" if owner else f"{crate}::{name}"
                 self.functions.setdefault(key, []).append((trait, name, clauses))
                 if owner and not trait:
@@ -133,12 +134,16 @@ class Clauses:
 
 
 def rows_of(source):
-    """The tables by their names, each a list of rows: a promise, its clauses, those that are alike, and its tests."""
-    tables = {}
+    """The lists by their names, each with what is said of it and its rows (a promise, its clauses, those that are alike,
+    and its tests); and by their folders where edits were last tried."""
+    tables, tried = {}, {}
     for part in re.split(r"\n\s*\n", open("docs/claims.txt", encoding="utf-8").read()):
         lines = [line.split(": ", 1) for line in part.split("\n") if line and not line.startswith("#")]
-        if lines and lines[0][0] == "table":
-            rows = tables.setdefault(lines[0][1], [])
+        if lines and lines[0][0] == "tried":
+            tried.update((text.split()[0], text.split()[1:]) for _, text in lines)
+        elif lines and lines[0][0] == "table":
+            about, rows = "".join(text + "\n\n" for word, text in lines if word == "about"), []
+            tables[lines[0][1]] = (about, rows)
         elif lines:
             row = {"promise": "", "clause": [], "alike": [], "test": []}
             for word, text in lines:
@@ -149,7 +154,7 @@ def rows_of(source):
                 else:
                     row["alike" if word == "alike" else "clause"].append(Clauses(text, source, row["promise"]))
             rows.append(row)
-    return tables
+    return tables, tried
 
 
 def edits_of(source):
@@ -167,7 +172,7 @@ def edits_of(source):
 
 
 def check(tables, edits, source):
-    rows = [row for table in tables.values() for row in table]
+    rows = [row for _, table in tables.values() for row in table]
     known = {key for row in rows for clauses in row["clause"] for key in clauses.keys}
     for key, named_by in edits.items():
         if key not in known:
@@ -180,7 +185,7 @@ def check(tables, edits, source):
                       for clauses in row["alike"] for key in clauses.keys if key not in known)
 
 
-# ---- the tables
+# ---- the lists of rows
 
 def names(clauses, tier, edits, home):
     """The edits of one tier that name one of these clauses, each once, without the crate where it is the row's."""
@@ -188,34 +193,111 @@ def names(clauses, tier, edits, home):
     return [f"`{name}`" if crate == home else f"`{crate}::{name}`" for crate, name in dict.fromkeys(found)]
 
 
-def line_of(row, edits):
+def edits_for(row, edits):
+    """The row's own edits in the gate, those that are alike, and its further ones."""
     home = row["clause"][0].path.split("::")[0]
     gate, further = (names(row["clause"], tier, edits, home) for tier in ("must-fail", "more-edits"))
-    others = [name for name in names(row["alike"], "must-fail", edits, home) if name not in gate]
-    tried = [", ".join(gate)] * bool(gate) + ["alike: " + ", ".join(others)] * bool(others)
-    cells = [row["promise"], "; ".join(str(each) for each in row["clause"]), "; ".join(tried) or "none",
-             ", ".join(further), ", ".join(f"`{test}`" for test in row["test"])]
-    return "| " + " | ".join(cells) + " |\n"
+    return gate, [name for name in names(row["alike"], "must-fail", edits, home) if name not in gate], further
+
+
+def in_files(tests, source):
+    """These tests, and all of one file by its name."""
+    whole = {test: file for file, others in source.files.items() if len(others) > 1 and set(others) <= set(tests)
+             for test in others}
+    return list(dict.fromkeys(whole.get(test, test) for test in tests))
+
+
+def line_of(row, edits, source):
+    gate, others, further = edits_for(row, edits)
+    tried = [", ".join(gate)] * bool(gate) + [f"{len(others)} alike"] * bool(others) + \
+        [f"+{len(further)}"] * bool(further)
+    tests = ", ".join(f"`{test}`" for test in in_files(row["test"], source))
+    return (f"- {row['promise']}\n  {'; '.join(str(each) for each in row['clause'])}. "
+            f"Edits: {'; '.join(tried) or 'none'}. Tests: {tests or 'none'}.\n")
+
+
+# ---- coverage
+
+def change_of(path, text):
+    """What an edit changes: its crate, and its lines that name a file and what is changed there."""
+    return path.split("/")[1], tuple(re.findall(r"^(?:file|old|new): .*$", text, re.M))
+
+
+def changes_at(commit, folder):
+    """The edits of a folder as they were at a commit, or nothing where the history is not here."""
+    def git(words, given=None):
+        return subprocess.run(["git", *words], input=given, capture_output=True)
+
+    listed = git(["ls-tree", "-r", commit, "crates"])
+    if listed.returncode:
+        return None
+    entries = [line.split(None, 3)[2:] for line in listed.stdout.decode().splitlines()]
+    entries = [(blob, path) for blob, path in entries if f"/{folder}/" in path and path.endswith(".edit")]
+    texts = git(["cat-file", "--batch"], "".join(f"{blob}\n" for blob, _ in entries).encode()).stdout
+    found = set()
+    for _, path in entries:
+        head, _, texts = texts.partition(b"\n")
+        size = int(head.split()[2])
+        found.add(change_of(path, texts[:size].decode()))
+        texts = texts[size + 1:]
+    return found
+
+
+def trial(folder, about, tried):
+    """How many edits a folder has, where they were last tried, and how many of them were not there then."""
+    paths = glob.glob(f"crates/*/{folder}/*.edit")
+    commit, date = tried[folder]
+    then = changes_at(commit, folder)
+    if then is None:
+        return None
+    new = sum(change_of(path, open(path, encoding="utf-8").read()) not in then for path in paths)
+    return (f"- {about}: {len(paths)}. The last recorded run of all, at commit `{commit}` ({date}), had {len(then)}, "
+            f"each refused. Of today's {new} are new or changed since, and so are sources.\n")
+
+
+def coverage(tables, edits, tried, old):
+    rows = [row for name, (_, table) in tables.items() if name != "-" for row in table]
+    kinds = [edits_for(row, edits) for row in rows]
+    own = sum(bool(gate) for gate, _, _ in kinds)
+    alike = sum(not gate and bool(others) for gate, others, _ in kinds)
+    further = sum(not gate and not others and bool(more) for gate, others, more in kinds)
+    none = [row for row, kind in zip(rows, kinds) if not any(kind)]
+    untested = [row for row in rows if not row["test"]]
+    bare = sum(not row["test"] for row in none)
+    waits = [(line.split(":")[0].split()[0], int(count)) for line in open("crates.txt", encoding="utf-8")
+             for count in re.findall(r"\bmay_wait=(\d+)", line)]
+    trials = [trial("must-fail", "Edits in the gate", tried), trial("more-edits", "Further edits", tried)]
+    if None in trials:
+        trials = re.findall(r"^- (?:Edits in the gate|Further edits): .*\n", old, re.M)
+    return f"""## Coverage
+
+- Rows: {len(rows)}. With an edit of their own in the gate {own}, with one that is alike alone {alike}, with further \
+edits alone {further}, with none {len(none)}.
+- Rows without a test: {len(untested)}, of which {bare} have no edit either.
+{"".join(trials)}- Functions that may wait: {sum(count for _, count in waits)}, in \
+{", ".join(f"`{name}` ({count})" for name, count in waits)}. All others return.
+"""
 
 
 def main(words):
     source = Source()
-    tables, edits = rows_of(source), edits_of(source)
+    (tables, tried), edits = rows_of(source), edits_of(source)
     check(tables, edits, source)
     if faults:
         sys.exit("\n".join(dict.fromkeys(faults)))
-    text = "\n\n".join(f"## {name}\n\n{HEAD}{''.join(line_of(row, edits) for row in rows)}".rstrip()
-                       for name, rows in tables.items())
-    page = open("docs/CLAIMS.md", encoding="utf-8").read()
+    page = open(PAGE, encoding="utf-8").read()
+    text = "\n\n".join([coverage(tables, edits, tried, page).rstrip()] + [
+        f"## {name}\n\n{about}{''.join(line_of(row, edits, source) for row in rows)}".rstrip()
+        for name, (about, rows) in tables.items() if name != "-"])
     before, begin, rest = page.partition(BEGIN)
     _, end, after = rest.partition(END)
     if not begin or not end:
-        sys.exit("docs/CLAIMS.md: the two marks are not there")
+        sys.exit(f"{PAGE}: the two marks are not there")
     made = f"{before}{BEGIN}\n\n{text}\n\n{END}{after}"
     if words == ["--check"] and made != page:
-        sys.exit("docs/CLAIMS.md is not what docs/claims.sh writes")
+        sys.exit(f"{PAGE} is not what docs/claims.sh writes")
     if words == []:
-        open("docs/CLAIMS.md", "w", encoding="utf-8").write(made)
+        open(PAGE, "w", encoding="utf-8").write(made)
 
 
 main(sys.argv[1:])

@@ -1,7 +1,7 @@
 #!/usr/bin/env bash
-# Writes the tables of crates of ARCHITECTURE.md, between its two marks: what each crate is, by the first sentence of its
-# own comment, what it stands on, by crates.txt, and the clauses that carry it, by the lines 'carries:' of claims.txt; and
-# whose proofs cite lemmas out of the proofs of a lower crate, by their imports.
+# Writes the table and lists of crates of ARCHITECTURE.md, between its two marks: what each crate is, by the first sentence
+# of its own comment, what it stands on, by crates.txt, and the functions that carry it, by the lines 'carries:' of claims.txt;
+# and whose proofs cite lemmas out of the proofs of a lower crate, by their imports.
 # With --check it writes nothing, and ends with status 1 where ARCHITECTURE.md is not what it would write.
 # Usage: docs/crates.sh [--check]
 set -eu
@@ -22,10 +22,9 @@ carried = {}
 for line in open("docs/claims.txt", encoding="utf-8"):
     word, _, rest = line.strip().partition(": ")
     if word == "carries":
-        path, *labels = rest.split(" by ")[0].split()
-        crate, _, name = path.partition("::")
-        known = carried.setdefault(crate, {}).setdefault(name, [])
-        known += [label for label in labels if label not in known]
+        crate, _, function = rest.split()[0].partition("::")
+        if function not in carried.setdefault(crate, []):
+            carried[crate].append(function)
 
 
 def all_below(name):
@@ -52,9 +51,9 @@ def about(name):
     return re.split(r"(?<=\.) (?=[A-Z`])", " ".join(lines).strip())[0].replace("|", "\\|")
 
 
-def clauses(name):
-    return ", ".join(f"`{function}`" + (f" ({', '.join(f'`{label}`' for label in labels)})" if labels else "")
-                     for function, labels in carried.get(name, {}).items()) or "none"
+def functions(name):
+    """The functions that carry the crate."""
+    return ", ".join(f"`{function}`" for function in carried.get(name, [])) or "none"
 
 
 def cited(name):
@@ -64,22 +63,22 @@ def cited(name):
         for crate, file in re.findall(r"^(?:pub )?use Rattle\.(\w+)\.proofs\.(\w+)", open(path, encoding="utf-8").read(), re.M):
             if crate in below and crate != name:
                 found.setdefault(crate, set()).add(file)
-    return "; ".join(f"`{crate}`: {', '.join(f'`{file}`' for file in sorted(files))}" for crate, files in found.items())
+    return "; ".join(f"`{crate}` ({', '.join(f'`{file}`' for file in sorted(files))})" for crate, files in found.items())
 
 
-rows = "".join(f"| `{name}` | {about(name)} | {stands_on(name)} | {clauses(name)} |\n"
+rows = "".join(f"| `{name}` | {about(name)} | {stands_on(name)} | {functions(name)} |\n"
                for name in below if not name.endswith("_tests"))
-tests = "".join(f"| `{name}` | {about(name)} | {stands_on(name)} |\n" for name in below if name.endswith("_tests"))
-proofs = "".join(f"| `{name}` | {cited(name)} |\n" for name in below if cited(name))
+tests = "".join(f"- `{name}`: {stands_on(name)}\n" for name in below if name.endswith("_tests"))
+proofs = "".join(f"- `{name}`: {cited(name)}\n" for name in below if cited(name))
 made = f"""
-| crate | what it is | stands on | clauses that carry it |
+| crate | what it is | stands on | functions that carry it |
 |---|---|---|---|
 {rows}
-| crate of tests | what it is | stands on |
-|---|---|---|
+Crates of tests, and what they stand on:
+
 {tests}
-| crate whose proofs | cite proofs of |
-|---|---|
+Crates whose proofs cite proofs of lower ones, and which:
+
 {proofs}
 """
 page = open(PAGE, encoding="utf-8").read()

@@ -1,26 +1,64 @@
 #!/usr/bin/env bash
-# Writes READING.md: the definitions that the clauses of `run` rest on, file by file, each file before those that it uses.
-# It follows the imports word by word, from the clauses through the definitions that they cite. With --check it writes
-# nothing, and ends with status 1 where READING.md is not what it would write.
+# Writes READING.md: the definitions that the clauses of `run` rest on, first those of an hour, then the others by subject.
+# It follows the imports word by word, from the clauses through the definitions that they cite, and the words of Rattle's
+# kit through the kit. With --check it writes nothing, and ends with status 1 where READING.md is not what it would write;
+# what the page says of a kit that is not the one here stays as it is.
 # Usage: docs/reading.sh [--check]
 set -eu
 cd "$(dirname "$0")/.."
 exec python3 - "$@" <<'PYTHON'
-import glob, os, re, sys
+import glob, os, re, shutil, sys
 
 CRATE, FUNCTION, MAIN = "apcu_play", "run", "replayed"
 # The definitions by which that clause comes to what it says of a part of the program alone.
 PARTS = {"AnswersSeed": "generated runs", "AnswersOutput": "verdicts", "map_after": "maps"}
-USE = re.compile(r"^ *(?:ghost |pub )*use Rattle\.([\w.]+?)(?:\.\{([^}]*)\}| as (\w+))?;?$", re.M)
+# What is read in an hour: a file, and of the two that serve all tasks the definitions alone that are named.
+SPINE = [
+    ("apcu_play/Run", "a text was written whole", ["WritesAll", "Replays"]),
+    ("apcu_play/Tasks", "what is printed for the input's scripts", ["WasRead", "played_text", "AnswersInput", "AnswersTask"]),
+    ("apcu_play/Inputs", "which scripts the input spells", ["AreCrew", "AreFew"]),
+    ("script_read/Play", "what a worker asks next, and the play of a journal", None),
+    ("apcu_model/History", "events, windows, and which masks are legal", None),
+    ("apcu_model/Sequential", "the reply to each request, and the cache after it", None),
+    ("apcu_model/Cache", "rows and counts", None),
+    ("apcu_model/Expiry", "when a row is expired", None),
+    ("apcu_model/Lookups", "what a look-up that counts leaves", None),
+    ("apcu_model/Change", "how rows leave, how room is made, how a row comes in", None),
+    ("reply_text/Output", "the text of an output", None),
+    ("reply_text/Lines", "the text of a call", None),
+]
+# The other files, by what a reader needs them for.
+SUBJECTS = {
+    "What lines mean": "apcu_play/Inputs script_read/Grammar script_read/Table script_read/Arguments script_read/Calls "
+        "script_read/GenParts script_read/Clock script_read/Budgets script_read/Patterns",
+    "Values and their text": "notation/Notation notation/Keys php_graph/Graph php_graph/Building php_graph/Numbers "
+        "php_graph/Size byte_box/ByteStrings seg_words/Layout",
+    "Further requests of the cache": "apcu_model/Counters apcu_model/Generators apcu_model/Levels apcu_model/Chunks "
+        "apcu_model/SlotOrder apcu_model/PatternMatches apcu_model/Infos apcu_model/Conf seg_words/Gaps",
+    "What calls print": "reply_text/Replies reply_text/Items reply_text/PoolReplies",
+    "Pools": "simple_pool/Requests simple_pool/Names",
+    "Bundles": "preload_set/Bundle preload_set/Loader crew_play/PlayedScripts",
+    "Options": "conf_read/Options conf_read/Numbers conf_read/Tasks conf_read/Command",
+    "Generated runs": "crew_play/GeneratedRuns generated_laws/Observer generated_laws/Summary "
+        "script_read/GeneratedScripts",
+    "Verdicts": "run_verify/Verdicts",
+    "Maps": "seg_report/Lines seg_report/Parts seg_report/Fits entry_slots/Lists sma_blocks/Live",
+    "Other tasks, faults and statuses": "apcu_play/Run apcu_play/Tasks apcu_play/Message script_read/Gives script_read/Reading "
+        "preload_set/Gives preload_set/Reading notation/Reading notation/Marks notation/Place io_edges/Reading "
+        "io_edges/Faults",
+}
+USE = re.compile(r"^ *(?:ghost |pub |unfoldable )*use Rattle\.([\w.]+?)(?:\.\{([^}]*)\}| as (\w+))?;?$", re.M)
 HEAD = re.compile(r"^(?:(?:pub|abbrev|record|data|unfoldable|irreducible) )+(\S+) ?(?::|\(|\{|where|$)", re.M)
 TYPE = r"^(?:pub )?(?:struct|enum|trait|const|type) {}\b"
 
 
 class Part:
-    """A definition: how many lines it has, with the comment in front of it, and the words in it."""
+    """A definition: which lines it has, with the comment in front of it, and the words in it."""
 
-    def __init__(self, lines):
-        self.lines = len(lines)
+    def __init__(self, lines, begin=0):
+        self.lines, self.begin, self.end = len(lines), begin + 1, begin + len(lines)
+        while self.end > self.begin and (not lines[self.end - begin - 1] or lines[self.end - begin - 1].startswith("-- --")):
+            self.end -= 1
         text = "\n".join(line.split("--")[0] for line in lines)
         self.text = text
         self.words = set(re.findall(r"[\w']+", text))
@@ -47,7 +85,7 @@ class File:
         heads = [at for at, line in enumerate(lines) if HEAD.match(line)]
         starts = [begin_of(lines, at) for at in heads] + [len(lines)]
         for at, begin, end in zip(heads, starts, starts[1:]):
-            part = Part(lines[begin:end])
+            part = Part(lines[begin:end], begin)
             self.parts[HEAD.match(lines[at]).group(1)] = part
             if " data " in f" {lines[at]}":
                 for line in lines[at + 1:end]:
@@ -91,7 +129,7 @@ class Reading:
         crate, _, rest = module.partition(".")
         kind, _, inner = rest.partition(".")
         if not os.path.isdir(f"crates/{crate}") or kind != "specs":
-            self.kit.add(module)
+            self.kit.add((module, word))
             return None
         if inner.split(".")[0] in ("declared", "contracts"):
             names = [name for name in inner.split(".")[1:] if not name.startswith("The")]
@@ -175,116 +213,228 @@ def crate_of(path):
     return path.split("/")[1]
 
 
-def in_order(reading, root):
-    """Each file before those that it uses, and of these the ones of its own crate first."""
-    order, seen = [], set()
+# ---- the kit
 
-    def visit(path):
-        if path not in seen:
-            seen.add(path)
-            others = sorted(reading.uses.get(path, []), key=lambda other: crate_of(other) != crate_of(path))
-            for other in reversed(others):
-                visit(other)
-            order.append(path)
+def kit_at():
+    """Where Rattle's kit is, and its name; nothing where it is not on the path."""
+    program = shutil.which("rt")
+    top = os.path.dirname(os.path.dirname(os.path.realpath(program))) if program else ""
+    if not os.path.isfile(f"{top}/KIT-ID"):
+        return None, None
+    return f"{top}/rattle", open(f"{top}/KIT-ID", encoding="utf-8").read().split()[0]
 
-    visit(root)
-    return [path for path in reversed(order) if path != root]
+
+class Kit:
+    """The kit's definitions that some words of it reach. What they rest on outside of its crates is not followed."""
+
+    def __init__(self, top):
+        self.top, self.files, self.words = top, {}, {}
+
+    def file(self, module):
+        """The file of a module, which a crate may pass on from another one."""
+        crate, _, rest = module.partition(".")
+        kind, _, inner = rest.partition(".")
+        path = f"{self.top}/{crate}/{kind}/{inner.replace('.', '/')}.antt"
+        if os.path.isfile(path):
+            if path not in self.files:
+                self.files[path] = File(path)
+            return self.files[path]
+        names, lib = inner.split("."), f"{self.top}/{crate}/{kind}/Lib.antt"
+        passed = re.search(rf"^pub use Rattle\.([\w.]*\b{names[0]})$", open(lib, encoding="utf-8").read(), re.M) \
+            if names[0] and os.path.isfile(lib) else None
+        return self.file(".".join([passed.group(1)] + names[1:])) if passed else None
+
+    def take(self, module, word):
+        file = self.file(module)
+        if file and word in file.parts:
+            found = file.parts[word]
+            if found not in self.words.setdefault(file.path, []):
+                self.words[file.path].append(found)
+                self.follow(file, found)
+        elif file and word in file.imports:
+            self.take(*file.imports[word])
+
+    def follow(self, file, part):
+        for name in file.parts:
+            if name in part.words or has_signs(name, part.text):
+                self.take(file.path[len(self.top) + 1:-len(".antt")].replace("/", "."), name)
+        for name, (module, old) in file.imports.items():
+            if name in part.words or has_signs(name, part.text):
+                self.take(module, old)
+        for alias, module in file.aliases.items():
+            for head, word in sorted(part.dotted):
+                if head == alias:
+                    self.take(module, word)
+
+
+def kit_part(reading, old):
+    """What the page says of the kit: as it says already, where the kit that it names is not here."""
+    top, name = kit_at()
+    before = re.search(r"^## The kit\n.*", old, re.M | re.S)
+    named = re.search(r"`(rattle-kit-\w+)`", before.group()) if before else None
+    if before and (not top or sys.argv[1:] == ["--check"] and named and named.group(1) != name):
+        return before.group()
+    kit = Kit(top)
+    for module, word in sorted(reading.kit):
+        kit.take(module, word)
+    by_crate = {}
+    for path, parts in kit.words.items():
+        crate = path[len(top) + 1:].split("/")[0]
+        by_crate[crate] = by_crate.get(crate, 0) + sum(part.lines for part in parts)
+    count = sum(len(parts) for parts in kit.words.values())
+    listed = [f"`{crate}` {lines:,}" for crate, lines in sorted(by_crate.items(), key=lambda item: -item[1])]
+    return f"""## The kit
+
+Below these are definitions of the kit. In `{name}` the clauses reach {count:,} of them: \
+{sum(by_crate.values()):,} lines in {few(len(kit.words), "file")}. By crate: {", ".join(listed)}. The kit's logic, \
+with numbers, lists and paths, is not counted.
+"""
 
 
 # ---- the page
-
-def counts(reading, paths):
-    lines = sum(reading.files[path].lines for path in paths)
-    needed = sum(part.lines for path in paths for part in reading.words[path])
-    return f"{len(paths)} files of {lines:,} lines, of which {needed:,} are definitions that it reaches"
-
 
 def few(number, word):
     return f"{number} {word}" + ("" if number == 1 else "s")
 
 
 def lines_of(reading, paths):
-    return sum(part.lines for path in paths for part in reading.words[path])
+    return sum(part.lines for path in paths for part in reading.words.get(path, []))
 
 
-def listed(paths):
-    names = [f"`{crate_of(path)}` `{path.split('/specs/')[1]}`" for path in paths]
-    return ", ".join(names[:-1]) + " and " + names[-1] if len(names) > 1 else "".join(names)
+def path_of(name):
+    crate, _, file = name.partition("/")
+    return f"crates/{crate}/specs/{file}.antt"
 
 
-def leaving(reading, main, root):
-    """Which definitions a reader may leave out, and which files could be shorter."""
-    paths, own = in_order(reading, root), in_order(main, root)
-    behind = [path for path in paths if path not in main.words]
+def link(name):
+    return f"[`{name}`](../{path_of(name)})"
+
+
+def spans(parts):
+    """The lines of these definitions, those of neighbours together."""
+    found = []
+    for part in sorted(parts, key=lambda part: part.begin):
+        if found and part.begin <= found[-1][1] + 1:
+            found[-1] = (found[-1][0], part.begin + part.lines - 1, part.end)
+        else:
+            found.append((part.begin, part.begin + part.lines - 1, part.end))
+    return ", ".join(f"{begin}-{end}" for begin, _, end in found)
+
+
+def clause_span(path):
+    """The lines of the clause in its source."""
+    lines = open(path, encoding="utf-8").read().split("\n")
+    begin = next(at for at, line in enumerate(lines) if line.startswith(f"    ensures {MAIN} "))
+    end = begin
+    while not lines[end].endswith("}"):
+        end += 1
+    while lines[begin - 1].startswith("    //"):
+        begin -= 1
+    return begin + 1, end + 1
+
+
+def spine(root, played):
+    begin, end = clause_span(root)
+    rows = f"| [`{CRATE}/src/{os.path.basename(root)}`](../{root}) | {begin}-{end} | the clause |\n"
+    total, done = end - begin + 1, {}
+    for name, about, words in SPINE:
+        file = played.file(path_of(name))
+        named = [file.parts[word] for word in words or []]
+        parts = [part for part in played.words[path_of(name)] if words is None or part in named]
+        total += sum(part.lines for part in parts)
+        done[path_of(name)] = {id(part) for part in parts}
+        rows += f"| {link(name)} | {spans(parts)} | {about} |\n"
+    return rows, total, done
+
+
+def subjects(reading, main, done):
+    """The lists of the other files, and each file in exactly one."""
+    met = [path_of(name) for names in SUBJECTS.values() for name in names.split()]
+    rest = {path for path in reading.words if path.endswith(".antt")} - set(met) - {path_of(name) for name, _, _ in SPINE}
+    gone = [path for path in met if not reading.words.get(path)]
+    if rest or gone or len(met) != len(set(met)):
+        sys.exit(f"docs/reading.sh: in no subject: {sorted(rest)}; reached no more: {gone}; or twice")
+    text = ""
+    for title, names in SUBJECTS.items():
+        items, total = "", 0
+        for name in names.split():
+            path = path_of(name)
+            lines = sum(part.lines for part in reading.words[path] if id(part) not in done.get(path, ()))
+            total += lines
+            items += f"- {link(name)}{'' if path in main.words else '*'} {lines}: {reading.files[path].about}\n"
+        text += f"### {title}: {total} lines\n\n{items}\n"
+    return text
+
+
+def page(old):
+    root = next(path for path in sorted(glob.glob(f"crates/{CRATE}/src/*.rt"))
+                if re.search(rf"^pub fn {FUNCTION}\b", open(path, encoding="utf-8").read(), re.M))
+    reading, main, played = read_clauses(root, None), read_clauses(root, [MAIN]), read_clauses(root, [MAIN], PARTS)
+    all_of, own, own_played = ([path for path in each.words if path != root] for each in (reading, main, played))
     alone = []
     for word, name in PARTS.items():
         rest = read_clauses(root, [MAIN], [word])
-        whole = few(sum(path not in rest.words for path in own), "file")
-        count = lines_of(main, own) - lines_of(rest, in_order(rest, root))
-        alone.append(f"{count} lines ({whole} whole) for {name}")
-    rest = read_clauses(root, [MAIN], PARTS)
-    played = in_order(rest, root)
-    others = {}
-    for path in paths:
-        reached = {id(part) for part in reading.words[path]}
-        parts = {id(part): part for part in reading.files[path].parts.values()}
-        others[path] = sum(part.lines for key, part in parts.items() if key not in reached)
-    long = [path for path in paths if others[path] > lines_of(reading, [path])]
-    causes = lines_of(reading, paths) - lines_of(main, own)
-    return f"""## What of it can be left out
+        alone.append(f"{lines_of(main, own) - lines_of(rest, [path for path in rest.words if path != root])} for {name}")
+    # A definition of one reading is another object in the next, so what the spine has is known by its lines.
+    rows, total, done = spine(root, played)
+    begins = {path: {part.begin for part in played.words[path] if id(part) in done[path]} for path in done}
+    done = {path: {id(part) for part in reading.words[path] if part.begin in begins[path]} for path in begins}
+    types = {}
+    for path, names in sorted(reading.types.items()):
+        types.setdefault(path.split("/")[1], []).append(
+            f"`{path.split('/src/')[1]}` ({', '.join(f'`{name}`' for name in sorted(names))})")
+    typed = "".join(f"- `{crate}`: {', '.join(files)}\n" for crate, files in types.items())
+    return f"""# What to read
 
-While the clauses are these, no definition of the list can go: a clause reaches each. But not every reader needs all \
-of them. The other clauses, which tell faults and the causes of statuses, reach {causes:,} lines of definitions that \
-`{MAIN}` does not, and among them all that is reached of {few(len(behind), "file")}: those without a *yes*. Of what \
-`{MAIN}` reaches, {", ".join(alone[:-1])} and {alone[-1]} are there for these alone; so what a play of the input's \
-scripts prints without a map rests on {lines_of(rest, played):,} lines in {few(len(played), "file")}. The files \
-themselves could be shorter: {sum(others.values()):,} of their lines are definitions that no clause reaches, for \
-lemmas, laws and other functions. Where these are more than what is reached, a file could be cut in two: \
-{listed(long)}, with {sum(others[path] for path in long)} such lines.
+What the clauses of `{CRATE}::{FUNCTION}` promise rests on definitions. The clause `{MAIN}`, of what is printed, reaches \
+{lines_of(main, own):,} lines of them in {len(own)} files; all clauses reach {lines_of(reading, all_of):,} in \
+{len(all_of)}. Of the first, {", ".join(alone[:-1])} and {alone[-1]} serve these alone: what a play of the input's scripts \
+prints without a map rests on {lines_of(played, own_played):,} lines in {len(own_played)} files.
 
-"""
+Read *An hour* first. Then read by need: `{MAIN}` alone reaches the files without a star. `docs/reading.sh` writes this \
+page, by the imports of the definitions that a clause reaches. Its lines of a definition are with the comment before it.
 
+## How to read a definition
 
-def row(path, reading, main):
-    file, parts = reading.files[path], reading.words[path]
-    reached = f"{len(parts)} of {len(set(map(id, file.parts.values())))}"
-    cells = [f"`{crate_of(path)}`", f"`{path.split('/specs/')[1]}`", str(file.lines), str(sum(part.lines for part in parts)), reached,
-             "yes" if path in main.words else "", file.about.replace("|", "\\|")]
-    return "| " + " | ".join(cells) + " |\n"
+- `f : A → B` is a function. `(x : A) → P` says: for each x, P. Between statements `→` is *implies*, `×` *and*, `⊎` *or*, \
+`¬` *not*, and `≡` *equals*.
+- `(x : A) × P` says: there is an x with P.
+- `Unit {{0}}` is always true, and `⊥` never.
+- What ends in `Type 0` is a statement. What ends in `Bool`, `ℕ`, `List` .. is computed; `IsTrue b` says that `b` is `true`.
+- `record` has named fields; as a statement it holds if each field does. `x.f` is a field, `p.0` the first part of a pair.
+- `data` lists the forms of a value. `abbrev` and `unfoldable` name what is right of `=`. Several lines are cases: the first \
+that fits counts, and `_` fits all.
+- `[]` is the empty list, `x ∷ xs` puts x in front, `++` joins. `λ x. e` is the function of x.
+- `Option` is `None` or `Some x`. `IfSome o (λ s. P)` says: if `o` is `Some s`, then P.
+- Bytes, places and seconds are `ℕ`; a text is a list of bytes; `codes "a"` is the bytes of a literal.
+- In a clause `x.now` is what a reference points to; of a `&mut`, `x.old` is before the call and `x.new` after it. `S.left` \
+is what a source has left, `K.held` what a sink holds.
 
+The kit's `ANTT.md` and `CONTRACTS.md` have the rest; [GLOSSARY.md](GLOSSARY.md) has this project's words.
 
-def page():
-    root = next(path for path in sorted(glob.glob(f"crates/{CRATE}/src/*.rt"))
-                if re.search(rf"^pub fn {FUNCTION}\b", open(path, encoding="utf-8").read(), re.M))
-    reading, main = read_clauses(root, None), read_clauses(root, [MAIN])
-    paths, types = in_order(reading, root), sorted(reading.types.items())
-    text = f"""# What to read
+## An hour
 
-What the clauses of `{CRATE}::{FUNCTION}` mean rests on the definitions of these files. Each file stands before those that it uses, so one reads from the promise down and stops where a word is plain. `docs/reading.sh` writes this page: it follows the imports of the definitions that a clause reaches, word by word.
+{total} lines, from the promise down.
 
-The clause `{MAIN}`, of what is printed, rests on {counts(main, in_order(main, root))}; all clauses together on {counts(reading, paths)}.
-
-*Lines* are those of the file, *reached* those of the definitions that a clause reaches, with their comments, and *words* how many definitions that are; the others of a file are not needed to know what is promised. The last column is the file's own first sentence.
-
-| crate | file of `specs/` | lines | reached | words | `{MAIN}` | what it defines |
-|---|---|---|---|---|---|---|
-{"".join(row(path, reading, main) for path in paths)}
-{leaving(reading, main, root)}## Types
-
-These types and traits of `src/` are named in them: their fields and variants, the ghost members of a trait, and where there is one the `impl Model`, by which a clause sees a value.
-
-| crate | file of `src/` | types |
+| file | lines | what they say |
 |---|---|---|
-"""
-    for path, names in types:
-        text += f"| `{crate_of(path)}` | `{path.split('/src/')[1]}` | {', '.join(f'`{name}`' for name in sorted(names))} |\n"
-    kit = sorted({module.split(".")[0] for module in reading.kit})
-    return text + f"\n## The kit\n\nWhat stands below all that are definitions of the kit's {', '.join(f'`{name}`' for name in kit)}.\n"
+{rows}
+## By need
+
+A number is that of the lines reached beside the hour's. A star: `{MAIN}` does not reach the file.
+
+{subjects(reading, main, done)}## Types
+
+Imports through `declared` are types of `src/`. A clause sees their fields and variants, the ghost members of a trait, \
+or the `impl Model`.
+
+{typed}
+{kit_part(reading, old)}"""
 
 
-made = page()
+old = open("docs/READING.md", encoding="utf-8").read() if os.path.isfile("docs/READING.md") else ""
+made = page(old)
 if sys.argv[1:] == ["--check"]:
-    old = open("docs/READING.md", encoding="utf-8").read() if os.path.isfile("docs/READING.md") else ""
     sys.exit("docs/READING.md is not what docs/reading.sh writes" if made != old else 0)
 open("docs/READING.md", "w", encoding="utf-8").write(made)
 PYTHON

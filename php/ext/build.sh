@@ -3,7 +3,7 @@
 #
 #   php/ext/build.sh
 #
-# CACHE_C_LIB=FILE takes a library that was built before, with cache_c.h beside it or in capi/.
+# CACHE_C_LIB=FILE takes a library that was built before, with the headers of capi/ beside it or there.
 # PHPIZE and PHP_CONFIG name those of another PHP. JOBS says how many processors make may use.
 set -eu
 
@@ -25,14 +25,13 @@ if [ -z "${CACHE_C_LIB:-}" ]; then
     CACHE_C_LIB=$top/crates/cache_c/out/libcache_c.a
 fi
 [ -f "$CACHE_C_LIB" ] || { echo "build.sh: no library $CACHE_C_LIB" >&2; exit 1; }
-header=$(dirname "$CACHE_C_LIB")/cache_c.h
-[ -f "$header" ] || header=$top/capi/cache_c.h
-[ -f "$header" ] || { echo "build.sh: no header $header" >&2; exit 1; }
+headers=$(dirname "$CACHE_C_LIB")
+[ -f "$headers/robust_lock.h" ] || headers=$top/capi
 
 build=$ext/build
 rm -rf "$build"
 mkdir -p "$build/cache_c" "$ext/modules"
-cp "$header" "$build/cache_c/cache_c.h"
+cp "$headers/cache_c.h" "$headers/robust_lock.h" "$build/cache_c/"
 cp "$CACHE_C_LIB" "$build/cache_c/libcache_c.a"
 cp "$ext"/*.c "$ext"/*.h "$ext/config.m4" "$build/"
 

@@ -8,6 +8,7 @@
 
 #include "php_apcu.h"
 #include "record.h"
+#include "robust_lock.h"
 
 apcu_shared *apcu_shm;
 
@@ -112,20 +113,6 @@ bool apcu_shm_is_good(const cache_shape *shape)
 	return is_good;
 }
 
-static bool make_lock(pthread_mutex_t *lock)
-{
-	pthread_mutexattr_t attr;
-
-	if (pthread_mutexattr_init(&attr) != 0) {
-		return false;
-	}
-	bool made = pthread_mutexattr_setpshared(&attr, PTHREAD_PROCESS_SHARED) == 0
-		&& pthread_mutexattr_setrobust(&attr, PTHREAD_MUTEX_ROBUST) == 0
-		&& pthread_mutex_init(lock, &attr) == 0;
-	pthread_mutexattr_destroy(&attr);
-	return made;
-}
-
 bool apcu_shm_start(const cache_shape *shape, bool is_dumped, size_t *bytes)
 {
 	size_t page = (size_t) sysconf(_SC_PAGESIZE);
@@ -153,7 +140,7 @@ bool apcu_shm_start(const cache_shape *shape, bool is_dumped, size_t *bytes)
 	apcu_shm = at;
 	apcu_shm->size = size;
 	apcu_shm->shape = *shape;
-	if (make_lock(&apcu_shm->lock) && make_lock(&apcu_shm->entry_lock)) {
+	if (robust_lock_make(&apcu_shm->lock) && robust_lock_make(&apcu_shm->entry_lock)) {
 		make();
 	}
 	if (!apcu_shm->is_made) {
@@ -173,23 +160,6 @@ void apcu_shm_stop(void)
 		munmap(apcu_shm, apcu_shm->size);
 		apcu_shm = NULL;
 	}
-}
-
-/* As pthread_mutex_lock, of a robust mutex. One that waits may be killed after it was woken and before
- * it took the lock. Where somebody else has taken it meanwhile, the kernel wakes nobody for the dead
- * one, nor does the new owner, which knows of no waiter. So who waits looks again after a second. */
-static int take_lock(pthread_mutex_t *mutex)
-{
-	int error = pthread_mutex_trylock(mutex);
-
-	while (error == EBUSY || error == ETIMEDOUT) {
-		struct timespec until;
-
-		clock_gettime(CLOCK_REALTIME, &until);
-		until.tv_sec++;
-		error = pthread_mutex_timedlock(mutex, &until);
-	}
-	return error;
 }
 
 /* As HANDLE_UNBLOCK_INTERRUPTIONS. That one takes the first signal that waits for granted, where
@@ -232,7 +202,7 @@ bool apcu_lock(void)
 	}
 	HANDLE_BLOCK_INTERRUPTIONS();
 
-	int error = take_lock(&apcu_shm->lock);
+	int error = robust_lock_take(&apcu_shm->lock);
 	if (UNEXPECTED(error != 0)) {
 		if (error != EOWNERDEAD) {
 			let_signals();
@@ -288,7 +258,7 @@ void apcu_entry_begin(void)
 	if (APCU_G(entry_level)++ > 0) {
 		return;
 	}
-	if (take_lock(&apcu_shm->entry_lock) == EOWNERDEAD) {
+	if (robust_lock_take(&apcu_shm->entry_lock) == EOWNERDEAD) {
 		/* It guards no memory, so there is nothing to mend. */
 		pthread_mutex_consistent(&apcu_shm->entry_lock);
 	}
