@@ -72,13 +72,12 @@ http {
     proxy_temp_path $own/proxy;
     uwsgi_temp_path $own/uwsgi;
     scgi_temp_path $own/scgi;
-    upstream fpm { server unix:$socket; keepalive 16; }
     server {
         listen 127.0.0.1:$port;
         root $folder;
         location / {
-            fastcgi_pass fpm;
-            fastcgi_keep_conn on;
+            # A connection that is kept keeps a worker, and other requests wait for ever.
+            fastcgi_pass unix:$socket;
             fastcgi_index index.php;
             fastcgi_param SCRIPT_FILENAME \$document_root\$fastcgi_script_name;
             fastcgi_param SCRIPT_NAME \$fastcgi_script_name;

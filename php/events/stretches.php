@@ -70,6 +70,12 @@ final class Stretch
         return true;
     }
 
+    /** Whether it has so many bytes, or as large a part of the events that the program takes. */
+    public function is_long(int $bytes): bool
+    {
+        return $this->bytes > $bytes || $this->events > $bytes / MOST_BYTES * MOST_EVENTS;
+    }
+
     /** A process has a worker of its own; where there are too many, some share one, for their order is known. */
     private function worker_of(int $process): int
     {
@@ -126,8 +132,8 @@ final class Extent
 }
 
 /**
- * The stretches, each as long as it can be. Behind missing events, or where one is full, the next one begins where the
- * cache is empty again.
+ * The stretches. Behind missing events, or where one is full, the next one begins where the cache is empty again; what
+ * stands between is in none. One that has so many bytes already ends where the cache is emptied, so few are ever full.
  *
  * @param iterable<Event|Gap> $events
  * @return \Generator<int, Stretch>
@@ -137,6 +143,7 @@ function stretches(
     Extent $extent,
     int $most_workers = MOST_WORKERS,
     bool $is_kept = false,
+    int $bytes = MOST_BYTES,
 ): \Generator
 {
     $stretch = null;
@@ -150,7 +157,8 @@ function stretches(
             }
             continue;
         }
-        if ($stretch !== null && $event->number > 0 && $stretch->add($event, $extent->seconds())) {
+        $begins = $event->number === 0 || $event->clears() && $stretch?->is_long($bytes) === true;
+        if ($stretch !== null && !$begins && $stretch->add($event, $extent->seconds())) {
             continue;
         }
         if ($stretch !== null) {

@@ -11,6 +11,8 @@ const NOT_JUDGED = 1;
 const RIGHT_IN_PART = 2;
 const WRONG = 9;
 const MOST_GAPS = 3;
+/** A part of what the program takes. */
+const LONG_BYTES = MOST_BYTES / 8;
 
 /**
  * Judges all stretches, and tells what came of it.
@@ -27,7 +29,7 @@ function judged(string $program, array $paths, ?string $server): int
     $extent = new Extent();
     $events = $seconds = $end = 0;
     $cuts = [];
-    foreach (stretches(all_events($files), $extent) as $at => $stretch) {
+    foreach (stretches(all_events($files), $extent, bytes: LONG_BYTES) as $at => $stretch) {
         if (!verified($program, $shape, $stretch)) {
             explain($program, $paths, $files[0]->server, $at);
             return WRONG;
@@ -106,7 +108,7 @@ function verified(string $program, Shape $shape, Stretch $stretch): bool
 function explain(string $program, array $paths, string $server, int $wanted): void
 {
     $files = recorded_files($paths, $server);
-    foreach (stretches(all_events($files), new Extent(), MOST_WORKERS, true) as $at => $stretch) {
+    foreach (stretches(all_events($files), new Extent(), is_kept: true, bytes: LONG_BYTES) as $at => $stretch) {
         if ($at === $wanted) {
             break;
         }

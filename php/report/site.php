@@ -73,7 +73,7 @@ function options_of(Shape $shape, bool $by_request): array
 
 /**
  * What APCu counted, by its counts at the ends of requests. They begin anew where all rows went, so what was counted
- * between the last of these ends and that is missing.
+ * between the last of these ends and that is missing. Of two ends at once either may be told first.
  *
  * @param list<list<string>> $lines
  * @return array<string, int|float|null>|null
@@ -84,26 +84,25 @@ function counted_by_apcu(array $lines): ?array
         return null;
     }
     usort($lines, static fn (array $one, array $other): int => (int) $one[0] <=> (int) $other[0]);
-    $sums = $last = [0, 0, 0];
+    // By how often rows went for want of room, since the cache was cleared; each time that it was is a list of its own.
+    $times = [[]];
     foreach ($lines as [, $hits, $misses, $inserts, $expunges, $entries, $used]) {
         $now = [(int) $hits, (int) $misses, (int) $inserts];
-        $last = is_anew($last, $now) ? [0, 0, 0] : $last;
-        foreach ($now as $at => $count) {
-            $sums[$at] += $count - $last[$at];
+        $most = end($times)[$expunges] ?? [0, 0, 0];
+        if (2 * array_sum($now) < array_sum($most)) {
+            $times[] = [];
+            $most = [0, 0, 0];
         }
-        $last = $now;
+        $times[array_key_last($times)][$expunges] = array_map(max(...), $now, $most);
     }
-    $asked = $sums[0] + $sums[1];
+    $sum = static fn (int $at): int => array_sum(array_map(
+        static fn (array $counts): int => array_sum(array_column($counts, $at)),
+        $times,
+    ));
     return [
-        'rate' => $asked === 0 ? 0.0 : $sums[0] / $asked, 'inserts' => $sums[2], 'refused' => null,
+        'rate' => $sum(0) / max(1, $sum(0) + $sum(1)), 'inserts' => $sum(2), 'refused' => null,
         'expunges' => (int) $expunges, 'entries' => (int) $entries, 'used' => (int) $used, 'free' => null,
     ];
-}
-
-/** Whether counts began anew between two moments. */
-function is_anew(array $before, array $now): bool
-{
-    return $now[0] < $before[0] || $now[1] < $before[1] || $now[2] < $before[2];
 }
 
 /**

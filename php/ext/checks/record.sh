@@ -85,7 +85,7 @@ check_load() {
     cp "$top/bench/record/site/index.php" "$top/bench/ext/site/hits.php" "$scratch/site/"
     serve_fpm "$ours" "$socket" 8 -d apc.shm_size=8M -d apc.record_dir="$scratch/load"
     serve_nginx "$socket" "$scratch/site"
-    php -n -r 'for (;; usleep(250_000)) file_get_contents($argv[1]);' "http://127.0.0.1:$port/hits.php?clear" &
+    php -n -r 'for (;; usleep(250_000)) @file_get_contents($argv[1]);' "http://127.0.0.1:$port/hits.php?clear" &
     clearer=$!
     started+=("$clearer")
     echo "the shop on php-fpm with eight workers, $minute seconds of wrk"
