@@ -105,8 +105,9 @@ final class Extent
 {
     public int $events = 0;
     public int $missing = 0;
-    /** @var list<Gap> */
-    public array $gaps = [];
+    public ?Gap $gap = null;
+    /** At how many places events are missing. */
+    public int $gaps = 0;
     private ?int $first = null;
     private int $last = 0;
 
@@ -114,7 +115,8 @@ final class Extent
     {
         if ($event instanceof Gap) {
             $this->missing += $event->last - $event->first + 1;
-            $this->gaps[] = $event;
+            $this->gap ??= $event;
+            $this->gaps++;
             return;
         }
         $this->events++;

@@ -10,7 +10,6 @@ const RIGHT = 0;
 const NOT_JUDGED = 1;
 const RIGHT_IN_PART = 2;
 const WRONG = 9;
-const MOST_GAPS = 3;
 /** A part of what the program takes. */
 const LONG_BYTES = MOST_BYTES / 8;
 
@@ -42,18 +41,17 @@ function judged(string $program, array $paths, ?string $server): int
             $cuts[] = $stretch->cut;
         }
     }
-    tell_gaps($extent->gaps);
+    tell_gaps($extent);
     return told_right($files, $extent, $events, $seconds, $cuts);
 }
 
-/** @param list<Gap> $gaps */
-function tell_gaps(array $gaps): void
+function tell_gaps(Extent $extent): void
 {
-    foreach (array_slice($gaps, 0, MOST_GAPS) as $gap) {
-        tell("{$gap->told()} (cache {$gap->part}): what is behind is judged from the next apcu_clear_cache on");
-    }
-    if (count($gaps) > MOST_GAPS) {
-        tell('and so at ' . counted(count($gaps) - MOST_GAPS, 'other place'));
+    if ($extent->gap !== null) {
+        $first = $extent->gap;
+        $others = $extent->missing - ($first->last - $first->first + 1);
+        tell("{$first->told()} (cache {$first->part})" . ($extent->gaps === 1 ? '' : ', and ' . counted($others, 'event') . ' at '
+            . counted($extent->gaps - 1, 'other place')) . ': what is behind is judged from the next apcu_clear_cache on');
     }
 }
 

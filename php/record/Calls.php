@@ -65,8 +65,7 @@ final class Calls
     public static function store(string $word, int $count, mixed $key, mixed $value, mixed $ttl): string
     {
         self::$parts = null;
-        $ttl = self::seconds($ttl);
-        if ($ttl === null) {
+        if ($ttl !== 0 && ($ttl = self::seconds($ttl)) === null) {
             return self::left('argument', $key);
         }
         if (\is_string($key) && $count > 1) {
