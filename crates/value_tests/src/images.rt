@@ -279,8 +279,10 @@ fn bytes_back(rt: &impl Abort, alloc: Global, len: usize) -> Result<Vec<u8>, Fai
     assert!(rt; len <= 200);
     let mut row = VecWords::new(alloc, 32)?;
     put_bytes(&mut row, 3, &vec![in alloc; b'z'; len]?);
+    let words = row.into_words();
+    assert_eq!(rt; words.len(), 32);
     let mut out = vec![in alloc; b'-'; len]?;
-    get_bytes(&mut row, 3, &mut out);
+    get_bytes(&mut VecWords::from_words(words), 3, &mut out);
     Ok(out)
 }
 
