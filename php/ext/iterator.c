@@ -312,9 +312,10 @@ static size_t keep_matches(apcu_iterator *it, const search *s, apcu_rows *list, 
 	return kept;
 }
 
-/* The next chunk, in place of the one before; how many rows it has. Whole slots are taken until there
- * are more rows than a chunk should have. */
-static size_t fetch_chunk(apcu_iterator *it)
+/* The next chunk, in place of the one before; whether the iterator stands on a row then. Whole slots are
+ * taken until there are more rows than a chunk should have. Code of the values that come or go may call
+ * the iterator, too, and take and leave chunks of its own. */
+static bool fetch_chunk(apcu_iterator *it)
 {
 	time_t t = apcu_time();
 	apcu_item *items = NULL;
@@ -324,7 +325,7 @@ static size_t fetch_chunk(apcu_iterator *it)
 
 	drop_chunk(it);
 	if (it->slot >= it->end) {
-		return 0;
+		return it->at < it->count;
 	}
 	apcu_rows_start(&list, 256, 8192);
 	while (count <= it->chunk_size && list_some(it, &list)) {
@@ -346,10 +347,13 @@ static size_t fetch_chunk(apcu_iterator *it)
 	}
 	apcu_rows_free(&list);
 
-	drop_chunk(it);
+	apcu_item *others = it->items;
+	size_t others_count = it->count;
 	it->items = items;
 	it->count = count;
-	return count;
+	it->at = 0;
+	free_items(others, others_count);
+	return it->at < it->count;
 }
 
 static void add_totals(apcu_iterator *it)
@@ -487,16 +491,13 @@ ZEND_METHOD(APCUIterator, next)
 ZEND_METHOD(APCUIterator, valid)
 {
 	READY(it);
-	if (it->at >= it->count) {
-		fetch_chunk(it);
-	}
-	RETURN_BOOL(it->count > 0);
+	RETURN_BOOL(it->at < it->count || fetch_chunk(it));
 }
 
 /* The row that the iterator stands on; null where it is at its end. */
 static apcu_item *current(apcu_iterator *it)
 {
-	if (it->at >= it->count && fetch_chunk(it) == 0) {
+	if (it->at >= it->count && !fetch_chunk(it)) {
 		return NULL;
 	}
 	return &it->items[it->at];
@@ -562,7 +563,7 @@ bool apcu_iterator_delete(zval *object)
 	if (!it) {
 		return false;
 	}
-	while (fetch_chunk(it) > 0) {
+	while (fetch_chunk(it)) {
 		for (; it->at < it->count; it->at++) {
 			apcu_delete_key(it->items[it->at].key);
 		}

@@ -14,7 +14,8 @@
 //  30      no list names a key twice;
 //  35      where time moves, a row that was ever asked to be swapped has no moment of its last change;
 //  46, 49  of the segments only their number and the names and types of fields are told;
-//  and how many slots there are, when the server was started and how many copy from a row.
+//  and how many slots there are, when the server was started and how many copy from a row. So is what docs/EXTENSION.md
+//  lets differ of a value that can't be read: none has an object with a destructor beside it.
 
 declare(strict_types=1);
 
@@ -206,6 +207,8 @@ final class Calls
     private const SWAPPED = ['s1', 's2', '42'];
     private bool $is_moving;
     private int $now;
+    /** Classes of which the value that is made has objects. */
+    private array $classes = [];
 
     public function __construct(string $how, int $seed)
     {
@@ -251,7 +254,15 @@ final class Calls
         };
     }
 
-    private function value(int $depth = 0): mixed
+    private function value(): mixed
+    {
+        $this->classes = [];
+        $value = $this->part();
+        // What was read before the part that can't be is freed at once here, and by APCu when the request ends.
+        return isset($this->classes[Unreadable::class], $this->classes[Ended::class]) ? $this->scalar() : $value;
+    }
+
+    private function part(int $depth = 0): mixed
     {
         $kind = $depth > 3 ? 0 : mt_rand(0, 29);
         // igbinary does not come back from an array that holds itself, and throws twice what can't be stored.
@@ -264,7 +275,7 @@ final class Calls
         if ($kind < 17) {
             $array = [];
             for ($i = mt_rand(0, 5); $i > 0; $i--) {
-                $array[pick([0, 1, 2, -5, 'x', '', '01', PHP_INT_MAX - 1, "\0"])] = $this->value($depth + 1);
+                $array[pick([0, 1, 2, -5, 'x', '', '01', PHP_INT_MAX - 1, "\0"])] = $this->part($depth + 1);
             }
             return $array;
         }
@@ -272,7 +283,7 @@ final class Calls
             // A list, some members of which are one place.
             $list = [];
             for ($i = mt_rand(1, 6); $i > 0; $i--) {
-                $list[] = $this->value($depth + 1);
+                $list[] = $this->part($depth + 1);
             }
             $list[] = &$list[0];
             $list[] = $list[mt_rand(0, count($list) - 1)];
@@ -285,23 +296,26 @@ final class Calls
         }
         if ($kind < 22) {
             $object = pick([new stdClass(), new Plain(), new Slept(), new Old(), new Ended()]);
-            $object->{$object instanceof Old || $object instanceof Ended ? 'value' : 'a'} = $this->value($depth + 1);
+            $this->classes[$object::class] = true;
+            $object->{$object instanceof Old || $object instanceof Ended ? 'value' : 'a'} = $this->part($depth + 1);
             if ($object instanceof stdClass) {
                 $object->{'5'} = 1;
                 $object->{pick(['', "p\0", 'self'])} = $object;
             }
             return $object;
         }
-        return match ($kind) {
-            22 => new Hooked($this->value($depth + 1)),
+        $value = match ($kind) {
+            22 => new Hooked($this->part($depth + 1)),
             23 => pick([Pure::One, Pure::Two, Suit::Hearts, Suit::Spades]),
-            24 => new ArrayObject([$this->value($depth + 1), 'k' => 1]),
-            25 => new Fixed([$this->value($depth + 1)]),
+            24 => new ArrayObject([$this->part($depth + 1), 'k' => 1]),
+            25 => new Fixed([$this->part($depth + 1)]),
             26 => new DateTimeImmutable('@' . mt_rand()),
             27 => new Caller($this->key()),
             28 => pick([new Unwilling(), new Unreadable(), new SplObjectStorage(), new SplFixedArray(2)]),
             29 => pick([fn () => 1, new Exception('stored'), new class () {}, STDIN, new APCUIterator('/^none$/')]),
         };
+        $this->classes[get_debug_type($value)] = true;
+        return $value;
     }
 
     /** By rising key. */

@@ -22,7 +22,7 @@ $slow = pcntl_fork();
 if ($slow === 0) {
     apcu_entry('c', function () {
         apcu_store('begun', 1);
-        for ($i = 0; $i < 2000 && !apcu_exists('go on'); $i++) {
+        for ($i = 0; $i < SECONDS * 500 && !apcu_exists('go on'); $i++) {
             usleep(2000);
         }
         return 'slow';
@@ -48,7 +48,7 @@ $slow = pcntl_fork();
 if ($slow === 0) {
     apcu_entry('e', function () {
         apcu_store('begun again', 1);
-        sleep(20);
+        sleep(SECONDS);
     });
     exit(0);
 }

@@ -35,7 +35,7 @@ for ($i = 0; $i < 8; $i++) {
 }
 apcu_store('go', 1);
 foreach ($all as $id) {
-    echo end_of($id, 30), ' ';
+    echo end_of($id), ' ';
 }
 echo "\n";
 $made = [];

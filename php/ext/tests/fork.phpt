@@ -30,7 +30,7 @@ for ($i = 0; $i < 8; $i++) {
     $all[] = $id;
 }
 foreach ($all as $id) {
-    end_of($id, 30);
+    end_of($id);
 }
 var_dump(apcu_fetch('n'));
 

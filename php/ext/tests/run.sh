@@ -13,8 +13,8 @@ cp "$ours" "$scratch/apcu.so"
 cp "$here"/*.phpt "$here"/*.inc "$scratch/tests/"
 status=0
 cd "$scratch"
-PHP_INI_SCAN_DIR=$(settings_of "$scratch/apcu.so") NO_INTERACTION=1 TEST_PHP_EXECUTABLE=$(command -v php) timeout 1200 \
-    php -n "$runner" -q -j2 --show-diff --set-timeout 200 -W "$scratch/all" tests >"$scratch/log" 2>&1 </dev/null || status=1
+PHP_INI_SCAN_DIR=$(settings_of "$scratch/apcu.so") NO_INTERACTION=1 TEST_PHP_EXECUTABLE=$(command -v php) timeout 3600 \
+    php -n "$runner" -q -j2 --show-diff --set-timeout 600 -W "$scratch/all" tests >"$scratch/log" 2>&1 </dev/null || status=1
 if [ "$status" != 0 ]; then cat "$scratch/log"; fi
 sed -n -E -e 's/.*SKIP.*\[tests\/(.*)\.phpt\] reason: (.*)/skipped: \1: \2/p' "$scratch/log"
 count() { grep -Ec "^($1)" "$scratch/all" || true; }
