@@ -391,22 +391,23 @@ What the clauses of `{CRATE}::{FUNCTION}` promise rests on definitions. The clau
 {len(all_of)}. Of the first, {", ".join(alone[:-1])} and {alone[-1]} serve these alone: what a play of the input's scripts \
 prints without a map rests on {lines_of(played, own_played):,} lines in {len(own_played)} files.
 
-Read *An hour* first. Then read by need: `{MAIN}` alone reaches the files without a star. `docs/reading.sh` writes this \
+Read *An hour*, then by need: `{MAIN}` alone reaches the files without a star. `docs/reading.sh` writes this \
 page, by the imports of the definitions that a clause reaches. Its lines of a definition are with the comment before it.
 
 ## How to read a definition
 
-- `f : A → B` is a function. `(x : A) → P` says: for each x, P. Between statements `→` is *implies*, `×` *and*, `⊎` *or*, \
+- `f : A → B` is a function. `(x : A) → P`: for each x, P. Between statements `→` is *implies*, `×` *and*, `⊎` *or*, \
 `¬` *not*, and `≡` *equals*.
-- `(x : A) × P` says: there is an x with P.
+- `(x : A) × P`: there is an x with P.
 - `Unit {{0}}` is always true, and `⊥` never.
 - What ends in `Type 0` is a statement. What ends in `Bool`, `ℕ`, `List` .. is computed; `IsTrue b` says that `b` is `true`.
-- `record` has named fields; as a statement it holds if each field does. `x.f` is a field, `p.0` the first part of a pair.
-- `data` lists the forms of a value. `abbrev` and `unfoldable` name what is right of `=`. Several lines are cases: the first \
-that fits counts, and `_` fits all.
+- `record` has named fields; as a statement it holds if each field does. `x.f` is a field, `p.0` a pair's first part, and \
+`record x {{ f = e }}` is `x` with another `f`.
+- `data` lists a value's forms. `abbrev` and `unfoldable` name what is right of `=`. Of several lines the first \
+that fits counts; `_` fits all.
 - `[]` is the empty list, `x ∷ xs` puts x in front, `++` joins. `λ x. e` is the function of x.
-- `Option` is `None` or `Some x`. `IfSome o (λ s. P)` says: if `o` is `Some s`, then P.
-- Bytes, places and seconds are `ℕ`; a text is a list of bytes; `codes "a"` is the bytes of a literal.
+- `Option` is `None` or `Some x`. `IfSome o (λ s. P)`: if `o` is `Some s`, then P.
+- Bytes, places and seconds are `ℕ`; a text is a list of bytes; `codes "a"` is a literal's.
 - In a clause `x.now` is what a reference points to; of a `&mut`, `x.old` is before the call and `x.new` after it. `S.left` \
 is what a source has left, `K.held` what a sink holds.
 
