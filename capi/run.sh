@@ -3,7 +3,8 @@
 # `test` calls each export, `forked` has eight processes that count to a million and 300 that are killed, `deaths` kills
 # one behind instruction after instruction, and `full` fills 2 GB of words and reads them back. The last line is 'N passed, N failed'; what
 # this machine or this library can't do is skipped and said.
-# Usage: capi/run.sh. CACHE_C_LIB=FILE in the environment is the library; else it is proved and built by rt.
+# Usage: capi/run.sh [--quick]; --quick leaves out the 2 GB. CACHE_C_LIB=FILE in the environment is the library; else
+# ../prove proves and builds it.
 set -eu -o pipefail
 here=$(cd "$(dirname "${BASH_SOURCE[0]}")" && pwd)
 scratch=$(mktemp -d)
@@ -12,7 +13,7 @@ passed=0 failed=0
 
 library=${CACHE_C_LIB:-}
 if [ -z "$library" ]; then
-    (cd "$here/../crates/cache_c" && rt lib)
+    "$here/../prove" --library
     library=$here/../crates/cache_c/out/libcache_c.a
 fi
 flags=(-std=c11 -O2 -Wall -Wextra -Wpedantic -Wshadow -Wconversion -Werror)
@@ -59,7 +60,9 @@ run 300 deaths 'deaths in a store: .*; 0 wrong' 'deaths in making anew: 0 .*, 0 
 run 120 'full 16777216' 'all read back, .*'
 # Words and index take 2.4 GB.
 free_kb=$(awk '$1 == "MemAvailable:" { print $2 }' /proc/meminfo)
-if [ "$free_kb" -ge 3000000 ]; then
+if [ "${1:-}" = --quick ]; then
+    skip 'full 268435456: --quick'
+elif [ "$free_kb" -ge 3000000 ]; then
     run 300 'full 268435456' 'all read back, .*'
 else
     skip "full 268435456: $free_kb KB of memory are free"

@@ -10,7 +10,7 @@
 # stand first: ours with the lock / APCu's, and ours alone / APCu's. A round is kept only where the machine is quiet
 # (../quiet.sh).
 # Usage: bench/engine/run.sh [ROWS..]; it needs php with apcu, and php-dev. CACHE_C_LIB=FILE in the environment is the
-# library; else it is proved and built by rt.
+# library; else ../../prove proves and builds it.
 set -eu -o pipefail
 here=$(cd "$(dirname "${BASH_SOURCE[0]}")" && pwd)
 sizes=${*:-1000 100000}
@@ -22,7 +22,7 @@ command -v php-config >/dev/null || { echo "$0: php-dev is not there" >&2; exit 
 
 library=${CACHE_C_LIB:-}
 if [ -z "$library" ]; then
-    (cd "$here/../../crates/cache_c" && rt lib) >&2
+    "$here/../../prove" --library
     library=$here/../../crates/cache_c/out/libcache_c.a
 fi
 # PHP's headers and APCu's stand where Debian's packages put them; warnings in them are not ours.

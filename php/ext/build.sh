@@ -1,5 +1,5 @@
 #!/bin/sh
-# Builds modules/apcu.so: the library by rt, the extension by phpize.
+# Builds modules/apcu.so: the library by ../../prove, the extension by phpize.
 #
 #   php/ext/build.sh
 #
@@ -21,7 +21,7 @@ done
 
 if [ -z "${CACHE_C_LIB:-}" ]; then
     command -v rt > /dev/null || { echo "build.sh: no rt, and CACHE_C_LIB names no library" >&2; exit 1; }
-    (cd "$top/crates/cache_c" && rt lib)
+    "$top/prove" --library
     CACHE_C_LIB=$top/crates/cache_c/out/libcache_c.a
 fi
 [ -f "$CACHE_C_LIB" ] || { echo "build.sh: no library $CACHE_C_LIB" >&2; exit 1; }
