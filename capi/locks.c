@@ -4,6 +4,8 @@
  * one that waits has to get the lock in three seconds. The lock is a short one, and then a long one.
  * Usage: locks. Ends with status 77 where processes may not be stepped. */
 #define _GNU_SOURCE
+/* Each look is stepped through. */
+#define ROBUST_LOCK_LOOKS 2
 #include "robust_lock.h"
 
 #include <limits.h>

@@ -109,14 +109,16 @@ ROBUST_SELDOM static int robust_sleep(robust_lock *lock, uint32_t id) {
     }
 }
 
-/* An owner that runs is soon done: the lock is looked at some times, with growing gaps in which
+/* An owner that runs is soon done: the lock is looked at so many times, with growing gaps in which
  * others may run, before this thread sleeps. */
+#ifndef ROBUST_LOCK_LOOKS
+#define ROBUST_LOCK_LOOKS 10
+#endif
 ROBUST_SELDOM static int robust_wait(robust_lock *lock, uint32_t id) {
-    enum { LOOKS = 10, MOST_GAP = 16 };
-    for (unsigned look = 0, gap = 1; look < LOOKS; look++) {
+    for (unsigned look = 0, gap = 1; look < ROBUST_LOCK_LOOKS; look++) {
         for (unsigned i = 0; i < gap; i++)
             sched_yield();
-        gap = gap < MOST_GAP ? 2 * gap : MOST_GAP;
+        gap = gap < 16 ? 2 * gap : 16;
         uint32_t seen = atomic_load_explicit(&lock->word, memory_order_relaxed);
         int taken = robust_is_free(seen) ? robust_take_free(lock, seen, id, 0) : EBUSY;
         if (taken != EBUSY)
