@@ -1,7 +1,7 @@
 <?php
 
 // Load on a php-fpm whose workers are killed, one each second, and a judgement of each reply:
-// php hours.php SOCKET SCRIPT MASTER MINUTES CLIENTS
+// php hours.php SOCKET SCRIPT MASTER MINUTES CLIENTS PAUSE
 // The script is site/numbers.php. Each key is one client's, which alone stores under it, a higher number each time, and
 // waits for the reply; all clients fetch all keys. So a value is judged by its key and number: it is whole, it is no
 // older than that which the same client has seen under the key, and its owner finds the very one that it stored last. It
@@ -13,12 +13,12 @@ declare(strict_types=1);
 require __DIR__ . '/../../php/ext/checks/fcgi.php';
 require __DIR__ . '/site/numbers.php';
 
-[, $socket, $script, $master, $minutes, $clients] = $argv;
-[$master, $minutes, $clients] = [(int) $master, (float) $minutes, (int) $clients];
+[, $socket, $script, $master, $minutes, $clients, $pause] = $argv;
+[$master, $minutes, $clients, $pause] = [(int) $master, (float) $minutes, (int) $clients, (int) $pause];
 const KEYS = 40;
 
-/** What a client does: requests until a moment, and each second a line of counts for the parent. */
-function client(int $own, int $clients, string $socket, string $script, int $end, mixed $tell): void
+/** What a client does: requests until a moment, with a pause of so many microseconds, and each second a line of counts for the parent. */
+function client(int $own, int $clients, string $socket, string $script, int $end, int $pause, mixed $tell): void
 {
     mt_srand($own);
     $count = ['good' => 0, 'none' => 0, 'lost' => 0, 'late' => 0, 'wrong' => 0, 'longest' => 0];
@@ -34,6 +34,7 @@ function client(int $own, int $clients, string $socket, string $script, int $end
         $is_own = $place % $clients === $own;
         $is_store = $is_own && mt_rand(0, 2) > 0;
         $query = $is_store ? "key=$key&number=" . ++$number : "key=$key";
+        usleep($pause);
         $before = hrtime(true);
         $answer = ask($socket, $script, $query);
         $count['longest'] = max($count['longest'], hrtime(true) - $before);
@@ -108,7 +109,7 @@ $streams = [];
 for ($i = 0; $i < $clients; $i++) {
     [$own, $its] = stream_socket_pair(STREAM_PF_UNIX, STREAM_SOCK_STREAM, STREAM_IPPROTO_IP);
     if (pcntl_fork() === 0) {
-        client($i, $clients, $socket, $script, $end, $its);
+        client($i, $clients, $socket, $script, $end, $pause, $its);
         exit(0);
     }
     fclose($its);

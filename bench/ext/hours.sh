@@ -3,7 +3,8 @@
 # judged by a value that tells its key and its number (hours.php). A line a minute, and one of all. The status is 1
 # where a reply was wrong, none came in ten seconds, or the server ended.
 # Usage: bench/ext/hours.sh [MINUTES [SO]] (60); it needs php-fpm. SIZE in the environment is the cache's size (2M, in
-# which all values have room; in 1M they have not), CLIENTS=N how many processes ask (12).
+# which all values have room; in 1M they have not), CLIENTS=N how many processes ask (12), and PAUSE=N how many
+# microseconds each waits between two requests (0).
 set -eu
 here=$(cd "$(dirname "${BASH_SOURCE[0]}")/../../php/ext/checks" && pwd)
 minutes=${1:-60}
@@ -17,7 +18,7 @@ socket="$scratch/hours.sock"
 serve_fpm "$ours" "$socket" 8 -d apc.shm_size="${SIZE:-2M}"
 status=0
 timeout "$(awk -v minutes="$minutes" 'BEGIN { printf "%d", minutes * 60 + 180 }')" \
-    php "$here/hours.php" "$socket" "$scratch/numbers.php" "$master" "$minutes" "${CLIENTS:-12}" || status=1
+    php "$here/hours.php" "$socket" "$scratch/numbers.php" "$master" "$minutes" "${CLIENTS:-12}" "${PAUSE:-0}" || status=1
 if ! kill -0 "$master"; then
     echo 'the server has ended'
     status=1
