@@ -17,8 +17,12 @@ chmod a+r "$scratch/numbers.php"
 socket="$scratch/hours.sock"
 serve_fpm "$ours" "$socket" 8 -d apc.shm_size="${SIZE:-2M}"
 status=0
+# timeout's own group holds all clients, and they are gone at this script's end.
 timeout "$(awk -v minutes="$minutes" 'BEGIN { printf "%d", minutes * 60 + 180 }')" \
-    php "$here/hours.php" "$socket" "$scratch/numbers.php" "$master" "$minutes" "${CLIENTS:-12}" "${PAUSE:-0}" || status=1
+    php "$here/hours.php" "$socket" "$scratch/numbers.php" "$master" "$minutes" "${CLIENTS:-12}" "${PAUSE:-0}" &
+started+=("-$!")
+trap 'exit 1' TERM INT
+wait "$!" || status=1
 if ! kill -0 "$master"; then
     echo 'the server has ended'
     status=1
