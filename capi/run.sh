@@ -1,10 +1,10 @@
 #!/usr/bin/env bash
 # Compiles the programs of this folder over the library for C, runs each in bounded time, and judges what it prints:
 # `test` calls each export, `forked` has eight processes that count to a million and 300 that are killed, `deaths` kills
-# one behind instruction after instruction, and `full` fills 2 GB of words and reads them back. The last line is 'N passed, N failed'; what
-# this machine or this library can't do is skipped and said.
-# Usage: capi/run.sh [--quick]; --quick leaves out the 2 GB. CACHE_C_LIB=FILE in the environment is the library; else
-# ../prove proves and builds it.
+# one behind instruction after instruction, `locks` the same at the lock alone, and `full` fills 2 GB of words and reads
+# them back. The last line is 'N passed, N failed'; what this machine or this library can't do is skipped and said.
+# Usage: capi/run.sh [--quick]; --quick leaves out the 2 GB and `locks`. CACHE_C_LIB=FILE in the environment is the
+# library; else ../prove proves and builds it.
 set -eu -o pipefail
 here=$(cd "$(dirname "${BASH_SOURCE[0]}")" && pwd)
 scratch=$(mktemp -d)
@@ -44,6 +44,8 @@ run() {
 for program in test forked deaths full; do
     cc "${flags[@]}" "$here/$program.c" "$here/shared_cache.c" "$library" -lpthread -o "$scratch/$program"
 done
+# No step is the loader's.
+cc "${flags[@]}" "$here/locks.c" -lpthread -Wl,-z,now -o "$scratch/locks"
 pass 'each program is compiled without a warning'
 if command -v c++ >/dev/null; then
     c++ -std=c++11 "${flags[@]:1}" -fsyntax-only -x c++ - <<<"#include \"$here/cache_c.h\""
@@ -57,6 +59,11 @@ run 60 'test nulls' '[1-9][0-9]* passed, 0 failed'
 run 300 'forked 125000 300' '8 children counted to 1000000 of 1000000' '300 kills: .*' \
     '0 children read a torn text .*'
 run 300 deaths 'deaths in a store: .*; 0 wrong' 'deaths in making anew: 0 .*, 0 .*; 0 wrong'
+if [ "${1:-}" = --quick ]; then
+    skip 'locks: --quick'
+else
+    run 900 locks 'as it should be'
+fi
 run 120 'full 16777216' 'all read back, .*'
 # Words and index take 2.4 GB.
 free_kb=$(awk '$1 == "MemAvailable:" { print $2 }' /proc/meminfo)

@@ -4,7 +4,6 @@
 #include "robust_lock.h"
 
 #include <errno.h>
-#include <pthread.h>
 #include <stdatomic.h>
 #include <stdlib.h>
 #include <string.h>
@@ -16,7 +15,7 @@ enum { LINE = 64 }; /* bytes of a line of the processor's cache; a multiple of e
  * cache's words and index are taken. All of it stands at one address in every process, so that
  * pointers of one are good in each. */
 struct head {
-    pthread_mutex_t lock;
+    robust_lock lock;
     atomic_bool busy; /* a call is under way: the words may be those of half a change */
     shared_deaths deaths;
 };
@@ -98,7 +97,7 @@ uint32_t shared_start(const cache_shape *wanted) {
     handle = (uint8_t *)map + whole_lines(sizeof *head);
     room = (unsigned char *)map + before;
     end = (unsigned char *)map + size;
-    uint32_t made = robust_lock_make(&head->lock) ? make() : CACHE_NO_ROOM;
+    uint32_t made = robust_lock_make(&head->lock, true) ? make() : CACHE_NO_ROOM;
     if (made != CACHE_MADE)
         shared_end();
     return made;
@@ -131,7 +130,6 @@ uint8_t *shared_enter(void) {
         else
             head->deaths.outside++;
         set_busy(false);
-        pthread_mutex_consistent(&head->lock);
     } else if (locked != 0) {
         abort(); /* it is no lock: somebody wrote over it */
     }
@@ -141,7 +139,7 @@ uint8_t *shared_enter(void) {
 
 void shared_leave(void) {
     set_busy(false);
-    pthread_mutex_unlock(&head->lock);
+    robust_lock_give(&head->lock);
 }
 
 shared_deaths shared_get_deaths(void) { return head->deaths; }

@@ -8,7 +8,6 @@
 
 #include "php_apcu.h"
 #include "record.h"
-#include "robust_lock.h"
 
 apcu_shared *apcu_shm;
 
@@ -140,7 +139,7 @@ bool apcu_shm_start(const cache_shape *shape, bool is_dumped, size_t *bytes)
 	apcu_shm = at;
 	apcu_shm->size = size;
 	apcu_shm->shape = *shape;
-	if (robust_lock_make(&apcu_shm->lock) && robust_lock_make(&apcu_shm->entry_lock)) {
+	if (robust_lock_make(&apcu_shm->lock, true) && robust_lock_make(&apcu_shm->entry_lock, false)) {
 		make();
 	}
 	if (!apcu_shm->is_made) {
@@ -192,7 +191,6 @@ static void recover(void)
 		atomic_signal_fence(memory_order_seq_cst);
 		apcu_shm->is_busy = false;
 	}
-	pthread_mutex_consistent(&apcu_shm->lock);
 }
 
 bool apcu_lock(void)
@@ -223,7 +221,7 @@ void apcu_unlock(void)
 	const char *fault = NULL;
 
 	has_news = was_remade = false;
-	pthread_mutex_unlock(&apcu_shm->lock);
+	robust_lock_give(&apcu_shm->lock);
 	if (UNEXPECTED(is_news)) {
 		fault = apcu_record_write();
 	}
@@ -258,17 +256,15 @@ void apcu_entry_begin(void)
 	if (APCU_G(entry_level)++ > 0) {
 		return;
 	}
-	if (robust_lock_take(&apcu_shm->entry_lock) == EOWNERDEAD) {
-		/* It guards no memory, so there is nothing to mend. */
-		pthread_mutex_consistent(&apcu_shm->entry_lock);
-	}
+	/* It guards no memory, so where its owner died there is nothing to mend. */
+	robust_lock_take(&apcu_shm->entry_lock);
 	APCU_G(entry_owner) = getpid();
 }
 
 void apcu_entry_end(void)
 {
 	if (APCU_G(entry_level) > 0 && --APCU_G(entry_level) == 0 && APCU_G(entry_owner) == getpid()) {
-		pthread_mutex_unlock(&apcu_shm->entry_lock);
+		robust_lock_give(&apcu_shm->entry_lock);
 	}
 }
 

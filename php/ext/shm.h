@@ -3,15 +3,15 @@
 #ifndef APCU_SHM_H
 #define APCU_SHM_H
 
-#include <pthread.h>
 #include <time.h>
 
 #include "php.h"
 #include "cache_c.h"
+#include "robust_lock.h"
 
 typedef struct {
-	pthread_mutex_t lock;       /* one call of the cache at a time */
-	pthread_mutex_t entry_lock; /* one callback of apcu_entry at a time */
+	robust_lock lock;           /* one call of the cache at a time */
+	robust_lock entry_lock;     /* one callback of apcu_entry at a time */
 	volatile bool is_made;      /* there is a cache */
 	volatile bool is_busy;      /* a call that may change it is under way */
 	uint64_t remade;            /* how often a process died in such a call, and the cache was made anew */
