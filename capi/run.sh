@@ -1,8 +1,8 @@
 #!/usr/bin/env bash
 # Compiles the programs of this folder over the library for C, runs each in bounded time, and judges what it prints:
-# `test` calls each export, `forked` has eight processes that count to a million and 300 that are killed, `deaths` kills
-# one behind instruction after instruction, `locks` the same at the lock alone, and `full` fills 2 GB of words and reads
-# them back. The last line is 'N passed, N failed'; what this machine or this library can't do is skipped and said.
+# `test` makes each call, with each null too, `forked` has eight processes that count to a million and 300 that are
+# killed, `deaths` kills one behind instruction after instruction, `locks` the same at the lock alone, and `full` fills
+# 2 GB of words and reads them back. The last line is 'N passed, N failed'; what this machine or this library can't do is skipped and said.
 # Usage: capi/run.sh [--quick]; --quick leaves out the 2 GB and `locks`. CACHE_C_LIB=FILE in the environment is the
 # library; else ../prove proves and builds it.
 set -eu -o pipefail

@@ -258,8 +258,10 @@ final class Calls
     {
         $this->classes = [];
         $value = $this->part();
-        // What was read before the part that can't be is freed at once here, and by APCu when the request ends.
-        return isset($this->classes[Unreadable::class], $this->classes[Ended::class]) ? $this->scalar() : $value;
+        // What was read before the part that can't be is freed at once here, and by APCu when the request ends. Old can't
+        // be read where an exception is on its way, as that of another key of the same list.
+        $is_unreadable = isset($this->classes[Unreadable::class]) || isset($this->classes[Old::class]);
+        return $is_unreadable && isset($this->classes[Ended::class]) ? $this->scalar() : $value;
     }
 
     private function part(int $depth = 0): mixed

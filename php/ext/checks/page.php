@@ -7,12 +7,13 @@
 declare(strict_types=1);
 
 [, $address, $file] = $argv;
-[$wrong, $skeleton] = [0, ''];
+[$views, $wrong, $skeleton] = [0, 0, ''];
 
 /** A view's text; what has to stand in it, and what may not. */
 function view(string $name, string $query, array $has = [], array $lacks = []): string
 {
-    global $address, $wrong, $skeleton;
+    global $address, $views, $wrong, $skeleton;
+    $views++;
     $context = stream_context_create(['http' => ['ignore_errors' => true, 'timeout' => 10]]);
     $text = (string) @file_get_contents("http://$address/$query", false, $context);
     $faults = [];
@@ -71,5 +72,5 @@ view('all rows go', 'apc.php?OB=2&COUNT=0&CC=1', [], ['user:1', 'counter']);
 view('host of nothing', 'apc.php?OB=1', ['General Cache Information', 'Memory Usage']);
 view('pictures of nothing', 'apc.php?IMG=3');
 file_put_contents($file, $skeleton);
-echo $wrong === 0 ? "all views are good\n" : "$wrong views are not\n";
+echo "$views views: ", $wrong === 0 ? 'all are good' : "$wrong are not", "\n";
 exit(min($wrong, 1));
