@@ -252,7 +252,7 @@ def trial(folder, about, tried):
         return None
     new = sum(change_of(path, open(path, encoding="utf-8").read()) not in then for path in paths)
     return (f"- {about}: {len(paths)}. The last recorded run of all, at commit `{commit}` ({date}), had {len(then)}, "
-            f"each refused. Of today's {new} are new or changed since, and so are sources.\n")
+            f"each refused. New or changed since: {new or 'none'}.\n")
 
 
 def coverage(tables, edits, tried, old):
