@@ -69,6 +69,7 @@ static PHP_MINIT_FUNCTION(apcu)
 	bool is_cli = strcmp(sapi_module.name, "cli") == 0;
 
 	apcu_settings_start(type, module_number);
+	apcu_info_start();
 	if (APCU_G(enabled) && (APCU_G(enable_cli) || !is_cli)) {
 		apcu_serializers_start(module_number);
 		start_cache();

@@ -2,6 +2,37 @@
 
 #include "ext/standard/info.h"
 
+/* The names of what is told of a row. They stay for as long as the module does, so no call makes them. */
+enum { HITS, NUM_HITS, ACCESS_TIME, MTIME, CREATION_TIME, DELETION_TIME, TTL, REFS, REF_COUNT, MEM_SIZE, NAMES };
+static zend_string *names[NAMES];
+
+void apcu_info_start(void)
+{
+	static const char *const texts[NAMES] = {"hits", "num_hits", "access_time", "mtime", "creation_time",
+		"deletion_time", "ttl", "refs", "ref_count", "mem_size"};
+
+	for (int i = 0; i < NAMES; i++) {
+		names[i] = zend_string_init_interned(texts[i], strlen(texts[i]), true);
+	}
+}
+
+/* In an array that has no such name yet. */
+static void tell_long(zval *told, int name, zend_long value)
+{
+	zval number;
+
+	ZVAL_LONG(&number, value);
+	zend_hash_add_new(Z_ARRVAL_P(told), names[name], &number);
+}
+
+static void tell_double(zval *told, int name, double value)
+{
+	zval number;
+
+	ZVAL_DOUBLE(&number, value);
+	zend_hash_add_new(Z_ARRVAL_P(told), names[name], &number);
+}
+
 void apcu_rows_start(apcu_rows *list, size_t room, size_t size)
 {
 	/* The library wants memory that was written before. */
@@ -97,14 +128,14 @@ static void add_rows(zval *info, const apcu_rows *list)
 
 		array_init_size(&told, 9);
 		add_assoc_stringl(&told, "info", key, row->key_len);
-		add_assoc_long(&told, "ttl", row->ttl);
-		add_assoc_double(&told, "num_hits", (double) row->hits);
-		add_assoc_long(&told, "mtime", (zend_long) row->mtime);
-		add_assoc_long(&told, "creation_time", (zend_long) row->ctime);
-		add_assoc_long(&told, "deletion_time", (zend_long) row->dtime);
-		add_assoc_long(&told, "access_time", (zend_long) row->atime);
-		add_assoc_long(&told, "ref_count", 0);
-		add_assoc_long(&told, "mem_size", (zend_long) row->size * 8);
+		tell_long(&told, TTL, row->ttl);
+		tell_double(&told, NUM_HITS, (double) row->hits);
+		tell_long(&told, MTIME, (zend_long) row->mtime);
+		tell_long(&told, CREATION_TIME, (zend_long) row->ctime);
+		tell_long(&told, DELETION_TIME, (zend_long) row->dtime);
+		tell_long(&told, ACCESS_TIME, (zend_long) row->atime);
+		tell_long(&told, REF_COUNT, 0);
+		tell_long(&told, MEM_SIZE, (zend_long) row->size * 8);
 		add_next_index_zval(&rows, &told);
 
 		count = zend_hash_index_find(Z_ARRVAL(slots), row->slot);
@@ -185,13 +216,13 @@ PHP_FUNCTION(apcu_key_info)
 		RETURN_NULL();
 	}
 	array_init_size(return_value, 7);
-	add_assoc_long(return_value, "hits", (zend_long) row.hits);
-	add_assoc_long(return_value, "access_time", (zend_long) row.atime);
-	add_assoc_long(return_value, "mtime", (zend_long) row.mtime);
-	add_assoc_long(return_value, "creation_time", (zend_long) row.ctime);
-	add_assoc_long(return_value, "deletion_time", (zend_long) row.dtime);
-	add_assoc_long(return_value, "ttl", row.ttl);
-	add_assoc_long(return_value, "refs", 0);
+	tell_long(return_value, HITS, (zend_long) row.hits);
+	tell_long(return_value, ACCESS_TIME, (zend_long) row.atime);
+	tell_long(return_value, MTIME, (zend_long) row.mtime);
+	tell_long(return_value, CREATION_TIME, (zend_long) row.ctime);
+	tell_long(return_value, DELETION_TIME, (zend_long) row.dtime);
+	tell_long(return_value, TTL, row.ttl);
+	tell_long(return_value, REFS, 0);
 }
 
 /* All gaps at one moment. The counts tell how many words are free, so there are never more gaps than

@@ -127,6 +127,9 @@ bool apcu_iterator_delete(zval *object);
 
 /* info.c */
 
+/* Makes the names of what is told of a row, once, when PHP starts. */
+void apcu_info_start(void);
+
 /* Rows that were listed under the lock, and the bytes of their keys one after another. */
 typedef struct {
 	cache_row *rows;
