@@ -1,7 +1,7 @@
 #!/usr/bin/env bash
 # Makes a Debian package of the extension and prints its name: apcu.so, its settings' file, which is switched on, the
-# program apcu_run where it was built, and the pages. It takes the place of php-apcu, and needs no toolchain where it is
-# installed: apt-get install ./NAME.deb
+# program apcu_run where it was built, what records and judges (php/), and the pages. It takes the place of php-apcu, and
+# needs no toolchain where it is installed: apt-get install ./NAME.deb
 # Usage: php/ext/package.sh [SO [FOLDER]]: the extension is modules/apcu.so without SO, which build.sh leaves, and the
 # package comes into FOLDER, or else into modules/. It needs dpkg-deb, php-dev and objdump (binutils). DEBFULLNAME and
 # DEBEMAIL in the environment name its maintainer.
@@ -39,8 +39,12 @@ printf 'extension=apcu.so\n' >"$root/etc/php/$php/mods-available/apcu.ini"
 install -d "$root/usr/share/doc/$name/docs"
 cp "$top/README.md" "$root/usr/share/doc/$name/"
 cp "$top"/docs/*.md "$root/usr/share/doc/$name/docs/"
+install -d "$root/usr/share/$name/php"
+cp -R "$top"/php/*.php "$top/php/events" "$top/php/record" "$top/php/report" "$root/usr/share/$name/php/"
 if [ -x "$top/crates/apcu_run/out/apcu_run" ]; then
     install -D -m 755 "$top/crates/apcu_run/out/apcu_run" "$root/usr/bin/apcu_run"
+    # Where judge.php and report.php look for it.
+    ln -s /usr/bin/apcu_run "$root/usr/share/$name/apcu_run"
     programs+=("$root/usr/bin/apcu_run")
 else
     echo "package.sh: apcu_run was not built, and is left out" >&2
