@@ -95,6 +95,17 @@ impl Segment for LateWords {
         self.written.push_reserved(w);
     }
 
+    fn store_eight(&mut self, i: u32, eight: &[u64; 8]) {
+        let at = i as usize;
+        if at + 8 <= self.written.len() {
+            self.written[at..at + 8].copy_from_slice(eight);
+            return;
+        }
+        'words: for k in 0..8 {
+            self.store(i + k, eight[k as usize]);
+        }
+    }
+
     fn mask(&self) -> u64 {
         0
     }
