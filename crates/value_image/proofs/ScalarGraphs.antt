@@ -1,4 +1,4 @@
--- A graph that begins with null, a truth value or an integer.
+-- A graph that begins with null, a truth value, an integer or a byte string.
 use Rattle.std.proofs.Common.{◌≡◌, ℕ, zero, suc, ◌+◌, ◌<◌, ◌≤◌, ◌^◌, List, [], ◌∷◌, length, slice_get, slice_index, Some, refl, ap, sym, subst, arith}
 use Rattle.php_graph.specs.declared.child.Child.{Child}
 use Rattle.php_graph.specs.declared.child.Child.TheVariants.{Own}
@@ -66,3 +66,34 @@ pub first-read : (row : List ℕ) (old : Aside) (at len tag : ℕ) (g : List Kin
 first-read row old at len tag g row' new image short told word er ea =
     let step = walk-first row old at len g image short told in
     (step.0, step.1, rw (er, ea) step.2, rw er (word (kind-there row old.windows at (renumbered_kind (offset_of g) step.0) step.2).1))
+
+text-is : (f : ℕ → ℕ) (kind : Kind) (bytes : List ℕ) → renumbered_kind f kind ≡ kinds.Str bytes → (kind ≡ kinds.Str bytes) × (children_of kind ≡ [])
+text-is f kinds.Null bytes h = cc
+text-is f (kinds.Bool b) bytes h = cc
+text-is f (kinds.Int n) bytes h = cc
+text-is f (kinds.Str bs) bytes h = (h, refl)
+text-is f (kinds.Array ms) bytes h = cc
+text-is f (kinds.Object class ps) bytes h = cc
+text-is f (kinds.Same x) bytes h = cc
+
+-- a graph that begins with a byte string is that place alone
+pub alone-text : (f : ℕ → ℕ) (g : List Kind) (kind : Kind) (bytes : List ℕ) → IsGraph g → slice_get g 0 ≡ Some kind → renumbered_kind f kind ≡ kinds.Str bytes → g ≡ kinds.Str bytes ∷ []
+alone-text f [] kind bytes graph get h = cc
+alone-text f (x ∷ xs) kind bytes graph get h =
+    let same : x ≡ kind = cc in
+    let is = text-is f kind bytes h in
+    let none : children_of x ≡ [] = subst (λ (k : Kind). children_of k ≡ []) (sym same) is.1 in
+    let first : x ≡ kinds.Str bytes = cc in
+    let rest : xs ≡ [] = one-place x xs graph none in
+    rw (first, rest) refl
+
+-- the graph as it is kept
+pub kept-text : (f : ℕ → ℕ) (len words : ℕ) (g : List Kind) (kind : Kind) (bytes read : List ℕ) (none : List Place) → IsGraph g → len ≡ image_length g → len < 2 ^ 32 → words ≡ len
+    → slice_get g 0 ≡ Some kind → renumbered_kind f kind ≡ kinds.Str bytes → read ≡ bytes → none ≡ [] → IsKept (kinds.Str read ∷ kinds_at none) (0 ∷ offsets_at none) words
+kept-text f len words g kind bytes read none graph long short ew get h er en =
+    let is = alone-text f g kind bytes graph get h in
+    let there : IsGraph (kinds.Str bytes ∷ []) = subst IsGraph is graph in
+    let long' : len ≡ image_length (kinds.Str bytes ∷ []) = subst (λ (ks : List Kind). len ≡ image_length ks) is long in
+    let done : IsKept (kinds.Str bytes ∷ []) (0 ∷ []) words = kept (kinds.Str bytes ∷ []) (0 ∷ []) words len (kinds.Str bytes ∷ []) there refl refl ew long' short in
+    subst (λ (bs : List ℕ). IsKept (kinds.Str bs ∷ kinds_at none) (0 ∷ offsets_at none) words) (sym er)
+    (subst (λ (ps : List Place). IsKept (kinds.Str bytes ∷ kinds_at ps) (0 ∷ offsets_at ps) words) (sym en) done)

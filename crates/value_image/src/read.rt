@@ -122,6 +122,7 @@ fn read_places<W: WordsIn>(
 }
 
 /// The graph whose image the `len` words from place `at` on are. It fails only for want of memory.
+/// A value of one place, as a string, is answered at once.
 pub fn unpersist<W: WordsIn>(
     alloc: Global,
     from: &mut W,
@@ -138,6 +139,11 @@ pub fn unpersist<W: WordsIn>(
     if let Some((scalar, _)) = read_scalar(from, at, tag) {
         let none = Vec::new(alloc);
         return Ok(Graph::from_places(scalar, none, u64::from(len)));
+    }
+    if tag % 8 == STR {
+        let (bytes, _) = read_text(alloc, from, at, tag)?;
+        let none = Vec::new(alloc);
+        return Ok(Graph::from_places(Kind::Str(bytes), none, u64::from(len)));
     }
     let (mut first, mut others) = read_places(alloc, from, at, len)?;
     number(alloc, &mut first, &mut others, len)?;
