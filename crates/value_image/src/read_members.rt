@@ -13,13 +13,16 @@ ghost use Rattle.value_image.specs.Image.{child_word};
 ghost use Rattle.value_image.specs.Reading.{itself, IsStringAt, IsKeyAt, IsMemberAt, IsPropertyAt};
 ghost use Rattle.value_image.specs.Reading.{AreMembersAt, ArePropertiesAt};
 
-use crate::bytes::bytes_at;
+use crate::bytes::{bytes_at, get_bytes};
 use crate::write_members::INT;
 use php_graph::{Bytes, Child, Key, Members, Props};
 use seg_words::{WordsIn, words_in};
 use std::alloc::{AllocError, Global};
 
-// So many bytes of the words from place `at` on.
+// The most bytes that a string holds without a block of memory.
+const SHORT: usize = 14;
+
+// So many bytes of the words from place `at` on. No block is taken for a string that needs none.
 fn read_bytes<W: WordsIn>(
     alloc: Global,
     from: &mut W,
@@ -32,6 +35,12 @@ fn read_bytes<W: WordsIn>(
         bytes ≡ take len (bytes_of (drop at (W.words from.old)))) }
     ensures kept { Kept W.WordsIn from.old from.new }
 {
+    let count = len as usize;
+    if count <= SHORT {
+        let mut bytes = [0; SHORT];
+        get_bytes(from, at, &mut bytes[..count]);
+        return Bytes::of(alloc, &bytes[..count]);
+    }
     let bytes = bytes_at(alloc, from, at, len)?;
     Ok(Bytes::from_vec(bytes))
 }
