@@ -45,9 +45,9 @@ fn last_word(bytes: &[u8]) -> u64
     LittleEndian::read_u64(&bytes[bytes.len() - 8..]) >> (64 - 8 * left)
 }
 
-/// Fills the buffer with the bytes of the words from place `at` on. It takes no memory. Each word is
-/// loaded once, eight at a time while there are eight, so that they are written without a look at
-/// where the words are in between.
+/// Fills the buffer with the bytes of the words from place `at` on. It takes no memory. Each word
+/// is loaded once, eight at a time while there are eight, so that they are written without a look
+/// at where the words are in between.
 pub fn get_bytes<W: WordsIn>(from: &mut W, at: u32, out: &mut [u8])
     requires inside { at + words_in (length out.old) ≤ length (W.words from.old) }
     requires told { (i : ℕ) → at ≤ i → i < at + words_in (length out.old)
