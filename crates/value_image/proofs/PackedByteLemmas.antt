@@ -4,7 +4,7 @@ use Rattle.std.proofs.Math.Seq.{take-append-add, take-add}
 use Rattle.std.proofs.lemmas.Bool.{cases_lt}
 use Rattle.std.proofs.lemmas.Nat.{le_bytes_8, div-mul-add}
 use Rattle.std.proofs.Math.Nat.{mul_assoc, mul_comm}
-use Rattle.std.proofs.lemmas.List.{take-append-le, take_at, take_all, take_more, take-append-drop, get_or_past, get_or-drop, get_or-take, ext_get_or, drop_all, append-nil, length-drop, length-take, length-take-le, length-replicate}
+use Rattle.std.proofs.lemmas.List.{take-append-le, take_at, take_all, take_more, take-append-drop, get_or_past, get_or-drop, get_or-take, ext_get_or, drop_all, append-nil, length-drop, length-take, length-take-le, length-replicate, drop-take, drop-drop}
 use Rattle.std.proofs.lemmas.List.FromFn.{get_or-map-range_with_len, length-map-range_with_len}
 use Rattle.std.proofs.lemmas.Grind.{flat_map-append}
 use Rattle.std.specs.Int.{w64, from_le_bytes}
@@ -16,7 +16,7 @@ use Rattle.php_graph.specs.ByteStrings.{AreBytes}
 use Rattle.seg_words.specs.Layout.{words_in}
 use Rattle.value_image.specs.PackedBytes.{bytes_of, words_of, word_at}
 use Rattle.value_image.specs.Rows.{written}
-use Rattle.value_image.proofs.Runs.{written-append}
+use Rattle.value_image.proofs.Runs.{written-append, written-then, written-is, length-written}
 use Rattle.value_image.proofs.Digits.{little-filled, bytes-bits, take-inner}
 
 -- ---- words of bytes
@@ -38,12 +38,6 @@ little-short : (i n k : ℕ) (xs : List ℕ) → n ≤ k → length xs ≤ i + n
 little-short i zero k xs le h = little-past i k xs (omega arith)
 little-short i (suc n) zero xs le h = absurd (omega arith)
 little-short i (suc n) (suc k) xs le h = omega (arith, little-short (suc i) n k xs (omega arith) (omega arith))
-
--- the word that is filled with zeros
-pub word_at-last : (bs : List ℕ) (full left x : ℕ) → full ≡ length bs / 8 → left ≡ length bs % 8 → x ≡ little_number left (drop (8 * full) bs) → x ≡ word_at bs full
-word_at-last bs full left x ef el e =
-    let len = length-drop (8 * full) bs in
-    e ∙ sym (little-short 0 left 8 (drop (8 * full) bs) (omega arith) (omega (arith, len)))
 
 -- a number is its lowest k bytes and those above them
 little-split : (k i m : ℕ) (xs : List ℕ) → little_from i (k + m) xs ≡ 256 ^ k * little_from (i + k) m xs + little_from i k xs
@@ -98,6 +92,41 @@ written-more row at bs i x lt e =
     ap₂ (λ (k y : ℕ). slice_set (written row at (take i (words_of bs))) k y) (ap (λ (k : ℕ). at + k) (sym front)) word
     ∙ (sym (written-append row at (take i (words_of bs)) (get_or (words_of bs) i 0 ∷ []))
     ∙ ap (λ (run : List ℕ). written row at run) (sym (take_more (words_of bs) i 0 (omega (arith, len)))))
+
+-- the row with eight words more of a byte string: its 64 bytes are src
+pub written-eight : (row : List ℕ) (at : ℕ) (bs eight row' : List ℕ) (i n : ℕ) → n ≡ 64 → 64 * i + 64 ≤ length bs → at + words_in (length bs) ≤ length row → length eight ≡ 8
+    → ((k : ℕ) → k < 8 → slice_index eight k ≡ little_number 8 (drop (8 * k) (take n (drop (64 * i) bs))))
+    → row' ≡ take (at + 8 * i) (written row at (take (8 * i) (words_of bs))) ++ (eight ++ drop (at + 8 * i + 8) (written row at (take (8 * i) (words_of bs))))
+    → row' ≡ written row at (take (8 * (i + 1)) (words_of bs))
+written-eight row at bs eight row' i n en room inside size each e =
+    let ws = words_of bs in
+    let len = length-words_of bs in
+    let old = written row at (take (8 * i) ws) in
+    let long : length old ≡ length row = length-written row at (take (8 * i) ws) in
+    let front : length (take (8 * i) ws) ≡ 8 * i = length-take-le (8 * i) ws (omega (arith, len)) in
+    let past = length-drop (8 * i) ws in
+    let most : length (take 8 (drop (8 * i) ws)) ≡ 8 = length-take-le 8 (drop (8 * i) ws) (omega (arith, past, len)) in
+    let word : (k : ℕ) → k < 8 → slice_index eight k ≡ get_or ws (8 * i + k) 0 =
+    (λ k lt.
+    let place : 8 * k + (n - 8 * k) ≡ n = omega (arith, lt, en) in
+    let start : 64 * i + 8 * k ≡ 8 * (8 * i + k) = omega arith in
+    each k lt
+    ∙ ap (λ (m : ℕ). little_number 8 (drop (8 * k) (take m (drop (64 * i) bs)))) (sym place)
+    ∙ ap (little_number 8) (drop-take (8 * k) (n - 8 * k) (drop (64 * i) bs))
+    ∙ little_from-take 0 8 (n - 8 * k) (drop (8 * k) (drop (64 * i) bs)) (omega (arith, lt, en))
+    ∙ ap (little_number 8) (drop-drop (8 * k) (64 * i) bs ∙ ap (λ (n : ℕ). drop n bs) (omega arith))
+    ∙ sym (get_or-words_of bs (8 * i + k) (omega (arith, lt)))) in
+    let same : eight ≡ take 8 (drop (8 * i) ws) = ext_get_or 0 eight (take 8 (drop (8 * i) ws)) (size ∙ sym most)
+    (λ k lt. word k (omega (arith, lt, size)) ∙ sym (get_or-take 8 (drop (8 * i) ws) k 0 (omega (arith, lt, size)) ∙ get_or-drop (8 * i) ws k 0)) in
+    let next : 8 * i + 8 ≡ 8 * (i + 1) = omega arith in
+    let behind : drop (at + 8 * i + 8) old ≡ drop (length eight) (drop (at + 8 * i) old) =
+    sym (drop-drop (length eight) (at + 8 * i) old ∙ ap (λ (k : ℕ). drop k old) (omega (arith, size))) in
+    e
+    ∙ ap (λ (r : List ℕ). take (at + 8 * i) old ++ (eight ++ r)) behind
+    ∙ sym (written-is old (at + 8 * i) eight (omega (arith, long, size, inside)))
+    ∙ written-then row at (take (8 * i) ws) eight (at + 8 * i) (omega (arith, front))
+    ∙ ap (λ (run : List ℕ). written row at (take (8 * i) ws ++ run)) same
+    ∙ ap (λ (run : List ℕ). written row at run) (sym (take-add (8 * i) 8 ws) ∙ ap (λ (j : ℕ). take j ws) next)
 
 pub written-all : (row : List ℕ) (at : ℕ) (bs : List ℕ) (i : ℕ) → words_in (length bs) ≤ i → written row at (take i (words_of bs)) ≡ written row at (words_of bs)
 written-all row at bs i le =

@@ -1,8 +1,8 @@
 -- Runs of words that are written into a row, or stand in it.
-use Rattle.std.proofs.Common.{◌≡◌, ◌≢◌, ◌⊎◌, ℕ, ◌+◌, ◌-◌, ◌/◌, ◌<◌, ◌≤◌, List, [], ◌∷◌, ◌++◌, length, slice_set, slice_index, take, drop, get_or, refl, ap, ap₂, sym, ◌∙◌, subst, arith, add-zero, length-append}
+use Rattle.std.proofs.Common.{◌≡◌, ◌≢◌, ℕ, ◌+◌, ◌-◌, ◌<◌, ◌≤◌, List, [], ◌∷◌, ◌++◌, length, slice_set, slice_index, take, drop, get_or, refl, ap, ap₂, sym, ◌∙◌, arith, add-zero, length-append}
 use Rattle.std.proofs.lemmas.List.{length-set, get_or-set_other, take-append-drop, take_more_set, drop-set-lt, drop-drop, append_assoc, take_at, drop_at, length-take, length-take-le, length-drop, get_or-drop, get_or-take, take-take, drop-take}
 use Rattle.seg_words.specs.Windows.{Aside}
-use Rattle.seg_words.specs.Blocks.{IsApart, MayStore, image_place, image_end}
+use Rattle.seg_words.specs.Blocks.{MayStore, may_store_set}
 use Rattle.value_image.specs.Rows.{written, MayWrite, StandsAt, IsToldAt}
 
 -- ---- what was written
@@ -47,24 +47,6 @@ stands-written row at run le =
 
 -- ---- what may still be written
 
-apart-set : (row : List ℕ) (at j i w : ℕ) → IsApart row at j → IsApart row at i → IsApart (slice_set row j w) at i
-apart-set row at j i w hj hi =
-    let ne2 : at + 2 ≢ j = λ e. hj.key_length (sym e) in
-    let ne3 : at + 3 ≢ j = λ e. hj.image_length (sym e) in
-    let two : slice_index (slice_set row j w) (at + 2) ≡ slice_index row (at + 2) = get_or-set_other row j (at + 2) w 0 ne2 in
-    let three : slice_index (slice_set row j w) (at + 3) ≡ slice_index row (at + 3) = get_or-set_other row j (at + 3) w 0 ne3 in
-    let place : image_place (slice_set row j w) at ≡ image_place row at = ap (λ (n : ℕ). at + 12 + (n + 7) / 8) two in
-    let past : image_end (slice_set row j w) at ≡ image_end row at = ap₂ (λ (a b : ℕ). a + b) place three in
-    record {
-      key_length = hi.key_length;
-      image_length = hi.image_length;
-      pin_count = hi.pin_count;
-      image = subst (λ (p : ℕ). (i < p) ⊎ (image_end (slice_set row j w) at ≤ i)) (sym place) (subst (λ (p : ℕ). (i < image_place row at) ⊎ (p ≤ i)) (sym past) hi.image);
-    }
-
-pub may_store-set : (row windows : List ℕ) (j i w : ℕ) → MayStore row windows j → MayStore row windows i → MayStore (slice_set row j w) windows i
-may_store-set row windows j i w hj hi = λ at named. apart-set row at j i w (hj at named) (hi at named)
-
 -- behind a run that was written the rest may still be
 pub may_write-after : (row windows : List ℕ) (at n : ℕ) (run : List ℕ) (b m : ℕ) → MayWrite row windows at n → b ≡ at + length run → length run + m ≤ n → MayWrite (written row at run) windows b m
 may_write-after row windows at n [] b m h e le = record {
@@ -75,7 +57,7 @@ may_write-after row windows at n (w ∷ run) b m h e le =
     let same = length-set row at w in
     let next : MayWrite (slice_set row at w) windows (at + 1) (n - 1) = record {
       inside = omega (arith, same, h.inside);
-      apart = λ i low high. may_store-set row windows at i w (h.apart at (omega arith) (omega arith)) (h.apart i (omega arith) (omega arith));
+      apart = λ i low high. may_store_set row windows at i w (h.apart at (omega arith) (omega arith)) (h.apart i (omega arith) (omega arith));
     } in
     may_write-after (slice_set row at w) windows (at + 1) (n - 1) run b m next (omega arith) (omega arith)
 
@@ -165,6 +147,6 @@ may_store-written row windows at (w ∷ run) i h hi =
     let same = length-set row at w in
     let next : MayWrite (slice_set row at w) windows (at + 1) (length run) = record {
       inside = omega (arith, same, h.inside);
-      apart = λ j low high. may_store-set row windows at j w (h.apart at (omega arith) (omega arith)) (h.apart j (omega arith) (omega arith));
+      apart = λ j low high. may_store_set row windows at j w (h.apart at (omega arith) (omega arith)) (h.apart j (omega arith) (omega arith));
     } in
-    may_store-written (slice_set row at w) windows (at + 1) run i next (may_store-set row windows at i w (h.apart at (omega arith) (omega arith)) hi)
+    may_store-written (slice_set row at w) windows (at + 1) run i next (may_store_set row windows at i w (h.apart at (omega arith) (omega arith)) hi)

@@ -1,8 +1,8 @@
 //! Byte strings as words.
 
-ghost use Rattle.std.specs.Prelude.{◌≡◌, ◌+◌, ◌/◌, ◌%◌, ℕ, ◌≤◌, ◌<◌, ◌++◌, length, take, drop};
+ghost use Rattle.std.specs.Prelude.{◌≡◌, ◌+◌, ◌/◌, ◌%◌, ◌^◌, ℕ, ◌≤◌, ◌<◌, ◌++◌, length, take, drop};
 ghost use Rattle.std.specs.Prelude.{vec_len, vec_capacity, IfOk};
-ghost use Rattle.byteorder.specs.Endian.{little_bytes};
+ghost use Rattle.byteorder.specs.Endian.{little_bytes, little_number};
 ghost use Rattle.seg_words.specs.Kept.{Kept, KeptBeside};
 ghost use Rattle.seg_words.specs.Layout.{words_in};
 ghost use Rattle.seg_words.specs.Blocks.{IsTold};
@@ -14,7 +14,7 @@ use seg_words::{Segment, WordsIn};
 use std::alloc::{AllocError, Global};
 
 /// Writes the bytes from place `at` on, eight a word, the last word filled with zeros. It takes no
-/// memory.
+/// memory. While there are eight words, eight are stored at once.
 pub fn put_bytes<S: Segment>(seg: &mut S, at: u32, bytes: &[u8])
     requires { MayWrite (S.words seg.old) (S.aside seg.old).windows at
         (words_in (length bytes.now)) }
@@ -22,27 +22,67 @@ pub fn put_bytes<S: Segment>(seg: &mut S, at: u32, bytes: &[u8])
     ensures beside { KeptBeside S.WordsIn seg.old seg.new }
 {
     let full = bytes.len() / 8;
-    for i in 0..full {
+    'eights: for i in 0..full / 8 {
+        let mut eight = [0; 8];
+        LittleEndian::read_u64_into(&bytes[64 * i..64 * i + 64], &mut eight);
+        seg.store_eight(at + 8 * i as u32, &eight);
+    }
+    'words: for i in full / 8 * 8..full {
         seg.store(at + i as u32, LittleEndian::read_u64(&bytes[8 * i..]));
     }
-    let left = bytes.len() % 8;
-    if left != 0 {
-        let last = last_word(bytes);
+    if bytes.len() % 8 != 0 {
+        let last = byte_word(bytes, full as u32);
         seg.store(at + full as u32, last);
     }
 }
 
-// The word of the bytes behind all whole words. Where there is a whole word, the last eight bytes
-// are read at once and those before shifted out, which is quicker than to gather so few bytes.
-fn last_word(bytes: &[u8]) -> u64
-    requires { 0 < length bytes.now % 8 }
-    ensures { result ≡ word_at bytes.now (length bytes.now / 8) }
+// The number of up to three bytes, the first lowest.
+fn few_bytes(bytes: &[u8]) -> u64
+    requires { length bytes.now < 4 }
+    ensures number { result ≡ little_number 4 bytes.now }
+    ensures small { result < 2 ^ 24 }
 {
-    let left = bytes.len() % 8;
-    if bytes.len() < 8 {
-        return LittleEndian::read_uint(bytes, left);
+    if bytes.is_empty() {
+        return 0;
     }
-    LittleEndian::read_u64(&bytes[bytes.len() - 8..]) >> (64 - 8 * left)
+    if bytes.len() == 1 {
+        return u64::from(bytes[0]);
+    }
+    let low = u64::from(LittleEndian::read_u16(bytes));
+    if bytes.len() == 2 {
+        return low;
+    }
+    low + u64::from(bytes[2]) * 0x1_0000
+}
+
+// The word of fewer than eight bytes. To gather them into eight bytes first takes longer than to
+// read four of them, two and one.
+fn short_word(bytes: &[u8]) -> u64
+    requires { length bytes.now < 8 }
+    ensures { result ≡ little_number 8 bytes.now }
+{
+    if bytes.len() < 4 {
+        return few_bytes(bytes);
+    }
+    let low = u64::from(LittleEndian::read_u32(bytes));
+    low + few_bytes(&bytes[4..]) * 0x1_0000_0000
+}
+
+/// The word of the eight bytes from byte `8 * i` on, the first byte lowest; past the end they are
+/// 0. Where fewer are left, the last eight of all bytes are read at once, and those before shifted
+/// out.
+pub fn byte_word(bytes: &[u8], i: u32) -> u64
+    requires { i < words_in (length bytes.now) }
+    ensures { result ≡ word_at bytes.now i }
+{
+    let rest = &bytes[8 * i as usize..];
+    if rest.len() >= 8 {
+        return LittleEndian::read_u64(rest);
+    }
+    if bytes.len() < 8 {
+        return short_word(rest);
+    }
+    LittleEndian::read_u64(&bytes[bytes.len() - 8..]) >> (64 - 8 * rest.len())
 }
 
 /// Fills the buffer with the bytes of the words from place `at` on. It takes no memory. Each word

@@ -11,7 +11,7 @@ mod text;
 mod write;
 mod write_members;
 
-pub use bytes::{get_bytes, put_bytes};
+pub use bytes::{byte_word, get_bytes, put_bytes};
 pub use contents::{Content, content_block_words, content_words, persist_content, text_content};
 pub use laws::{bytes_are_packed, images_are_runs, images_differ, runs_are_written, runs_stand};
 pub use read::unpersist;
