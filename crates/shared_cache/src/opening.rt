@@ -167,7 +167,7 @@ impl Fresh {
     ///     ghosts-f g a = record { table = a.fresh.table; conf = a.fresh.conf;
     ///         budgets = a.fresh.budgets }
     ///
-    /// `two_at_once`, in the tests of this crate, is such a function, and `meet` its caller.
+    /// `both_work`, in `shared_tests/src/readme.rt`, is such a function, and a test its caller.
     pub fn name<N: TableName>(self) -> (Shared<N>, Passes, EndedList)
         requires table { N.table ≡ self.table }
         requires conf { N.conf ≡ self.conf }

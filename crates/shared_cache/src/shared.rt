@@ -276,8 +276,8 @@ impl<N: TableName> Shared<N> {
         written
     }
 
-    /// Ends a worker: its last event, at the moment 0. Each worker has to end, or the cache is never
-    /// closed.
+    /// Ends a worker: its last event, at the moment 0. Each worker has to end before the cache can
+    /// be closed.
     pub fn retire<R: Wait>(&self, rt: &R, pass: Pass) -> Ended
         requires pass { MayAsk N.table 1 pass }
         ensures { Follows N.conf (length N.budgets) pass result 0 request.Retire reply.Ended }
