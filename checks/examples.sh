@@ -1,5 +1,5 @@
 #!/usr/bin/env bash
-# The commands of examples/README.md print what stands there behind them.
+# The commands of the pages of examples/ print what stands there behind them.
 # Usage: checks/examples.sh [PROGRAM], where PROGRAM is the built apcu_run; it needs php with apcu and pcntl.
 set -eu
 here=$(cd "$(dirname "${BASH_SOURCE[0]}")" && pwd)
@@ -34,7 +34,7 @@ while IFS= read -r line; do
         '') [ -z "$command" ] || wanted+=$'\n' ;;
         *) check ;;
     esac
-done <examples/README.md
+done < <(cat examples/README.md examples/RUST.md)
 check
 [ "$others" = 0 ] || exit 1
-echo "$count commands of examples/README.md print what stands there"
+echo "$count commands of the pages of examples/ print what stands there"

@@ -1,8 +1,8 @@
 #!/usr/bin/env bash
 # That the pages are right: links, and paths of this repository in backquotes, lead to files; CLAIMS, READING, the
-# tables of ARCHITECTURE, and DIFFERENCES with the tests of its cases are what their scripts write; the Rust lines and
-# the clause that README shows are in the sources; the commands of examples/README.md print what it says; and each case
-# of DIFFERENCES prints on both sides what its folder says.
+# tables of ARCHITECTURE, and DIFFERENCES with the tests of its cases are what their scripts write; the clause that
+# README shows is in the sources; the commands of the pages of examples/, which show the programs in Rust, print what
+# they say; and each case of DIFFERENCES prints on both sides what its folder says.
 # Usage: checks/pages.sh [PROGRAM]; it needs php with apcu and pcntl.
 set -u
 program=${1:+$(realpath "$1")}
@@ -51,7 +51,6 @@ for page in claims reading crates differences; do
     bash "docs/$page.sh" --check || others=1
 done
 shown 'ensures replayed' 'K.held out.new)) }$' crates/apcu_play/src/running.rt
-shown 'let conf = ' 'let found = ' crates/cache_tests/src/readme.rt
 bash checks/examples.sh ${program:+"$program"} || others=1
 bash checks/differences.sh ${program:+"$program"} || others=1
 exit $others

@@ -1,8 +1,9 @@
 #!/usr/bin/env bash
 # Writes docs/DIFFERENCES.md: the frame docs/differences/page.md, with a table of the cases A to B of docs/differences/
-# in place of each line `{cases A to B}`. A case that breaks the form, or is in no table, is refused. Writes the tables
-# of crates/apcu_play_tests/src/differences/ too, of the cases that have a case.apcu, for the tests in differences.rt
-# beside them. With --check nothing is written, and a page or a table that is another one is refused.
+# in place of each line `{cases A to B}`. A case that breaks the form, or is in no table, is refused.
+# Writes crates/apcu_play_tests/src/differences/ too, whole, from the files of the cases that have a case.apcu: a test is
+# run where it sees no file of the repository, so differences.rt beside them plays texts in the sources. Nobody edits
+# them: with --check nothing is written, and a page or a table that is not what the cases make is refused.
 # Usage: docs/differences.sh [--check]
 set -eu
 cd "$(dirname "${BASH_SOURCE[0]}")"

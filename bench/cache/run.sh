@@ -8,8 +8,8 @@
 # 10,000 calls or less of several runs of both, without what a loop takes that makes the key alone. Then milliseconds of
 # dropping 100,000 rows that fill a cache: by a clear, and by a store that finds no room while all rows' time is over;
 # and of telling of 10,000 rows, of which each tenth left a gap. At last microseconds of a store of a new row, with a
-# text of 16 to 2,000 bytes, in 32 MB of which four fifths are taken: the median, that of each hundredth and thousandth,
-# and the worst. A round is kept only where the machine is quiet (quiet.sh).
+# text of 16 to 2,000 bytes, in 32 MB of which four fifths are taken: the median, and what one in a hundred, in a
+# thousand and in ten thousand passes. A round is kept only where the machine is quiet (quiet.sh).
 # Usage: bench/cache/run.sh [PROGRAM [RUNS [ROWS..]]], where PROGRAM is the built apcu_bench. SEGMENTS=N in the
 # environment cuts our words into so many segments, and DIVIDE=N makes so many times fewer rows, which tries the script
 # alone.

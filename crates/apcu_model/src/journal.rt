@@ -12,7 +12,8 @@ pub const MOST_EVENTS: u64 = 4_194_304;
 pub struct Mark {
     /// The worker's number, from 0.
     pub worker: u32,
-    /// A bit for each worker whose copy the cache waited for.
+    /// A bit for each worker that was found still copying. Nobody waits for it: its block stays
+    /// taken.
     pub mask: u64,
 }
 

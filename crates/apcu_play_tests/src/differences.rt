@@ -1,4 +1,5 @@
-//! The cases of `docs/differences/`, played: what is printed stands there.
+//! The cases of `docs/differences/`, played: what is printed stands there. A test sees no file, so
+//! `docs/differences.sh` writes their texts into the tables below, whole.
 
 mod journals;
 mod optioned;

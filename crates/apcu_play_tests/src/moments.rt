@@ -56,18 +56,6 @@ fn requests_and_lines(rt: HostRuntime) -> Result<(), Fail> {
             b"worker 0\nb:1;\ni:1;b:1;\nb:0;b:0;\njournal\n0\n0\n0\n0\n",
             b"worker 0\nb:1;\nb:0;b:0;\nb:0;b:0;\njournal\n0\n0\n0\n0\n",
         ),
-        // The script of the page on differences.
-        (
-            b"worker\n\
-            request i:100;\n\
-            apcu_store s:1:\"a\"; i:1; i:1;\n\
-            time i:103;\n\
-            apcu_exists s:1:\"a\";\n\
-            request i:103;\n\
-            apcu_exists s:1:\"a\";\n",
-            b"worker 0\nb:1;\nb:1;\nb:0;\njournal\n0\n0\n0\n0\n",
-            b"worker 0\nb:1;\nb:0;\nb:0;\njournal\n0\n0\n0\n0\n",
-        ),
         // Without a request all is at the second 0.
         (
             b"worker\n\

@@ -15,8 +15,9 @@ use seg_words::{Segment, WordsIn};
 /// The cache over the words of a segment. It keeps what stands beside them: the entries, the shape
 /// and what is counted. No call takes memory.
 ///
-/// Contracts see it as the cache of one thread (`cache_of`), by the blocks that are held as the
-/// call leaves the segment's windows and mask.
+/// Each call is handed the segment in which the cache was formatted. Contracts see the cache of one
+/// thread (`cache_of`), by the blocks that are held as the call leaves the segment's windows and
+/// mask. In a `VecWords`, which has no windows, none ever is.
 pub struct Core {
     pub(crate) slots: EntrySlots,
     pub(crate) conf: Conf,

@@ -22,7 +22,8 @@ pub enum Look {
     Miss,
     /// A live row's value, where it is null, a truth value or an integer.
     Scalar(Scalar),
-    /// The place of a live row's block, where the value is any other.
+    /// The place of a live row's block, where the value is any other. `Core::copy_live` looks the
+    /// key up and copies such a value.
     Hit(u32),
 }
 

@@ -120,8 +120,9 @@ impl Core {
         }
     }
 
-    /// Stores a value as `store` does, after an insertion of the same event that answered `Stored`
-    /// or `NoRoom`: the removed rows that it left are held, and none is swept.
+    /// Stores a value as `store` does, for an event that stores under several keys, as a generator
+    /// does: after an insertion of the same event that answered `Stored` or `NoRoom`. The removed
+    /// rows that it left are held, and none is swept.
     pub fn store_next<S: Segment>(
         &mut self,
         seg: &mut S,

@@ -1,4 +1,4 @@
-//! The lines that README shows.
+//! What examples/RUST.md shows: one thread stores a value and finds it.
 
 ghost use Rattle.std.specs.Prelude.{◌<◌, ◌^◌, length};
 

@@ -69,7 +69,8 @@ pub enum ReadFault {
     Memory,
 }
 
-/// The first fault, and how many bytes are left from where it is.
+/// The first fault, and how many bytes are left from where it is: what reads a part of the bytes
+/// sees none before it, so it can't say a place among all.
 #[derive(Clone, Copy, Debug)]
 pub struct Fault {
     pub reason: Reason,

@@ -25,6 +25,9 @@ use std::alloc::{AllocError, Global};
 /// number k. Where no text of a value starts there, the answer is the first fault from the left,
 /// with the place of its byte. Memory is taken only for bytes that are there. After a fault the
 /// cursor stands where it stood.
+///
+///     let mut from = Cursor::new(b"s:5:\"hello\";");
+///     let value = read_value(alloc, &mut from)?;
 pub fn read_value(alloc: Global, from: &mut Cursor) -> Result<Graph, ReadFault>
     // It is what reading from left to right gives: the value, or the first fault.
     ensures read { IsReading from.old from.new result }

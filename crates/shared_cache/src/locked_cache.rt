@@ -30,7 +30,8 @@ use value_image::images_are_runs;
 /// What a fetch finds.
 #[derive(Drop)]
 pub enum Pinned {
-    /// A value that `Shared::copy_out` copies without the lock. Its block stays until then.
+    /// A value that `Shared::copy_out` or `Shared::copy_text` copies without the lock. Its block
+    /// stays until then.
     Hit(Copying),
     /// Null, a truth value or an integer, which is answered at once.
     Scalar(Pass, Scalar),

@@ -106,8 +106,8 @@ impl Model for Fresh {
 /// each may make, its end included. There are at most 64, and all together at most `MOST_EVENTS`
 /// of `apcu_model`.
 ///
-/// All memory that the cache ever needs is taken here, but for what is copied out of it. It is
-/// handed the runtime as the calls on the cache are, though it waits for nobody.
+/// All memory that the cache ever needs is taken here, but for what is copied out of it. `rt` is
+/// the leave to wait, as `main`'s `HostRuntime` is; nobody is waited for here.
 pub fn open_cache<R: Wait>(
     rt: &R,
     alloc: Global,
@@ -167,7 +167,7 @@ impl Fresh {
     ///     ghosts-f g a = record { table = a.fresh.table; conf = a.fresh.conf;
     ///         budgets = a.fresh.budgets }
     ///
-    /// `two_at_once`, in the tests of this crate, is such a function, and `meet` its caller.
+    /// `both_work`, in `shared_tests/src/readme.rt`, is such a function, and a test its caller.
     pub fn name<N: TableName>(self) -> (Shared<N>, Passes, EndedList)
         requires table { N.table ≡ self.table }
         requires conf { N.conf ≡ self.conf }

@@ -36,8 +36,8 @@ use value_image::unpersist;
 /// Each call of a worker takes the worker's pass, waits for the lock, is one event, and gives the
 /// pass back with one event less left. What it answers is what the cache of one thread answers at
 /// the end of the history that the pass has then seen. But for `retire` each leaves the worker at
-/// least one event for its end, so it asks for two. A key has fewer than 2^32 bytes. A moment may
-/// be any second, also one before that of an earlier call.
+/// least one event for its end, so it asks for two: `Pass::left` says how many there are. A key has
+/// fewer than 2^32 bytes. A moment may be any second, also one before that of an earlier call.
 pub struct Shared<N: TableName> {
     // for the empty list of further places that a new counter's value has
     pub(crate) alloc: Global,
@@ -276,7 +276,8 @@ impl<N: TableName> Shared<N> {
         written
     }
 
-    /// Ends a worker: its last event, at the moment 0.
+    /// Ends a worker: its last event, at the moment 0. Each worker has to end before the cache can
+    /// be closed.
     pub fn retire<R: Wait>(&self, rt: &R, pass: Pass) -> Ended
         requires pass { MayAsk N.table 1 pass }
         ensures { Follows N.conf (length N.budgets) pass result 0 request.Retire reply.Ended }

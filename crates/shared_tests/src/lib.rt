@@ -15,6 +15,8 @@ mod iterators;
 #[cfg(test)]
 mod meeting;
 #[cfg(test)]
+mod readme;
+#[cfg(test)]
 mod steps;
 #[cfg(test)]
 mod texts;

@@ -1,4 +1,8 @@
 //! Value graphs as words, and back.
+//!
+//! The cache writes a value by `persist_content`, and `persist` writes a graph alone. `unpersist`
+//! copies the graph out again, `push_string` the bytes of a string. A place is the number of a word
+//! in the segment.
 #![tactic(auto)]
 
 mod bytes;

@@ -149,9 +149,14 @@ fn times(rt: &HostRuntime, cache: &mut WordCache, most: u32, stores: u32) -> io:
     Ok(times)
 }
 
-/// Measures so many stores, with as many slots as the plan has rows, in the words of 32 MB or of
-/// the plan's rows, and prints the median of their times, that of each hundredth and thousandth,
-/// and the worst.
+// The index of the time that so many of 10,000 don't pass, where the least is first.
+fn index_of(many: usize, part: usize) -> usize {
+    many.saturating_mul(part).div_ceil(10_000).saturating_sub(1)
+}
+
+/// Measures so many stores, with as many slots as the plan has rows, in 64 words a slot, and prints
+/// the median of their times and those that one in a hundred, in a thousand and in ten thousand
+/// pass.
 pub fn measure_churn(rt: &HostRuntime, plan: Plan, stores: u32) -> io::Result<()> {
     let slots = plan.rows.clamp(2, 1_048_576) / 2 * 2;
     let conf = plan.shape(slots.saturating_mul(64), slots, 0);
@@ -162,13 +167,12 @@ pub fn measure_churn(rt: &HostRuntime, plan: Plan, stores: u32) -> io::Result<()
     let most = conf.words.saturating_sub(conf.slots) / 5 * 4;
     let times = times(rt, &mut cache, most, stores)?;
     for (name, part) in [
-        ("median", 500),
-        ("p99", 990),
-        ("p999", 999),
-        ("worst", 1000),
+        ("median", 5_000),
+        ("p99", 9_900),
+        ("p999", 9_990),
+        ("p9999", 9_999),
     ] {
-        let at = times.len().saturating_mul(part) / 1000;
-        let at = at.min(times.len().saturating_sub(1));
+        let at = index_of(times.len(), part);
         let time = times.get(at).copied().unwrap_or(0);
         plan.tell(rt, name, time.saturating_mul(1000), cache.rows())?;
     }
