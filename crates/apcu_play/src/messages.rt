@@ -1,3 +1,5 @@
+//! What is told of a run that was not played to its end: one line.
+
 ghost use Rattle.std.specs.Prelude.{◌≡◌, ◌++◌};
 ghost use Rattle.std.specs.Fmt.{decimal};
 ghost use Rattle.apcu_play.specs.Message.{message_of, reason_text, script_message, bundle_message};

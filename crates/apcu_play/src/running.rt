@@ -1,3 +1,5 @@
+//! One run of the program, from its words to its status.
+
 ghost use Rattle.std.specs.Prelude.{◌≡◌, ◌≢◌, ◌+◌, ◌<◌, ◌≤◌, length, None, IfSome};
 ghost use Rattle.io_edges.specs.Faults.{Rose};
 ghost use Rattle.io_edges.specs.Reading.{HasTaken, HasTakenWithin};
@@ -93,8 +95,8 @@ fn outcome<R: Threads + Wait + Sync, S: Source, K: Sink, M: Maker + Sync, G: Gat
 ///
 /// Whatever the scripts and however the workers meet, each reply printed is the one that a cache of
 /// one thread gives at that call's place in the printed journal (`replayed`). Every other status
-/// has its cause in a clause of its own, and leaves `out` as it was, but for `Differs`, which prints
-/// the verdict, and `WriteFault`, which leaves the first of what was to be printed.
+/// has its cause in a clause of its own, and leaves `out` as it was, but for `Differs`, which
+/// prints the verdict, and `WriteFault`, which leaves the first of what was to be printed.
 ///
 /// It never gives back the memory of its scripts: it is for a program that ends with it.
 pub fn run<R: Threads + Wait + Sync, S: Source, K: Sink, E: Sink, M: Maker + Sync, G: Gate + Sync>(

@@ -1,3 +1,5 @@
+//! How a run ends.
+
 ghost use Rattle.std.specs.Prelude.{◌≡◌, length};
 ghost use Rattle.std.specs.Process.{exit_status};
 ghost use Rattle.apcu_play.specs.Message.{message_of, code_of};

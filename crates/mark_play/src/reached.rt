@@ -1,3 +1,5 @@
+//! The ghost of a replay: the stage that its events have led to.
+
 ghost use Rattle.std.specs.Prelude.{◌≡◌};
 ghost use Rattle.std.specs.Borrow.{ftrue};
 ghost use Rattle.apcu_model.specs.History.{Stage, start_of, after_event};

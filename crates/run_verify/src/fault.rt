@@ -1,3 +1,5 @@
+//! Why there is no verdict.
+
 ghost use Rattle.std.specs.Prelude.{◌≡◌};
 ghost use Rattle.run_verify.specs.declared.fault.VerifyFault.TheVariants.{Memory};
 

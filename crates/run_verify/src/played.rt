@@ -1,3 +1,5 @@
+//! The ghost of a verdict: where the marks so far have led.
+
 ghost use Rattle.std.specs.Prelude.{◌≡◌};
 ghost use Rattle.std.specs.Borrow.{ftrue};
 ghost use Rattle.script_read.specs.Clock.{all_timed};
