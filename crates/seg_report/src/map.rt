@@ -20,7 +20,9 @@ use std::alloc::{AllocError, Global};
 /// come to. No window may be open. Without memory `out` stays as it was; nothing else changes
 /// either way. Keys are read into memory of `out`'s allocator.
 ///
-/// It takes as long as there are slots, blocks and gaps, and a sort of the removed rows.
+/// Each row and removed row is read once, and the places of the removed rows are sorted. The gaps
+/// are walked for their lines, for their number, and once more for each power of two from 16 up to
+/// the largest.
 pub fn map_text<S: Segment>(
     core: &mut Core,
     seg: &mut S,
