@@ -1,4 +1,4 @@
-//! Keys as words.
+//! Keys as words, and the slot of a key's hash.
 
 ghost use Rattle.std.specs.Prelude.{◌≡◌, ℕ, ◌+◌, ◌/◌, ◌%◌, ◌^◌, ◌<◌, ◌≤◌, List, length};
 ghost use Rattle.std.specs.Prelude.{slice_index};
@@ -95,4 +95,17 @@ pub(crate) fn hash_at<S: Segment>(seg: &mut S, at: u32, len: u32) -> u64
         hash = hash_step(hash, ((word >> (8 * (i % 8))) % 256) as u8);
     }
     hash | TOP_BIT
+}
+
+// The slot of a hash among so many slots. A division is much of a look-up's time: for the usual
+// number of slots the compiler makes a mask of it.
+pub(crate) fn slot_in(hash: u64, slots: u32) -> u32
+    requires some { 0 < slots }
+    ensures slot { result ≡ hash % slots }
+    ensures low { result < slots }
+{
+    if slots == 4096 {
+        return (hash % 4096) as u32;
+    }
+    (hash % u64::from(slots)) as u32
 }

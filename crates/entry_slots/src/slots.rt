@@ -17,7 +17,7 @@ ghost use Rattle.entry_slots.specs.Links.{IsLinkTo, IsTarget};
 ghost use Rattle.entry_slots.specs.Reading.{HeadIn};
 
 use crate::head::{ATIME, CTIME, DTIME, HITS, Head, MTIME, NEXT, NUMBER, TTL};
-use crate::keys::{hash_at, key_word};
+use crate::keys::{hash_at, key_word, slot_in};
 use crate::lower::lower_laws;
 use crate::reading::{count_after, first_words, next_of};
 use crate::standing::{Change, Standing};
@@ -135,7 +135,7 @@ impl EntrySlots {
         ensures row { result ≡ place_of key.now (entries self.now) }
         ensures kept { Kept S.WordsIn seg.old seg.new }
     {
-        let slot = (hash_of(key) % u64::from(self.sma.from)) as u32;
+        let slot = self.slot_of_key(key);
         let mut at = self.first_in(seg, slot);
         for _passed in 0..self.count {
             if at == 0 {
@@ -252,7 +252,7 @@ impl EntrySlots {
         ensures slot { result ≡ hash_of key.now % self.now.sma.from }
         ensures low { result < self.now.sma.from }
     {
-        (hash_of(key) % u64::from(self.sma.from)) as u32
+        slot_in(hash_of(key), self.sma.from)
     }
 
     /// Takes the row out of its chain. Its block is loose from now on.
@@ -325,7 +325,7 @@ impl EntrySlots {
         ensures kept { Kept S.WordsIn seg.old seg.new }
     {
         let len = seg.load(at + KEY_LENGTH) as u32;
-        (hash_at(seg, at + HEAD_WORDS, len) % u64::from(self.sma.from)) as u32
+        slot_in(hash_at(seg, at + HEAD_WORDS, len), self.sma.from)
     }
 
     // What follows the row at a place; nothing follows the place 0.

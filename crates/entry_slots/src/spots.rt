@@ -17,6 +17,7 @@ ghost use Rattle.php_graph.specs.Graph.{IsGraph};
 ghost use Rattle.value_image.specs.Contained.{graph_of};
 
 use crate::head::NEXT;
+use crate::keys::slot_in;
 use crate::lower::lower_laws;
 use crate::reading::{count_after, next_of};
 use crate::slots::EntrySlots;
@@ -53,7 +54,7 @@ impl EntrySlots {
         requires stand { IsStanding self.now }
         ensures slot { result ≡ slot_of (entries self.now).conf key.now }
     {
-        (hash_of(key) % u64::from(self.sma.from)) as u32
+        slot_in(hash_of(key), self.sma.from)
     }
 
     /// Finds where the row of a key stands, by one walk along the chain of its slot as far as
