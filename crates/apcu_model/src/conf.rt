@@ -75,8 +75,8 @@ impl Conf {
             && self.slots + 16 <= self.piece()
     }
 
-    /// Whether an engine can make a cache of this shape: all that `good` asks, but `words` may be up
-    /// to 268,435,456. A good shape is usable.
+    /// Whether an engine can make a cache of this shape: all that `good` asks, but `words` may be
+    /// up to 268,435,456. A good shape is usable.
     pub fn usable(&self) -> bool
         ensures { IsTrue result ↔ IsUsable self.now }
     {
