@@ -3,7 +3,8 @@ use Rattle.std.specs.Prelude.{◌≡◌, ℕ, ◌+◌, ◌-◌, ◌*◌, ◌/◌
 use Rattle.std.proofs.Common.{ap, sym, subst, ◌∙◌, arith}
 use Rattle.std.proofs.Math.Nat as nat
 use Rattle.apcu_model.specs.declared.conf.Conf.{Conf}
-use Rattle.apcu_model.specs.declared.conf.TheConstants.{MOST_SEGMENTS, MOST_SLOTS, MOST_USABLE_WORDS, MOST_WORDS}
+use Rattle.apcu_model.specs.declared.conf.TheConstants.{MOST_SEGMENTS, MOST_SLOTS, MOST_WORDS}
+use Rattle.apcu_model.specs.declared.conf.TheConstants.{MOST_USABLE_WORDS}
 
 -- the words of one segment
 unfoldable pub piece_of : Conf → ℕ
@@ -26,8 +27,8 @@ pub record IsGood (conf : Conf) : Type 0 where
   pub slots_most : conf.slots ≤ MOST_SLOTS
   pub room : conf.slots + 16 ≤ piece_of conf
 
--- A shape for which an engine can make a cache. It may have more words than a good one, and all else
--- is asked of both.
+-- A shape for which an engine can make a cache. It may have more words than a good one, and all
+-- else is asked of both.
 pub record IsUsable (conf : Conf) : Type 0 where
   pub segments_least : 1 ≤ conf.segments
   pub segments_most : conf.segments ≤ MOST_SEGMENTS

@@ -14,7 +14,7 @@ ghost use Rattle.notation.specs.Reading.{closed_at};
 ghost use Rattle.notation.specs.Steps.{opens, opened_count, IsValueStep, wants_key};
 
 use crate::fault::{Reason, Stop};
-use crate::tokens::{count, integer, mark, natural, sized, stop, string, truth};
+use crate::tokens::{count, fault_at, integer, mark, natural, sized, string, truth};
 use php_graph::{BuildFault, Builder, Bytes, Item, Key, Wants};
 use std::alloc::Global;
 
@@ -42,7 +42,7 @@ fn put(builder: &mut Builder, item: Item, at: &[u8]) -> Result<(), Stop>
     match builder.push(item) {
         Ok(()) => Ok(()),
         Err(BuildFault::Memory) => Err(Stop::Memory),
-        Err(fault) => Err(stop(reason(fault), at)),
+        Err(fault) => Err(Stop::Fault(fault_at(reason(fault), at))),
     }
 }
 
@@ -214,13 +214,13 @@ pub(crate) fn begun<'a>(
     ensures less { IfOk result (λ x. length x.1.now < length bytes.now) }
 {
     match bytes {
-        [] => Err(stop(Reason::End, bytes)),
+        [] => Err(Stop::Fault(fault_at(Reason::End, bytes))),
         [tag, rest @ ..] => {
             if !is_value_tag(*tag) {
-                return Err(stop(Reason::Tag, bytes));
+                return Err(Stop::Fault(fault_at(Reason::Tag, bytes)));
             }
             if let Err(fault) = builder.room() {
-                return Err(stop(reason(fault), bytes));
+                return Err(Stop::Fault(fault_at(reason(fault), bytes)));
             }
             tagged(alloc, builder, *tag, bytes, rest)
         }
@@ -241,7 +241,7 @@ pub(crate) fn key<'a>(
     ensures less { IfOk result (λ rest. length rest.now < length bytes.now) }
 {
     match bytes {
-        [] => Err(stop(Reason::End, bytes)),
+        [] => Err(Stop::Fault(fault_at(Reason::End, bytes))),
         [tag, rest @ ..] => {
             let integers = builder.wants() == Wants::ArrayKey;
             let (key, rest) = key_tagged(alloc, integers, *tag, bytes, rest)?;
@@ -261,7 +261,7 @@ fn put_key(builder: &mut Builder, key: Key, at: &[u8]) -> Result<(), Stop>
     match builder.push(Item::Key(key)) {
         Ok(()) => Ok(()),
         Err(BuildFault::Memory) => Err(Stop::Memory),
-        Err(fault) => Err(stop(reason(fault), at)),
+        Err(fault) => Err(Stop::Fault(fault_at(reason(fault), at))),
     }
 }
 
@@ -287,7 +287,7 @@ fn key_tagged<'a>(
             let (n, rest) = integer(rest)?;
             Ok((Key::Int(n), rest))
         }
-        _ => Err(stop(Reason::Tag, bytes)),
+        _ => Err(Stop::Fault(fault_at(Reason::Tag, bytes))),
     }
 }
 

@@ -7,7 +7,7 @@ ghost use Rattle.php_graph.specs.Graph.{IsGraph};
 ghost use Rattle.notation.specs.Reading.{reading_of};
 ghost use Rattle.notation.specs.Plain.{begins_string, begins_integer};
 
-use crate::fault::{Fault, Stop};
+use crate::fault::Fault;
 use crate::tokens::{integer, string};
 use php_graph::{Bytes, Graph, Kind};
 use seg_words::words_in;
@@ -24,10 +24,7 @@ pub fn read_string(bytes: &[u8]) -> Result<Option<(&[u8], &[u8])>, Fault>
     ensures fault { IfErr result (λ fault. reading_of bytes.now ≡ Err fault) }
 {
     match bytes {
-        [b's', behind @ ..] => {
-            let (text, rest) = text(bytes, behind)?;
-            Ok(Some((text, rest)))
-        }
+        [b's', behind @ ..] => Ok(Some(string(behind)?)),
         _ => Ok(None),
     }
 }
@@ -42,40 +39,8 @@ pub fn read_integer(bytes: &[u8]) -> Result<Option<(i64, &[u8])>, Fault>
     ensures fault { IfErr result (λ fault. reading_of bytes.now ≡ Err fault) }
 {
     match bytes {
-        [b'i', behind @ ..] => {
-            let (number, rest) = number(bytes, behind)?;
-            Ok(Some((number, rest)))
-        }
+        [b'i', behind @ ..] => Ok(Some(integer(behind)?)),
         _ => Ok(None),
-    }
-}
-
-// The string whose letter these bytes begin with.
-fn text<'a>(bytes: &[u8], behind: &'a [u8]) -> Result<(&'a [u8], &'a [u8]), Fault>
-    requires { bytes.now ≡ 115 ∷ behind.now }
-    ensures found { IfOk result (λ x. reading_of bytes.now ≡ Ok (Str x.0.now ∷ [], x.1.now)) }
-    ensures short { IfOk result (λ x. length x.0.now < 2 ^ 32) }
-    ensures less { IfOk result (λ x. length x.1.now < length bytes.now) }
-    ensures fault { IfErr result (λ fault. reading_of bytes.now ≡ Err fault) }
-{
-    match string(behind) {
-        Ok((text, rest)) => Ok((text, rest)),
-        Err(Stop::Fault(fault)) => Err(fault),
-        Err(Stop::Memory) => unreachable!(),
-    }
-}
-
-// The integer whose letter these bytes begin with.
-fn number<'a>(bytes: &[u8], behind: &'a [u8]) -> Result<(i64, &'a [u8]), Fault>
-    requires { bytes.now ≡ 105 ∷ behind.now }
-    ensures found { IfOk result (λ x. reading_of bytes.now ≡ Ok (Int x.0 ∷ [], x.1.now)) }
-    ensures less { IfOk result (λ x. length x.1.now < length bytes.now) }
-    ensures fault { IfErr result (λ fault. reading_of bytes.now ≡ Err fault) }
-{
-    match integer(behind) {
-        Ok((number, rest)) => Ok((number, rest)),
-        Err(Stop::Fault(fault)) => Err(fault),
-        Err(Stop::Memory) => unreachable!(),
     }
 }
 
