@@ -11,7 +11,9 @@ use lib.ListN.{get_elem?}
 use Rattle.apcu_model.specs.declared.request.Event.{Event}
 use Rattle.pin_table.specs.declared.views.Known.{Known}
 use Rattle.pin_table.specs.declared.views.EventLog.{EventLog}
-use Rattle.pin_table.specs.Events.{events_of, fetched_last, is_fetch}
+use Rattle.std.specs.List.{last_or}
+use Rattle.apcu_model.specs.declared.request.Request.TheVariants as request
+use Rattle.pin_table.specs.Events.{event, events_of, fetched_last, is_fetch, HasRetired}
 use Rattle.pin_table.specs.Views.{is_in_hand, is_among, in_hand, newcomer, with_newcomer, with_hand, with_event, known_after, seen_all, with_closed}
 use Rattle.pin_table.specs.Order.{Fits, LogInOrder, PassInOrder}
 use Rattle.pin_table.proofs.WindowLists.{differs, unlike, alike}
@@ -52,6 +54,21 @@ fetched_own w (e ∷ es) b = go (e.worker == w) refl (fetched_own w es)
 
 pub fetched_nothing : (w : ℕ) (es : List Event) → events_of w es ≡ [] → fetched_last w es false ≡ false
 fetched_nothing w es e = sym (fetched_own w es false) ∙ ap (λ l. fetched_last w l false) e
+
+pub last_after : {A : Type 0} (o : Option A) (es : List A) (e : A) → last_or o (es ++ e ∷ []) ≡ Some e
+last_after o [] e = refl
+last_after o (x ∷ xs) e = last_after (Some x) xs e
+
+-- what the last event is tells whether the last of its worker is a fetch
+fetched_by_last : (w : ℕ) (o : Event) (es : List Event) (e : Event) (b : Bool) → last_or (Some o) es ≡ Some e → (e.worker == w) ≡ true → fetched_last w es (cond (o.worker == w) (is_fetch o.request) b) ≡ is_fetch e.request
+fetched_by_last w o [] e b last mine =
+    let same : e ≡ o = cc last in
+    subst (λ (x : Event). cond (x.worker == w) (is_fetch x.request) b ≡ is_fetch e.request) same (rw mine refl)
+fetched_by_last w o (x ∷ xs) e b last mine = fetched_by_last w x xs e (cond (o.worker == w) (is_fetch o.request) b) last mine
+
+pub fetched_retired : (w : ℕ) (es : List Event) → HasRetired w es → fetched_last w es false ≡ false
+fetched_retired w [] r = absurd (cc r.1)
+fetched_retired w (x ∷ xs) r = fetched_by_last w x xs (event w 0 request.Retire r.0) false r.1 (alike w w refl)
 
 lt_of_not-le' : (a b : ℕ) → ¬ (suc b ≤ a) → a ≤ b
 lt_of_not-le' a b h = grind arith

@@ -16,7 +16,7 @@ use Rattle.pin_table.specs.Views.{in_hand, is_in_hand, is_among, with_hand, with
 use Rattle.pin_table.specs.Order.{PassInOrder, ReaderInOrder}
 use Rattle.pin_table.specs.Rule.{IsCarried}
 use Rattle.pin_table.proofs.WindowLists.{differs, unlike, alike, at_end, at_less, pins_on-set}
-use Rattle.pin_table.proofs.EventLogs.{takes_log, takes_old, gives_log, gives_old, gives_new, moved}
+use Rattle.pin_table.proofs.EventLogs.{takes_log, takes_old, gives_log, gives_old, gives_new, moved, last_after}
 use Rattle.pin_table.proofs.PassPlaces.{placed_cut, placed_join, copies_out, copies_join}
 use Rattle.pin_table.proofs.WriterStates.{hand_free, state_taken, state_copied}
 use Rattle.pin_table.proofs.WriterSteps.{At, at_state}
@@ -32,7 +32,7 @@ takes d other p nobody s kept at away there = record {
   each_word = a.each_word;
   state_ok = state_taken d a.copying p a.state_ok (takes_log d.log a.place other p a.state_ok.log ok.0) ok.1;
   idle = λ k q h. let b = back k (Idle q) (λ e. absurd (cc (e))) (λ e. absurd (cc (e))) h in let r = a.idle k q b.1 in (takes_old d.log a.place other k p q b.0 ok.0 r.0, r.1);
-  copy = λ k c h. let b = back k (Copying c) (λ e. absurd (cc (e))) (λ e. absurd (cc (e))) h in let r = a.copy k c b.1 in (takes_old d.log a.place other k p c.known b.0 ok.0 r.0, record { some_block = r.1.some_block; copies = r.1.copies; first = r.1.first; content = r.1.content });
+  copy = λ k c h. let b = back k (Copying c) (λ e. absurd (cc (e))) (λ e. absurd (cc (e))) h in let r = a.copy k c b.1 in (takes_old d.log a.place other k p c.known b.0 ok.0 r.0, record { some_block = r.1.some_block; copies = r.1.copies; first = r.1.first; content = r.1.content; pin = r.1.pin });
   placed = placed_join d.log (with_hand d.log (Some p)) a.place s.views d (Writer (taken_in d p)) p other a.at (sym (set_else s.views 0 other (Writer (taken_in d p)) away) ∙ there) older a.placed;
   copies = copies_join a.copying s.views d (taken_in d p) p other a.at there a.copies;
 }
@@ -64,7 +64,7 @@ pins_out d e p inhand same fetch some_left some_block s kept at = record {
   idle = λ k q h. ⊎_elim (λ (t : get_elem? s.views k ≡ some (Idle q)). let r = a.idle k q t in (gives_old d.log e p q a.place (length s.views) k inhand same r.0, set_else a.copying p.worker q.worker d.pinning (apart k q r.0) ∙ r.1))
       (λ (t : (k ≡ length s.views) × (Copying (reader_after d e) ≡ Idle q)). absurd (cc (t.1))) (back k (Idle q) (λ x. absurd (cc (x))) h);
   copy = λ k c h. ⊎_elim (λ (t : get_elem? s.views k ≡ some (Copying c)).
-      let r = a.copy k c t in (gives_old d.log e p c.known a.place (length s.views) k inhand same r.0, record { some_block = r.1.some_block; copies = set_else a.copying p.worker c.known.worker d.pinning (apart k c.known r.0) ∙ r.1.copies; first = r.1.first; content = r.1.content }))
+      let r = a.copy k c t in (gives_old d.log e p c.known a.place (length s.views) k inhand same r.0, record { some_block = r.1.some_block; copies = set_else a.copying p.worker c.known.worker d.pinning (apart k c.known r.0) ∙ r.1.copies; first = r.1.first; content = r.1.content; pin = r.1.pin }))
       (λ (t : (k ≡ length s.views) × (Copying (reader_after d e) ≡ Copying c)).
       let is : reader_after d e ≡ c = cc (t.1) in
       subst (λ j. PassInOrder (with_event d.log e) (moved a.place p.worker (length s.views)) j c.known × ReaderInOrder (copied d e) (set a.copying p.worker d.pinning) c) (sym t.0)
@@ -106,6 +106,7 @@ pins_out d e p inhand same fetch some_left some_block s kept at = record {
             copies = ap (get_elem? (set x.copying p.worker d.pinning)) (ap (λ h. (in_hand h).worker) inhand) ∙ set_here x.copying p.worker d.pinning (at_less x.copying p.worker 0 (hand_free d x.copying p x.state_ok inhand));
             first = refl;
             content = refl;
+            pin = (e, fetch, last_after None d.log.history e, last_after None (in_hand d.log.hand).own e);
           },
         )
 

@@ -46,7 +46,7 @@ cut_idle words views d e a place p ws pn ok old new free placed = record {
       let same : p ≡ q = cc (t.1) in
       subst (λ j. PassInOrder e.log place j q × (get_elem? a.copying q.worker ≡ some 0)) (sym t.0) (subst (λ (x : Known). PassInOrder e.log place (length views) x × (get_elem? a.copying x.worker ≡ some 0)) same (new, free))) (back k (Idle q) (λ x. absurd (cc (x))) h);
   copy = λ k c h. ⊎_elim (λ (t : get_elem? views k ≡ some (Copying c)).
-      let r = a.copy k c t in (old k c.known r.0, record { some_block = r.1.some_block; copies = r.1.copies; first = r.1.first ∙ ap (λ l. image_place l c.block) (sym ws); content = r.1.content ∙ ap (λ l. content_of l c.block) (sym ws) }))
+      let r = a.copy k c t in (old k c.known r.0, record { some_block = r.1.some_block; copies = r.1.copies; first = r.1.first ∙ ap (λ l. image_place l c.block) (sym ws); content = r.1.content ∙ ap (λ l. content_of l c.block) (sym ws); pin = r.1.pin }))
       (λ (t : (k ≡ length views) × (Idle p ≡ Copying c)). absurd (cc (t.1))) (back k (Copying c) (λ x. absurd (cc (x))) h);
   placed = placed;
   copies = copies_cut a.copying views d e p a.at a.copies;
@@ -173,7 +173,7 @@ closed_in d other p nobody s kept at away there = record {
   each_word = a.each_word;
   state_ok = state_shut d a.copying p a.state_ok nobody (closes_log d.log a.place other p a.state_ok.log nobody ok.0) ok.1;
   idle = λ k q h. let b = back k (Idle q) (λ e. absurd (cc (e))) (λ e. absurd (cc (e))) h in let r = a.idle k q b.1 in (closes_old d.log a.place other k p q b.0 ok.0 r.0, r.1);
-  copy = λ k c h. let b = back k (Copying c) (λ e. absurd (cc (e))) (λ e. absurd (cc (e))) h in let r = a.copy k c b.1 in (closes_old d.log a.place other k p c.known b.0 ok.0 r.0, record { some_block = r.1.some_block; copies = r.1.copies; first = r.1.first; content = r.1.content });
+  copy = λ k c h. let b = back k (Copying c) (λ e. absurd (cc (e))) (λ e. absurd (cc (e))) h in let r = a.copy k c b.1 in (closes_old d.log a.place other k p c.known b.0 ok.0 r.0, record { some_block = r.1.some_block; copies = r.1.copies; first = r.1.first; content = r.1.content; pin = r.1.pin });
   placed = placed_join d.log (with_closed d.log p) a.place s.views d (Writer (shut d p)) p other a.at (sym (set_else s.views 0 other (Writer (shut d p)) away) ∙ there) older a.placed;
   copies = copies_join a.copying s.views d (shut d p) p other a.at there a.copies;
 }

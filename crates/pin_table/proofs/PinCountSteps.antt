@@ -35,7 +35,7 @@ pins slots d x nothing less stands apart s kept _ at fits = (
   tt,
   writer_goes (slice_set s.words (x + PIN_COUNT) up) s.views d (pinning_at d x) a.place a.copying a.some_view a.at a.placed a.copies (length-set s.words (x + PIN_COUNT) up ∙ a.count)
       (λ k. word k (ℕ_discrete k (x + PIN_COUNT)))
-      (state_pins d a.copying x a.state_ok stands apart) a.idle (λ k c h. let r = a.copy k c h in (r.0, record { some_block = r.1.some_block; copies = r.1.copies; first = r.1.first; content = r.1.content })),
+      (state_pins d a.copying x a.state_ok stands apart) a.idle (λ k c h. let r = a.copy k c h in (r.0, record { some_block = r.1.some_block; copies = r.1.copies; first = r.1.first; content = r.1.content; pin = r.1.pin })),
   ap (λ y. (Writer (pinning_at d y), [])) (omega arith),
 )
   where
@@ -136,7 +136,7 @@ releases slots id c s kept _ at fits = (
         (λ (t : (k ≢ id) × (get_elem? s.views k ≡ some (Copying q))).
         let r = kept.copy k q t.1 in
         let apart : q.known.worker ≢ c.known.worker = λ e. t.0 (sym r.0.placed ∙ (ap kept.place e ∙ ok.0.placed)) in
-        (r.0, record { some_block = r.1.some_block; copies = set_else kept.copying c.known.worker q.known.worker 0 apart ∙ r.1.copies; first = r.1.first; content = r.1.content })) (at_set s.views id k (Idle c.known) (Copying q) h);
+        (r.0, record { some_block = r.1.some_block; copies = set_else kept.copying c.known.worker q.known.worker 0 apart ∙ r.1.copies; first = r.1.first; content = r.1.content; pin = r.1.pin })) (at_set s.views id k (Idle c.known) (Copying q) h);
     placed = placed_release kept.state.log kept.place s.views id c at kept.placed;
     copies = copies_release kept.copying s.views id c at (kept.copy id c at).1.copies kept.copies;
   },

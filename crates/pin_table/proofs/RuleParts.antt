@@ -100,6 +100,7 @@ module _ (words : List ℕ) (views : List View) (kept : Carried words views) whe
         let r = kept.copy k c h in
         let f = kept.state_ok.fetched c.known.worker c.block (reader_named k c h) r.1.some_block in
         ap (λ l. fetched_last c.known.worker l false) (sym r.0.fits.own) ∙ (fetched_own c.known.worker kept.state.log.history false ∙ f.2);
+    pin = λ k c h. (kept.copy k c h).1.pin;
   }
 
   counts_are : CountsAreCopies words views kept.state

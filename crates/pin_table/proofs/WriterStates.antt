@@ -77,6 +77,7 @@ copy_store d copying i x c ok out copy =
       copies = copy.copies;
       first = copy.first ∙ sym (same_place d.words i x c.block o);
       content = copy.content ∙ sym (content_set d.words i x c.block o);
+      pin = copy.pin;
     }
 
 -- a word outside is the pin count of no block that is copied or being pinned

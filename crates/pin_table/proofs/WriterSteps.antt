@@ -95,7 +95,7 @@ same_words s d d2 i a ws bk pn ok = subst (λ l. Carried l (slice_set s.views 0 
     ok (λ k p h. let r = a.idle k p h in (subst (λ b. PassInOrder b a.place k p) (sym bk) r.0, r.1))
     (λ k c h. let r = a.copy k c h in (
       subst (λ b. PassInOrder b a.place k c.known) (sym bk) r.0,
-      record { some_block = r.1.some_block; copies = r.1.copies; first = r.1.first ∙ ap (λ l. image_place l c.block) (sym ws); content = r.1.content ∙ ap (λ l. content_of l c.block) (sym ws) },
+      record { some_block = r.1.some_block; copies = r.1.copies; first = r.1.first ∙ ap (λ l. image_place l c.block) (sym ws); content = r.1.content ∙ ap (λ l. content_of l c.block) (sym ws); pin = r.1.pin },
     )))
 
 module _ (slots : ℕ) (d : WriterState) where

@@ -1,5 +1,6 @@
 -- Events, and those of one worker in a history.
-use Rattle.std.specs.Prelude.{ℕ, Bool, true, false, ◌==◌, cond, List, [], ◌∷◌}
+use Rattle.std.specs.Prelude.{◌≡◌, ℕ, Bool, true, false, ◌==◌, cond, List, [], ◌∷◌, None, Some}
+use Rattle.std.specs.List.{last_or}
 use Rattle.apcu_model.specs.declared.request.Event.{Event}
 use Rattle.apcu_model.specs.declared.request.Request.{Request}
 use Rattle.apcu_model.specs.declared.request.Request.TheVariants as request
@@ -22,3 +23,7 @@ abbrev pub fetched_last : ℕ → List Event → Bool → Bool
 fetched_last w [] before = before
 fetched_last w (e ∷ es) before =
     fetched_last w es (cond (e.worker == w) (is_fetch e.request) before)
+
+-- the last of these events is the end of the worker w
+abbrev pub HasRetired : ℕ → List Event → Type 0
+HasRetired w es = (mask : ℕ) × (last_or None es ≡ Some (event w 0 request.Retire mask))

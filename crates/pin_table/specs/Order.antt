@@ -1,19 +1,21 @@
 -- What the steps over the shared words carry, so that the rule holds after each of them.
 use Rattle.std.specs.Prelude.{◌≡◌, ℕ, ◌+◌, ◌<◌, ◌≤◌, true, false, List, [], ◌∷◌, length}
-use Rattle.std.specs.Prelude.{slice_index, Some}
+use Rattle.std.specs.Prelude.{slice_index, None, Some}
+use Rattle.std.specs.List.{last_or}
 use Rattle.std.specs.Int.{bit_at}
 use mathlib.Core.Option.{some}
 use mathlib.Core.List.{IsPrefix}
 use lib.ListN.{get_elem?}
 use Rattle.seg_words.specs.Windows.{has}
 use Rattle.seg_words.specs.Blocks.{image_place}
+use Rattle.apcu_model.specs.declared.request.Event.{Event}
 use Rattle.pin_table.specs.declared.views.Known.{Known}
 use Rattle.pin_table.specs.declared.views.EventLog.{EventLog}
 use Rattle.pin_table.specs.declared.views.Reader.{Reader}
 use Rattle.pin_table.specs.declared.views.WriterState.{WriterState}
 use Rattle.pin_table.specs.declared.views.View.{View}
 use Rattle.pin_table.specs.declared.views.View.TheVariants.{Writer, Idle, Copying}
-use Rattle.pin_table.specs.Events.{events_of, fetched_last}
+use Rattle.pin_table.specs.Events.{events_of, is_fetch, fetched_last}
 use Rattle.pin_table.specs.Pins.{pins_on, IsBlock, AreApart, content_of, refused_in, freed_in}
 use Rattle.pin_table.specs.Views.{is_in_hand, is_among, named_blocks, carries, copied_blocks}
 
@@ -71,12 +73,19 @@ pub record StateInOrder (d : WriterState) (copying : List ℕ) : Type 0 where
   pub shrunk : (p : Known) → d.log.hand ≡ Some p
       → (v at : ℕ) → get_elem? d.windows v ≡ some at → 0 < at → get_elem? d.begun v ≡ some at
 
+-- One fetch is the last event that a worker has seen, and the last that it made. Who copies has
+-- seen the history as the event left it that pinned its block, so this is that event.
+abbrev pub EndsByItsPin : Known → Type 0
+EndsByItsPin p = (e : Event) × (is_fetch e.request ≡ true)
+    × (last_or None p.seen ≡ Some e) × (last_or None p.own ≡ Some e)
+
 -- what a worker knows that copies is in order
 pub record ReaderInOrder (d : WriterState) (copying : List ℕ) (c : Reader) : Type 0 where
   pub some_block : 0 < c.block
   pub copies : get_elem? copying c.known.worker ≡ some c.block
   pub first : c.first ≡ image_place d.words c.block
   pub content : c.content ≡ content_of d.words c.block
+  pub pin : EndsByItsPin c.known
 
 -- each worker that was made, is not in the hand and was not taken in has its pass at its place
 abbrev pub AllPlaced : EventLog → (ℕ → ℕ) → List View → Type 0
@@ -84,10 +93,10 @@ AllPlaced b place views = (w : ℕ) → w < b.made → is_in_hand w b.hand ≡ f
     → is_among w b.closed ≡ false
     → (v : View) × (get_elem? views (place w) ≡ some v) × (carries w v ≡ true)
 
--- What each step carries from one state of the table to the next, for some state of the writer, some
--- place for each worker's pass and some block from which each worker copies. One equation holds for
--- every word: it is the writer's, and one more for each worker that copies from the block whose pin
--- count it is.
+-- What each step carries from one state of the table to the next, for some state of the writer,
+-- some place for each worker's pass and some block from which each worker copies. One equation
+-- holds for every word: it is the writer's, and one more for each worker that copies from the block
+-- whose pin count it is.
 pub record Carried (words : List ℕ) (views : List View) : Type 0 where
   pub state : WriterState
   pub place : ℕ → ℕ

@@ -20,7 +20,7 @@ use Rattle.pin_table.specs.Events.{events_of, fetched_last}
 use Rattle.pin_table.specs.Pins.{pins_on, AreApart, content_of, freed_in}
 use Rattle.pin_table.specs.Views.{is_in_hand, is_among, known_of, named_blocks, carries}
 use Rattle.pin_table.specs.Views.{copied_blocks}
-use Rattle.pin_table.specs.Order.{Fits, AllPlaced, Carried}
+use Rattle.pin_table.specs.Order.{Fits, EndsByItsPin, AllPlaced, Carried}
 
 -- First: each word but the pin counts is the writer's word there, and the writer has 0 at the pin
 -- counts.
@@ -57,7 +57,7 @@ pub record HistoriesAgree (views : List View) (d : WriterState) : Type 0 where
 
 -- Fourth: a worker has a window only where it is not in the writer's hand and its last event is a
 -- fetch. Who copies has its window on the block, knows the words of the image as the writer has
--- them, and has made no event since the fetch.
+-- them, and has seen and made nothing since the fetch that pinned the block.
 pub record WindowsAreFetches (views : List View) (d : WriterState) : Type 0 where
   pub windows : (w at : ℕ) → get_elem? d.windows w ≡ some at → 0 < at
       → (is_in_hand w d.log.hand ≡ false) × (fetched_last w d.log.history false ≡ true)
@@ -67,6 +67,7 @@ pub record WindowsAreFetches (views : List View) (d : WriterState) : Type 0 wher
       → c.content ≡ content_of d.words c.block
   pub last : (k : ℕ) (c : Reader) → get_elem? views k ≡ some (Copying c)
       → fetched_last c.known.worker c.known.own false ≡ true
+  pub pin : (k : ℕ) (c : Reader) → get_elem? views k ≡ some (Copying c) → EndsByItsPin c.known
 
 -- Fifth: the pin count of a block is how many views copy from it, and one more while the writer is
 -- pinning it.

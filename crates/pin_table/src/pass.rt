@@ -1,5 +1,5 @@
-ghost use Rattle.std.specs.Prelude.{◌≡◌, false};
-ghost use Rattle.pin_table.specs.Events.{fetched_last};
+ghost use Rattle.std.specs.Prelude.{◌≡◌};
+ghost use Rattle.pin_table.specs.Events.{HasRetired};
 
 use crate::views::View;
 use atomic_table::Seat;
@@ -49,28 +49,28 @@ impl Pass {
     }
 }
 
-/// What a worker leaves that has ended: it copies nothing, and makes no further event.
+/// What a worker leaves that has ended: its last event is its end. It copies nothing, and makes no
+/// further event.
 #[derive(Drop)]
 pub struct Ended {
     pub(crate) pass: Pass,
 }
 
 impl Model for Ended {
-    ghost use Rattle.std.specs.Prelude.{◌≡◌, false};
     ghost use Rattle.pin_table.specs.Values.{PassView};
-    ghost use Rattle.pin_table.specs.Events.{fetched_last};
+    ghost use Rattle.pin_table.specs.Events.{HasRetired};
 
     ghost Value = { PassView };
 
     ghost view = { λ e. e.pass };
 
-    ghost invariant = { λ e. fetched_last e.pass.known.worker e.pass.known.own false ≡ false };
+    ghost invariant = { λ e. HasRetired e.pass.known.worker e.pass.known.own };
 }
 
 impl Ended {
-    // The last event of this pass was no fetch, so no window of its worker is open.
+    // The last event of this pass was its worker's end, so no window of it is open.
     pub(crate) fn of(pass: Pass) -> Ended
-        requires { fetched_last pass.known.worker pass.known.own false ≡ false }
+        requires { HasRetired pass.known.worker pass.known.own }
         ensures { result ≡ pass }
     {
         Ended { pass }

@@ -1,8 +1,8 @@
-ghost use Rattle.std.specs.Prelude.{◌≡◌, ℕ, ◌+◌, ◌<◌, ◌≤◌, ◌^◌, true, false, List, [], ◌∷◌, ◌++◌};
-ghost use Rattle.std.specs.Prelude.{length, slice_index, slice_get, Some, None, IfOk, IfSome};
+ghost use Rattle.std.specs.Prelude.{◌≡◌, ℕ, ◌+◌, ◌<◌, ◌≤◌, true, false, List, [], ◌∷◌, ◌++◌};
+ghost use Rattle.std.specs.Prelude.{length, slice_get, Some, None, IfOk, IfSome};
 ghost use Rattle.std.specs.Prelude.{IfNone, vec_capacity, vec_len};
 ghost use mathlib.Core.List.{IsPrefix};
-ghost use Rattle.pin_table.specs.Events.{events_of, fetched_last};
+ghost use Rattle.pin_table.specs.Events.{events_of};
 ghost use Rattle.pin_table.specs.Views.{with_log, rested, is_among};
 ghost use Rattle.pin_table.specs.Lists.{first_log, first_state, first_passes, known_list, AllOf};
 ghost use Rattle.pin_table.specs.Order.{StateInOrder};

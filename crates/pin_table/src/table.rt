@@ -1,5 +1,5 @@
 ghost use Rattle.std.specs.Prelude.{cond, ◌==◌, ◌≡◌, ℕ, ◌+◌, ◌-◌, ◌*◌, ◌<◌, ◌≤◌, ◌^◌, true, false};
-ghost use Rattle.std.specs.Prelude.{[], ◌∷◌, length, List, replicate, slice_index, slice_set, Some};
+ghost use Rattle.std.specs.Prelude.{[], length, List, replicate, slice_index, slice_set, Some};
 ghost use Rattle.std.specs.Prelude.{None, IfOk, MatchBool};
 ghost use Rattle.seg_words.specs.declared.layout.TheConstants.{IMAGE_LENGTH};
 ghost use Rattle.seg_words.specs.Windows.{has, is_named, closed_on, held_by, holders};

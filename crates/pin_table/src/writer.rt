@@ -1,8 +1,8 @@
-ghost use Rattle.std.specs.Prelude.{◌≡◌, ℕ, ◌==◌, ◌+◌, ◌<◌, ◌≤◌, ◌^◌, true, false, [], ◌∷◌, ◌++◌};
-ghost use Rattle.std.specs.Prelude.{length, slice_index, slice_set, Some, None, sum, List};
+ghost use Rattle.std.specs.Prelude.{◌≡◌, ℕ, ◌==◌, ◌+◌, ◌<◌, ◌≤◌, ◌^◌, true, false, ◌∷◌};
+ghost use Rattle.std.specs.Prelude.{length, slice_index, Some, None, sum, List};
 ghost use mathlib.Core.List.{IsPrefix};
 ghost use Rattle.seg_words.specs.declared.layout.TheConstants.{IMAGE_LENGTH};
-ghost use Rattle.seg_words.specs.Windows.{Frees, Refuses, has, Aside};
+ghost use Rattle.seg_words.specs.Windows.{Frees, Refuses, has};
 ghost use Rattle.seg_words.specs.Blocks.{MayProbe, image_place};
 ghost use Rattle.apcu_model.specs.declared.request.Request.TheVariants as request;
 ghost use Rattle.pin_table.specs.Events.{event, events_of, is_fetch};
