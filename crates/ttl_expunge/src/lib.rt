@@ -4,6 +4,7 @@
 
 mod at_once;
 mod chains;
+mod expired;
 mod expunge;
 mod laws;
 mod places;
