@@ -10,5 +10,6 @@ pub mod OpenWindows
 pub mod RoomLemmas
 pub mod SlotMoves
 mod UnexpiredChains
+mod ExpiredChains
 mod RemovedPlaces
 mod DropsByPlace

@@ -1,13 +1,14 @@
-ghost use Rattle.std.specs.Prelude.{◌≡◌, true, false, not};
+ghost use Rattle.std.specs.Prelude.{◌≡◌, ℕ, true, false, not};
 ghost use Rattle.seg_words.specs.Windows.{has, held_blocks};
 ghost use Rattle.entry_slots.specs.Lists.{has_place, only_at};
 ghost use Rattle.entry_slots.specs.Entries.{listed};
+ghost use Rattle.entry_slots.specs.Spots.{IsSpot};
 ghost use Rattle.ttl_expunge.specs.Dropping.{swept_at};
 ghost use Rattle.entry_slots.specs.Standing.{Stand, entries};
 ghost use Rattle.ttl_expunge.specs.Steps.{MayDropRows, MaySweepRows};
 ghost use Rattle.ttl_expunge.specs.Steps.{ProbesBlock, SweepsRows, DropsRows};
 
-use entry_slots::{EntrySlots, standing_laws, window_laws};
+use entry_slots::{EntrySlots, Spot, standing_laws, window_laws};
 use seg_words::{Segment, probe_laws};
 
 /// Whether the block of the row or removed row at `at` may be given back, since nobody copies from
@@ -69,5 +70,23 @@ pub fn drop_row<S: Segment>(slots: &mut EntrySlots, seg: &mut S, at: u32, t: u64
         slots.free_unlinked(seg, at);
     } else {
         slots.to_removed(seg, at, t);
+    }
+}
+
+/// Drops the row at the spot, as `drop_row` does, and walks no chain.
+pub fn drop_row_at<S: Segment>(slots: &mut EntrySlots, seg: &mut S, spot: Spot, t: u64)
+    requires ready { MayDropRows S.WordsIn slots.old seg.old }
+    requires spot { (now : ℕ) × IsSpot (entries slots.old) now spot }
+    requires there { has_place spot.at (entries slots.old).rows ≡ true }
+    ensures { DropsRows S.WordsIn slots.old slots.new seg.old seg.new t
+        (only_at spot.at (entries slots.old).rows) }
+{
+    standing_laws();
+    let is_free = is_let_go(slots, seg, spot.at);
+    slots.unlink_at(seg, spot);
+    if is_free {
+        slots.free_unlinked(seg, spot.at);
+    } else {
+        slots.to_removed(seg, spot.at, t);
     }
 }

@@ -4,6 +4,7 @@
 
 mod at_once;
 mod chains;
+mod expired;
 mod expunge;
 mod laws;
 mod places;
@@ -12,8 +13,8 @@ mod spots;
 
 pub use at_once::expunge_at_once;
 pub use chains::{expunge_all, expunge_expired, sweep_chain};
-pub use expunge::{drop_row, is_let_go, sweep_removed};
+pub use expunge::{drop_row, drop_row_at, is_let_go, sweep_removed};
 pub use laws::drop_laws;
 pub use places::drop_rows;
 pub use room::{make_room, make_room_next};
-pub use spots::{drop_row_at, seek_swept};
+pub use spots::seek_swept;

@@ -7,19 +7,26 @@ ghost use Rattle.ttl_expunge.specs.Steps.{MayDropRows, MaySweepRows, DropsRows, 
 
 use crate::at_once::expunge_at_once;
 use crate::chains::expunge_expired;
+use crate::expired::are_all_expired;
 use crate::expunge::sweep_removed;
 use entry_slots::{EntrySlots, standing_laws};
 use seg_words::Segment;
 
-// Drops the expired rows, where the cache has a time limit.
+// Drops the expired rows, where the cache has a time limit. Where they are all rows, as where
+// nobody came for a while, all go at once.
 fn drop_expired<S: Segment>(slots: &mut EntrySlots, seg: &mut S, ttl: u32, t: u64)
     requires ready { MayDropRows S.WordsIn slots.old seg.old }
     requires limit { ttl ≡ (entries slots.old).conf.ttl }
+    requires whole { IsWhole (entries slots.old) }
     ensures { DropsRows S.WordsIn slots.old slots.new seg.old seg.new t
         (spent_rows t (entries slots.old)) }
 {
     if ttl > 0 {
-        expunge_expired(slots, seg, ttl, t);
+        if are_all_expired(slots, seg, ttl, t) {
+            expunge_at_once(slots, seg, t);
+        } else {
+            expunge_expired(slots, seg, ttl, t);
+        }
     }
 }
 

@@ -1,15 +1,13 @@
-//! Rows dropped or found at one spot of their chain, which is walked once.
+//! The spot of a key in its chain, of which the expired rows are gone.
 
-ghost use Rattle.std.specs.Prelude.{◌≡◌, ◌<◌, ◌^◌, ℕ, true, length};
+ghost use Rattle.std.specs.Prelude.{◌≡◌, ◌<◌, ◌^◌, length};
 ghost use Rattle.apcu_model.specs.SlotOrder.{slot_of};
-ghost use Rattle.entry_slots.specs.Lists.{has_place, only_at};
-ghost use Rattle.entry_slots.specs.Spots.{IsSpot, IsSpotOf};
+ghost use Rattle.entry_slots.specs.Spots.{IsSpotOf};
 ghost use Rattle.entry_slots.specs.Standing.{entries};
 ghost use Rattle.ttl_expunge.specs.Dropping.{expired_in};
 ghost use Rattle.ttl_expunge.specs.Steps.{MayDropRows, DropsRows};
 
 use crate::chains::sweep_chain;
-use crate::expunge::is_let_go;
 use entry_slots::{EntrySlots, Spot, standing_laws};
 use seg_words::Segment;
 
@@ -38,22 +36,4 @@ pub fn seek_swept<S: Segment>(
     }
     sweep_chain(slots, seg, slot, limit, t);
     slots.seek(seg, key, slot, limit, t)
-}
-
-/// Drops the row at the spot, as `drop_row` does, and walks no chain.
-pub fn drop_row_at<S: Segment>(slots: &mut EntrySlots, seg: &mut S, spot: Spot, t: u64)
-    requires ready { MayDropRows S.WordsIn slots.old seg.old }
-    requires spot { (now : ℕ) × IsSpot (entries slots.old) now spot }
-    requires there { has_place spot.at (entries slots.old).rows ≡ true }
-    ensures { DropsRows S.WordsIn slots.old slots.new seg.old seg.new t
-        (only_at spot.at (entries slots.old).rows) }
-{
-    standing_laws();
-    let is_free = is_let_go(slots, seg, spot.at);
-    slots.unlink_at(seg, spot);
-    if is_free {
-        slots.free_unlinked(seg, spot.at);
-    } else {
-        slots.to_removed(seg, spot.at, t);
-    }
 }

@@ -1,4 +1,4 @@
-use Rattle.std.proofs.Common.{refl, ap, ◌∙◌, arith}
+use Rattle.std.proofs.Common.{refl, sym, ap, ◌∙◌, arith}
 use Rattle.entry_slots.specs.Entries.{Entries}
 use Rattle.ttl_expunge.specs.DropRules.{is_to_drop}
 use Rattle.ttl_expunge.proofs.SlotOrder.{expunging_starts, expunging_on, expunging_ends}
@@ -22,6 +22,9 @@ pub drop_chain-requires-clause-slot : goal.drop_chain-requires-clause-slot
 drop_chain-requires-clause-slot g c =
     let same = ap (λ (x : Entries). x.conf.slots) c.loop-slot.invariant.expunging.drops.dropped in
     omega (arith, same, c.slots-end.ensures.slots)
+
+pub drop_chain-requires-clause-limit : goal.drop_chain-requires-clause-limit
+drop_chain-requires-clause-limit g c = λ ttl e. c.requires.limit ttl e ∙ ap (λ (x : Entries). x.conf.ttl) (sym c.loop-slot.invariant.expunging.drops.dropped)
 
 pub loop-slot-preserved : goal.loop-slot-preserved
 loop-slot-preserved g c = record {

@@ -2,11 +2,13 @@ use Rattle.std.proofs.Common.{◌<◌, sym, ap, ◌∙◌, subst}
 use Rattle.std.proofs.lemmas.Bool.{or_left}
 use Rattle.entry_slots.specs.Lists.{is_at, has_place}
 use Rattle.entry_slots.specs.Entries.{Entries}
+use Rattle.apcu_model.specs.declared.conf.Conf.{Conf}
+use Rattle.ttl_expunge.proofs.UnexpiredChains.{same_conf}
 use Rattle.ttl_expunge.specs.DropRules.{is_to_drop}
 use Rattle.std.proofs.lemmas.List.Folds.{list_any-append}
 use Rattle.ttl_expunge.proofs.ReadOnlyCalls.{stand_kept}
 use Rattle.ttl_expunge.proofs.EventSteps.{may_kept, drops_kept}
-use Rattle.ttl_expunge.proofs.SlotDrops.{chaining_starts, next_is, chaining_on, chaining_falls, chaining_ends}
+use Rattle.ttl_expunge.proofs.SlotDrops.{chaining_starts, chaining_spot, next_is, chaining_on, chaining_falls, chaining_ends}
 use Rattle.entry_slots.specs.Standing.{entries}
 use Rattle.ttl_expunge.proofs.chains.drop_chain.Goals as goal
 
@@ -27,13 +29,17 @@ after-next-requires-clause-there g c =
     let n = next_is c.loop-at.invariant.chaining sound c.loop-at-test.true in
     list_any-append (is_at c.loop-at.at) s.rows s.removed ∙ or_left (has_place c.loop-at.at s.rows) (has_place c.loop-at.at s.removed) n.listed
 
-pub drop_if-requires : goal.drop_if-requires
-drop_if-requires g c =
+pub drop_if-link-requires : goal.drop_if-link-requires
+drop_if-link-requires g c =
+    let s = entries c.loop-at.slots in
     let sound = c.standing_laws.ensures.sound c.loop-at.slots (g.S.WordsIn.words c.loop-at.seg) (g.S.WordsIn.aside c.loop-at.seg) (entries c.loop-at.slots) c.loop-at.invariant.stand in
     let n = next_is c.loop-at.invariant.chaining sound c.loop-at-test.true in
+    let conf = same_conf c.loop-at.invariant.chaining.drops in
     record {
       ready = may_kept c.loop-at.slots c.after-next.ensures.kept (record { stand = c.loop-at.invariant.stand; refused = c.loop-at.invariant.chaining.drops.refused });
+      spot = (0, chaining_spot c.loop-at.invariant.chaining (subst (λ (k : Conf). c.args.slot < k.slots) (sym conf) c.requires.slot));
       there = n.listed;
+      limit = λ ttl e. c.requires.limit ttl e ∙ ap (λ (k : Conf). k.ttl) (sym conf);
     }
 
 pub loop-at-preserved : goal.loop-at-preserved
@@ -41,23 +47,25 @@ loop-at-preserved g c =
     let s = entries c.loop-at.slots in
     let sound = c.standing_laws.ensures.sound c.loop-at.slots (g.S.WordsIn.words c.loop-at.seg) (g.S.WordsIn.aside c.loop-at.seg) (entries c.loop-at.slots) c.loop-at.invariant.stand in
     let n = next_is c.loop-at.invariant.chaining sound c.loop-at-test.true in
-    let drops = (drops_kept c.after-next.ensures.kept c.drop_if.ensures).drops in
+    let drops = (drops_kept c.after-next.ensures.kept c.drop_if-link.ensures.drops).drops in
+    let names = c.drop_if-link.ensures.link n.row n.member n.place in
     let slot : c.args.slot < s.conf.slots = subst (λ k. c.args.slot < k) (sym (ap (λ (x : Entries). x.conf.slots) c.loop-at.invariant.chaining.drops.dropped)) c.requires.slot in
     record {
-      chaining = chaining_on c.loop-at.invariant.chaining n drops (c.after-next.ensures.row c.args.slot slot n.there);
-      stand = c.drop_if.ensures.stand;
-      rest = c.drop_if.ensures.rest ∙ (c.after-next.ensures.kept.rest ∙ c.loop-at.invariant.rest);
+      chaining = chaining_on c.loop-at.invariant.chaining n drops (c.after-next.ensures.row c.args.slot slot n.there) names;
+      stand = c.drop_if-link.ensures.drops.stand;
+      rest = c.drop_if-link.ensures.drops.rest ∙ (c.after-next.ensures.kept.rest ∙ c.loop-at.invariant.rest);
     }
 
 pub loop-at-smaller : goal.loop-at-smaller
 loop-at-smaller g c =
     let s = entries c.loop-at.slots in
     let sound = c.standing_laws.ensures.sound c.loop-at.slots (g.S.WordsIn.words c.loop-at.seg) (g.S.WordsIn.aside c.loop-at.seg) (entries c.loop-at.slots) c.loop-at.invariant.stand in
-    let sound' = c.standing_laws.ensures.sound c.drop_if.new.slots (g.S.WordsIn.words c.drop_if.new.seg) (g.S.WordsIn.aside c.drop_if.new.seg) (entries c.drop_if.new.slots) c.drop_if.ensures.stand in
+    let sound' = c.standing_laws.ensures.sound c.drop_if-link.new.slots (g.S.WordsIn.words c.drop_if-link.new.seg) (g.S.WordsIn.aside c.drop_if-link.new.seg) (entries c.drop_if-link.new.slots) c.drop_if-link.ensures.drops.stand in
     let n = next_is c.loop-at.invariant.chaining sound c.loop-at-test.true in
-    let drops = (drops_kept c.after-next.ensures.kept c.drop_if.ensures).drops in
+    let drops = (drops_kept c.after-next.ensures.kept c.drop_if-link.ensures.drops).drops in
+    let names = c.drop_if-link.ensures.link n.row n.member n.place in
     let slot : c.args.slot < s.conf.slots = subst (λ k. c.args.slot < k) (sym (ap (λ (x : Entries). x.conf.slots) c.loop-at.invariant.chaining.drops.dropped)) c.requires.slot in
-    chaining_falls c.loop-at.invariant.chaining n drops (c.after-next.ensures.row c.args.slot slot n.there) sound'
+    chaining_falls c.loop-at.invariant.chaining n drops (c.after-next.ensures.row c.args.slot slot n.there) names sound'
 
 pub returns : goal.returns
 returns g c =

@@ -6,7 +6,7 @@ use Rattle.ttl_expunge.proofs.chains.drop_chain.Given as goal
 
 abbrev pub invariant-loop-at : goal.invariant-loop-at
 invariant-loop-at g l = record {
-  chaining : Chaining (is_to_drop l.rule l.t) l.t (entries l.fn.slots) (entries l.slots) (g.S.WordsIn.aside l.fn.seg) (g.S.WordsIn.aside l.seg) l.slot l.at;
+  chaining : Chaining (is_to_drop l.rule l.t) l.t (entries l.fn.slots) (entries l.slots) (g.S.WordsIn.aside l.fn.seg) (g.S.WordsIn.aside l.seg) l.slot l.at l.link;
   stand : Stand g.S.WordsIn l.slots l.seg;
   rest : g.S.WordsIn.rest l.seg ≡ g.S.WordsIn.rest l.fn.seg;
 }

@@ -1,10 +1,12 @@
-use Rattle.std.proofs.Common.{◌≡◌, Bool, false, cond, refl, sym, subst, [], filter, arith, rules}
+use Rattle.std.proofs.Common.{◌≡◌, Bool, true, false, cond, refl, sym, subst, List, [], filter, arith, rules}
 use Rattle.std.specs.Prelude.{nat_lt}
-use Rattle.std.proofs.lemmas.Bool.{le-ltb}
+use Rattle.std.proofs.lemmas.Bool.{le-ltb, lt-ltb}
+use Rattle.apcu_model.specs.Cache.{Row}
 use Rattle.apcu_model.specs.Expiry.{is_expired}
 use Rattle.apcu_model.specs.Change.{leaving}
 use Rattle.ttl_expunge.specs.Steps.{DropsRows}
-use Rattle.ttl_expunge.proofs.EventSteps.{drops_nothing}
+use Rattle.ttl_expunge.specs.Dropping.{all_rows, expired_rows}
+use Rattle.ttl_expunge.proofs.EventSteps.{may_kept, drops_kept, drops_nothing}
 use Rattle.entry_slots.specs.Standing.{entries}
 use Rattle.ttl_expunge.proofs.room.drop_expired.Goals as goal
 
@@ -15,8 +17,32 @@ returns-else-ttl-gt0 g c =
     subst (λ (b : Bool). DropsRows g.S.WordsIn c.args.slots.now c.args.slots.now c.args.seg.now c.args.seg.now c.args.t (cond b (leaving s.conf (filter (is_expired s.conf c.args.t) s.rows)) [])) (sym is)
     (drops_nothing c.args.slots.now c.args.t (record { words = refl; aside = refl; rest = refl }) c.requires.ready)
 
+pub are_all_expired-requires-clause-limit : goal.are_all_expired-requires-clause-limit
+are_all_expired-requires-clause-limit g c = c.requires.limit
+
+pub expunge_expired-requires-clause-ready : goal.expunge_expired-requires-clause-ready
+expunge_expired-requires-clause-ready g c = may_kept c.args.slots.now c.are_all_expired.ensures.kept c.requires.ready
+
 pub expunge_expired-requires-clause-limit : goal.expunge_expired-requires-clause-limit
 expunge_expired-requires-clause-limit g c = c.requires.limit
 
-pub returns-then-ttl-gt0 : goal.returns-then-ttl-gt0
-returns-then-ttl-gt0 g c = search rules
+pub expunge_at_once-requires-clause-ready : goal.expunge_at_once-requires-clause-ready
+expunge_at_once-requires-clause-ready g c = may_kept c.args.slots.now c.are_all_expired.ensures.kept c.requires.ready
+
+pub expunge_at_once-requires-clause-whole : goal.expunge_at_once-requires-clause-whole
+expunge_at_once-requires-clause-whole g c = c.requires.whole
+
+pub returns-then-are_all_expired : goal.returns-then-are_all_expired
+returns-then-are_all_expired g c =
+    let s = entries c.args.slots.now in
+    let is : nat_lt 0 s.conf.ttl ≡ true = lt-ltb 0 s.conf.ttl (omega (arith, c.requires.limit, c.if-ttl-gt0.true)) in
+    subst (λ (b : Bool). DropsRows g.S.WordsIn c.args.slots.now c.expunge_at_once.new.slots c.args.seg.now c.expunge_at_once.new.seg c.args.t (cond b (expired_rows c.args.t s) [])) (sym is)
+    (subst (λ (rows : List Row). DropsRows g.S.WordsIn c.args.slots.now c.expunge_at_once.new.slots c.args.seg.now c.expunge_at_once.new.seg c.args.t rows) (sym (c.are_all_expired.ensures.all c.if-are_all_expired.true))
+    (drops_kept c.are_all_expired.ensures.kept c.expunge_at_once.ensures))
+
+pub returns-else-are_all_expired : goal.returns-else-are_all_expired
+returns-else-are_all_expired g c =
+    let s = entries c.args.slots.now in
+    let is : nat_lt 0 s.conf.ttl ≡ true = lt-ltb 0 s.conf.ttl (omega (arith, c.requires.limit, c.if-ttl-gt0.true)) in
+    subst (λ (b : Bool). DropsRows g.S.WordsIn c.args.slots.now c.expunge_expired.new.slots c.args.seg.now c.expunge_expired.new.seg c.args.t (cond b (expired_rows c.args.t s) [])) (sym is)
+    (drops_kept c.are_all_expired.ensures.kept c.expunge_expired.ensures)

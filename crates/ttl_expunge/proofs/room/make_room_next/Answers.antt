@@ -9,6 +9,12 @@ use Rattle.ttl_expunge.proofs.RoomLemmas.{took, unchanged, drops_from, makes, ro
 use Rattle.entry_slots.specs.Standing.{entries}
 use Rattle.ttl_expunge.proofs.room.make_room_next.Goals as goal
 
+pub drop_expired-requires-clause-whole : goal.drop_expired-requires-clause-whole
+drop_expired-requires-clause-whole g c =
+    let nothing : is_some c.take-swept.result ≡ false = sym c.is_some.ensures ∙ c.if-is_some.false in
+    let first : entries c.take-swept.new.self ≡ entries c.args.slots.now = unchanged c.take-swept.result (entries c.args.slots.now) (entries c.take-swept.new.self) nothing c.take-swept.ensures.none in
+    (ap (λ (x : Entries). x.unlinked) first ∙ c.requires.whole.0, ap (λ (x : Entries). x.taken) first ∙ c.requires.whole.1)
+
 pub expunge_at_once-requires-clause-whole : goal.expunge_at_once-requires-clause-whole
 expunge_at_once-requires-clause-whole g c =
     let s1 = entries c.args.slots.now in

@@ -7,7 +7,7 @@ use Rattle.ttl_expunge.specs.ProbedRows.{Drops}
 use Rattle.std.proofs.lemmas.List.Folds.{list_any-append}
 use Rattle.ttl_expunge.proofs.DroppedRows.{only_of, freed_one, removed_one, drops_one, only_unrefused, only_loose}
 use Rattle.entry_slots.specs.Standing.{entries}
-use Rattle.ttl_expunge.proofs.spots.drop_row_at.Goals as goal
+use Rattle.ttl_expunge.proofs.expunge.drop_row_at.Goals as goal
 
 pub is_let_go-is_free-requires : goal.is_let_go-is_free-requires
 is_let_go-is_free-requires g c =
