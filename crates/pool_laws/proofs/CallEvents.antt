@@ -15,7 +15,7 @@ use Rattle.simple_pool.specs.Names.{is_good_name, is_good_key, braced, pool_key}
 use Rattle.simple_pool.specs.Requests.{pool_step}
 use Rattle.pool_laws.specs.PoolKeys.{is_key_of, holds_text, is_pattern_of}
 use Rattle.pool_laws.specs.Pools.{is_of_pool, named_keys, is_left_alone, is_store_lost, are_stored, ClearsPool, AreOfPools, are_bytes, events_of_pool, answered_from, map_answers, LeavesAlone, StandsAlone}
-use Rattle.pool_laws.specs.Calls.{Asked, is_named, is_by, IsTied, AreTied, events_in, is_untouched, is_deleting_walk, is_pools_walk, are_kept, CallsLeaveAlone, told_from, CallsStandAlone}
+use Rattle.pool_laws.specs.Calls.{Asked, is_named, is_by, IsTied, AreTied, events_in, is_untouched, is_deleting_walk, is_pools_walk, are_kept, AreOfBytes, CallsLeaveAlone, told_from, CallsStandAlone}
 use Rattle.pool_laws.proofs.BracedNames.{key_holds, names_apart, pattern_matches, small_braced}
 use Rattle.pool_laws.proofs.LiteralSearches.{is_small}
 
@@ -28,13 +28,13 @@ own_key name key good =
     ((starts_is Decides-eqb whole (braced name) (starts_with nat_eq whole (braced name)) refl).1 key refl)
     (ap is_good_key (drop_at (braced name) key (length (braced name)) refl) ∙ good)
 
-small_are_bytes : (xs : List ℕ) → list_all is_small xs ≡ true → are_bytes xs ≡ true
+pub small_are_bytes : (xs : List ℕ) → list_all is_small xs ≡ true → are_bytes xs ≡ true
 small_are_bytes [] h = refl
 small_are_bytes (x ∷ xs) h =
     let parts = and_parts (is_small x) (list_all is_small xs) h in
     and_from (nat_le x 255) (are_bytes xs) (le-leb x 255 (let l = ltb-true x 128 parts.0 in omega (arith, l))) (small_are_bytes xs parts.1)
 
-bytes-append : (xs ys : List ℕ) → are_bytes xs ≡ true → are_bytes ys ≡ true → are_bytes (xs ++ ys) ≡ true
+pub bytes-append : (xs ys : List ℕ) → are_bytes xs ≡ true → are_bytes ys ≡ true → are_bytes (xs ++ ys) ≡ true
 bytes-append [] ys h k = k
 bytes-append (x ∷ xs) ys h k =
     let parts = and_parts (nat_le x 255) (are_bytes xs) h in
@@ -184,8 +184,8 @@ events_alike name (a ∷ asked) whose =
     either false = refl
 
 pub calls_stand_alone : ((name : List ℕ) (conf : Conf) (history : List Event) → LeavesAlone name conf history → StandsAlone name conf history)
-    → (name : List ℕ) (conf : Conf) (asked : List Asked) → AreTied asked → CallsLeaveAlone name conf asked → CallsStandAlone name conf asked
-calls_stand_alone law name conf asked tied l =
+    → (name : List ℕ) (conf : Conf) (asked : List Asked) → AreTied asked → AreOfBytes (events_in asked) → CallsLeaveAlone name conf asked → CallsStandAlone name conf asked
+calls_stand_alone law name conf asked tied bytes l =
     let whose = are_whose name asked l.good tied l.keys l.walks in
     told_alike name (start_of conf) asked whose
     ∙ (law name conf (events_in asked) (record {
@@ -197,6 +197,6 @@ calls_stand_alone law name conf asked tied l =
       no_clear = l.no_clear;
       keys = left_alone name asked whose l.keys;
       walks = are_of_pools asked tied l.walks;
-      bytes = l.bytes;
+      bytes = bytes;
     })
     ∙ ap (map_answers conf.slots []) (events_alike name asked whose))

@@ -9,5 +9,6 @@ pub mod ClearedPools
 pub mod PoolIsolation
 pub mod CallEvents
 pub mod PoolRequests
+pub mod ByteKeys
 pub mod JournalEvents
 mod ExampleHistory

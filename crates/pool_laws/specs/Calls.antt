@@ -38,6 +38,11 @@ AreTied asked = AllByRecursion (λ (a : Asked). IsTied a.pool a.event.request) a
 abbrev pub events_in : List Asked → List Event
 events_in asked = map {A = Asked} (λ a. a.event) asked
 
+-- the keys that these events name are of bytes
+abbrev pub AreOfBytes : List Event → Type 0
+AreOfBytes history =
+    list_all (λ (e : Event). list_all are_bytes (named_keys e.request)) history ≡ true
+
 -- only the pool's calls name a key in which its name stands in braces
 abbrev pub is_untouched : List ℕ → Asked → Bool
 is_untouched name a =
@@ -70,9 +75,6 @@ pub record CallsLeaveAlone (name : List ℕ) (conf : Conf) (asked : List Asked) 
   pub no_clear : list_all (λ (e : Event). not (is_clear e.request)) (events_in asked) ≡ true
   pub keys : list_all (is_untouched name) asked ≡ true
   pub walks : list_all is_pools_walk asked ≡ true
-  -- keys are of bytes
-  pub bytes : list_all (λ (e : Event). list_all are_bytes (named_keys e.request)) (events_in asked)
-      ≡ true
 
 -- the replies to the pool's calls, after a stage
 abbrev pub told_from : List ℕ → Stage → List Asked → List Reply

@@ -1,7 +1,6 @@
 -- The events of a journal, each with the pool whose call asked it, and with its reply.
 use Rattle.std.specs.Prelude.{◌≡◌, ℕ, List, [], ◌∷◌, map, filter}
 use Rattle.std.specs.Prelude.{Option, Some, None, option_and_then}
-use Rattle.std.specs.List.{AllByRecursion}
 use Rattle.std.specs.Option.{option_map_or}
 use Rattle.apcu_model.specs.declared.conf.Conf.{Conf}
 use Rattle.apcu_model.specs.declared.journal.Mark.{Mark}
@@ -10,7 +9,6 @@ use Rattle.apcu_model.specs.History.{reply_in}
 use Rattle.script_read.specs.declared.call.Call.{Call}
 use Rattle.script_read.specs.declared.call.Call.TheVariants.{Pool}
 use Rattle.script_read.specs.declared.script.Step.{Step}
-use Rattle.script_read.specs.Calls.{IsRanged}
 use Rattle.script_read.specs.Play.{Next, Asks, Leaves, Wish, Play, next_of, nothing_played, replies_of}
 use Rattle.script_read.specs.Play.{script_of, wish_of, event_of, after_wish}
 use Rattle.pool_laws.specs.Calls.{Asked, is_by}
@@ -64,10 +62,6 @@ answered_by conf scripts journal = answered_after conf scripts (nothing_played c
 
 abbrev pub asked_in : List Answered → List Asked
 asked_in told = map {A = Answered} (λ x. x.asked) told
-
--- the scripts' calls are in their ranges
-abbrev pub AreInRange : List (List Step) → Type 0
-AreInRange scripts = AllByRecursion (λ script. AllByRecursion IsRanged script) scripts
 
 -- Each reply to an event of the pool's calls is that of its map, started empty, over these events
 -- alone.

@@ -1,17 +1,23 @@
 ghost use Rattle.std.specs.Prelude.{◌≡◌, ℕ, List, Some};
+ghost use Rattle.apcu_model.specs.declared.conf.Clock.{Clock};
 ghost use Rattle.apcu_model.specs.declared.conf.Conf.{Conf};
 ghost use Rattle.apcu_model.specs.declared.request.Event.{Event};
 ghost use Rattle.apcu_model.specs.declared.journal.Mark.{Mark};
 ghost use Rattle.apcu_model.specs.declared.request.Request.{Request};
 ghost use Rattle.script_read.specs.declared.script.Step.{Step};
+ghost use Rattle.script_read.specs.Clock.{all_timed};
+ghost use Rattle.script_read.specs.Grammar.{AreScripts};
 ghost use Rattle.script_read.specs.Play.{IsLegal};
+ghost use Rattle.script_read.specs.Ranges.{AreRanged, HaveByteKeys};
 ghost use Rattle.simple_pool.specs.declared.call.PoolCall.{PoolCall};
 ghost use Rattle.simple_pool.specs.Requests.{IsGoodCall, request_at};
-ghost use Rattle.pool_laws.specs.Calls.{AreTied, Asked, CallsLeaveAlone, CallsStandAlone, IsTied};
-ghost use Rattle.pool_laws.specs.Plays.{AreInRange, PoolStandsAlone, asked_in, answered_by};
+ghost use Rattle.pool_laws.specs.Calls.{AreOfBytes, AreTied, Asked, CallsLeaveAlone};
+ghost use Rattle.pool_laws.specs.Calls.{CallsStandAlone, IsTied, events_in};
+ghost use Rattle.pool_laws.specs.Plays.{PoolStandsAlone, asked_in, answered_by};
 ghost use Rattle.pool_laws.specs.Pools.{LeavesAlone, StandsAlone};
 
 use apcu_model::{events_keep, one_event_more};
+use script_read::scripts_are_ranged;
 
 /// A pool keeps its keys in the cache beside all other keys. Where it is left alone, each reply to
 /// its events is what a map of its own would answer, that began empty and saw these events alone.
@@ -24,10 +30,11 @@ pub fn pools_stand_alone()
 }
 
 /// The same of the events that a pool's calls asked, where each event is known with the pool whose
-/// call asked it.
+/// call asked it and all keys are of bytes.
 pub fn calls_stand_alone()
     ensures { (name : List ℕ) (conf : Conf) (asked : List Asked) → AreTied asked
-        → CallsLeaveAlone name conf asked → CallsStandAlone name conf asked }
+        → AreOfBytes (events_in asked) → CallsLeaveAlone name conf asked
+        → CallsStandAlone name conf asked }
 {
     pools_stand_alone();
 }
@@ -39,13 +46,20 @@ pub fn calls_are_tied()
 {}
 
 /// In a legal journal, whatever the scripts and the interleaving: a pool that is left alone is
-/// answered as a map of its own would answer, that began empty and saw the pool's events alone.
+/// answered as a map of its own would answer, that began empty and saw the pool's events alone. The
+/// scripts are any that bytes spell, under either clock, or else any in range with keys of bytes.
 pub fn pools_in_plays()
-    ensures { (name : List ℕ) (conf : Conf) (scripts : List (List Step)) (journal : List Mark)
-        → let told = answered_by conf scripts journal in
-        AreInRange scripts → IsLegal conf scripts journal
+    ensures spelled { (name : List ℕ) (conf : Conf) (clock : Clock) (bytes : List ℕ)
+        (scripts : List (List Step)) (journal : List Mark)
+        → let timed = all_timed clock scripts in let told = answered_by conf timed journal in
+        AreScripts bytes scripts → IsLegal conf timed journal
+        → CallsLeaveAlone name conf (asked_in told) → PoolStandsAlone name conf told }
+    ensures ranged { (name : List ℕ) (conf : Conf) (scripts : List (List Step))
+        (journal : List Mark) → let told = answered_by conf scripts journal in
+        AreRanged scripts → HaveByteKeys scripts → IsLegal conf scripts journal
         → CallsLeaveAlone name conf (asked_in told) → PoolStandsAlone name conf told }
 {
     calls_are_tied();
     calls_stand_alone();
+    scripts_are_ranged();
 }

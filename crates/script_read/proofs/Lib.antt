@@ -16,4 +16,5 @@ pub mod Slashes
 pub mod FieldBits
 pub mod ReadCalls
 pub mod ReaderAnswers
+pub mod SpelledRanges
 mod DrawnScripts

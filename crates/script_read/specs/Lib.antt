@@ -7,6 +7,7 @@ pub mod Table
 pub mod Grammar
 pub mod Reading
 pub mod Ties
+pub mod Ranges
 pub mod GeneratedScripts
 pub mod GrowingScripts
 pub mod Gives

@@ -1,14 +1,19 @@
 //! Laws of scripts.
 
-ghost use Rattle.std.specs.Prelude.{◌≡◌, ◌<◌, List, length};
+ghost use Rattle.std.specs.Prelude.{◌≡◌, ◌<◌, ℕ, List, length};
 ghost use Rattle.std.specs.Thread.{IsSync};
+ghost use Rattle.apcu_model.specs.declared.conf.Clock.{Clock};
 ghost use Rattle.apcu_model.specs.declared.conf.Conf.{Conf};
 ghost use Rattle.apcu_model.specs.declared.request.Request.{Request};
 ghost use Rattle.apcu_model.specs.declared.request.Reply.{Reply};
 ghost use Rattle.script_read.specs.declared.call.Call.{Call};
+ghost use Rattle.script_read.specs.declared.script.Step.{Step};
 ghost use Rattle.script_read.specs.Calls.{event_bound};
+ghost use Rattle.script_read.specs.Clock.{all_timed};
 ghost use Rattle.script_read.specs.contracts.script.Script as script_type;
 ghost use Rattle.script_read.specs.contracts.script.Scripts as scripts_type;
+ghost use Rattle.script_read.specs.Grammar.{AreScripts};
+ghost use Rattle.script_read.specs.Ranges.{AreRanged, HaveByteKeys};
 ghost use Rattle.script_read.specs.Ties.{ScriptsTake, ScriptsAgain, ScriptsAreOne};
 ghost use Rattle.script_read.specs.Play.{next_of, Asks};
 
@@ -23,6 +28,19 @@ pub fn readings_are_scripts()
 {
     readings_are_spellings();
 }
+
+/// Scripts that bytes spell are in range: the arguments of all their calls are, and the keys that
+/// the calls name are of bytes from 0 to 255. So they are under each clock.
+pub fn scripts_are_ranged()
+    ensures ranged { (bytes : List ℕ) (scripts : List (List Step)) → AreScripts bytes scripts
+        → AreRanged scripts }
+    ensures keys { (bytes : List ℕ) (scripts : List (List Step)) → AreScripts bytes scripts
+        → HaveByteKeys scripts }
+    ensures timed { (clock : Clock) (scripts : List (List Step)) → AreRanged scripts
+        → AreRanged (all_timed clock scripts) }
+    ensures timed_keys { (clock : Clock) (scripts : List (List Step)) → HaveByteKeys scripts
+        → HaveByteKeys (all_timed clock scripts) }
+{}
 
 /// A call asks no more often than its events are counted.
 pub fn calls_ask_few()

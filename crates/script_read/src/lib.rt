@@ -26,7 +26,7 @@ mod stores;
 pub use call::Call;
 pub use drawing::generate;
 pub use fault::ScriptFault;
-pub use laws::{calls_ask_few, readings_are_scripts, scripts_cross};
+pub use laws::{calls_ask_few, readings_are_scripts, scripts_are_ranged, scripts_cross};
 pub use pool_box::PoolBox;
 pub use reading::read_scripts;
 pub use script::{Script, Scripts, Step};
