@@ -16,7 +16,7 @@ use Rattle.apcu_model.specs.declared.searching.List.TheVariants.{Active, Deleted
 use Rattle.apcu_model.specs.Laws.{RowsStayApart}
 use Rattle.apcu_model.specs.Cache.{Row}
 use Rattle.apcu_model.specs.Counters.{integer_in}
-use Rattle.apcu_model.specs.History.{Stage, start_of, stage_of, is_shallow, are_shallow, is_legal_mask, after_event, after_events}
+use Rattle.apcu_model.specs.History.{Stage, start_of, stage_of, is_shallow, are_shallow, after_events}
 use Rattle.apcu_model.specs.Levels.{most_levels}
 use Rattle.script_read.specs.declared.call.Call.{Call}
 use Rattle.script_read.specs.declared.call.Call.TheVariants as calls
@@ -26,9 +26,11 @@ use Rattle.simple_pool.specs.declared.call.PoolAsk.{PoolAsk}
 use Rattle.simple_pool.specs.declared.call.PoolAsk.TheVariants as pools
 use Rattle.simple_pool.specs.Names.{pool_key, pattern_of}
 use Rattle.simple_pool.specs.Requests.{pool_asking, pool_step, set_of, store_of}
-use Rattle.script_read.specs.Play.{Wish, Play, Next, Asks, Leaves, asks_each, asks_steps, asks_so, asking_in, asking_of, next_of, slot_after, wanted, continued, nothing_played, replies_of, wish_of, event_of, after_wish, marked, played_from, played}
+use Rattle.script_read.specs.Ranges.{AreRanged}
+use Rattle.script_read.specs.Play.{Wish, Play, Next, Asks, Leaves, asks_each, asks_steps, asks_so, asking_in, asking_of, next_of, slot_after, wanted, continued, nothing_played, replies_of, wish_of, event_of, after_wish, played}
 use Rattle.generated_laws.specs.Counting.{steps_on, counted_up, none_swaps}
-use Rattle.generated_laws.specs.JournalEvents.{events_from, AreRanged}
+use Rattle.play_laws.specs.JournalEvents.{events_from}
+use Rattle.play_laws.proofs.JournalStages.{told_stage, played-joined, stage-joined}
 use Rattle.generated_laws.proofs.CounterRows as counting
 
 -- ---- what a script asks is not deep
@@ -124,21 +126,6 @@ wish_shallow conf scripts p w wish all e = go (slice_get scripts w) refl e
 
 -- ---- what a journal tells
 
-told_stage : (conf : Conf) (scripts : List (List Step)) (p q : Play) (marks : List Mark) → played_from conf scripts p marks ≡ Some q
-    → (after_events p.stage (events_from conf scripts p marks) ≡ q.stage) × (length (events_from conf scripts p marks) ≡ length marks)
-told_stage conf scripts p q [] e = (let same : p ≡ q = cc e in ap (λ (x : Play). x.stage) same, refl)
-told_stage conf scripts p q (mark ∷ marks) e = go (is_legal_mask (length scripts) mark.worker p.stage mark.mask) (wish_of conf scripts p mark.worker) (λ wish. told_stage conf scripts (after_wish p mark wish) q marks) e
-  where
-    go : (b : Bool) (o : Option Wish)
-        → ((wish : Wish) → played_from conf scripts (after_wish p mark wish) marks ≡ Some q
-        → (after_events (after_wish p mark wish).stage (events_from conf scripts (after_wish p mark wish) marks) ≡ q.stage) × (length (events_from conf scripts (after_wish p mark wish) marks) ≡ length marks))
-        → option_and_then (λ (x : Play). played_from conf scripts x marks) (if b then option_and_then (λ wish. Some (after_wish p mark wish)) o else None) ≡ Some q
-        → (after_events p.stage (unwrap_or (option_and_then (λ wish. Some (event_of mark wish ∷ events_from conf scripts (after_wish p mark wish) marks)) o) []) ≡ q.stage)
-        × (length (unwrap_or (option_and_then (λ wish. Some (event_of mark wish ∷ events_from conf scripts (after_wish p mark wish) marks)) o) []) ≡ length (mark ∷ marks))
-    go false o later e = absurd (cc e)
-    go true None later e = absurd (cc e)
-    go true (Some wish) later e = let r = later wish e in (r.0, ap suc r.1)
-
 told_shallow : (conf : Conf) (scripts : List (List Step)) (p : Play) (marks : List Mark) → AreRanged scripts → are_shallow (events_from conf scripts p marks) ≡ true
 told_shallow conf scripts p [] all = refl
 told_shallow conf scripts p (mark ∷ marks) all = go (wish_of conf scripts p mark.worker) refl (λ wish. told_shallow conf scripts (after_wish p mark wish) marks all)
@@ -148,26 +135,11 @@ told_shallow conf scripts p (mark ∷ marks) all = go (wish_of conf scripts p ma
     go None e later = refl
     go (Some wish) e later = and_from (is_shallow wish.request) (are_shallow (events_from conf scripts (after_wish p mark wish) marks)) (wish_shallow conf scripts p mark.worker wish all e) (later wish)
 
--- the play of a longer journal goes on from that of its first part
-played-joined : (conf : Conf) (scripts : List (List Step)) (o p q : Play) (before between : List Mark) → played_from conf scripts o before ≡ Some p → played_from conf scripts o (before ++ between) ≡ Some q
-    → played_from conf scripts p between ≡ Some q
-played-joined conf scripts o p q [] between first whole = let same : o ≡ p = cc first in subst (λ x. played_from conf scripts x between ≡ Some q) same whole
-played-joined conf scripts o p q (mark ∷ before) between first whole = go (marked conf scripts o mark) (λ x. played-joined conf scripts x p q before between) first whole
-  where
-    go : (r : Option Play) → ((x : Play) → played_from conf scripts x before ≡ Some p → played_from conf scripts x (before ++ between) ≡ Some q → played_from conf scripts p between ≡ Some q)
-        → option_and_then (λ (x : Play). played_from conf scripts x before) r ≡ Some p → option_and_then (λ (x : Play). played_from conf scripts x (before ++ between)) r ≡ Some q → played_from conf scripts p between ≡ Some q
-    go None later a b = absurd (cc a)
-    go (Some x) later a b = later x a b
-
 shallow_joined : (a b : List Event) → are_shallow a ≡ true → are_shallow b ≡ true → are_shallow (a ++ b) ≡ true
 shallow_joined [] b h k = k
 shallow_joined (e ∷ a) b h k =
     let parts = and_parts (is_shallow e.request) (are_shallow a) h in
     and_from (is_shallow e.request) (are_shallow (a ++ b)) parts.0 (shallow_joined a b parts.1 k)
-
-stage-joined : (m : Stage) (before between : List Event) → after_events m (before ++ between) ≡ after_events (after_events m before) between
-stage-joined m [] between = refl
-stage-joined m (e ∷ before) between = stage-joined (after_event m e) before between
 
 pub played_counted : RowsStayApart → (conf : Conf) (scripts : List (List Step)) (before between : List Mark) (p q : Play) (first second : Row) (n : ℤ) → 1 ≤ conf.slots → length (before ++ between) ≤ 4194304 → AreRanged scripts
     → played conf scripts before ≡ Some p → played conf scripts (before ++ between) ≡ Some q → Contains p.stage.cache.rows first → Contains q.stage.cache.rows second

@@ -1,4 +1,3 @@
 pub mod Counting
-pub mod JournalEvents
 pub mod Observer
 pub mod Summary

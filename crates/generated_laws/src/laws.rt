@@ -10,11 +10,14 @@ ghost use Rattle.apcu_model.specs.declared.journal.Mark.{Mark};
 ghost use Rattle.apcu_model.specs.declared.journal.TheConstants.{MOST_EVENTS};
 ghost use Rattle.apcu_model.specs.declared.request.Reply.{Reply};
 ghost use Rattle.apcu_model.specs.Cache.{Row};
+ghost use Rattle.apcu_model.specs.Conf.{IsGood};
 ghost use Rattle.apcu_model.specs.Counters.{integer_in};
 ghost use Rattle.apcu_model.specs.History.{are_shallow, marks_of, reply_in, stage_of};
 ghost use Rattle.pin_table.specs.Events.{events_of};
 ghost use Rattle.script_read.specs.declared.script.Step.{Step};
 ghost use Rattle.script_read.specs.Clock.{all_timed};
+ghost use Rattle.script_read.specs.Grammar.{AreScripts};
+ghost use Rattle.script_read.specs.Ranges.{AreRanged};
 ghost use Rattle.script_read.specs.GeneratedScripts.{Draw, draws_of, generated, steps_of_draws};
 ghost use Rattle.script_read.specs.Play.{IsCompletePlay, Play, Wish, event_of, played, wanted};
 ghost use Rattle.script_read.specs.Play.{wish_of};
@@ -22,15 +25,17 @@ ghost use Rattle.generated_laws.specs.Counting.{counted_up, none_swaps, steps_on
 ghost use Rattle.generated_laws.specs.Observer.{IsObservedLast, counters_read, observed};
 ghost use Rattle.generated_laws.specs.Observer.{wish_to_end, wishes_of_draws, wishes_of_looks};
 ghost use Rattle.generated_laws.specs.Summary.{IsLarge, is_declined, summary_due, summary_of};
-ghost use Rattle.generated_laws.specs.JournalEvents.{AreRanged, events_from};
+ghost use Rattle.play_laws.specs.JournalEvents.{events_from};
 
 use apcu_model::rows_stay_apart;
+use script_read::scripts_are_ranged;
 
 /// Between two points of a history at which the row of a key is the same one, its integer counts on
 /// by the steps of all increments on the key, as long as no compare-and-swap sets it: whatever else
-/// is done meanwhile, by whomever. So it does between two points of any legal journal. The cache
-/// has a slot at least: with none no row would ever go for want of room. Where all fit 64 bits, it
-/// counts on by their sum modulo 2^64.
+/// is done meanwhile, by whomever. So it does between two points of any legal journal: of scripts
+/// that bytes spell, under either clock, in a cache of a good shape; or else of any in range, in a
+/// cache that has a slot at least, since with none no row would ever go for want of room. Where all
+/// fit 64 bits, it counts on by their sum modulo 2^64.
 pub fn counters_count()
     ensures counted { (conf : Conf) (before between : List Event) (first second : Row) (n : ℤ)
         → 1 ≤ conf.slots → length (before ++ between) ≤ MOST_EVENTS
@@ -40,6 +45,16 @@ pub fn counters_count()
         → first.key ≡ second.key → first.number ≡ second.number → integer_in first.graph ≡ Some n
         → IsTrue (none_swaps first.key (stage_of conf before) between)
         → integer_in second.graph ≡ Some (counted_up n (steps_on first.key between)) }
+    ensures spelled { (conf : Conf) (clock : Clock) (bytes : List ℕ) (scripts : List (List Step))
+        (before between : List Mark) (p q : Play) (first second : Row) (n : ℤ)
+        → let timed = all_timed clock scripts in
+        IsGood conf → AreScripts bytes scripts → length (before ++ between) ≤ MOST_EVENTS
+        → played conf timed before ≡ Some p → played conf timed (before ++ between) ≡ Some q
+        → Contains p.stage.cache.rows first → Contains q.stage.cache.rows second
+        → first.key ≡ second.key → first.number ≡ second.number → integer_in first.graph ≡ Some n
+        → let events = events_from conf timed p between in
+        IsTrue (none_swaps first.key p.stage events)
+        → integer_in second.graph ≡ Some (counted_up n (steps_on first.key events)) }
     ensures journals { (conf : Conf) (scripts : List (List Step)) (before between : List Mark)
         (p q : Play) (first second : Row) (n : ℤ)
         → 1 ≤ conf.slots → length (before ++ between) ≤ MOST_EVENTS → AreRanged scripts
@@ -54,6 +69,7 @@ pub fn counters_count()
         → counted_up n steps ≡ int_wrap w64 (n +ℤ total_of steps) }
 {
     rows_stay_apart();
+    scripts_are_ranged();
 }
 
 /// Generated scripts in a cache of one segment of at least 8 MB with at most 4096 slots. No play of

@@ -1,2 +1,3 @@
 mod OwnReplies
 mod PlayedHistories
+pub mod JournalStages

@@ -1,3 +1,4 @@
 pub mod Own
 pub mod Parts
 pub mod Whole
+pub mod JournalEvents

@@ -7,4 +7,5 @@ mod Room
 mod StoredRecords
 mod LoaderPlay
 mod Loaders
+mod LoaderRanges
 mod ExampleBundle

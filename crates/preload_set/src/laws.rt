@@ -1,7 +1,7 @@
 //! Laws of bundles.
 
-ghost use Rattle.std.specs.Prelude.{◌≡◌, ◌≤◌, ◌+◌, ◌-◌, ◌++◌, ℕ, List, length, Contains};
-ghost use Rattle.std.specs.Prelude.{Some, None};
+ghost use Rattle.std.specs.Prelude.{◌≡◌, ◌≤◌, ◌+◌, ◌-◌, ℕ, List, [], ◌∷◌, ◌++◌, length};
+ghost use Rattle.std.specs.Prelude.{Contains, Some, None};
 ghost use Rattle.std.specs.List.{AllByRecursion};
 ghost use Rattle.apcu_model.specs.declared.conf.Clock.{Clock};
 ghost use Rattle.apcu_model.specs.declared.conf.Conf.{Conf};
@@ -12,7 +12,8 @@ ghost use Rattle.script_read.specs.Budgets.{events_in};
 ghost use Rattle.script_read.specs.Clock.{timed};
 ghost use Rattle.script_read.specs.Patterns.{call_pattern};
 ghost use Rattle.script_read.specs.Play.{Play, played, script_of};
-ghost use Rattle.preload_set.specs.Bundle.{Record};
+ghost use Rattle.script_read.specs.Ranges.{AreRanged, HaveByteKeys};
+ghost use Rattle.preload_set.specs.Bundle.{AreRecords, Record};
 ghost use Rattle.preload_set.specs.Ties.{BundlesTake, BundlesAgain, BundlesAreOne};
 ghost use Rattle.preload_set.specs.Loader.{loader_of, words_of, IsPlayedFirst};
 
@@ -29,7 +30,7 @@ pub fn readings_are_bundles()
 }
 
 /// A loader's script is the same under each clock, makes an event for each record, and searches
-/// for nothing.
+/// for nothing. Beside scripts that are in range, with keys of bytes, it is so too.
 pub fn loaders_only_store()
     ensures timed { (clock : Clock) (records : List Record)
         → timed clock (loader_of records) ≡ loader_of records }
@@ -37,6 +38,11 @@ pub fn loaders_only_store()
         → events_in slots (loader_of records) ≡ length records }
     ensures patterns { (records : List Record) (step : Step)
         → Contains (loader_of records) step → call_pattern step.call ≡ None }
+    ensures ranged { (scripts : List (List Step)) (records : List Record) → AreRanged scripts
+        → AreRanged (scripts ++ loader_of records ∷ []) }
+    ensures keys { (bytes : List ℕ) (scripts : List (List Step)) (records : List Record)
+        → AreRecords bytes records → HaveByteKeys scripts
+        → HaveByteKeys (scripts ++ loader_of records ∷ []) }
 {}
 
 /// In a cache of one segment, a bundle whose blocks together fit beside the slots is loaded whole,

@@ -3,3 +3,4 @@ mod CallWalks
 mod KeyCounts
 mod WalkSteps
 mod WalkLemmas
+mod JournalCalls

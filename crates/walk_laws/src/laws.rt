@@ -1,21 +1,26 @@
-ghost use Rattle.std.specs.Prelude.{◌≡◌, ℕ, ◌<◌, ◌≤◌, List, length, Contains, IsTrue, Option};
-ghost use Rattle.std.specs.Prelude.{None};
+ghost use Rattle.std.specs.Prelude.{◌≡◌, ℕ, ◌<◌, ◌≤◌, List, [], ◌++◌, length, Contains, IsTrue};
+ghost use Rattle.std.specs.Prelude.{Option, None, Some};
 ghost use Rattle.std.specs.List.{list_all};
 ghost use Rattle.apcu_model.specs.declared.conf.Conf.{Conf};
 ghost use Rattle.apcu_model.specs.declared.searching.Pattern.{Pattern};
 ghost use Rattle.apcu_model.specs.declared.searching.List.TheVariants.{Active, Deleted};
 ghost use Rattle.apcu_model.specs.declared.searching.Fields.{Fields};
 ghost use Rattle.apcu_model.specs.declared.items.ItemRow.{ItemRow};
+ghost use Rattle.apcu_model.specs.declared.journal.Mark.{Mark};
 ghost use Rattle.apcu_model.specs.declared.request.Event.{Event};
 ghost use Rattle.apcu_model.specs.Cache.{Cache};
 ghost use Rattle.apcu_model.specs.Chunks.{chunk_of};
 ghost use Rattle.apcu_model.specs.History.{stage_of};
 ghost use Rattle.apcu_model.specs.Rows.{are_apart};
 ghost use Rattle.apcu_model.specs.SlotOrder.{slot_of};
+ghost use Rattle.play_laws.specs.JournalEvents.{events_from};
 ghost use Rattle.script_read.specs.declared.call.Call.TheVariants.{Walk};
+ghost use Rattle.script_read.specs.declared.script.Step.{Step};
+ghost use Rattle.script_read.specs.Play.{Leaves, Play, next_of, nothing_played, played};
 ghost use Rattle.walk_laws.specs.Calls.{IsAskedIn, replies_in, wanted_by};
 ghost use Rattle.walk_laws.specs.Exchanges.{IsWalk, answered_chunks, answered_keys, exchanges_of};
 ghost use Rattle.walk_laws.specs.Exchanges.{steps_in};
+ghost use Rattle.walk_laws.specs.Journals.{MakesCall, answered_between};
 ghost use Rattle.walk_laws.specs.Walks.{WalkStep, AreSteps, walk_chunks, walk_keys, times_given};
 ghost use Rattle.walk_laws.specs.Walks.{is_under_way, is_whole, has_item};
 
@@ -104,6 +109,44 @@ pub fn calls_are_walks()
         → wanted_by conf t (Walk wanted fields size Active) (replies_in conf before events w)
         ≡ None
         → IsTrue (is_whole conf.slots (answered_chunks (exchanges_of conf before events w))) }
+{
+    events_keep();
+}
+
+/// The same of a legal journal. Between two points of its play a worker makes a call: then what it
+/// asks in the events that the journal tells between them is what the call wants in turn, and it is
+/// answered there what the play says. So an iterator over the active rows gives no key twice; and
+/// once it is done, exactly once each key that was present, matching and not hard expired at each
+/// step.
+pub fn walks_in_journals()
+    ensures asked { (conf : Conf) (scripts : List (List Step)) (before during : List Mark)
+        (p q : Play) (w : ℕ) (step : Step) → played conf scripts before ≡ Some p
+        → played conf scripts (before ++ during) ≡ Some q → MakesCall conf scripts p q w step
+        → let early = events_from conf scripts (nothing_played conf scripts) before in
+        IsAskedIn conf step.t step.call early (events_from conf scripts p during) w }
+    ensures replies { (conf : Conf) (scripts : List (List Step)) (before during : List Mark)
+        (p q : Play) (w : ℕ) (step : Step) → played conf scripts before ≡ Some p
+        → played conf scripts (before ++ during) ≡ Some q → MakesCall conf scripts p q w step
+        → let early = events_from conf scripts (nothing_played conf scripts) before in
+        replies_in conf early (events_from conf scripts p during) w ≡ answered_between p q w }
+    ensures once { (conf : Conf) (scripts : List (List Step)) (before during : List Mark)
+        (p q : Play) (w : ℕ) (step : Step) (wanted : Option Pattern) (size : ℕ) (fields : Fields)
+        (key : List ℕ) → played conf scripts before ≡ Some p
+        → played conf scripts (before ++ during) ≡ Some q → MakesCall conf scripts p q w step
+        → step.call ≡ Walk wanted fields size Active
+        → let early = events_from conf scripts (nothing_played conf scripts) before in
+        let own = exchanges_of conf early (events_from conf scripts p during) w in
+        times_given key (answered_keys own) ≤ 1 }
+    ensures all { (conf : Conf) (scripts : List (List Step)) (before during : List Mark)
+        (p q : Play) (w : ℕ) (step : Step) (wanted : Option Pattern) (size : ℕ) (fields : Fields)
+        (key : List ℕ) → 1 ≤ size → 1 ≤ conf.slots → played conf scripts before ≡ Some p
+        → played conf scripts (before ++ during) ≡ Some q → MakesCall conf scripts p q w step
+        → step.call ≡ Walk wanted fields size Active
+        → next_of conf step.call (answered_between p q w) ≡ Leaves []
+        → let early = events_from conf scripts (nothing_played conf scripts) before in
+        let own = exchanges_of conf early (events_from conf scripts p during) w in
+        IsTrue (list_all (has_item wanted key) (steps_in own))
+        → times_given key (answered_keys own) ≡ 1 }
 {
     events_keep();
 }

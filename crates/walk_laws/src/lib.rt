@@ -3,4 +3,6 @@
 
 mod laws;
 
-pub use laws::{calls_are_walks, steps_of_walks, walks_give_once, walks_in_histories};
+pub use laws::{
+    calls_are_walks, steps_of_walks, walks_give_once, walks_in_histories, walks_in_journals,
+};

@@ -1,12 +1,10 @@
 -- The events that a journal tells.
 use Rattle.std.specs.Prelude.{List, [], ◌∷◌, Some, unwrap_or}
-use Rattle.std.specs.List.{AllByRecursion}
 use Rattle.std.specs.Option.{option_and_then}
 use Rattle.apcu_model.specs.declared.conf.Conf.{Conf}
 use Rattle.apcu_model.specs.declared.request.Event.{Event}
 use Rattle.apcu_model.specs.declared.journal.Mark.{Mark}
 use Rattle.script_read.specs.declared.script.Step.{Step}
-use Rattle.script_read.specs.Calls.{IsRanged}
 use Rattle.script_read.specs.Play.{Play, wish_of, event_of, after_wish}
 
 -- each mark's event in the play that it goes on from, as far as marks can be played
@@ -17,7 +15,3 @@ events_from conf scripts p (mark ∷ marks) =
     (option_and_then
     (λ wish. Some (event_of mark wish ∷ events_from conf scripts (after_wish p mark wish) marks))
     (wish_of conf scripts p mark.worker)) []
-
--- the arguments of all calls are in their ranges
-abbrev pub AreRanged : List (List Step) → Type 0
-AreRanged scripts = AllByRecursion (λ script. AllByRecursion IsRanged script) scripts
