@@ -44,8 +44,8 @@ impl Core {
         Ok(Some((at, value?)))
     }
 
-    /// Notes that a look-up at the moment `t`, in seconds, found the row at `at`: the row is used,
-    /// and a hit is counted.
+    /// Counts a look-up that found the row at `at`: a hit, and a use of the row at the moment `t`,
+    /// in seconds.
     ///
     /// For each key under which a look-up at some moment finds that row, the cache is the one that
     /// such a look-up leaves.
@@ -63,7 +63,8 @@ impl Core {
         self.cache_counts = self.cache_counts.after_hit();
     }
 
-    /// Notes that so many look-ups found no row. The count stays at its last number once there.
+    /// Counts so many look-ups that found no row. The count of misses stays at its last number once
+    /// there.
     pub fn count_misses(&mut self, n: u32)
         ensures cache { cache_of self.new ≡ with_misses n (cache_of self.old) }
         ensures slots { self.new.slots ≡ self.old.slots }

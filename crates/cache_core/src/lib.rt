@@ -18,4 +18,4 @@ mod scalar;
 mod storing;
 
 pub use cache::Core;
-pub use scalar::{Look, Scalar};
+pub use scalar::{Look, Scalar, read_scalar};

@@ -1,6 +1,6 @@
 //! Look-ups.
 
-ghost use Rattle.std.specs.Prelude.{◌≡◌, ℕ, ◌<◌, ◌^◌, true, false, length, None};
+ghost use Rattle.std.specs.Prelude.{◌≡◌, ◌<◌, ◌^◌, true, false, length, None};
 ghost use Rattle.std.specs.Prelude.{is_some, IfSome, IfNone};
 ghost use Rattle.seg_words.specs.Kept.{Kept, KeptBeside};
 ghost use Rattle.apcu_model.specs.Cache.{Row};

@@ -33,7 +33,8 @@ fn replace<S: Segment>(
     requires ready { MayDropRows S.WordsIn slots.old seg.old }
     requires short { length key.now < 2 ^ 32 }
     requires graph { IsGraph (graph_of content.now) }
-    requires taken { Contains (entries slots.old).taken (block_for at key.now (graph_of content.now)) }
+    requires taken { Contains (entries slots.old).taken
+        (block_for at key.now (graph_of content.now)) }
     requires spot { IsSpotOf (entries slots.old) key.now t spot }
     ensures replaces { Replaces (entries slots.old) (entries slots.new)
         (S.aside seg.old) (S.aside seg.new) at key.now (graph_of content.now) ttl t }
@@ -105,7 +106,8 @@ pub(crate) fn put_in<S: Segment>(
     requires spot { IsSpotIfAny (entries slots.old) key.now t spot }
     requires limit { limit ≡ (entries slots.old).conf.ttl }
     requires graph { IsGraph (graph_of content.now) }
-    requires taken { Contains (entries slots.old).taken (block_for at key.now (graph_of content.now)) }
+    requires taken { Contains (entries slots.old).taken
+        (block_for at key.now (graph_of content.now)) }
     ensures puts { Puts (entries slots.old) (entries slots.new)
         (S.aside seg.old) (S.aside seg.new) at key.now (graph_of content.now) ttl t }
     ensures stand { Stand S.WordsIn slots.new seg.new }

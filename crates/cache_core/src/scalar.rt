@@ -27,9 +27,9 @@ pub enum Look {
     Hit(u32),
 }
 
-// The value of which the image stands from place `at` on, if its first place is null, a truth value
-// or an integer. The first word says which, so that the image's length is not asked for.
-pub(crate) fn read_scalar<W: WordsIn>(from: &mut W, at: u32) -> Option<Scalar>
+/// The value whose image stands from place `at` on, where its first place is null, a truth value or
+/// an integer; else nothing. The first word says which, so the image's length is not asked for.
+pub fn read_scalar<W: WordsIn>(from: &mut W, at: u32) -> Option<Scalar>
     requires image { HasImage (W.words from.old) (W.aside from.old).windows at }
     ensures scalar { (g : List Kind) (len : ℕ) → IsImageOf (W.words from.old) at len g
         → result ≡ scalar_of g }

@@ -1,6 +1,6 @@
 //! Storing.
 
-ghost use Rattle.std.specs.Prelude.{◌≡◌, ℕ, ◌<◌, ◌^◌, ◌-◌, ◌&&◌, nat_lt, true, false, List};
+ghost use Rattle.std.specs.Prelude.{◌≡◌, ℕ, ◌<◌, ◌^◌, ◌-◌, true, false, List};
 ghost use Rattle.std.specs.Prelude.{[], ◌∷◌, length, ◌==◌, None, if◌then◌else◌, IfOk, IfErr, OnOk};
 ghost use Rattle.seg_words.specs.Kept.{Kept};
 ghost use Rattle.php_graph.specs.declared.kind.Kind.TheVariants.{Str};
@@ -10,7 +10,6 @@ ghost use Rattle.value_image.specs.Contained.{graph_of};
 ghost use Rattle.apcu_model.specs.declared.request.Request.TheVariants as requests;
 ghost use Rattle.apcu_model.specs.declared.request.Reply.TheVariants.{Flag};
 ghost use Rattle.apcu_model.specs.Change.{inserted, swept};
-ghost use Rattle.apcu_model.specs.Expiry.{live_row};
 ghost use Rattle.apcu_model.specs.Sequential.{is_stored};
 ghost use Rattle.apcu_model.specs.SlotOrder.{slot_of};
 ghost use Rattle.entry_slots.specs.Standing.{entries};
