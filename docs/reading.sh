@@ -39,7 +39,7 @@ SUBJECTS = {
     "Pools": "simple_pool/Requests simple_pool/Names",
     "Bundles": "preload_set/Bundle preload_set/Loader crew_play/PlayedScripts",
     "Options": "conf_read/Options conf_read/Numbers conf_read/Tasks conf_read/Command",
-    "Generated runs": "crew_play/GeneratedRuns generated_laws/Observer generated_laws/Summary "
+    "Generated runs": "crew_play/GeneratedRuns play_laws/Observer play_laws/Summary "
         "script_read/GeneratedScripts",
     "Verdicts": "run_verify/Verdicts run_verify/ReadPatterns",
     "Maps": "seg_report/Lines seg_report/Parts seg_report/Fits entry_slots/Lists sma_blocks/Live",

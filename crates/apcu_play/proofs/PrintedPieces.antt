@@ -7,7 +7,7 @@ use Rattle.std.proofs.lemmas.List.{append-nil, drop_all, drop_more, take_more, t
 use Rattle.std.proofs.lemmas.Option.{slice_get_within, get_or_from_slice_get}
 use Rattle.std.proofs.lemmas.Grind.{flat_map-append}
 use Rattle.apcu_model.specs.declared.journal.Mark.{Mark}
-use Rattle.generated_laws.specs.Summary.{counter_lines}
+use Rattle.play_laws.specs.Summary.{counter_lines}
 use Rattle.script_read.specs.Grammar.{ends_line}
 use Rattle.reply_text.specs.Output.{mark_line, worker_texts}
 

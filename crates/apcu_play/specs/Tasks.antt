@@ -16,7 +16,7 @@ use Rattle.script_read.specs.Clock.{all_timed}
 use Rattle.script_read.specs.Patterns.{SomeRefusable}
 use Rattle.script_read.specs.Play.{Play as Played, played, IsLegal, IsCompletePlay}
 use Rattle.reply_text.specs.Output.{output_of}
-use Rattle.generated_laws.specs.Summary.{Summary, summary_text}
+use Rattle.play_laws.specs.Summary.{Summary, summary_text}
 use Rattle.run_verify.specs.declared.verifying.Verdict.{Verdict}
 use Rattle.run_verify.specs.declared.verifying.Verdict.TheVariants.{Yes, NoJournal, Event, Byte}
 use Rattle.run_verify.specs.Verdicts.{verdict_of}

@@ -7,7 +7,7 @@ ghost use Rattle.cache_core.specs.CoreCache.{CacheStands};
 ghost use Rattle.script_read.specs.Budgets.{all_events, most_events};
 ghost use Rattle.script_read.specs.Patterns.{SomeRefusable};
 ghost use Rattle.crew_play.specs.declared.play.CrewFault.TheVariants.{TooMany, Pattern};
-ghost use Rattle.generated_laws.specs.Summary.{IsLarge};
+ghost use Rattle.play_laws.specs.Summary.{IsLarge};
 ghost use Rattle.apcu_play.specs.Tasks.{AnswersSeed, generated_events};
 ghost use Rattle.apcu_play.specs.Printing.{PrintsCrew, rest_of};
 ghost use Rattle.reply_text.specs.Output.{worker_texts};

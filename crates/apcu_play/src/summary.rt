@@ -2,7 +2,7 @@
 
 ghost use Rattle.std.specs.Prelude.{◌≡◌, ◌++◌, codes, OnOk};
 ghost use Rattle.std.specs.Fmt.{decimal, signed_decimal};
-ghost use Rattle.generated_laws.specs.Summary.{counter_lines, summary_text};
+ghost use Rattle.play_laws.specs.Summary.{counter_lines, summary_text};
 ghost use Rattle.crew_play.specs.GeneratedRuns.{summary_in};
 
 use crew_play::Watched;

@@ -1,4 +1,4 @@
-use output_laws::outputs_tell_journals;
+use reply_text::outputs_tell_journals;
 
 #[test]
 fn states_its_laws() {

@@ -24,8 +24,8 @@ use Rattle.script_read.specs.Play.{Play, played, IsCompletePlay}
 use Rattle.play_laws.specs.Own.{own_replies, wish_in, HasPlayed}
 use Rattle.play_laws.specs.Parts.{events-append, get_behind}
 use Rattle.play_laws.specs.Whole.{IsPlayedOut, play_of}
-use Rattle.generated_laws.specs.Observer.{IsObservedLast, counters_read, observed, wish_to_end, wishes_of_looks}
-use Rattle.generated_laws.specs.Summary.{IsLarge, Summary, number_found, summary_due, summary_of}
+use Rattle.play_laws.specs.Observer.{IsObservedLast, counters_read, observed, wish_to_end, wishes_of_looks}
+use Rattle.play_laws.specs.Summary.{IsLarge, Summary, number_found, summary_due, summary_of}
 use Rattle.shared_cache.specs.declared.locked_cache.Closed.{Closed}
 use Rattle.shared_cache.specs.ClosedCaches.{IsClosed}
 use Rattle.worker_play.specs.Ends.{HasEnded, HasMade, PlaysAll}

@@ -13,7 +13,7 @@ use Rattle.script_read.specs.GeneratedScripts.{Draw, steps_of_draws}
 use Rattle.script_read.specs.Play.{Wish, wanted}
 use Rattle.play_laws.specs.Own.{own_replies, wish_in, AreInTurn, HasPlayed}
 use Rattle.play_laws.specs.Parts.{get_joined}
-use Rattle.generated_laws.specs.Observer.{counters_read, wish_to_end, wishes_of_draws, wishes_of_looks}
+use Rattle.play_laws.specs.Observer.{counters_read, wish_to_end, wishes_of_draws, wishes_of_looks}
 use Rattle.worker_play.specs.Ends.{HasMade, PlaysAll}
 use Rattle.worker_play.specs.Goes.{GoesOn}
 use Rattle.crew_play.proofs.EndedCrews.{get_some}

@@ -10,8 +10,8 @@ use Rattle.script_read.specs.declared.script.Step.{Step}
 use Rattle.script_read.specs.Budgets.{events_in, most_events}
 use Rattle.script_read.specs.GeneratedScripts.{draws_of, generated}
 use Rattle.script_read.specs.Play.{Play, played, IsCompletePlay}
-use Rattle.generated_laws.specs.Observer.{IsObservedLast, observed}
-use Rattle.generated_laws.specs.Summary.{IsLarge, Summary, summary_due, summary_of}
+use Rattle.play_laws.specs.Observer.{IsObservedLast, observed}
+use Rattle.play_laws.specs.Summary.{IsLarge, Summary, summary_due, summary_of}
 use Rattle.worker_play.specs.Ends.{HasEnded, HasMade, PlaysAll}
 use Rattle.worker_play.specs.Goes.{KnowsOwnEvents}
 use Rattle.crew_play.specs.declared.generated.Watched.{Watched}

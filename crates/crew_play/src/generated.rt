@@ -7,7 +7,7 @@ ghost use Rattle.script_read.specs.Budgets.{events_in, most_events};
 ghost use Rattle.script_read.specs.Clock.{timed, all_timed};
 ghost use Rattle.apcu_model.specs.declared.conf.Clock.TheVariants.{Line};
 ghost use Rattle.pin_table.specs.Lists.{first_passes};
-ghost use Rattle.generated_laws.specs.Summary.{IsLarge};
+ghost use Rattle.play_laws.specs.Summary.{IsLarge};
 ghost use Rattle.worker_play.specs.Ends.{HasEnded, PlaysAll};
 ghost use Rattle.worker_play.specs.Goes.{KnowsOwnEvents};
 ghost use Rattle.crew_play.specs.GeneratedRuns.{summary_in, watched_budgets, IsRun, IsWatched};
@@ -18,10 +18,11 @@ use crate::crew::last_worker;
 use crate::play::CrewFault;
 use apcu_iter::Maker;
 use apcu_model::{Clock, Conf, MOST_EVENTS};
-use generated_laws::{generated_wishes, looks_come_last, summaries_agree};
 use io_edges::Gate;
 use pin_table::{Ended, EndedList, Pass, Passes, TableName};
-use play_laws::{histories_are_plays, one_event_own};
+use play_laws::{
+    generated_wishes, histories_are_plays, looks_come_last, one_event_own, summaries_agree,
+};
 use script_read::{Scripts, generate, scripts_cross};
 use shared_cache::{Closed, Fresh, Shared, open_cache};
 use std::alloc::{AllocError, Global};

@@ -2,3 +2,10 @@ pub mod Own
 pub mod Parts
 pub mod Whole
 pub mod JournalEvents
+pub mod Calls
+pub mod Exchanges
+pub mod Walks
+pub mod Journals
+pub mod Counting
+pub mod Observer
+pub mod Summary

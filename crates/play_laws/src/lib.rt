@@ -1,7 +1,15 @@
 //! Laws of the play of many workers: what each worker asks and is answered in a history of events,
-//! and that such a history is the play that its journal tells.
+//! and that such a history is the play that its journal tells; what an iterator gives step by step,
+//! whatever is done to the cache between; what increments on a key come to; and that every play of
+//! generated scripts comes to one summary.
 #![tactic(auto)]
 
+mod counting;
 mod laws;
+mod walks;
 
+pub use counting::{counters_count, generated_wishes, looks_come_last, summaries_agree};
 pub use laws::{histories_are_plays, one_event_own};
+pub use walks::{
+    calls_are_walks, steps_of_walks, walks_give_once, walks_in_histories, walks_in_journals,
+};

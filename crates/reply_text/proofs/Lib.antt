@@ -2,3 +2,6 @@ pub mod NotedAnswers
 pub mod MemberCounts
 pub mod ItemTexts
 pub mod SeveralKeys
+mod Numbers
+mod JournalLines
+mod LegalJournals

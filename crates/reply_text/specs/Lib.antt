@@ -5,3 +5,4 @@ pub mod Fields
 pub mod PoolReplies
 pub mod Lines
 pub mod Output
+pub mod InRange

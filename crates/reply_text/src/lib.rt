@@ -1,7 +1,9 @@
-//! What calls of a script print for their replies, in serialize notation.
+//! What calls of a script print for their replies, in serialize notation; and that an output tells
+//! its journal.
 #![tactic(auto)]
 
 mod fields;
+mod laws;
 mod notes;
 mod pools;
 mod rendering;
@@ -12,6 +14,7 @@ mod single;
 mod value;
 mod walks;
 
+pub use laws::outputs_tell_journals;
 pub use notes::Notes;
 pub use rendering::render;
 pub use replies::{

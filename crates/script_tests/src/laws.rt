@@ -1,14 +1,14 @@
 //! The laws of scripts, plays, walks, counters, generated scripts, bundles and pools are called.
 
-use generated_laws::{counters_count, generated_wishes, looks_come_last, summaries_agree};
-use play_laws::{histories_are_plays, one_event_own};
+use play_laws::{
+    calls_are_walks, counters_count, generated_wishes, histories_are_plays, looks_come_last,
+    one_event_own, steps_of_walks, summaries_agree, walks_give_once, walks_in_histories,
+    walks_in_journals,
+};
 use pool_laws::{calls_are_tied, calls_stand_alone, pools_in_plays, pools_stand_alone};
 use preload_set::{bundles_load, loaders_only_store, readings_are_bundles};
 use script_read::scripts_are_ranged;
 use simple_pool::keys_tell_pools_apart;
-use walk_laws::{
-    calls_are_walks, steps_of_walks, walks_give_once, walks_in_histories, walks_in_journals,
-};
 
 #[test]
 fn states_its_laws() {

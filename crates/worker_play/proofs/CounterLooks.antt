@@ -11,8 +11,8 @@ use Rattle.apcu_model.specs.declared.request.Reply.TheVariants.{Ended}
 use Rattle.pin_table.specs.Values.{PassView}
 use Rattle.script_read.specs.GeneratedScripts.{counter_key}
 use Rattle.script_read.specs.Play.{Wish}
-use Rattle.generated_laws.specs.Observer.{wish_now, wish_to_end, wishes_of_looks}
-use Rattle.generated_laws.specs.Summary.{number_found}
+use Rattle.play_laws.specs.Observer.{wish_now, wish_to_end, wishes_of_looks}
+use Rattle.play_laws.specs.Summary.{number_found}
 use Rattle.shared_cache.specs.Follows.{Follows}
 use Rattle.worker_play.specs.Goes.{KnowsOwnEvents, GoesOn}
 use Rattle.worker_play.specs.Looks.{Observes}

@@ -4,8 +4,8 @@ use Rattle.apcu_model.specs.declared.conf.Conf.{Conf}
 use Rattle.apcu_model.specs.declared.request.Reply.{Reply}
 use Rattle.apcu_model.specs.declared.request.Reply.TheVariants.{Ended}
 use Rattle.pin_table.specs.Values.{PassView}
-use Rattle.generated_laws.specs.Observer.{wishes_of_looks, wish_to_end}
-use Rattle.generated_laws.specs.Summary.{number_found}
+use Rattle.play_laws.specs.Observer.{wishes_of_looks, wish_to_end}
+use Rattle.play_laws.specs.Summary.{number_found}
 use Rattle.worker_play.specs.Goes.{GoesOn}
 
 -- Its worker fetched the counters in order, found these numbers, and then ended.

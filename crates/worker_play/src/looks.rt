@@ -4,8 +4,8 @@ ghost use Rattle.std.specs.Prelude.{◌≡◌, ◌<◌, ◌≤◌, [], ◌∷◌
 ghost use Rattle.apcu_model.specs.declared.request.Request.TheVariants as requests;
 ghost use Rattle.apcu_model.specs.declared.request.Reply.{Reply};
 ghost use Rattle.script_read.specs.GeneratedScripts.{counter_key};
-ghost use Rattle.generated_laws.specs.Observer.{wish_now};
-ghost use Rattle.generated_laws.specs.Summary.{first_number, number_found};
+ghost use Rattle.play_laws.specs.Observer.{wish_now};
+ghost use Rattle.play_laws.specs.Summary.{first_number, number_found};
 ghost use Rattle.shared_cache.specs.PinnedFetches.{graph_of};
 ghost use Rattle.worker_play.specs.Goes.{KnowsOwnEvents, GoesOn};
 ghost use Rattle.worker_play.specs.Looks.{Observes};

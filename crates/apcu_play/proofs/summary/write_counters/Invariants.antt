@@ -1,5 +1,5 @@
 use Rattle.std.proofs.Common.{◌≡◌, ◌++◌, drop}
-use Rattle.generated_laws.specs.Summary.{counter_lines}
+use Rattle.play_laws.specs.Summary.{counter_lines}
 use Rattle.apcu_play.proofs.summary.write_counters.Given as goal
 
 abbrev pub invariant-loop-n : goal.invariant-loop-n

@@ -9,7 +9,7 @@ use Rattle.apcu_model.specs.declared.request.Reply.TheVariants as reply
 use Rattle.apcu_model.specs.History.{is_scalar}
 use Rattle.pin_table.specs.Values.{PassView}
 use Rattle.script_read.specs.GeneratedScripts.{counter_key}
-use Rattle.generated_laws.specs.Summary.{first_number}
+use Rattle.play_laws.specs.Summary.{first_number}
 use Rattle.shared_cache.specs.PinnedFetches.{graph_of, pass_view_of}
 use Rattle.worker_play.specs.Goes.{wish, GoesOn}
 use Rattle.worker_play.proofs.PassProgress.{one}

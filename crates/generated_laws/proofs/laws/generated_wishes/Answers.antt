@@ -1,6 +1,0 @@
-use Rattle.generated_laws.proofs.ObserverWishes.{others_want, observer_wants}
-use Rattle.generated_laws.proofs.TimedScripts.{same_timed}
-use Rattle.generated_laws.proofs.laws.generated_wishes.Goals as goal
-
-pub returns : goal.returns
-returns c = record { others = others_want; observer = observer_wants; timed = same_timed }

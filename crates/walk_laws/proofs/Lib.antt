@@ -1,6 +1,0 @@
-mod WalkAnswers
-mod CallWalks
-mod KeyCounts
-mod WalkSteps
-mod WalkLemmas
-mod JournalCalls

@@ -1,5 +1,0 @@
-use Rattle.walk_laws.proofs.CallWalks as lemmas
-use Rattle.walk_laws.proofs.laws.calls_are_walks.Goals as goal
-
-pub returns : goal.returns
-returns c = record { walk = lemmas.walk; whole = lemmas.whole c.events_keep.ensures }
