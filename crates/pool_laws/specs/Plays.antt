@@ -9,8 +9,8 @@ use Rattle.apcu_model.specs.History.{reply_in}
 use Rattle.script_read.specs.declared.call.Call.{Call}
 use Rattle.script_read.specs.declared.call.Call.TheVariants.{Pool}
 use Rattle.script_read.specs.declared.script.Step.{Step}
-use Rattle.script_read.specs.Play.{Next, Asks, Leaves, Wish, Play, next_of, nothing_played, replies_of}
-use Rattle.script_read.specs.Play.{script_of, wish_of, event_of, after_wish}
+use Rattle.script_read.specs.Play.{Next, Asks, Leaves, Wish, Play, next_of, nothing_played}
+use Rattle.script_read.specs.Play.{replies_of, script_of, wish_of, event_of, after_wish}
 use Rattle.pool_laws.specs.Calls.{Asked, is_by}
 use Rattle.pool_laws.specs.Pools.{map_answers}
 
