@@ -1,5 +1,5 @@
-ghost use Rattle.std.specs.Prelude.{◌≡◌, ℕ, ◌+◌, ◌-◌, ◌/◌, ◌^◌, ◌<◌, ◌≤◌, nat_le, length, replicate};
-ghost use Rattle.std.specs.Prelude.{slice_index, slice_set, IfOk};
+ghost use Rattle.std.specs.Prelude.{◌≡◌, ℕ, ◌+◌, ◌-◌, ◌/◌, ◌^◌, ◌<◌, ◌≤◌, nat_le, length};
+ghost use Rattle.std.specs.Prelude.{replicate, slice_index, slice_set, IfOk};
 ghost use Rattle.std.specs.List.{position};
 ghost use Rattle.max_tree.specs.Pages.{largest};
 
