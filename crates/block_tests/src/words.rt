@@ -281,6 +281,23 @@ fn loads_eight_words(rt: HostRuntime) -> Result<(), Fail> {
     Ok(())
 }
 
+// Words that are written already, and words that are not yet.
+#[test]
+fn stores_eight_words(rt: HostRuntime) -> Result<(), Fail> {
+    let mut row = VecWords::new(rt.alloc(), 10)?;
+    row.store_eight(1, &[3, 1, 4, 1, 5, 9, 2, 6]);
+    let told = (row.load(0), row.load(1), row.load(8), row.load(9));
+    assert_eq!(rt; told, (0, 3, 6, 0));
+    let mut late = LateWords::new(rt.alloc(), 18)?;
+    late.store(9, 5);
+    late.store_eight(1, &[3, 1, 4, 1, 5, 9, 2, 6]);
+    late.store_eight(10, &[2, 7, 1, 8, 2, 8, 1, 8]);
+    let first = (late.load(0), late.load(1), late.load(8), late.load(9));
+    assert_eq!(rt; first, (0, 3, 6, 5));
+    assert_eq!(rt; (late.load(10), late.load(17)), (2, 8));
+    Ok(())
+}
+
 #[test]
 fn serves_by_its_bound(rt: HostRuntime) -> Result<(), Fail> {
     let mut words = VecWords::new(rt.alloc(), 14)?;
