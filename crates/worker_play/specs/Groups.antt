@@ -2,7 +2,7 @@
 use Rattle.script_read.specs.declared.call.Call.{Call}
 use Rattle.script_read.specs.declared.call.Call.TheVariants.{StoreOne, ExistsOne, DeleteOne, Cas}
 use Rattle.script_read.specs.declared.call.Call.TheVariants.{KeyInfo, CacheInfo, SmaInfo, Walk}
-use Rattle.script_read.specs.declared.call.Call.TheVariants.{WalkDelete, Totals}
+use Rattle.script_read.specs.declared.call.Call.TheVariants.{WalkDelete, Totals, Pool}
 
 -- of one key, and answered by whether it was done
 abbrev pub IsFlagged : Call → Type 0
@@ -19,9 +19,18 @@ IsInforming (CacheInfo limited) = Unit {0}
 IsInforming (SmaInfo limited) = Unit {0}
 IsInforming _ = ⊥
 
--- over the rows whose keys a search finds
-abbrev pub IsSearching : Call → Type 0
-IsSearching (Walk wanted fields size list) = Unit {0}
-IsSearching (WalkDelete wanted size) = Unit {0}
-IsSearching (Totals wanted list) = Unit {0}
-IsSearching _ = ⊥
+-- over the rows whose keys a search finds, or on a pool, which is cleared by a search
+abbrev pub MayNeedSearch : Call → Type 0
+MayNeedSearch (Walk wanted fields size list) = Unit {0}
+MayNeedSearch (WalkDelete wanted size) = Unit {0}
+MayNeedSearch (Totals wanted list) = Unit {0}
+MayNeedSearch (Pool call) = Unit {0}
+MayNeedSearch _ = ⊥
+
+-- all others
+abbrev pub NeedsNoSearch : Call → Type 0
+NeedsNoSearch (Walk wanted fields size list) = ⊥
+NeedsNoSearch (WalkDelete wanted size) = ⊥
+NeedsNoSearch (Totals wanted list) = ⊥
+NeedsNoSearch (Pool call) = ⊥
+NeedsNoSearch _ = Unit {0}

@@ -11,7 +11,8 @@ ghost use Rattle.reply_text.specs.Replies.{unstored_text, found_text, there_text
 ghost use Rattle.reply_text.specs.Lines.{call_text};
 ghost use Rattle.shared_cache.specs.Asking.{MayAsk};
 ghost use Rattle.worker_play.specs.Goes.{KnowsOwnEvents, Reaches, Tells};
-ghost use Rattle.worker_play.specs.Groups.{IsFlagged, IsInforming, IsSearching};
+ghost use Rattle.worker_play.specs.Groups.{IsFlagged, IsInforming, MayNeedSearch};
+ghost use Rattle.worker_play.specs.Groups.{NeedsNoSearch};
 ghost use Rattle.worker_play.specs.Turns.{turns_at, asks_at};
 
 use crate::chunks::totals;
@@ -37,27 +38,24 @@ use shared_cache::Shared;
 use std::alloc::{AllocError, Global};
 use std::sync::Wait;
 
-// Plays a call, and prints what it answers. `index` is that of the call in its script, and
-// `search` is one for its pattern.
-pub(crate) fn play_call<N: TableName, G: Gate, R: Wait>(
+// Plays a call that needs no search, and prints what it answers. `index` is that of the call in its
+// script.
+pub(crate) fn play_directly<N: TableName, G: Gate, R: Wait>(
     rt: &R,
     alloc: Global,
     shared: &Shared<N>,
     gate: &G,
     index: u32,
-    slots: u32,
     pass: Pass,
     call: &Call,
-    search: &mut Search,
     t: u64,
     out: &mut ByteOut,
 ) -> (Pass, Result<(), AllocError>)
     requires table { pass.table ≡ N.table }
     requires whole { KnowsOwnEvents pass }
-    requires slots { slots ≡ N.conf.slots }
     requires left { event_bound N.conf.slots call.now < pass.known.left }
     requires ranges { HasRanges call.now }
-    requires search { search.old ≡ call_pattern call.now }
+    requires direct { NeedsNoSearch call.now }
     ensures reaches { Reaches N.conf (length N.budgets) pass result.0
         (turns_at t (next_of N.conf call.now)) }
     ensures line { OnOk result.1 (Tells N.conf (length N.budgets) pass result.0
@@ -120,15 +118,7 @@ pub(crate) fn play_call<N: TableName, G: Gate, R: Wait>(
         Call::KeyInfo(_) | Call::CacheInfo(_) | Call::SmaInfo(_) => {
             play_told(rt, alloc, shared, pass, call, t, out)
         }
-        Call::Walk { .. } | Call::WalkDelete { .. } | Call::Totals { .. } => play_searching(
-            rt, alloc, shared, gate, index, slots, pass, call, search, t, out,
-        ),
-        Call::Pool(boxed) => {
-            let call = boxed.call();
-            play_pool(
-                rt, alloc, shared, gate, index, slots, pass, call, search, t, out,
-            )
-        }
+        _ => unreachable!(),
     }
 }
 
@@ -222,10 +212,9 @@ fn play_told<N: TableName, R: Wait>(
     }
 }
 
-// Plays a call of an iterator, and prints what it answers. `index` is that of the call in its
-// script, and `search` is one for its pattern.
-#[inline(never)]
-fn play_searching<N: TableName, G: Gate, R: Wait>(
+// Plays a call of an iterator or on a pool, and prints what it answers. `index` is that of the call
+// in its script, and `search` is one for its pattern.
+pub(crate) fn play_searching<N: TableName, G: Gate, R: Wait>(
     rt: &R,
     alloc: Global,
     shared: &Shared<N>,
@@ -244,7 +233,7 @@ fn play_searching<N: TableName, G: Gate, R: Wait>(
     requires left { event_bound N.conf.slots call.now < pass.known.left }
     requires ranges { HasRanges call.now }
     requires search { search.old ≡ call_pattern call.now }
-    requires searches { IsSearching call.now }
+    requires searches { MayNeedSearch call.now }
     ensures reaches { Reaches N.conf (length N.budgets) pass result.0
         (turns_at t (next_of N.conf call.now)) }
     ensures line { OnOk result.1 (Tells N.conf (length N.budgets) pass result.0
@@ -274,6 +263,12 @@ fn play_searching<N: TableName, G: Gate, R: Wait>(
                 Ok((count, hits, size)) => (pass, write_totals(out, count, hits, size)),
                 Err(e) => (pass, Err(e)),
             }
+        }
+        Call::Pool(boxed) => {
+            let call = boxed.call();
+            play_pool(
+                rt, alloc, shared, gate, index, slots, pass, call, search, t, out,
+            )
         }
         _ => unreachable!(),
     }

@@ -14,6 +14,7 @@ mod pools;
 mod quiet;
 mod scalar;
 mod script;
+mod searching;
 mod walks;
 
 pub use ending::play_out;

@@ -13,8 +13,7 @@ ghost use Rattle.worker_play.specs.Goes.{KnowsOwnEvents, Reaches, Tells};
 ghost use Rattle.worker_play.specs.Turns.{turns_at, turns_of};
 ghost use Rattle.worker_play.specs.declared.script.PlayFault.TheVariants.{Memory, Pattern};
 
-use crate::calls::play_call;
-use crate::patterns::search_of;
+use crate::searching::play_call;
 use apcu_iter::Maker;
 use apcu_model::{Clock, Conf};
 use io_edges::{Gate, Point};
@@ -43,7 +42,7 @@ impl From<AllocError> for PlayFault {
 }
 
 // A call at its moment, and its line. The gate is reached before the call, and after it where it
-// was played. The search for its pattern is made once, and kept for all that the call asks.
+// was played.
 pub(crate) fn play_step<N: TableName, M: Maker, G: Gate, R: Wait>(
     rt: &R,
     alloc: Global,
@@ -71,22 +70,8 @@ pub(crate) fn play_step<N: TableName, M: Maker, G: Gate, R: Wait>(
         → MayBeRefused (M.may_refuse maker.now) (call_pattern call.now)) }
 {
     gate.reached(pass.worker(), Point::Before(index));
-    let mut search = match search_of(alloc, maker, call) {
-        Ok(search) => search,
-        Err(fault) => return (pass, Err(fault)),
-    };
     let (pass, played) = play_call(
-        rt,
-        alloc,
-        shared,
-        gate,
-        index,
-        slots,
-        pass,
-        call,
-        &mut search,
-        t,
-        out,
+        rt, alloc, shared, maker, gate, index, slots, pass, call, t, out,
     );
     match played {
         Ok(()) => {
@@ -94,7 +79,7 @@ pub(crate) fn play_step<N: TableName, M: Maker, G: Gate, R: Wait>(
             gate.reached(pass.worker(), Point::After(index));
             (pass, ended)
         }
-        Err(_) => (pass, Err(PlayFault::Memory)),
+        Err(fault) => (pass, Err(fault)),
     }
 }
 

@@ -1,4 +1,4 @@
-use Rattle.std.proofs.Common.{◌≡◌, ℕ, refl, sym, ap, subst, ◌∙◌}
+use Rattle.std.proofs.Common.{◌≡◌, ◌<◌, ◌++◌, ℕ, refl, sym, ap, subst, ◌∙◌}
 use Rattle.apcu_model.specs.declared.request.Request.TheVariants as request
 use Rattle.apcu_model.specs.declared.request.Reply.TheVariants as reply
 use Rattle.apcu_model.specs.declared.searching.List.TheVariants.{Active, Deleted}
@@ -9,7 +9,9 @@ use Rattle.script_read.specs.declared.call.Call.{Call}
 use Rattle.script_read.specs.Play.{Asking, Steps, asking_of, asks_so, next_of}
 use Rattle.worker_play.specs.Goes.{Reaches}
 use Rattle.worker_play.specs.Turns.{turns_at, steps_at}
-use Rattle.script_read.specs.declared.call.Call.TheVariants.{Walk, WalkDelete, Totals}
+use Rattle.script_read.specs.declared.call.Call.TheVariants.{Walk, WalkDelete, Totals, Pool}
+use Rattle.script_read.specs.Calls.{HasRanges, event_bound}
+use Rattle.script_read.specs.Patterns.{call_pattern}
 use Rattle.worker_play.proofs.PassProgress.{nothing_made, on_ok, of_if_ok}
 use Rattle.worker_play.proofs.CallForms.{call_asks, call_tells, told_once}
 use Rattle.worker_play.proofs.Iterators.{by_search, steps_reached, steps_told}
@@ -84,3 +86,29 @@ returns-in-Ok-clause-line g c =
 pub returns-in-Err-clause-reaches : goal.returns-in-Err-clause-reaches
 returns-in-Err-clause-reaches g c =
     nothing_made _ _ _ _ _ c.totals-pass.result.1 c.in-Err.e c.in-Err.is c.totals-pass.ensures.same c.requires.whole
+
+-- ---- a pool
+
+pub play_pool-requires-clause-table : goal.play_pool-requires-clause-table
+play_pool-requires-clause-table g c = c.requires.table
+
+pub play_pool-requires-clause-whole : goal.play_pool-requires-clause-whole
+play_pool-requires-clause-whole g c = c.requires.whole
+
+pub play_pool-requires-clause-slots : goal.play_pool-requires-clause-slots
+play_pool-requires-clause-slots g c = c.requires.slots
+
+pub play_pool-requires-clause-left : goal.play_pool-requires-clause-left
+play_pool-requires-clause-left g c = subst (λ (call : Call). event_bound g.N.TableName.conf.slots call < c.args.pass.known.left) (c.in-Pool.is ∙ ap Pool (sym c.call-call.ensures)) c.requires.left
+
+pub play_pool-requires-clause-good : goal.play_pool-requires-clause-good
+play_pool-requires-clause-good g c = subst HasRanges (c.in-Pool.is ∙ ap Pool (sym c.call-call.ensures)) c.requires.ranges
+
+pub play_pool-requires-clause-search : goal.play_pool-requires-clause-search
+play_pool-requires-clause-search g c = c.requires.search ∙ ap call_pattern (c.in-Pool.is ∙ ap Pool (sym c.call-call.ensures))
+
+pub returns-in-Pool-clause-reaches : goal.returns-in-Pool-clause-reaches
+returns-in-Pool-clause-reaches g c = call_asks _ _ _ _ _ _ _ (c.in-Pool.is ∙ ap Pool (sym c.call-call.ensures)) c.play_pool.ensures.reaches
+
+pub returns-in-Pool-clause-line : goal.returns-in-Pool-clause-line
+returns-in-Pool-clause-line g c = on_ok c.play_pool.result.1 (λ told. call_tells _ _ _ _ _ _ _ _ _ (c.in-Pool.is ∙ ap Pool (sym c.call-call.ensures)) told) c.play_pool.ensures.line

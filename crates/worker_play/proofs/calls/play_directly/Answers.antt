@@ -1,11 +1,8 @@
-use Rattle.std.proofs.Common.{◌≡◌, ◌<◌, ◌++◌, refl, sym, ap, subst, ◌∙◌, rules}
-use Rattle.script_read.specs.declared.call.Call.{Call}
-use Rattle.script_read.specs.Calls.{HasRanges, event_bound}
-use Rattle.script_read.specs.Patterns.{call_pattern}
-use Rattle.script_read.specs.declared.call.Call.TheVariants.{StoreMany, FetchMany, ExistsMany, DeleteMany, Enabled, Pool}
+use Rattle.std.proofs.Common.{◌≡◌, ◌++◌, refl, sym, ap, ◌∙◌, rules}
+use Rattle.script_read.specs.declared.call.Call.TheVariants.{StoreMany, FetchMany, ExistsMany, DeleteMany, Enabled}
 use Rattle.worker_play.proofs.PassProgress.{nothing_asked, nothing_made, on_ok, of_if_ok}
 use Rattle.worker_play.proofs.CallForms.{call_asks, call_tells, told_once}
-use Rattle.worker_play.proofs.calls.play_call.Goals as goal
+use Rattle.worker_play.proofs.calls.play_directly.Goals as goal
 
 -- ---- what the calls ask for
 
@@ -51,42 +48,6 @@ clear-pass-requires-clause-whole g c = c.requires.whole
 pub play_told-requires-clause-whole : goal.play_told-requires-clause-whole
 play_told-requires-clause-whole g c = c.requires.whole
 
-pub play_searching-requires-clause-table : goal.play_searching-requires-clause-table
-play_searching-requires-clause-table g c = c.requires.table
-
-pub play_searching-requires-clause-whole : goal.play_searching-requires-clause-whole
-play_searching-requires-clause-whole g c = c.requires.whole
-
-pub play_searching-requires-clause-slots : goal.play_searching-requires-clause-slots
-play_searching-requires-clause-slots g c = c.requires.slots
-
-pub play_searching-requires-clause-left : goal.play_searching-requires-clause-left
-play_searching-requires-clause-left g c = c.requires.left
-
-pub play_searching-requires-clause-ranges : goal.play_searching-requires-clause-ranges
-play_searching-requires-clause-ranges g c = c.requires.ranges
-
-pub play_searching-requires-clause-search : goal.play_searching-requires-clause-search
-play_searching-requires-clause-search g c = c.requires.search
-
-pub play_pool-requires-clause-table : goal.play_pool-requires-clause-table
-play_pool-requires-clause-table g c = c.requires.table
-
-pub play_pool-requires-clause-whole : goal.play_pool-requires-clause-whole
-play_pool-requires-clause-whole g c = c.requires.whole
-
-pub play_pool-requires-clause-slots : goal.play_pool-requires-clause-slots
-play_pool-requires-clause-slots g c = c.requires.slots
-
-pub play_pool-requires-clause-left : goal.play_pool-requires-clause-left
-play_pool-requires-clause-left g c = subst (λ (call : Call). event_bound g.N.TableName.conf.slots call < c.args.pass.known.left) (c.in-Pool.is ∙ ap Pool (sym c.call-call.ensures)) c.requires.left
-
-pub play_pool-requires-clause-good : goal.play_pool-requires-clause-good
-play_pool-requires-clause-good g c = subst HasRanges (c.in-Pool.is ∙ ap Pool (sym c.call-call.ensures)) c.requires.ranges
-
-pub play_pool-requires-clause-search : goal.play_pool-requires-clause-search
-play_pool-requires-clause-search g c = c.requires.search ∙ ap call_pattern (c.in-Pool.is ∙ ap Pool (sym c.call-call.ensures))
-
 -- ---- one event
 
 pub returns-in-Inc-clause-line : goal.returns-in-Inc-clause-line
@@ -126,14 +87,6 @@ returns-in-DeleteMany-clause-reaches g c = call_asks _ _ _ _ _ _ _ (c.in-DeleteM
 
 pub returns-in-DeleteMany-clause-line : goal.returns-in-DeleteMany-clause-line
 returns-in-DeleteMany-clause-line g c = on_ok c.delete_all.result.1 (λ told. call_tells _ _ _ _ _ _ _ _ _ (c.in-DeleteMany.is ∙ ap DeleteMany (sym c.as_slice-in-DeleteMany.ensures)) told) c.delete_all.ensures.line
-
--- ---- a pool
-
-pub returns-in-Pool-clause-reaches : goal.returns-in-Pool-clause-reaches
-returns-in-Pool-clause-reaches g c = call_asks _ _ _ _ _ _ _ (c.in-Pool.is ∙ ap Pool (sym c.call-call.ensures)) c.play_pool.ensures.reaches
-
-pub returns-in-Pool-clause-line : goal.returns-in-Pool-clause-line
-returns-in-Pool-clause-line g c = on_ok c.play_pool.result.1 (λ told. call_tells _ _ _ _ _ _ _ _ _ (c.in-Pool.is ∙ ap Pool (sym c.call-call.ensures)) told) c.play_pool.ensures.line
 
 -- ---- no event
 
