@@ -77,7 +77,8 @@ enum {
     CACHE_DELETE, /* apcu_delete: key */
     CACHE_COUNT,  /* apcu_inc: key, number is the step, ttl of a new row */
     CACHE_SWAP,   /* apcu_cas: key, number is expected, set is set */
-    CACHE_CLEAR   /* apcu_clear_cache */
+    CACHE_CLEAR,  /* apcu_clear_cache */
+    CACHE_HOLD    /* apcu_fetch: key; number is a seat, set is from how many bytes on it is taken */
 };
 
 /* Kinds of values; an answer has them too. */
@@ -88,8 +89,8 @@ typedef struct {
     uint32_t value;  /* which kind of value is stored */
     uint32_t ttl;    /* seconds; 0: no limit */
     uint64_t t;      /* the second of the call */
-    uint64_t number; /* an integer's 64 bits, or a truth value */
-    uint64_t set;    /* an integer's 64 bits */
+    uint64_t number; /* an integer's 64 bits, or a truth value; a seat */
+    uint64_t set;    /* an integer's 64 bits; a count of bytes */
 } cache_request;
 
 /* The answers that are no values. */
@@ -110,9 +111,22 @@ typedef struct {
     uint64_t len;   /* how many bytes a string has */
 } cache_answer;
 
-/* Asks the cache for one event. The place of a string's bytes is good until the next event. */
+/* Asks the cache for one event. The place of a string's bytes is good until the next event.
+ *
+ * Of a string that CACHE_HOLD answers, of `set` bytes or more, the seat `number` holds the row from
+ * then on, and what it held before no longer. Its bytes stay where they are, and no call writes
+ * there, whatever is stored, deleted or cleared: the words from `place` on may be read with no lock,
+ * until the seat is let go, or taken again. What the row takes is given out again only after that,
+ * so a store may find less room; it never waits. */
 static inline cache_answer cache_ask(uint8_t *at, const cache_request *ask, const uint8_t *key,
                                      size_t key_len, const uint8_t *bytes, size_t bytes_len);
+
+/* How many seats there are, from 0 on. */
+enum { CACHE_SEATS = 64 };
+
+/* The seat holds nothing from now on; false where there is none of this number, or a null. It is no
+ * event. */
+static inline bool cache_let_go(uint8_t *at, uint32_t seat);
 
 /* Fills the memory with the bytes from this place on; false where there are not so many words, or a
  * pointer is null. */
@@ -172,6 +186,7 @@ static inline uint64_t cache_list_gaps(uint8_t *at, uint32_t from, cache_gap *ou
 uint32_t cache_new_unchecked(const cache_shape *shape, uint8_t *at);
 cache_answer cache_ask_unchecked(uint8_t *at, const cache_request *ask, const uint8_t *key,
                                  size_t key_len, const uint8_t *bytes, size_t bytes_len);
+bool cache_let_go_unchecked(uint8_t *at, uint32_t seat);
 bool cache_copy_unchecked(uint8_t *at, uint32_t place, uint8_t *out, size_t len);
 cache_counts cache_get_counts_unchecked(uint8_t *at);
 cache_row cache_find_row_unchecked(uint8_t *at, const uint8_t *key, size_t key_len, uint64_t t);
@@ -200,6 +215,10 @@ static inline cache_answer cache_ask(uint8_t *at, const cache_request *ask, cons
     }
     return cache_ask_unchecked(at, ask, key ? key : &none, key_len, bytes ? bytes : &none,
                                bytes_len);
+}
+
+static inline bool cache_let_go(uint8_t *at, uint32_t seat) {
+    return at && cache_let_go_unchecked(at, seat);
 }
 
 static inline bool cache_copy(uint8_t *at, uint32_t place, uint8_t *out, size_t len) {

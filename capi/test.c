@@ -231,7 +231,7 @@ static void refused(void) {
     cache_request put = {.kind = CACHE_STORE, .value = CACHE_STR, .t = 40};
     store("k", CACHE_STR, 0, "kept", 40);
 
-    WANT(ask((cache_request){.kind = 8, .t = 40}, "k", "").kind == CACHE_BAD);
+    WANT(ask((cache_request){.kind = 9, .t = 40}, "k", "").kind == CACHE_BAD);
     WANT(ask((cache_request){.kind = UINT32_MAX, .t = 40}, "k", "").kind == CACHE_BAD);
     WANT(store("k", 4, 0, "", 40) == CACHE_BAD);
     WANT(store("k", UINT32_MAX, 0, "", 40) == CACHE_BAD);

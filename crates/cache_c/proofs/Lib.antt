@@ -1,5 +1,9 @@
+pub mod AskedRequests
+pub mod HeldRows
 pub mod Lookups
+pub mod RefusedSeats
 pub mod RowLists
+pub mod Seats
 pub mod SingleValues
 pub mod Standing
 pub mod Steps

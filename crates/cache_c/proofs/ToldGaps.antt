@@ -1,5 +1,5 @@
 -- Gaps that are told one after the other.
-use Rattle.std.proofs.Common.{◌≡◌, ◌∙◌, ℕ, ◌+◌, ◌-◌, ◌<◌, List, [], ◌∷◌, ◌++◌, length, take, map, refl, sym, ap, length-append}
+use Rattle.std.proofs.Common.{◌≡◌, ◌∙◌, ℕ, ◌+◌, ◌<◌, List, [], ◌∷◌, ◌++◌, length, take, map, refl, sym, ap, length-append}
 use Rattle.std.proofs.lemmas.List.{append_assoc, take_more_set, length-map}
 use Rattle.std.specs.List.{slice_set}
 use Rattle.seg_words.specs.declared.gaps.Extent.{Extent}

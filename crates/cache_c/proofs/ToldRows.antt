@@ -1,5 +1,5 @@
 -- The numbers of a row tell it.
-use Rattle.std.proofs.Common.{◌≡◌, ◌≢◌, ℕ, ◌+◌, ◌<◌, Bool, List, [], ◌∷◌, Some, refl, sym, subst, arith}
+use Rattle.std.proofs.Common.{◌≡◌, ◌≢◌, ℕ, ◌+◌, ◌<◌, List, [], ◌∷◌, Some, refl, sym, subst, arith}
 use Rattle.php_graph.specs.declared.kind.Kind.{Kind}
 use Rattle.php_graph.specs.declared.kind.Kind.TheVariants as kinds
 use Rattle.seg_words.specs.Windows.{Aside}
@@ -20,7 +20,8 @@ use Rattle.php_graph.specs.Size.{image_length}
 use Rattle.value_image.specs.Image.{IsImageOf}
 use Rattle.cache_c.specs.declared.asking.Answer.{Answer}
 use Rattle.cache_c.specs.declared.rows.ToldRow.{ToldRow}
-use Rattle.cache_c.specs.Asked.{IsValueBy, IsScalarBy, StandAt}
+use Rattle.cache_c.specs.Asked.{IsValueBy, IsScalarBy}
+use Rattle.cache_c.specs.Standing.{StandAt}
 use Rattle.cache_c.specs.Told.{IsRowBy}
 
 -- a scalar of a value tells the value

@@ -1,5 +1,6 @@
 pub mod Asked
 pub mod Made
 pub mod Memory
+pub mod Seats
 pub mod Standing
 pub mod Told

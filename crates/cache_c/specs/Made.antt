@@ -1,5 +1,5 @@
 -- A cache that was made.
-use Rattle.std.specs.Prelude.{◌≡◌, ℕ, ◌⊎◌}
+use Rattle.std.specs.Prelude.{◌≡◌, ℕ, ◌⊎◌, replicate}
 use Rattle.apcu_model.specs.declared.conf.Conf.{Conf}
 use Rattle.apcu_model.specs.Conf.{IsUsable}
 use Rattle.apcu_model.specs.Cache.{empty_cache}
@@ -7,7 +7,7 @@ use Rattle.cache_core.specs.CoreCache.{cache_of}
 use Rattle.cache_c.specs.declared.cache.Cache.{Cache}
 use Rattle.cache_c.specs.declared.making.Shape.{Shape}
 use Rattle.cache_c.specs.declared.making.TheConstants.{BAD_SHAPE, NO_ROOM}
-use Rattle.cache_c.specs.Standing.{IsStanding}
+use Rattle.cache_c.specs.Standing.{IsStanding, seats_of}
 
 -- the shape that is asked for
 abbrev pub conf_of : Shape → Conf
@@ -18,10 +18,11 @@ conf_of shape = record {
   segments = shape.segments;
 }
 
--- its words stand for the empty cache of this shape
+-- its words stand for the empty cache of this shape, and no seat holds a block
 pub record IsEmpty (conf : Conf) (cache : Cache) : Type 0 where
   pub stand : IsStanding cache
   pub empty : cache_of cache.core ≡ empty_cache conf
+  pub seats : seats_of cache ≡ replicate 64 0
 
 -- why none was made: no cache has this shape, or memory is missing for one that has
 abbrev pub IsRefusal : Shape → ℕ → Type 0

@@ -19,7 +19,7 @@ use Rattle.cache_c.specs.contracts.cache.Cache.{the_row}
 use Rattle.cache_c.specs.Standing.{IsStanding, IsKept, words_of}
 use Rattle.cache_c.specs.declared.making.Shape.{Shape}
 use Rattle.cache_c.specs.declared.making.TheConstants.{MADE}
-use Rattle.cache_c.specs.Asked.{asked_for, IsAnswered, HasCopied}
+use Rattle.cache_c.specs.Asked.{asked_for, IsAnswered, HasCopied, HasLetGo, KeepsSeats}
 use Rattle.cache_c.specs.Made.{conf_of, IsEmpty, IsRefusal}
 use Rattle.cache_c.specs.Told.{counts_told, found_row, rows_of, gaps_from}
 use Rattle.cache_c.specs.Told.{IsFoundBy, AreListedBy, AreGapsBy}
@@ -35,10 +35,17 @@ abbrev pub stands_at : Ptr → Cache → Fml
 stands_at at cache = fsep (lies at cache) (fex (IsStanding cache) (λ _. ftrue))
 
 -- It stands there still, and this call was its last event, with what was asked for and the reply
--- that the answer tells; or the answer says that it was none, and nothing changed.
+-- that the answer tells; or the answer says that it was none, and nothing changed. What seats held
+-- stands where it stood, and a seat that is taken holds the string of the answer.
 abbrev pub has_asked : Cache → Ptr → Ask → List ℕ → List ℕ → Answer → Fml
 has_asked old at ask key bytes answer = fex Cache (λ new. fsep (stands_at at new)
-    (fex (IsAnswered old new ask.t (asked_for ask key bytes) answer) (λ _. ftrue)))
+    (fex (IsAnswered old new ask.t (asked_for ask key bytes) answer
+    × KeepsSeats ask old new answer) (λ _. ftrue)))
+
+-- It stands there still, and the seat is empty.
+abbrev pub has_let_go : Cache → Ptr → ℕ → Bool → Fml
+has_let_go old at seat done = fex Cache (λ new. fsep (stands_at at new)
+    (fex (HasLetGo old new seat done) (λ _. ftrue)))
 
 -- room for a cache
 abbrev pub room : Ptr → Fml

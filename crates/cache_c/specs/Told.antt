@@ -10,7 +10,8 @@ use Rattle.apcu_model.specs.Infos.{info_of_row, row_words, gap_words_of}
 use Rattle.cache_c.specs.declared.rows.ToldRow.{ToldRow}
 use Rattle.cache_c.specs.declared.counts.ToldCounts.{ToldCounts}
 use Rattle.cache_c.specs.declared.counts.Gap.{Gap}
-use Rattle.cache_c.specs.Asked.{StandAt, IsValueBy, is_short}
+use Rattle.cache_c.specs.Asked.{IsValueBy, is_short}
+use Rattle.cache_c.specs.Standing.{StandAt}
 
 -- ---- rows
 

@@ -1,6 +1,7 @@
 //! One event.
 
-ghost use Rattle.std.specs.Prelude.{◌≡◌, ℕ, ◌<◌, ◌^◌, List, [], ◌∷◌, length, None};
+ghost use Rattle.std.specs.Prelude.{◌≡◌, ◌≢◌, ℕ, ◌+◌, ◌<◌, ◌^◌, List, [], ◌∷◌, length, None};
+ghost use Rattle.std.specs.Prelude.{◌≤◌, true, false, slice_set};
 ghost use Rattle.php_graph.specs.declared.kind.Kind.TheVariants.{Str};
 ghost use Rattle.std.specs.Int.{w64, cast_signed};
 ghost use Rattle.apcu_model.specs.declared.request.Request.TheVariants as requests;
@@ -8,19 +9,22 @@ ghost use Rattle.apcu_model.specs.declared.request.Reply.TheVariants as replies;
 ghost use Rattle.apcu_model.specs.Sequential.{is_stored};
 ghost use Rattle.counter_entry.specs.Numbers.{reply_of};
 ghost use Rattle.apcu_model.specs.Cache.{Row};
+ghost use Rattle.seg_words.specs.Blocks.{image_place};
 ghost use Rattle.cache_core.specs.Looking.{scalar_of, IsRowOf};
 ghost use Rattle.cache_core.specs.CoreCache.{cache_of};
-ghost use Rattle.cache_c.specs.Standing.{IsStanding, IsKept, words_of};
-ghost use Rattle.cache_c.specs.Asked.{asked_for, stored, value_of, scalar_value};
+ghost use Rattle.cache_c.specs.Standing.{IsStanding, IsLeft, IsKept, IsBegun, words_of, seats_of};
+ghost use Rattle.cache_c.specs.Asked.{asked_for, request_of, stored, value_of, scalar_value};
 ghost use Rattle.cache_c.specs.Asked.{IsAnswered, IsDone, IsToldBy, IsValueBy, IsScalarBy};
+ghost use Rattle.cache_c.specs.Asked.{KeepsSeats, HasLetGo, IsBlockOf};
 ghost use Rattle.cache_c.specs.Asked.{plain_answer};
 
 use crate::cache::Cache;
+use crate::seat_words::SEATS;
 use crate::values::{BOOL, INT, NULL, STR, scalar_from};
 use apcu_model::StoreAnswer;
 use cache_core::{Look, Scalar};
 use counter_entry::{IncAnswer, cas, inc};
-use seg_words::WordsIn;
+use seg_words::{HEAD_WORDS, words_in};
 
 /// What is asked of a cache.
 #[repr(C)]
@@ -34,10 +38,11 @@ pub struct Ask {
     pub ttl: u32,
     /// The second of the call.
     pub t: u64,
-    /// The 64 bits of an integer: the value's number, the step of a counter, or what a
-    /// compare-and-swap expects.
+    /// The 64 bits of an integer: the value's number, the step of a counter, what a
+    /// compare-and-swap expects, or a seat.
     pub number: u64,
-    /// Those of what a compare-and-swap sets.
+    /// Those of what a compare-and-swap sets, or how many bytes a string has at least for which
+    /// the seat is taken.
     pub set: u64,
 }
 
@@ -71,6 +76,8 @@ pub const COUNT: u32 = 5;
 pub const SWAP: u32 = 6;
 /// `apcu_clear_cache`.
 pub const CLEAR: u32 = 7;
+/// `apcu_fetch` of one key, and a seat holds the row of a string of many bytes.
+pub const HOLD: u32 = 8;
 
 // A value's answers are NULL, BOOL, INT and STR.
 /// A value of another kind.
@@ -154,23 +161,58 @@ fn stored(answer: StoreAnswer) -> u32
     }
 }
 
+// Whether a seat is taken for this answer: there is one of this number, and a string of so many
+// bytes.
+fn is_long(answer: &Answer, seat: u64, least: u64) -> bool
+    ensures yes { result ≡ true → (seat < 64) × (answer.now.kind ≡ STR)
+        × (least ≤ answer.now.len) }
+    ensures no { result ≡ false → seat < 64 → answer.now.kind ≡ STR
+        → least ≤ answer.now.len → ⊥ }
+{
+    if seat >= 64 {
+        return false;
+    }
+    if answer.kind != STR {
+        return false;
+    }
+    answer.len >= least
+}
+
 impl Cache {
-    /// One event: what is asked, its key, and the bytes of the value that is stored.
+    /// One event: what is asked, its key, and the bytes of the value that is stored. What seats
+    /// hold stands where it stood, but for the seat that a `HOLD` takes.
     pub(crate) fn ask(&mut self, ask: &Ask, key: &[u8], bytes: &[u8]) -> Answer
         requires stand { IsStanding self.old }
         ensures stand { IsStanding self.new }
         ensures answered { IsAnswered self.old self.new ask.now.t
             (asked_for ask.now key.now bytes.now) result }
+        ensures seats { KeepsSeats ask.now self.old self.new result }
     {
         if key.len() >= 4_294_967_296 || bytes.len() >= 4_294_967_296 {
             return plain(TOO_LONG);
         }
+        if ask.kind == HOLD {
+            return self.hold(key, ask.number, ask.set, ask.t);
+        }
+        self.answer(ask, key, bytes)
+    }
+
+    // One event that takes no seat.
+    fn answer(&mut self, ask: &Ask, key: &[u8], bytes: &[u8]) -> Answer
+        requires short { length key.now < 2 ^ 32 }
+        requires value { length bytes.now < 2 ^ 32 }
+        requires other { ask.now.kind ≢ HOLD }
+        requires stand { IsStanding self.old }
+        ensures left { IsLeft self.old self.new }
+        ensures answered { IsAnswered self.old self.new ask.now.t
+            (request_of ask.now key.now bytes.now) result }
+    {
         let t = ask.t;
         let ttl = ask.ttl;
         let number = ask.number;
         // An answer without numbers is made once, behind all kinds of requests.
         let kind = match ask.kind {
-            LOOK => return self.look(key, t),
+            LOOK => return self.look(key, t).0,
             COUNT => return self.count(key, number, ttl, t),
             STORE => self.store(key, ask.value, number, bytes, ttl, false, t),
             ADD => self.store(key, ask.value, number, bytes, ttl, true, t),
@@ -181,6 +223,14 @@ impl Cache {
             _ => BAD,
         };
         plain(kind)
+    }
+
+    // Begins an event that may drop rows.
+    fn begin(&mut self)
+        requires stand { IsStanding self.old }
+        ensures begun { IsBegun self.old self.new }
+    {
+        self.words.begin();
     }
 
     // Stores a value of this kind under the key.
@@ -197,7 +247,7 @@ impl Cache {
         requires short { length key.now < 2 ^ 32 }
         requires value { length bytes.now < 2 ^ 32 }
         requires stand { IsStanding self.old }
-        ensures stand { IsStanding self.new }
+        ensures left { IsLeft self.old self.new }
         ensures answered { IsAnswered self.old self.new t
             (stored key.now ttl exclusive (value_of kind number bytes.now)) (plain_answer result) }
     {
@@ -212,9 +262,11 @@ impl Cache {
         requires short { length key.now < 2 ^ 32 }
         requires value { length bytes.now < 2 ^ 32 }
         requires stand { IsStanding self.old }
+        ensures left { IsLeft self.old self.new }
         ensures done { IsDone self.old self.new t
             (requests.Store key.now (Str bytes.now ∷ []) ttl exclusive) (plain_answer result) }
     {
+        self.begin();
         stored(
             self.core
                 .store_bytes(&mut self.words, key, bytes, ttl, exclusive, t),
@@ -233,36 +285,88 @@ impl Cache {
     ) -> u32
         requires short { length key.now < 2 ^ 32 }
         requires stand { IsStanding self.old }
-        ensures stand { IsStanding self.new }
+        ensures left { IsLeft self.old self.new }
         ensures answered { IsAnswered self.old self.new t
             (stored key.now ttl exclusive (scalar_value kind number)) (plain_answer result) }
     {
         let Some(value) = scalar_from(self.alloc, kind, number) else {
             return BAD;
         };
+        self.begin();
         let answer = self
             .core
             .store(&mut self.words, key, &value, ttl, exclusive, t);
         stored(answer)
     }
 
-    // Looks the key up, and counts it.
-    fn look(&mut self, key: &[u8], t: u64) -> Answer
+    // Looks the key up, and counts it; and the place of the row that it finds, if that holds no
+    // scalar, else 0.
+    fn look(&mut self, key: &[u8], t: u64) -> (Answer, u32)
         requires short { length key.now < 2 ^ 32 }
         requires stand { IsStanding self.old }
-        ensures done { IsDone self.old self.new t (requests.Fetch key.now) result }
+        ensures left { IsLeft self.old self.new }
+        ensures done { IsDone self.old self.new t (requests.Fetch key.now) result.0 }
+        ensures block { 0 < result.1 → IsBlockOf self.new result.1 result.0 }
+        ensures text { result.0.kind ≡ STR → 0 < result.1 }
     {
         match self.core.look(&mut self.words, key, t) {
-            Look::Miss => plain(ABSENT),
-            Look::Scalar(value) => scalar(value),
-            Look::Hit(at) => self.other(key, at),
+            Look::Miss => (plain(ABSENT), 0),
+            Look::Scalar(value) => (scalar(value), 0),
+            Look::Hit(at) => (self.other(key, at), at),
         }
+    }
+
+    // The same, and where it answers a string of so many bytes or more, the seat holds its row from
+    // now on.
+    fn hold(&mut self, key: &[u8], seat: u64, least: u64, t: u64) -> Answer
+        requires short { length key.now < 2 ^ 32 }
+        requires stand { IsStanding self.old }
+        ensures stand { IsStanding self.new }
+        ensures done { IsDone self.old self.new t (requests.Fetch key.now) result }
+        ensures seats { (ask : Ask) → ask.kind ≡ HOLD → ask.number ≡ seat → ask.set ≡ least
+            → KeepsSeats ask self.old self.new result }
+    {
+        let (answer, at) = self.look(key, t);
+        if !is_long(&answer, seat, least) {
+            return answer;
+        }
+        self.sit(seat as u32, at, &answer);
+        answer
+    }
+
+    // The seat holds the block at a place from now on, in which the string of this answer stands.
+    fn sit(&mut self, seat: u32, at: u32, _answer: &Answer)
+        requires seat { seat < 64 }
+        requires stand { IsStanding self.old }
+        requires place { 0 < at }
+        requires text { _answer.now.kind ≡ STR }
+        requires block { IsBlockOf self.old at _answer.now }
+        ensures stand { IsStanding self.new }
+        ensures core { self.new.core ≡ self.old.core }
+        ensures words { words_of self.new ≡ words_of self.old }
+        ensures seats { seats_of self.new ≡ slice_set (seats_of self.old) seat at }
+    {
+        self.words.hold(seat, at);
+    }
+
+    /// The seat holds nothing from now on; false where there is none of this number.
+    pub(crate) fn let_go(&mut self, seat: u32) -> bool
+        requires stand { IsStanding self.old }
+        ensures stand { IsStanding self.new }
+        ensures free { HasLetGo self.old self.new seat result }
+    {
+        if seat >= SEATS {
+            return false;
+        }
+        self.words.hold(seat, 0);
+        true
     }
 
     // Whether a look-up finds the key.
     fn exists(&mut self, key: &[u8], t: u64) -> u32
         requires short { length key.now < 2 ^ 32 }
         requires stand { IsStanding self.old }
+        ensures left { IsLeft self.old self.new }
         ensures done { IsDone self.old self.new t (requests.Exists key.now) (plain_answer result) }
     {
         flag(self.core.exists(&mut self.words, key, t))
@@ -272,8 +376,10 @@ impl Cache {
     fn delete(&mut self, key: &[u8], t: u64) -> u32
         requires short { length key.now < 2 ^ 32 }
         requires stand { IsStanding self.old }
+        ensures left { IsLeft self.old self.new }
         ensures done { IsDone self.old self.new t (requests.Delete key.now) (plain_answer result) }
     {
+        self.begin();
         flag(self.core.delete(&mut self.words, key, t))
     }
 
@@ -281,10 +387,12 @@ impl Cache {
     fn count(&mut self, key: &[u8], step: u64, ttl: u32, t: u64) -> Answer
         requires short { length key.now < 2 ^ 32 }
         requires stand { IsStanding self.old }
+        ensures left { IsLeft self.old self.new }
         ensures done { IsDone self.old self.new t
             (requests.Inc key.now (cast_signed w64 step) ttl) result }
     {
         let step = step.cast_signed();
+        self.begin();
         let answer = inc(
             self.alloc,
             &mut self.core,
@@ -301,20 +409,24 @@ impl Cache {
     fn swap(&mut self, key: &[u8], expect: u64, set: u64, t: u64) -> u32
         requires short { length key.now < 2 ^ 32 }
         requires stand { IsStanding self.old }
+        ensures left { IsLeft self.old self.new }
         ensures done { IsDone self.old self.new t
             (requests.Cas key.now (cast_signed w64 expect) (cast_signed w64 set))
             (plain_answer result) }
     {
         let expect = expect.cast_signed();
         let set = set.cast_signed();
+        self.begin();
         flag(cas(&mut self.core, &mut self.words, key, expect, set, t))
     }
 
     // Drops all rows.
     fn clear(&mut self, t: u64) -> u32
         requires stand { IsStanding self.old }
+        ensures left { IsLeft self.old self.new }
         ensures done { IsDone self.old self.new t requests.Clear (plain_answer result) }
     {
+        self.begin();
         self.core.clear(&mut self.words, t);
         YES
     }
@@ -328,11 +440,10 @@ impl Cache {
         ensures same { IsKept self.old self.new }
         ensures told { (row : Row) → IsRowOf (cache_of self.old.core) key.now at row
             → scalar_of row.graph ≡ None → IsValueBy (words_of self.new) row.graph result }
+        ensures place { result.kind ≡ STR → result.place ≡ image_place (words_of self.new) at + 1 }
+        ensures positive { 0 < at }
     {
-        let image = self
-            .core
-            .slots()
-            .image_at(&self.words, at, key.len() as u32);
+        let image = at + HEAD_WORDS + words_in(key.len() as u32);
         self.text(image)
     }
 }

@@ -48,8 +48,8 @@ impl Cache {
     {
         let counts = self.core.counts();
         let slots = self.core.slots();
-        let row_words = slots.row_words(&mut self.words);
-        let free_words = slots.sma().free_words(&mut self.words);
+        let row_words = slots.row_words(&mut self.words.late);
+        let free_words = slots.sma().free_words(&mut self.words.late);
         ToldCounts {
             hits: counts.hits,
             misses: counts.misses,
@@ -68,7 +68,7 @@ impl Cache {
         ensures gap { result ≡ option_map (λ (gap : Extent). (gap.place, gap.size))
             (find (λ gap. nat_le from gap.place) (gaps_of (cache_of self.old.core))) }
     {
-        self.core.slots().sma().gap_from(&mut self.words, from)
+        self.core.slots().sma().gap_from(&mut self.words.late, from)
     }
 
     /// Fills the slice with the gaps at or past a place, by rising place. It answers how many were

@@ -9,6 +9,7 @@ mod counts;
 mod making;
 mod rows;
 mod scalars;
+mod seat_words;
 mod values;
 
 ghost use Rattle.std.specs.Prelude.{◌≡◌, ℕ, List};
@@ -19,7 +20,7 @@ ghost use types.Logic.{sem};
 ghost use base.Fml.{fsep};
 ghost use Rattle.cache_c.specs.declared.cache.Cache.{Cache};
 ghost use Rattle.cache_c.specs.Memory.{room, stands_at, bytes_at};
-ghost use Rattle.cache_c.specs.Memory.{has_asked, has_copied, is_given};
+ghost use Rattle.cache_c.specs.Memory.{has_asked, has_copied, has_let_go, is_given};
 ghost use Rattle.cache_c.specs.Memory.{has_counted, has_found, has_listed, has_gaps};
 ghost use Rattle.cache_c.specs.Memory.{rows_at, gaps_at};
 ghost use Rattle.cache_c.specs.declared.counts.Gap.{Gap};
@@ -85,6 +86,17 @@ pub unsafe extern "C" fn cache_copy_unchecked(
     ensures* { sem 𝓛 (has_copied old.0 old.1 at place out len result) }
 {
     (&mut *at.cast::<Cache>()).copy(place, std::slice::from_raw_parts_mut(out, len))
+}
+
+/// The seat of the cache at `at` holds nothing from now on; false where there is none of this
+/// number. It is no event.
+#[unsafe(no_mangle)]
+pub unsafe extern "C" fn cache_let_go_unchecked(at: *mut u8, seat: u32) -> bool
+    ghost cache: { Cache }
+    requires* { sem 𝓛 (stands_at at cache) }
+    ensures* { sem 𝓛 (has_let_go cache at seat result) }
+{
+    (&mut *at.cast::<Cache>()).let_go(seat)
 }
 
 /// What the cache at `at` counts, and its words. Nothing changes.

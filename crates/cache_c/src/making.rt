@@ -5,6 +5,7 @@ ghost use Rattle.apcu_model.specs.Conf.{IsUsable};
 ghost use Rattle.cache_c.specs.Made.{conf_of, IsEmpty, IsRefusal};
 
 use crate::cache::Cache;
+use crate::seat_words::SeatWords;
 use apcu_model::Conf;
 use cache_core::Core;
 use late_words::LateWords;
@@ -37,9 +38,10 @@ fn empty(alloc: Global, conf: &Conf) -> Result<Cache, AllocError>
     requires usable { IsUsable conf.now }
     ensures { IfOk result (λ cache. IsEmpty conf.now cache) }
 {
-    let mut words = LateWords::new(alloc, conf.words)?;
+    let mut late = LateWords::new(alloc, conf.words)?;
     let gaps = MaxRow::new(alloc, (conf.words as usize).div_ceil(4))?;
-    let core = Core::format(&mut words, conf, gaps);
+    let core = Core::format(&mut late, conf, gaps);
+    let words = SeatWords::of(late);
     Ok(Cache { core, words, alloc })
 }
 

@@ -1,6 +1,6 @@
 //! Rows as C reads them.
 
-ghost use Rattle.std.specs.Prelude.{◌≡◌, ℕ, ◌<◌, ◌^◌, true, length, drop, List, None};
+ghost use Rattle.std.specs.Prelude.{◌≡◌, ℕ, ◌+◌, ◌<◌, ◌^◌, true, length, drop, List, None};
 ghost use Rattle.php_graph.specs.declared.kind.Kind.{Kind};
 ghost use Rattle.seg_words.specs.Windows.{nothing_aside};
 ghost use Rattle.value_image.specs.Texts.{IsToldImage};
@@ -85,7 +85,7 @@ impl Cache {
         if key.len() >= 4_294_967_296 {
             return no_row();
         }
-        let Some((at, _value)) = self.core.peek(&mut self.words, key, t) else {
+        let Some((at, _value)) = self.core.peek(&mut self.words.late, key, t) else {
             return no_row();
         };
         let slot = self.slot_of(key);
@@ -147,7 +147,7 @@ impl Cache {
     {
         let slots = self.core.slots();
         if slot < slots.slots() {
-            return slots.first_in(&mut self.words, slot);
+            return slots.first_in(&mut self.words.late, slot);
         }
         if slot == slots.slots() {
             return slots.first_removed();
@@ -163,7 +163,7 @@ impl Cache {
         ensures row { FollowsInChain (entries self.old.core.slots) at result }
         ensures removed { FollowsIn (entries self.old.core.slots).removed at result }
     {
-        self.core.slots().after(&mut self.words, at)
+        self.core.slots().after(&mut self.words.late, at)
     }
 
     // What is told of the row at a place, which stands in this list.
@@ -176,7 +176,7 @@ impl Cache {
     {
         standing_laws();
         bytes_are_packed();
-        let head = self.core.slots().head(&mut self.words, at);
+        let head = self.core.slots().head(&mut self.words.late, at);
         let value = self.value(head.image);
         ToldRow {
             place: at,
@@ -203,7 +203,7 @@ impl Cache {
             → IsToldImage (words_of self.old) nothing_aside.windows image g
             → IsValueBy (words_of self.new) g result }
     {
-        match read_scalar(&mut self.words, image) {
+        match read_scalar(&mut self.words.late, image) {
             Some(value) => scalar(value),
             None => self.text(image),
         }
@@ -217,8 +217,9 @@ impl Cache {
         ensures told { (g : List Kind)
             → IsToldImage (words_of self.old) nothing_aside.windows image g
             → scalar_of g ≡ None → IsValueBy (words_of self.new) g result }
+        ensures place { result.kind ≡ STR → result.place ≡ image + 1 }
     {
-        match string_len(&mut self.words, image) {
+        match string_len(&mut self.words.late, image) {
             Some(len) => Answer {
                 kind: STR,
                 place: image + 1,

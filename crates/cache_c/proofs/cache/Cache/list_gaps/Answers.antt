@@ -16,7 +16,7 @@ use Rattle.cache_c.proofs.ToldGaps.{prefix_told, prefix_length, gap_more}
 use Rattle.cache_c.proofs.cache.Cache.list_gaps.Goals as goal
 
 pub loop-i-init : goal.loop-i-init
-loop-i-init c = record { gaps = refl; others = refl; len = refl; low = omega arith; same = record { core = refl; words = refl } }
+loop-i-init c = record { gaps = refl; others = refl; len = refl; low = omega arith; same = record { core = refl; words = refl; aside = refl } }
 
 pub gap-requires : goal.gap-requires
 gap-requires c = record { stand = stands_kept c.loop-i.invariant.same c.requires.stand }
@@ -24,7 +24,7 @@ gap-requires c = record { stand = stands_kept c.loop-i.invariant.same c.requires
 pub returns-in_default-clause-same : goal.returns-in_default-clause-same
 returns-in_default-clause-same c =
     let inv = c.loop-i.invariant in
-    record { core = c.gap.ensures.same.core ∙ inv.same.core; words = c.gap.ensures.same.words ∙ inv.same.words }
+    record { core = c.gap.ensures.same.core ∙ inv.same.core; words = c.gap.ensures.same.words ∙ inv.same.words; aside = c.gap.ensures.same.aside ∙ inv.same.aside }
 
 pub returns-in_default-clause-gaps : goal.returns-in_default-clause-gaps
 returns-in_default-clause-gaps c =
@@ -54,7 +54,7 @@ overflow_add-from c =
     let end = all.conf.slots + (all.conf.words - all.conf.slots) in
     let told = sym c.in-Some.is ∙ c.gap.ensures.gap ∙ ap (λ (x : Core). option_map pair_of (find (λ run. nat_le from run.place) (gaps_of (cache_of x)))) c.loop-i.invariant.same.core in
     let next = gap_found from all.conf.slots end gaps (gaps_behind all.conf.slots all.conf.words (piece_of all.conf) (map extent_of (all.rows ++ all.removed))) (record { place = c.in-Some.place; size = c.in-Some.size }) told in
-    let usable : IsUsable all.conf = subst IsUsable (ap (λ (x : Entries). x.conf) c.requires.stand.whole) c.requires.stand.stand.usable in
+    let usable : IsUsable all.conf = subst IsUsable (ap (λ (x : Entries). x.conf) c.requires.stand.alone.whole) c.requires.stand.alone.stand.usable in
     omega (arith, next.end, usable.words_most, usable.slots_most)
 
 pub loop-i-preserved : goal.loop-i-preserved
@@ -75,7 +75,7 @@ loop-i-preserved c =
       others = drop-set-lt (i + 1) out i (gap_told gap) (omega arith) ∙ sym (drop_more 1 i out) ∙ ap (drop 1) inv.others ∙ drop_more 1 i c.args.out.now;
       len = length-set out i (gap_told gap) ∙ inv.len;
       low = omega (arith, low, length-set out i (gap_told gap));
-      same = record { core = c.gap.ensures.same.core ∙ inv.same.core; words = c.gap.ensures.same.words ∙ inv.same.words };
+      same = record { core = c.gap.ensures.same.core ∙ inv.same.core; words = c.gap.ensures.same.words ∙ inv.same.words; aside = c.gap.ensures.same.aside ∙ inv.same.aside };
     }
 
 pub returns-clause-same : goal.returns-clause-same

@@ -27,7 +27,7 @@ returns-then-at-eq0-clause-rows c =
     let all = rows_of (cache_of old.core) c.args.slot in
     let rows = drop c.args.skip all in
     let laws = c.standing_laws.ensures in
-    let none = row_end laws.walked laws.sound old.core.slots (words_of old) nothing_aside s c.requires.stand.stand c.args.slot (c.args.skip + i) c.loop-i.at all (lists_are s (cache_of old.core) c.args.slot c.requires.stand.whole)
+    let none = row_end laws.walked laws.sound old.core.slots (words_of old) nothing_aside s c.requires.stand.alone.stand c.args.slot (c.args.skip + i) c.loop-i.at all (lists_are s (cache_of old.core) c.args.slot c.requires.stand.alone.whole)
     (sym c.if-at-eq0.true ∙ inv.at ∙ ap first_place (drop_more i c.args.skip all)) in
     let over : length rows ≤ i = none_left rows i (drop_more i c.args.skip all ∙ none) in
     record {
@@ -47,7 +47,7 @@ row-requires-clause-there c =
     let i = c.loop-i.i in
     let all = rows_of (cache_of old.core) c.args.slot in
     let laws = c.standing_laws.ensures in
-    let here = row_here laws.walked laws.sound old.core.slots (words_of old) nothing_aside s c.requires.stand.stand c.args.slot (c.args.skip + i) c.loop-i.at all (lists_are s (cache_of old.core) c.args.slot c.requires.stand.whole)
+    let here = row_here laws.walked laws.sound old.core.slots (words_of old) nothing_aside s c.requires.stand.alone.stand c.args.slot (c.args.skip + i) c.loop-i.at all (lists_are s (cache_of old.core) c.args.slot c.requires.stand.alone.whole)
     (inv.at ∙ ap first_place (drop_more i c.args.skip all)) c.if-at-eq0.false in
     subst (λ (core : Core). has_place c.loop-i.at (listed (entries core.slots)) ≡ true) (sym inv.same.core) here.in_listed
 
@@ -62,7 +62,7 @@ after-at-requires-clause-there c =
     let i = c.loop-i.i in
     let all = rows_of (cache_of old.core) c.args.slot in
     let laws = c.standing_laws.ensures in
-    let here = row_here laws.walked laws.sound old.core.slots (words_of old) nothing_aside s c.requires.stand.stand c.args.slot (c.args.skip + i) c.loop-i.at all (lists_are s (cache_of old.core) c.args.slot c.requires.stand.whole)
+    let here = row_here laws.walked laws.sound old.core.slots (words_of old) nothing_aside s c.requires.stand.alone.stand c.args.slot (c.args.skip + i) c.loop-i.at all (lists_are s (cache_of old.core) c.args.slot c.requires.stand.alone.whole)
     (inv.at ∙ ap first_place (drop_more i c.args.skip all)) c.if-at-eq0.false in
     subst (λ (core : Core). has_place c.loop-i.at (listed (entries core.slots)) ≡ true) (sym (c.row.ensures.same.core ∙ inv.same.core)) here.in_listed
 
@@ -77,9 +77,9 @@ loop-i-preserved c =
     let t = c.row.result in
     let all = rows_of (cache_of old.core) c.args.slot in
     let rows = drop c.args.skip all in
-    let are = lists_are s (cache_of old.core) c.args.slot c.requires.stand.whole in
+    let are = lists_are s (cache_of old.core) c.args.slot c.requires.stand.alone.whole in
     let laws = c.standing_laws.ensures in
-    let here = row_here laws.walked laws.sound old.core.slots (words_of old) nothing_aside s c.requires.stand.stand c.args.slot (c.args.skip + i) at all are
+    let here = row_here laws.walked laws.sound old.core.slots (words_of old) nothing_aside s c.requires.stand.alone.stand c.args.slot (c.args.skip + i) at all are
     (inv.at ∙ ap first_place (drop_more i c.args.skip all)) c.if-at-eq0.false in
     let row = here.left.row in
     let rest = drop (c.args.skip + i + 1) all in
@@ -91,7 +91,7 @@ loop-i-preserved c =
     let next = c.after-at.result in
     let chain = subst (λ (x : Core). FollowsInChain (entries x.slots) at next) core c.after-at.ensures.row in
     let removed = subst (λ (x : Core). FollowsIn (entries x.slots).removed at next) core c.after-at.ensures.removed in
-    let follows = row_next laws.walked laws.sound old.core.slots (words_of old) nothing_aside s c.requires.stand.stand c.args.slot (c.args.skip + i) at all are next chain removed here in
+    let follows = row_next laws.walked laws.sound old.core.slots (words_of old) nothing_aside s c.requires.stand.alone.stand c.args.slot (c.args.skip + i) at all are next chain removed here in
     let one : c.args.skip + i + 1 ≡ c.args.skip + (i + 1) = omega arith in
     record {
       at = follows ∙ ap (λ k. first_place (drop k all)) one ∙ sym (ap first_place (drop_more (i + 1) c.args.skip all));
@@ -99,7 +99,7 @@ loop-i-preserved c =
       others = drop-set-lt (i + 1) out i t (omega arith) ∙ sym (drop_more 1 i out) ∙ ap (drop 1) inv.others ∙ drop_more 1 i c.args.out.now;
       low = left_low rows i row rest left;
       len = length-set out i t ∙ inv.len;
-      same = record { core = c.after-at.ensures.same.core ∙ core; words = c.after-at.ensures.same.words ∙ c.row.ensures.same.words ∙ inv.same.words };
+      same = record { core = c.after-at.ensures.same.core ∙ core; words = c.after-at.ensures.same.words ∙ c.row.ensures.same.words ∙ inv.same.words; aside = c.after-at.ensures.same.aside ∙ c.row.ensures.same.aside ∙ inv.same.aside };
     }
 
 pub returns-clause-same : goal.returns-clause-same

@@ -28,7 +28,7 @@ pub overflow_add-result : goal.overflow_add-result
 overflow_add-result c =
     let s = entries c.args.self.now.core.slots in
     let r = place_from c.args.at (listed s) c.requires.there in
-    let k = key_at c.bytes_are_packed.ensures r.0 (home_listed r.0 c.requires.stand.stand r.1) c.args.at r.2 in
+    let k = key_at c.bytes_are_packed.ensures r.0 (home_listed r.0 c.requires.stand.alone.stand r.1) c.args.at r.2 in
     omega (arith, k.inside, k.short)
 
 pub returns-clause-told : goal.returns-clause-told
@@ -37,8 +37,8 @@ returns-clause-told c = λ row is.
     let ws = words_of c.args.self.now in
     let there = subst (λ (e : EntrySlots). IsListed (entries e) c.args.at row) (sym c.slots.ensures.value) is in
     let head = c.head-head.ensures.head row there in
-    let sound = c.standing_laws.ensures.sound core.slots ws nothing_aside (entries core.slots) c.requires.stand.stand in
+    let sound = c.standing_laws.ensures.sound core.slots ws nothing_aside (entries core.slots) c.requires.stand.alone.stand in
     let some : c.args.at ≢ 0 = λ zero. false≢true (sym sound.placed ∙ subst (λ (n : ℕ). has_place n (listed (entries core.slots)) ≡ true) zero c.requires.there) in
     let image = subst (λ (l : List ℕ). IsToldImage l nothing_aside.windows c.head-head.result.image row.graph) (sym c.head-head.ensures.kept.words) (head_image head) in
-    row_told c.bytes_are_packed.ensures c.args.slot c.args.at c.head-head.result row c.value-value.result c.requires.stand.stand is some head
+    row_told c.bytes_are_packed.ensures c.args.slot c.args.at c.head-head.result row c.value-value.result c.requires.stand.alone.stand is some head
     (c.value-value.ensures.same.words ∙ c.head-head.ensures.kept.words) (c.value-value.ensures.told row.graph image)

@@ -4,7 +4,7 @@ use Rattle.value_image.specs.Texts.{string_of}
 use Rattle.value_image.proofs.Texts.{told-inside, string-inside, string-bytes}
 use Rattle.cache_c.specs.Standing.{words_of}
 use Rattle.cache_c.proofs.Standing.{words_short}
-use Rattle.cache_c.specs.Asked.{StandAt}
+use Rattle.cache_c.specs.Standing.{StandAt}
 use Rattle.cache_c.proofs.Lookups.{text_told}
 use Rattle.cache_c.proofs.cache.Cache.text.Goals as goal
 

@@ -1,0 +1,5 @@
+use Rattle.cache_c.proofs.HeldRows.{seats_left}
+use Rattle.cache_c.proofs.cache.Cache.ask.Goals as goal
+
+pub returns-clause-seats : goal.returns-clause-seats
+returns-clause-seats c = seats_left c.args.ask.now c.answer.result (λ seat takes. c.if-ask-eq-HOLD.false takes.hold) c.answer.ensures.left
