@@ -2,7 +2,8 @@
  * behind its first instruction, behind its second, and so on: at each where the lock is taken and
  * given back, and at some of the call. Then the parent enters, and finds the old text or the new
  * one whole, or an empty cache that was made anew. Then the same of a child that makes the cache
- * anew, since another one died inside a call.
+ * anew, since another one died inside a call, and of one that copies a long text outside of the
+ * lock: at the end no row is kept for the dead.
  * Usage: deaths. Ends with status 77 where processes may not be stepped. */
 #define _GNU_SOURCE
 #include "shared_cache.h"
@@ -15,7 +16,7 @@
 #include <sys/wait.h>
 #include <unistd.h>
 
-enum { NO_STEPS = 77 };
+enum { NO_STEPS = 77, SLOTS = 16 };
 
 /* Nothing of the cache depends on the clock here. */
 static const uint64_t now = 1000;
@@ -42,6 +43,38 @@ static bool holds(uint8_t *at, const char *text) {
 static void store_over(void) {
     stores(shared_enter(), after);
     shared_leave();
+}
+
+static void put_long(uint8_t *at) {
+    static char text[5000];
+    cache_request store = {.kind = CACHE_STORE, .value = CACHE_STR, .t = now};
+    memset(text, 'l', sizeof text);
+    cache_ask(at, &store, (const uint8_t *)"long", 4, (const uint8_t *)text, sizeof text);
+}
+
+static void copy_long(void) {
+    static uint8_t copy[5000];
+    shared_text held;
+    shared_enter();
+    shared_hold((const uint8_t *)"long", 4, now, &held);
+    shared_leave();
+    if (held.bytes) {
+        memcpy(copy, held.bytes, sizeof copy);
+        shared_let_go(&held);
+    }
+}
+
+/* Whether the row is gone once it is deleted, though processes died while they copied from it. */
+static bool is_let_go(void) {
+    cache_row row;
+    sleep(2); /* a process is looked for once a second */
+    uint8_t *at = shared_enter();
+    cache_request delete = {.kind = CACHE_DELETE, .t = now};
+    cache_ask(at, &delete, (const uint8_t *)"long", 4, NULL, 0);
+    stores(at, before);
+    bool is_gone = cache_list_rows(at, SLOTS, 0, &row, 1) == 0;
+    shared_leave();
+    return is_gone;
 }
 
 static void enter_only(void) {
@@ -119,6 +152,8 @@ static void find(struct found *found, bool must_be_empty) {
         found->wrong++;
     if (!stores(at, before) || !holds(at, before))
         found->wrong++;
+    if (is_empty)
+        put_long(at);
     shared_leave();
 }
 
@@ -144,16 +179,21 @@ static void tell(const char *of, struct found found) {
 }
 
 int main(void) {
-    cache_shape shape = {.words = 512, .slots = 16, .segments = 1};
+    cache_shape shape = {.words = 4096, .slots = SLOTS, .segments = 1};
     if (shared_start(&shape) != CACHE_MADE)
         return 1;
-    stores(shared_enter(), before);
+    uint8_t *at = shared_enter();
+    stores(at, before);
+    put_long(at);
     shared_leave();
     struct found stored = find_all(store_over, false);
     tell("a store", stored);
     struct found made = find_all(enter_only, true);
     tell("making anew", made);
-    bool is_good = stored.wrong == 0 && stored.old > 0 && stored.new > 0 && stored.empty > 0 &&
+    struct found copied = find_all(copy_long, false);
+    copied.wrong += !is_let_go();
+    tell("a copy", copied);
+    bool is_good = copied.wrong == 0 && copied.old > 0 && stored.wrong == 0 && stored.old > 0 && stored.new > 0 && stored.empty > 0 &&
                    made.wrong == 0 && made.empty > 0;
     puts(is_good ? "as it should be" : "not as it should be");
     return is_good ? 0 : 1;

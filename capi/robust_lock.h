@@ -72,6 +72,10 @@ ROBUST_SELDOM static bool robust_has_words(void) {
 /* The order of two writes of this thread, as the kernel sees them where it ends. */
 static inline void robust_in_order(void) { atomic_signal_fence(memory_order_seq_cst); }
 
+/* The number of the thread that has a short lock, and of no other while it lives; 0 where that is not
+ * known. */
+static inline uint32_t robust_id(void) { return robust_self.id; }
+
 static inline bool robust_is_free(uint32_t word) { return (word & FUTEX_TID_MASK) == 0; }
 
 /* Takes the lock where its word still is this free one: EBUSY where it is not. Who waited for it
@@ -150,6 +154,7 @@ static inline void robust_give_word(robust_lock *lock) {
     robust_self.head->list_op_pending = NULL;
 }
 #else
+static inline uint32_t robust_id(void) { return 0; }
 static inline bool robust_has_words(void) { return false; }
 static inline int robust_take_word(robust_lock *lock) { return (void)lock, ENOTSUP; }
 static inline void robust_give_word(robust_lock *lock) { (void)lock; }

@@ -2,6 +2,7 @@
 #define _GNU_SOURCE
 #include "shared_cache.h"
 #include "robust_lock.h"
+#include "seats.h"
 
 #include <errno.h>
 #include <stdatomic.h>
@@ -18,6 +19,8 @@ struct head {
     robust_lock lock;
     atomic_bool busy; /* a call is under way: the words may be those of half a change */
     shared_deaths deaths;
+    uint64_t *words; /* those of the cache */
+    seats seats;
 };
 
 /* The same in every process, since it is set before the first fork. */
@@ -51,6 +54,8 @@ cache_tried rattle_alloc(size_t n, size_t align) {
     if (n > (size_t)(end - next))
         return got(NULL);
     void *at = next;
+    if (!head->words && n == 8 * (size_t)shape.words)
+        head->words = at;
     next += whole_lines(n); /* what is left of the room is whole lines, too */
     return got(at);
 }
@@ -75,6 +80,8 @@ int rattle_errno(void) { return errno; }
 /* Makes an empty cache. Nothing of an older one is read, and each process takes the same places
  * for it: one that is killed in here leaves nothing that the next one needs. */
 static uint32_t make(void) {
+    seats_clear(&head->seats);
+    head->words = NULL;
     next = room;
     is_making = true;
     uint32_t made = cache_new(&shape, handle);
@@ -125,21 +132,47 @@ uint8_t *shared_enter(void) {
         bool is_inside = atomic_load_explicit(&head->busy, memory_order_relaxed);
         if (is_inside && make() != CACHE_MADE)
             abort();
-        if (is_inside)
+        if (is_inside) {
             head->deaths.inside++;
-        else
+        } else {
             head->deaths.outside++;
+            seats_settle(&head->seats);
+        }
         set_busy(false);
     } else if (locked != 0) {
         abort(); /* it is no lock: somebody wrote over it */
     }
     set_busy(true);
+    if (head->seats.taken != 0)
+        seats_sweep(&head->seats, handle);
     return handle;
 }
 
 void shared_leave(void) {
     set_busy(false);
     robust_lock_give(&head->lock);
+}
+
+cache_answer shared_hold(const uint8_t *key, size_t key_len, uint64_t t, shared_text *text) {
+    unsigned seat = seats_free(&head->seats);
+    cache_request ask = {.kind = seat < CACHE_SEATS ? CACHE_HOLD : CACHE_LOOK,
+                         .t = t,
+                         .number = seat,
+                         .set = SHARED_HELD};
+    cache_answer answer = cache_ask(handle, &ask, key, key_len, NULL, 0);
+    *text = (shared_text){.bytes = NULL};
+    if (ask.kind == CACHE_HOLD && answer.kind == CACHE_STR && answer.len >= SHARED_HELD &&
+        seats_may_read(handle, head->words, answer.place)) {
+        text->bytes = (const uint8_t *)(head->words + answer.place);
+        text->len = answer.len;
+        text->seat = seat;
+        text->ticket = seats_take(&head->seats, seat);
+    }
+    return answer;
+}
+
+bool shared_let_go(const shared_text *text) {
+    return seats_leave(&head->seats, text->seat, text->ticket);
 }
 
 shared_deaths shared_get_deaths(void) { return head->deaths; }

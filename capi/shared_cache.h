@@ -19,6 +19,24 @@ void shared_end(void);
 uint8_t *shared_enter(void);
 void shared_leave(void);
 
+/* A string of the cache that is read without the lock. */
+typedef struct {
+    const uint8_t *bytes; /* null: nothing is held, and the answer's bytes are for cache_copy */
+    size_t len;
+    uint64_t ticket;
+    unsigned seat;
+} shared_text;
+
+/* Between shared_enter and shared_leave: fetches, and holds a string of SHARED_HELD bytes or more. Its
+ * bytes may be read after shared_leave too, and stay as they are until shared_let_go, whatever
+ * other processes store, delete or clear. */
+enum { SHARED_HELD = 4096 };
+cache_answer shared_hold(const uint8_t *key, size_t key_len, uint64_t t, shared_text *text);
+
+/* Lets a string go that is held, with no lock. False where it was no longer held: what was read of it
+ * may be of other rows, and is fetched again. That is so after a cache was made anew. */
+bool shared_let_go(const shared_text *text);
+
 /* How many owners of the lock died: inside a call, and where no call was under way. */
 typedef struct {
     uint64_t inside, outside;
