@@ -26,12 +26,12 @@ if [ -z "${CACHE_C_LIB:-}" ]; then
 fi
 [ -f "$CACHE_C_LIB" ] || { echo "build.sh: no library $CACHE_C_LIB" >&2; exit 1; }
 headers=$(dirname "$CACHE_C_LIB")
-[ -f "$headers/robust_lock.h" ] || headers=$top/capi
+[ -f "$headers/seats.h" ] || headers=$top/capi
 
 build=$ext/build
 rm -rf "$build"
 mkdir -p "$build/cache_c" "$ext/modules"
-cp "$headers/cache_c.h" "$headers/robust_lock.h" "$build/cache_c/"
+cp "$headers/cache_c.h" "$headers/robust_lock.h" "$headers/seats.h" "$build/cache_c/"
 cp "$CACHE_C_LIB" "$build/cache_c/libcache_c.a"
 cp "$ext"/*.c "$ext"/*.h "$ext/config.m4" "$build/"
 

@@ -4,12 +4,12 @@ PHP_ARG_ENABLE([apcu],
 
 PHP_ARG_WITH([cache-c],
   [for the library cache_c],
-  [AS_HELP_STRING([--with-cache-c=DIR], [The folder of cache_c.h, robust_lock.h and libcache_c.a])],
+  [AS_HELP_STRING([--with-cache-c=DIR], [The folder of cache_c.h, robust_lock.h, seats.h and libcache_c.a])],
   [no],
   [no])
 
 if test "$PHP_APCU" != "no"; then
-  for file in cache_c.h robust_lock.h libcache_c.a; do
+  for file in cache_c.h robust_lock.h seats.h libcache_c.a; do
     if test ! -f "$PHP_CACHE_C/$file"; then
       AC_MSG_ERROR([no $file in the folder of --with-cache-c])
     fi

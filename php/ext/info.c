@@ -103,7 +103,8 @@ static bool list_all(apcu_rows *list, cache_counts *counts)
 		}
 		*counts = cache_get_counts(apcu_shm->cache);
 		is_whole = true;
-		for (uint32_t slot = 0; slot < apcu_shm->shape.slots && is_whole; slot++) {
+		/* Behind the slots stand the rows that were removed while somebody copies them. */
+		for (uint32_t slot = 0; slot <= apcu_shm->shape.slots && is_whole; slot++) {
 			is_whole = apcu_rows_add(list, slot);
 		}
 		apcu_unlock();
@@ -136,6 +137,11 @@ static void add_rows(zval *info, const apcu_rows *list)
 		tell_long(&told, ACCESS_TIME, (zend_long) row->atime);
 		tell_long(&told, REF_COUNT, 0);
 		tell_long(&told, MEM_SIZE, (zend_long) row->size * 8);
+		key += row->key_len;
+		if (row->slot == apcu_shm->shape.slots) {
+			add_next_index_zval(&removed, &told);
+			continue;
+		}
 		add_next_index_zval(&rows, &told);
 
 		count = zend_hash_index_find(Z_ARRVAL(slots), row->slot);
@@ -144,10 +150,8 @@ static void add_rows(zval *info, const apcu_rows *list)
 		} else {
 			add_index_long(&slots, row->slot, 1);
 		}
-		key += row->key_len;
 	}
 	add_assoc_zval(info, "cache_list", &rows);
-	/* No row is held here after it was removed. */
 	add_assoc_zval(info, "deleted_list", &removed);
 	add_assoc_zval(info, "slot_distribution", &slots);
 }

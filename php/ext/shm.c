@@ -49,8 +49,15 @@ static void *take(size_t size)
 cache_tried rattle_alloc(size_t size, size_t align)
 {
 	switch (source) {
-		case FROM_MAPPING:
-			return given(align <= 64 ? take(size) : NULL);
+		case FROM_MAPPING: {
+			void *at = align <= 64 ? take(size) : NULL;
+
+			/* The words come first, and nothing else of a cache is as large. */
+			if (!apcu_shm->words && size == (size_t) apcu_shm->shape.words * 8) {
+				apcu_shm->words = at;
+			}
+			return given(at);
+		}
 		case FROM_NOWHERE:
 			return given(NULL);
 		default:
@@ -87,6 +94,8 @@ int rattle_errno(void)
 static void make(void)
 {
 	apcu_shm->is_made = false;
+	seats_clear(&apcu_shm->seats);
+	apcu_shm->words = NULL;
 	apcu_shm->used = sizeof *apcu_shm;
 	memset(&apcu_shm->last, 0, sizeof apcu_shm->last);
 	apcu_shm->events = 0;
@@ -179,6 +188,15 @@ static void let_signals(void)
 #endif
 }
 
+/* A process that is killed has written what stands before the instruction at which it died, so the
+ * order that the compiler keeps is enough. */
+static void set_busy(bool is_busy)
+{
+	atomic_signal_fence(memory_order_seq_cst);
+	apcu_shm->is_busy = is_busy;
+	atomic_signal_fence(memory_order_seq_cst);
+}
+
 /* Its last owner died. Where a call was under way, what it left may be half a change, and nothing of
  * it is read again: a new cache takes its place. Whoever dies here leaves is_busy as it is, and the
  * next owner begins anew. */
@@ -188,8 +206,9 @@ static void recover(void)
 		make();
 		apcu_shm->remade++;
 		was_remade = has_news = true;
-		atomic_signal_fence(memory_order_seq_cst);
-		apcu_shm->is_busy = false;
+		set_busy(false);
+	} else {
+		seats_settle(&apcu_shm->seats);
 	}
 }
 
@@ -234,21 +253,53 @@ void apcu_unlock(void)
 	}
 }
 
-/* A process that is killed has written what stands before the instruction at which it died, so the
- * order that the compiler keeps is enough. */
+static bool may_drop_rows(uint32_t kind)
+{
+	return kind != CACHE_LOOK && kind != CACHE_HOLD && kind != CACHE_EXISTS;
+}
+
 cache_answer apcu_ask(const cache_request *request, const zend_string *key, const char *bytes, size_t len)
 {
-	apcu_shm->is_busy = true;
-	atomic_signal_fence(memory_order_seq_cst);
+	set_busy(true);
+	if (UNEXPECTED(apcu_shm->seats.taken != 0) && may_drop_rows(request->kind)) {
+		seats_sweep(&apcu_shm->seats, apcu_shm->cache);
+	}
 	cache_answer answer = cache_ask(apcu_shm->cache, request,
 		(const uint8_t *) ZSTR_VAL(key), ZSTR_LEN(key), (const uint8_t *) bytes, len);
 	if (UNEXPECTED(apcu_is_recorded)) {
 		apcu_record_note(request, key, bytes, len, &answer);
 		has_news = true;
 	}
-	atomic_signal_fence(memory_order_seq_cst);
-	apcu_shm->is_busy = false;
+	set_busy(false);
 	return answer;
+}
+
+cache_answer apcu_look(const zend_string *key, time_t t, apcu_held *held)
+{
+	seats *all = &apcu_shm->seats;
+	unsigned seat = apcu_is_recorded ? CACHE_SEATS : seats_free(all);
+	cache_request request = {
+		.kind = seat < CACHE_SEATS ? CACHE_HOLD : CACHE_LOOK,
+		.t = (uint64_t) t,
+		.number = seat,
+		.set = APCU_HELD_FROM
+	};
+	cache_answer answer = apcu_ask(&request, key, "", 0);
+
+	held->bytes = NULL;
+	if (request.kind == CACHE_HOLD && answer.kind == CACHE_STR && answer.len >= APCU_HELD_FROM
+			&& seats_may_read(apcu_shm->cache, apcu_shm->words, answer.place)) {
+		held->bytes = (const char *) (apcu_shm->words + answer.place);
+		held->len = (size_t) answer.len;
+		held->seat = seat;
+		held->ticket = seats_take(all, seat);
+	}
+	return answer;
+}
+
+bool apcu_let_go(const apcu_held *held)
+{
+	return seats_leave(&apcu_shm->seats, held->seat, held->ticket);
 }
 
 void apcu_entry_begin(void)

@@ -8,6 +8,7 @@
 #include "php.h"
 #include "cache_c.h"
 #include "robust_lock.h"
+#include "seats.h"
 
 typedef struct {
 	robust_lock lock;           /* one call of the cache at a time */
@@ -27,6 +28,8 @@ typedef struct {
 	cache_shape shape;
 	size_t size, used;          /* bytes of the mapping, and of those that were given out */
 	uint8_t *cache;             /* the handle */
+	uint64_t *words;            /* what the places of the cache's strings are in */
+	seats seats;                /* who copies from them outside of the lock */
 } apcu_shared;
 
 /* Null where there is no cache in this process. */
@@ -50,6 +53,26 @@ void apcu_unlock(void);
 
 /* One event of the cache, under the lock. */
 cache_answer apcu_ask(const cache_request *request, const zend_string *key, const char *bytes, size_t len);
+
+/* A string that is copied when the lock was given back; null bytes: there is none. Its bytes stay as they
+ * are until it is let go, whatever others store, delete or clear. */
+typedef struct {
+	const char *bytes;
+	size_t len;
+	uint64_t ticket;
+	unsigned seat;
+} apcu_held;
+
+/* The bytes from which on a string is copied so. From some 3,000 on that takes less time, alone too. */
+#define APCU_HELD_FROM 4096
+
+/* One event under the lock: a look-up. A long string that it finds is held, but while calls are recorded,
+ * and while many others are. */
+cache_answer apcu_look(const zend_string *key, time_t t, apcu_held *held);
+
+/* Lets a string go, outside of the lock. False where it was not held any more: what was read of it may be
+ * of other rows. So it is where the cache was made anew. */
+bool apcu_let_go(const apcu_held *held);
 
 /* The lock round callbacks of apcu_entry. It is taken once a process, however deep the callbacks lie
  * in one another, and a forked child does not give back what its parent took. */

@@ -16,7 +16,7 @@ const MOST = 20000;
 /** The rows before each call; with a filler of so many bytes. */
 function before(int $filler = 0): array
 {
-    return ['text' => str_repeat('a', 300), 'list' => [1, 'two' => 2.5, 'x'], 'number' => 5, 'other' => 'stays', 'null' => null]
+    return ['text' => str_repeat('a', 300), 'long' => str_repeat('l', 6000), 'list' => [1, 'two' => 2.5, 'x'], 'number' => 5, 'other' => 'stays', 'null' => null]
         + ($filler > 0 ? ['filler' => str_repeat('f', $filler)] : []);
 }
 
@@ -34,6 +34,7 @@ function calls(): array
         'add' => [fn () => apcu_add('more', 1), [['more' => 1] + $before]],
         'add, there' => [fn () => apcu_add('text', 1), []],
         'fetch' => [fn () => apcu_fetch(['text', 'list', 'none']), []],
+        'fetch long' => [fn () => apcu_fetch('long'), []],
         'exists' => [fn () => apcu_exists(['text', 'none']), []],
         'delete' => [fn () => apcu_delete('text'), [$without('text')]],
         'delete found' => [fn () => apcu_delete(new APCUIterator('/^(text|list)$/', APC_ITER_KEY, 1)), [$without('text'), $without('list'), $without('text', 'list')]],

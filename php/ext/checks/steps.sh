@@ -21,7 +21,7 @@ try() {
 trap 'exit 1' TERM INT
 
 status=0
-for call in 'store over' 'store new' 'store two' 'store with no room' add 'add, there' fetch exists delete 'delete found' inc \
+for call in 'store over' 'store new' 'store two' 'store with no room' add 'add, there' fetch 'fetch long' exists delete 'delete found' inc \
     'inc new' cas entry clear walk told; do
     try "$ours" "$call" "$points" || status=1
 done
