@@ -224,6 +224,38 @@ static void told(void) {
     WANT(exists("told", 35) == CACHE_NO);
 }
 
+/* Whether the text that a fetch by this seat finds is held: it stands there when its row is gone. */
+static bool holds(uint64_t seat, uint64_t least) {
+    cache_row row;
+    store("held", CACHE_STR, 0, "a text", 30);
+    cache_request hold = {.kind = CACHE_HOLD, .t = 30, .number = seat, .set = least};
+    cache_answer found = ask(hold, "held", "");
+    WANT(found.kind == CACHE_STR && found.len == 6 && stand(found.place, "a text"));
+    WANT(ask((cache_request){.kind = CACHE_DELETE, .t = 30}, "held", "").kind == CACHE_YES);
+    bool is_held = cache_list_rows(at, shape.slots, 0, &row, 1) == 1;
+    WANT(!is_held || (row.value.place == found.place && stand(found.place, "a text")));
+    return is_held;
+}
+
+/* Seats, and what they hold. */
+static void seats(void) {
+    cache_row row;
+    for (uint32_t seat = 0; seat < CACHE_SEATS; seat++) {
+        WANT(holds(seat, 6));
+        WANT(cache_let_go(at, seat) && cache_let_go(at, seat));
+        /* What is let go goes with the next store. */
+        WANT(store("held", CACHE_INT, 1, "", 30) == CACHE_YES);
+        WANT(cache_list_rows(at, shape.slots, 0, &row, 1) == 0);
+    }
+    WANT(!holds(CACHE_SEATS, 0) && !holds(UINT64_MAX, 0) && !holds(0, 7));
+    WANT(!cache_let_go(at, CACHE_SEATS) && !cache_let_go(at, UINT32_MAX));
+    store("held", CACHE_INT, 1, "", 30);
+    cache_request hold = {.kind = CACHE_HOLD, .t = 30};
+    WANT(ask(hold, "held", "").kind == CACHE_INT && ask(hold, "none", "").kind == CACHE_ABSENT);
+    WANT(ask((cache_request){.kind = CACHE_DELETE, .t = 30}, "held", "").kind == CACHE_YES);
+    WANT(cache_list_rows(at, shape.slots, 0, &row, 1) == 0);
+}
+
 /* What no call may be asked, and what it says; none of it changes the cache. */
 static void refused(void) {
     const uint8_t *key = (const uint8_t *)"k";
@@ -279,6 +311,7 @@ static void nulls(void) {
     WANT(cache_ask(at, &put, key, 1, NULL, SIZE_MAX).kind == CACHE_BAD);
     WANT(cache_ask(at, &fetch, key, longest, key, 0).kind == CACHE_TOO_LONG);
     WANT(cache_ask(at, &put, key, 1, key, SIZE_MAX).kind == CACHE_TOO_LONG);
+    WANT(!cache_let_go(NULL, 0));
     WANT(!cache_copy(NULL, 0, &byte, 1));
     WANT(!cache_copy(at, 0, NULL, 1));
     WANT(!cache_copy(at, 0, &byte, longest));
@@ -329,6 +362,7 @@ int main(int argc, char **argv) {
             values();
             requests();
             told();
+            seats();
             refused();
         }
         shared_leave();
