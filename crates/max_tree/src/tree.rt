@@ -1,79 +1,79 @@
-ghost use Rattle.std.specs.Prelude.{◌≡◌, ℕ, ◌+◌, ◌-◌, ◌/◌, ◌^◌, ◌<◌, ◌≤◌, nat_le, length};
-ghost use Rattle.std.specs.Prelude.{replicate, slice_index, slice_set, IfOk};
+ghost use Rattle.std.specs.Prelude.{◌≡◌, ◌≢◌, ℕ, ◌+◌, ◌*◌, ◌^◌, ◌<◌, ◌≤◌, nat_le, length};
+ghost use Rattle.std.specs.Prelude.{replicate, slice_index, slice_set, IfOk, MatchOption};
 ghost use Rattle.std.specs.List.{position};
 ghost use Rattle.max_tree.specs.Pages.{largest};
 
-use crate::pages;
-use crate::row::PAGE;
+use crate::nodes;
 use std::alloc::{AllocError, Global};
 use std::marker::Model;
 
-// A row of numbers in pages, with the row of the largest number of each page, which is such a tree
-// again. One page needs no row above it.
+// A row of numbers, with the larger of each two of them, of each two of those and so on.
 #[derive(Drop)]
 pub struct MaxTree {
-    numbers: Vec<u32>,
-    tops: Option<Box<MaxTree>>,
+    // How many steps there are from the root to a leaf.
+    depth: u32,
+    nodes: Vec<u32>,
 }
 
 // Clauses see the row.
 impl Model for MaxTree {
-    ghost use Rattle.std.specs.Prelude.{ℕ, List, length};
-    ghost use Rattle.max_tree.specs.Pages.{HasTops};
+    ghost use Rattle.std.specs.Prelude.{◌≡◌, ℕ, ◌+◌, ◌*◌, ◌^◌, List, length};
+    ghost use Rattle.max_tree.specs.Nodes.{leaves, AreMaxima};
 
     ghost Value = { List ℕ };
 
-    ghost view = { λ tree. tree.numbers.items };
+    ghost view = { λ tree. leaves tree.nodes.items };
 
-    ghost invariant = { λ tree. HasTops tree.numbers.items tree.tops };
+    ghost invariant = { λ tree.
+        (length tree.nodes.items ≡ 2 ^ (tree.depth + 1)) × AreMaxima tree.nodes.items };
+}
 
-    ghost size = { length };
+// So many zeros.
+pub fn zeros(alloc: Global, count: usize) -> Result<Vec<u32>, AllocError>
+    ensures { IfOk result (λ zeros. zeros.items ≡ replicate count 0) }
+{
+    Ok(Vec::from_elem(alloc, 0u32, count)?)
+}
 
-    ghost use Rattle.max_tree.specs.Fewer.{fewer_tops};
-
-    ghost size_decreases = { λ tree h. fewer_tops tree.numbers tree.tops h };
+// How often 1 is doubled to reach the count.
+fn depth_for(count: usize) -> u32
+    requires { count ≤ 2 ^ 31 }
+    ensures enough { count ≤ 2 ^ result }
+    ensures few { 2 ^ result ≤ 2 * count + 1 }
+    ensures low { result < 32 }
+{
+    let mut depth = 0;
+    while depth < 31 && (1usize << depth) < count {
+        depth += 1;
+    }
+    depth
 }
 
 impl MaxTree {
-    // A row of so many zeros.
+    // A row of that many zeros or more.
     pub fn new(alloc: Global, count: usize) -> Result<MaxTree, AllocError>
-        requires { count < 2 ^ 32 }
-        ensures { IfOk result (λ row. row ≡ replicate count 0) }
+        requires { count ≤ 2 ^ 31 }
+        ensures enough { IfOk result (λ row. count ≤ length row) }
+        ensures few { IfOk result (λ row. length row ≤ 2 * count + 1) }
+        ensures zeros { IfOk result (λ row. (i : ℕ) → slice_index row i ≡ 0) }
     {
-        let numbers = Vec::from_elem(alloc, 0u32, count)?;
-        if count <= PAGE {
-            return Ok(MaxTree {
-                numbers,
-                tops: None,
-            });
-        }
-        let above = MaxTree::new(alloc, count.div_ceil(PAGE))?;
-        let tops = Box::new(alloc, above)?;
-        Ok(MaxTree {
-            numbers,
-            tops: Some(tops),
-        })
+        let depth = depth_for(count);
+        let nodes = zeros(alloc, 2usize << depth)?;
+        Ok(MaxTree { depth, nodes })
     }
 
     // How many numbers there are.
     pub fn len(&self) -> usize
-        ensures is { result ≡ length self.now }
-        ensures short { result < 2 ^ 32 }
+        ensures { result ≡ length self.now }
     {
-        self.numbers.len()
+        nodes::count_leaves(self.nodes.as_slice())
     }
 
-    // How many numbers there are, with those of all rows above.
+    // How many nodes there are: two for each number.
     pub fn weight(&self) -> usize
-        ensures least { length self.now ≤ result }
-        ensures pages { PAGE < length self.now
-            → length self.now + (length self.now + (PAGE - 1)) / PAGE ≤ result }
-        ensures most { result ≤ length self.now + length self.now / 16 }
+        ensures { result ≡ length self.now + length self.now }
     {
-        match &self.tops {
-            None => self.numbers.len(),
-            Some(tops) => self.numbers.len() + tops.weight(),
-        }
+        self.nodes.len()
     }
 
     // The number at `p`.
@@ -81,61 +81,46 @@ impl MaxTree {
         requires { p < length self.now }
         ensures { result ≡ slice_index self.now p }
     {
-        self.numbers[p]
+        nodes::leaf(self.nodes.as_slice(), p)
     }
 
-    // Makes `value` the number at `p`, which is `old`: who has read it need not read it again.
-    pub fn change(&mut self, p: usize, old: u32, value: u32)
-        requires inside { p < length self.old }
-        requires old { old ≡ slice_index self.old p }
+    // Makes `value` the number at `p`.
+    pub fn set(&mut self, p: usize, value: u32)
+        requires { p < length self.old }
         ensures { self.new ≡ slice_set self.old p value }
     {
-        self.numbers[p] = value;
-        let Some(tops) = &mut self.tops else {
-            return;
-        };
-        let top = tops.get(p / PAGE);
-        let new = pages::top_after(self.numbers.as_slice(), p, old, value, top);
-        if new == top {
-            return;
-        }
-        tops.change(p / PAGE, top, new);
+        nodes::set_leaf(self.nodes.as_mut_slice(), p, value);
     }
 
-    // Makes all numbers 0, in time of the pages and of the numbers that were not 0.
+    // Makes all numbers 0.
     pub fn clear(&mut self)
         ensures { self.new ≡ replicate (length self.old) 0 }
     {
-        match &mut self.tops {
-            None => self.numbers.as_mut_slice().fill(0),
-            Some(tops) => {
-                pages::clear_pages(self.numbers.as_mut_slice(), tops);
-                tops.clear();
-            }
-        }
+        nodes::clear(self.nodes.as_mut_slice());
     }
 
     // The least place of a number that is `n` or more, if there is one.
     pub fn first_at_least(&self, n: u32) -> Option<usize>
-        requires { 1 ≤ n }
         ensures { result ≡ position (λ value. nat_le n value) self.now }
     {
-        let Some(tops) = &self.tops else {
-            return pages::first_in_page(self.numbers.as_slice(), 0, n);
-        };
-        let Some(k) = tops.first_at_least(n) else {
-            return None;
-        };
-        pages::first_in_page(self.numbers.as_slice(), k, n)
+        nodes::first_leaf(self.nodes.as_slice(), n)
     }
 
-    // The largest number, or 0.
+    // The last place before `p` of a number that is not 0, if there is one.
+    pub fn last_nonzero_before(&self, p: usize) -> Option<usize>
+        requires { p < length self.now }
+        ensures found { MatchOption result ((k : ℕ) → k < p → slice_index self.now k ≡ 0)
+            (λ q. (q < p) × (slice_index self.now q ≢ 0)) }
+        ensures last { MatchOption result (Unit {0})
+            (λ q. (k : ℕ) → q < k → k < p → slice_index self.now k ≡ 0) }
+    {
+        nodes::last_leaf_before(self.nodes.as_slice(), p)
+    }
+
+    // The largest number.
     pub fn largest(&self) -> u32
         ensures { result ≡ largest self.now }
     {
-        match &self.tops {
-            None => pages::largest_of(self.numbers.as_slice()),
-            Some(tops) => tops.largest(),
-        }
+        nodes::root(self.nodes.as_slice())
     }
 }
