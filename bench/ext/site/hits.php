@@ -1,7 +1,7 @@
 <?php
 
-// Misses in a hundred fetches since the cache was cleared, how often rows were dropped for want of room, and how many
-// rows there are. With `?clear` it clears first.
+// Misses in a hundred fetches since all rows last went, by a call or for want of room, how often rows were dropped for
+// want of room, and how many rows there are. With `?clear` it clears first.
 
 declare(strict_types=1);
 
