@@ -67,7 +67,7 @@ fn both_work<N: TableName + Send + Sync, R: Threads + Wait + Sync>(
     alloc: Global,
     fresh: Fresh,
     value: &Graph,
-) -> Option<(Closed, [bool; 2])>
+) -> Option<(Closed, bool, bool)>
     requires sync { IsSync R.row }
     requires table { N.table ≡ fresh.table }
     requires conf { N.conf ≡ fresh.conf }
@@ -92,7 +92,7 @@ fn both_work<N: TableName + Send + Sync, R: Threads + Wait + Sync>(
     );
     ended.push(a.0);
     ended.push(b.0);
-    Some((shared.close(rt, ended), [a.1, b.1]))
+    Some((shared.close(rt, ended), a.1, b.1))
 }
 
 #[test]
@@ -102,10 +102,10 @@ fn two_threads_share_a_cache(rt: HostRuntime) -> Result<(), Fail> {
     let Ok(fresh) = open_cache(&rt, rt.alloc(), &Conf::usual(), &[3, 3]) else {
         return Err(Fail::new("open_cache"));
     };
-    let Some((closed, found)) = both_work::<Brand, _>(&rt, rt.alloc(), fresh, &value) else {
+    let Some((closed, first, second)) = both_work::<Brand, _>(&rt, rt.alloc(), fresh, &value) else {
         return Err(Fail::new("two passes"));
     };
-    assert_eq!(rt; found, [true, true]);
+    assert_eq!(rt; (first, second), (true, true));
     assert_eq!(rt; closed.journal.len(), 6);
     Ok(())
 }
