@@ -2,8 +2,8 @@
 //! is not 0, and the largest, without looking at them all.
 #![tactic(auto)]
 
+mod bits;
 mod marks;
-mod nodes;
 mod pages;
 mod pairs;
 mod row;

@@ -1,79 +1,79 @@
-ghost use Rattle.std.specs.Prelude.{◌≡◌, ◌≢◌, ℕ, ◌+◌, ◌*◌, ◌^◌, ◌<◌, ◌≤◌, nat_le, length};
-ghost use Rattle.std.specs.Prelude.{replicate, slice_index, slice_set, IfOk, MatchOption};
+ghost use Rattle.std.specs.Prelude.{◌≡◌, ℕ, ◌+◌, ◌-◌, ◌/◌, ◌^◌, ◌<◌, ◌≤◌, nat_le, length};
+ghost use Rattle.std.specs.Prelude.{replicate, slice_index, slice_set, IfOk};
 ghost use Rattle.std.specs.List.{position};
 ghost use Rattle.max_tree.specs.Pages.{largest};
 
-use crate::nodes;
+use crate::pages;
+use crate::row::PAGE;
 use std::alloc::{AllocError, Global};
 use std::marker::Model;
 
-// A row of numbers, with the larger of each two of them, of each two of those and so on.
+// A row of numbers in pages, with the row of the largest number of each page, which is such a tree
+// again. One page needs no row above it.
 #[derive(Drop)]
 pub struct MaxTree {
-    // How many steps there are from the root to a leaf.
-    depth: u32,
-    nodes: Vec<u32>,
+    numbers: Vec<u32>,
+    tops: Option<Box<MaxTree>>,
 }
 
 // Clauses see the row.
 impl Model for MaxTree {
-    ghost use Rattle.std.specs.Prelude.{◌≡◌, ℕ, ◌+◌, ◌*◌, ◌^◌, List, length};
-    ghost use Rattle.max_tree.specs.Nodes.{leaves, AreMaxima};
+    ghost use Rattle.std.specs.Prelude.{ℕ, List, length};
+    ghost use Rattle.max_tree.specs.Pages.{HasTops};
 
     ghost Value = { List ℕ };
 
-    ghost view = { λ tree. leaves tree.nodes.items };
+    ghost view = { λ tree. tree.numbers.items };
 
-    ghost invariant = { λ tree.
-        (length tree.nodes.items ≡ 2 ^ (tree.depth + 1)) × AreMaxima tree.nodes.items };
-}
+    ghost invariant = { λ tree. HasTops tree.numbers.items tree.tops };
 
-// So many zeros.
-pub fn zeros(alloc: Global, count: usize) -> Result<Vec<u32>, AllocError>
-    ensures { IfOk result (λ zeros. zeros.items ≡ replicate count 0) }
-{
-    Ok(Vec::from_elem(alloc, 0u32, count)?)
-}
+    ghost size = { length };
 
-// How often 1 is doubled to reach the count.
-fn depth_for(count: usize) -> u32
-    requires { count ≤ 2 ^ 31 }
-    ensures enough { count ≤ 2 ^ result }
-    ensures few { 2 ^ result ≤ 2 * count + 1 }
-    ensures low { result < 32 }
-{
-    let mut depth = 0;
-    while depth < 31 && (1usize << depth) < count {
-        depth += 1;
-    }
-    depth
+    ghost use Rattle.max_tree.specs.Fewer.{fewer_tops};
+
+    ghost size_decreases = { λ tree h. fewer_tops tree.numbers tree.tops h };
 }
 
 impl MaxTree {
-    // A row of that many zeros or more.
+    // A row of so many zeros.
     pub fn new(alloc: Global, count: usize) -> Result<MaxTree, AllocError>
-        requires { count ≤ 2 ^ 31 }
-        ensures enough { IfOk result (λ row. count ≤ length row) }
-        ensures few { IfOk result (λ row. length row ≤ 2 * count + 1) }
-        ensures zeros { IfOk result (λ row. (i : ℕ) → slice_index row i ≡ 0) }
+        requires { count < 2 ^ 32 }
+        ensures { IfOk result (λ row. row ≡ replicate count 0) }
     {
-        let depth = depth_for(count);
-        let nodes = zeros(alloc, 2usize << depth)?;
-        Ok(MaxTree { depth, nodes })
+        let numbers = Vec::from_elem(alloc, 0u32, count)?;
+        if count <= PAGE {
+            return Ok(MaxTree {
+                numbers,
+                tops: None,
+            });
+        }
+        let above = MaxTree::new(alloc, count.div_ceil(PAGE))?;
+        let tops = Box::new(alloc, above)?;
+        Ok(MaxTree {
+            numbers,
+            tops: Some(tops),
+        })
     }
 
     // How many numbers there are.
     pub fn len(&self) -> usize
-        ensures { result ≡ length self.now }
+        ensures is { result ≡ length self.now }
+        ensures short { result < 2 ^ 32 }
     {
-        nodes::count_leaves(self.nodes.as_slice())
+        self.numbers.len()
     }
 
-    // How many nodes there are: two for each number.
+    // How many numbers there are, with those of all rows above.
     pub fn weight(&self) -> usize
-        ensures { result ≡ length self.now + length self.now }
+        ensures least { length self.now ≤ result }
+        ensures pages { PAGE < length self.now
+            → length self.now + (length self.now + (PAGE - 1)) / PAGE ≤ result }
+        ensures most { result ≤ length self.now + length self.now / 16 }
     {
-        self.nodes.len()
+        match &self.tops {
+            None => self.numbers.len(),
+            Some(tops) => self.numbers.len() + tops.weight(),
+        }
     }
 
     // The number at `p`.
@@ -81,46 +81,61 @@ impl MaxTree {
         requires { p < length self.now }
         ensures { result ≡ slice_index self.now p }
     {
-        nodes::leaf(self.nodes.as_slice(), p)
+        self.numbers[p]
     }
 
-    // Makes `value` the number at `p`.
-    pub fn set(&mut self, p: usize, value: u32)
-        requires { p < length self.old }
+    // Makes `value` the number at `p`, which is `old`: who has read it need not read it again.
+    pub fn change(&mut self, p: usize, old: u32, value: u32)
+        requires inside { p < length self.old }
+        requires old { old ≡ slice_index self.old p }
         ensures { self.new ≡ slice_set self.old p value }
     {
-        nodes::set_leaf(self.nodes.as_mut_slice(), p, value);
+        self.numbers[p] = value;
+        let Some(tops) = &mut self.tops else {
+            return;
+        };
+        let top = tops.get(p / PAGE);
+        let new = pages::top_after(self.numbers.as_slice(), p, old, value, top);
+        if new == top {
+            return;
+        }
+        tops.change(p / PAGE, top, new);
     }
 
-    // Makes all numbers 0.
+    // Makes all numbers 0, in time of the pages and of the numbers that were not 0.
     pub fn clear(&mut self)
         ensures { self.new ≡ replicate (length self.old) 0 }
     {
-        nodes::clear(self.nodes.as_mut_slice());
+        match &mut self.tops {
+            None => self.numbers.as_mut_slice().fill(0),
+            Some(tops) => {
+                pages::clear_pages(self.numbers.as_mut_slice(), tops);
+                tops.clear();
+            }
+        }
     }
 
     // The least place of a number that is `n` or more, if there is one.
     pub fn first_at_least(&self, n: u32) -> Option<usize>
+        requires { 1 ≤ n }
         ensures { result ≡ position (λ value. nat_le n value) self.now }
     {
-        nodes::first_leaf(self.nodes.as_slice(), n)
+        let Some(tops) = &self.tops else {
+            return pages::first_in_page(self.numbers.as_slice(), 0, n);
+        };
+        let Some(k) = tops.first_at_least(n) else {
+            return None;
+        };
+        pages::first_in_page(self.numbers.as_slice(), k, n)
     }
 
-    // The last place before `p` of a number that is not 0, if there is one.
-    pub fn last_nonzero_before(&self, p: usize) -> Option<usize>
-        requires { p < length self.now }
-        ensures found { MatchOption result ((k : ℕ) → k < p → slice_index self.now k ≡ 0)
-            (λ q. (q < p) × (slice_index self.now q ≢ 0)) }
-        ensures last { MatchOption result (Unit {0})
-            (λ q. (k : ℕ) → q < k → k < p → slice_index self.now k ≡ 0) }
-    {
-        nodes::last_leaf_before(self.nodes.as_slice(), p)
-    }
-
-    // The largest number.
+    // The largest number, or 0.
     pub fn largest(&self) -> u32
         ensures { result ≡ largest self.now }
     {
-        nodes::root(self.nodes.as_slice())
+        match &self.tops {
+            None => pages::largest_of(self.numbers.as_slice()),
+            Some(tops) => tops.largest(),
+        }
     }
 }

@@ -2,7 +2,7 @@ use Rattle.std.proofs.Common.{◌+◌, ◌*◌, ℕ, List, sym, subst, arith, in
 use Rattle.std.proofs.lemmas.Bool.{cases_lt}
 use Rattle.std.proofs.lemmas.List.{get_or_past}
 use Rattle.max_tree.specs.declared.row.TheConstants.{PAGE}
-use Rattle.max_tree.proofs.PageLemmas.{Cleared, cleared_more, cleared_skip, page_some}
+use Rattle.max_tree.proofs.PageLemmas.{Cleared, cleared_more, cleared_skip, page_some, room_of}
 use Rattle.max_tree.proofs.pages.clear_pages.Goals as goal
 use Rattle.max_tree.proofs.pages.clear_pages.Goals.{then-get-gt0, else-get-gt0}
 
@@ -27,6 +27,6 @@ returns-clause-zeros c = λ i. elim (cases_lt i (PAGE * c.loop-k.k)) [
   | inl low ↦ c.loop-k.invariant.zeros i low
   | inr high ↦
       let count = c.loop-k.invariant.count in
-      let room = c.requires.room in
+      let room = room_of c.args.numbers.now c.args.tops.now c.requires in
       get_or_past c.loop-k.numbers i 0 (omega arith)
 ]
