@@ -5,13 +5,11 @@ use Rattle.std.proofs.lemmas.Bool.{cases_lt, cases_eq}
 use Rattle.std.proofs.lemmas.List.{length-set, length-replicate, get_or_past}
 use Rattle.std.proofs.lemmas.Nat.{pow_below, leading_top, and_le_l}
 use Rattle.std.proofs.lemmas.Nat.Bits.{bit_at-zero, bit_at_above, bit_at_cat_high, bit_at_and, bit_at_or, bit_at_ones, bit_at_ones_above, bit_at-pow_same, bit_at-pow_other, bit_at_not, bit_at-lt}
-use Rattle.std.specs.Global.{Box}
 use Rattle.std.specs.Int.{bit_at, bit_not}
 use Rattle.std.proofs.Common.{w64}
-use Rattle.std.proofs.lemmas.Grind.{get_or_default_zero}
 use Rattle.std.specs.Int.Bits.{bit_and, bit_or}
 use Rattle.std.specs.Int.Count.{count_leading_zeros}
-use Rattle.max_tree.specs.Bits.{bit, Notes, IsSummed, HasBits, IsNoted}
+use Rattle.max_tree.specs.Bits.{bit, Notes, IsSummed, IsNoted}
 use Rattle.max_tree.specs.declared.bits.TheConstants.{WORD}
 use Rattle.max_tree.proofs.Positions.{zero_at}
 
@@ -235,46 +233,24 @@ noted_last numbers some p (Some q) notes off = λ k past before. omega (arith, n
 
 -- ---- what a write of a bit leaves
 
-module _ (words view : List ℕ) (i w b : ℕ) (are : words ≡ view) (inside : i < WORD * length view) (read : w ≡ get_or words (i / WORD) w) (is : b ≡ 2 ^ (i % WORD)) where
-  word_of : i / WORD < length words
-  word_of = omega (arith, ap length are)
-
-  was : w ≡ get_or words (i / WORD) 0
-  was = read ∙ get_or_default_zero words (i / WORD) w word_of
-
+module _ (words : List ℕ) (i w b : ℕ) (inside : i / WORD < length words) (was : w ≡ get_or words (i / WORD) 0) (is : b ≡ 2 ^ (i % WORD)) where
   pub mark_there : bit (set words (i / WORD) (bit_or w b)) i ≡ 1
-  mark_there = word_there words i (bit_or w b) word_of 1 (or_there w (i % WORD) b is)
+  mark_there = word_there words i (bit_or w b) inside 1 (or_there w (i % WORD) b is)
 
-  pub mark_others : (j : ℕ) → j ≢ i → bit (set words (i / WORD) (bit_or w b)) j ≡ bit view j
+  pub mark_others : (j : ℕ) → j ≢ i → bit (set words (i / WORD) (bit_or w b)) j ≡ bit words j
   mark_others j other =
-      word_others words i (bit_or w b) word_of (λ k low apart. or_others w (i % WORD) b k is apart ∙ ap (λ (m : ℕ). bit_at m k) was) j other ∙ ap (λ (ws : List ℕ). bit ws j) are
+      word_others words i (bit_or w b) inside (λ k low apart. or_others w (i % WORD) b k is apart ∙ ap (λ (m : ℕ). bit_at m k) was) j other
 
-  marked_some : min (bit_or w b) 1 ≡ 1
+  pub marked_some : min (bit_or w b) 1 ≡ 1
   marked_some = omega (arith, bit_some (bit_or w b) (i % WORD) (or_there w (i % WORD) b is))
 
-  -- where another bit of the word was set
-  pub mark_same : (some : Option (Box (List ℕ))) → HasBits words some → w ≢ 0 → HasBits (set words (i / WORD) (bit_or w b)) some
-  mark_same None few other = omega (arith, length-set words (i / WORD) (bit_or w b))
-  mark_same (Some some) summed other =
-      summed_same words some.value (i / WORD) (bit_or w b) summed word_of (omega (arith, was, marked_some))
-
-  pub mark_above : (some some' : List ℕ) → IsSummed words some → length some' ≡ length some → bit some' (i / WORD) ≡ 1 → ((j : ℕ) → j ≢ i / WORD → bit some' j ≡ bit some j) → IsSummed (set words (i / WORD) (bit_or w b)) some'
-  mark_above some some' summed count there others =
-      summed_set words some some' (i / WORD) (bit_or w b) summed word_of count (omega (arith, marked_some)) others
-
   pub unmark_there : bit (set words (i / WORD) (bit_and w (bit_not w64 b))) i ≡ 0
-  unmark_there = word_there words i (bit_and w (bit_not w64 b)) word_of 0 (not_there w (i % WORD) b is (omega arith))
+  unmark_there = word_there words i (bit_and w (bit_not w64 b)) inside 0 (not_there w (i % WORD) b is (omega arith))
 
-  pub unmark_others : (j : ℕ) → j ≢ i → bit (set words (i / WORD) (bit_and w (bit_not w64 b))) j ≡ bit view j
+  pub unmark_others : (j : ℕ) → j ≢ i → bit (set words (i / WORD) (bit_and w (bit_not w64 b))) j ≡ bit words j
   unmark_others j other =
-      word_others words i (bit_and w (bit_not w64 b)) word_of (λ k low apart. not_others w (i % WORD) b k is (omega arith) low apart ∙ ap (λ (m : ℕ). bit_at m k) was) j other ∙ ap (λ (ws : List ℕ). bit ws j) are
+      word_others words i (bit_and w (bit_not w64 b)) inside (λ k low apart. not_others w (i % WORD) b k is (omega arith) low apart ∙ ap (λ (m : ℕ). bit_at m k) was) j other
 
   -- where another bit of the word stays set
-  pub unmark_same : (some : Option (Box (List ℕ))) → HasBits words some → bit_and w (bit_not w64 b) ≢ 0 → HasBits (set words (i / WORD) (bit_and w (bit_not w64 b))) some
-  unmark_same None few other = omega (arith, length-set words (i / WORD) (bit_and w (bit_not w64 b)))
-  unmark_same (Some some) summed other =
-      summed_same words some.value (i / WORD) (bit_and w (bit_not w64 b)) summed word_of (omega (arith, was, and_le_l w (bit_not w64 b)))
-
-  pub unmark_above : (some some' : List ℕ) → IsSummed words some → bit_and w (bit_not w64 b) ≡ 0 → length some' ≡ length some → bit some' (i / WORD) ≡ 0 → ((j : ℕ) → j ≢ i / WORD → bit some' j ≡ bit some j) → IsSummed (set words (i / WORD) (bit_and w (bit_not w64 b))) some'
-  unmark_above some some' summed none count there others =
-      summed_set words some some' (i / WORD) (bit_and w (bit_not w64 b)) summed word_of count (omega arith) others
+  pub unmarked_some : bit_and w (bit_not w64 b) ≢ 0 → min (get_or words (i / WORD) 0) 1 ≡ min (bit_and w (bit_not w64 b)) 1
+  unmarked_some other = omega (arith, was, and_le_l w (bit_not w64 b))

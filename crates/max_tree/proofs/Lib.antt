@@ -5,4 +5,6 @@ pub mod TopUpdate
 pub mod PairLemmas
 pub mod FlagBits
 pub mod BitLemmas
-pub mod TreeLemmas
+pub mod Rows
+pub mod LevelLemmas
+pub mod WordLemmas

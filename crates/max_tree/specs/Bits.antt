@@ -1,7 +1,6 @@
 -- Bits in words of 64, each row with a row of bits that tell which words are not 0.
 use Rattle.std.specs.Prelude.{◌≡◌, ℕ, ◌+◌, ◌-◌, ◌/◌, ◌%◌, ◌^◌, ◌<◌, ◌≤◌, min, List, length}
-use Rattle.std.specs.Prelude.{slice_index, Option, Some, None}
-use Rattle.std.specs.Global.{Box}
+use Rattle.std.specs.Prelude.{slice_index, take, drop, zero, suc}
 use Rattle.std.specs.Int.{bit_at}
 use Rattle.max_tree.specs.declared.bits.TheConstants.{WORD}
 
@@ -21,10 +20,17 @@ pub record IsSummed (words some : List ℕ) : Type 0 where
   pub some_count : length some ≡ (length words + (WORD - 1)) / WORD
   pub notes : Notes some words
 
--- a row of more than one word has a row above it, and another one has none
-abbrev pub HasBits : List ℕ → Option (Box (List ℕ)) → Type 0
-HasBits words None = length words ≤ 1
-HasBits words (Some some) = IsSummed words some.value
+-- how many words so many bits fill
+abbrev pub words_of : ℕ → ℕ
+words_of count = (count + (WORD - 1)) / WORD
+
+-- The first `count` words are a row, and behind it stand `above` rows, each with a bit for each
+-- word of the row before it. The last row is one word at most.
+abbrev pub AreWords : ℕ → ℕ → List ℕ → Type 0
+AreWords zero count words = (length words ≡ count) × (count ≤ 1)
+AreWords (suc above) count words =
+    IsSummed (take count words) (take (words_of count) (drop count words))
+    × AreWords above (words_of count) (drop count words)
 
 -- there are fewer than 2 ^ 32 numbers, and a bit for each, which is set where the number is not 0
 pub record IsNoted (numbers some : List ℕ) : Type 0 where

@@ -2,4 +2,3 @@ pub mod Pages
 pub mod Halves
 pub mod Marks
 pub mod Bits
-pub mod Fewer

@@ -1,7 +1,6 @@
 -- Numbers in pages of so many, each with the largest number of its page.
 use Rattle.std.specs.Prelude.{◌≡◌, ℕ, ◌+◌, ◌-◌, ◌*◌, ◌/◌, ◌^◌, ◌<◌, ◌≤◌, max, List, [], ◌∷◌, length}
-use Rattle.std.specs.Prelude.{take, drop, slice_index, Option, Some, None}
-use Rattle.std.specs.Global.{Box}
+use Rattle.std.specs.Prelude.{take, drop, slice_index, zero, suc}
 use Rattle.max_tree.specs.declared.row.TheConstants.{PAGE}
 
 -- the largest of these numbers, or 0
@@ -25,7 +24,14 @@ pub record IsPaged (numbers tops : List ℕ) : Type 0 where
   pub tops_count : length tops ≡ (length numbers + (PAGE - 1)) / PAGE
   pub tops_are : AreTops numbers tops
 
--- a row of more than one page has its tops, and another one has none
-abbrev pub HasTops : List ℕ → Option (Box (List ℕ)) → Type 0
-HasTops numbers None = length numbers ≤ PAGE
-HasTops numbers (Some tops) = IsPaged numbers tops.value
+-- how many pages so many numbers fill
+abbrev pub pages_of : ℕ → ℕ
+pages_of count = (count + (PAGE - 1)) / PAGE
+
+-- The first `count` numbers are a row, and behind it stand `above` rows of tops, each with the tops
+-- of the row before it. The last row is one page at most.
+abbrev pub AreLevels : ℕ → ℕ → List ℕ → Type 0
+AreLevels zero count levels = (length levels ≡ count) × (count ≤ PAGE)
+AreLevels (suc above) count levels =
+    IsPaged (take count levels) (take (pages_of count) (drop count levels))
+    × AreLevels above (pages_of count) (drop count levels)

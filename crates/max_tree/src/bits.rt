@@ -1,55 +1,36 @@
-ghost use Rattle.std.specs.Prelude.{◌≡◌, ◌≢◌, ℕ, ◌+◌, ◌-◌, ◌*◌, ◌%◌, ◌^◌, ◌<◌, ◌≤◌, length};
-ghost use Rattle.std.specs.Prelude.{replicate, slice_index, IfOk, MatchOption};
-ghost use Rattle.std.specs.Int.{bit_at};
+ghost use Rattle.std.specs.Prelude.{◌≡◌, ◌≢◌, ℕ, ◌+◌, ◌-◌, ◌*◌, ◌^◌, ◌<◌, ◌≤◌, length};
+ghost use Rattle.std.specs.Prelude.{replicate, IfOk, MatchOption};
 ghost use Rattle.max_tree.specs.Bits.{bit};
 
+use crate::words;
 use std::alloc::{AllocError, Global};
 use std::marker::Model;
 
 // How many bits a word has.
 pub const WORD: usize = 64;
 
-// A row of bits in words, with the row of the words that are not 0, which is such a tree again. One
-// word needs no row above it.
+// A row of bits in words, with a row of bits that tell which words are not 0, which has such a row
+// again, until one word is enough. All rows stand in one list, the lowest one first.
 #[derive(Drop)]
 pub struct BitTree {
     words: Vec<u64>,
-    some: Option<Box<BitTree>>,
+    // How many words the lowest row has.
+    count: usize,
+    // How many rows stand above it.
+    above: usize,
 }
 
-// Clauses see the words.
+// Clauses see the words of the lowest row.
 impl Model for BitTree {
-    ghost use Rattle.std.specs.Prelude.{ℕ, List, length};
-    ghost use Rattle.max_tree.specs.Bits.{HasBits};
+    ghost use Rattle.std.specs.Prelude.{ℕ, ◌^◌, ◌<◌, List, take};
+    ghost use Rattle.max_tree.specs.Bits.{AreWords};
 
     ghost Value = { List ℕ };
 
-    ghost view = { λ tree. tree.words.items };
+    ghost view = { λ tree. take tree.count tree.words.items };
 
-    ghost invariant = { λ tree. HasBits tree.words.items tree.some };
-
-    ghost size = { length };
-
-    ghost use Rattle.max_tree.specs.Fewer.{fewer_words};
-
-    ghost size_decreases = { λ tree h. fewer_words tree.words tree.some h };
-}
-
-// The bit of a word at this place.
-fn bit_of(i: usize) -> u64
-    ensures { result ≡ 2 ^ (i % WORD) }
-{
-    1u64 << (i % WORD)
-}
-
-// The place of the highest bit.
-fn highest(word: u64) -> usize
-    requires { word ≢ 0 }
-    ensures inside { result < WORD }
-    ensures set_is { bit_at word result ≡ 1 }
-    ensures last { (j : ℕ) → result < j → bit_at word j ≡ 0 }
-{
-    63 - word.leading_zeros() as usize
+    ghost invariant = { λ tree.
+        (tree.count < 2 ^ 32) × AreWords tree.above tree.count tree.words.items };
 }
 
 impl BitTree {
@@ -58,15 +39,12 @@ impl BitTree {
         requires { count < 2 ^ 32 }
         ensures { IfOk result (λ row. row ≡ replicate count 0) }
     {
-        let words = Vec::from_elem(alloc, 0u64, count)?;
-        if count <= 1 {
-            return Ok(BitTree { words, some: None });
-        }
-        let above = BitTree::new(alloc, count.div_ceil(WORD))?;
-        let some = Box::new(alloc, above)?;
+        let (above, room) = words::shape_for(count);
+        let words = Vec::from_elem(alloc, 0u64, room)?;
         Ok(BitTree {
             words,
-            some: Some(some),
+            count,
+            above,
         })
     }
 
@@ -75,10 +53,7 @@ impl BitTree {
         ensures least { length self.now ≤ result }
         ensures most { result ≤ length self.now + length self.now - 1 }
     {
-        match &self.some {
-            None => self.words.len(),
-            Some(some) => self.words.len() + some.weight(),
-        }
+        self.words.len()
     }
 
     // Sets the bit at `i`.
@@ -88,13 +63,7 @@ impl BitTree {
         ensures there { bit self.new i ≡ 1 }
         ensures others { (j : ℕ) → j ≢ i → bit self.new j ≡ bit self.old j }
     {
-        let word = self.words[i / WORD];
-        self.words[i / WORD] = word | bit_of(i);
-        if word == 0 {
-            if let Some(some) = &mut self.some {
-                some.mark(i / WORD);
-            }
-        }
+        words::mark(self.words.as_mut_slice(), self.count, self.above, i);
     }
 
     // Unsets the bit at `i`.
@@ -104,23 +73,14 @@ impl BitTree {
         ensures there { bit self.new i ≡ 0 }
         ensures others { (j : ℕ) → j ≢ i → bit self.new j ≡ bit self.old j }
     {
-        let word = self.words[i / WORD] & !bit_of(i);
-        self.words[i / WORD] = word;
-        if word == 0 {
-            if let Some(some) = &mut self.some {
-                some.unmark(i / WORD);
-            }
-        }
+        words::unmark(self.words.as_mut_slice(), self.count, self.above, i);
     }
 
     // Unsets all bits.
     pub fn clear(&mut self)
         ensures { self.new ≡ replicate (length self.old) 0 }
     {
-        self.words.as_mut_slice().fill(0);
-        if let Some(some) = &mut self.some {
-            some.clear();
-        }
+        words::clear(self.words.as_mut_slice());
     }
 
     // The last bit before `i` that is set, if there is one.
@@ -131,16 +91,6 @@ impl BitTree {
         ensures last { MatchOption result (Unit {0})
             (λ q. (k : ℕ) → q < k → k < i → bit self.now k ≡ 0) }
     {
-        let below = self.words[i / WORD] & (bit_of(i) - 1);
-        if below > 0 {
-            return Some(i / WORD * WORD + highest(below));
-        }
-        let Some(some) = &self.some else {
-            return None;
-        };
-        let Some(k) = some.last_before(i / WORD) else {
-            return None;
-        };
-        Some(k * WORD + highest(self.words[k]))
+        words::last_before(self.words.as_slice(), self.count, self.above, i)
     }
 }

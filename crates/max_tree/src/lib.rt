@@ -3,11 +3,13 @@
 #![tactic(auto)]
 
 mod bits;
+mod levels;
 mod marks;
 mod pages;
 mod pairs;
 mod row;
 mod tree;
+mod words;
 
 pub use pairs::PairRow;
 pub use row::MaxRow;

@@ -4,7 +4,6 @@ ghost use Rattle.max_tree.specs.Pages.{largest, page, IsPaged};
 
 use crate::marks::{highest, marks_from};
 use crate::row::PAGE;
-use crate::tree::MaxTree;
 
 // The largest of the numbers, or 0.
 pub fn largest_of(numbers: &[u32]) -> u32
@@ -88,13 +87,13 @@ fn clear_page(numbers: &mut [u32], k: usize)
 }
 
 // Makes all numbers 0: those of each page whose top is not 0.
-pub fn clear_pages(numbers: &mut [u32], tops: &MaxTree)
+pub fn clear_pages(numbers: &mut [u32], tops: &[u32])
     requires { IsPaged numbers.old tops.now }
     ensures count { length numbers.new ≡ length numbers.old }
     ensures zeros { (i : ℕ) → slice_index numbers.new i ≡ 0 }
 {
     for k in 0..tops.len() {
-        if tops.get(k) > 0 {
+        if tops[k] > 0 {
             clear_page(numbers, k);
         }
     }
