@@ -333,16 +333,16 @@ fn finds_twins_in_pairs(rt: HostRuntime) -> Result<(), Fail> {
     Ok(())
 }
 
-// A count of numbers, and for how many a row of them has memory: each number, and two for each page
-// of 32, where the pages are as many as the next power of two.
+// A count of numbers, and for how many a row of them has memory: each number, one for each page of
+// 32 and for each page of those, and two for each 64 numbers and for each 64 of those.
 const WEIGHTS: [(usize, usize); 7] = [
-    (0, 2),
+    (0, 0),
     (1, 3),
     (32, 34),
     (33, 37),
-    (1024, 1088),
-    (1025, 1153),
-    (2048, 2176),
+    (1024, 1090),
+    (1025, 1096),
+    (2048, 2180),
 ];
 
 #[test]

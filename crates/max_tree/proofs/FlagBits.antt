@@ -1,12 +1,12 @@
 -- Flags as the bits of a number: one flag more, and the highest bit.
-use Rattle.std.proofs.Common.{◌≡◌, ◌≢◌, ℕ, ◌+◌, ◌-◌, ◌^◌, ◌<◌, ◌≤◌, Bool, true, false, nat_lt, nat_le, List, get_or, inl, inr, add-one, subst, arith}
+use Rattle.std.proofs.Common.{◌≡◌, ℕ, ◌+◌, ◌-◌, ◌^◌, ◌<◌, ◌≤◌, Bool, true, false, nat_le, List, get_or, inl, inr, add-one, subst, arith}
 use Rattle.std.proofs.Math.Nat.{two-pow-succ}
 use Rattle.std.proofs.Math.Pow.{pow_mono}
-use Rattle.std.proofs.lemmas.Bool.{cases_order, cases_lt, ltb-true, ltb-false, leb-false}
+use Rattle.std.proofs.lemmas.Bool.{cases_order, cases_lt, leb-false}
 use Rattle.std.proofs.lemmas.Nat.{pow_pos, leading_top}
 use Rattle.std.specs.Int.Count.{count_leading_zeros}
 use Rattle.max_tree.specs.Marks.{IsTopFlag, IsMarked}
-use Rattle.max_tree.specs.declared.row.TheConstants.{HALF, PAGE}
+use Rattle.max_tree.specs.declared.row.TheConstants.{PAGE}
 
 pub power_next : (k : ℕ) → 2 ^ (k + 1) ≡ 2 ^ k + 2 ^ k
 power_next k = rw add-one (two-pow-succ k)
@@ -70,29 +70,6 @@ pub highest_high : (marks : ℕ) → 1 ≤ marks → marks < 2 ^ 32 → marks < 
 highest_high marks some fits =
     let (j, is, low, high) = leading_top 32 marks (omega arith) fits in
     subst (λ (n : ℕ). marks < 2 ^ n) (omega arith) high
-
--- of half a page of numbers: those that are not 0
-abbrev pub is_some : List ℕ → ℕ → ℕ → Bool
-is_some xs start j = nat_lt 0 (get_or xs (start + j) 0)
-
-zero_where : (xs : List ℕ) (start i : ℕ) → start ≤ i → is_some xs start (i - start) ≡ false → get_or xs i 0 ≡ 0
-zero_where xs start i low off =
-    let place : start + (i - start) ≡ i = omega arith in
-    subst (λ (n : ℕ). get_or xs n 0 ≡ 0) place (omega (arith, ltb-false 0 (get_or xs (start + (i - start)) 0) off))
-
-some_where : (xs : List ℕ) (start t : ℕ) → is_some xs start t ≡ true → get_or xs (start + t) 0 ≢ 0
-some_where xs start t on e = omega (arith, ltb-true 0 (get_or xs (start + t) 0) on)
-
-pub none_some : (xs : List ℕ) (start marks : ℕ) → IsMarked (is_some xs start) HALF marks → marks ≡ 0 → (i : ℕ) → start ≤ i → i < start + HALF → get_or xs i 0 ≡ 0
-none_some xs start marks marked none i low less =
-    zero_where xs start i low (marked.none none (i - start) (omega arith))
-
-pub some_last : (xs : List ℕ) (start t : ℕ) → IsTopFlag (is_some xs start) HALF t → (i : ℕ) → start + t < i → i < start + HALF → get_or xs i 0 ≡ 0
-some_last xs start t top i past less =
-    zero_where xs start i (omega arith) (top.last (i - start) (omega arith) (omega arith))
-
-pub some_found : (xs : List ℕ) (start t : ℕ) → IsTopFlag (is_some xs start) HALF t → (start ≤ start + t) × (start + t < start + HALF) × (get_or xs (start + t) 0 ≢ 0)
-some_found xs start t top = let inside = top.inside in (omega arith, omega arith, some_where xs start t top.set_is)
 
 -- of a page's numbers, from the last one on: those that are n or more
 abbrev pub is_enough : List ℕ → ℕ → ℕ → ℕ → Bool

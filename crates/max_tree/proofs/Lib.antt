@@ -1,9 +1,10 @@
-pub mod Levels
-pub mod LeafLemmas
-pub mod LastLeaf
-pub mod AncestorUpdate
 pub mod Largest
+pub mod Positions
 pub mod PageLemmas
 pub mod TopUpdate
 pub mod PairLemmas
 pub mod FlagBits
+pub mod BitLemmas
+pub mod Rows
+pub mod LevelLemmas
+pub mod WordLemmas

@@ -1,15 +1,15 @@
 -- Pages of numbers and their tops.
-use Rattle.std.proofs.Common.{◌≡◌, ◌≢◌, ℕ, ◌+◌, ◌-◌, ◌*◌, ◌/◌, ◌%◌, ◌^◌, ◌<◌, ◌≤◌, min, Bool, false, ltb, true, List, length, get_or, set, take, drop, replicate, Option, Some, None, MatchOption, refl, sym, ap, ◌∙◌, subst, inl, inr, arith, get_or-drop, length-drop}
+use Rattle.std.proofs.Common.{◌≡◌, ℕ, ◌+◌, ◌-◌, ◌*◌, ◌/◌, ◌%◌, ◌^◌, ◌<◌, ◌≤◌, min, Bool, false, ltb, true, List, length, get_or, set, take, drop, Option, Some, None, MatchOption, refl, sym, ap, ◌∙◌, subst, inl, inr, arith, get_or-drop, length-drop}
 use Rattle.std.specs.Prelude.{nat_le}
 use Rattle.std.specs.List.{position, position_or_len}
 use Rattle.std.proofs.lemmas.Bool.{cases_lt, cases_eq, lt-ltb, leb-true, leb-false, le-leb, lt-leb}
 use Rattle.std.proofs.lemmas.List.Sums.{fails_before_first}
 use Rattle.std.proofs.lemmas.List.Quantifiers.{position-Some}
-use Rattle.std.proofs.lemmas.List.{get_or-take, length-take, length-set, length-replicate, get_or-set_same, get_or-set_other, drop-set-lt, take-set-le, drop-set-add, get_or_past, take_all}
+use Rattle.std.proofs.lemmas.List.{get_or-take, length-take, length-set, get_or-set_same, get_or-set_other, drop-set-lt, take-set-le, drop-set-add, get_or_past, take_all}
 use Rattle.max_tree.specs.Pages.{largest, page, AreTops, IsPaged}
 use Rattle.max_tree.specs.declared.row.TheConstants.{PAGE}
 use Rattle.max_tree.proofs.Largest.{largest_bound, largest_least}
-use Rattle.max_tree.proofs.LeafLemmas.{position_found, position_none, zero_at}
+use Rattle.max_tree.proofs.Positions.{position_found, position_none}
 
 pub page_at : (xs : List ℕ) (k j : ℕ) → j < PAGE → get_or (page xs k) j 0 ≡ get_or xs (PAGE * k + j) 0
 page_at xs k j inside = get_or-take PAGE (drop (PAGE * k) xs) j 0 inside ∙ get_or-drop (PAGE * k) xs j 0
@@ -67,27 +67,18 @@ page_range xs start len left inside is = elim (cases_lt (length xs - start) len)
 ]
 
 -- zeros are in pages of zeros
-pub none_paged : (xs tops : List ℕ) → length xs < 2 ^ 32 → length xs ≤ PAGE * length tops → length tops ≤ 2 * ((length xs + (PAGE - 1)) / PAGE) + 1 → ((i : ℕ) → get_or xs i 0 ≡ 0) → ((k : ℕ) → get_or tops k 0 ≡ 0) → IsPaged xs tops
-none_paged xs tops short room few none zeros = record {
+pub none_paged : (xs tops : List ℕ) → length xs < 2 ^ 32 → PAGE < length xs → length tops ≡ (length xs + (PAGE - 1)) / PAGE → ((i : ℕ) → get_or xs i 0 ≡ 0) → ((k : ℕ) → get_or tops k 0 ≡ 0) → IsPaged xs tops
+none_paged xs tops short many count none zeros = record {
   short = short;
-  room = room;
-  few = few;
+  many = many;
+  tops_count = count;
   tops_are = λ k.
       let low : largest (page xs k) ≤ 0 = largest_least (page xs k) 0 (λ j inside. omega (arith, page_at xs k j (omega (arith, page_length xs k)), none (PAGE * k + j))) in
       omega (arith, zeros k);
 }
 
-pub zeros_paged : (xs tops : List ℕ) (count : ℕ) → xs ≡ replicate count 0 → length xs < 2 ^ 32 → length xs ≤ PAGE * length tops → length tops ≤ 2 * ((length xs + (PAGE - 1)) / PAGE) + 1 → ((k : ℕ) → get_or tops k 0 ≡ 0) → IsPaged xs tops
-zeros_paged xs tops count are short room few zeros =
-    none_paged xs tops short room few (λ i. ap (λ (ys : List ℕ). get_or ys i 0) are ∙ zero_at count i) zeros
-
-pub cleared_paged : (xs new tops tops' : List ℕ) → IsPaged xs tops → length new ≡ length xs → ((i : ℕ) → get_or new i 0 ≡ 0) → tops' ≡ replicate (length tops) 0 → IsPaged new tops'
-cleared_paged xs new tops tops' paged count none are =
-    let room = paged.room in
-    let short = paged.short in
-    let few = paged.few in
-    let same : length tops' ≡ length tops = ap length are ∙ length-replicate (length tops) 0 in
-    none_paged new tops' (omega arith) (omega arith) (omega arith) none (λ k. ap (λ (ys : List ℕ). get_or ys k 0) are ∙ zero_at (length tops) k)
+pub room_of : (xs tops : List ℕ) → IsPaged xs tops → length xs ≤ PAGE * length tops
+room_of xs tops paged = let count = paged.tops_count in omega arith
 
 -- a page whose top is not 0 begins among the numbers
 pub page_some : (xs tops : List ℕ) (k : ℕ) → IsPaged xs tops → 0 < get_or tops k 0 → PAGE * k ≤ length xs
@@ -106,13 +97,13 @@ page_zero xs tops k i paged none low high =
 -- after a write the top of its page is worked out anew
 pub set_paged : (xs tops : List ℕ) (p v top : ℕ) → IsPaged xs tops → p < length xs → top ≡ largest (page (set xs p v) (p / PAGE)) → IsPaged (set xs p v) (set tops (p / PAGE) top)
 set_paged xs tops p v top paged inside is =
-    let room = paged.room in
     let short = paged.short in
-    let few = paged.few in
+    let many = paged.many in
+    let count = paged.tops_count in
     record {
       short = omega (arith, length-set xs p v);
-      room = omega (arith, length-set xs p v, length-set tops (p / PAGE) top);
-      few = omega (arith, length-set xs p v, length-set tops (p / PAGE) top);
+      many = omega (arith, length-set xs p v);
+      tops_count = omega (arith, length-set xs p v, length-set tops (p / PAGE) top);
       tops_are = λ k. elim (cases_eq k (p / PAGE)) [
         | inl same ↦
             let there : p / PAGE < length tops = omega arith in
@@ -140,7 +131,7 @@ position_None p xs nowhere k inside = elim (cases_lt (position_or_len p xs) (len
 pub first_none : (xs tops : List ℕ) (n : ℕ) → IsPaged xs tops → 1 ≤ n → position (λ value. nat_le n value) tops ≡ None → position (λ value. nat_le n value) xs ≡ None
 first_none xs tops n paged some nowhere =
     position_none (λ value. nat_le n value) xs (λ i inside.
-    let room = paged.room in
+    let room = room_of xs tops paged in
     lt-leb n _ (omega (arith, below_top xs tops paged.tops_are i, leb-false n _ (position_None (λ value. nat_le n value) tops nowhere (i / PAGE) (omega arith)))))
 
 -- the first number of the first page whose top is large enough
@@ -157,31 +148,6 @@ first_is xs tops n k (Some at) paged some found none there =
       | inl earlier ↦ lt-leb n _ (omega (arith, below_top xs tops paged.tops_are i, leb-false n _ (first.2 (i / PAGE) (omega arith))))
       | inr here ↦ lt-leb n _ (none i here before)
     ]))
-
--- all before p is 0 where its page up to p and the pages before are
-pub last_none : (xs tops : List ℕ) (p : ℕ) → IsPaged xs tops → ((i : ℕ) → p / PAGE * PAGE ≤ i → i < p → get_or xs i 0 ≡ 0) → ((k : ℕ) → k < p / PAGE → get_or tops k 0 ≡ 0) → (i : ℕ) → i < p → get_or xs i 0 ≡ 0
-last_none xs tops p paged here before i low = elim (cases_lt i (p / PAGE * PAGE)) [
-  | inl earlier ↦ omega (arith, below_top xs tops paged.tops_are i, before (i / PAGE) (omega arith))
-  | inr later ↦ here i later low
-]
-
--- the last number before p that is not 0 stands in the last page whose top is not 0
-pub last_is : (xs tops : List ℕ) (p k : ℕ) (r : Option ℕ) → IsPaged xs tops → k < p / PAGE → get_or tops k 0 ≢ 0 → ((j : ℕ) → k < j → j < p / PAGE → get_or tops j 0 ≡ 0) → ((i : ℕ) → p / PAGE * PAGE ≤ i → i < p → get_or xs i 0 ≡ 0)
-    → MatchOption r ((i : ℕ) → PAGE * k ≤ i → i < PAGE * k + PAGE → get_or xs i 0 ≡ 0) (λ at. (i : ℕ) → at < i → i < PAGE * k + PAGE → get_or xs i 0 ≡ 0)
-    → MatchOption r (Unit {0}) (λ at. (PAGE * k ≤ at) × (at < PAGE * k + PAGE) × (get_or xs at 0 ≢ 0))
-    → MatchOption r ((i : ℕ) → i < p → get_or xs i 0 ≡ 0) (λ q. (q < p) × (get_or xs q 0 ≢ 0)) × MatchOption r (Unit {0}) (λ q. (i : ℕ) → q < i → i < p → get_or xs i 0 ≡ 0)
-last_is xs tops p k None paged low some between here none there =
-    absurd (some (omega (arith, top_least xs tops paged.tops_are k 0 (λ i from to inside. omega (arith, none i from to)))))
-last_is xs tops p k (Some at) paged low some between here none there = (
-  (omega (arith, there.1), there.2),
-  λ i past before. elim (cases_lt i (PAGE * k + PAGE)) [
-    | inl same ↦ none i past same
-    | inr later ↦ elim (cases_lt i (p / PAGE * PAGE)) [
-      | inl earlier ↦ omega (arith, below_top xs tops paged.tops_are i, between (i / PAGE) (omega arith) (omega arith))
-      | inr last ↦ here i last before
-    ]
-  ],
-)
 
 -- the same, of numbers that were read as a slice
 pub first_seen : (xs seen view tops : List ℕ) (n k : ℕ) (r : Option ℕ) → seen ≡ xs → xs ≡ view → IsPaged xs tops → 1 ≤ n → position (λ value. nat_le n value) tops ≡ Some k
@@ -201,21 +167,6 @@ page_inside xs tops n k paged some found =
       | inl past ↦
           absurd (omega (arith, leb-true n _ first.1, top_least xs tops paged.tops_are k 0 (λ i low high inside. absurd (omega arith))))
     ]
-
-pub record IsLastBefore (xs : List ℕ) (p : ℕ) (r : Option ℕ) : Type 0 where
-  pub found : MatchOption r ((i : ℕ) → i < p → get_or xs i 0 ≡ 0) (λ q. (q < p) × (get_or xs q 0 ≢ 0))
-  pub last : MatchOption r (Unit {0}) (λ q. (i : ℕ) → q < i → i < p → get_or xs i 0 ≡ 0)
-
--- the same, of numbers that were read as two slices
-pub last_seen : (xs one two view tops : List ℕ) (p k : ℕ) (r : Option ℕ) → one ≡ xs → two ≡ xs → xs ≡ view → IsPaged xs tops → (k < p / PAGE) × (get_or tops k 0 ≢ 0) → ((j : ℕ) → k < j → j < p / PAGE → get_or tops j 0 ≡ 0) → ((i : ℕ) → p / PAGE * PAGE ≤ i → i < p → get_or one i 0 ≡ 0)
-    → MatchOption r ((i : ℕ) → PAGE * k ≤ i → i < PAGE * k + PAGE → get_or two i 0 ≡ 0) (λ at. (i : ℕ) → at < i → i < PAGE * k + PAGE → get_or two i 0 ≡ 0)
-    → MatchOption r (Unit {0}) (λ at. (PAGE * k ≤ at) × (at < PAGE * k + PAGE) × (get_or two at 0 ≢ 0))
-    → IsLastBefore view p r
-last_seen xs one two view tops p k r first second shown paged top between here none there =
-    let paged' : IsPaged two tops = subst (λ (ys : List ℕ). IsPaged ys tops) (sym second) paged in
-    let here' : (i : ℕ) → p / PAGE * PAGE ≤ i → i < p → get_or two i 0 ≡ 0 = λ i low high. ap (λ (ys : List ℕ). get_or ys i 0) (second ∙ sym first) ∙ here i low high in
-    let both = last_is two tops p k r paged' top.0 top.1 between here' none there in
-    subst (λ (ys : List ℕ). IsLastBefore ys p r) (second ∙ shown) (record { found = both.0; last = both.1 })
 
 -- the first k pages are zeros now, and the others are as they were
 pub record Cleared (old now : List ℕ) (k : ℕ) : Type 0 where

@@ -8,8 +8,8 @@ use Rattle.std.proofs.lemmas.List.Quantifiers.{position-Some}
 use Rattle.max_tree.specs.Halves.{half, halves_of, other_half, IsPair}
 use Rattle.max_tree.specs.Pages.{largest}
 use Rattle.max_tree.proofs.Largest.{largest_bound}
-use Rattle.max_tree.proofs.LeafLemmas.{position_found, position_none}
-use Rattle.max_tree.proofs.PageLemmas.{position_None, IsLastBefore}
+use Rattle.max_tree.proofs.Positions.{position_found, position_none, IsLastBefore}
+use Rattle.max_tree.proofs.PageLemmas.{position_None}
 
 -- a choice that is decided
 chosen : (b : Bool) (x y : ℕ) → b ≡ true → cond b x y ≡ x

@@ -1,4 +1,4 @@
-pub mod Nodes
 pub mod Pages
 pub mod Halves
 pub mod Marks
+pub mod Bits

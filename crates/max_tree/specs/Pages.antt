@@ -1,6 +1,6 @@
 -- Numbers in pages of so many, each with the largest number of its page.
 use Rattle.std.specs.Prelude.{◌≡◌, ℕ, ◌+◌, ◌-◌, ◌*◌, ◌/◌, ◌^◌, ◌<◌, ◌≤◌, max, List, [], ◌∷◌, length}
-use Rattle.std.specs.Prelude.{take, drop, slice_index}
+use Rattle.std.specs.Prelude.{take, drop, slice_index, zero, suc}
 use Rattle.max_tree.specs.declared.row.TheConstants.{PAGE}
 
 -- the largest of these numbers, or 0
@@ -16,10 +16,22 @@ page numbers k = take PAGE (drop (PAGE * k) numbers)
 abbrev pub AreTops : List ℕ → List ℕ → Type 0
 AreTops numbers tops = (k : ℕ) → slice_index tops k ≡ largest (page numbers k)
 
--- There are fewer than 2 ^ 32 numbers, and a top for every page, which is the page's largest
--- number; there are at most twice as many tops as pages, and one.
+-- There are fewer than 2 ^ 32 numbers, more than one page of them, and a top for every page, which
+-- is the page's largest number.
 pub record IsPaged (numbers tops : List ℕ) : Type 0 where
   pub short : length numbers < 2 ^ 32
-  pub room : length numbers ≤ PAGE * length tops
-  pub few : length tops ≤ 2 * ((length numbers + (PAGE - 1)) / PAGE) + 1
+  pub many : PAGE < length numbers
+  pub tops_count : length tops ≡ (length numbers + (PAGE - 1)) / PAGE
   pub tops_are : AreTops numbers tops
+
+-- how many pages so many numbers fill
+abbrev pub pages_of : ℕ → ℕ
+pages_of count = (count + (PAGE - 1)) / PAGE
+
+-- The first `count` numbers are a row, and behind it stand `above` rows of tops, each with the tops
+-- of the row before it. The last row is one page at most.
+abbrev pub AreLevels : ℕ → ℕ → List ℕ → Type 0
+AreLevels zero count levels = (length levels ≡ count) × (count ≤ PAGE)
+AreLevels (suc above) count levels =
+    IsPaged (take count levels) (take (pages_of count) (drop count levels))
+    × AreLevels above (pages_of count) (drop count levels)

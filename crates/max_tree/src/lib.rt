@@ -2,12 +2,14 @@
 //! is not 0, and the largest, without looking at them all.
 #![tactic(auto)]
 
+mod bits;
+mod levels;
 mod marks;
-mod nodes;
 mod pages;
 mod pairs;
 mod row;
 mod tree;
+mod words;
 
 pub use pairs::PairRow;
 pub use row::MaxRow;

@@ -1,24 +1,8 @@
-ghost use Rattle.std.specs.Prelude.{◌≡◌, ◌+◌, ◌-◌, ◌^◌, ◌<◌, ◌≤◌, nat_le, nat_lt, length};
+ghost use Rattle.std.specs.Prelude.{◌≡◌, ◌+◌, ◌-◌, ◌^◌, ◌<◌, ◌≤◌, nat_le, length};
 ghost use Rattle.std.specs.Prelude.{slice_index};
 ghost use Rattle.max_tree.specs.Marks.{IsMarked};
 
-use crate::row::{HALF, PAGE};
-
-// Half a page of numbers as bits: those that are not 0. The highest bit is the last one. No number
-// is skipped, so that the processor need not guess where the last one stands.
-pub fn marks_some(numbers: &[u32], start: usize) -> u32
-    requires { start + HALF ≤ length numbers.now }
-    ensures { IsMarked (λ j. nat_lt 0 (slice_index numbers.now (start + j))) HALF result }
-{
-    let mut marks = 0;
-    for j in 0..HALF {
-        let number = numbers[start + j];
-        if number > 0 {
-            marks += 1u32 << j;
-        }
-    }
-    marks
-}
+use crate::row::PAGE;
 
 // The numbers of a whole page as bits: those that are `n` or more. The highest bit is the first
 // one.

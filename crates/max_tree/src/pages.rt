@@ -2,9 +2,8 @@ ghost use Rattle.std.specs.Prelude.{◌≡◌, ◌≢◌, ℕ, ◌+◌, ◌*◌,
 ghost use Rattle.std.specs.Prelude.{slice_set, MatchOption, min};
 ghost use Rattle.max_tree.specs.Pages.{largest, page, IsPaged};
 
-use crate::marks::{highest, marks_from, marks_some};
-use crate::row::{HALF, PAGE};
-use crate::tree::MaxTree;
+use crate::marks::{highest, marks_from};
+use crate::row::PAGE;
 
 // The largest of the numbers, or 0.
 pub fn largest_of(numbers: &[u32]) -> u32
@@ -70,69 +69,6 @@ pub fn first_in_page(numbers: &[u32], k: usize, n: u32) -> Option<usize>
     None
 }
 
-// The last number that is not 0, of half a page of numbers from `start` on.
-fn last_of_half(numbers: &[u32], start: usize) -> Option<usize>
-    requires { start + HALF ≤ length numbers.now }
-    ensures none { MatchOption result
-        ((i : ℕ) → start ≤ i → i < start + HALF → slice_index numbers.now i ≡ 0)
-        (λ at. (i : ℕ) → at < i → i < start + HALF → slice_index numbers.now i ≡ 0) }
-    ensures found { MatchOption result (Unit {0})
-        (λ at. (start ≤ at) × (at < start + HALF) × (slice_index numbers.now at ≢ 0)) }
-{
-    let marks = marks_some(numbers, start);
-    if marks == 0 {
-        return None;
-    }
-    Some(start + highest(marks))
-}
-
-// The last number that is not 0, of those from `low` up to `high`.
-pub fn last_in(numbers: &[u32], low: usize, high: usize) -> Option<usize>
-    requires { (low ≤ high) × (high ≤ length numbers.now) }
-    ensures none { MatchOption result
-        ((i : ℕ) → low ≤ i → i < high → slice_index numbers.now i ≡ 0)
-        (λ at. (i : ℕ) → at < i → i < high → slice_index numbers.now i ≡ 0) }
-    ensures found { MatchOption result (Unit {0})
-        (λ at. (low ≤ at) × (at < high) × (slice_index numbers.now at ≢ 0)) }
-{
-    let mut end = high;
-    'halves: while end - low >= HALF {
-        if let Some(at) = last_of_half(numbers, end - HALF) {
-            return Some(at);
-        }
-        end -= HALF;
-    }
-    // Fewer numbers than that may be left.
-    'rest: while end > low {
-        end -= 1;
-        if numbers[end] > 0 {
-            return Some(end);
-        }
-    }
-    None
-}
-
-// The last number before `p` that is not 0, of its page, or of half a page of numbers. Most answers
-// lie among the latter, whatever page they are on.
-pub fn last_near(numbers: &[u32], p: usize) -> Option<usize>
-    requires { p ≤ length numbers.now }
-    ensures none { MatchOption result
-        ((i : ℕ) → p / PAGE * PAGE ≤ i → i < p → slice_index numbers.now i ≡ 0)
-        (λ at. (i : ℕ) → at < i → i < p → slice_index numbers.now i ≡ 0) }
-    ensures found { MatchOption result (Unit {0})
-        (λ at. (at < p) × (slice_index numbers.now at ≢ 0)) }
-{
-    let near = p.saturating_sub(HALF);
-    if let Some(at) = last_in(numbers, near, p) {
-        return Some(at);
-    }
-    let start = p / PAGE * PAGE;
-    if near <= start {
-        return None;
-    }
-    last_in(numbers, start, start + HALF)
-}
-
 // Makes the numbers of the page 0.
 fn clear_page(numbers: &mut [u32], k: usize)
     requires { PAGE * k ≤ length numbers.old }
@@ -151,13 +87,13 @@ fn clear_page(numbers: &mut [u32], k: usize)
 }
 
 // Makes all numbers 0: those of each page whose top is not 0.
-pub fn clear_pages(numbers: &mut [u32], tops: &MaxTree)
+pub fn clear_pages(numbers: &mut [u32], tops: &[u32])
     requires { IsPaged numbers.old tops.now }
     ensures count { length numbers.new ≡ length numbers.old }
     ensures zeros { (i : ℕ) → slice_index numbers.new i ≡ 0 }
 {
     for k in 0..tops.len() {
-        if tops.get(k) > 0 {
+        if tops[k] > 0 {
             clear_page(numbers, k);
         }
     }

@@ -108,7 +108,9 @@ impl PairRow {
         requires { (n % 2 ≡ 0) × (2 ≤ n) }
         ensures { result ≡ position (λ value. nat_le n value) self.now }
     {
-        if self.largest() < n {
+        // Twice such an `n` would not fit, and no number is as large.
+        if n >= 1 << 31 {
+            let _largest = self.largest();
             return None;
         }
         let Some(k) = self.row.first_at_least(2 * n) else {

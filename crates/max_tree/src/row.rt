@@ -3,37 +3,36 @@ ghost use Rattle.std.specs.Prelude.{replicate, slice_index, slice_set, IfOk, Mat
 ghost use Rattle.std.specs.List.{position};
 ghost use Rattle.max_tree.specs.Pages.{largest};
 
-use crate::pages;
-use crate::tree::{MaxTree, zeros};
+use crate::bits::{BitTree, WORD};
+use crate::tree::MaxTree;
 use std::alloc::{AllocError, Global};
 use std::marker::Model;
 
 // How many numbers a page has: two lines of the processor's cache.
 pub const PAGE: usize = 32;
-// How many numbers are tested at once where the last one is asked for.
-pub const HALF: usize = 16;
 
-/// A row of numbers in pages, with the largest number of each page in a tree.
+/// A row of numbers in pages, with the largest number of each page, and a bit for each number that
+/// is not 0.
 ///
 /// It takes memory for one number of 32 bits each, and at most an eighth and 6 more, as `weight`
 /// says.
 #[derive(Drop)]
 pub struct MaxRow {
-    numbers: Vec<u32>,
-    // The largest number of each page.
-    tops: MaxTree,
+    numbers: MaxTree,
+    // A bit for each number: whether it is not 0.
+    some: BitTree,
 }
 
 // Clauses see the row.
 impl Model for MaxRow {
     ghost use Rattle.std.specs.Prelude.{ℕ, List};
-    ghost use Rattle.max_tree.specs.Pages.{IsPaged};
+    ghost use Rattle.max_tree.specs.Bits.{IsNoted};
 
     ghost Value = { List ℕ };
 
-    ghost view = { λ row. row.numbers.items };
+    ghost view = { λ row. row.numbers };
 
-    ghost invariant = { λ row. IsPaged row.numbers.items row.tops };
+    ghost invariant = { λ row. IsNoted row.numbers row.some };
 }
 
 impl MaxRow {
@@ -44,9 +43,9 @@ impl MaxRow {
         ensures count { IfOk result (λ row. length row ≡ count) }
         ensures zeros { IfOk result (λ row. (i : ℕ) → slice_index row i ≡ 0) }
     {
-        let numbers = zeros(alloc, count)?;
-        let tops = MaxTree::new(alloc, count.div_ceil(PAGE))?;
-        Ok(MaxRow { numbers, tops })
+        let numbers = MaxTree::new(alloc, count)?;
+        let some = BitTree::new(alloc, count.div_ceil(WORD))?;
+        Ok(MaxRow { numbers, some })
     }
 
     /// How many numbers there are.
@@ -57,13 +56,13 @@ impl MaxRow {
         self.numbers.len()
     }
 
-    /// For how many numbers of 32 bits it has memory: one each, and the largest of pages and of
-    /// pages together, of which there are at least a sixteenth as many and at most an eighth and 6.
+    /// For how many numbers of 32 bits it has memory: one each, the largest of pages and of pages
+    /// together, and the bits, which are at least a sixteenth as many and at most an eighth and 6.
     pub fn weight(&self) -> usize
         ensures least { length self.now + length self.now / 16 ≤ result }
         ensures most { result ≤ length self.now + length self.now / 8 + 6 }
     {
-        self.numbers.len() + self.tops.weight()
+        self.numbers.weight() + 2 * self.some.weight()
     }
 
     /// The number at `p`.
@@ -71,7 +70,7 @@ impl MaxRow {
         requires { p < length self.now }
         ensures { result ≡ slice_index self.now p }
     {
-        self.numbers[p]
+        self.numbers.get(p)
     }
 
     /// Makes `value` the number at `p`.
@@ -79,7 +78,7 @@ impl MaxRow {
         requires { p < length self.old }
         ensures { self.new ≡ slice_set self.old p value }
     {
-        let old = self.numbers[p];
+        let old = self.numbers.get(p);
         self.change(p, old, value);
     }
 
@@ -89,11 +88,11 @@ impl MaxRow {
         requires old { old ≡ slice_index self.old p }
         ensures { self.new ≡ slice_set self.old p value }
     {
-        self.numbers[p] = value;
-        let top = self.tops.get(p / PAGE);
-        let new = pages::top_after(self.numbers.as_slice(), p, old, value, top);
-        if new != top {
-            self.tops.set(p / PAGE, new);
+        self.numbers.change(p, old, value);
+        if value == 0 {
+            self.some.unmark(p);
+        } else if old == 0 {
+            self.some.mark(p);
         }
     }
 
@@ -102,8 +101,8 @@ impl MaxRow {
         ensures count { length self.new ≡ length self.old }
         ensures zeros { (i : ℕ) → slice_index self.new i ≡ 0 }
     {
-        pages::clear_pages(self.numbers.as_mut_slice(), &self.tops);
-        self.tops.clear();
+        self.numbers.clear();
+        self.some.clear();
     }
 
     /// The least place of a number that is `n` or more, if there is one.
@@ -111,10 +110,7 @@ impl MaxRow {
         requires { 1 ≤ n }
         ensures { result ≡ position (λ value. nat_le n value) self.now }
     {
-        let Some(k) = self.tops.first_at_least(n) else {
-            return None;
-        };
-        pages::first_in_page(self.numbers.as_slice(), k, n)
+        self.numbers.first_at_least(n)
     }
 
     /// The last place before `p` of a number that is not 0, if there is one.
@@ -125,19 +121,13 @@ impl MaxRow {
         ensures last { MatchOption result (Unit {0})
             (λ q. (k : ℕ) → q < k → k < p → slice_index self.now k ≡ 0) }
     {
-        if let Some(q) = pages::last_near(self.numbers.as_slice(), p) {
-            return Some(q);
-        }
-        let Some(k) = self.tops.last_nonzero_before(p / PAGE) else {
-            return None;
-        };
-        pages::last_in(self.numbers.as_slice(), PAGE * k, PAGE * k + PAGE)
+        self.some.last_before(p)
     }
 
     /// The largest number, or 0.
     pub fn largest(&self) -> u32
         ensures { result ≡ largest self.now }
     {
-        self.tops.largest()
+        self.numbers.largest()
     }
 }

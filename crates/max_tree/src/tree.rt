@@ -1,79 +1,68 @@
-ghost use Rattle.std.specs.Prelude.{◌≡◌, ◌≢◌, ℕ, ◌+◌, ◌*◌, ◌^◌, ◌<◌, ◌≤◌, nat_le, length};
-ghost use Rattle.std.specs.Prelude.{replicate, slice_index, slice_set, IfOk, MatchOption};
+ghost use Rattle.std.specs.Prelude.{◌≡◌, ℕ, ◌+◌, ◌-◌, ◌/◌, ◌^◌, ◌<◌, ◌≤◌, nat_le, length};
+ghost use Rattle.std.specs.Prelude.{replicate, slice_index, slice_set, IfOk};
 ghost use Rattle.std.specs.List.{position};
 ghost use Rattle.max_tree.specs.Pages.{largest};
 
-use crate::nodes;
+use crate::levels;
+use crate::row::PAGE;
 use std::alloc::{AllocError, Global};
 use std::marker::Model;
 
-// A row of numbers, with the larger of each two of them, of each two of those and so on.
+// A row of numbers in pages, with the row of the largest number of each page, which has such a row
+// again, until one page is enough. All rows stand in one list, the lowest one first.
 #[derive(Drop)]
 pub struct MaxTree {
-    // How many steps there are from the root to a leaf.
-    depth: u32,
-    nodes: Vec<u32>,
+    levels: Vec<u32>,
+    // How many numbers the lowest row has.
+    count: usize,
+    // How many rows stand above it.
+    above: usize,
 }
 
-// Clauses see the row.
+// Clauses see the lowest row.
 impl Model for MaxTree {
-    ghost use Rattle.std.specs.Prelude.{◌≡◌, ℕ, ◌+◌, ◌*◌, ◌^◌, List, length};
-    ghost use Rattle.max_tree.specs.Nodes.{leaves, AreMaxima};
+    ghost use Rattle.std.specs.Prelude.{ℕ, ◌^◌, ◌<◌, List, take};
+    ghost use Rattle.max_tree.specs.Pages.{AreLevels};
 
     ghost Value = { List ℕ };
 
-    ghost view = { λ tree. leaves tree.nodes.items };
+    ghost view = { λ tree. take tree.count tree.levels.items };
 
     ghost invariant = { λ tree.
-        (length tree.nodes.items ≡ 2 ^ (tree.depth + 1)) × AreMaxima tree.nodes.items };
-}
-
-// So many zeros.
-pub fn zeros(alloc: Global, count: usize) -> Result<Vec<u32>, AllocError>
-    ensures { IfOk result (λ zeros. zeros.items ≡ replicate count 0) }
-{
-    Ok(Vec::from_elem(alloc, 0u32, count)?)
-}
-
-// How often 1 is doubled to reach the count.
-fn depth_for(count: usize) -> u32
-    requires { count ≤ 2 ^ 31 }
-    ensures enough { count ≤ 2 ^ result }
-    ensures few { 2 ^ result ≤ 2 * count + 1 }
-    ensures low { result < 32 }
-{
-    let mut depth = 0;
-    while depth < 31 && (1usize << depth) < count {
-        depth += 1;
-    }
-    depth
+        (tree.count < 2 ^ 32) × AreLevels tree.above tree.count tree.levels.items };
 }
 
 impl MaxTree {
-    // A row of that many zeros or more.
+    // A row of so many zeros.
     pub fn new(alloc: Global, count: usize) -> Result<MaxTree, AllocError>
-        requires { count ≤ 2 ^ 31 }
-        ensures enough { IfOk result (λ row. count ≤ length row) }
-        ensures few { IfOk result (λ row. length row ≤ 2 * count + 1) }
-        ensures zeros { IfOk result (λ row. (i : ℕ) → slice_index row i ≡ 0) }
+        requires { count < 2 ^ 32 }
+        ensures { IfOk result (λ row. row ≡ replicate count 0) }
     {
-        let depth = depth_for(count);
-        let nodes = zeros(alloc, 2usize << depth)?;
-        Ok(MaxTree { depth, nodes })
+        let (above, room) = levels::shape_for(count);
+        let levels = Vec::from_elem(alloc, 0u32, room)?;
+        Ok(MaxTree {
+            levels,
+            count,
+            above,
+        })
     }
 
     // How many numbers there are.
     pub fn len(&self) -> usize
-        ensures { result ≡ length self.now }
+        ensures is { result ≡ length self.now }
+        ensures short { result < 2 ^ 32 }
     {
-        nodes::count_leaves(self.nodes.as_slice())
+        self.count
     }
 
-    // How many nodes there are: two for each number.
+    // How many numbers there are, with those of all rows above.
     pub fn weight(&self) -> usize
-        ensures { result ≡ length self.now + length self.now }
+        ensures least { length self.now ≤ result }
+        ensures pages { PAGE < length self.now
+            → length self.now + (length self.now + (PAGE - 1)) / PAGE ≤ result }
+        ensures most { result ≤ length self.now + length self.now / 16 }
     {
-        self.nodes.len()
+        self.levels.len()
     }
 
     // The number at `p`.
@@ -81,46 +70,37 @@ impl MaxTree {
         requires { p < length self.now }
         ensures { result ≡ slice_index self.now p }
     {
-        nodes::leaf(self.nodes.as_slice(), p)
+        self.levels[p]
     }
 
-    // Makes `value` the number at `p`.
-    pub fn set(&mut self, p: usize, value: u32)
-        requires { p < length self.old }
+    // Makes `value` the number at `p`, which is `old`: who has read it need not read it again.
+    pub fn change(&mut self, p: usize, old: u32, value: u32)
+        requires inside { p < length self.old }
+        requires old { old ≡ slice_index self.old p }
         ensures { self.new ≡ slice_set self.old p value }
     {
-        nodes::set_leaf(self.nodes.as_mut_slice(), p, value);
+        levels::change(self.levels.as_mut_slice(), self.count, self.above, p, old, value);
     }
 
-    // Makes all numbers 0.
+    // Makes all numbers 0, in time of the pages and of the numbers that were not 0.
     pub fn clear(&mut self)
         ensures { self.new ≡ replicate (length self.old) 0 }
     {
-        nodes::clear(self.nodes.as_mut_slice());
+        levels::clear(self.levels.as_mut_slice(), self.count, self.above);
     }
 
     // The least place of a number that is `n` or more, if there is one.
     pub fn first_at_least(&self, n: u32) -> Option<usize>
+        requires { 1 ≤ n }
         ensures { result ≡ position (λ value. nat_le n value) self.now }
     {
-        nodes::first_leaf(self.nodes.as_slice(), n)
+        levels::first_at_least(self.levels.as_slice(), self.count, self.above, n)
     }
 
-    // The last place before `p` of a number that is not 0, if there is one.
-    pub fn last_nonzero_before(&self, p: usize) -> Option<usize>
-        requires { p < length self.now }
-        ensures found { MatchOption result ((k : ℕ) → k < p → slice_index self.now k ≡ 0)
-            (λ q. (q < p) × (slice_index self.now q ≢ 0)) }
-        ensures last { MatchOption result (Unit {0})
-            (λ q. (k : ℕ) → q < k → k < p → slice_index self.now k ≡ 0) }
-    {
-        nodes::last_leaf_before(self.nodes.as_slice(), p)
-    }
-
-    // The largest number.
+    // The largest number, or 0.
     pub fn largest(&self) -> u32
         ensures { result ≡ largest self.now }
     {
-        nodes::root(self.nodes.as_slice())
+        levels::largest_in(self.levels.as_slice(), self.count, self.above)
     }
 }

@@ -4,8 +4,8 @@ use Rattle.std.specs.List.{position}
 use Rattle.max_tree.proofs.PairLemmas.{first_both, first_pair, first_half_none, none_large}
 use Rattle.max_tree.proofs.pairs.PairRow.first_at_least.Goals as goal
 
-pub returns-then-largest-n : goal.returns-then-largest-n
-returns-then-largest-n c = sym (none_large c.args.self.now c.args.n (omega (arith, c.largest.ensures.is, c.if-largest-n.true)))
+pub returns-then-n : goal.returns-then-n
+returns-then-n c = sym (none_large c.args.self.now c.args.n (omega (arith, c.largest-largest.ensures.is, c.largest-largest.ensures.small, c.if-n.true)))
 
 pub returns-in_default : goal.returns-in_default
 returns-in_default c =
