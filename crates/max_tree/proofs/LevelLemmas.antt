@@ -37,8 +37,7 @@ levels_join zero count numbers tops some is paged are = absurd (some refl)
 levels_join (suc above) count numbers tops some is paged are =
     let back : suc above - 1 ≡ above = omega arith in
     let front : numbers ≡ take count (numbers ++ tops) = sym (take_at numbers tops count is) in
-    let behind : tops ≡ drop count (numbers ++ tops) = sym (drop_at numbers tops count is) in
-    (
+    let behind : tops ≡ drop count (numbers ++ tops) = sym (drop_at numbers tops count is) in (
       subst (λ (xs : List ℕ). IsPaged xs (take (pages_of count) (drop count (numbers ++ tops)))) front (subst (λ (xs : List ℕ). IsPaged numbers (take (pages_of count) xs)) behind paged),
       subst (λ (n : ℕ). AreLevels n (pages_of count) (drop count (numbers ++ tops))) back (subst (λ (xs : List ℕ). AreLevels (suc above - 1) (pages_of count) xs) behind are),
     )

@@ -30,8 +30,7 @@ words_join zero count words rest some is summed are = absurd (some refl)
 words_join (suc above) count words rest some is summed are =
     let back : suc above - 1 ≡ above = omega arith in
     let front : words ≡ take count (words ++ rest) = sym (take_at words rest count is) in
-    let behind : rest ≡ drop count (words ++ rest) = sym (drop_at words rest count is) in
-    (
+    let behind : rest ≡ drop count (words ++ rest) = sym (drop_at words rest count is) in (
       subst (λ (xs : List ℕ). IsSummed xs (take (words_of count) (drop count (words ++ rest)))) front (subst (λ (xs : List ℕ). IsSummed words (take (words_of count) xs)) behind summed),
       subst (λ (n : ℕ). AreWords n (words_of count) (drop count (words ++ rest))) back (subst (λ (xs : List ℕ). AreWords (suc above - 1) (words_of count) xs) behind are),
     )

@@ -79,7 +79,14 @@ impl MaxTree {
         requires old { old ≡ slice_index self.old p }
         ensures { self.new ≡ slice_set self.old p value }
     {
-        levels::change(self.levels.as_mut_slice(), self.count, self.above, p, old, value);
+        levels::change(
+            self.levels.as_mut_slice(),
+            self.count,
+            self.above,
+            p,
+            old,
+            value,
+        );
     }
 
     // Makes all numbers 0, in time of the pages and of the numbers that were not 0.
