@@ -1,11 +1,11 @@
 -- Pages of numbers and their tops.
-use Rattle.std.proofs.Common.{◌≡◌, ℕ, ◌+◌, ◌-◌, ◌*◌, ◌/◌, ◌%◌, ◌^◌, ◌<◌, ◌≤◌, min, Bool, false, ltb, true, List, length, get_or, set, take, drop, Option, Some, None, MatchOption, refl, sym, ap, ◌∙◌, subst, inl, inr, arith, get_or-drop, length-drop}
+use Rattle.std.proofs.Common.{◌≡◌, ℕ, ◌+◌, ◌-◌, ◌*◌, ◌/◌, ◌%◌, ◌^◌, ◌<◌, ◌≤◌, Bool, false, ltb, true, List, length, get_or, set, take, drop, Option, Some, None, MatchOption, refl, sym, ap, ◌∙◌, subst, inl, inr, arith, get_or-drop}
 use Rattle.std.specs.Prelude.{nat_le}
 use Rattle.std.specs.List.{position, position_or_len}
 use Rattle.std.proofs.lemmas.Bool.{cases_lt, cases_eq, lt-ltb, leb-true, leb-false, le-leb, lt-leb}
 use Rattle.std.proofs.lemmas.List.Sums.{fails_before_first}
 use Rattle.std.proofs.lemmas.List.Quantifiers.{position-Some}
-use Rattle.std.proofs.lemmas.List.{get_or-take, length-take, length-set, get_or-set_same, get_or-set_other, drop-set-lt, take-set-le, drop-set-add, get_or_past, take_all}
+use Rattle.std.proofs.lemmas.List.{get_or-take, length-take, length-set, get_or-set_same, get_or-set_other, drop-set-lt, take-set-le, drop-set-add, get_or_past}
 use Rattle.max_tree.specs.Pages.{largest, page, AreTops, IsPaged}
 use Rattle.max_tree.specs.declared.row.TheConstants.{PAGE}
 use Rattle.max_tree.proofs.Largest.{largest_bound, largest_least}
@@ -53,18 +53,6 @@ page_before xs k p v past =
     let place : p ≡ PAGE * k + (p - PAGE * k) = omega arith in
     let moved : drop (PAGE * k) (set xs p v) ≡ set (drop (PAGE * k) xs) (p - PAGE * k) v = ap (λ (n : ℕ). drop (PAGE * k) (set xs n v)) place ∙ drop-set-add (PAGE * k) xs (p - PAGE * k) v in
     ap (take PAGE) moved ∙ take-set-le PAGE (drop (PAGE * k) xs) (p - PAGE * k) v (omega arith)
-
--- the numbers of a page, as the code cuts them out
-pub page_range : (xs : List ℕ) (start len left : ℕ) → start < length xs → left ≡ min (length xs - start) len → take ((start + left) - start) (drop start xs) ≡ take len (drop start xs)
-page_range xs start len left inside is = elim (cases_lt (length xs - start) len) [
-  | inl short ↦
-      let count : length (drop start xs) ≡ length xs - start = length-drop start xs in
-      let all : take ((start + left) - start) (drop start xs) ≡ drop start xs = take_all ((start + left) - start) (drop start xs) (omega arith) in
-      all ∙ sym (take_all len (drop start xs) (omega arith))
-  | inr long ↦
-      let same : (start + left) - start ≡ len = omega arith in
-      ap (λ (n : ℕ). take n (drop start xs)) same
-]
 
 -- zeros are in pages of zeros
 pub none_paged : (xs tops : List ℕ) → length xs < 2 ^ 32 → PAGE < length xs → length tops ≡ (length xs + (PAGE - 1)) / PAGE → ((i : ℕ) → get_or xs i 0 ≡ 0) → ((k : ℕ) → get_or tops k 0 ≡ 0) → IsPaged xs tops

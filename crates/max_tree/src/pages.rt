@@ -22,8 +22,11 @@ pub fn top_of(numbers: &[u32], k: usize) -> u32
     ensures { result ≡ largest (page numbers.now k) }
 {
     let start = PAGE * k;
-    let left = numbers.len() - start;
-    largest_of(&numbers[start..start + left.min(PAGE)])
+    if numbers.len() - start >= PAGE {
+        return largest_of(&numbers[start..start + PAGE]);
+    }
+    // The last page may have fewer numbers.
+    largest_of(&numbers[start..])
 }
 
 // The largest number of the page of `p`, where `top` was it before `value` was written at `p` in
