@@ -1,5 +1,5 @@
 -- Generated scripts: how many there are, and how many events each may make.
-use Rattle.std.proofs.Common.{◌≡◌, ℕ, zero, suc, ◌+◌, ◌*◌, ◌-◌, ◌%◌, ◌^◌, ◌<◌, ◌≤◌, List, [], ◌∷◌, length, map, slice_get, slice_index, Some, refl, sym, ap, ap₂, ◌∙◌, subst, arith}
+use Rattle.std.proofs.Common.{◌≡◌, ℕ, zero, suc, ◌+◌, ◌-◌, ◌%◌, ◌^◌, ◌<◌, ◌≤◌, List, [], ◌∷◌, length, map, slice_get, slice_index, Some, refl, sym, ap, ap₂, ◌∙◌, arith}
 use Rattle.std.specs.Prelude.{replicate, slice_set}
 use Rattle.std.specs.List.{range_with_len}
 use Rattle.std.proofs.lemmas.List.{length-map}
@@ -7,8 +7,8 @@ use Rattle.std.proofs.lemmas.Option.{slice_get_within}
 use Rattle.apcu_model.specs.declared.conf.Clock.TheVariants as clocks
 use Rattle.script_read.specs.declared.script.Step.{Step}
 use Rattle.script_read.specs.Budgets.{events_in}
-use Rattle.script_read.specs.Clock.{timed, timed_step, all_timed}
-use Rattle.script_read.specs.GeneratedScripts.{Draw, Fetches, Stores, Counts, state_after, drawn_number, draw_of, draws_from, draws_of, steps_of_draws, scripts_from, generated}
+use Rattle.script_read.specs.Clock.{timed, all_timed}
+use Rattle.script_read.specs.GeneratedScripts.{Draw, Fetches, Stores, Counts, state_after, draws_from, draws_of, steps_of_draws, scripts_from, generated}
 use Rattle.crew_play.specs.GeneratedRuns.{HaveEnough, watched_budgets}
 
 -- ---- under the clock of lines a script is as it is

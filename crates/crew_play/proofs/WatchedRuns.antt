@@ -1,5 +1,5 @@
 -- A generated run whose workers have all ended.
-use Rattle.std.proofs.Common.{◌≡◌, ℕ, zero, suc, ◌+◌, ◌*◌, ◌-◌, ◌<◌, ◌≤◌, ℤ, ◌⊎◌, inl, inr, Bool, true, false, List, [], ◌∷◌, ◌++◌, length, map, slice_get, Some, refl, sym, ap, ap₂, ◌∙◌, subst, arith, length-append}
+use Rattle.std.proofs.Common.{◌≡◌, ℕ, zero, suc, ◌+◌, ◌*◌, ◌<◌, ◌≤◌, ℤ, inl, inr, Bool, true, false, List, [], ◌∷◌, ◌++◌, length, map, slice_get, Some, refl, sym, ap, ap₂, ◌∙◌, subst, arith, length-append}
 use Rattle.std.specs.List.{range_with_len}
 use Rattle.std.proofs.lemmas.Bool.{cases_Bool}
 use Rattle.std.proofs.lemmas.List.{length-map}
@@ -12,20 +12,20 @@ use Rattle.apcu_model.specs.declared.request.Event.{Event}
 use Rattle.apcu_model.specs.declared.journal.Mark.{Mark}
 use Rattle.apcu_model.specs.declared.request.Reply.{Reply}
 use Rattle.apcu_model.specs.declared.request.Reply.TheVariants.{Ended}
-use Rattle.apcu_model.specs.History.{start_of, stage_of, all_legal, marks_of}
+use Rattle.apcu_model.specs.History.{start_of, all_legal, marks_of}
 use Rattle.pin_table.specs.Values.{PassView}
 use Rattle.pin_table.specs.Events.{events_of}
 use Rattle.pin_table.specs.Lists.{AllOf, known_list}
 use Rattle.pin_table.specs.Views.{is_among}
 use Rattle.script_read.specs.declared.script.Step.{Step}
 use Rattle.script_read.specs.Budgets.{most_events}
-use Rattle.script_read.specs.GeneratedScripts.{Draw, draws_of, steps_of_draws, scripts_from, generated}
+use Rattle.script_read.specs.GeneratedScripts.{Draw, draws_of, steps_of_draws, generated}
 use Rattle.script_read.specs.Play.{Play, played, IsCompletePlay}
 use Rattle.play_laws.specs.Own.{own_replies, wish_in, HasPlayed}
 use Rattle.play_laws.specs.Parts.{events-append, get_behind}
 use Rattle.play_laws.specs.Whole.{IsPlayedOut, play_of}
 use Rattle.play_laws.specs.Observer.{IsObservedLast, counters_read, observed, wish_to_end, wishes_of_looks}
-use Rattle.play_laws.specs.Summary.{IsLarge, Summary, number_found, summary_due, summary_of}
+use Rattle.play_laws.specs.Summary.{IsLarge, number_found, summary_due, summary_of}
 use Rattle.shared_cache.specs.declared.locked_cache.Closed.{Closed}
 use Rattle.shared_cache.specs.ClosedCaches.{IsClosed}
 use Rattle.worker_play.specs.Ends.{HasEnded, HasMade, PlaysAll}
@@ -33,7 +33,7 @@ use Rattle.worker_play.specs.Goes.{KnowsOwnEvents}
 use Rattle.worker_play.specs.Looks.{Observes}
 use Rattle.crew_play.specs.GeneratedRuns.{IsRun, IsWatched, HaveMade}
 use Rattle.crew_play.proofs.Crews.{get_more}
-use Rattle.crew_play.proofs.GeneratedScripts.{IsDrawn, drawn_at, workers_counted}
+use Rattle.crew_play.proofs.GeneratedScripts.{drawn_at, workers_counted}
 use Rattle.crew_play.proofs.EndedCrews.{OthersLaw, PlayLaws, get_some, among_at, among_there, replies_whole}
 use Rattle.crew_play.proofs.LearnedEnds.{prefixes, none_besides}
 use Rattle.crew_play.proofs.WishCounts.{WishLaws, get_first, get_past, made_counted, observer_plays, plays_counted}

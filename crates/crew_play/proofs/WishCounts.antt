@@ -1,14 +1,12 @@
 -- What the workers of generated scripts have asked, counted wish by wish.
-use Rattle.std.proofs.Common.{◌≡◌, ℕ, zero, suc, ◌+◌, ◌-◌, ◌<◌, ◌≤◌, ◌⊎◌, inl, inr, List, [], ◌∷◌, ◌++◌, length, map, take, slice_get, Option, Some, None, refl, sym, ap, ◌∙◌, subst, arith, length-append, length-take-le}
-use Rattle.std.proofs.lemmas.List.{append-nil, length-map}
+use Rattle.std.proofs.Common.{◌≡◌, ℕ, zero, suc, ◌+◌, ◌<◌, ◌≤◌, inl, inr, List, [], ◌∷◌, ◌++◌, length, map, take, slice_get, Option, Some, None, refl, sym, ap, ◌∙◌, subst, arith, length-append, length-take-le}
+use Rattle.std.proofs.lemmas.List.{length-map}
 use Rattle.std.proofs.lemmas.Bool.{cases_lt}
 use Rattle.std.proofs.lemmas.Option.{slice_get_within}
 use Rattle.apcu_model.specs.declared.conf.Conf.{Conf}
-use Rattle.apcu_model.specs.declared.request.Event.{Event}
 use Rattle.apcu_model.specs.declared.request.Reply.{Reply}
 use Rattle.apcu_model.specs.declared.request.Reply.TheVariants.{Ended}
 use Rattle.pin_table.specs.Values.{PassView}
-use Rattle.script_read.specs.declared.script.Step.{Step}
 use Rattle.script_read.specs.GeneratedScripts.{Draw, steps_of_draws}
 use Rattle.script_read.specs.Play.{Wish, wanted}
 use Rattle.play_laws.specs.Own.{own_replies, wish_in, AreInTurn, HasPlayed}

@@ -16,17 +16,16 @@ ghost use Rattle.worker_play.specs.Ends.{Ends};
 ghost use Rattle.worker_play.specs.Goes.{KnowsOwnEvents};
 ghost use Rattle.worker_play.specs.declared.script.PlayFault.TheVariants as faults;
 
+use crate::cast::Cast;
 use apcu_iter::Maker;
-use apcu_model::{Clock, Conf};
 use io_edges::Gate;
 use notation::ByteOut;
 use pin_table::{Ended, EndedList, Pass, Passes, TableName};
 use script_read::{Script, Scripts, scripts_cross};
 use shared_cache::Shared;
-use std::alloc::Global;
 use std::sync::Wait;
 use std::thread::{Threads, join};
-use worker_play::{PlayFault, play_out};
+use worker_play::{Context, PlayFault, play_out};
 
 // The last of the first `count` workers: its pass and its script.
 pub(crate) fn last_worker<'a, N: TableName>(
@@ -93,32 +92,27 @@ pub(crate) fn play_crew<
     R: Threads + Wait + Sync,
 >(
     rt: &R,
-    alloc: Global,
-    conf: &Conf,
+    cast: &Cast<M, G>,
     shared: &Shared<N>,
     mut passes: Passes,
     mut ended: EndedList,
     mut texts: Vec<Result<ByteOut, PlayFault>>,
     first: Option<Ended>,
-    scripts: &Scripts,
     count: u32,
-    maker: &M,
-    gate: &G,
-    clock: Clock,
 ) -> (Option<Ended>, EndedList, Vec<Result<ByteOut, PlayFault>>)
-    requires conf { conf.now ≡ N.conf }
-    requires budgets { N.budgets ≡ budgets_of N.conf.slots scripts.now }
-    requires some { count ≤ length scripts.now }
+    requires conf { cast.now.conf.now ≡ N.conf }
+    requires budgets { N.budgets ≡ budgets_of N.conf.slots cast.now.scripts.now }
+    requires some { count ≤ length cast.now.scripts.now }
     requires passes { passes ≡ first_passes N.table N.budgets count }
     requires none_ended { ended.ended ≡ [] }
     requires seats { count ≤ ended.room }
     requires no_text { texts.items ≡ [] }
     requires places { count ≤ vec_capacity texts }
     requires first { IfSome first (λ e. e.table ≡ N.table) }
-    ensures all { AllEnd N.table N.conf (all_timed clock scripts.now) count result.1.ended
-        result.2.items }
+    ensures all { AllEnd N.table N.conf (all_timed cast.now.clock cast.now.scripts.now) count
+        result.1.ended result.2.items }
     ensures pattern { Contains result.2.items (Err faults.Pattern)
-        → SomeRefusable (M.may_refuse maker.now) scripts.now }
+        → SomeRefusable (M.may_refuse cast.now.maker.now) cast.now.scripts.now }
     ensures seats { result.1.room + count ≡ ended.room }
     ensures places { vec_capacity result.2 ≡ vec_capacity texts }
     ensures same { result.0 ≡ first }
@@ -128,6 +122,12 @@ pub(crate) fn play_crew<
         return (first, ended, texts);
     }
     scripts_cross();
+    let alloc = cast.alloc;
+    let conf = cast.conf;
+    let scripts = cast.scripts;
+    let maker = cast.maker;
+    let gate = cast.gate;
+    let clock = cast.clock;
     let before = count - 1;
     let (pass, script) = last_worker::<N>(&mut passes, scripts, count);
     let (pass, first) = behind(rt, shared, pass, first);
@@ -151,10 +151,15 @@ pub(crate) fn play_crew<
                 × (result.0 ≡ first)
                 × IfSome first (λ e. EndsBefore before e) }
         {
-            play_crew(
-                rt, alloc, conf, shared, passes, ended, texts, first, scripts, before, maker, gate,
+            let cast = Cast {
+                alloc,
+                conf,
+                scripts,
+                maker,
+                gate,
                 clock,
-            )
+            };
+            play_crew(rt, &cast, shared, passes, ended, texts, first, before)
         },
         || -> (Ended, Result<ByteOut, PlayFault>)
             requires { (conf.now ≡ N.conf) × (pass.table ≡ N.table)
@@ -164,7 +169,16 @@ pub(crate) fn play_crew<
                 result.0 (result_ok result.1)
                 × IfErr result.1 (λ e. e ≡ faults.Pattern
                 → HasRefusable (M.may_refuse maker.entry.now) script.entry.now) }
-        { play_out(rt, alloc, conf, shared, pass, script, maker, gate, clock) },
+        {
+            let context = Context {
+                rt,
+                alloc,
+                shared,
+                gate,
+                slots: conf.slots,
+            };
+            play_out(&context, maker, pass, script, clock)
+        },
     );
     let (first, mut ended, mut texts) = front;
     let (end, text) = last;

@@ -5,7 +5,6 @@ ghost use Rattle.std.specs.Prelude.{IsTrue, IsFalse, is_ok, ◌&&◌};
 ghost use Rattle.std.specs.Thread.{IsSync};
 ghost use Rattle.script_read.specs.Budgets.{events_in, most_events};
 ghost use Rattle.script_read.specs.Clock.{timed, all_timed};
-ghost use Rattle.apcu_model.specs.declared.conf.Clock.TheVariants.{Line};
 ghost use Rattle.pin_table.specs.Lists.{first_passes};
 ghost use Rattle.play_laws.specs.Summary.{IsLarge};
 ghost use Rattle.worker_play.specs.Ends.{HasEnded, PlaysAll};
@@ -14,6 +13,7 @@ ghost use Rattle.crew_play.specs.GeneratedRuns.{summary_in, watched_budgets, IsR
 ghost use Rattle.crew_play.specs.GeneratedRuns.{HaveEnough, HaveMade};
 ghost use Rattle.crew_play.specs.declared.play.CrewFault.TheVariants.{Memory, TooMany, Pattern};
 
+use crate::cast::Cast;
 use crate::crew::last_worker;
 use crate::play::CrewFault;
 use apcu_iter::Maker;
@@ -30,7 +30,7 @@ use std::marker::Brand;
 use std::mem::forget;
 use std::sync::Wait;
 use std::thread::{Threads, join};
-use worker_play::{PlayFault, observe, play_out_quietly, play_quietly};
+use worker_play::{Context, PlayFault, observe, play_out_quietly, play_quietly};
 
 /// What is told of a generated run.
 #[derive(Clone, Copy, Debug, PartialEq, Eq)]
@@ -69,43 +69,42 @@ fn play_drawn<
     R: Threads + Wait + Sync,
 >(
     rt: &R,
-    alloc: Global,
-    conf: &Conf,
+    cast: &Cast<M, G>,
     shared: &Shared<N>,
     mut passes: Passes,
     ended: EndedList,
-    scripts: &Scripts,
     count: u32,
-    maker: &M,
-    gate: &G,
 ) -> (Pass, EndedList, bool)
-    requires conf { conf.now ≡ N.conf }
-    requires enough { HaveEnough N.conf.slots N.budgets scripts.now }
+    requires conf { cast.now.conf.now ≡ N.conf }
+    requires enough { HaveEnough N.conf.slots N.budgets cast.now.scripts.now }
     requires some { 1 ≤ count }
-    requires scripts { count ≤ length scripts.now }
+    requires scripts { count ≤ length cast.now.scripts.now }
     requires passes { passes ≡ first_passes N.table N.budgets count }
     requires none_ended { ended.ended ≡ [] }
     requires seats { count ≤ ended.room }
-    ensures made { HaveMade N.table N.conf (all_timed Line scripts.now) count result.0
-        result.1.ended result.2 }
+    ensures made { HaveMade N.table N.conf (all_timed cast.now.clock cast.now.scripts.now) count
+        result.0 result.1.ended result.2 }
     ensures seats { result.1.room + count ≡ ended.room + 1 }
 {
     scripts_cross();
     one_event_own();
+    let alloc = cast.alloc;
+    let conf = cast.conf;
+    let scripts = cast.scripts;
+    let maker = cast.maker;
+    let gate = cast.gate;
+    let clock = cast.clock;
     let before = count - 1;
     let (pass, script) = last_worker::<N>(&mut passes, scripts, count);
     if before == 0 {
-        let (pass, played) = play_quietly(
+        let context = Context {
             rt,
             alloc,
-            conf,
             shared,
-            pass,
-            script,
-            maker,
             gate,
-            Clock::Line,
-        );
+            slots: conf.slots,
+        };
+        let (pass, played) = play_quietly(&context, maker, pass, script, clock);
         return (pass, ended, and_made(true, played));
     }
     let (front, last) = join(
@@ -117,32 +116,35 @@ fn play_drawn<
                 × (1 ≤ before) × (before ≤ length scripts.now)
                 × (passes ≡ first_passes N.table N.budgets before)
                 × (ended.ended ≡ []) × (before ≤ ended.room) }
-            ensures { HaveMade N.table N.conf (all_timed Line scripts.entry.now) before
+            ensures { HaveMade N.table N.conf (all_timed clock scripts.entry.now) before
                 result.0 result.1.ended result.2
                 × (result.1.room + before ≡ ended.room + 1) }
         {
-            play_drawn(
-                rt, alloc, conf, shared, passes, ended, scripts, before, maker, gate,
-            )
+            let cast = Cast {
+                alloc,
+                conf,
+                scripts,
+                maker,
+                gate,
+                clock,
+            };
+            play_drawn(rt, &cast, shared, passes, ended, before)
         },
         || -> (Ended, Result<(), PlayFault>)
             requires { (conf.now ≡ N.conf) × (pass.table ≡ N.table)
                 × (pass.known.own ≡ []) × KnowsOwnEvents pass
                 × (events_in N.conf.slots script.now < pass.known.left) }
             ensures { HasEnded N.table pass.known.worker result.0
-                × OnOk result.1 (PlaysAll N.conf (timed Line script.entry.now) result.0) }
+                × OnOk result.1 (PlaysAll N.conf (timed clock script.entry.now) result.0) }
         {
-            play_out_quietly(
+            let context = Context {
                 rt,
                 alloc,
-                conf,
                 shared,
-                pass,
-                script,
-                maker,
                 gate,
-                Clock::Line,
-            )
+                slots: conf.slots,
+            };
+            play_out_quietly(&context, maker, pass, script, clock)
         },
     );
     let (first, mut ended, all) = front;
@@ -186,9 +188,15 @@ fn play_watched<
     looks_come_last();
     let count = scripts.len();
     let (shared, passes, ended) = fresh.name::<N>();
-    let (first, mut ended, all) = play_drawn(
-        rt, alloc, conf, &shared, passes, ended, scripts, count, maker, gate,
-    );
+    let cast = Cast {
+        alloc,
+        conf,
+        scripts,
+        maker,
+        gate,
+        clock: Clock::Line,
+    };
+    let (first, mut ended, all) = play_drawn(rt, &cast, &shared, passes, ended, count);
     let (end, counters) = observe(rt, alloc, &shared, first);
     ended.push(end);
     let Closed { journal: _, counts } = shared.close(rt, ended);

@@ -7,6 +7,7 @@
 #![tactic(auto)]
 
 mod budgets;
+mod cast;
 mod crew;
 mod generated;
 mod order;

@@ -9,18 +9,16 @@ ghost use Rattle.crew_play.specs.Crew.{AllEnd, LastEndsFirst};
 ghost use Rattle.crew_play.specs.declared.order.Order.TheVariants.{LastFirst};
 ghost use Rattle.worker_play.specs.declared.script.PlayFault.TheVariants as faults;
 
+use crate::cast::Cast;
 use crate::crew::{last_worker, play_crew};
 use apcu_iter::Maker;
-use apcu_model::{Clock, Conf};
 use io_edges::Gate;
 use notation::ByteOut;
 use pin_table::{EndedList, Passes, TableName};
-use script_read::Scripts;
 use shared_cache::Shared;
-use std::alloc::Global;
 use std::sync::Wait;
 use std::thread::Threads;
-use worker_play::{PlayFault, play_out};
+use worker_play::{Context, PlayFault, play_out};
 
 // When workers start.
 #[derive(Clone, Copy)]
@@ -40,49 +38,47 @@ pub(crate) fn play_all<
     R: Threads + Wait + Sync,
 >(
     rt: &R,
-    alloc: Global,
-    conf: &Conf,
+    cast: &Cast<M, G>,
     shared: &Shared<N>,
     mut passes: Passes,
     ended: EndedList,
     texts: Vec<Result<ByteOut, PlayFault>>,
-    scripts: &Scripts,
-    maker: &M,
-    gate: &G,
-    clock: Clock,
     order: Order,
 ) -> (EndedList, Vec<Result<ByteOut, PlayFault>>)
-    requires conf { conf.now ≡ N.conf }
-    requires budgets { N.budgets ≡ budgets_of N.conf.slots scripts.now }
-    requires some { order ≡ LastFirst → 1 ≤ length scripts.now }
-    requires passes { passes ≡ first_passes N.table N.budgets (length scripts.now) }
+    requires conf { cast.now.conf.now ≡ N.conf }
+    requires budgets { N.budgets ≡ budgets_of N.conf.slots cast.now.scripts.now }
+    requires some { order ≡ LastFirst → 1 ≤ length cast.now.scripts.now }
+    requires passes { passes ≡ first_passes N.table N.budgets (length cast.now.scripts.now) }
     requires none_ended { ended.ended ≡ [] }
-    requires seats { length scripts.now ≤ ended.room }
+    requires seats { length cast.now.scripts.now ≤ ended.room }
     requires no_text { texts.items ≡ [] }
-    requires places { length scripts.now ≤ vec_capacity texts }
-    ensures all { AllEnd N.table N.conf (all_timed clock scripts.now) (length scripts.now)
-        result.0.ended result.1.items }
+    requires places { length cast.now.scripts.now ≤ vec_capacity texts }
+    ensures all { AllEnd N.table N.conf (all_timed cast.now.clock cast.now.scripts.now)
+        (length cast.now.scripts.now) result.0.ended result.1.items }
     ensures pattern { Contains result.1.items (Err faults.Pattern)
-        → SomeRefusable (M.may_refuse maker.now) scripts.now }
-    ensures first { order ≡ LastFirst → LastEndsFirst (length scripts.now) result.0.ended }
+        → SomeRefusable (M.may_refuse cast.now.maker.now) cast.now.scripts.now }
+    ensures first { order ≡ LastFirst → LastEndsFirst (length cast.now.scripts.now) result.0.ended }
 {
-    let count = scripts.len();
+    let count = cast.scripts.len();
     match order {
         Order::Together => {
-            let (_, ended, texts) = play_crew(
-                rt, alloc, conf, shared, passes, ended, texts, None, scripts, count, maker, gate,
-                clock,
-            );
+            let (_, ended, texts) = play_crew(rt, cast, shared, passes, ended, texts, None, count);
             (ended, texts)
         }
         Order::LastFirst => {
             let before = count - 1;
-            let (pass, script) = last_worker::<N>(&mut passes, scripts, count);
-            let (end, text) = play_out(rt, alloc, conf, shared, pass, script, maker, gate, clock);
+            let (pass, script) = last_worker::<N>(&mut passes, cast.scripts, count);
+            let context = Context {
+                rt,
+                alloc: cast.alloc,
+                shared,
+                gate: cast.gate,
+                slots: cast.conf.slots,
+            };
+            let (end, text) = play_out(&context, cast.maker, pass, script, cast.clock);
             let first = Some(end);
             let (first, mut ended, mut texts) = play_crew(
-                rt, alloc, conf, shared, passes, ended, texts, first, scripts, before, maker, gate,
-                clock,
+                rt, cast, shared, passes, ended, texts, first, before,
             );
             let Some(end) = first else { unreachable!() };
             ended.push(end);

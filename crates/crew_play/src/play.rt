@@ -15,6 +15,7 @@ ghost use Rattle.shared_cache.specs.ClosedCaches.{IsClosed, IsClosedWhole};
 ghost use Rattle.worker_play.specs.declared.script.PlayFault.TheVariants as faults;
 
 use crate::budgets::budgets;
+use crate::cast::Cast;
 use crate::order::{Order, play_all};
 use crate::patterns::try_patterns;
 use apcu_iter::Maker;
@@ -131,44 +132,38 @@ fn play_named<
     R: Threads + Wait + Sync,
 >(
     rt: &R,
-    alloc: Global,
-    conf: &Conf,
+    cast: &Cast<M, G>,
     fresh: Fresh,
     texts: Vec<Result<ByteOut, PlayFault>>,
-    scripts: &Scripts,
-    maker: &M,
-    gate: &G,
-    clock: Clock,
     order: Order,
     keep: bool,
 ) -> Result<Played, CrewFault>
     requires table { N.table ≡ fresh.table }
     requires conf { N.conf ≡ fresh.conf }
     requires budgets { N.budgets ≡ fresh.budgets }
-    requires shape { fresh.conf ≡ conf.now }
-    requires events { fresh.budgets ≡ budgets_of conf.now.slots scripts.now }
+    requires shape { fresh.conf ≡ cast.now.conf.now }
+    requires events { fresh.budgets ≡ budgets_of cast.now.conf.now.slots cast.now.scripts.now }
     requires no_text { texts.items ≡ [] }
-    requires places { length scripts.now ≤ vec_capacity texts }
-    requires some { order ≡ LastFirst → 1 ≤ length scripts.now }
-    ensures played { IfOk result (λ p. IsPlayed conf.now (all_timed clock scripts.now)
-        p.journal.marks p.texts.items p.counts) }
-    ensures left { IfOk result (λ p. IfSome p.left (λ l. IsLeft conf.now
-        (all_timed clock scripts.now) p.journal.marks p.texts.items p.counts l.core l.words)) }
+    requires places { length cast.now.scripts.now ≤ vec_capacity texts }
+    requires some { order ≡ LastFirst → 1 ≤ length cast.now.scripts.now }
+    ensures played { IfOk result (λ p. IsPlayed cast.now.conf.now
+        (all_timed cast.now.clock cast.now.scripts.now) p.journal.marks p.texts.items p.counts) }
+    ensures left { IfOk result (λ p. IfSome p.left (λ l. IsLeft cast.now.conf.now
+        (all_timed cast.now.clock cast.now.scripts.now) p.journal.marks p.texts.items p.counts
+        l.core l.words)) }
     ensures kept { IfOk result (λ p. is_some p.left ≡ keep) }
     ensures first { IfOk result (λ p. order ≡ LastFirst
-        → ComeFirst (length scripts.now - 1) p.journal.marks) }
+        → ComeFirst (length cast.now.scripts.now - 1) p.journal.marks) }
     ensures pattern { IfErr result (λ e. e ≡ Pattern
-        → SomeRefusable (M.may_refuse maker.now) scripts.now) }
+        → SomeRefusable (M.may_refuse cast.now.maker.now) cast.now.scripts.now) }
     ensures few { IfErr result (λ e. e ≢ TooMany) }
 {
     one_event_own();
     histories_are_plays();
     let (shared, passes, ended) = fresh.name::<N>();
-    let (ended, texts) = play_all(
-        rt, alloc, conf, &shared, passes, ended, texts, scripts, maker, gate, clock, order,
-    );
+    let (ended, texts) = play_all(rt, cast, &shared, passes, ended, texts, order);
     let (Closed { journal, counts }, left) = close::<N, R>(rt, shared, ended, keep);
-    let texts = whole(alloc, texts)?;
+    let texts = whole(cast.alloc, texts)?;
     Ok(Played {
         journal,
         texts,
@@ -180,39 +175,35 @@ fn play_named<
 // Plays the scripts in this order on a cache of this shape.
 fn play_opened<M: Maker + Sync, G: Gate + Sync, R: Threads + Wait + Sync>(
     rt: &R,
-    alloc: Global,
-    conf: &Conf,
-    scripts: &Scripts,
-    maker: &M,
-    gate: &G,
-    clock: Clock,
+    cast: &Cast<M, G>,
     order: Order,
     keep: bool,
 ) -> Result<Played, CrewFault>
-    requires good { IsGood conf.now }
-    requires some { order ≡ LastFirst → 1 ≤ length scripts.now }
-    ensures played { IfOk result (λ p. IsPlayed conf.now (all_timed clock scripts.now)
-        p.journal.marks p.texts.items p.counts) }
-    ensures left { IfOk result (λ p. IfSome p.left (λ l. IsLeft conf.now
-        (all_timed clock scripts.now) p.journal.marks p.texts.items p.counts l.core l.words)) }
+    requires good { IsGood cast.now.conf.now }
+    requires some { order ≡ LastFirst → 1 ≤ length cast.now.scripts.now }
+    ensures played { IfOk result (λ p. IsPlayed cast.now.conf.now
+        (all_timed cast.now.clock cast.now.scripts.now) p.journal.marks p.texts.items p.counts) }
+    ensures left { IfOk result (λ p. IfSome p.left (λ l. IsLeft cast.now.conf.now
+        (all_timed cast.now.clock cast.now.scripts.now) p.journal.marks p.texts.items p.counts
+        l.core l.words)) }
     ensures kept { IfOk result (λ p. is_some p.left ≡ keep) }
     ensures first { IfOk result (λ p. order ≡ LastFirst
-        → ComeFirst (length scripts.now - 1) p.journal.marks) }
-    ensures few { IfOk result (λ _. all_events conf.now.slots scripts.now ≤ most_events) }
+        → ComeFirst (length cast.now.scripts.now - 1) p.journal.marks) }
+    ensures few { IfOk result (λ _.
+        all_events cast.now.conf.now.slots cast.now.scripts.now ≤ most_events) }
     ensures many { IfErr result (λ e. e ≡ TooMany
-        → most_events < all_events conf.now.slots scripts.now) }
+        → most_events < all_events cast.now.conf.now.slots cast.now.scripts.now) }
     // A pattern of the scripts may be refused, and they are not too many.
     ensures pattern { IfErr result (λ e. e ≡ Pattern
-        → (all_events conf.now.slots scripts.now ≤ most_events)
-        × SomeRefusable (M.may_refuse maker.now) scripts.now) }
+        → (all_events cast.now.conf.now.slots cast.now.scripts.now ≤ most_events)
+        × SomeRefusable (M.may_refuse cast.now.maker.now) cast.now.scripts.now) }
 {
-    let budgets = budgets(alloc, conf.slots, scripts)?;
-    try_patterns(alloc, maker, scripts)?;
-    let texts = Vec::with_capacity(alloc, scripts.len() as usize)?;
-    match open_cache(rt, alloc, conf, &budgets) {
-        Ok(fresh) => play_named::<Brand, M, G, R>(
-            rt, alloc, conf, fresh, texts, scripts, maker, gate, clock, order, keep,
-        ),
+    let alloc = cast.alloc;
+    let budgets = budgets(alloc, cast.conf.slots, cast.scripts)?;
+    try_patterns(alloc, cast.maker, cast.scripts)?;
+    let texts = Vec::with_capacity(alloc, cast.scripts.len() as usize)?;
+    match open_cache(rt, alloc, cast.conf, &budgets) {
+        Ok(fresh) => play_named::<Brand, M, G, R>(rt, cast, fresh, texts, order, keep),
         Err(_) => Err(CrewFault::Memory),
     }
 }
@@ -258,17 +249,15 @@ pub fn play_scripts<M: Maker + Sync, G: Gate + Sync, R: Threads + Wait + Sync>(
         → (all_events conf.now.slots scripts.now ≤ most_events)
         × SomeRefusable (M.may_refuse maker.now) scripts.now) }
 {
-    play_opened(
-        rt,
+    let cast = Cast {
         alloc,
         conf,
         scripts,
         maker,
         gate,
         clock,
-        Order::Together,
-        keep,
-    )
+    };
+    play_opened(rt, &cast, Order::Together, keep)
 }
 
 /// Plays the scripts as `play_scripts` does, with all that it promises, but the last worker's
@@ -303,15 +292,13 @@ pub fn play_loaded<M: Maker + Sync, G: Gate + Sync, R: Threads + Wait + Sync>(
         → (all_events conf.now.slots scripts.now ≤ most_events)
         × SomeRefusable (M.may_refuse maker.now) scripts.now) }
 {
-    play_opened(
-        rt,
+    let cast = Cast {
         alloc,
         conf,
         scripts,
         maker,
         gate,
         clock,
-        Order::LastFirst,
-        keep,
-    )
+    };
+    play_opened(rt, &cast, Order::LastFirst, keep)
 }

@@ -1,5 +1,5 @@
 -- Looks at the counters, one after the other.
-use Rattle.std.proofs.Common.{◌≡◌, ℕ, zero, suc, ◌+◌, ◌-◌, ◌<◌, ◌≤◌, ℤ, pos, List, [], ◌∷◌, ◌++◌, length, map, Some, refl, sym, ap, ap₂, subst, ◌∙◌, append_assoc, length-append, arith}
+use Rattle.std.proofs.Common.{◌≡◌, ℕ, zero, suc, ◌+◌, ◌-◌, ◌<◌, ℤ, pos, List, [], ◌∷◌, ◌++◌, length, map, Some, refl, sym, ap, ap₂, subst, ◌∙◌, length-append, arith}
 use Rattle.std.specs.Prelude.{replicate, slice_set}
 use Rattle.std.specs.List.{range_with_len}
 use Rattle.std.proofs.lemmas.Fmt.{decimal_digit}
@@ -11,7 +11,7 @@ use Rattle.apcu_model.specs.declared.request.Reply.TheVariants.{Ended}
 use Rattle.pin_table.specs.Values.{PassView}
 use Rattle.script_read.specs.GeneratedScripts.{counter_key}
 use Rattle.script_read.specs.Play.{Wish}
-use Rattle.play_laws.specs.Observer.{wish_now, wish_to_end, wishes_of_looks}
+use Rattle.play_laws.specs.Observer.{wish_now, wish_to_end}
 use Rattle.play_laws.specs.Summary.{number_found}
 use Rattle.shared_cache.specs.Follows.{Follows}
 use Rattle.worker_play.specs.Goes.{KnowsOwnEvents, GoesOn}

@@ -17,12 +17,12 @@ use Rattle.pin_table.specs.Values.{PassView}
 use Rattle.simple_pool.specs.declared.call.PoolAsk.{PoolAsk}
 use Rattle.simple_pool.specs.declared.call.PoolAsk.TheVariants.{Set, SetMany}
 use Rattle.simple_pool.specs.Names.{pool_key}
-use Rattle.simple_pool.specs.Requests.{store_of, set_of}
+use Rattle.simple_pool.specs.Requests.{set_of}
 use Rattle.script_read.specs.declared.call.Call.{Call}
 use Rattle.script_read.specs.declared.call.Call.TheVariants.{Pool}
 use Rattle.script_read.specs.Play.{wish_at, next_of}
 use Rattle.reply_text.specs.PoolReplies.{value_or, all_done_text, pool_text}
-use Rattle.reply_text.specs.Replies.{flag_text, done_text, is_done, value_in, fetched, noted}
+use Rattle.reply_text.specs.Replies.{flag_text, is_done, fetched, noted}
 use Rattle.worker_play.specs.Goes.{GoesOn, Reaches, Tells}
 use Rattle.worker_play.specs.Pools.{own_key, life_of, put_as, put_of, put_done, answer_value, answers_noted}
 use Rattle.worker_play.specs.Turns.{Turn, Takes, Over, turns_at, asks_at}

@@ -1,6 +1,6 @@
 -- How a worker plays calls on pools.
 use Rattle.std.specs.Prelude.{ℕ, ℤ, pos, int_lt, nat_abs, Bool, true, false, if◌then◌else◌, List}
-use Rattle.std.specs.Prelude.{◌∷◌, map, Option, Some, None}
+use Rattle.std.specs.Prelude.{map, Option, Some, None}
 use Rattle.php_graph.specs.declared.kind.Kind.{Kind}
 use Rattle.apcu_model.specs.declared.request.Request.{Request}
 use Rattle.apcu_model.specs.declared.request.Request.TheVariants as requests

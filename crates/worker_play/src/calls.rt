@@ -16,6 +16,7 @@ ghost use Rattle.worker_play.specs.Groups.{NeedsNoSearch};
 ghost use Rattle.worker_play.specs.Turns.{turns_at, asks_at};
 
 use crate::chunks::totals;
+use crate::context::{Context, When};
 use crate::events::{
     cache_info, cas, clear, delete, entry, exists, fetch, fetch_text, inc, key_info, sma_info,
     store,
@@ -34,21 +35,15 @@ use reply_text::{
     write_numbered, write_totals,
 };
 use script_read::Call;
-use shared_cache::Shared;
-use std::alloc::{AllocError, Global};
+use std::alloc::AllocError;
 use std::sync::Wait;
 
-// Plays a call that needs no search, and prints what it answers. `index` is that of the call in its
-// script.
+// Plays a call that needs no search, and prints what it answers.
 pub(crate) fn play_directly<N: TableName, G: Gate, R: Wait>(
-    rt: &R,
-    alloc: Global,
-    shared: &Shared<N>,
-    gate: &G,
-    index: u32,
+    context: &Context<N, G, R>,
+    when: When,
     pass: Pass,
     call: &Call,
-    t: u64,
     out: &mut ByteOut,
 ) -> (Pass, Result<(), AllocError>)
     requires table { pass.table ≡ N.table }
@@ -57,75 +52,62 @@ pub(crate) fn play_directly<N: TableName, G: Gate, R: Wait>(
     requires ranges { HasRanges call.now }
     requires direct { NeedsNoSearch call.now }
     ensures reaches { Reaches N.conf (length N.budgets) pass result.0
-        (turns_at t (next_of N.conf call.now)) }
+        (turns_at when.t (next_of N.conf call.now)) }
     ensures line { OnOk result.1 (Tells N.conf (length N.budgets) pass result.0
-        (turns_at t (next_of N.conf call.now))
+        (turns_at when.t (next_of N.conf call.now))
         (λ replies. out.old ++ call_text call.now replies) out.new) }
 {
     match call {
         Call::StoreOne { .. } | Call::ExistsOne(_) | Call::DeleteOne(_) | Call::Cas { .. } => {
-            play_flagged(rt, shared, pass, call, t, out)
+            play_flagged(context, pass, call, when.t, out)
         }
         Call::StoreMany {
             pairs,
             ttl,
             exclusive,
         } => store_all(
-            rt,
-            alloc,
-            shared,
+            context,
             pass,
             pairs.as_slice(),
             *ttl,
             *exclusive,
-            t,
+            when.t,
             out,
         ),
-        Call::FetchOne(key) => fetch_text(rt, alloc, shared, gate, index, pass, key, t, out),
+        Call::FetchOne(key) => fetch_text(context, when, pass, key, out),
         Call::FetchMany(keys) => {
             let count = keys.len();
             prove!(count <= u32::MAX);
-            fetch_all(
-                rt,
-                alloc,
-                shared,
-                gate,
-                index,
-                pass,
-                keys.as_slice(),
-                t,
-                out,
-            )
+            fetch_all(context, when, pass, keys.as_slice(), out)
         }
-        Call::ExistsMany(keys) => { look_for_all(rt, alloc, shared, pass, keys.as_slice(), t, out) }
-        Call::DeleteMany(keys) => delete_all(rt, alloc, shared, pass, keys.as_slice(), t, out),
+        Call::ExistsMany(keys) => { look_for_all(context, pass, keys.as_slice(), when.t, out) }
+        Call::DeleteMany(keys) => delete_all(context, pass, keys.as_slice(), when.t, out),
         Call::Inc { key, step, ttl } => {
-            let (pass, number) = inc(rt, shared, pass, key, *step, *ttl, t);
+            let (pass, number) = inc(context, pass, key, *step, *ttl, when.t);
             (pass, write_number(out, number))
         }
         Call::Entry(generator) => {
-            let (pass, value) = entry(rt, alloc, shared, pass, generator, t);
+            let (pass, value) = entry(context, pass, generator, when.t);
             match value {
                 Ok(value) => (pass, write_gave(out, &value)),
                 Err(e) => (pass, Err(e)),
             }
         }
         Call::Clear => {
-            let pass = clear(rt, shared, pass, t);
+            let pass = clear(context, pass, when.t);
             (pass, write_flag(out, true))
         }
         Call::Enabled => (pass, write_flag(out, true)),
         Call::KeyInfo(_) | Call::CacheInfo(_) | Call::SmaInfo(_) => {
-            play_told(rt, alloc, shared, pass, call, t, out)
+            play_told(context, pass, call, when.t, out)
         }
         _ => unreachable!(),
     }
 }
 
 // Plays a call on one key that answers whether it was done, and prints that.
-fn play_flagged<N: TableName, R: Wait>(
-    rt: &R,
-    shared: &Shared<N>,
+fn play_flagged<N: TableName, G: Gate, R: Wait>(
+    context: &Context<N, G, R>,
     pass: Pass,
     call: &Call,
     t: u64,
@@ -147,19 +129,19 @@ fn play_flagged<N: TableName, R: Wait>(
             ttl,
             exclusive,
         } => {
-            let (pass, stored) = store(rt, shared, pass, key, value, *ttl, *exclusive, t);
+            let (pass, stored) = store(context, pass, key, value, *ttl, *exclusive, t);
             (pass, write_flag(out, stored))
         }
         Call::ExistsOne(key) => {
-            let (pass, there) = exists(rt, shared, pass, key, t);
+            let (pass, there) = exists(context, pass, key, t);
             (pass, write_flag(out, there))
         }
         Call::DeleteOne(key) => {
-            let (pass, deleted) = delete(rt, shared, pass, key, t);
+            let (pass, deleted) = delete(context, pass, key, t);
             (pass, write_flag(out, deleted))
         }
         Call::Cas { key, expect, set } => {
-            let (pass, was_set) = cas(rt, shared, pass, key, *expect, *set, t);
+            let (pass, was_set) = cas(context, pass, key, *expect, *set, t);
             (pass, write_flag(out, was_set))
         }
         _ => unreachable!(),
@@ -168,10 +150,8 @@ fn play_flagged<N: TableName, R: Wait>(
 
 // Plays a call that asks what is noted of a key, of the cache or of its segment, and prints that.
 #[inline(never)]
-fn play_told<N: TableName, R: Wait>(
-    rt: &R,
-    alloc: Global,
-    shared: &Shared<N>,
+fn play_told<N: TableName, G: Gate, R: Wait>(
+    context: &Context<N, G, R>,
     pass: Pass,
     call: &Call,
     t: u64,
@@ -188,21 +168,21 @@ fn play_told<N: TableName, R: Wait>(
 {
     match call {
         Call::KeyInfo(key) => {
-            let (pass, info) = key_info(rt, alloc, shared, pass, key, t);
+            let (pass, info) = key_info(context, pass, key, t);
             match info {
                 Ok(info) => (pass, write_info(out, info.as_ref())),
                 Err(e) => (pass, Err(e)),
             }
         }
         Call::CacheInfo(limited) => {
-            let (pass, info) = cache_info(rt, alloc, shared, pass, *limited);
+            let (pass, info) = cache_info(context, pass, *limited);
             match info {
                 Ok(info) => (pass, write_info(out, Some(&info))),
                 Err(e) => (pass, Err(e)),
             }
         }
         Call::SmaInfo(limited) => {
-            let (pass, info) = sma_info(rt, alloc, shared, pass, *limited);
+            let (pass, info) = sma_info(context, pass, *limited);
             match info {
                 Ok(info) => (pass, write_info(out, Some(&info))),
                 Err(e) => (pass, Err(e)),
@@ -212,32 +192,27 @@ fn play_told<N: TableName, R: Wait>(
     }
 }
 
-// Plays a call of an iterator or on a pool, and prints what it answers. `index` is that of the call
-// in its script, and `search` is one for its pattern.
+// Plays a call of an iterator or on a pool, and prints what it answers. `search` is one for its
+// pattern.
 pub(crate) fn play_searching<N: TableName, G: Gate, R: Wait>(
-    rt: &R,
-    alloc: Global,
-    shared: &Shared<N>,
-    gate: &G,
-    index: u32,
-    slots: u32,
+    context: &Context<N, G, R>,
+    when: When,
     pass: Pass,
     call: &Call,
     search: &mut Search,
-    t: u64,
     out: &mut ByteOut,
 ) -> (Pass, Result<(), AllocError>)
     requires table { pass.table ≡ N.table }
     requires whole { KnowsOwnEvents pass }
-    requires slots { slots ≡ N.conf.slots }
+    requires slots { context.now.slots ≡ N.conf.slots }
     requires left { event_bound N.conf.slots call.now < pass.known.left }
     requires ranges { HasRanges call.now }
     requires search { search.old ≡ call_pattern call.now }
     requires searches { MayNeedSearch call.now }
     ensures reaches { Reaches N.conf (length N.budgets) pass result.0
-        (turns_at t (next_of N.conf call.now)) }
+        (turns_at when.t (next_of N.conf call.now)) }
     ensures line { OnOk result.1 (Tells N.conf (length N.budgets) pass result.0
-        (turns_at t (next_of N.conf call.now))
+        (turns_at when.t (next_of N.conf call.now))
         (λ replies. out.old ++ call_text call.now replies) out.new) }
 {
     match call {
@@ -247,18 +222,12 @@ pub(crate) fn play_searching<N: TableName, G: Gate, R: Wait>(
             list,
             ..
         } => match list {
-            List::Active => walk_active(
-                rt, alloc, shared, gate, index, slots, pass, search, *size, *fields, t, out,
-            ),
-            List::Deleted => walk_deleted(
-                rt, alloc, shared, gate, index, pass, search, *size, *fields, t, out,
-            ),
+            List::Active => walk_active(context, when, pass, search, *size, *fields, out),
+            List::Deleted => walk_deleted(context, when, pass, search, *size, *fields, out),
         },
-        Call::WalkDelete { size, .. } => delete_found(
-            rt, alloc, shared, gate, index, slots, pass, search, *size, t, out,
-        ),
+        Call::WalkDelete { size, .. } => delete_found(context, when, pass, search, *size, out),
         Call::Totals { list, .. } => {
-            let (pass, sums) = totals(rt, alloc, shared, pass, search, *list, t);
+            let (pass, sums) = totals(context, pass, search, *list, when.t);
             match sums {
                 Ok((count, hits, size)) => (pass, write_totals(out, count, hits, size)),
                 Err(e) => (pass, Err(e)),
@@ -266,9 +235,7 @@ pub(crate) fn play_searching<N: TableName, G: Gate, R: Wait>(
         }
         Call::Pool(boxed) => {
             let call = boxed.call();
-            play_pool(
-                rt, alloc, shared, gate, index, slots, pass, call, search, t, out,
-            )
+            play_pool(context, when, pass, call, search, out)
         }
         _ => unreachable!(),
     }
@@ -276,10 +243,8 @@ pub(crate) fn play_searching<N: TableName, G: Gate, R: Wait>(
 
 // Stores all pairs in their order, and prints the keys that were not stored.
 #[inline(never)]
-fn store_all<N: TableName, R: Wait>(
-    rt: &R,
-    alloc: Global,
-    shared: &Shared<N>,
+fn store_all<N: TableName, G: Gate, R: Wait>(
+    context: &Context<N, G, R>,
     pass: Pass,
     pairs: &[(Bytes, Graph)],
     ttl: u32,
@@ -297,9 +262,9 @@ fn store_all<N: TableName, R: Wait>(
         (λ replies. out.old ++ unstored_text (map (λ pair. pair.0) pairs.now) replies) out.new) }
 {
     let mut held = pass;
-    let mut refused = Vec::new(alloc);
+    let mut refused = Vec::new(context.alloc);
     for pair in pairs {
-        let (next, stored) = store(rt, shared, held, &pair.0, &pair.1, ttl, exclusive, t);
+        let (next, stored) = store(context, held, &pair.0, &pair.1, ttl, exclusive, t);
         held = next;
         if let Err(e) = note_undone(&mut refused, &pair.0, stored) {
             return (held, Err(e));
@@ -312,14 +277,10 @@ fn store_all<N: TableName, R: Wait>(
 // found.
 #[inline(never)]
 fn fetch_all<N: TableName, G: Gate, R: Wait>(
-    rt: &R,
-    alloc: Global,
-    shared: &Shared<N>,
-    gate: &G,
-    index: u32,
+    context: &Context<N, G, R>,
+    when: When,
     pass: Pass,
     keys: &[Bytes],
-    t: u64,
     out: &mut ByteOut,
 ) -> (Pass, Result<(), AllocError>)
     requires table { pass.table ≡ N.table }
@@ -327,15 +288,15 @@ fn fetch_all<N: TableName, G: Gate, R: Wait>(
     requires left { length keys.now < pass.known.left }
     requires few { length keys.now < 2 ^ 32 }
     ensures reaches { Reaches N.conf (length N.budgets) pass result.0
-        (asks_at t (map Fetch keys.now)) }
+        (asks_at when.t (map Fetch keys.now)) }
     ensures line { OnOk result.1 (Tells N.conf (length N.budgets) pass result.0
-        (asks_at t (map Fetch keys.now))
+        (asks_at when.t (map Fetch keys.now))
         (λ replies. out.old ++ found_text keys.now replies) out.new) }
 {
     let mut held = pass;
-    let mut values = Notes::new(alloc);
+    let mut values = Notes::new(context.alloc);
     for key in keys {
-        let (next, found) = fetch(rt, alloc, shared, gate, index, held, key, t);
+        let (next, found) = fetch(context, when, held, key);
         held = next;
         if let Err(e) = note_value(&mut values, key, found) {
             return (held, Err(e));
@@ -346,10 +307,8 @@ fn fetch_all<N: TableName, G: Gate, R: Wait>(
 
 // Looks for all keys in their order, and prints those that are there.
 #[inline(never)]
-fn look_for_all<N: TableName, R: Wait>(
-    rt: &R,
-    alloc: Global,
-    shared: &Shared<N>,
+fn look_for_all<N: TableName, G: Gate, R: Wait>(
+    context: &Context<N, G, R>,
     pass: Pass,
     keys: &[Bytes],
     t: u64,
@@ -365,9 +324,9 @@ fn look_for_all<N: TableName, R: Wait>(
         (λ replies. out.old ++ there_text keys.now replies) out.new) }
 {
     let mut held = pass;
-    let mut there = Notes::new(alloc);
+    let mut there = Notes::new(context.alloc);
     for key in keys {
-        let (next, found) = exists(rt, shared, held, key, t);
+        let (next, found) = exists(context, held, key, t);
         held = next;
         if let Err(e) = note_there(&mut there, key, found) {
             return (held, Err(e));
@@ -378,10 +337,8 @@ fn look_for_all<N: TableName, R: Wait>(
 
 // Deletes all keys in their order, and prints those that were not deleted.
 #[inline(never)]
-fn delete_all<N: TableName, R: Wait>(
-    rt: &R,
-    alloc: Global,
-    shared: &Shared<N>,
+fn delete_all<N: TableName, G: Gate, R: Wait>(
+    context: &Context<N, G, R>,
     pass: Pass,
     keys: &[Bytes],
     t: u64,
@@ -397,9 +354,9 @@ fn delete_all<N: TableName, R: Wait>(
         (λ replies. out.old ++ undeleted_text keys.now replies) out.new) }
 {
     let mut held = pass;
-    let mut kept = Vec::new(alloc);
+    let mut kept = Vec::new(context.alloc);
     for key in keys {
-        let (next, deleted) = delete(rt, shared, held, key, t);
+        let (next, deleted) = delete(context, held, key, t);
         held = next;
         if let Err(e) = note_undone(&mut kept, key, deleted) {
             return (held, Err(e));

@@ -6,45 +6,53 @@ ghost use Rattle.apcu_model.specs.declared.request.Reply.TheVariants as reply;
 ghost use Rattle.shared_cache.specs.Asking.{MayAsk};
 ghost use Rattle.worker_play.specs.Goes.{wish, KnowsOwnEvents, GoesOn};
 
+use crate::context::{Context, When};
 use apcu_iter::Search;
 use apcu_model::{Chunk, Fields, List};
 use io_edges::{Gate, Point};
 use pin_table::{Pass, TableName};
 use play_laws::one_event_own;
-use shared_cache::Shared;
-use std::alloc::{AllocError, Global};
+use std::alloc::AllocError;
 use std::sync::Wait;
 
 // One step of an iterator over a list of rows, and then the gate. There was no event where memory
-// is missing. `index` is that of the call in its script.
+// is missing.
 pub(crate) fn chunk<N: TableName, G: Gate, R: Wait>(
-    rt: &R,
-    alloc: Global,
-    shared: &Shared<N>,
-    gate: &G,
-    index: u32,
+    context: &Context<N, G, R>,
+    when: When,
     pass: Pass,
     search: &mut Search,
     from: u32,
     size: u32,
     list: List,
     fields: Fields,
-    t: u64,
 ) -> (Pass, Result<Chunk, AllocError>)
     requires pass { MayAsk N.table 2 pass }
     requires whole { KnowsOwnEvents pass }
     requires from { from ≤ N.conf.slots }
     requires size { 0 < size }
     ensures event { IfOk result.1 (λ chunk. GoesOn N.conf (length N.budgets) pass result.0
-        (wish t (request.Chunk search.old from size list fields) ∷ [])
+        (wish when.t (request.Chunk search.old from size list fields) ∷ [])
         (reply.Chunk chunk ∷ [])) }
     ensures same { OnErr result.1 (result.0 ≡ pass) }
     ensures search { search.new ≡ search.old }
 {
     one_event_own();
-    let (pass, made) = shared.chunk(rt, alloc, pass, search, from, size, list, fields, t);
+    let (pass, made) = context.shared.chunk(
+        context.rt,
+        context.alloc,
+        pass,
+        search,
+        from,
+        size,
+        list,
+        fields,
+        when.t,
+    );
     if made.is_ok() {
-        gate.reached(pass.worker(), Point::Chunk(index));
+        context
+            .gate
+            .reached(pass.worker(), Point::Chunk(when.index));
     }
     (pass, made)
 }
@@ -52,40 +60,44 @@ pub(crate) fn chunk<N: TableName, G: Gate, R: Wait>(
 // One step of an iterator's deletion, and then the gate. Answers the slot up to which it went.
 // There was no event where memory is missing.
 pub(crate) fn chunk_delete<N: TableName, G: Gate, R: Wait>(
-    rt: &R,
-    alloc: Global,
-    shared: &Shared<N>,
-    gate: &G,
-    index: u32,
+    context: &Context<N, G, R>,
+    when: When,
     pass: Pass,
     search: &mut Search,
     from: u32,
     size: u32,
-    t: u64,
 ) -> (Pass, Result<u32, AllocError>)
     requires pass { MayAsk N.table 2 pass }
     requires whole { KnowsOwnEvents pass }
     requires from { from ≤ N.conf.slots }
     requires size { 0 < size }
     ensures deleted { IfOk result.1 (λ next. GoesOn N.conf (length N.budgets) pass result.0
-        (wish t (request.ChunkDelete search.old from size) ∷ []) (reply.Next next ∷ [])) }
+        (wish when.t (request.ChunkDelete search.old from size) ∷ []) (reply.Next next ∷ [])) }
     ensures same { OnErr result.1 (result.0 ≡ pass) }
     ensures search { search.new ≡ search.old }
 {
     one_event_own();
-    let (pass, deleted) = shared.chunk_delete(rt, alloc, pass, search, from, size, t);
+    let (pass, deleted) = context.shared.chunk_delete(
+        context.rt,
+        context.alloc,
+        pass,
+        search,
+        from,
+        size,
+        when.t,
+    );
     if deleted.is_ok() {
-        gate.reached(pass.worker(), Point::Chunk(index));
+        context
+            .gate
+            .reached(pass.worker(), Point::Chunk(when.index));
     }
     (pass, deleted)
 }
 
 // Of how many rows of a list the search finds the keys, how often they were fetched, and how many
 // bytes they have. There was no event where memory is missing.
-pub(crate) fn totals<N: TableName, R: Wait>(
-    rt: &R,
-    alloc: Global,
-    shared: &Shared<N>,
+pub(crate) fn totals<N: TableName, G: Gate, R: Wait>(
+    context: &Context<N, G, R>,
     pass: Pass,
     search: &mut Search,
     list: List,
@@ -99,5 +111,7 @@ pub(crate) fn totals<N: TableName, R: Wait>(
     ensures search { search.new ≡ search.old }
 {
     one_event_own();
-    shared.totals(rt, alloc, pass, search, list, t)
+    context
+        .shared
+        .totals(context.rt, context.alloc, pass, search, list, t)
 }

@@ -13,6 +13,7 @@ ghost use Rattle.reply_text.specs.Replies.{fetched, fetched_one};
 ghost use Rattle.shared_cache.specs.Asking.{MayAsk};
 ghost use Rattle.worker_play.specs.Goes.{wish, KnowsOwnEvents, GoesOn};
 
+use crate::context::{Context, When};
 use crate::scalar::{graph_of_scalar, write_scalar};
 use apcu_model::Gen;
 use io_edges::{Gate, Point};
@@ -21,14 +22,13 @@ use php_graph::{Bytes, Graph};
 use pin_table::{Pass, TableName};
 use play_laws::one_event_own;
 use reply_text::{write_fetched, write_flag};
-use shared_cache::{Pinned, Shared};
-use std::alloc::{AllocError, Global};
+use shared_cache::Pinned;
+use std::alloc::AllocError;
 use std::sync::Wait;
 
 // Whether a value was stored.
-pub(crate) fn store<N: TableName, R: Wait>(
-    rt: &R,
-    shared: &Shared<N>,
+pub(crate) fn store<N: TableName, G: Gate, R: Wait>(
+    context: &Context<N, G, R>,
     pass: Pass,
     key: &Bytes,
     value: &Graph,
@@ -42,13 +42,14 @@ pub(crate) fn store<N: TableName, R: Wait>(
         (wish t (request.Store key.now value.now ttl exclusive) ∷ []) (Flag result.1 ∷ []) }
 {
     one_event_own();
-    shared.store(rt, pass, key.as_slice(), value, ttl, exclusive, t)
+    context
+        .shared
+        .store(context.rt, pass, key.as_slice(), value, ttl, exclusive, t)
 }
 
 // Whether a key is there.
-pub(crate) fn exists<N: TableName, R: Wait>(
-    rt: &R,
-    shared: &Shared<N>,
+pub(crate) fn exists<N: TableName, G: Gate, R: Wait>(
+    context: &Context<N, G, R>,
     pass: Pass,
     key: &Bytes,
     t: u64,
@@ -59,13 +60,12 @@ pub(crate) fn exists<N: TableName, R: Wait>(
         (wish t (request.Exists key.now) ∷ []) (Flag result.1 ∷ []) }
 {
     one_event_own();
-    shared.exists(rt, pass, key.as_slice(), t)
+    context.shared.exists(context.rt, pass, key.as_slice(), t)
 }
 
 // Whether a key was deleted.
-pub(crate) fn delete<N: TableName, R: Wait>(
-    rt: &R,
-    shared: &Shared<N>,
+pub(crate) fn delete<N: TableName, G: Gate, R: Wait>(
+    context: &Context<N, G, R>,
     pass: Pass,
     key: &Bytes,
     t: u64,
@@ -76,13 +76,12 @@ pub(crate) fn delete<N: TableName, R: Wait>(
         (wish t (request.Delete key.now) ∷ []) (Flag result.1 ∷ []) }
 {
     one_event_own();
-    shared.delete(rt, pass, key.as_slice(), t)
+    context.shared.delete(context.rt, pass, key.as_slice(), t)
 }
 
 // The number that the counter of a key comes to, if it counts.
-pub(crate) fn inc<N: TableName, R: Wait>(
-    rt: &R,
-    shared: &Shared<N>,
+pub(crate) fn inc<N: TableName, G: Gate, R: Wait>(
+    context: &Context<N, G, R>,
     pass: Pass,
     key: &Bytes,
     step: i64,
@@ -95,13 +94,14 @@ pub(crate) fn inc<N: TableName, R: Wait>(
         (wish t (request.Inc key.now step ttl) ∷ []) (number_reply result.1 ∷ []) }
 {
     one_event_own();
-    shared.inc(rt, pass, key.as_slice(), step, ttl, t)
+    context
+        .shared
+        .inc(context.rt, pass, key.as_slice(), step, ttl, t)
 }
 
 // Whether the expected integer was there, and another one is set.
-pub(crate) fn cas<N: TableName, R: Wait>(
-    rt: &R,
-    shared: &Shared<N>,
+pub(crate) fn cas<N: TableName, G: Gate, R: Wait>(
+    context: &Context<N, G, R>,
     pass: Pass,
     key: &Bytes,
     expect: i64,
@@ -114,14 +114,14 @@ pub(crate) fn cas<N: TableName, R: Wait>(
         (wish t (request.Cas key.now expect set) ∷ []) (Flag result.1 ∷ []) }
 {
     one_event_own();
-    shared.cas(rt, pass, key.as_slice(), expect, set, t)
+    context
+        .shared
+        .cas(context.rt, pass, key.as_slice(), expect, set, t)
 }
 
 // The value that a generator gives. There was no event where memory is missing.
-pub(crate) fn entry<N: TableName, R: Wait>(
-    rt: &R,
-    alloc: Global,
-    shared: &Shared<N>,
+pub(crate) fn entry<N: TableName, G: Gate, R: Wait>(
+    context: &Context<N, G, R>,
     pass: Pass,
     generator: &Gen,
     t: u64,
@@ -135,7 +135,9 @@ pub(crate) fn entry<N: TableName, R: Wait>(
     ensures same { OnErr result.1 (result.0 ≡ pass) }
 {
     one_event_own();
-    let (pass, given) = shared.entry(rt, alloc, pass, generator, t);
+    let (pass, given) = context
+        .shared
+        .entry(context.rt, context.alloc, pass, generator, t);
     match given {
         Ok((value, _fate)) => (pass, Ok(value)),
         Err(e) => (pass, Err(e)),
@@ -143,10 +145,8 @@ pub(crate) fn entry<N: TableName, R: Wait>(
 }
 
 // What is noted of a key's row, if a look-up finds one. There was no event where memory is missing.
-pub(crate) fn key_info<N: TableName, R: Wait>(
-    rt: &R,
-    alloc: Global,
-    shared: &Shared<N>,
+pub(crate) fn key_info<N: TableName, G: Gate, R: Wait>(
+    context: &Context<N, G, R>,
     pass: Pass,
     key: &Bytes,
     t: u64,
@@ -158,14 +158,14 @@ pub(crate) fn key_info<N: TableName, R: Wait>(
     ensures same { OnErr result.1 (result.0 ≡ pass) }
 {
     one_event_own();
-    shared.key_info(rt, alloc, pass, key.as_slice(), t)
+    context
+        .shared
+        .key_info(context.rt, context.alloc, pass, key.as_slice(), t)
 }
 
 // What the cache tells of itself. There was no event where memory is missing.
-pub(crate) fn cache_info<N: TableName, R: Wait>(
-    rt: &R,
-    alloc: Global,
-    shared: &Shared<N>,
+pub(crate) fn cache_info<N: TableName, G: Gate, R: Wait>(
+    context: &Context<N, G, R>,
     pass: Pass,
     limited: bool,
 ) -> (Pass, Result<Graph, AllocError>)
@@ -176,14 +176,14 @@ pub(crate) fn cache_info<N: TableName, R: Wait>(
     ensures same { OnErr result.1 (result.0 ≡ pass) }
 {
     one_event_own();
-    shared.cache_info(rt, alloc, pass, limited)
+    context
+        .shared
+        .cache_info(context.rt, context.alloc, pass, limited)
 }
 
 // What the segment tells of its room. There was no event where memory is missing.
-pub(crate) fn sma_info<N: TableName, R: Wait>(
-    rt: &R,
-    alloc: Global,
-    shared: &Shared<N>,
+pub(crate) fn sma_info<N: TableName, G: Gate, R: Wait>(
+    context: &Context<N, G, R>,
     pass: Pass,
     limited: bool,
 ) -> (Pass, Result<Graph, AllocError>)
@@ -194,49 +194,51 @@ pub(crate) fn sma_info<N: TableName, R: Wait>(
     ensures same { OnErr result.1 (result.0 ≡ pass) }
 {
     one_event_own();
-    shared.sma_info(rt, alloc, pass, limited)
+    context
+        .shared
+        .sma_info(context.rt, context.alloc, pass, limited)
 }
 
 // Drops all rows.
-pub(crate) fn clear<N: TableName, R: Wait>(rt: &R, shared: &Shared<N>, pass: Pass, t: u64) -> Pass
+pub(crate) fn clear<N: TableName, G: Gate, R: Wait>(
+    context: &Context<N, G, R>,
+    pass: Pass,
+    t: u64,
+) -> Pass
     requires pass { MayAsk N.table 2 pass }
     requires whole { KnowsOwnEvents pass }
     ensures { GoesOn N.conf (length N.budgets) pass result
         (wish t request.Clear ∷ []) (Flag true ∷ []) }
 {
     one_event_own();
-    shared.clear(rt, pass, t)
+    context.shared.clear(context.rt, pass, t)
 }
 
 // The value of a key, which is copied without the lock. The fetch stands where memory is missing
-// for the copy. `index` is that of the call in its script.
+// for the copy.
 pub(crate) fn fetch<N: TableName, G: Gate, R: Wait>(
-    rt: &R,
-    alloc: Global,
-    shared: &Shared<N>,
-    gate: &G,
-    index: u32,
+    context: &Context<N, G, R>,
+    when: When,
     pass: Pass,
     key: &Bytes,
-    t: u64,
 ) -> (Pass, Result<Option<Graph>, AllocError>)
     requires pass { MayAsk N.table 2 pass }
     requires whole { KnowsOwnEvents pass }
     ensures { (y : Reply) × GoesOn N.conf (length N.budgets) pass result.0
-        (wish t (request.Fetch key.now) ∷ []) (y ∷ [])
+        (wish when.t (request.Fetch key.now) ∷ []) (y ∷ [])
         × IfOk result.1 (λ found. fetched found ≡ y) }
 {
     one_event_own();
     let worker = pass.worker();
-    match shared.pin(rt, pass, key.as_slice(), t) {
+    match context.shared.pin(context.rt, pass, key.as_slice(), when.t) {
         Pinned::Miss(pass) => (pass, Ok(None)),
         Pinned::Scalar(pass, scalar) => {
-            let value = graph_of_scalar(alloc, scalar);
+            let value = graph_of_scalar(context.alloc, scalar);
             (pass, some_of(value))
         }
         Pinned::Hit(copying) => {
-            gate.reached(worker, Point::Pinned(index));
-            let (pass, value) = shared.copy_out(alloc, copying);
+            context.gate.reached(worker, Point::Pinned(when.index));
+            let (pass, value) = context.shared.copy_out(context.alloc, copying);
             (pass, some_of(value))
         }
     }
@@ -251,34 +253,29 @@ fn some_of(value: Result<Graph, AllocError>) -> Result<Option<Graph>, AllocError
 }
 
 // The value of a key, printed as it is copied without the lock, and that it was there, or that it
-// was not. The fetch stands where memory is missing for the text. `index` is that of the call in
-// its script.
+// was not. The fetch stands where memory is missing for the text.
 pub(crate) fn fetch_text<N: TableName, G: Gate, R: Wait>(
-    rt: &R,
-    alloc: Global,
-    shared: &Shared<N>,
-    gate: &G,
-    index: u32,
+    context: &Context<N, G, R>,
+    when: When,
     pass: Pass,
     key: &Bytes,
-    t: u64,
     out: &mut ByteOut,
 ) -> (Pass, Result<(), AllocError>)
     requires pass { MayAsk N.table 2 pass }
     requires whole { KnowsOwnEvents pass }
     ensures { (y : Reply) × GoesOn N.conf (length N.budgets) pass result.0
-        (wish t (request.Fetch key.now) ∷ []) (y ∷ [])
+        (wish when.t (request.Fetch key.now) ∷ []) (y ∷ [])
         × OnOk result.1 (out.new ≡ out.old ++ fetched_one y) }
 {
     one_event_own();
     let worker = pass.worker();
-    let pinned = shared.pin(rt, pass, key.as_slice(), t);
+    let pinned = context.shared.pin(context.rt, pass, key.as_slice(), when.t);
     match pinned {
         Pinned::Miss(pass) => (pass, write_fetched(out, None)),
         Pinned::Scalar(pass, scalar) => (pass, write_scalar(out, scalar)),
         Pinned::Hit(copying) => {
-            gate.reached(worker, Point::Pinned(index));
-            let (pass, copied) = shared.copy_text(alloc, copying, out);
+            context.gate.reached(worker, Point::Pinned(when.index));
+            let (pass, copied) = context.shared.copy_text(context.alloc, copying, out);
             (pass, write_there(out, copied))
         }
     }

@@ -5,6 +5,7 @@
 mod answers;
 mod calls;
 mod chunks;
+mod context;
 mod ending;
 mod events;
 mod looks;
@@ -17,6 +18,7 @@ mod script;
 mod searching;
 mod walks;
 
+pub use context::Context;
 pub use ending::play_out;
 pub use looks::observe;
 pub use quiet::{play_out_quietly, play_quietly};

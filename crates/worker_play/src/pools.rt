@@ -18,6 +18,7 @@ ghost use Rattle.worker_play.specs.Pools.{own_key, life_of, put_as, put_of, put_
 ghost use Rattle.worker_play.specs.Turns.{turns_at, asks_at};
 
 use crate::answers::note_answer;
+use crate::context::{Context, When};
 use crate::events::{delete, exists, fetch, store};
 use crate::walks::delete_found;
 use apcu_iter::Search;
@@ -26,44 +27,35 @@ use notation::ByteOut;
 use php_graph::{Bytes, Graph};
 use pin_table::{Pass, TableName};
 use reply_text::{Notes, write_flag, write_gave, write_values};
-use shared_cache::Shared;
 use simple_pool::{POOL_STEP, PoolAsk, PoolCall, pool_key};
 use std::alloc::{AllocError, Global};
 use std::sync::Wait;
 
-// Plays a call on a pool, and prints what it answers. `index` is that of the call in its script,
-// and `search` is one for its pattern.
+// Plays a call on a pool, and prints what it answers. `search` is one for its pattern.
 #[inline(never)]
 pub(crate) fn play_pool<N: TableName, G: Gate, R: Wait>(
-    rt: &R,
-    alloc: Global,
-    shared: &Shared<N>,
-    gate: &G,
-    index: u32,
-    slots: u32,
+    context: &Context<N, G, R>,
+    when: When,
     pass: Pass,
     call: &PoolCall,
     search: &mut Search,
-    t: u64,
     out: &mut ByteOut,
 ) -> (Pass, Result<(), AllocError>)
     requires table { pass.table ≡ N.table }
     requires whole { KnowsOwnEvents pass }
-    requires slots { slots ≡ N.conf.slots }
+    requires slots { context.now.slots ≡ N.conf.slots }
     requires left { pool_bound N.conf.slots call.now.ask < pass.known.left }
     requires good { IsGoodCall call.now }
     requires search { search.old ≡ ask_pattern call.now.pool call.now.ask }
     ensures reaches { Reaches N.conf (length N.budgets) pass result.0
-        (turns_at t (next_of N.conf (Pool call.now))) }
+        (turns_at when.t (next_of N.conf (Pool call.now))) }
     ensures line { OnOk result.1 (Tells N.conf (length N.budgets) pass result.0
-        (turns_at t (next_of N.conf (Pool call.now)))
+        (turns_at when.t (next_of N.conf (Pool call.now)))
         (λ replies. out.old ++ pool_text call.now.ask replies) out.new) }
 {
-    match own_key(alloc, call) {
-        Ok(Some(own)) => play_on_key(rt, alloc, shared, gate, index, pass, call, &own, t, out),
-        Ok(None) => play_on_keys(
-            rt, alloc, shared, gate, index, slots, pass, call, search, t, out,
-        ),
+    match own_key(context.alloc, call) {
+        Ok(Some(own)) => play_on_key(context, when, pass, call, &own, out),
+        Ok(None) => play_on_keys(context, when, pass, call, search, out),
         Err(e) => (pass, Err(e)),
     }
 }
@@ -88,15 +80,11 @@ fn own_key(alloc: Global, call: &PoolCall) -> Result<Option<Bytes>, AllocError>
 
 // Plays a call on one key, which the pool keeps under this key of the cache.
 fn play_on_key<N: TableName, G: Gate, R: Wait>(
-    rt: &R,
-    alloc: Global,
-    shared: &Shared<N>,
-    gate: &G,
-    index: u32,
+    context: &Context<N, G, R>,
+    when: When,
     pass: Pass,
     call: &PoolCall,
     own: &Bytes,
-    t: u64,
     out: &mut ByteOut,
 ) -> (Pass, Result<(), AllocError>)
     requires pass { MayAsk N.table 2 pass }
@@ -104,33 +92,33 @@ fn play_on_key<N: TableName, G: Gate, R: Wait>(
     requires good { IsGoodCall call.now }
     requires own { own_key call.now.pool call.now.ask ≡ Some own.now }
     ensures reaches { Reaches N.conf (length N.budgets) pass result.0
-        (turns_at t (next_of N.conf (Pool call.now))) }
+        (turns_at when.t (next_of N.conf (Pool call.now))) }
     ensures line { OnOk result.1 (Tells N.conf (length N.budgets) pass result.0
-        (turns_at t (next_of N.conf (Pool call.now)))
+        (turns_at when.t (next_of N.conf (Pool call.now)))
         (λ replies. out.old ++ pool_text call.now.ask replies) out.new) }
 {
     match &call.ask {
         PoolAsk::Get(_, default) => {
-            let (pass, found) = fetch(rt, alloc, shared, gate, index, pass, own, t);
+            let (pass, found) = fetch(context, when, pass, own);
             match found {
                 Ok(found) => (pass, write_gave(out, found.as_ref().unwrap_or(default))),
                 Err(e) => (pass, Err(e)),
             }
         }
         PoolAsk::Set(_, value, ttl) => {
-            let (pass, done) = put(rt, shared, pass, own, value, life_of(*ttl), t);
+            let (pass, done) = put(context, pass, own, value, life_of(*ttl), when.t);
             (pass, write_flag(out, done))
         }
         PoolAsk::SetPlain(_, value) => {
-            let (pass, stored) = store(rt, shared, pass, own, value, 0, false, t);
+            let (pass, stored) = store(context, pass, own, value, 0, false, when.t);
             (pass, write_flag(out, stored))
         }
         PoolAsk::Delete(_) => {
-            let (pass, _there) = delete(rt, shared, pass, own, t);
+            let (pass, _there) = delete(context, pass, own, when.t);
             (pass, write_flag(out, true))
         }
         PoolAsk::Has(_) => {
-            let (pass, there) = exists(rt, shared, pass, own, t);
+            let (pass, there) = exists(context, pass, own, when.t);
             (pass, write_flag(out, there))
         }
         _ => unreachable!(),
@@ -139,83 +127,42 @@ fn play_on_key<N: TableName, G: Gate, R: Wait>(
 
 // Plays a call on several keys, or on all of the pool. `search` is one for its pattern.
 fn play_on_keys<N: TableName, G: Gate, R: Wait>(
-    rt: &R,
-    alloc: Global,
-    shared: &Shared<N>,
-    gate: &G,
-    index: u32,
-    slots: u32,
+    context: &Context<N, G, R>,
+    when: When,
     pass: Pass,
     call: &PoolCall,
     search: &mut Search,
-    t: u64,
     out: &mut ByteOut,
 ) -> (Pass, Result<(), AllocError>)
     requires table { pass.table ≡ N.table }
     requires whole { KnowsOwnEvents pass }
-    requires slots { slots ≡ N.conf.slots }
+    requires slots { context.now.slots ≡ N.conf.slots }
     requires left { pool_bound N.conf.slots call.now.ask < pass.known.left }
     requires good { IsGoodCall call.now }
     requires search { search.old ≡ ask_pattern call.now.pool call.now.ask }
     requires several { own_key call.now.pool call.now.ask ≡ None }
     ensures reaches { Reaches N.conf (length N.budgets) pass result.0
-        (turns_at t (next_of N.conf (Pool call.now))) }
+        (turns_at when.t (next_of N.conf (Pool call.now))) }
     ensures line { OnOk result.1 (Tells N.conf (length N.budgets) pass result.0
-        (turns_at t (next_of N.conf (Pool call.now)))
+        (turns_at when.t (next_of N.conf (Pool call.now)))
         (λ replies. out.old ++ pool_text call.now.ask replies) out.new) }
 {
     let pool = &call.pool;
     match &call.ask {
-        PoolAsk::Clear => delete_found(
-            rt, alloc, shared, gate, index, slots, pass, search, POOL_STEP, t, out,
-        ),
+        PoolAsk::Clear => delete_found(context, when, pass, search, POOL_STEP, out),
         PoolAsk::GetMany(keys, default) => {
             let count = keys.len();
             prove!(count <= u32::MAX);
-            get_all(
-                rt,
-                alloc,
-                shared,
-                gate,
-                index,
-                pass,
-                pool,
-                keys.as_slice(),
-                default,
-                t,
-                out,
-            )
+            get_all(context, when, pass, pool, keys.as_slice(), default, out)
         }
         PoolAsk::SetMany(pairs, ttl) => {
             let life = life_of(*ttl);
-            put_all(
-                rt,
-                alloc,
-                shared,
-                pass,
-                pool,
-                pairs.as_slice(),
-                life,
-                t,
-                out,
-            )
+            put_all(context, pass, pool, pairs.as_slice(), life, when.t, out)
         }
         PoolAsk::SetManyPlain(pairs) => {
-            put_all(
-                rt,
-                alloc,
-                shared,
-                pass,
-                pool,
-                pairs.as_slice(),
-                Some(0),
-                t,
-                out,
-            )
+            put_all(context, pass, pool, pairs.as_slice(), Some(0), when.t, out)
         }
-        PoolAsk::DeleteMany(keys) => {
-            drop_all(rt, alloc, shared, pass, pool, keys.as_slice(), t, out)
-        }
+        PoolAsk::DeleteMany(keys) => { drop_all(context, pass, pool, keys.as_slice(), when.t, out) }
         _ => unreachable!(),
     }
 }
@@ -230,9 +177,8 @@ fn life_of(ttl: i64) -> Option<u32>
 
 // Keeps a value under a key of the cache, or deletes the key where it is not kept. Whether that was
 // done.
-fn put<N: TableName, R: Wait>(
-    rt: &R,
-    shared: &Shared<N>,
+fn put<N: TableName, G: Gate, R: Wait>(
+    context: &Context<N, G, R>,
     pass: Pass,
     own: &Bytes,
     value: &Graph,
@@ -246,9 +192,9 @@ fn put<N: TableName, R: Wait>(
         × (result.1 ≡ put_done life y) }
 {
     match life {
-        Some(ttl) => store(rt, shared, pass, own, value, ttl, false, t),
+        Some(ttl) => store(context, pass, own, value, ttl, false, t),
         None => {
-            let (pass, _there) = delete(rt, shared, pass, own, t);
+            let (pass, _there) = delete(context, pass, own, t);
             (pass, true)
         }
     }
@@ -258,16 +204,12 @@ fn put<N: TableName, R: Wait>(
 // what was found or the default.
 #[inline(never)]
 fn get_all<N: TableName, G: Gate, R: Wait>(
-    rt: &R,
-    alloc: Global,
-    shared: &Shared<N>,
-    gate: &G,
-    index: u32,
+    context: &Context<N, G, R>,
+    when: When,
     pass: Pass,
     pool: &Bytes,
     keys: &[Bytes],
     default: &Graph,
-    t: u64,
     out: &mut ByteOut,
 ) -> (Pass, Result<(), AllocError>)
     requires table { pass.table ≡ N.table }
@@ -277,19 +219,19 @@ fn get_all<N: TableName, G: Gate, R: Wait>(
     requires named { is_good_name pool.now ≡ true }
     requires good { are_good_keys keys.now ≡ true }
     ensures reaches { Reaches N.conf (length N.budgets) pass result.0
-        (asks_at t (map (λ key. request.Fetch (pool_key pool.now key)) keys.now)) }
+        (asks_at when.t (map (λ key. request.Fetch (pool_key pool.now key)) keys.now)) }
     ensures line { OnOk result.1 (Tells N.conf (length N.budgets) pass result.0
-        (asks_at t (map (λ key. request.Fetch (pool_key pool.now key)) keys.now))
+        (asks_at when.t (map (λ key. request.Fetch (pool_key pool.now key)) keys.now))
         (λ replies. out.old ++ got_all_text default.now keys.now replies) out.new) }
 {
     let mut held = pass;
-    let mut answers = Notes::new(alloc);
+    let mut answers = Notes::new(context.alloc);
     for key in keys {
-        let own = match pool_key(alloc, pool.as_slice(), key.as_slice()) {
+        let own = match pool_key(context.alloc, pool.as_slice(), key.as_slice()) {
             Ok(own) => own,
             Err(e) => return (held, Err(e)),
         };
-        let (next, found) = fetch(rt, alloc, shared, gate, index, held, &own, t);
+        let (next, found) = fetch(context, when, held, &own);
         held = next;
         if let Err(e) = note_answer(&mut answers, key, found, default) {
             return (held, Err(e));
@@ -300,10 +242,8 @@ fn get_all<N: TableName, G: Gate, R: Wait>(
 
 // Sets all pairs of a pool in their order, and prints whether all was done.
 #[inline(never)]
-fn put_all<N: TableName, R: Wait>(
-    rt: &R,
-    alloc: Global,
-    shared: &Shared<N>,
+fn put_all<N: TableName, G: Gate, R: Wait>(
+    context: &Context<N, G, R>,
     pass: Pass,
     pool: &Bytes,
     pairs: &[(Bytes, Graph)],
@@ -325,11 +265,11 @@ fn put_all<N: TableName, R: Wait>(
     let mut held = pass;
     let mut all = true;
     for pair in pairs {
-        let own = match pool_key(alloc, pool.as_slice(), pair.0.as_slice()) {
+        let own = match pool_key(context.alloc, pool.as_slice(), pair.0.as_slice()) {
             Ok(own) => own,
             Err(e) => return (held, Err(e)),
         };
-        let (next, done) = put(rt, shared, held, &own, &pair.1, life, t);
+        let (next, done) = put(context, held, &own, &pair.1, life, t);
         held = next;
         all = both(all, done);
     }
@@ -344,10 +284,8 @@ fn both(a: bool, b: bool) -> bool
 
 // Deletes all these keys of a pool in their order, and prints that it was done.
 #[inline(never)]
-fn drop_all<N: TableName, R: Wait>(
-    rt: &R,
-    alloc: Global,
-    shared: &Shared<N>,
+fn drop_all<N: TableName, G: Gate, R: Wait>(
+    context: &Context<N, G, R>,
     pass: Pass,
     pool: &Bytes,
     keys: &[Bytes],
@@ -367,11 +305,11 @@ fn drop_all<N: TableName, R: Wait>(
 {
     let mut held = pass;
     for key in keys {
-        let own = match pool_key(alloc, pool.as_slice(), key.as_slice()) {
+        let own = match pool_key(context.alloc, pool.as_slice(), key.as_slice()) {
             Ok(own) => own,
             Err(e) => return (held, Err(e)),
         };
-        let (next, _there) = delete(rt, shared, held, &own, t);
+        let (next, _there) = delete(context, held, &own, t);
         held = next;
     }
     (held, write_flag(out, true))

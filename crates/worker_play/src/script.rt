@@ -13,15 +13,15 @@ ghost use Rattle.worker_play.specs.Goes.{KnowsOwnEvents, Reaches, Tells};
 ghost use Rattle.worker_play.specs.Turns.{turns_at, turns_of};
 ghost use Rattle.worker_play.specs.declared.script.PlayFault.TheVariants.{Memory, Pattern};
 
+use crate::context::{Context, When};
 use crate::searching::play_call;
 use apcu_iter::Maker;
-use apcu_model::{Clock, Conf};
+use apcu_model::Clock;
 use io_edges::{Gate, Point};
 use notation::ByteOut;
 use pin_table::{Pass, TableName};
 use script_read::{Call, Script};
-use shared_cache::Shared;
-use std::alloc::{AllocError, Global};
+use std::alloc::AllocError;
 use std::sync::Wait;
 
 /// Why a worker's script was not played to its end.
@@ -44,39 +44,36 @@ impl From<AllocError> for PlayFault {
 // A call at its moment, and its line. The gate is reached before the call, and after it where it
 // was played.
 pub(crate) fn play_step<N: TableName, M: Maker, G: Gate, R: Wait>(
-    rt: &R,
-    alloc: Global,
-    shared: &Shared<N>,
+    context: &Context<N, G, R>,
     maker: &M,
-    gate: &G,
-    index: u32,
-    slots: u32,
+    when: When,
     pass: Pass,
     call: &Call,
-    t: u64,
     out: &mut ByteOut,
 ) -> (Pass, Result<(), PlayFault>)
     requires table { pass.table ≡ N.table }
     requires whole { KnowsOwnEvents pass }
-    requires slots { slots ≡ N.conf.slots }
+    requires slots { context.now.slots ≡ N.conf.slots }
     requires left { event_bound N.conf.slots call.now < pass.known.left }
     requires ranges { HasRanges call.now }
     ensures reaches { Reaches N.conf (length N.budgets) pass result.0
-        (turns_at t (next_of N.conf call.now)) }
+        (turns_at when.t (next_of N.conf call.now)) }
     ensures line { OnOk result.1 (Tells N.conf (length N.budgets) pass result.0
-        (turns_at t (next_of N.conf call.now))
+        (turns_at when.t (next_of N.conf call.now))
         (λ replies. out.old ++ (call_text call.now replies ++ ends_line)) out.new) }
     ensures pattern { IfErr result.1 (λ fault. fault ≡ Pattern
         → MayBeRefused (M.may_refuse maker.now) (call_pattern call.now)) }
 {
-    gate.reached(pass.worker(), Point::Before(index));
-    let (pass, played) = play_call(
-        rt, alloc, shared, maker, gate, index, slots, pass, call, t, out,
-    );
+    context
+        .gate
+        .reached(pass.worker(), Point::Before(when.index));
+    let (pass, played) = play_call(context, maker, when, pass, call, out);
     match played {
         Ok(()) => {
             let ended = end_line(out);
-            gate.reached(pass.worker(), Point::After(index));
+            context
+                .gate
+                .reached(pass.worker(), Point::After(when.index));
             (pass, ended)
         }
         Err(fault) => (pass, Err(fault)),
@@ -94,12 +91,8 @@ fn end_line(out: &mut ByteOut) -> Result<(), PlayFault>
 
 // All steps of a script, each at its moment under the clock, with their lines.
 fn play_steps<N: TableName, M: Maker, G: Gate, R: Wait>(
-    rt: &R,
-    alloc: Global,
-    shared: &Shared<N>,
+    context: &Context<N, G, R>,
     maker: &M,
-    gate: &G,
-    slots: u32,
     pass: Pass,
     script: &Script,
     clock: Clock,
@@ -107,7 +100,7 @@ fn play_steps<N: TableName, M: Maker, G: Gate, R: Wait>(
 ) -> (Pass, Result<(), PlayFault>)
     requires table { pass.table ≡ N.table }
     requires whole { KnowsOwnEvents pass }
-    requires slots { slots ≡ N.conf.slots }
+    requires slots { context.now.slots ≡ N.conf.slots }
     requires left { events_in N.conf.slots script.now < pass.known.left }
     ensures reaches { Reaches N.conf (length N.budgets) pass result.0
         (turns_of N.conf (timed clock script.now)) }
@@ -121,9 +114,8 @@ fn play_steps<N: TableName, M: Maker, G: Gate, R: Wait>(
     for index in 0..script.len() {
         let step = script.at(index);
         let t = step.moment(clock);
-        let (next, played) = play_step(
-            rt, alloc, shared, maker, gate, index, slots, held, &step.call, t, out,
-        );
+        let when = When { index, t };
+        let (next, played) = play_step(context, maker, when, held, &step.call, out);
         held = next;
         if let Err(fault) = played {
             return (held, Err(fault));
@@ -149,35 +141,29 @@ fn play_steps<N: TableName, M: Maker, G: Gate, R: Wait>(
 /// Without memory the worker stops, and also where a pattern of its script is none or is refused:
 /// some first of the events were made, and they stand.
 pub fn play_script<N: TableName, M: Maker + Sync, G: Gate, R: Wait>(
-    rt: &R,
-    alloc: Global,
-    conf: &Conf,
-    shared: &Shared<N>,
+    context: &Context<N, G, R>,
+    maker: &M,
     pass: Pass,
     script: &Script,
-    maker: &M,
-    gate: &G,
     clock: Clock,
 ) -> (Pass, Result<ByteOut, PlayFault>)
-    requires conf { conf.now ≡ N.conf }
+    requires slots { context.now.slots ≡ N.conf.slots }
     requires table { pass.table ≡ N.table }
     requires no_event { pass.known.own ≡ [] }
     requires whole { KnowsOwnEvents pass }
-    requires left { events_in conf.now.slots script.now < pass.known.left }
+    requires left { events_in N.conf.slots script.now < pass.known.left }
     ensures reaches { Reaches N.conf (length N.budgets) pass result.0
         (turns_of N.conf (timed clock script.now)) }
     ensures lines { IfOk result.1 (λ out. Tells N.conf (length N.budgets) pass result.0
         (turns_of N.conf (timed clock script.now))
-        (script_lines conf.now (timed clock script.now)) out) }
+        (script_lines N.conf (timed clock script.now)) out) }
     ensures left { pass.known.left
-        ≤ result.0.known.left + events_in conf.now.slots script.now }
+        ≤ result.0.known.left + events_in N.conf.slots script.now }
     ensures pattern { IfErr result.1 (λ fault. fault ≡ Pattern
         → HasRefusable (M.may_refuse maker.now) script.now) }
 {
-    let mut out = ByteOut::new(alloc);
-    let (pass, played) = play_steps(
-        rt, alloc, shared, maker, gate, conf.slots, pass, script, clock, &mut out,
-    );
+    let mut out = ByteOut::new(context.alloc);
+    let (pass, played) = play_steps(context, maker, pass, script, clock, &mut out);
     match played {
         Ok(()) => (pass, Ok(out)),
         Err(fault) => (pass, Err(fault)),

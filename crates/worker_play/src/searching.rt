@@ -11,6 +11,7 @@ ghost use Rattle.worker_play.specs.Turns.{turns_at};
 ghost use Rattle.worker_play.specs.declared.script.PlayFault.TheVariants.{Pattern};
 
 use crate::calls::{play_directly, play_searching};
+use crate::context::{Context, When};
 use crate::patterns::search_of;
 use crate::script::PlayFault;
 use apcu_iter::Maker;
@@ -18,45 +19,36 @@ use io_edges::Gate;
 use notation::ByteOut;
 use pin_table::{Pass, TableName};
 use script_read::Call;
-use shared_cache::Shared;
-use std::alloc::Global;
 use std::sync::Wait;
 
-// Plays a call, and prints what it answers. `index` is that of the call in its script.
+// Plays a call, and prints what it answers.
 pub(crate) fn play_call<N: TableName, M: Maker, G: Gate, R: Wait>(
-    rt: &R,
-    alloc: Global,
-    shared: &Shared<N>,
+    context: &Context<N, G, R>,
     maker: &M,
-    gate: &G,
-    index: u32,
-    slots: u32,
+    when: When,
     pass: Pass,
     call: &Call,
-    t: u64,
     out: &mut ByteOut,
 ) -> (Pass, Result<(), PlayFault>)
     requires table { pass.table ≡ N.table }
     requires whole { KnowsOwnEvents pass }
-    requires slots { slots ≡ N.conf.slots }
+    requires slots { context.now.slots ≡ N.conf.slots }
     requires left { event_bound N.conf.slots call.now < pass.known.left }
     requires ranges { HasRanges call.now }
     ensures reaches { Reaches N.conf (length N.budgets) pass result.0
-        (turns_at t (next_of N.conf call.now)) }
+        (turns_at when.t (next_of N.conf call.now)) }
     ensures line { OnOk result.1 (Tells N.conf (length N.budgets) pass result.0
-        (turns_at t (next_of N.conf call.now))
+        (turns_at when.t (next_of N.conf call.now))
         (λ replies. out.old ++ call_text call.now replies) out.new) }
     ensures pattern { IfErr result.1 (λ fault. fault ≡ Pattern
         → MayBeRefused (M.may_refuse maker.now) (call_pattern call.now)) }
 {
     match call {
         Call::Walk { .. } | Call::WalkDelete { .. } | Call::Totals { .. } | Call::Pool(_) => {
-            play_by_search(
-                rt, alloc, shared, maker, gate, index, slots, pass, call, t, out,
-            )
+            play_by_search(context, maker, when, pass, call, out)
         }
         _ => {
-            let (pass, played) = play_directly(rt, alloc, shared, gate, index, pass, call, t, out);
+            let (pass, played) = play_directly(context, when, pass, call, out);
             match played {
                 Ok(()) => (pass, Ok(())),
                 Err(_) => (pass, Err(PlayFault::Memory)),
@@ -69,49 +61,32 @@ pub(crate) fn play_call<N: TableName, M: Maker, G: Gate, R: Wait>(
 // it is made with is large, and stays out of the caller's frame.
 #[inline(never)]
 fn play_by_search<N: TableName, M: Maker, G: Gate, R: Wait>(
-    rt: &R,
-    alloc: Global,
-    shared: &Shared<N>,
+    context: &Context<N, G, R>,
     maker: &M,
-    gate: &G,
-    index: u32,
-    slots: u32,
+    when: When,
     pass: Pass,
     call: &Call,
-    t: u64,
     out: &mut ByteOut,
 ) -> (Pass, Result<(), PlayFault>)
     requires table { pass.table ≡ N.table }
     requires whole { KnowsOwnEvents pass }
-    requires slots { slots ≡ N.conf.slots }
+    requires slots { context.now.slots ≡ N.conf.slots }
     requires left { event_bound N.conf.slots call.now < pass.known.left }
     requires ranges { HasRanges call.now }
     requires searches { MayNeedSearch call.now }
     ensures reaches { Reaches N.conf (length N.budgets) pass result.0
-        (turns_at t (next_of N.conf call.now)) }
+        (turns_at when.t (next_of N.conf call.now)) }
     ensures line { OnOk result.1 (Tells N.conf (length N.budgets) pass result.0
-        (turns_at t (next_of N.conf call.now))
+        (turns_at when.t (next_of N.conf call.now))
         (λ replies. out.old ++ call_text call.now replies) out.new) }
     ensures pattern { IfErr result.1 (λ fault. fault ≡ Pattern
         → MayBeRefused (M.may_refuse maker.now) (call_pattern call.now)) }
 {
-    let mut search = match search_of(alloc, maker, call) {
+    let mut search = match search_of(context.alloc, maker, call) {
         Ok(search) => search,
         Err(fault) => return (pass, Err(fault)),
     };
-    let (pass, played) = play_searching(
-        rt,
-        alloc,
-        shared,
-        gate,
-        index,
-        slots,
-        pass,
-        call,
-        &mut search,
-        t,
-        out,
-    );
+    let (pass, played) = play_searching(context, when, pass, call, &mut search, out);
     match played {
         Ok(()) => (pass, Ok(())),
         Err(_) => (pass, Err(PlayFault::Memory)),

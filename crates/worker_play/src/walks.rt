@@ -14,14 +14,14 @@ ghost use Rattle.worker_play.specs.Goes.{KnowsOwnEvents, Reaches, Tells};
 ghost use Rattle.worker_play.specs.Turns.{asks_at, steps_at};
 
 use crate::chunks::{chunk, chunk_delete};
+use crate::context::{Context, When};
 use apcu_iter::Search;
 use apcu_model::{Chunk, Fields, List, Reply};
 use io_edges::Gate;
 use notation::ByteOut;
 use pin_table::{Pass, TableName};
 use reply_text::{write_flag, write_walk};
-use shared_cache::Shared;
-use std::alloc::{AllocError, Global};
+use std::alloc::AllocError;
 use std::sync::Wait;
 
 // The slot from which an iterator goes on after a step that went up to `end`.
@@ -46,51 +46,44 @@ fn keep(steps: &mut Vec<Reply>, made: Result<Chunk, AllocError>) -> Result<u32, 
 
 // Goes over the active rows that the search finds, and prints the items of all steps.
 pub(crate) fn walk_active<N: TableName, G: Gate, R: Wait>(
-    rt: &R,
-    alloc: Global,
-    shared: &Shared<N>,
-    gate: &G,
-    index: u32,
-    slots: u32,
+    context: &Context<N, G, R>,
+    when: When,
     pass: Pass,
     search: &mut Search,
     size: u32,
     fields: Fields,
-    t: u64,
     out: &mut ByteOut,
 ) -> (Pass, Result<(), AllocError>)
     requires table { pass.table ≡ N.table }
     requires whole { KnowsOwnEvents pass }
-    requires slots { slots ≡ N.conf.slots }
-    requires left { slots < pass.known.left }
+    requires slots { context.now.slots ≡ N.conf.slots }
+    requires left { context.now.slots < pass.known.left }
     requires size { 0 < size }
     ensures reaches { Reaches N.conf (length N.budgets) pass result.0
-        (steps_at t slots (λ from. request.Chunk search.old from size Active fields) 0) }
+        (steps_at when.t context.now.slots
+        (λ from. request.Chunk search.old from size Active fields) 0) }
     ensures line { OnOk result.1 (Tells N.conf (length N.budgets) pass result.0
-        (steps_at t slots (λ from. request.Chunk search.old from size Active fields) 0)
+        (steps_at when.t context.now.slots
+        (λ from. request.Chunk search.old from size Active fields) 0)
         (λ replies. out.old ++ walk_text fields replies) out.new) }
 {
     let mut held = pass;
-    let mut steps = Vec::new(alloc);
+    let mut steps = Vec::new(context.alloc);
     let mut from = 0;
-    'walking: while from < slots {
+    'walking: while from < context.slots {
         let (next, made) = chunk(
-            rt,
-            alloc,
-            shared,
-            gate,
-            index,
+            context,
+            when,
             held,
             search,
             from,
             size,
             List::Active,
             fields,
-            t,
         );
         held = next;
         match keep(&mut steps, made) {
-            Ok(end) => from = next_slot(slots, from, end),
+            Ok(end) => from = next_slot(context.slots, from, end),
             Err(e) => return (held, Err(e)),
         }
     }
@@ -99,41 +92,24 @@ pub(crate) fn walk_active<N: TableName, G: Gate, R: Wait>(
 
 // Goes over the removed rows that the search finds, all in one step, and prints their items.
 pub(crate) fn walk_deleted<N: TableName, G: Gate, R: Wait>(
-    rt: &R,
-    alloc: Global,
-    shared: &Shared<N>,
-    gate: &G,
-    index: u32,
+    context: &Context<N, G, R>,
+    when: When,
     pass: Pass,
     search: &mut Search,
     size: u32,
     fields: Fields,
-    t: u64,
     out: &mut ByteOut,
 ) -> (Pass, Result<(), AllocError>)
     requires pass { MayAsk N.table 2 pass }
     requires whole { KnowsOwnEvents pass }
     requires size { 0 < size }
     ensures reaches { Reaches N.conf (length N.budgets) pass result.0
-        (asks_at t (request.Chunk search.old 0 size Deleted fields ∷ [])) }
+        (asks_at when.t (request.Chunk search.old 0 size Deleted fields ∷ [])) }
     ensures line { OnOk result.1 (Tells N.conf (length N.budgets) pass result.0
-        (asks_at t (request.Chunk search.old 0 size Deleted fields ∷ []))
+        (asks_at when.t (request.Chunk search.old 0 size Deleted fields ∷ []))
         (λ replies. out.old ++ walk_text fields replies) out.new) }
 {
-    let (pass, made) = chunk(
-        rt,
-        alloc,
-        shared,
-        gate,
-        index,
-        pass,
-        search,
-        0,
-        size,
-        List::Deleted,
-        fields,
-        t,
-    );
+    let (pass, made) = chunk(context, when, pass, search, 0, size, List::Deleted, fields);
     match made {
         Ok(chunk) => (pass, write_walk(out, fields, &[Reply::Chunk(chunk)])),
         Err(e) => (pass, Err(e)),
@@ -142,38 +118,33 @@ pub(crate) fn walk_deleted<N: TableName, G: Gate, R: Wait>(
 
 // Deletes the active rows that the search finds, and prints that it was done.
 pub(crate) fn delete_found<N: TableName, G: Gate, R: Wait>(
-    rt: &R,
-    alloc: Global,
-    shared: &Shared<N>,
-    gate: &G,
-    index: u32,
-    slots: u32,
+    context: &Context<N, G, R>,
+    when: When,
     pass: Pass,
     search: &mut Search,
     size: u32,
-    t: u64,
     out: &mut ByteOut,
 ) -> (Pass, Result<(), AllocError>)
     requires table { pass.table ≡ N.table }
     requires whole { KnowsOwnEvents pass }
-    requires slots { slots ≡ N.conf.slots }
-    requires left { slots < pass.known.left }
+    requires slots { context.now.slots ≡ N.conf.slots }
+    requires left { context.now.slots < pass.known.left }
     requires size { 0 < size }
     ensures reaches { Reaches N.conf (length N.budgets) pass result.0
-        (steps_at t slots (λ from. request.ChunkDelete search.old from size) 0) }
+        (steps_at when.t context.now.slots
+        (λ from. request.ChunkDelete search.old from size) 0) }
     ensures line { OnOk result.1 (Tells N.conf (length N.budgets) pass result.0
-        (steps_at t slots (λ from. request.ChunkDelete search.old from size) 0)
+        (steps_at when.t context.now.slots
+        (λ from. request.ChunkDelete search.old from size) 0)
         (λ replies. out.old ++ flag_text true) out.new) }
 {
     let mut held = pass;
     let mut from = 0;
-    'deleting: while from < slots {
-        let (next, deleted) = chunk_delete(
-            rt, alloc, shared, gate, index, held, search, from, size, t,
-        );
+    'deleting: while from < context.slots {
+        let (next, deleted) = chunk_delete(context, when, held, search, from, size);
         held = next;
         match deleted {
-            Ok(end) => from = next_slot(slots, from, end),
+            Ok(end) => from = next_slot(context.slots, from, end),
             Err(e) => return (held, Err(e)),
         }
     }

@@ -1,5 +1,5 @@
 use Rattle.std.proofs.Common.{◌≡◌, ◌-◌, ◌≤◌, sym, subst, arith, suc, ℕ, length, ◌∙◌}
-use Rattle.std.specs.Prelude.{List, Some}
+use Rattle.std.specs.Prelude.{Some}
 use Rattle.std.specs.Result.{result_ok}
 use Rattle.pin_table.specs.Values.{PassView}
 use Rattle.script_read.specs.Clock.{timed, all_timed}
@@ -13,14 +13,14 @@ pub returns-in-Together-clause-all : goal.returns-in-Together-clause-all
 returns-in-Together-clause-all g c =
     let ended = c.play_crew-ended.result.1.ended in
     let texts = c.play_crew-ended.result.2.items in
-    subst (λ n. AllEnd g.N.TableName.table g.N.TableName.conf (all_timed c.args.clock c.args.scripts.now) n ended texts) c.len-count.ensures c.play_crew-ended.ensures.all
+    subst (λ n. AllEnd g.N.TableName.table g.N.TableName.conf (all_timed c.args.cast.now.clock c.args.cast.now.scripts.now) n ended texts) c.len-count.ensures c.play_crew-ended.ensures.all
 
 pub returns-in-Some-clause-all : goal.returns-in-Some-clause-all
 returns-in-Some-clause-all g c =
     let table = g.N.TableName.table in
     let conf = g.N.TableName.conf in
-    let clock = c.args.clock in
-    let scripts = c.args.scripts.now in
+    let clock = c.args.cast.now.clock in
+    let scripts = c.args.cast.now.scripts.now in
     let front = c.play_crew-first.result in
     let script = c.last_worker-pass.result.1.now in
     let text = c.play_out-end.result.1 in
@@ -38,12 +38,12 @@ returns-in-Some-clause-all g c =
 pub returns-in-Some-clause-pattern : goal.returns-in-Some-clause-pattern
 returns-in-Some-clause-pattern g c =
     let front = c.play_crew-first.result in
-    refusable_with (g.M.Maker.may_refuse c.args.maker.now) c.args.scripts.now (c.len-count.result - 1) front.2.items c.push_reserved.new.self.items c.last_worker-pass.result.1.now c.play_out-end.result.1
+    refusable_with (g.M.Maker.may_refuse c.args.cast.now.maker.now) c.args.cast.now.scripts.now (c.len-count.result - 1) front.2.items c.push_reserved.new.self.items c.last_worker-pass.result.1.now c.play_out-end.result.1
     c.last_worker-pass.ensures.script c.play_crew-first.ensures.pattern c.play_out-end.ensures.pattern c.push_reserved.ensures.items
 
 pub returns-in-Some-clause-first : goal.returns-in-Some-clause-first
 returns-in-Some-clause-first g c = λ _.
-    let scripts = c.args.scripts.now in
+    let scripts = c.args.cast.now.scripts.now in
     let end = c.in-Some.end in
     let n : ℕ = c.len-count.result - 1 in
     let some : 1 ≤ length scripts = c.requires.some c.in-LastFirst.is in

@@ -31,14 +31,14 @@ pub returns-in-Err-clause-reaches : goal.returns-in-Err-clause-reaches
 returns-in-Err-clause-reaches g c =
     let keys : List (List ℕ) = c.args.keys.now in
     let split = drop_item keys c.loop-key.key-index c.key-item.result c.loop-key-test.true c.key-item.is in
-    let m = subst (λ (l : List (List ℕ)). Midway g.N.TableName.conf (length g.N.TableName.budgets) c.args.pass c.loop-key.held (asks_at c.args.t (map Fetch keys)) (asks_at c.args.t (map Fetch l)) (all_noted value_in [] keys) (all_noted value_in c.loop-key.values l)) split c.loop-key.invariant.midway in
+    let m = subst (λ (l : List (List ℕ)). Midway g.N.TableName.conf (length g.N.TableName.budgets) c.args.pass c.loop-key.held (asks_at c.args.when.t (map Fetch keys)) (asks_at c.args.when.t (map Fetch l)) (all_noted value_in [] keys) (all_noted value_in c.loop-key.values l)) split c.loop-key.invariant.midway in
     reached_one _ _ _ _ _ _ _ _ _ _ (all_noted value_in [] keys) (all_noted value_in c.loop-key.values (c.key-item.result ∷ drop (c.loop-key.key-index + 1) keys)) m c.fetch-next.ensures.1
 
 pub loop-key-preserved : goal.loop-key-preserved
 loop-key-preserved g c =
     let keys : List (List ℕ) = c.args.keys.now in
     let split = drop_item keys c.loop-key.key-index c.key-item.result c.loop-key-test.true c.key-item.is in
-    let m = subst (λ (l : List (List ℕ)). Midway g.N.TableName.conf (length g.N.TableName.budgets) c.args.pass c.loop-key.held (asks_at c.args.t (map Fetch keys)) (asks_at c.args.t (map Fetch l)) (all_noted value_in [] keys) (all_noted value_in c.loop-key.values l)) split c.loop-key.invariant.midway in
+    let m = subst (λ (l : List (List ℕ)). Midway g.N.TableName.conf (length g.N.TableName.budgets) c.args.pass c.loop-key.held (asks_at c.args.when.t (map Fetch keys)) (asks_at c.args.when.t (map Fetch l)) (all_noted value_in [] keys) (all_noted value_in c.loop-key.values l)) split c.loop-key.invariant.midway in
     record {
       table = c.fetch-next.ensures.1.table ∙ c.loop-key.invariant.table;
       whole = c.fetch-next.ensures.1.all_own;
@@ -53,8 +53,8 @@ pub returns-clause-line : goal.returns-clause-line
 returns-clause-line g c =
     let keys : List (List ℕ) = c.args.keys.now in
     let past : length keys ≤ c.loop-key.key-index = omega (arith, c.loop-key-test.false) in
-    let m = subst (λ (l : List (List ℕ)). Midway g.N.TableName.conf (length g.N.TableName.budgets) c.args.pass c.loop-key.held (asks_at c.args.t (map Fetch keys)) (asks_at c.args.t (map Fetch l)) (all_noted value_in [] keys) (all_noted value_in c.loop-key.values l)) (drop_of_length-le keys past) c.loop-key.invariant.midway in
-    let t = noted_ends _ _ _ _ _ c.args.t value_in (all_noted value_in [] keys) c.loop-key.values m in
+    let m = subst (λ (l : List (List ℕ)). Midway g.N.TableName.conf (length g.N.TableName.budgets) c.args.pass c.loop-key.held (asks_at c.args.when.t (map Fetch keys)) (asks_at c.args.when.t (map Fetch l)) (all_noted value_in [] keys) (all_noted value_in c.loop-key.values l)) (drop_of_length-le keys past) c.loop-key.invariant.midway in
+    let t = noted_ends _ _ _ _ _ c.args.when.t value_in (all_noted value_in [] keys) c.loop-key.values m in
     let text = λ (notes : List (List ℕ × List Kind)). c.args.out.now ++ (array_text (value_members 1 notes) ++ codes "b:1;") in
     on_ok c.write_found.result (λ e. printed _ _ _ _ _ _ _ text _ t (e ∙ append_assoc c.args.out.now (array_text (value_members 1 c.loop-key.values)) (codes "b:1;"))) c.write_found.ensures
 
@@ -62,8 +62,8 @@ pub write_found-requires : goal.write_found-requires
 write_found-requires g c =
     let keys : List (List ℕ) = c.args.keys.now in
     let past : length keys ≤ c.loop-key.key-index = omega (arith, c.loop-key-test.false) in
-    let m = subst (λ (l : List (List ℕ)). Midway g.N.TableName.conf (length g.N.TableName.budgets) c.args.pass c.loop-key.held (asks_at c.args.t (map Fetch keys)) (asks_at c.args.t (map Fetch l)) (all_noted value_in [] keys) (all_noted value_in c.loop-key.values l)) (drop_of_length-le keys past) c.loop-key.invariant.midway in
-    let t = noted_ends _ _ _ _ _ c.args.t value_in (all_noted value_in [] keys) c.loop-key.values m in
+    let m = subst (λ (l : List (List ℕ)). Midway g.N.TableName.conf (length g.N.TableName.budgets) c.args.pass c.loop-key.held (asks_at c.args.when.t (map Fetch keys)) (asks_at c.args.when.t (map Fetch l)) (all_noted value_in [] keys) (all_noted value_in c.loop-key.values l)) (drop_of_length-le keys past) c.loop-key.invariant.midway in
+    let t = noted_ends _ _ _ _ _ c.args.when.t value_in (all_noted value_in [] keys) c.loop-key.values m in
     let few = all_noted_len value_in [] keys t.asked.replies in
     let same = ap length t.is in
     grind (arith, common_steps, few, same, c.requires.few)

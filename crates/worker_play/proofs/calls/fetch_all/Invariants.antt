@@ -13,5 +13,5 @@ invariant-loop-key g l =
       table : l.held.table ≡ g.N.TableName.table;
       whole : KnowsOwnEvents l.held;
       left : length rest < l.held.known.left;
-      midway : Midway g.N.TableName.conf (length g.N.TableName.budgets) l.fn.pass l.held (asks_at l.t (map Fetch l.keys)) (asks_at l.t (map Fetch rest)) (all_noted value_in [] l.keys) (all_noted value_in l.values rest);
+      midway : Midway g.N.TableName.conf (length g.N.TableName.budgets) l.fn.pass l.held (asks_at l.when.t (map Fetch l.keys)) (asks_at l.when.t (map Fetch rest)) (all_noted value_in [] l.keys) (all_noted value_in l.values rest);
     }

@@ -1,4 +1,4 @@
-use Rattle.std.proofs.Common.{◌≡◌, ◌++◌, refl, sym, ap, ◌∙◌, rules}
+use Rattle.std.proofs.Common.{refl, sym, ap, ◌∙◌, rules}
 use Rattle.script_read.specs.declared.call.Call.TheVariants.{StoreMany, FetchMany, ExistsMany, DeleteMany, Enabled}
 use Rattle.worker_play.proofs.PassProgress.{nothing_asked, nothing_made, on_ok, of_if_ok}
 use Rattle.worker_play.proofs.CallForms.{call_asks, call_tells, told_once}

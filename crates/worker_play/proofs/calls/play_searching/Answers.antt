@@ -1,14 +1,8 @@
-use Rattle.std.proofs.Common.{◌≡◌, ◌<◌, ◌++◌, ℕ, refl, sym, ap, subst, ◌∙◌}
+use Rattle.std.proofs.Common.{◌≡◌, ◌<◌, refl, sym, ap, subst, ◌∙◌}
 use Rattle.apcu_model.specs.declared.request.Request.TheVariants as request
 use Rattle.apcu_model.specs.declared.request.Reply.TheVariants as reply
 use Rattle.apcu_model.specs.declared.searching.List.TheVariants.{Active, Deleted}
-use Rattle.apcu_model.specs.declared.conf.Conf.{Conf}
-use Rattle.apcu_model.specs.declared.request.Request.{Request}
-use Rattle.pin_table.specs.Values.{PassView}
 use Rattle.script_read.specs.declared.call.Call.{Call}
-use Rattle.script_read.specs.Play.{Asking, Steps, asking_of, asks_so, next_of}
-use Rattle.worker_play.specs.Goes.{Reaches}
-use Rattle.worker_play.specs.Turns.{turns_at, steps_at}
 use Rattle.script_read.specs.declared.call.Call.TheVariants.{Walk, WalkDelete, Totals, Pool}
 use Rattle.script_read.specs.Calls.{HasRanges, event_bound}
 use Rattle.script_read.specs.Patterns.{call_pattern}
@@ -46,13 +40,13 @@ returns-in-Active-clause-reaches g c =
     let arm = c.in-Walk in
     let is : c.args.call.now ≡ Walk arm.search arm.fields arm.size Active = arm.is ∙ ap (λ l. Walk arm.search arm.fields arm.size l) c.in-Active.is in
     let form : c.args.call.now ≡ Walk c.args.search.now arm.fields arm.size Active = by_search c.args.call.now arm.search c.args.search.now (λ w. Walk w arm.fields arm.size Active) is refl c.requires.search in
-    steps_reached _ _ _ _ _ c.args.slots _ (Walk c.args.search.now arm.fields arm.size Active) (λ from. request.Chunk c.args.search.now from arm.size Active arm.fields) form c.requires.slots refl c.walk_active.ensures.reaches
+    steps_reached _ _ _ _ _ c.args.context.now.slots _ (Walk c.args.search.now arm.fields arm.size Active) (λ from. request.Chunk c.args.search.now from arm.size Active arm.fields) form c.requires.slots refl c.walk_active.ensures.reaches
 
 pub returns-in-WalkDelete-clause-reaches : goal.returns-in-WalkDelete-clause-reaches
 returns-in-WalkDelete-clause-reaches g c =
     let arm = c.in-WalkDelete in
     let form : c.args.call.now ≡ WalkDelete c.args.search.now arm.size = by_search c.args.call.now arm.search c.args.search.now (λ w. WalkDelete w arm.size) arm.is refl c.requires.search in
-    steps_reached _ _ _ _ _ c.args.slots _ (WalkDelete c.args.search.now arm.size) (λ from. request.ChunkDelete c.args.search.now from arm.size) form c.requires.slots refl c.delete_found.ensures.reaches
+    steps_reached _ _ _ _ _ c.args.context.now.slots _ (WalkDelete c.args.search.now arm.size) (λ from. request.ChunkDelete c.args.search.now from arm.size) form c.requires.slots refl c.delete_found.ensures.reaches
 
 pub returns-in-Active-clause-line : goal.returns-in-Active-clause-line
 returns-in-Active-clause-line g c =
@@ -60,7 +54,7 @@ returns-in-Active-clause-line g c =
     let is : c.args.call.now ≡ Walk arm.search arm.fields arm.size Active = arm.is ∙ ap (λ l. Walk arm.search arm.fields arm.size l) c.in-Active.is in
     let form : c.args.call.now ≡ Walk c.args.search.now arm.fields arm.size Active = by_search c.args.call.now arm.search c.args.search.now (λ w. Walk w arm.fields arm.size Active) is refl c.requires.search in
     on_ok c.walk_active.result.1
-    (λ told. steps_told _ _ _ _ _ c.args.slots _ (Walk c.args.search.now arm.fields arm.size Active) (λ from. request.Chunk c.args.search.now from arm.size Active arm.fields) _ _ form c.requires.slots refl told) c.walk_active.ensures.line
+    (λ told. steps_told _ _ _ _ _ c.args.context.now.slots _ (Walk c.args.search.now arm.fields arm.size Active) (λ from. request.Chunk c.args.search.now from arm.size Active arm.fields) _ _ form c.requires.slots refl told) c.walk_active.ensures.line
 
 pub returns-in-Deleted-clause-line : goal.returns-in-Deleted-clause-line
 returns-in-Deleted-clause-line g c =
@@ -74,7 +68,7 @@ returns-in-WalkDelete-clause-line g c =
     let arm = c.in-WalkDelete in
     let form : c.args.call.now ≡ WalkDelete c.args.search.now arm.size = by_search c.args.call.now arm.search c.args.search.now (λ w. WalkDelete w arm.size) arm.is refl c.requires.search in
     on_ok c.delete_found.result.1
-    (λ told. steps_told _ _ _ _ _ c.args.slots _ (WalkDelete c.args.search.now arm.size) (λ from. request.ChunkDelete c.args.search.now from arm.size) _ _ form c.requires.slots refl told) c.delete_found.ensures.line
+    (λ told. steps_told _ _ _ _ _ c.args.context.now.slots _ (WalkDelete c.args.search.now arm.size) (λ from. request.ChunkDelete c.args.search.now from arm.size) _ _ form c.requires.slots refl told) c.delete_found.ensures.line
 
 pub returns-in-Ok-clause-line : goal.returns-in-Ok-clause-line
 returns-in-Ok-clause-line g c =

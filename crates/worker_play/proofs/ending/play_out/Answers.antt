@@ -1,10 +1,4 @@
-use Rattle.std.proofs.Common.{◌<◌, length, subst, ◌∙◌}
-use Rattle.std.specs.Prelude.{IfOk}
-use Rattle.worker_play.specs.Turns.{turns_of}
-use Rattle.reply_text.specs.Lines.{script_lines}
-use Rattle.worker_play.specs.Goes.{Tells}
-use Rattle.apcu_model.specs.declared.conf.Conf.{Conf}
-use Rattle.script_read.specs.Budgets.{events_in}
+use Rattle.std.proofs.Common.{length, ◌∙◌}
 use Rattle.script_read.specs.Clock.{timed}
 use Rattle.worker_play.proofs.PassProgress.{OwnLaws}
 use Rattle.worker_play.proofs.WorkerEnds.{one_left, unanswered, plays_out_if, has_asked}
@@ -12,11 +6,10 @@ use Rattle.worker_play.proofs.ending.play_out.Goals as goal
 
 pub retire-ended-requires : goal.retire-ended-requires
 retire-ended-requires g c =
-    let enough = subst (λ (f : Conf). events_in f.slots c.args.script.now < c.args.pass.known.left) c.requires.conf c.requires.left in
     record {
       pass = record {
         table = c.play_script-pass.ensures.reaches.goes.table ∙ c.requires.table;
-        left = one_left g.N.TableName.conf (length g.N.TableName.budgets) c.args.pass c.play_script-pass.result.0 c.args.clock c.args.script.now c.play_script-pass.ensures.reaches enough;
+        left = one_left g.N.TableName.conf (length g.N.TableName.budgets) c.args.pass c.play_script-pass.result.0 c.args.clock c.args.script.now c.play_script-pass.ensures.reaches c.requires.left;
       };
     }
 
@@ -31,6 +24,5 @@ returns-clause-ends g c =
       worker = f.worker ∙ r.worker;
       all_own = f.all_own;
       begun = has_asked laws g.N.TableName.conf (length g.N.TableName.budgets) c.args.pass c.play_script-pass.result.0 c.retire-ended.result (timed c.args.clock c.args.script.now) c.requires.no_event none c.play_script-pass.ensures.reaches f;
-      plays = plays_out_if laws g.N.TableName.conf (length g.N.TableName.budgets) c.args.pass c.play_script-pass.result.0 c.retire-ended.result (timed c.args.clock c.args.script.now) c.play_script-pass.result.1 c.requires.no_event none
-          (subst (λ (f : Conf). IfOk c.play_script-pass.result.1 (λ out. Tells g.N.TableName.conf (length g.N.TableName.budgets) c.args.pass c.play_script-pass.result.0 (turns_of g.N.TableName.conf (timed c.args.clock c.args.script.now)) (script_lines f (timed c.args.clock c.args.script.now)) out)) c.requires.conf c.play_script-pass.ensures.lines) f;
+      plays = plays_out_if laws g.N.TableName.conf (length g.N.TableName.budgets) c.args.pass c.play_script-pass.result.0 c.retire-ended.result (timed c.args.clock c.args.script.now) c.play_script-pass.result.1 c.requires.no_event none c.play_script-pass.ensures.lines f;
     }

@@ -27,7 +27,7 @@ returns-in-Hit g c =
     let back : pass_view_of c.in-Hit.copying ≡ c.copy_text-pass.result.0 =
     sym (ap₂ (λ t k. record { table = t; known = k }) c.copy_text-pass.ensures.table c.copy_text-pass.ensures.known) in (
       reply.Found found.graph,
-      subst (λ (q : PassView). GoesOn g.N.TableName.conf (length g.N.TableName.budgets) c.args.pass q (wish c.args.t (request.Fetch c.args.key.now) ∷ []) (reply.Found found.graph ∷ [])) back
+      subst (λ (q : PassView). GoesOn g.N.TableName.conf (length g.N.TableName.budgets) c.args.pass q (wish c.args.when.t (request.Fetch c.args.key.now) ∷ []) (reply.Found found.graph ∷ [])) back
           (one (record { more = c.one_event_own.ensures.more; others = c.one_event_own.ensures.others }) _ _ _ _ _ _ _ _ found.follows c.requires.whole (ap request.Fetch c.as_slice.ensures.bytes)),
       c.write_there.ensures found.graph c.args.out.now (c.copy_text-pass.ensures.text found.graph found.image),
     )

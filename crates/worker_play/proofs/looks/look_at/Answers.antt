@@ -1,5 +1,5 @@
-use Rattle.std.proofs.Common.{◌≡◌, ◌+◌, ℕ, false, List, [], ◌∷◌, length, refl, sym, ap, ap₂, subst, ◌∙◌, rules, w64}
-use Rattle.std.specs.Prelude.{pos, Some}
+use Rattle.std.proofs.Common.{◌≡◌, false, List, [], ◌∷◌, length, refl, sym, ap, ap₂, subst, ◌∙◌, rules, w64}
+use Rattle.std.specs.Prelude.{pos}
 use Rattle.std.specs.Int.RustNames.{FitsSigned}
 use Rattle.std.proofs.lemmas.Int.{to_z-of_z}
 use Rattle.php_graph.specs.declared.kind.Kind.{Kind}

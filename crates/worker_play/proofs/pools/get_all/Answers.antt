@@ -1,5 +1,4 @@
-use Rattle.std.proofs.Common.{◌≡◌, ℕ, ◌≤◌, ◌+◌, ◌++◌, List, [], ◌∷◌, length, map, drop, ap, ap₂, sym, ◌∙◌, subst, arith}
-use Rattle.std.specs.Borrow.{Bor}
+use Rattle.std.proofs.Common.{◌≡◌, ℕ, ◌≤◌, ◌+◌, ◌++◌, List, [], ◌∷◌, length, map, drop, ap, ap₂, ◌∙◌, subst, arith}
 use Rattle.std.proofs.Math.ListN.{drop_of_length-le}
 use Rattle.php_graph.specs.declared.kind.Kind.{Kind}
 use Rattle.apcu_model.specs.declared.request.Request.TheVariants.{Fetch}
@@ -51,7 +50,7 @@ returns-in-Err-note_answer-clause-reaches g c =
     let own : List ℕ → List ℕ = pool_key c.args.pool.now in
     let told = all_noted (got_in c.args.default.now) in
     let split = drop_item keys c.loop-key.key-index c.key-item.result c.loop-key-test.true c.key-item.is in
-    let m = subst (λ (l : List (List ℕ)). Midway g.N.TableName.conf (length g.N.TableName.budgets) c.args.pass c.loop-key.held (asks_at c.args.t (map (λ key. Fetch (own key)) keys)) (asks_at c.args.t (map (λ key. Fetch (own key)) l)) (told [] keys) (told (answers_noted c.loop-key.answers) l)) split c.loop-key.invariant.midway in
+    let m = subst (λ (l : List (List ℕ)). Midway g.N.TableName.conf (length g.N.TableName.budgets) c.args.pass c.loop-key.held (asks_at c.args.when.t (map (λ key. Fetch (own key)) keys)) (asks_at c.args.when.t (map (λ key. Fetch (own key)) l)) (told [] keys) (told (answers_noted c.loop-key.answers) l)) split c.loop-key.invariant.midway in
     let made : c.in-Ok.own ≡ own c.key-item.result = c.in-Ok.ensures ∙ ap₂ pool_key c.as_slice.ensures.bytes c.as_slice-in-loop-key.ensures.bytes in
     reached_one _ _ _ _ _ _ _ _ _ _ (told [] keys) (told (answers_noted c.loop-key.answers) (c.key-item.result ∷ rest)) m (asked_as _ _ _ _ _ _ _ _ (ap Fetch made) c.fetch-next.ensures.1)
 
@@ -62,7 +61,7 @@ loop-key-preserved g c =
     let own : List ℕ → List ℕ = pool_key c.args.pool.now in
     let told = all_noted (got_in c.args.default.now) in
     let split = drop_item keys c.loop-key.key-index c.key-item.result c.loop-key-test.true c.key-item.is in
-    let m = subst (λ (l : List (List ℕ)). Midway g.N.TableName.conf (length g.N.TableName.budgets) c.args.pass c.loop-key.held (asks_at c.args.t (map (λ key. Fetch (own key)) keys)) (asks_at c.args.t (map (λ key. Fetch (own key)) l)) (told [] keys) (told (answers_noted c.loop-key.answers) l)) split c.loop-key.invariant.midway in
+    let m = subst (λ (l : List (List ℕ)). Midway g.N.TableName.conf (length g.N.TableName.budgets) c.args.pass c.loop-key.held (asks_at c.args.when.t (map (λ key. Fetch (own key)) keys)) (asks_at c.args.when.t (map (λ key. Fetch (own key)) l)) (told [] keys) (told (answers_noted c.loop-key.answers) l)) split c.loop-key.invariant.midway in
     let made : c.in-Ok.own ≡ own c.key-item.result = c.in-Ok.ensures ∙ ap₂ pool_key c.as_slice.ensures.bytes c.as_slice-in-loop-key.ensures.bytes in
     let asked = asked_as _ _ _ _ _ _ _ _ (ap Fetch made) c.fetch-next.ensures.1 in
     record {
@@ -82,8 +81,8 @@ write_values-requires g c =
     let own : List ℕ → List ℕ = pool_key c.args.pool.now in
     let told = all_noted (got_in c.args.default.now) in
     let past : length keys ≤ c.loop-key.key-index = omega (arith, c.loop-key-test.false) in
-    let m = subst (λ (l : List (List ℕ)). Midway g.N.TableName.conf (length g.N.TableName.budgets) c.args.pass c.loop-key.held (asks_at c.args.t (map (λ key. Fetch (own key)) keys)) (asks_at c.args.t (map (λ key. Fetch (own key)) l)) (told [] keys) (told (answers_noted c.loop-key.answers) l)) (drop_of_length-le keys past) c.loop-key.invariant.midway in
-    let t = noted_ends _ _ _ _ _ c.args.t (got_in c.args.default.now) (told [] keys) (answers_noted c.loop-key.answers) m in
+    let m = subst (λ (l : List (List ℕ)). Midway g.N.TableName.conf (length g.N.TableName.budgets) c.args.pass c.loop-key.held (asks_at c.args.when.t (map (λ key. Fetch (own key)) keys)) (asks_at c.args.when.t (map (λ key. Fetch (own key)) l)) (told [] keys) (told (answers_noted c.loop-key.answers) l)) (drop_of_length-le keys past) c.loop-key.invariant.midway in
+    let t = noted_ends _ _ _ _ _ c.args.when.t (got_in c.args.default.now) (told [] keys) (answers_noted c.loop-key.answers) m in
     let few = all_noted_len (got_in c.args.default.now) [] keys t.asked.replies in
     let same = ap (length {A = List ℕ × List Kind}) t.is in
     let shown = ap (length {A = List ℕ × Answer}) c.as_slice-2.ensures in
@@ -95,8 +94,8 @@ returns-clause-line g c =
     let own : List ℕ → List ℕ = pool_key c.args.pool.now in
     let told = all_noted (got_in c.args.default.now) in
     let past : length keys ≤ c.loop-key.key-index = omega (arith, c.loop-key-test.false) in
-    let m = subst (λ (l : List (List ℕ)). Midway g.N.TableName.conf (length g.N.TableName.budgets) c.args.pass c.loop-key.held (asks_at c.args.t (map (λ key. Fetch (own key)) keys)) (asks_at c.args.t (map (λ key. Fetch (own key)) l)) (told [] keys) (told (answers_noted c.loop-key.answers) l)) (drop_of_length-le keys past) c.loop-key.invariant.midway in
-    let t = noted_ends _ _ _ _ _ c.args.t (got_in c.args.default.now) (told [] keys) (answers_noted c.loop-key.answers) m in
+    let m = subst (λ (l : List (List ℕ)). Midway g.N.TableName.conf (length g.N.TableName.budgets) c.args.pass c.loop-key.held (asks_at c.args.when.t (map (λ key. Fetch (own key)) keys)) (asks_at c.args.when.t (map (λ key. Fetch (own key)) l)) (told [] keys) (told (answers_noted c.loop-key.answers) l)) (drop_of_length-le keys past) c.loop-key.invariant.midway in
+    let t = noted_ends _ _ _ _ _ c.args.when.t (got_in c.args.default.now) (told [] keys) (answers_noted c.loop-key.answers) m in
     let text = λ (notes : List (List ℕ × List Kind)). c.args.out.now ++ array_text (value_members 1 notes) in
     let read = answers_read c.as_slice-2.result.now ∙ ap answers_noted c.as_slice-2.ensures in
     on_ok c.write_values.result (λ e. printed _ _ _ _ _ _ _ text _ t (e ∙ ap text read)) c.write_values.ensures

@@ -18,6 +18,6 @@ invariant-loop-key g l =
       whole : KnowsOwnEvents l.held;
       left : length rest < l.held.known.left;
       good : are_good_keys rest ≡ true;
-      midway : Midway g.N.TableName.conf (length g.N.TableName.budgets) l.fn.pass l.held (asks_at l.t (map (λ key. Fetch (pool_key l.pool key)) l.keys)) (asks_at l.t (map (λ key. Fetch (pool_key l.pool key)) rest))
+      midway : Midway g.N.TableName.conf (length g.N.TableName.budgets) l.fn.pass l.held (asks_at l.when.t (map (λ key. Fetch (pool_key l.pool key)) l.keys)) (asks_at l.when.t (map (λ key. Fetch (pool_key l.pool key)) rest))
           (all_noted (got_in l.default) [] l.keys) (all_noted (got_in l.default) (answers_noted l.answers) rest);
     }

@@ -1,4 +1,4 @@
-use Rattle.std.proofs.Common.{◌≡◌, ℕ, ℤ, ◌++◌, Bool, true, false, List, refl, ap, sym, ◌∙◌, rules}
+use Rattle.std.proofs.Common.{◌≡◌, ℕ, ℤ, ◌++◌, Bool, false, List, refl, ap, sym, ◌∙◌, rules}
 use Rattle.std.specs.Prelude.{unwrap_or, Option}
 use Rattle.php_graph.specs.declared.kind.Kind.{Kind}
 use Rattle.notation.specs.Notation.{text_of}

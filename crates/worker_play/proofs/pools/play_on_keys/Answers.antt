@@ -1,13 +1,11 @@
 use Rattle.std.proofs.Common.{◌≡◌, ◌<◌, ℕ, ◌++◌, true, List, length, refl, ap, sym, subst, ◌∙◌, rules}
 use Rattle.std.specs.Prelude.{Option, Some}
-use Rattle.php_graph.specs.declared.kind.Kind.{Kind}
 use Rattle.apcu_model.specs.declared.request.Request.TheVariants as request
 use Rattle.apcu_model.specs.declared.searching.Pattern.{Pattern}
 use Rattle.simple_pool.specs.declared.call.PoolAsk.{PoolAsk}
 use Rattle.simple_pool.specs.declared.call.PoolAsk.TheVariants.{Clear, GetMany, SetMany, SetManyPlain, DeleteMany}
 use Rattle.simple_pool.specs.Names.{pattern_of}
-use Rattle.simple_pool.specs.Requests.{ask_pattern, is_good_ask, pool_bound}
-use Rattle.script_read.specs.declared.call.Call.{Call}
+use Rattle.simple_pool.specs.Requests.{ask_pattern, pool_bound}
 use Rattle.script_read.specs.declared.call.Call.TheVariants.{Pool}
 use Rattle.reply_text.specs.Replies.{flag_text}
 use Rattle.worker_play.specs.Goes.{Reaches, Tells}
@@ -38,8 +36,8 @@ returns-in-Clear-clause-reaches g c =
     let pool : List ℕ = c.args.call.now.pool in
     let searched : c.args.search.now ≡ Some (pattern_of pool) = c.requires.search ∙ ap (ask_pattern pool) c.in-Clear.is in
     let form = ap (λ (ask : PoolAsk). Pool (record { pool = pool; ask = ask })) c.in-Clear.is in
-    let found = subst (λ (s : Option Pattern). Reaches g.N.TableName.conf (length g.N.TableName.budgets) c.args.pass c.delete_found.result.0 (steps_at c.args.t c.args.slots (λ from. request.ChunkDelete s from 100) 0)) searched c.delete_found.ensures.reaches in
-    steps_reached _ _ _ _ _ c.args.slots _ (Pool (record { pool = pool; ask = Clear })) (λ from. request.ChunkDelete (Some (pattern_of pool)) from 100) form c.requires.slots refl found
+    let found = subst (λ (s : Option Pattern). Reaches g.N.TableName.conf (length g.N.TableName.budgets) c.args.pass c.delete_found.result.0 (steps_at c.args.when.t c.args.context.now.slots (λ from. request.ChunkDelete s from 100) 0)) searched c.delete_found.ensures.reaches in
+    steps_reached _ _ _ _ _ c.args.context.now.slots _ (Pool (record { pool = pool; ask = Clear })) (λ from. request.ChunkDelete (Some (pattern_of pool)) from 100) form c.requires.slots refl found
 
 pub returns-in-Clear-clause-line : goal.returns-in-Clear-clause-line
 returns-in-Clear-clause-line g c =
@@ -48,8 +46,8 @@ returns-in-Clear-clause-line g c =
     let form = ap (λ (ask : PoolAsk). Pool (record { pool = pool; ask = ask })) c.in-Clear.is in
     on_ok c.delete_found.result.1
     (λ told.
-    steps_told _ _ _ _ _ c.args.slots _ (Pool (record { pool = pool; ask = Clear })) (λ from. request.ChunkDelete (Some (pattern_of pool)) from 100) _ _ form c.requires.slots refl
-    (subst (λ (s : Option Pattern). Tells g.N.TableName.conf (length g.N.TableName.budgets) c.args.pass c.delete_found.result.0 (steps_at c.args.t c.args.slots (λ from. request.ChunkDelete s from 100) 0) (λ replies. c.args.out.now ++ flag_text true) c.delete_found.new.out) searched told)) c.delete_found.ensures.line
+    steps_told _ _ _ _ _ c.args.context.now.slots _ (Pool (record { pool = pool; ask = Clear })) (λ from. request.ChunkDelete (Some (pattern_of pool)) from 100) _ _ form c.requires.slots refl
+    (subst (λ (s : Option Pattern). Tells g.N.TableName.conf (length g.N.TableName.budgets) c.args.pass c.delete_found.result.0 (steps_at c.args.when.t c.args.context.now.slots (λ from. request.ChunkDelete s from 100) 0) (λ replies. c.args.out.now ++ flag_text true) c.delete_found.new.out) searched told)) c.delete_found.ensures.line
 
 -- ---- GetMany
 

@@ -1,4 +1,4 @@
-use Rattle.std.proofs.Common.{◌≡◌, ℕ, ◌≤◌, ◌+◌, ◌++◌, Bool, List, ◌∷◌, length, map, drop, refl, ap, ap₂, sym, ◌∙◌, subst, arith}
+use Rattle.std.proofs.Common.{◌≡◌, ℕ, ◌≤◌, ◌+◌, ◌++◌, Bool, List, length, map, drop, ap, ap₂, ◌∙◌, subst, arith}
 use Rattle.std.specs.Prelude.{◌&&◌}
 use Rattle.std.specs.List.{list_all}
 use Rattle.std.proofs.Math.ListN.{drop_of_length-le}
@@ -7,7 +7,7 @@ use Rattle.simple_pool.specs.Names.{is_good_key, is_good_name, pool_key}
 use Rattle.reply_text.specs.Replies.{flag_text}
 use Rattle.worker_play.specs.Pools.{put_as, put_of, put_done}
 use Rattle.worker_play.specs.Turns.{asks_at}
-use Rattle.worker_play.proofs.PassProgress.{Midway, begins, ends, on_ok}
+use Rattle.worker_play.proofs.PassProgress.{Midway, begins, on_ok}
 use Rattle.worker_play.proofs.SeveralKeys.{printed, drop_item, two_left, rest_left}
 use Rattle.worker_play.proofs.PoolKeys.{asked_as, first_good, put_goes_on, puts_end}
 use Rattle.worker_play.proofs.pools.put_all.Goals as goal

@@ -1,4 +1,4 @@
-use Rattle.std.proofs.Common.{◌≡◌, ◌<◌, [], length, drop}
+use Rattle.std.proofs.Common.{◌≡◌, ◌<◌, length, drop}
 use Rattle.script_read.specs.Budgets.{events_in}
 use Rattle.script_read.specs.Clock.{timed}
 use Rattle.worker_play.specs.Goes.{KnowsOwnEvents, nothing}

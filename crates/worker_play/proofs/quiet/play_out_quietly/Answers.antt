@@ -1,6 +1,4 @@
-use Rattle.std.proofs.Common.{◌<◌, length, subst, ◌∙◌}
-use Rattle.apcu_model.specs.declared.conf.Conf.{Conf}
-use Rattle.script_read.specs.Budgets.{events_in}
+use Rattle.std.proofs.Common.{length, ◌∙◌}
 use Rattle.script_read.specs.Clock.{timed}
 use Rattle.worker_play.proofs.PassProgress.{OwnLaws}
 use Rattle.worker_play.proofs.WorkerEnds.{one_left, plays_all_if}
@@ -8,11 +6,10 @@ use Rattle.worker_play.proofs.quiet.play_out_quietly.Goals as goal
 
 pub retire-ended-requires : goal.retire-ended-requires
 retire-ended-requires g c =
-    let enough = subst (λ (f : Conf). events_in f.slots c.args.script.now < c.args.pass.known.left) c.requires.conf c.requires.left in
     record {
       pass = record {
         table = c.play_quietly-pass.ensures.reaches.goes.table ∙ c.requires.table;
-        left = one_left g.N.TableName.conf (length g.N.TableName.budgets) c.args.pass c.play_quietly-pass.result.0 c.args.clock c.args.script.now c.play_quietly-pass.ensures.reaches enough;
+        left = one_left g.N.TableName.conf (length g.N.TableName.budgets) c.args.pass c.play_quietly-pass.result.0 c.args.clock c.args.script.now c.play_quietly-pass.ensures.reaches c.requires.left;
       };
     }
 

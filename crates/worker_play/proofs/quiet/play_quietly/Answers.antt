@@ -1,6 +1,4 @@
-use Rattle.std.proofs.Common.{ℕ, ◌≤◌, ◌+◌, length, sym, subst}
-use Rattle.apcu_model.specs.declared.conf.Conf.{Conf}
-use Rattle.script_read.specs.Budgets.{events_in}
+use Rattle.std.proofs.Common.{length}
 use Rattle.script_read.specs.Clock.{timed}
 use Rattle.worker_play.proofs.PassProgress.{OwnLaws}
 use Rattle.worker_play.proofs.WorkerEnds.{few_taken, unanswered, has_made_if}
@@ -14,5 +12,4 @@ returns-clause-made g c =
 
 pub returns-clause-left : goal.returns-clause-left
 returns-clause-left g c =
-    subst (λ (conf : Conf). c.args.pass.known.left ≤ c.make_steps.result.0.known.left + events_in conf.slots c.args.script.now) (sym c.requires.conf)
-    (few_taken g.N.TableName.conf (length g.N.TableName.budgets) c.args.pass c.make_steps.result.0 c.args.clock c.args.script.now c.make_steps.ensures.reaches)
+    few_taken g.N.TableName.conf (length g.N.TableName.budgets) c.args.pass c.make_steps.result.0 c.args.clock c.args.script.now c.make_steps.ensures.reaches

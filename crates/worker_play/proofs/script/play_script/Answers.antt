@@ -1,6 +1,4 @@
-use Rattle.std.proofs.Common.{ℕ, ◌≤◌, ◌+◌, List, ◌++◌, length, sym, subst}
-use Rattle.apcu_model.specs.declared.conf.Conf.{Conf}
-use Rattle.script_read.specs.Budgets.{events_in}
+use Rattle.std.proofs.Common.{List, ℕ, ◌++◌, length, subst}
 use Rattle.script_read.specs.Clock.{timed}
 use Rattle.reply_text.specs.Lines.{script_lines}
 use Rattle.worker_play.specs.Goes.{Tells}
@@ -12,15 +10,10 @@ use Rattle.worker_play.proofs.script.play_script.Goals as goal
 pub returns-in-Ok-clause-lines : goal.returns-in-Ok-clause-lines
 returns-in-Ok-clause-lines g c =
     let t = of_ok c.play_steps-pass.result.1 _ c.in-Ok.is c.play_steps-pass.ensures.lines in
-    let from_start = subst (λ (out : List ℕ). Tells g.N.TableName.conf (length g.N.TableName.budgets) c.args.pass c.play_steps-pass.result.0 (turns_of g.N.TableName.conf (timed c.args.clock c.args.script.now)) (λ replies. out ++ script_lines g.N.TableName.conf (timed c.args.clock c.args.script.now) replies) c.play_steps-pass.new.out) c.new-out.ensures t in
-    subst (λ (conf : Conf). Tells g.N.TableName.conf (length g.N.TableName.budgets) c.args.pass c.play_steps-pass.result.0 (turns_of g.N.TableName.conf (timed c.args.clock c.args.script.now)) (λ replies. script_lines conf (timed c.args.clock c.args.script.now) replies) c.play_steps-pass.new.out) (sym c.requires.conf) from_start
+    subst (λ (out : List ℕ). Tells g.N.TableName.conf (length g.N.TableName.budgets) c.args.pass c.play_steps-pass.result.0 (turns_of g.N.TableName.conf (timed c.args.clock c.args.script.now)) (λ replies. out ++ script_lines g.N.TableName.conf (timed c.args.clock c.args.script.now) replies) c.play_steps-pass.new.out) c.new-out.ensures t
 
 pub returns-in-Ok-clause-left : goal.returns-in-Ok-clause-left
-returns-in-Ok-clause-left g c =
-    subst (λ (conf : Conf). c.args.pass.known.left ≤ c.play_steps-pass.result.0.known.left + events_in conf.slots c.args.script.now) (sym c.requires.conf)
-    (few_taken g.N.TableName.conf (length g.N.TableName.budgets) c.args.pass c.play_steps-pass.result.0 c.args.clock c.args.script.now c.play_steps-pass.ensures.reaches)
+returns-in-Ok-clause-left g c = few_taken g.N.TableName.conf (length g.N.TableName.budgets) c.args.pass c.play_steps-pass.result.0 c.args.clock c.args.script.now c.play_steps-pass.ensures.reaches
 
 pub returns-in-Err-clause-left : goal.returns-in-Err-clause-left
-returns-in-Err-clause-left g c =
-    subst (λ (conf : Conf). c.args.pass.known.left ≤ c.play_steps-pass.result.0.known.left + events_in conf.slots c.args.script.now) (sym c.requires.conf)
-    (few_taken g.N.TableName.conf (length g.N.TableName.budgets) c.args.pass c.play_steps-pass.result.0 c.args.clock c.args.script.now c.play_steps-pass.ensures.reaches)
+returns-in-Err-clause-left g c = few_taken g.N.TableName.conf (length g.N.TableName.budgets) c.args.pass c.play_steps-pass.result.0 c.args.clock c.args.script.now c.play_steps-pass.ensures.reaches

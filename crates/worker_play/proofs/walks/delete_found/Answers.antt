@@ -26,14 +26,14 @@ deleting-preserved g c =
       whole = asked.all_own;
       left = omega (arith, i.left, asked.left, c.next_slot-from.ensures.up, c.deleting-test.true);
       search = c.chunk_delete-next.ensures.search ∙ i.search;
-      midway = iterator_goes_on _ _ _ _ _ _ c.args.t c.args.slots (λ from. request.ChunkDelete c.args.search.now from c.args.size) c.deleting.from _ (reply.Next c.in-Ok.end) (λ replies. c.args.out.now ++ flag_text true) (λ later. c.args.out.now ++ flag_text true) (λ later. c.args.out.now ++ flag_text true) i.midway
+      midway = iterator_goes_on _ _ _ _ _ _ c.args.when.t c.args.context.now.slots (λ from. request.ChunkDelete c.args.search.now from c.args.size) c.deleting.from _ (reply.Next c.in-Ok.end) (λ replies. c.args.out.now ++ flag_text true) (λ later. c.args.out.now ++ flag_text true) (λ later. c.args.out.now ++ flag_text true) i.midway
           (asked_so _ _ _ _ _ _ _ _ (ap (λ s. request.ChunkDelete s c.deleting.from c.args.size) i.search) asked) c.deleting-test.true c.next_slot-from.ensures.is (λ later. refl);
     }
 
 pub returns-in-Err-clause-reaches : goal.returns-in-Err-clause-reaches
 returns-in-Err-clause-reaches g c =
     let i = c.deleting.invariant in
-    iterator_breaks _ _ _ _ _ _ c.args.t c.args.slots (λ from. request.ChunkDelete c.args.search.now from c.args.size) c.deleting.from reply.Next (λ replies. c.args.out.now ++ flag_text true) (λ later. c.args.out.now ++ flag_text true) c.chunk_delete-next.result.1 i.midway c.deleting-test.true
+    iterator_breaks _ _ _ _ _ _ c.args.when.t c.args.context.now.slots (λ from. request.ChunkDelete c.args.search.now from c.args.size) c.deleting.from reply.Next (λ replies. c.args.out.now ++ flag_text true) (λ later. c.args.out.now ++ flag_text true) c.chunk_delete-next.result.1 i.midway c.deleting-test.true
     (if_ok c.chunk_delete-next.result.1 (λ next asked. asked_so _ _ _ _ _ _ _ _ (ap (λ s. request.ChunkDelete s c.deleting.from c.args.size) i.search) asked) c.chunk_delete-next.ensures.deleted) c.chunk_delete-next.ensures.same
 
 pub returns-clause-reaches : goal.returns-clause-reaches
@@ -42,5 +42,5 @@ returns-clause-reaches g c = c.deleting.invariant.midway.0
 pub returns-clause-line : goal.returns-clause-line
 returns-clause-line g c =
     let ask : ℕ → Request = λ from. request.ChunkDelete c.args.search.now from c.args.size in
-    let t = ends _ _ _ _ _ _ (λ replies. c.args.out.now ++ flag_text true) (λ later. c.args.out.now ++ flag_text true) c.deleting.invariant.midway (steps_over c.args.t c.args.slots ask c.deleting.from c.deleting-test.false) in
+    let t = ends _ _ _ _ _ _ (λ replies. c.args.out.now ++ flag_text true) (λ later. c.args.out.now ++ flag_text true) c.deleting.invariant.midway (steps_over c.args.when.t c.args.context.now.slots ask c.deleting.from c.deleting-test.false) in
     on_ok c.write_flag.result (λ e. printed _ _ _ _ _ _ _ (λ (l : List ℕ). l) _ t e) c.write_flag.ensures

@@ -10,11 +10,11 @@ abbrev pub invariant-deleting : goal.invariant-deleting
 invariant-deleting g l = record {
   table : l.held.table ≡ g.N.TableName.table;
   whole : KnowsOwnEvents l.held;
-  left : l.slots - l.from < l.held.known.left;
+  left : l.context.slots - l.from < l.held.known.left;
   search : l.search ≡ l.fn.search;
-  midway : Midway g.N.TableName.conf (length g.N.TableName.budgets) l.fn.pass l.held (steps_at l.t l.slots (λ from. request.ChunkDelete l.fn.search from l.size) 0) (steps_at l.t l.slots (λ from. request.ChunkDelete l.fn.search from l.size) l.from)
+  midway : Midway g.N.TableName.conf (length g.N.TableName.budgets) l.fn.pass l.held (steps_at l.when.t l.context.slots (λ from. request.ChunkDelete l.fn.search from l.size) 0) (steps_at l.when.t l.context.slots (λ from. request.ChunkDelete l.fn.search from l.size) l.from)
       (λ replies. l.fn.out ++ flag_text true) (λ later. l.fn.out ++ flag_text true);
 }
 
 abbrev pub decreases-deleting : goal.decreases-deleting
-decreases-deleting g l = l.slots - l.from
+decreases-deleting g l = l.context.slots - l.from

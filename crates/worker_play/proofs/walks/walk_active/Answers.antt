@@ -1,6 +1,5 @@
-use Rattle.std.proofs.Common.{◌≡◌, ℕ, ◌++◌, List, [], ◌∷◌, map, refl, sym, ap, ◌∙◌, append_assoc, arith}
-use Rattle.std.proofs.lemmas.List.{append-nil, map-append}
-use Rattle.apcu_model.specs.declared.items.Chunk.{Chunk}
+use Rattle.std.proofs.Common.{◌≡◌, ℕ, ◌++◌, List, [], ◌∷◌, refl, sym, ap, ◌∙◌, append_assoc, arith}
+use Rattle.std.proofs.lemmas.List.{append-nil}
 use Rattle.apcu_model.specs.declared.request.Request.{Request}
 use Rattle.apcu_model.specs.declared.request.Request.TheVariants as request
 use Rattle.apcu_model.specs.declared.request.Reply.{Reply}
@@ -40,16 +39,16 @@ walking-preserved g c =
       whole = asked.all_own;
       left = omega (arith, i.left, asked.left, c.next_slot-from.ensures.up, c.walking-test.true);
       search = c.chunk-next.ensures.search ∙ i.search;
-      midway = iterator_goes_on _ _ _ _ _ _ c.args.t c.args.slots (λ from. request.Chunk c.args.search.now from c.args.size Active c.args.fields) c.walking.from _ (reply.Chunk kept.0) (λ replies. replies) (λ later. c.walking.steps.items ++ later) _ i.midway
+      midway = iterator_goes_on _ _ _ _ _ _ c.args.when.t c.args.context.now.slots (λ from. request.Chunk c.args.search.now from c.args.size Active c.args.fields) c.walking.from _ (reply.Chunk kept.0) (λ replies. replies) (λ later. c.walking.steps.items ++ later) _ i.midway
           (asked_so _ _ _ _ _ _ _ _ (ap (λ s. request.Chunk s c.walking.from c.args.size Active c.args.fields) i.search) asked) c.walking-test.true
-          (c.next_slot-from.ensures.is ∙ ap (λ (n : ℕ). slot_after c.args.slots c.walking.from (reply.Next n)) kept.2) (kept_more _ _ (reply.Chunk kept.0) kept.3);
+          (c.next_slot-from.ensures.is ∙ ap (λ (n : ℕ). slot_after c.args.context.now.slots c.walking.from (reply.Next n)) kept.2) (kept_more _ _ (reply.Chunk kept.0) kept.3);
     }
 
 pub returns-in-Err-clause-reaches : goal.returns-in-Err-clause-reaches
 returns-in-Err-clause-reaches g c =
     let i = c.walking.invariant in
     let ask : ℕ → Request = λ from. request.Chunk c.args.search.now from c.args.size Active c.args.fields in
-    iterator_breaks _ _ _ _ _ _ c.args.t c.args.slots ask c.walking.from reply.Chunk (λ replies. replies) (λ later. c.walking.steps.items ++ later) c.chunk-next.result.1 i.midway c.walking-test.true
+    iterator_breaks _ _ _ _ _ _ c.args.when.t c.args.context.now.slots ask c.walking.from reply.Chunk (λ replies. replies) (λ later. c.walking.steps.items ++ later) c.chunk-next.result.1 i.midway c.walking-test.true
     (if_ok c.chunk-next.result.1 (λ chunk asked. asked_so _ _ _ _ _ _ _ _ (ap (λ s. request.Chunk s c.walking.from c.args.size Active c.args.fields) i.search) asked) c.chunk-next.ensures.event) c.chunk-next.ensures.same
 
 pub returns-clause-reaches : goal.returns-clause-reaches
@@ -58,7 +57,7 @@ returns-clause-reaches g c = c.walking.invariant.midway.0
 pub returns-clause-line : goal.returns-clause-line
 returns-clause-line g c =
     let ask : ℕ → Request = λ from. request.Chunk c.args.search.now from c.args.size Active c.args.fields in
-    let t = ends _ _ _ _ _ _ (λ replies. replies) (λ later. c.walking.steps.items ++ later) c.walking.invariant.midway (steps_over c.args.t c.args.slots ask c.walking.from c.walking-test.false) in
+    let t = ends _ _ _ _ _ _ (λ replies. replies) (λ later. c.walking.steps.items ++ later) c.walking.invariant.midway (steps_over c.args.when.t c.args.context.now.slots ask c.walking.from c.walking-test.false) in
     let text = λ (replies : List Reply). c.args.out.now ++ walk_text c.args.fields replies in
     let kept : c.deref.result.now ≡ c.walking.steps.items ++ [] = c.deref.ensures.value ∙ sym (append-nil c.walking.steps.items) in
     on_ok c.write_walk.result (λ e. printed _ _ _ _ _ _ _ text _ t (e ∙ ap text kept)) c.write_walk.ensures
