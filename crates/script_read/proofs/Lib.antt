@@ -16,5 +16,7 @@ pub mod Slashes
 pub mod FieldBits
 pub mod ReadCalls
 pub mod ReaderAnswers
+mod ArgumentRanges
+mod FormRanges
 pub mod SpelledRanges
 mod DrawnScripts
