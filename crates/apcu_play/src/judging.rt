@@ -20,8 +20,8 @@ use apcu_model::{Clock, Conf};
 use crew_play::CrewFault;
 use itoa::Buffer;
 use notation::ByteOut;
-use run_verify::{Verdict, VerifyFault, event_count, verify};
-use script_read::Scripts;
+use run_verify::{Verdict, VerifyFault, verify};
+use script_read::{Scripts, event_count};
 use std::alloc::{AllocError, Global};
 
 // A line of these words and a number.
@@ -56,17 +56,19 @@ fn ending_for(verdict: Verdict) -> Status
     }
 }
 
-// The verdict on an output, for scripts of few enough events.
+// The verdict on an output, for scripts of so many events.
 fn verdict_on<M: Maker>(
     alloc: Global,
     conf: &Conf,
     clock: Clock,
     scripts: &Scripts,
+    events: u32,
     output: &[u8],
     maker: &M,
 ) -> Result<Verdict, CrewFault>
     requires good { IsGood conf.now }
-    requires few { all_events conf.now.slots scripts.now ≤ most_events }
+    requires events { events ≡ all_events conf.now.slots scripts.now }
+    requires few { events ≤ most_events }
     ensures verdict { IfOk result (λ v.
         v ≡ verdict_of conf.now (all_timed clock scripts.now) output.now) }
     ensures readable { OnOk result (AreReadable scripts.now) }
@@ -74,7 +76,7 @@ fn verdict_on<M: Maker>(
         → SomeRefusable (M.may_refuse maker.now) scripts.now) }
     ensures others { IfErr result (λ e. e ≢ TooMany) }
 {
-    match verify(alloc, maker, conf, clock, scripts, output) {
+    match verify(alloc, maker, conf, clock, scripts, events, output) {
         Ok(verdict) => Ok(verdict),
         Err(VerifyFault::Pattern) => Err(CrewFault::Pattern),
         Err(VerifyFault::Memory) => Err(CrewFault::Memory),
@@ -102,10 +104,10 @@ pub(crate) fn judge<M: Maker>(
         → (all_events conf.now.slots scripts.now ≤ most_events)
         × SomeRefusable (M.may_refuse maker.now) scripts.now) }
 {
-    if event_count(conf.slots, scripts).is_none() {
+    let Some(events) = event_count(conf.slots, scripts) else {
         return Err(CrewFault::TooMany);
-    }
-    let verdict = verdict_on(alloc, conf, clock, scripts, output, maker)?;
+    };
+    let verdict = verdict_on(alloc, conf, clock, scripts, events, output, maker)?;
     let mut rest = ByteOut::new(alloc);
     write_verdict(&mut rest, verdict)?;
     Ok(Printed {

@@ -12,7 +12,6 @@ ghost use Rattle.run_verify.specs.Verdicts.{first_difference};
 ghost use Rattle.run_verify.specs.ReadPatterns.{AreReadable};
 ghost use Rattle.run_verify.specs.declared.fault.VerifyFault.TheVariants.{Pattern};
 
-use crate::budget::event_count;
 use crate::comparing::difference;
 use crate::fault::VerifyFault;
 use crate::marks::play_mark;
@@ -62,11 +61,13 @@ fn judge<M: Maker>(
     conf: &Conf,
     clock: Clock,
     scripts: &Scripts,
+    events: u32,
     output: &[u8],
     part: usize,
 ) -> Result<Verdict, VerifyFault>
     requires good { IsGood conf.now }
-    requires few { all_events conf.now.slots scripts.now ≤ most_events }
+    requires events { events ≡ all_events conf.now.slots scripts.now }
+    requires few { events ≤ most_events }
     requires within { part ≤ length output.now }
     requires part { journal_part output.now ≡ Some (drop part output.now) }
     ensures verdict { IfOk result (λ v.
@@ -74,9 +75,6 @@ fn judge<M: Maker>(
     ensures pattern { IfErr result (λ fault. fault ≡ Pattern
         → SomeRefusable (M.may_refuse maker.now) scripts.now) }
 {
-    let Some(events) = event_count(conf.slots, scripts) else {
-        unreachable!();
-    };
     let mut replay = Replay::new(alloc, conf, events)?;
     let mut seats = seats_for(alloc, scripts)?;
     let mut played = Played::start(conf, &clock, scripts);
@@ -118,7 +116,7 @@ fn judge<M: Maker>(
 
 /// What an output is, beside the scripts that it is said to come from, for a cache of this shape
 /// and this clock. It is gone over once. Its journal is played by one thread, and its events are
-/// no more than those of the scripts.
+/// no more than `events`, which is `event_count` of the scripts.
 ///
 /// The regex of each pattern is made before the output is looked at, so there is a verdict only
 /// where each of them is a pattern. `Pattern` comes only where a call of the scripts has one that
@@ -129,10 +127,12 @@ pub fn verify<M: Maker>(
     conf: &Conf,
     clock: Clock,
     scripts: &Scripts,
+    events: u32,
     output: &[u8],
 ) -> Result<Verdict, VerifyFault>
     requires good { IsGood conf.now }
-    requires few { all_events conf.now.slots scripts.now ≤ most_events }
+    requires events { events ≡ all_events conf.now.slots scripts.now }
+    requires few { events ≤ most_events }
     ensures verdict { IfOk result (λ v.
         v ≡ verdict_of conf.now (all_timed clock scripts.now) output.now) }
     ensures readable { OnOk result (AreReadable scripts.now) }
@@ -143,5 +143,5 @@ pub fn verify<M: Maker>(
     let Some(part) = journal_at(output) else {
         return Ok(Verdict::NoJournal);
     };
-    judge(alloc, maker, conf, clock, scripts, output, part)
+    judge(alloc, maker, conf, clock, scripts, events, output, part)
 }

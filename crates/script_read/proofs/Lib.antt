@@ -9,6 +9,7 @@ pub mod TableRows
 pub mod PoolTableRows
 pub mod Keywords
 pub mod EventBounds
+pub mod EventCounts
 pub mod FaultPlaces
 pub mod LineLoop
 pub mod Members

@@ -2,6 +2,7 @@
 #![tactic(auto)]
 
 mod arguments;
+mod budgets;
 mod call;
 mod choices;
 mod counters;
@@ -23,6 +24,7 @@ mod script;
 mod searches;
 mod stores;
 
+pub use budgets::{budget, event_count};
 pub use call::Call;
 pub use drawing::generate;
 pub use fault::ScriptFault;
