@@ -20,4 +20,5 @@ pub mod ReaderAnswers
 mod ArgumentRanges
 mod FormRanges
 pub mod SpelledRanges
+pub mod RefusablePatterns
 mod DrawnScripts
