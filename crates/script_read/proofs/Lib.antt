@@ -15,6 +15,7 @@ pub mod LineLoop
 pub mod Members
 pub mod Slashes
 pub mod FieldBits
+pub mod FieldNames
 pub mod ReadCalls
 pub mod ReaderAnswers
 mod ArgumentRanges
