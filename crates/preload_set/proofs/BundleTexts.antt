@@ -18,7 +18,7 @@ use Rattle.script_read.specs.Ties.{AreSomeBytes}
 use Rattle.preload_set.specs.Bundle.{Record, key_value, record_text, IsRecord}
 use Rattle.preload_set.specs.Reading.{record_at, records_at}
 use Rattle.preload_set.specs.Ties.{BundlesTake, BundlesAgain, BundlesAreOne}
-use Rattle.preload_set.proofs.ResultBinds.{ValuesTake, ValuesAgain, bind_ok, ok_is, chosen, bytes_after}
+use Rattle.script_read.proofs.ResultBinds.{ValuesTake, ValuesAgain, bind_ok, ok_is, chosen, bytes_after}
 
 -- ---- the parts of a record
 

@@ -1,4 +1,3 @@
-mod ResultBinds
 mod BundleTexts
 mod RecordParts
 mod RecordLoop

@@ -14,7 +14,7 @@ use Rattle.preload_set.specs.Bundle.{Record, AreRecords}
 use Rattle.preload_set.specs.Reading.{record_at, records_at, bundle_at}
 use Rattle.preload_set.specs.Gives.{Reads, ReadsRecords, ReadsBundle}
 use Rattle.preload_set.specs.Ties.{BundlesTake, BundlesAgain}
-use Rattle.preload_set.proofs.ResultBinds.{ok_is}
+use Rattle.script_read.proofs.ResultBinds.{ok_is}
 
 -- ---- the loop
 

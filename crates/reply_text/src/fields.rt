@@ -55,7 +55,7 @@ fn chosen_count(fields: Fields, all: &[(&[u8], Held)]) -> usize
 }
 
 // The value that a field holds, behind so many values of the reply.
-fn write_told(out: &mut ByteOut, held: Held, base: u64) -> Result<(), AllocError>
+fn write_held_value(out: &mut ByteOut, held: Held, base: u64) -> Result<(), AllocError>
     requires { base < 2 ^ 56 }
     ensures { OnOk result (out.new ≡ out.old ++ text_from base (held_value held.entry)) }
 {
@@ -86,7 +86,7 @@ fn write_held(out: &mut ByteOut, held: Held, base: u64) -> Result<u32, AllocErro
     ensures count { IfOk result (λ count. count ≡ length (held_value held.entry)) }
     ensures few { IfOk result (λ count. count ≤ 2 ^ 24) }
 {
-    write_told(out, held, base)?;
+    write_held_value(out, held, base)?;
     Ok(places_of(held))
 }
 

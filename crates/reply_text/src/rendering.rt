@@ -7,7 +7,9 @@ use crate::pools::write_pool;
 use crate::replies::write_flag;
 use crate::reply_list::Replies;
 use crate::several::{write_found, write_there, write_undeleted, write_unstored};
-use crate::single::{write_counted, write_done, write_fetch, write_given, write_sums, write_told};
+use crate::single::{
+    write_counted, write_done, write_fetch, write_first_info, write_given, write_sums,
+};
 use crate::walks::write_walk;
 use apcu_model::Reply;
 use notation::ByteOut;
@@ -53,7 +55,7 @@ fn write_call(
         Call::Inc { .. } => write_counted(out, replies),
         Call::Entry(_) => write_given(out, replies),
         Call::Clear | Call::Enabled | Call::WalkDelete { .. } => write_flag(out, true),
-        Call::KeyInfo(_) | Call::CacheInfo(_) | Call::SmaInfo(_) => write_told(out, replies),
+        Call::KeyInfo(_) | Call::CacheInfo(_) | Call::SmaInfo(_) => write_first_info(out, replies),
         Call::Walk { fields, .. } => write_walk(out, *fields, replies),
         Call::Totals { .. } => write_sums(out, replies),
         Call::Pool(boxed) => write_pool(out, alloc, &boxed.call().ask, replies),

@@ -66,8 +66,8 @@ pub(crate) fn write_given(out: &mut ByteOut, replies: &[Reply]) -> Result<(), Al
     }
 }
 
-// What is told of a key, of the cache or of its segments.
-pub(crate) fn write_told(out: &mut ByteOut, replies: &[Reply]) -> Result<(), AllocError>
+// What the first reply says of a key, of the cache or of its segments.
+pub(crate) fn write_first_info(out: &mut ByteOut, replies: &[Reply]) -> Result<(), AllocError>
     ensures { OnOk result (out.new ≡ out.old ++ info_text replies.now) }
 {
     match first(replies) {

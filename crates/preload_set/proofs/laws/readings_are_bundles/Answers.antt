@@ -1,4 +1,4 @@
-use Rattle.preload_set.proofs.ResultBinds.{ValuesTake}
+use Rattle.script_read.proofs.ResultBinds.{ValuesTake}
 use Rattle.preload_set.proofs.BundleTexts.{bundles_take, bundles_again, bundles_one}
 use Rattle.preload_set.proofs.laws.readings_are_bundles.Goals as goal
 

@@ -4,7 +4,7 @@ use Rattle.reply_text.specs.Fields.{held_value}
 use Rattle.notation.specs.Notation.{text_from}
 use Rattle.reply_text.specs.declared.fields.Held.{Held}
 use Rattle.reply_text.proofs.ItemTexts.{number_place, string_place, null_place}
-use Rattle.reply_text.proofs.fields.write_told.Goals as goal
+use Rattle.reply_text.proofs.fields.write_held_value.Goals as goal
 
 pub returns-in-Text : goal.returns-in-Text
 returns-in-Text c =
