@@ -23,7 +23,9 @@ pub fn budget(slots: u32, script: &Script) -> Option<u32>
     Some(events as u32)
 }
 
-/// The same of the workers of scripts, all together and the end of each included.
+/// How many events the workers of scripts may make, all together and the end of each included, in a
+/// cache of so many slots. None exactly where they are more than 4,194,304, the most that a cache
+/// has.
 pub fn event_count(slots: u32, scripts: &Scripts) -> Option<u32>
     ensures some { IfSome result (λ n. n ≡ all_events slots scripts.now) }
     ensures few { IfSome result (λ n. n ≤ most_events) }
