@@ -196,8 +196,8 @@ ttl_fits g t is n some = by_null (null g) is
 
 -- a generator of so many entries at most, under keys of bytes
 pub record FitsGen (levels : ℕ) (gen : Generator) : Type 0 where
-  few : length gen.levels ≤ levels
-  keys : AreKeys (map {A = EntryLevel} (λ level. level.key) gen.levels)
+  pub few : length gen.levels ≤ levels
+  pub keys : AreKeys (map {A = EntryLevel} (λ level. level.key) gen.levels)
 
 entry_fits : (levels : ℕ) (k : List Kind) (inner : Option Generator) (t : Option ℕ) (gen : Generator) → IsGraph k → ((found : Generator) → inner ≡ Some found → FitsGen levels found)
     → option_and_then (λ bytes. option_and_then (λ made. option_map (λ limit. entry_round bytes limit made) t) inner) (key k) ≡ Some gen → FitsGen (suc levels) gen
