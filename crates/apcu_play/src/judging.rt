@@ -1,6 +1,6 @@
 //! Judging an output.
 
-ghost use Rattle.std.specs.Prelude.{◌≡◌, ◌≢◌, ◌<◌, ◌≤◌, ◌++◌, codes, IfOk, IfErr, OnOk};
+ghost use Rattle.std.specs.Prelude.{◌≡◌, ◌<◌, ◌≤◌, ◌++◌, codes, IfOk, IfErr, OnOk};
 ghost use Rattle.std.specs.Fmt.{decimal};
 ghost use Rattle.apcu_model.specs.Conf.{IsGood};
 ghost use Rattle.script_read.specs.Budgets.{all_events, most_events};
@@ -20,7 +20,7 @@ use apcu_model::{Clock, Conf};
 use crew_play::CrewFault;
 use itoa::Buffer;
 use notation::ByteOut;
-use run_verify::{Verdict, VerifyFault, event_count, verify};
+use run_verify::{Verdict, VerifyFault, verify};
 use script_read::Scripts;
 use std::alloc::{AllocError, Global};
 
@@ -56,7 +56,7 @@ fn ending_for(verdict: Verdict) -> Status
     }
 }
 
-// The verdict on an output, for scripts of few enough events.
+// The verdict on an output.
 fn verdict_on<M: Maker>(
     alloc: Global,
     conf: &Conf,
@@ -66,17 +66,20 @@ fn verdict_on<M: Maker>(
     maker: &M,
 ) -> Result<Verdict, CrewFault>
     requires good { IsGood conf.now }
-    requires few { all_events conf.now.slots scripts.now ≤ most_events }
     ensures verdict { IfOk result (λ v.
         v ≡ verdict_of conf.now (all_timed clock scripts.now) output.now) }
     ensures readable { OnOk result (AreReadable scripts.now) }
+    ensures few { OnOk result (all_events conf.now.slots scripts.now ≤ most_events) }
+    ensures many { IfErr result (λ e. e ≡ TooMany
+        → most_events < all_events conf.now.slots scripts.now) }
     ensures pattern { IfErr result (λ e. e ≡ Pattern
-        → SomeRefusable (M.may_refuse maker.now) scripts.now) }
-    ensures others { IfErr result (λ e. e ≢ TooMany) }
+        → (all_events conf.now.slots scripts.now ≤ most_events)
+        × SomeRefusable (M.may_refuse maker.now) scripts.now) }
 {
     match verify(alloc, maker, conf, clock, scripts, output) {
         Ok(verdict) => Ok(verdict),
         Err(VerifyFault::Pattern) => Err(CrewFault::Pattern),
+        Err(VerifyFault::TooMany) => Err(CrewFault::TooMany),
         Err(VerifyFault::Memory) => Err(CrewFault::Memory),
     }
 }
@@ -102,9 +105,6 @@ pub(crate) fn judge<M: Maker>(
         → (all_events conf.now.slots scripts.now ≤ most_events)
         × SomeRefusable (M.may_refuse maker.now) scripts.now) }
 {
-    if event_count(conf.slots, scripts).is_none() {
-        return Err(CrewFault::TooMany);
-    }
     let verdict = verdict_on(alloc, conf, clock, scripts, output, maker)?;
     let mut rest = ByteOut::new(alloc);
     write_verdict(&mut rest, verdict)?;

@@ -12,8 +12,7 @@ fn shape(words: u32) -> Conf {
     Conf {
         words,
         slots: 32,
-        ttl: 0,
-        segments: 1,
+        ..Conf::usual()
     }
 }
 

@@ -1,17 +1,8 @@
--- Events counted step by step and worker by worker.
+-- Budgets gathered worker by worker.
 use Rattle.std.proofs.Common.{◌≡◌, ℕ, ◌+◌, List, [], ◌∷◌, ◌++◌, drop, slice_get, Some, sym, ap, ◌∙◌, append_assoc}
 use Rattle.script_read.specs.declared.script.Step.{Step}
-use Rattle.script_read.specs.Budgets.{events_in, budgets_of, all_events}
-use Rattle.script_read.specs.Calls.{event_bound}
+use Rattle.script_read.specs.Budgets.{events_in, budgets_of}
 use Rattle.play_laws.specs.Parts.{drop_item}
-
-pub step_counted : (slots : ℕ) (script : List Step) (i : ℕ) (step : Step) → slice_get script i ≡ Some step
-    → events_in slots (drop i script) ≡ event_bound slots step.call + events_in slots (drop (i + 1) script)
-step_counted slots script i step is = ap (events_in slots) (drop_item script i step is)
-
-pub worker_counted : (slots : ℕ) (scripts : List (List Step)) (w : ℕ) (script : List Step) → slice_get scripts w ≡ Some script
-    → all_events slots (drop w scripts) ≡ (events_in slots script + 1) + all_events slots (drop (w + 1) scripts)
-worker_counted slots scripts w script is = ap (all_events slots) (drop_item scripts w script is)
 
 -- one budget more
 pub budgets_go_on : (slots : ℕ) (scripts : List (List Step)) (w : ℕ) (script : List Step) (all more : List ℕ) (budget : ℕ) → slice_get scripts w ≡ Some script → budget ≡ events_in slots script + 1

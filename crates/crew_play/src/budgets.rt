@@ -1,30 +1,13 @@
 //! How many events each worker may make.
 
-ghost use Rattle.std.specs.Prelude.{◌≡◌, ◌≢◌, ◌+◌, ◌<◌, ◌≤◌, length};
-ghost use Rattle.std.specs.Prelude.{IfOk, IfErr, IfSome, IfNone};
-ghost use Rattle.script_read.specs.Budgets.{events_in, budgets_of, all_events, most_events};
+ghost use Rattle.std.specs.Prelude.{◌≡◌, ◌≢◌, ◌<◌, ◌≤◌, length, IfOk, IfErr};
+ghost use Rattle.script_read.specs.Budgets.{budgets_of, all_events, most_events};
 ghost use Rattle.crew_play.specs.declared.play.CrewFault.TheVariants.{Memory, TooMany, Pattern};
 
 use crate::play::CrewFault;
 use apcu_model::MOST_EVENTS;
-use script_read::{Script, Scripts};
+use script_read::{Scripts, budget};
 use std::alloc::Global;
-
-// How many events the worker of a script may make, its end included; None where they are too many.
-fn budget(script: &Script, slots: u32) -> Option<u32>
-    ensures some { IfSome result (λ n. n ≡ events_in slots script.now + 1) }
-    ensures few { IfSome result (λ n. n ≤ most_events) }
-    ensures none { IfNone result (most_events < events_in slots script.now + 1) }
-{
-    let mut events = 1u64;
-    for number in 0..script.len() {
-        events = events.saturating_add(script.at(number).call.events(slots));
-        if events > MOST_EVENTS {
-            return None;
-        }
-    }
-    Some(events as u32)
-}
 
 // The budget of each worker, its end included.
 pub(crate) fn budgets(alloc: Global, slots: u32, scripts: &Scripts) -> Result<Vec<u32>, CrewFault>
@@ -36,7 +19,7 @@ pub(crate) fn budgets(alloc: Global, slots: u32, scripts: &Scripts) -> Result<Ve
     let mut all = Vec::with_capacity(alloc, scripts.len() as usize)?;
     let mut events = 0u64;
     for worker in 0..scripts.len() {
-        let Some(budget) = budget(scripts.at(worker), slots) else {
+        let Some(budget) = budget(slots, scripts.at(worker)) else {
             return Err(CrewFault::TooMany);
         };
         events = events.saturating_add(u64::from(budget));

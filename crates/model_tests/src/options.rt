@@ -66,7 +66,7 @@ fn words_in_order(rt: HostRuntime) -> Result<(), Fail> {
             words,
             slots,
             ttl,
-            segments: 1,
+            ..Conf::usual()
         };
         expect(&rt, rt.alloc(), options, Ok(by_line(conf)))?;
     }
@@ -123,7 +123,7 @@ fn values_in_their_range(rt: HostRuntime) -> Result<(), Fail> {
             words,
             slots: slots_wanted,
             ttl: ttl_wanted,
-            segments: 1,
+            ..Conf::usual()
         };
         expect(&rt, rt.alloc(), options.as_slice(), Ok(by_line(conf)))?;
     }
@@ -183,8 +183,8 @@ fn segments_in_their_range(rt: HostRuntime) -> Result<(), Fail> {
         let conf = Conf {
             words,
             slots: slots_wanted,
-            ttl: 0,
             segments: segments_wanted,
+            ..Conf::usual()
         };
         expect(&rt, rt.alloc(), options.as_slice(), Ok(by_line(conf)))?;
     }

@@ -24,8 +24,8 @@ fn shapes_are_good_or_usable(rt: HostRuntime) {
         let conf = Conf {
             words,
             slots,
-            ttl: 0,
             segments,
+            ..Conf::usual()
         };
         assert_eq!(rt; (conf.good(), conf.usable()), (good, usable));
     }

@@ -104,7 +104,7 @@ fn caches_of_generated_runs(rt: HostRuntime) -> Result<(), Fail> {
             words,
             slots: if slots == "2" { 2 } else { 4096 },
             ttl: 7,
-            segments: 1,
+            ..Conf::usual()
         };
         let settings = Settings {
             conf,

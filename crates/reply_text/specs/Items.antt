@@ -11,6 +11,7 @@ use Rattle.apcu_model.specs.declared.items.ItemRow.{ItemRow}
 use Rattle.apcu_model.specs.declared.request.Reply.{Reply}
 use Rattle.apcu_model.specs.declared.request.Reply.TheVariants.{Chunk, Totals}
 use Rattle.apcu_model.specs.Infos.{info_number, info_string}
+use Rattle.script_read.specs.Arguments.{field_bits}
 use Rattle.reply_text.specs.Replies.{Member, array_text, value_members}
 
 -- ---- an item
@@ -23,19 +24,25 @@ NamedValue = List ℕ × List Kind
 abbrev pub numbers_of : List NamedValue → ℕ
 numbers_of values = sum_by (λ (v : NamedValue). length v.1) values
 
+-- each value under the name of the field in its place
+abbrev pub named : List (List ℕ × ℕ) → List (List Kind) → List NamedValue
+named (field ∷ fields) (value ∷ values) = (field.0, value) ∷ named fields values
+named _ _ = []
+
 -- what an item can tell, in the order of the bits from 0 on; a value that was not asked for is null
 abbrev pub item_values : ItemRow → List NamedValue
 item_values row =
-    (codes "key", info_string row.key 1)
-    ∷ (codes "value", unwrap_or row.value (Null ∷ []))
-    ∷ (codes "num_hits", info_number row.hits 1)
-    ∷ (codes "mtime", info_number row.mtime 1)
-    ∷ (codes "creation_time", info_number row.ctime 1)
-    ∷ (codes "deletion_time", info_number row.dtime 1)
-    ∷ (codes "access_time", info_number row.atime 1)
-    ∷ (codes "mem_size", info_number row.size 1)
-    ∷ (codes "ttl", info_number row.ttl 1)
-    ∷ []
+    named field_bits
+    (info_string row.key 1
+    ∷ unwrap_or row.value (Null ∷ [])
+    ∷ info_number row.hits 1
+    ∷ info_number row.mtime 1
+    ∷ info_number row.ctime 1
+    ∷ info_number row.dtime 1
+    ∷ info_number row.atime 1
+    ∷ info_number row.size 1
+    ∷ info_number row.ttl 1
+    ∷ [])
 
 -- the value, if the bit is set
 abbrev pub if_chosen : Fields → ℕ → NamedValue → List NamedValue

@@ -12,6 +12,7 @@ use crate::replies::write_head;
 use apcu_model::{Fields, ItemRow, Reply};
 use itoa::Buffer;
 use notation::{ByteOut, write_key};
+use script_read::FIELDS;
 use std::alloc::AllocError;
 
 // No memory holds so many values.
@@ -31,15 +32,15 @@ fn fields_of(row: &ItemRow) -> [(&[u8], Held<'_>); 9]
     ensures { map field_value result ≡ item_values row.now }
 {
     [
-        (b"key", Held::Text(row.key.as_slice())),
-        (b"value", value_or_null(&row.value)),
-        (b"num_hits", Held::Number(row.hits)),
-        (b"mtime", Held::Number(row.mtime)),
-        (b"creation_time", Held::Number(row.ctime)),
-        (b"deletion_time", Held::Number(row.dtime)),
-        (b"access_time", Held::Number(row.atime)),
-        (b"mem_size", Held::Number(row.size)),
-        (b"ttl", Held::Number(u64::from(row.ttl))),
+        (FIELDS[0].name, Held::Text(row.key.as_slice())),
+        (FIELDS[1].name, value_or_null(&row.value)),
+        (FIELDS[2].name, Held::Number(row.hits)),
+        (FIELDS[3].name, Held::Number(row.mtime)),
+        (FIELDS[4].name, Held::Number(row.ctime)),
+        (FIELDS[5].name, Held::Number(row.dtime)),
+        (FIELDS[6].name, Held::Number(row.atime)),
+        (FIELDS[7].name, Held::Number(row.size)),
+        (FIELDS[8].name, Held::Number(u64::from(row.ttl))),
     ]
 }
 

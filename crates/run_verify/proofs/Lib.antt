@@ -12,7 +12,6 @@ pub mod YesVerdicts
 pub mod FieldlessStruct
 pub mod JudgedLines
 pub mod ExampleVerdicts
-pub mod RefusablePatterns
 pub mod ReadablePatterns
 pub mod GameSeats
 pub mod TimedScripts

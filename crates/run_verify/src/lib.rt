@@ -3,7 +3,6 @@
 #![tactic(auto)]
 
 mod asking;
-mod budget;
 mod comparing;
 mod fault;
 mod laws;
@@ -16,7 +15,6 @@ mod seat;
 mod seats;
 mod verifying;
 
-pub use budget::event_count;
 pub use comparing::difference;
 pub use fault::VerifyFault;
 pub use laws::{lines_tell_marks, plays_are_short, yes_is_an_output};

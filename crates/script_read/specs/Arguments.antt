@@ -163,7 +163,7 @@ search_for _ = None
 
 -- ---- what an iterator tells
 
--- the fields of an item by their names, each with its bit
+-- the fields of an item by their names, each with its bit, from bit 0 on
 abbrev pub field_bits : List (List ℕ × ℕ)
 field_bits =
     (codes "key", 1)

@@ -8,6 +8,7 @@ use Rattle.script_read.specs.declared.fault.ScriptFault.{ScriptFault}
 use Rattle.script_read.specs.declared.fault.ScriptFault.TheVariants as faults
 use Rattle.script_read.specs.declared.effect.Effect.{Effect}
 use Rattle.script_read.specs.declared.effect.Effect.TheVariants.{Sets, Begins, Calls}
+use Rattle.script_read.specs.declared.fields.Field.{Field}
 use Rattle.script_read.specs.declared.keyword.Keyword.{Keyword}
 use Rattle.script_read.specs.declared.keyword.Row.{Row}
 use Rattle.script_read.specs.declared.keyword.Keyword.TheVariants as keywords
@@ -73,6 +74,10 @@ form_named keywords.Unknown = Refuse reasons.Line
 -- the code's words, with what follows each
 abbrev pub forms_of : List Row → List (List ℕ × Form)
 forms_of rows = map (λ row. (row.text.now, form_named row.word)) rows
+
+-- the code's fields, each with its bit
+abbrev pub bits_of : List Field → List (List ℕ × ℕ)
+bits_of fields = map (λ field. (field.name.now, field.bit)) fields
 
 -- what a line does is in range: its moment, or its call's arguments
 abbrev pub IsInRange : Effect → Type 0

@@ -2,12 +2,14 @@
 #![tactic(auto)]
 
 mod arguments;
+mod budgets;
 mod call;
 mod choices;
 mod counters;
 mod drawing;
 mod effect;
 mod fault;
+mod fields;
 mod generators;
 mod information;
 mod iterators;
@@ -23,9 +25,11 @@ mod script;
 mod searches;
 mod stores;
 
+pub use budgets::{budget, event_count};
 pub use call::Call;
 pub use drawing::generate;
 pub use fault::ScriptFault;
+pub use fields::{FIELDS, Field};
 pub use laws::{calls_ask_few, readings_are_scripts, scripts_are_ranged, scripts_cross};
 pub use pool_box::PoolBox;
 pub use reading::read_scripts;

@@ -3,10 +3,11 @@
 ghost use Rattle.std.specs.Prelude.{◌≡◌, ◌≤◌, ◌<◌, length, option_map, IfOk, IfSome};
 ghost use Rattle.script_read.specs.Calls.{most_items};
 ghost use Rattle.script_read.specs.Arguments.{IsThere, slashed, pattern, search_for};
-ghost use Rattle.script_read.specs.Arguments.{field_bit, bit_named, fields, chunk_size};
+ghost use Rattle.script_read.specs.Arguments.{bit_named, fields, chunk_size};
 ghost use Rattle.script_read.specs.Arguments.{list_named, which_list};
 
 use crate::choices::{integer_of, member_string};
+use crate::fields::field_bit;
 use crate::keyword::is_word;
 use apcu_model::{Fields, List, Pattern};
 use php_graph::{Bytes, Child, Graph, Kind};
@@ -56,33 +57,6 @@ pub(crate) fn search_of(alloc: Global, graph: &Graph) -> Result<Option<Option<Pa
             None => Ok(None),
         },
         _ => Ok(None),
-    }
-}
-
-// The bit of a field.
-fn field_bit(name: &[u8]) -> Option<u16>
-    ensures { result ≡ field_bit name.now }
-{
-    if is_word(name, b"key") {
-        Some(1)
-    } else if is_word(name, b"value") {
-        Some(2)
-    } else if is_word(name, b"num_hits") {
-        Some(4)
-    } else if is_word(name, b"mtime") {
-        Some(8)
-    } else if is_word(name, b"creation_time") {
-        Some(16)
-    } else if is_word(name, b"deletion_time") {
-        Some(32)
-    } else if is_word(name, b"access_time") {
-        Some(64)
-    } else if is_word(name, b"mem_size") {
-        Some(128)
-    } else if is_word(name, b"ttl") {
-        Some(256)
-    } else {
-        None
     }
 }
 

@@ -50,8 +50,7 @@ fn opens_or_not(rt: HostRuntime) -> Result<(), Fail> {
     let odd = Conf {
         words: 511,
         slots: 8,
-        ttl: 0,
-        segments: 1,
+        ..Conf::usual()
     };
     let bad = Some(OpenFault::BadConf);
     assert_eq!(rt; fault(&rt, rt.alloc(), &odd, &[1]), bad);

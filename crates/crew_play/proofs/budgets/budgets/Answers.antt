@@ -1,5 +1,6 @@
 use Rattle.std.proofs.Common.{arith, length-append, ◌∷◌, [], ap, length}
-use Rattle.crew_play.proofs.EventCounts.{worker_counted, budgets_go_on}
+use Rattle.script_read.proofs.EventCounts.{worker_counted}
+use Rattle.crew_play.proofs.EventCounts.{budgets_go_on}
 use Rattle.crew_play.proofs.budgets.budgets.Goals as goal
 
 pub returns-in_default-clause-many : goal.returns-in_default-clause-many

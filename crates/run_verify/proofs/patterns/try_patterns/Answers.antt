@@ -2,7 +2,7 @@ use Rattle.std.proofs.Common.{arith}
 use Rattle.std.proofs.lemmas.Result.{err_from_is_err_and}
 use Rattle.run_verify.specs.ReadPatterns.{IsReadableScript}
 use Rattle.run_verify.proofs.ReadablePatterns.{one_more, all_of}
-use Rattle.run_verify.proofs.RefusablePatterns.{script_refusable}
+use Rattle.script_read.proofs.RefusablePatterns.{script_refusable}
 use Rattle.run_verify.proofs.patterns.try_patterns.Goals as goal
 
 pub loop-worker-init : goal.loop-worker-init

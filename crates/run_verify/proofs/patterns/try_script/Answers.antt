@@ -4,7 +4,7 @@ use Rattle.script_read.specs.declared.script.Step.{Step}
 use Rattle.script_read.specs.Patterns.{call_pattern}
 use Rattle.run_verify.specs.ReadPatterns.{IsReadable}
 use Rattle.run_verify.proofs.ReadablePatterns.{one_more, all_of}
-use Rattle.run_verify.proofs.RefusablePatterns.{step_refusable}
+use Rattle.script_read.proofs.RefusablePatterns.{step_refusable}
 use Rattle.run_verify.proofs.patterns.try_script.Goals as goal
 
 pub loop-number-init : goal.loop-number-init

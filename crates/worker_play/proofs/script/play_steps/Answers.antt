@@ -11,7 +11,8 @@ use Rattle.worker_play.specs.Goes.{Reaches, Tells}
 use Rattle.worker_play.specs.Turns.{turns_at, turns_of}
 use Rattle.worker_play.proofs.PassProgress.{Midway, begins, of_ok}
 use Rattle.worker_play.proofs.ScriptSteps.{left_now, left_after, step_goes_on, step_breaks, steps_end}
-use Rattle.worker_play.proofs.RefusablePatterns.{of_if_err, step_refusable}
+use Rattle.script_read.proofs.RefusablePatterns.{step_refusable}
+use Rattle.worker_play.proofs.FailedResults.{of_if_err}
 use Rattle.worker_play.proofs.script.play_steps.Goals as goal
 
 pub loop-index-init : goal.loop-index-init

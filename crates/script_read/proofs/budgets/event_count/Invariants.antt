@@ -1,6 +1,6 @@
 use Rattle.std.proofs.Common.{◌≡◌, ◌+◌, ◌≤◌, drop}
 use Rattle.script_read.specs.Budgets.{all_events, most_events}
-use Rattle.run_verify.proofs.budget.event_count.Given as goal
+use Rattle.script_read.proofs.budgets.event_count.Given as goal
 
 abbrev pub invariant-loop-worker : goal.invariant-loop-worker
 invariant-loop-worker l = record {

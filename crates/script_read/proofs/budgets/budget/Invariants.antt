@@ -1,6 +1,6 @@
 use Rattle.std.proofs.Common.{◌≡◌, ◌+◌, ◌≤◌, drop}
 use Rattle.script_read.specs.Budgets.{events_in, most_events}
-use Rattle.run_verify.proofs.budget.budget.Given as goal
+use Rattle.script_read.proofs.budgets.budget.Given as goal
 
 abbrev pub invariant-loop-number : goal.invariant-loop-number
 invariant-loop-number l = record {

@@ -1,6 +1,6 @@
 use Rattle.std.proofs.Common.{arith}
-use Rattle.run_verify.proofs.EventCounts.{worker_counted}
-use Rattle.run_verify.proofs.budget.event_count.Goals as goal
+use Rattle.script_read.proofs.EventCounts.{worker_counted}
+use Rattle.script_read.proofs.budgets.event_count.Goals as goal
 
 pub returns-in_default-clause-none : goal.returns-in_default-clause-none
 returns-in_default-clause-none c =

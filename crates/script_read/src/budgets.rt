@@ -3,11 +3,12 @@
 ghost use Rattle.std.specs.Prelude.{◌≡◌, ◌+◌, ◌<◌, ◌≤◌, IfSome, IfNone};
 ghost use Rattle.script_read.specs.Budgets.{events_in, all_events, most_events};
 
+use crate::script::{Script, Scripts};
 use apcu_model::MOST_EVENTS;
-use script_read::{Script, Scripts};
 
-// How many events the worker of a script may make, its end included; None where they are too many.
-fn budget(slots: u32, script: &Script) -> Option<u32>
+/// How many events the worker of a script may make, its end included, in a cache of so many slots.
+/// None exactly where they are more than 4,194,304, the most that a cache has.
+pub fn budget(slots: u32, script: &Script) -> Option<u32>
     ensures some { IfSome result (λ n. n ≡ events_in slots script.now + 1) }
     ensures few { IfSome result (λ n. n ≤ most_events) }
     ensures none { IfNone result (most_events < events_in slots script.now + 1) }

@@ -1,6 +1,6 @@
 use Rattle.std.proofs.Common.{arith}
-use Rattle.crew_play.proofs.EventCounts.{step_counted}
-use Rattle.crew_play.proofs.budgets.budget.Goals as goal
+use Rattle.script_read.proofs.EventCounts.{step_counted}
+use Rattle.script_read.proofs.budgets.budget.Goals as goal
 
 pub returns-then-events-gt-MOST_EVENTS-clause-none : goal.returns-then-events-gt-MOST_EVENTS-clause-none
 returns-then-events-gt-MOST_EVENTS-clause-none c =
