@@ -14,7 +14,7 @@ use shared_cache::Shared;
 use std::alloc::Global;
 use std::sync::Wait;
 use std::test::Fail;
-use worker_play::{Context, PlayFault, play_script};
+use worker_play::{PlayFault, play_script};
 
 // A shape of 512 words.
 pub(crate) const CONF: Conf = Conf {
@@ -79,12 +79,5 @@ pub(crate) fn plays<N: TableName, M: Maker + Sync, G: Gate, R: Wait>(
     if !may_play(script, conf.slots, pass.left()) {
         return None;
     }
-    let context = Context {
-        rt,
-        alloc,
-        shared,
-        gate,
-        slots: conf.slots,
-    };
-    Some(play_script(&context, maker, pass, script, clock))
+    Some(play_script(rt, alloc, conf, shared, pass, script, maker, gate, clock))
 }

@@ -10,7 +10,7 @@ ghost use Rattle.worker_play.specs.Goes.{KnowsOwnEvents};
 ghost use Rattle.worker_play.specs.declared.script.PlayFault.TheVariants.{Pattern};
 
 use crate::context::Context;
-use crate::script::{PlayFault, play_script};
+use crate::script::{PlayFault, play_lines};
 use apcu_iter::Maker;
 use apcu_model::Clock;
 use io_edges::Gate;
@@ -43,7 +43,7 @@ pub fn play_out<N: TableName, M: Maker + Sync, G: Gate, R: Wait>(
         → HasRefusable (M.may_refuse maker.now) script.now) }
 {
     one_event_own();
-    let (pass, played) = play_script(context, maker, pass, script, clock);
+    let (pass, played) = play_lines(context, maker, pass, script, clock);
     let ended = context.shared.retire(context.rt, pass);
     (ended, played)
 }

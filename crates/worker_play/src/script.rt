@@ -16,12 +16,13 @@ ghost use Rattle.worker_play.specs.declared.script.PlayFault.TheVariants.{Memory
 use crate::context::{Context, When};
 use crate::searching::play_call;
 use apcu_iter::Maker;
-use apcu_model::Clock;
+use apcu_model::{Clock, Conf};
 use io_edges::{Gate, Point};
 use notation::ByteOut;
 use pin_table::{Pass, TableName};
 use script_read::{Call, Script};
-use std::alloc::AllocError;
+use shared_cache::Shared;
+use std::alloc::{AllocError, Global};
 use std::sync::Wait;
 
 /// Why a worker's script was not played to its end.
@@ -124,23 +125,8 @@ fn play_steps<N: TableName, M: Maker, G: Gate, R: Wait>(
     (held, Ok(()))
 }
 
-/// Plays a worker's script on the shared cache, and gives what its calls print: a line for each,
-/// for the worker's own replies. The gate is told of each call before and after it, of each value
-/// that is copied, between its fetch and its copy, and of each step of an iterator, after it.
-///
-/// A search for a call's pattern is made by `maker`, once, before the call asks anything.
-///
-/// `clock` decides what a call's moment is, as PHP's `apc.use_request_time` does: the second at
-/// which it is made, or that at which its request began.
-///
-/// The pass has made no event, and may make one more than all calls of the script may. It comes
-/// back with the events that are left, which are at most as many fewer as all calls may make. Its
-/// worker has asked in turn what the calls want after its replies, and those are the ones of one
-/// thread at the events' places in what the pass has seen.
-///
-/// Without memory the worker stops, and also where a pattern of its script is none or is refused:
-/// some first of the events were made, and they stand.
-pub fn play_script<N: TableName, M: Maker + Sync, G: Gate, R: Wait>(
+// Plays a worker's script as `play_script` does.
+pub(crate) fn play_lines<N: TableName, M: Maker + Sync, G: Gate, R: Wait>(
     context: &Context<N, G, R>,
     maker: &M,
     pass: Pass,
@@ -168,4 +154,56 @@ pub fn play_script<N: TableName, M: Maker + Sync, G: Gate, R: Wait>(
         Ok(()) => (pass, Ok(out)),
         Err(fault) => (pass, Err(fault)),
     }
+}
+
+/// Plays a worker's script on the shared cache, and gives what its calls print: a line for each,
+/// for the worker's own replies. The gate is told of each call before and after it, of each value
+/// that is copied, between its fetch and its copy, and of each step of an iterator, after it.
+///
+/// A search for a call's pattern is made by `maker`, once, before the call asks anything.
+///
+/// `clock` decides what a call's moment is, as PHP's `apc.use_request_time` does: the second at
+/// which it is made, or that at which its request began.
+///
+/// The pass has made no event, and may make one more than all calls of the script may. It comes
+/// back with the events that are left, which are at most as many fewer as all calls may make. Its
+/// worker has asked in turn what the calls want after its replies, and those are the ones of one
+/// thread at the events' places in what the pass has seen.
+///
+/// Without memory the worker stops, and also where a pattern of its script is none or is refused:
+/// some first of the events were made, and they stand.
+pub fn play_script<N: TableName, M: Maker + Sync, G: Gate, R: Wait>(
+    rt: &R,
+    alloc: Global,
+    conf: &Conf,
+    shared: &Shared<N>,
+    pass: Pass,
+    script: &Script,
+    maker: &M,
+    gate: &G,
+    clock: Clock,
+) -> (Pass, Result<ByteOut, PlayFault>)
+    requires conf { conf.now ≡ N.conf }
+    requires table { pass.table ≡ N.table }
+    requires no_event { pass.known.own ≡ [] }
+    requires whole { KnowsOwnEvents pass }
+    requires left { events_in conf.now.slots script.now < pass.known.left }
+    ensures reaches { Reaches N.conf (length N.budgets) pass result.0
+        (turns_of N.conf (timed clock script.now)) }
+    ensures lines { IfOk result.1 (λ out. Tells N.conf (length N.budgets) pass result.0
+        (turns_of N.conf (timed clock script.now))
+        (script_lines conf.now (timed clock script.now)) out) }
+    ensures left { pass.known.left
+        ≤ result.0.known.left + events_in conf.now.slots script.now }
+    ensures pattern { IfErr result.1 (λ fault. fault ≡ Pattern
+        → HasRefusable (M.may_refuse maker.now) script.now) }
+{
+    let context = Context {
+        rt,
+        alloc,
+        shared,
+        gate,
+        slots: conf.slots,
+    };
+    play_lines(&context, maker, pass, script, clock)
 }

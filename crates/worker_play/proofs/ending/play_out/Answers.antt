@@ -8,14 +8,14 @@ pub retire-ended-requires : goal.retire-ended-requires
 retire-ended-requires g c =
     record {
       pass = record {
-        table = c.play_script-pass.ensures.reaches.goes.table ∙ c.requires.table;
-        left = one_left g.N.TableName.conf (length g.N.TableName.budgets) c.args.pass c.play_script-pass.result.0 c.args.clock c.args.script.now c.play_script-pass.ensures.reaches c.requires.left;
+        table = c.play_lines-pass.ensures.reaches.goes.table ∙ c.requires.table;
+        left = one_left g.N.TableName.conf (length g.N.TableName.budgets) c.args.pass c.play_lines-pass.result.0 c.args.clock c.args.script.now c.play_lines-pass.ensures.reaches c.requires.left;
       };
     }
 
 pub returns-clause-ends : goal.returns-clause-ends
 returns-clause-ends g c =
-    let r = c.play_script-pass.ensures.reaches.goes in
+    let r = c.play_lines-pass.ensures.reaches.goes in
     let f = c.retire-ended.ensures in
     let laws : OwnLaws = record { more = c.one_event_own.ensures.more; others = c.one_event_own.ensures.others } in
     let none = unanswered laws g.N.TableName.conf c.args.pass c.requires.no_event c.requires.whole in
@@ -23,6 +23,6 @@ returns-clause-ends g c =
       table = f.table ∙ (r.table ∙ c.requires.table);
       worker = f.worker ∙ r.worker;
       all_own = f.all_own;
-      begun = has_asked laws g.N.TableName.conf (length g.N.TableName.budgets) c.args.pass c.play_script-pass.result.0 c.retire-ended.result (timed c.args.clock c.args.script.now) c.requires.no_event none c.play_script-pass.ensures.reaches f;
-      plays = plays_out_if laws g.N.TableName.conf (length g.N.TableName.budgets) c.args.pass c.play_script-pass.result.0 c.retire-ended.result (timed c.args.clock c.args.script.now) c.play_script-pass.result.1 c.requires.no_event none c.play_script-pass.ensures.lines f;
+      begun = has_asked laws g.N.TableName.conf (length g.N.TableName.budgets) c.args.pass c.play_lines-pass.result.0 c.retire-ended.result (timed c.args.clock c.args.script.now) c.requires.no_event none c.play_lines-pass.ensures.reaches f;
+      plays = plays_out_if laws g.N.TableName.conf (length g.N.TableName.budgets) c.args.pass c.play_lines-pass.result.0 c.retire-ended.result (timed c.args.clock c.args.script.now) c.play_lines-pass.result.1 c.requires.no_event none c.play_lines-pass.ensures.lines f;
     }
