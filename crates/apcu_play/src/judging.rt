@@ -1,6 +1,6 @@
 //! Judging an output.
 
-ghost use Rattle.std.specs.Prelude.{◌≡◌, ◌<◌, ◌≤◌, ◌++◌, codes, IfOk, IfErr, OnOk};
+ghost use Rattle.std.specs.Prelude.{◌≡◌, ◌≢◌, ◌<◌, ◌≤◌, ◌++◌, codes, IfOk, IfErr, OnOk};
 ghost use Rattle.std.specs.Fmt.{decimal};
 ghost use Rattle.apcu_model.specs.Conf.{IsGood};
 ghost use Rattle.script_read.specs.Budgets.{all_events, most_events};
@@ -21,7 +21,7 @@ use crew_play::CrewFault;
 use itoa::Buffer;
 use notation::ByteOut;
 use run_verify::{Verdict, VerifyFault, verify};
-use script_read::Scripts;
+use script_read::{Scripts, event_count};
 use std::alloc::{AllocError, Global};
 
 // A line of these words and a number.
@@ -56,7 +56,7 @@ fn ending_for(verdict: Verdict) -> Status
     }
 }
 
-// The verdict on an output.
+// The verdict on an output, for scripts of few enough events.
 fn verdict_on<M: Maker>(
     alloc: Global,
     conf: &Conf,
@@ -66,20 +66,17 @@ fn verdict_on<M: Maker>(
     maker: &M,
 ) -> Result<Verdict, CrewFault>
     requires good { IsGood conf.now }
+    requires few { all_events conf.now.slots scripts.now ≤ most_events }
     ensures verdict { IfOk result (λ v.
         v ≡ verdict_of conf.now (all_timed clock scripts.now) output.now) }
     ensures readable { OnOk result (AreReadable scripts.now) }
-    ensures few { OnOk result (all_events conf.now.slots scripts.now ≤ most_events) }
-    ensures many { IfErr result (λ e. e ≡ TooMany
-        → most_events < all_events conf.now.slots scripts.now) }
     ensures pattern { IfErr result (λ e. e ≡ Pattern
-        → (all_events conf.now.slots scripts.now ≤ most_events)
-        × SomeRefusable (M.may_refuse maker.now) scripts.now) }
+        → SomeRefusable (M.may_refuse maker.now) scripts.now) }
+    ensures others { IfErr result (λ e. e ≢ TooMany) }
 {
     match verify(alloc, maker, conf, clock, scripts, output) {
         Ok(verdict) => Ok(verdict),
         Err(VerifyFault::Pattern) => Err(CrewFault::Pattern),
-        Err(VerifyFault::TooMany) => Err(CrewFault::TooMany),
         Err(VerifyFault::Memory) => Err(CrewFault::Memory),
     }
 }
@@ -105,6 +102,9 @@ pub(crate) fn judge<M: Maker>(
         → (all_events conf.now.slots scripts.now ≤ most_events)
         × SomeRefusable (M.may_refuse maker.now) scripts.now) }
 {
+    if event_count(conf.slots, scripts).is_none() {
+        return Err(CrewFault::TooMany);
+    }
     let verdict = verdict_on(alloc, conf, clock, scripts, output, maker)?;
     let mut rest = ByteOut::new(alloc);
     write_verdict(&mut rest, verdict)?;

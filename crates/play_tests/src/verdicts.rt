@@ -4,7 +4,7 @@ use crate::playing::CONF;
 use apcu_iter::{Maker, RefuseAll, RegexMaker};
 use apcu_model::Clock;
 use run_verify::{Verdict, VerifyFault, plays_are_short, verify};
-use script_read::read_scripts;
+use script_read::{event_count, read_scripts};
 use std::alloc::Global;
 use std::process::Abort;
 use std::test::Fail;
@@ -24,6 +24,9 @@ fn judged<M: Maker>(
     assert!(rt; scripts.len() < 1000);
     assert!(rt; CONF.good());
     let scripts = read_scripts(alloc, scripts)?;
+    let Some(_events) = event_count(CONF.slots, &scripts) else {
+        return Err(Fail::new("too many events"));
+    };
     Ok(verify(alloc, maker, &CONF, clock, &scripts, output))
 }
 

@@ -8,9 +8,9 @@ ghost use Rattle.script_read.specs.Play.{marked};
 ghost use Rattle.run_verify.specs.Games.{IsGame};
 ghost use Rattle.run_verify.specs.Marks.{IsMarked};
 ghost use Rattle.run_verify.specs.Seats.{IsAnySeat, IsSeat};
-ghost use Rattle.run_verify.specs.declared.fault.JudgeFault.TheVariants.{Pattern};
+ghost use Rattle.run_verify.specs.declared.fault.VerifyFault.TheVariants.{Pattern};
 
-use crate::fault::JudgeFault;
+use crate::fault::VerifyFault;
 use crate::patterns::search_for;
 use crate::played::Played;
 use crate::seat::{Seat, keep, settle, wish_of};
@@ -31,7 +31,7 @@ fn play_wish<M: Maker>(
     seat: &mut Seat,
     replay: &mut Replay,
     mark: Mark,
-) -> Result<bool, JudgeFault>
+) -> Result<bool, VerifyFault>
     requires seat { IsAnySeat conf.now (timed clock script.now) seat.old }
     requires worker { mark.worker < 64 }
     requires left { 0 < replay.old.left }
@@ -68,7 +68,7 @@ pub(crate) fn play_mark<M: Maker>(
     seats: &mut [Seat],
     played: &Played,
     mark: Mark,
-) -> Result<Option<Played>, JudgeFault>
+) -> Result<Option<Played>, VerifyFault>
     requires worker { mark.worker < 64 }
     requires game { IsGame conf.now (all_timed clock scripts.now) replay.old seats.old
         played.now.game }

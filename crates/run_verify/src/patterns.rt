@@ -6,16 +6,16 @@ ghost use Rattle.script_read.specs.Patterns.{call_pattern, MayBeRefused, HasRefu
 ghost use Rattle.script_read.specs.Patterns.{SomeRefusable};
 ghost use Rattle.run_verify.specs.ReadPatterns.{IsReadable, IsReadableScript, AreReadable};
 ghost use Rattle.run_verify.specs.Seats.{IsSearching, KnowsPattern};
-ghost use Rattle.run_verify.specs.declared.fault.JudgeFault.TheVariants as faults;
+ghost use Rattle.run_verify.specs.declared.fault.VerifyFault.TheVariants as faults;
 
-use crate::fault::JudgeFault;
+use crate::fault::VerifyFault;
 use crate::seat::Seat;
 use apcu_iter::{Maker, Search, SearchFault};
 use script_read::{Call, Script, Scripts};
 use std::alloc::Global;
 
 // Makes the regex of a call's pattern, if it has one, and drops it again.
-fn try_call<M: Maker>(alloc: Global, maker: &M, call: &Call) -> Result<(), JudgeFault>
+fn try_call<M: Maker>(alloc: Global, maker: &M, call: &Call) -> Result<(), VerifyFault>
     requires { HasRanges call.now }
     ensures readable { OnOk result (IsReadable (call_pattern call.now)) }
     ensures pattern { IfErr result (λ fault. fault ≡ faults.Pattern
@@ -26,13 +26,13 @@ fn try_call<M: Maker>(alloc: Global, maker: &M, call: &Call) -> Result<(), Judge
     };
     match maker.build(alloc, &pattern) {
         Ok(_regex) => Ok(()),
-        Err(SearchFault::BadPattern | SearchFault::TooBig) => Err(JudgeFault::Pattern),
-        Err(SearchFault::Memory) => Err(JudgeFault::Memory),
+        Err(SearchFault::BadPattern | SearchFault::TooBig) => Err(VerifyFault::Pattern),
+        Err(SearchFault::Memory) => Err(VerifyFault::Memory),
     }
 }
 
 // The same of each call of a script.
-fn try_script<M: Maker>(alloc: Global, maker: &M, script: &Script) -> Result<(), JudgeFault>
+fn try_script<M: Maker>(alloc: Global, maker: &M, script: &Script) -> Result<(), VerifyFault>
     ensures readable { OnOk result (IsReadableScript script.now) }
     ensures pattern { IfErr result (λ fault. fault ≡ faults.Pattern
         → HasRefusable (M.may_refuse maker.now) script.now) }
@@ -49,7 +49,7 @@ pub(crate) fn try_patterns<M: Maker>(
     alloc: Global,
     maker: &M,
     scripts: &Scripts,
-) -> Result<(), JudgeFault>
+) -> Result<(), VerifyFault>
     ensures readable { OnOk result (AreReadable scripts.now) }
     ensures pattern { IfErr result (λ fault. fault ≡ faults.Pattern
         → SomeRefusable (M.may_refuse maker.now) scripts.now) }
@@ -62,7 +62,7 @@ pub(crate) fn try_patterns<M: Maker>(
 
 // The search of a call, for each step that it makes. A call without a pattern has one for all keys,
 // and takes no memory for it.
-fn search_of<M: Maker>(alloc: Global, maker: &M, call: &Call) -> Result<Search, JudgeFault>
+fn search_of<M: Maker>(alloc: Global, maker: &M, call: &Call) -> Result<Search, VerifyFault>
     requires { HasRanges call.now }
     ensures made { IfOk result (λ search. search ≡ call_pattern call.now) }
     ensures pattern { IfErr result (λ fault. fault ≡ faults.Pattern
@@ -71,8 +71,8 @@ fn search_of<M: Maker>(alloc: Global, maker: &M, call: &Call) -> Result<Search, 
     let pattern = call.pattern(alloc)?;
     match Search::new(alloc, maker, pattern.as_ref()) {
         Ok(search) => Ok(search),
-        Err(SearchFault::BadPattern | SearchFault::TooBig) => Err(JudgeFault::Pattern),
-        Err(SearchFault::Memory) => Err(JudgeFault::Memory),
+        Err(SearchFault::BadPattern | SearchFault::TooBig) => Err(VerifyFault::Pattern),
+        Err(SearchFault::Memory) => Err(VerifyFault::Memory),
     }
 }
 
@@ -82,7 +82,7 @@ pub(crate) fn search_for<M: Maker>(
     maker: &M,
     script: &Script,
     seat: &mut Seat,
-) -> Result<(), JudgeFault>
+) -> Result<(), VerifyFault>
     requires { KnowsPattern script.now seat.old }
     ensures made { OnOk result (IsSearching script.now seat.old seat.new) }
     ensures pattern { IfErr result (λ fault. fault ≡ faults.Pattern

@@ -1,8 +1,7 @@
 //! Judging an output: its journal part is played line by line, and then the output is compared with
 //! what those events print.
 
-ghost use Rattle.std.specs.Prelude.{◌≡◌, ◌<◌, ◌≤◌, ◌-◌, ◌++◌, length, drop, Some, IfOk};
-ghost use Rattle.std.specs.Prelude.{IfErr, OnOk};
+ghost use Rattle.std.specs.Prelude.{◌≡◌, ◌≤◌, ◌-◌, ◌++◌, length, drop, Some, IfOk, IfErr, OnOk};
 ghost use Rattle.apcu_model.specs.Conf.{IsGood};
 ghost use Rattle.reply_text.specs.Output.{worker_texts};
 ghost use Rattle.script_read.specs.Budgets.{all_events, most_events};
@@ -11,11 +10,10 @@ ghost use Rattle.script_read.specs.Patterns.{SomeRefusable};
 ghost use Rattle.run_verify.specs.Verdicts.{verdict_of, journal_part, byte_verdict};
 ghost use Rattle.run_verify.specs.Verdicts.{first_difference};
 ghost use Rattle.run_verify.specs.ReadPatterns.{AreReadable};
-ghost use Rattle.run_verify.specs.declared.fault.JudgeFault.TheVariants as faults;
-ghost use Rattle.run_verify.specs.declared.fault.VerifyFault.TheVariants.{TooMany, Pattern};
+ghost use Rattle.run_verify.specs.declared.fault.VerifyFault.TheVariants.{Pattern};
 
 use crate::comparing::difference;
-use crate::fault::{JudgeFault, VerifyFault};
+use crate::fault::VerifyFault;
 use crate::marks::play_mark;
 use crate::patterns::try_patterns;
 use crate::played::Played;
@@ -63,20 +61,21 @@ fn judge<M: Maker>(
     conf: &Conf,
     clock: Clock,
     scripts: &Scripts,
-    events: u32,
     output: &[u8],
     part: usize,
-) -> Result<Verdict, JudgeFault>
+) -> Result<Verdict, VerifyFault>
     requires good { IsGood conf.now }
-    requires events { events ≡ all_events conf.now.slots scripts.now }
-    requires few { events ≤ most_events }
+    requires few { all_events conf.now.slots scripts.now ≤ most_events }
     requires within { part ≤ length output.now }
     requires part { journal_part output.now ≡ Some (drop part output.now) }
     ensures verdict { IfOk result (λ v.
         v ≡ verdict_of conf.now (all_timed clock scripts.now) output.now) }
-    ensures pattern { IfErr result (λ fault. fault ≡ faults.Pattern
+    ensures pattern { IfErr result (λ fault. fault ≡ Pattern
         → SomeRefusable (M.may_refuse maker.now) scripts.now) }
 {
+    let Some(events) = event_count(conf.slots, scripts) else {
+        unreachable!();
+    };
     let mut replay = Replay::new(alloc, conf, events)?;
     let mut seats = seats_for(alloc, scripts)?;
     let mut played = Played::start(conf, &clock, scripts);
@@ -116,40 +115,13 @@ fn judge<M: Maker>(
     Ok(compared(output, texts.as_slice(), part - 8))
 }
 
-// The verdict on an output, for scripts of so many events. The regex of each pattern is made before
-// the output is looked at.
-fn verdict_on<M: Maker>(
-    alloc: Global,
-    maker: &M,
-    conf: &Conf,
-    clock: Clock,
-    scripts: &Scripts,
-    events: u32,
-    output: &[u8],
-) -> Result<Verdict, JudgeFault>
-    requires good { IsGood conf.now }
-    requires events { events ≡ all_events conf.now.slots scripts.now }
-    requires few { events ≤ most_events }
-    ensures verdict { IfOk result (λ v.
-        v ≡ verdict_of conf.now (all_timed clock scripts.now) output.now) }
-    ensures readable { OnOk result (AreReadable scripts.now) }
-    ensures pattern { IfErr result (λ fault. fault ≡ faults.Pattern
-        → SomeRefusable (M.may_refuse maker.now) scripts.now) }
-{
-    try_patterns(alloc, maker, scripts)?;
-    let Some(part) = journal_at(output) else {
-        return Ok(Verdict::NoJournal);
-    };
-    judge(alloc, maker, conf, clock, scripts, events, output, part)
-}
-
 /// What an output is, beside the scripts that it is said to come from, for a cache of this shape
-/// and this clock. It is gone over once. Its journal is played by one thread.
+/// and this clock. It is gone over once. Its journal is played by one thread, and its events are
+/// no more than those of the scripts.
 ///
-/// Nothing is judged where the calls may make more than 4,194,304 events, each worker's end
-/// included. The regex of each pattern is made before the output is looked at, so there is a
-/// verdict only where each of them is a pattern. `Pattern` comes only where a call of the scripts
-/// has one that may be refused.
+/// The regex of each pattern is made before the output is looked at, so there is a verdict only
+/// where each of them is a pattern. `Pattern` comes only where a call of the scripts has one that
+/// may be refused.
 pub fn verify<M: Maker>(
     alloc: Global,
     maker: &M,
@@ -159,23 +131,16 @@ pub fn verify<M: Maker>(
     output: &[u8],
 ) -> Result<Verdict, VerifyFault>
     requires good { IsGood conf.now }
+    requires few { all_events conf.now.slots scripts.now ≤ most_events }
     ensures verdict { IfOk result (λ v.
         v ≡ verdict_of conf.now (all_timed clock scripts.now) output.now) }
     ensures readable { OnOk result (AreReadable scripts.now) }
-    ensures few { OnOk result (all_events conf.now.slots scripts.now ≤ most_events) }
-    ensures many { IfErr result (λ fault. fault ≡ TooMany
-        → most_events < all_events conf.now.slots scripts.now) }
-    // A pattern of the scripts may be refused, and they are not too many.
     ensures pattern { IfErr result (λ fault. fault ≡ Pattern
-        → (all_events conf.now.slots scripts.now ≤ most_events)
-        × SomeRefusable (M.may_refuse maker.now) scripts.now) }
+        → SomeRefusable (M.may_refuse maker.now) scripts.now) }
 {
-    let Some(events) = event_count(conf.slots, scripts) else {
-        return Err(VerifyFault::TooMany);
+    try_patterns(alloc, maker, scripts)?;
+    let Some(part) = journal_at(output) else {
+        return Ok(Verdict::NoJournal);
     };
-    match verdict_on(alloc, maker, conf, clock, scripts, events, output) {
-        Ok(verdict) => Ok(verdict),
-        Err(JudgeFault::Pattern) => Err(VerifyFault::Pattern),
-        Err(JudgeFault::Memory) => Err(VerifyFault::Memory),
-    }
+    judge(alloc, maker, conf, clock, scripts, output, part)
 }

@@ -28,7 +28,7 @@ lines-init g c =
       judged = subst (λ (x : Game). IsJudgedTo conf s c.args.output.now c.args.part c.args.part 0 x.play) (sym c.start-played.ensures)
           (judged_none conf s c.args.output.now c.args.part c.requires.within c.requires.part);
       game = subst (λ (x : Game). IsGame conf s c.in_ok-replay.replay seats x) (sym c.start-played.ensures)
-          (subst (λ (r : Replayed). IsGame conf s r seats (game_begun conf s)) (sym c.in_ok-replay.ensures) (c.in_ok-seats.ensures conf c.args.clock c.args.events));
+          (subst (λ (r : Replayed). IsGame conf s r seats (game_begun conf s)) (sym c.in_ok-replay.ensures) (c.in_ok-seats.ensures conf c.args.clock c.in-Some.events));
       left = omega (arith, ap (λ (r : Replayed). r.left) c.in_ok-replay.ensures);
     }
 
@@ -37,7 +37,7 @@ returns-then-k-events-clause-verdict g c =
     let conf = c.args.conf.now in
     let s = all_timed c.args.clock c.args.scripts.now in
     let p = c.lines.played.game.play in
-    let all : all_events conf.slots s ≤ c.lines.k = omega (arith, c.if-k-events.true, c.requires.events, timed_all conf.slots c.args.clock c.args.scripts.now) in
+    let all : all_events conf.slots s ≤ c.lines.k = omega (arith, c.if-k-events.true, c.in-Some.ensures.some, timed_all conf.slots c.args.clock c.args.scripts.now) in
     judged_stop conf s c.args.output.now c.args.part c.lines.at c.line_end-end.result c.lines.k p c.lines.invariant.judged c.line_end-end.ensures.line
     (none_more conf s c.args.output.now c.args.part c.lines.at c.lines.k p c.lines.invariant.judged all (take (c.line_end-end.result - c.lines.at) (drop c.lines.at c.args.output.now)))
 
@@ -49,13 +49,13 @@ lines-preserved g c =
     let p = c.lines.played.game.play in
     let q = c.in-Some-2.next.game.play in
     let end = c.line_end-end.result in
-    let goes : Some q ≡ marked conf s p c.in-Some.mark = ap (option_map (λ (x : Played). x.game.play)) (sym c.in-Some-2.is) ∙ c.in_ok-next.ensures.marked in
+    let goes : Some q ≡ marked conf s p c.in-Some-read_mark.mark = ap (option_map (λ (x : Played). x.game.play)) (sym c.in-Some-2.is) ∙ c.in_ok-next.ensures.marked in
     let game : IsGame conf s c.play_mark.new.replay c.play_mark.new.seats c.in-Some-2.next.game =
     subst (λ (r : Option Played). IfSome r (λ (x : Played). IsGame conf s c.play_mark.new.replay c.play_mark.new.seats x.game)) c.in-Some-2.is c.in_ok-next.ensures.game in
     let left = subst (λ (r : Option Played). IfSome r (λ (x : Played). c.play_mark.new.replay.left + 1 ≡ c.lines.replay.left)) c.in-Some-2.is c.in_ok-next.ensures.left in
     record {
       judged = judged_more conf s o c.args.part c.lines.at end c.lines.k p q c.lines.invariant.judged c.line_end-end.ensures.past c.line_end-end.ensures.within c.line_end-end.ensures.line
-          (line_mark conf s p (take (end - c.lines.at) (drop c.lines.at o)) c.in-Some.mark (Some q) c.in-Some.ensures goes);
+          (line_mark conf s p (take (end - c.lines.at) (drop c.lines.at o)) c.in-Some-read_mark.mark (Some q) c.in-Some-read_mark.ensures goes);
       game = subst (λ (l : List Seat). IsGame conf s c.play_mark.new.replay l c.in-Some-2.next.game)
           (sym (written_back c.lines.seats.len c.play_mark.new.seats c.lines.seats.items (c.play_mark.auto.seats ∙ ap length c.deref_mut.ensures.value) c.lines.seats.ok.0)) game;
       left = omega (arith, left, c.lines.invariant.left);
