@@ -55,9 +55,7 @@ fn answer_input<R: Threads + Wait + Sync, M: Maker + Sync, G: Gate + Sync>(
         (Play preload map) bytes.now) }
 {
     let crew = crew_of(alloc, bytes, preload)?;
-    let conf = &settings.conf;
-    let clock = settings.clock;
-    let played = play(rt, alloc, conf, &crew, preload, map, maker, gate, clock);
+    let played = play(rt, alloc, settings, &crew, preload, map, maker, gate);
     // The program ends soon, and its memory goes at once.
     forget(crew);
     match played {

@@ -16,7 +16,8 @@ use crate::journal::write_journal;
 use crate::status::Status;
 use crate::summary::write_summary;
 use apcu_iter::Maker;
-use apcu_model::{Clock, Conf};
+use apcu_model::Conf;
+use conf_read::Settings;
 use crew_play::{CrewFault, Left, Played, play_generated, play_loaded, play_scripts};
 use io_edges::Gate;
 use notation::ByteOut;
@@ -75,26 +76,27 @@ fn printed_of(alloc: Global, played: Played) -> Result<Printed, AllocError>
 pub(crate) fn play<R: Threads + Wait + Sync, M: Maker + Sync, G: Gate + Sync>(
     rt: &R,
     alloc: Global,
-    conf: &Conf,
+    settings: &Settings,
     scripts: &Scripts,
     preload: Option<u64>,
     map: bool,
     maker: &M,
     gate: &G,
-    clock: Clock,
 ) -> Result<Printed, CrewFault>
-    requires good { IsGood conf.now }
+    requires good { IsGood settings.now.conf }
     requires some { IfSome preload (λ _. 1 ≤ length scripts.now) }
-    ensures output { IfOk result (λ p. PrintsCrew conf.now clock preload map scripts.now
-        (worker_texts 0 p.texts.items ++ p.rest)) }
+    ensures output { IfOk result (λ p. PrintsCrew settings.now.conf settings.now.clock
+        preload map scripts.now (worker_texts 0 p.texts.items ++ p.rest)) }
     ensures ends { IfOk result (λ p. p.ends ≡ Status.Done) }
-    ensures few { OnOk result (all_events conf.now.slots scripts.now ≤ most_events) }
+    ensures few { OnOk result (all_events settings.now.conf.slots scripts.now ≤ most_events) }
     ensures many { IfErr result (λ e. e ≡ TooMany
-        → most_events < all_events conf.now.slots scripts.now) }
+        → most_events < all_events settings.now.conf.slots scripts.now) }
     ensures pattern { IfErr result (λ e. e ≡ Pattern
-        → (all_events conf.now.slots scripts.now ≤ most_events)
+        → (all_events settings.now.conf.slots scripts.now ≤ most_events)
         × SomeRefusable (M.may_refuse maker.now) scripts.now) }
 {
+    let conf = &settings.conf;
+    let clock = settings.clock;
     match preload {
         None => {
             let played = play_scripts(rt, alloc, conf, scripts, maker, gate, clock, map)?;
