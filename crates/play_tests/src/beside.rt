@@ -28,6 +28,9 @@ fn two_passes<N: TableName>(passes: &mut Passes) -> Option<(Pass, Pass)>
     requires passes { passes.old ≡ first_passes N.table N.budgets 2 }
     ensures first { IfSome result (λ p. p.0 ≡ first_pass N.table N.budgets 0) }
     ensures second { IfSome result (λ p. p.1 ≡ first_pass N.table N.budgets 1) }
+    ensures tables { IfSome result (λ p. (p.0.table ≡ N.table) × (p.1.table ≡ N.table)) }
+    ensures no_event { IfSome result (λ p. (p.0.known.own ≡ []) × (p.1.known.own ≡ [])) }
+    ensures whole { IfSome result (λ p. KnowsOwnEvents p.0 × KnowsOwnEvents p.1) }
 {
     let second = passes.pop()?;
     let first = passes.pop()?;

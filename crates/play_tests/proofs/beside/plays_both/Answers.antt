@@ -1,10 +1,9 @@
-use Rattle.std.proofs.Common.{◌≡◌, ℕ, ◌<◌, true, List, [], ◌∷◌, length, Option, Some, refl, sym, ap, subst, ◌∙◌, arith, rules}
+use Rattle.std.proofs.Common.{◌≡◌, ℕ, ◌<◌, true, List, [], ◌∷◌, length, Option, Some, ap, subst, ◌∙◌, arith, rules}
 use Rattle.std.specs.Prelude.{◌==◌, ◌||◌, false, IfSome}
 use Rattle.std.proofs.lemmas.Bool.Decides.{nat_tests}
 use Rattle.pin_table.specs.Values.{PassView}
 use Rattle.pin_table.specs.Lists.{known_list}
 use Rattle.pin_table.specs.Views.{is_among}
-use Rattle.worker_play.specs.Goes.{KnowsOwnEvents}
 use Rattle.play_tests.proofs.beside.plays_both.Goals as goal
 
 of_some : {A : Type 0} (P : A → Type 0) (r : Option A) (x : A) → r ≡ Some x → IfSome r P → P x
@@ -16,14 +15,6 @@ one_of_two x y w first second below = grind (arith, nat_tests, first, second, be
 both_among : (n : ℕ) (ended : List PassView) (a b : PassView) → n ≡ 2 → a.known.worker ≡ 0 → b.known.worker ≡ 1 → ended ≡ a ∷ b ∷ [] → (w : ℕ) → w < n → is_among w (known_list ended) ≡ true
 both_among n ended a b two first second is w below =
     ap (λ (l : List PassView). is_among w (known_list l)) is ∙ one_of_two a.known.worker b.known.worker w first second (omega (arith, two, below))
-
-pub join-a-requires-after_bounds : goal.join-a-requires-after_bounds
-join-a-requires-after_bounds g c κs within =
-    let conf = sym (c.requires.conf ∙ c.requires.shape) in
-    let first = c.in_ok-first.ensures.first in (
-      ((conf, ap (λ (b : PassView). b.table) first, ap (λ (b : PassView). b.known.own) first, subst KnowsOwnEvents (sym first) refl), search rules),
-      search rules,
-    )
 
 pub close-requires-clause-every : goal.close-requires-clause-every
 close-requires-clause-every g c =
