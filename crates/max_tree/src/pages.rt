@@ -72,6 +72,19 @@ pub fn first_in_page(numbers: &[u32], k: usize, n: u32) -> Option<usize>
     None
 }
 
+// Makes the numbers from `start` up to `end` 0.
+fn clear_span(numbers: &mut [u32], start: usize, end: usize)
+    requires { (start ≤ end) × (end ≤ length numbers.old) }
+    ensures count { length numbers.new ≡ length numbers.old }
+    ensures zeros { (i : ℕ) → start ≤ i → i < end → slice_index numbers.new i ≡ 0 }
+    ensures before { (i : ℕ) → i < start → slice_index numbers.new i ≡ slice_index numbers.old i }
+    ensures after { (i : ℕ) → end ≤ i → slice_index numbers.new i ≡ slice_index numbers.old i }
+{
+    for i in start..end {
+        numbers[i] = 0;
+    }
+}
+
 // Makes the numbers of the page 0.
 fn clear_page(numbers: &mut [u32], k: usize)
     requires { PAGE * k ≤ length numbers.old }
@@ -83,9 +96,12 @@ fn clear_page(numbers: &mut [u32], k: usize)
         → slice_index numbers.new i ≡ slice_index numbers.old i }
 {
     let start = PAGE * k;
-    let left = numbers.len() - start;
-    for i in start..start + left.min(PAGE) {
-        numbers[i] = 0;
+    let end = numbers.len();
+    if end - start >= PAGE {
+        clear_span(numbers, start, start + PAGE);
+    } else {
+        // The last page may have fewer numbers.
+        clear_span(numbers, start, end);
     }
 }
 
