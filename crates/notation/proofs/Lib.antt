@@ -7,6 +7,7 @@ pub mod MemberTexts
 pub mod ValueTexts
 pub mod PartReadBack
 pub mod ValueReadBack
+pub mod ShortDecimals
 pub mod Bounds
 pub mod Graphs
 pub mod PrefixFreeTexts

@@ -151,10 +151,30 @@ pub fn write_string_head(count: usize, out: &mut ByteOut) -> Result<(), AllocErr
     ensures ok { OnOk result (out.new ≡ out.old ++ string_head count) }
     ensures err { OnErr result (Extends out.old out.new) }
 {
+    // Most strings are short: their head is gathered, and appended at once.
+    if count < 10 {
+        return out.push(&[b's', b':', digit(count), b':', b'"']);
+    }
+    if count < 100 {
+        let (tens, ones) = (digit(count / 10), digit(count % 10));
+        return out.push(&[b's', b':', tens, ones, b':', b'"']);
+    }
+    if count < 1000 {
+        let (tens, ones) = (digit(count / 10 % 10), digit(count % 10));
+        return out.push(&[b's', b':', digit(count / 100), tens, ones, b':', b'"']);
+    }
     let mut buffer = Buffer::new();
     out.push(b"s:")?;
     out.push(buffer.format(count).as_bytes())?;
     out.push(b":\"")
+}
+
+// The digit of a number below ten.
+fn digit(n: usize) -> u8
+    requires { n < 10 }
+    ensures { result ≡ 48 + n }
+{
+    b'0' + n as u8
 }
 
 fn put_string(bytes: &[u8], out: &mut ByteOut) -> Result<(), AllocError>
