@@ -1,7 +1,9 @@
 -- Places that are told, one after the other, and where an image has them.
 use Rattle.std.proofs.Common.{◌≡◌, ◌∙◌, ℕ, zero, suc, ◌+◌, ◌-◌, ◌*◌, ◌≤◌, ◌<◌, ◌^◌, List, [], ◌∷◌}
 use Rattle.std.proofs.Common.{◌++◌, length, refl, sym, ap, arith, length-append}
+use Rattle.std.proofs.Common.{map}
 use Rattle.std.proofs.lemmas.List.{append_assoc, map-append}
+use Rattle.std.specs.Prelude.{sum_by}
 use Rattle.std.proofs.lemmas.List.Sums.{sum_by-cons, sum_by-append}
 use Rattle.std.specs.Prelude.{pos}
 use Rattle.std.specs.Borrow.{Bor}
@@ -17,7 +19,7 @@ use Rattle.php_graph.specs.Graph.{most_values}
 use Rattle.php_graph.specs.PlaceOffsets.{kinds_at, offsets_at, offsets_from}
 use Rattle.php_graph.specs.Size.{cells_of, image_length, key_cells}
 use Rattle.apcu_model.specs.InfoGraphs.{IsLaidOut, sized_members, name_cells, stepped_members}
-use Rattle.apcu_model.specs.InfoGraphs.{stepped_end}
+use Rattle.apcu_model.specs.InfoGraphs.{single_members, stepped_end}
 
 offsets_append : (n : ℕ) (ks more : List Kind)
     → offsets_from n (ks ++ more) ≡ offsets_from n ks ++ offsets_from (n + image_length ks) more
@@ -68,6 +70,34 @@ array_cells place (f ∷ fs) =
       array_cells (place + f.1) fs,
       sum_by-cons (λ (x : Bor (List ℕ) × ℕ). 2 + words_in (length x.0.now)) f fs,
       sum_by-cons (λ (x : Key × Child). 1 + key_cells x.0) m rest,
+    )
+
+-- the same of an array under these keys, whose values have a place each
+pub single_cells : (place : ℕ) (ks : List Key)
+    → cells_of (kinds.Array (single_members place ks)) ≡ 1 + sum_by (λ (k : Key). 1 + key_cells k) ks
+single_cells place [] = refl
+single_cells place (k ∷ ks) =
+    let rest = single_members (place + 1) ks in
+    let m : Key × Child = (k, Own place) in
+    omega (
+      arith,
+      single_cells (place + 1) ks,
+      sum_by-cons (λ (x : Key). 1 + key_cells x) k ks,
+      sum_by-cons (λ (x : Key × Child). 1 + key_cells x.0) m rest,
+    )
+
+-- names that are keys
+pub key_words : (names : List (Bor (List ℕ)))
+    → sum_by (λ (k : Key). 1 + key_cells k) (map (λ (name : Bor (List ℕ)). keys.Str name.now) names)
+    ≡ sum_by (λ (name : Bor (List ℕ)). 2 + words_in (length name.now)) names
+key_words [] = refl
+key_words (name ∷ names) =
+    let rest = map (λ (n : Bor (List ℕ)). keys.Str n.now) names in
+    omega (
+      arith,
+      key_words names,
+      sum_by-cons (λ (x : Key). 1 + key_cells x) (keys.Str name.now) rest,
+      sum_by-cons (λ (n : Bor (List ℕ)). 2 + words_in (length n.now)) name names,
     )
 
 pub list_cells : (place n step count : ℕ)

@@ -10,6 +10,7 @@ pub mod Windows
 pub mod RowOrigins
 mod ToldGraphs
 mod GraphLayout
+mod NumberPlaces
 mod TableValues
 mod ValueRuns
 mod RowsBySlot

@@ -1,7 +1,7 @@
 -- How the graphs of the information calls are made: place by place.
 use Rattle.std.specs.Prelude.{◌≡◌, ℕ, zero, suc, ◌+◌, ◌*◌, ◌^◌, ◌≤◌, pos, List, [], ◌∷◌, ◌++◌}
 use Rattle.std.specs.Prelude.{length}
-use Rattle.std.specs.Prelude.{sum_by}
+use Rattle.std.specs.Prelude.{codes, sum_by}
 use Rattle.std.specs.Borrow.{Bor}
 use Rattle.seg_words.specs.Layout.{words_in}
 use Rattle.php_graph.specs.declared.key.Key.{Key}
@@ -14,7 +14,7 @@ use Rattle.php_graph.specs.Graph.{IsGraph, most_values}
 use Rattle.php_graph.specs.MemberCounts.{children_in}
 use Rattle.php_graph.specs.PlaceOffsets.{kinds_at, offsets_at, offsets_from}
 use Rattle.php_graph.specs.Size.{image_length}
-use Rattle.apcu_model.specs.Infos.{Told}
+use Rattle.apcu_model.specs.Infos.{Told, number_kind}
 
 -- what is known of places so far: where the image has each, how long it is, and that there are few
 pub record IsLaidOut (first : Kind) (others : List Place) (words : ℕ) : Type 0 where
@@ -22,6 +22,12 @@ pub record IsLaidOut (first : Kind) (others : List Place) (words : ℕ) : Type 0
   pub words_are : words ≡ image_length (first ∷ kinds_at others)
   pub few : length others + 1 ≤ most_values
   pub small : words ≤ 2 ^ 34 * (length others + 1)
+
+-- the places of numbers, of which an image has the first one at this word
+abbrev pub number_places : ℕ → List ℕ → List Place
+number_places at [] = []
+number_places at (n ∷ ns) =
+    record { kind = number_kind n; at = at } ∷ number_places (at + 2) ns
 
 -- members under these names, whose values have so many places each, from a place on
 abbrev pub sized_members : ℕ → List (Bor (List ℕ) × ℕ) → List (Key × Child)
@@ -31,6 +37,19 @@ sized_members place (f ∷ fs) = (keys.Str f.0.now, Own place) ∷ sized_members
 -- the words of these names in an image, and of what is beside each
 abbrev pub name_cells : List (Bor (List ℕ) × ℕ) → ℕ
 name_cells fs = sum_by (λ f. 2 + words_in (length f.0.now)) fs
+
+-- members under these keys, whose values have a place each, from a place on
+abbrev pub single_members : ℕ → List Key → List (Key × Child)
+single_members place [] = []
+single_members place (key ∷ keys) = (key, Own place) ∷ single_members (place + 1) keys
+
+-- the keys of a row's array in a list
+abbrev pub row_keys : List Key
+row_keys =
+    keys.Str (codes "info") ∷ keys.Str (codes "ttl") ∷ keys.Str (codes "num_hits")
+    ∷ keys.Str (codes "mtime") ∷ keys.Str (codes "creation_time")
+    ∷ keys.Str (codes "deletion_time") ∷ keys.Str (codes "access_time")
+    ∷ keys.Str (codes "mem_size") ∷ []
 
 -- so many members under the keys from n on, whose values have `step` places each, from a place on
 abbrev pub stepped_members : ℕ → ℕ → ℕ → ℕ → List (Key × Child)

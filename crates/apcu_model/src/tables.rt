@@ -1,6 +1,6 @@
 //! The graphs that the information calls answer, from the numbers and rows that they tell.
 
-ghost use Rattle.std.specs.Prelude.{◌≡◌, ◌+◌, ◌++◌, ◌≤◌, ◌^◌, length, map, IfOk, OnOk};
+ghost use Rattle.std.specs.Prelude.{◌≡◌, ℕ, ◌+◌, ◌++◌, ◌≤◌, ◌^◌, length, map, IfOk, OnOk};
 ghost use Rattle.std.specs.List.{AllByRecursion};
 ghost use Rattle.php_graph.specs.ByteStrings.{AreBytes};
 ghost use Rattle.apcu_model.specs.Infos.{info_array, info_counts, info_gap, info_gaps, info_list};
@@ -11,13 +11,13 @@ ghost use Rattle.php_graph.specs.Size.{cells_of};
 ghost use Rattle.php_graph.specs.declared.kind.Kind.TheVariants as kinds;
 ghost use Rattle.std.specs.List.{range_with_len};
 ghost use Rattle.std.specs.Prelude.{◌<◌};
-ghost use Rattle.apcu_model.specs.InfoGraphs.{IsTellable};
+ghost use Rattle.apcu_model.specs.InfoGraphs.{IsTellable, row_keys, single_members};
 ghost use Rattle.apcu_model.specs.Infos.{info_of_key, info_row, info_rows, info_words, word_bytes};
 
 use crate::conf::Conf;
 use crate::row_info::{Counts, ListedRow, RowInfo};
-use crate::telling::{Telling, array_of, item, list_of};
-use php_graph::{Graph, Kind, MOST_VALUES, Members};
+use crate::telling::{Telling, array_by, array_of, item, keys_of, list_of};
+use php_graph::{Graph, Key, Kind, MOST_VALUES, Members};
 use seg_words::Extent;
 use std::alloc::{AllocError, Global};
 
@@ -56,8 +56,18 @@ pub fn tell_key(alloc: Global, row: RowInfo) -> Result<Graph, AllocError>
     Ok(telling.finish())
 }
 
-// The places of a row in a list.
-fn push_row(telling: &mut Telling, alloc: Global, row: ListedRow) -> Result<(), AllocError>
+// The places of a row in a list, as an array under copies of these keys, whose place has so many
+// words in an image.
+fn push_row(
+    telling: &mut Telling,
+    alloc: Global,
+    keys: &[Key],
+    cells: u64,
+    row: ListedRow,
+) -> Result<(), AllocError>
+    requires keys { keys.now ≡ row_keys }
+    requires cells { (place : ℕ) → cells ≡ cells_of (kinds.Array (single_members place row_keys)) }
+    requires small { cells ≤ 2 ^ 34 }
     ensures info { OnOk result
         (telling.new ≡ telling.old ++ info_row row (length telling.old + 1)) }
     ensures key { AreBytes row.key }
@@ -65,20 +75,7 @@ fn push_row(telling: &mut Telling, alloc: Global, row: ListedRow) -> Result<(), 
     let place = telling.len() + 1;
     let info = row.info;
     let _bytes = row.key.as_slice();
-    let (kind, cells) = array_of(
-        alloc,
-        &[
-            (b"info", 1),
-            (b"ttl", 1),
-            (b"num_hits", 1),
-            (b"mtime", 1),
-            (b"creation_time", 1),
-            (b"deletion_time", 1),
-            (b"access_time", 1),
-            (b"mem_size", 1),
-        ],
-        place + 1,
-    )?;
+    let kind = array_by(alloc, keys, place + 1)?;
     telling.push(kind, cells)?;
     telling.push_string(row.key)?;
     telling.push_numbers(&[
@@ -91,6 +88,28 @@ fn push_row(telling: &mut Telling, alloc: Global, row: ListedRow) -> Result<(), 
         bytes_in(info.size),
     ])?;
     Ok(())
+}
+
+// The keys of each row's array.
+fn keys_of_row(alloc: Global) -> Result<(Vec<Key>, u64), AllocError>
+    ensures keys { IfOk result (λ r. r.0.items ≡ row_keys) }
+    ensures cells { (place : ℕ)
+        → IfOk result (λ r. r.1 ≡ cells_of (kinds.Array (single_members place row_keys))) }
+    ensures small { IfOk result (λ r. r.1 ≤ 2 ^ 34) }
+{
+    keys_of(
+        alloc,
+        &[
+            b"info",
+            b"ttl",
+            b"num_hits",
+            b"mtime",
+            b"creation_time",
+            b"deletion_time",
+            b"access_time",
+            b"mem_size",
+        ],
+    )
 }
 
 // How many places a row has in a list.
@@ -109,8 +128,10 @@ fn push_rows(telling: &mut Telling, alloc: Global, rows: Vec<ListedRow>) -> Resu
     let place = telling.len() + 1;
     let (kind, cells) = list_of(alloc, rows.len() as u32, ROW_PLACES, place + 1)?;
     telling.push(kind, cells)?;
+    telling.reserve(ROW_PLACES as usize * rows.len())?;
+    let (keys, cells) = keys_of_row(alloc)?;
     for row in rows {
-        push_row(telling, alloc, row)?;
+        push_row(telling, alloc, &keys, cells, row)?;
     }
     Ok(())
 }
@@ -141,6 +162,7 @@ fn push_gaps(telling: &mut Telling, alloc: Global, gaps: &[Extent]) -> Result<()
     let place = telling.len() + 1;
     let (kind, cells) = list_of(alloc, gaps.len() as u32, GAP_PLACES, place + 1)?;
     telling.push(kind, cells)?;
+    telling.reserve(GAP_PLACES as usize * gaps.len())?;
     for gap in gaps {
         push_gap(telling, alloc, *gap)?;
     }

@@ -1,7 +1,8 @@
 //! Graphs that are made place by place: arrays of named numbers, and lists of such arrays.
 
-ghost use Rattle.std.specs.Prelude.{◌≡◌, ◌+◌, ◌*◌, ◌^◌, ◌≤◌, ◌<◌, true, [], ◌∷◌, ◌++◌, length, map};
-ghost use Rattle.std.specs.Prelude.{sum_by, nat_lt, pos, IfOk, OnOk};
+ghost use Rattle.std.specs.Prelude.{◌≡◌, ℕ, ◌+◌, ◌*◌, ◌^◌, ◌≤◌, ◌<◌, true, [], ◌∷◌, ◌++◌};
+ghost use Rattle.std.specs.Prelude.{length, map};
+ghost use Rattle.std.specs.Prelude.{sum_by, nat_lt, pos, IfOk, OnOk, OnErr};
 ghost use Rattle.std.specs.List.{list_all};
 ghost use Rattle.php_graph.specs.declared.key.Key.TheVariants as keys;
 ghost use Rattle.php_graph.specs.declared.child.Child.TheVariants.{Own};
@@ -9,7 +10,7 @@ ghost use Rattle.php_graph.specs.declared.kind.Kind.TheVariants as kinds;
 ghost use Rattle.php_graph.specs.Size.{cells_of};
 ghost use Rattle.apcu_model.specs.Infos.{number_kind};
 ghost use Rattle.apcu_model.specs.InfoGraphs.{IsTellable, sized_members, stepped_end};
-ghost use Rattle.apcu_model.specs.InfoGraphs.{stepped_members};
+ghost use Rattle.apcu_model.specs.InfoGraphs.{number_places, single_members, stepped_members};
 
 use php_graph::{Bytes, Child, Graph, Key, Kind, MOST_VALUES, Members, Place};
 use seg_words::words_in;
@@ -90,10 +91,19 @@ impl Telling {
     pub(crate) fn push_numbers(&mut self, numbers: &[u64]) -> Result<(), AllocError>
         ensures { OnOk result (self.new ≡ self.old ++ map number_kind numbers.now) }
     {
-        for n in numbers {
-            self.push(number(*n), 2)?;
+        if numbers.len() > (MOST_VALUES - self.len()) as usize {
+            return Err(AllocError);
         }
+        push_places(&mut self.others, self.words, numbers)?;
+        self.words += 2 * numbers.len() as u64;
         Ok(())
+    }
+
+    // Room for so many places more, so that they are not moved while they are added.
+    pub(crate) fn reserve(&mut self, places: usize) -> Result<(), AllocError>
+        ensures { self.new ≡ self.old }
+    {
+        self.others.reserve(places)
     }
 
     // A string.
@@ -116,6 +126,26 @@ impl Telling {
         } = self;
         Graph::from_places(first, others, words)
     }
+}
+
+// The places of these numbers behind the others, of which an image has the first one at `at`. The
+// room for all is asked for once.
+fn push_places(others: &mut Vec<Place>, at: u64, numbers: &[u64]) -> Result<(), AllocError>
+    requires { at + 2 * length numbers.now < 2 ^ 64 }
+    ensures ok { OnOk result
+        (others.new.items ≡ others.old.items ++ number_places at numbers.now) }
+    ensures err { OnErr result (others.new.items ≡ others.old.items) }
+{
+    others.reserve(numbers.len())?;
+    let mut at = at;
+    for n in numbers {
+        others.push_reserved(Place {
+            kind: number(*n),
+            at,
+        });
+        at += 2;
+    }
+    Ok(())
 }
 
 // A number; from 2^63 on it is the last one of 64 bits.
@@ -150,6 +180,44 @@ pub(crate) fn array_of(
         cells += 2 + u64::from(words_in(field.0.len() as u32));
     }
     Ok((Kind::Array(Members::from_vec(items)), cells))
+}
+
+// The keys of these names, of which arrays are to have copies; and how many words the place of such
+// an array has in an image.
+pub(crate) fn keys_of(alloc: Global, names: &[&[u8]]) -> Result<(Vec<Key>, u64), AllocError>
+    requires few { length names.now < 2 ^ 8 }
+    requires short { list_all (λ name. nat_lt (length name.now) (2 ^ 8)) names.now ≡ true }
+    ensures keys { IfOk result (λ r. r.0.items ≡ map (λ name. keys.Str name.now) names.now) }
+    ensures cells { (place : ℕ) → IfOk result (λ r. r.1
+        ≡ cells_of (kinds.Array (single_members place (map (λ n. keys.Str n.now) names.now)))) }
+    ensures small { IfOk result (λ r. r.1 ≤ 2 ^ 34) }
+{
+    let mut keys = Vec::with_capacity(alloc, names.len())?;
+    let mut cells = 1;
+    for name in names {
+        keys.push(Key::Str(Bytes::of(alloc, name)?))?;
+        cells += 2 + u64::from(words_in(name.len() as u32));
+    }
+    Ok((keys, cells))
+}
+
+// An array under copies of these keys, whose values have a place each and begin at `place`.
+pub(crate) fn array_by(alloc: Global, names: &[Key], place: u32) -> Result<Kind, AllocError>
+    requires few { length names.now < 2 ^ 8 }
+    requires room { place + length names.now < 2 ^ 32 }
+    ensures { IfOk result (λ kind. kind ≡ kinds.Array (single_members place names.now)) }
+{
+    let mut items = Vec::with_capacity(alloc, names.len())?;
+    let mut next = place;
+    for key in names {
+        let copy = match key {
+            Key::Int(n) => Key::Int(*n),
+            Key::Str(bytes) => Key::Str(Bytes::of(alloc, bytes.as_slice())?),
+        };
+        items.push((copy, Child::Own(next)))?;
+        next += 1;
+    }
+    Ok(Kind::Array(Members::from_vec(items)))
 }
 
 // The member of a list under this key, whose value begins at `place`.

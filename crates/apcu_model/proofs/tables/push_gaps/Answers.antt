@@ -24,5 +24,5 @@ returns-clause-info c =
     let members = stepped_members (c.len-place.result + 1 + 1) 0 3 (length gaps) in
     let are = ap (λ n. stepped_members (n + 1 + 1) 0 3 (length gaps)) c.len-place.ensures.len ∙ sym (gaps_stepped (length old + 1 + 1) 0 gaps) in
     let run = λ (now : List Kind). now ++ values_run (length now + 1) (map info_gap gaps) in
-    let start = c.in_ok-push.ensures ∙ ap (λ kind. old ++ kind ∷ []) c.in_ok-kind.ensures.kind in
+    let start = c.reserve.ensures ∙ c.in_ok-push.ensures ∙ ap (λ kind. old ++ kind ∷ []) c.in_ok-kind.ensures.kind in
     sym (append-nil c.loop-gap.telling) ∙ sym (ap (λ l. c.loop-gap.telling ++ values_run (length c.loop-gap.telling + 1) (map info_gap l)) none) ∙ i ∙ ap run start ∙ list_told old (map info_gap gaps) members are

@@ -17,7 +17,7 @@ pub loop-row-init : goal.loop-row-init
 loop-row-init c =
     let gives = c.into_iter-row-iterator.ensures.into_iter_gives in
     record {
-      info = ap (λ l. c.push.new.self ++ values_run (length c.push.new.self + 1) (map info_row l)) gives.0;
+      info = ap (λ l. c.reserve.new.self ++ values_run (length c.reserve.new.self + 1) (map info_row l)) gives.0;
       keys = λ all. subst (AllByRecursion (λ (row : ListedRow). AreBytes row.key)) gives.0 all;
       len = search rules;
     }
@@ -47,5 +47,5 @@ returns-clause-info c =
     let members = stepped_members (c.len-place.result + 1 + 1) 0 9 c.len-2.result in
     let are = ap (λ n. stepped_members (n + 1 + 1) 0 9 c.len-2.result) c.len-place.ensures.len ∙ ap (λ n. stepped_members (length old + 1 + 1) 0 9 n) count ∙ sym (rows_stepped (length old + 1 + 1) 0 rows) in
     let run = λ (now : List Kind). now ++ values_run (length now + 1) (map info_row rows) in
-    let start = c.in_ok-push.ensures ∙ ap (λ kind. old ++ kind ∷ []) c.in_ok-kind.ensures.kind in
+    let start = c.reserve.ensures ∙ c.in_ok-push.ensures ∙ ap (λ kind. old ++ kind ∷ []) c.in_ok-kind.ensures.kind in
     sym (append-nil at.telling) ∙ sym (ap (λ l. at.telling ++ values_run (length at.telling + 1) (map info_row l)) empty) ∙ at.invariant.info ∙ ap run start ∙ list_told old (map info_row rows) members are
