@@ -12,6 +12,7 @@ mod items;
 mod journal;
 mod keys;
 mod laws;
+mod limits;
 mod pairs;
 mod plain;
 mod request;
@@ -33,6 +34,7 @@ pub use laws::{
     count_laws, events_keep, held_alike, numbered, one_event_more, rows_keep_numbers,
     rows_stay_apart, works_alone,
 };
+pub use limits::{LONGEST_INPUT, MOST_WORKERS};
 pub use pairs::Pairs;
 pub use plain::Plain;
 pub use request::{Event, Reply, Request, StoreAnswer};
