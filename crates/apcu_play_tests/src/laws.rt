@@ -1,3 +1,5 @@
+//! The law of printed outputs, stated.
+
 use reply_text::outputs_tell_journals;
 
 #[test]

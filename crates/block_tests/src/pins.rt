@@ -1,3 +1,5 @@
+//! Blocks that workers pin in a table of words, and what the writer then meets.
+
 ghost use Rattle.std.specs.Prelude.{◌≡◌, ℕ, ◌+◌, ◌<◌, ◌≤◌, length, slice_index, slice_set};
 ghost use Rattle.std.specs.Prelude.{Some, None, IfOk, IfSome};
 ghost use Rattle.pin_table.specs.Pins.{MayPin, content_of};

@@ -1,3 +1,5 @@
+//! Rows of numbers that know their largest one, and rows of pairs, step by step.
+
 ghost use Rattle.std.specs.Prelude.{◌≡◌, ℕ, ◌+◌, ◌%◌, ◌<◌, ◌≤◌, ◌^◌, true, length, slice_index};
 ghost use Rattle.max_tree.specs.Halves.{other_half, MayStand};
 

@@ -1,3 +1,5 @@
+//! Where words are free, and what segments and their layout give.
+
 ghost use Rattle.std.specs.Prelude.{◌≡◌, ◌≢◌, ℕ, ◌+◌, ◌%◌, ◌<◌, ◌≤◌, length, slice_index, []};
 ghost use Rattle.std.specs.Prelude.{false};
 ghost use Rattle.seg_words.specs.Windows.{has, is_named};

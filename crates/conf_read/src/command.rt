@@ -1,4 +1,5 @@
-// What stands in the program's words, as clap takes them apart.
+//! What stands in the program's words, as clap takes them apart.
+
 ghost use Rattle.std.specs.Prelude.{◌≡◌, IfOk, OnOk, IsErrOf, false, true};
 ghost use Rattle.clap.specs.Words.{app_of, rule_of, found_of, rows_of, matches_of};
 ghost use Rattle.conf_read.specs.Command.{option_rule, with_options};

@@ -1,3 +1,5 @@
+//! Why words call for no cache.
+
 use std::alloc::AllocError;
 use thiserror::Error;
 

@@ -1,4 +1,5 @@
-// The numbers that the values of options write.
+//! The numbers that the values of options write.
+
 ghost use Rattle.std.specs.Prelude.{◌≡◌, ◌<◌, ◌≤◌, ◌%◌, ◌^◌, IfSome};
 ghost use Rattle.conf_read.specs.Numbers.{number_in, unit_of, bytes_in, words_in_size};
 

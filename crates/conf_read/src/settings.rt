@@ -1,3 +1,5 @@
+//! What the program's words ask for, or why they ask for nothing.
+
 ghost use Rattle.std.specs.Prelude.{◌≡◌, ◌≤◌, None, Some, IfOk, IfSome, IsErrOf};
 ghost use Rattle.apcu_model.specs.Conf.{IsGood};
 ghost use Rattle.clap.specs.Words.{found_of, rows_of};

@@ -1,3 +1,5 @@
+//! What a run is for, by what clap found.
+
 ghost use Rattle.std.specs.Prelude.{◌≡◌, ◌≤◌, true, IfSome};
 ghost use Rattle.clap.specs.Words.{found_of, rows_of};
 ghost use Rattle.conf_read.specs.Options.{task_in};

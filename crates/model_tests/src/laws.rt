@@ -1,3 +1,5 @@
+//! The laws of the plain cache, stated.
+
 use apcu_model::{
     count_laws, events_keep, held_alike, numbered, one_event_more, rows_keep_numbers,
     rows_stay_apart, works_alone,

@@ -1,3 +1,5 @@
+//! Plays of the plain cache, by one cache that is asked and one that takes over.
+
 ghost use Rattle.std.specs.Prelude.{◌≡◌, false, IfOk};
 ghost use Rattle.apcu_model.specs.Conf.{IsUsable};
 ghost use Rattle.apcu_model.specs.Sequential.{is_iteration};

@@ -1,3 +1,5 @@
+//! What a worker has that copies from a pinned block.
+
 ghost use Rattle.std.specs.Prelude.{◌≡◌, ℕ, ◌+◌, ◌-◌, ◌<◌, ◌≤◌, length, slice_index};
 
 use crate::pass::Pass;

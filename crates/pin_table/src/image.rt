@@ -1,3 +1,5 @@
+//! The image of a pinned block's value, as words.
+
 ghost use Rattle.std.specs.Prelude.{◌≡◌, ◌<◌, ◌^◌, length};
 
 use crate::copying::Copying;

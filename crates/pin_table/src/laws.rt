@@ -1,3 +1,5 @@
+//! What follows from the words that the rule and the contracts speak of.
+
 ghost use Rattle.pin_table.specs.Laws.{RuleLaws};
 
 /// What follows from the words that the rule and the contracts speak of: what steps carry gives the

@@ -1,3 +1,5 @@
+//! The name of one shared table, as a type.
+
 use std::marker::Brand;
 
 /// The name of one shared table, as a type, so that what stands behind a lock is known by its type.

@@ -1,3 +1,5 @@
+//! A worker's right to its next events.
+
 ghost use Rattle.std.specs.Prelude.{◌≡◌};
 ghost use Rattle.pin_table.specs.Events.{HasRetired};
 

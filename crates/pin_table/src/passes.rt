@@ -1,3 +1,5 @@
+//! The passes that workers begin with, and what they leave once they have ended.
+
 ghost use Rattle.std.specs.Prelude.{◌≡◌, ℕ, ◌+◌, ◌<◌, ◌≤◌, true, false, List, [], ◌∷◌, ◌++◌};
 ghost use Rattle.std.specs.Prelude.{length, slice_get, Some, None, IfOk, IfSome};
 ghost use Rattle.std.specs.Prelude.{IfNone, vec_capacity, vec_len};

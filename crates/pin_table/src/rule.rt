@@ -1,3 +1,5 @@
+//! The rule over the shared words, and the kinds of steps that keep it.
+
 use crate::views::{Start, View};
 use apcu_model::Event;
 use atomic_table::{Join, Play, Split, TableRule};

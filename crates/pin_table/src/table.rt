@@ -1,3 +1,5 @@
+//! The row of words that all workers share, and the right to write them.
+
 ghost use Rattle.std.specs.Prelude.{cond, ◌==◌, ◌≡◌, ℕ, ◌+◌, ◌-◌, ◌*◌, ◌<◌, ◌≤◌, ◌^◌, true, false};
 ghost use Rattle.std.specs.Prelude.{[], length, List, replicate, slice_index, slice_set, Some};
 ghost use Rattle.std.specs.Prelude.{None, IfOk, MatchBool};

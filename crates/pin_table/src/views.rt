@@ -1,7 +1,7 @@
+//! What the seats of the table know. No value of these types is made: they exist in proofs alone.
+
 use apcu_model::Event;
 use std::collections::LinkedList;
-
-// What the seats of the table know. No value of these types is made: they exist in proofs alone.
 
 /// What a worker's pass knows: the worker, how many events it has left, the history that it has
 /// seen, and its own events.

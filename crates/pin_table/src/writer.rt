@@ -1,3 +1,5 @@
+//! One event's hold on the words, as a segment.
+
 ghost use Rattle.std.specs.Prelude.{◌≡◌, ℕ, ◌==◌, ◌+◌, ◌<◌, ◌≤◌, ◌^◌, true, false, ◌∷◌};
 ghost use Rattle.std.specs.Prelude.{length, slice_index, Some, None, sum, List};
 ghost use mathlib.Core.List.{IsPrefix};

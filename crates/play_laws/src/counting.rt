@@ -1,3 +1,5 @@
+//! What counters come to, and what the summary of generated scripts says.
+
 ghost use Rattle.std.specs.Prelude.{◌≡◌, ℕ, ℤ, ◌<◌, ◌≤◌, ◌+◌, ◌*◌, pos, ◌+ℤ◌, false, List, [], ◌∷◌};
 ghost use Rattle.std.specs.Prelude.{◌++◌, length, Contains, IsTrue, Some, slice_get};
 ghost use Rattle.std.specs.Int.{int_wrap, w64};

@@ -1,3 +1,5 @@
+//! A pool that is left alone is answered as a map of its own.
+
 ghost use Rattle.std.specs.Prelude.{◌≡◌, ℕ, List, Some};
 ghost use Rattle.apcu_model.specs.declared.conf.Clock.{Clock};
 ghost use Rattle.apcu_model.specs.declared.conf.Conf.{Conf};

@@ -1,3 +1,5 @@
+//! Keys with their values, in the order in which they are to be stored.
+
 ghost use Rattle.std.specs.Prelude.{◌≡◌, ◌<◌, ◌==◌, length, option_map, slice_get, Some};
 
 use apcu_model::Pairs;

@@ -1,3 +1,5 @@
+//! The bundle that the first bytes of an input are.
+
 ghost use Rattle.std.specs.Prelude.{◌≡◌, ◌<◌, ◌≤◌, List, take, drop, length, IfOk, MatchResult};
 ghost use Rattle.preload_set.specs.Bundle.{Record, AreRecords};
 ghost use Rattle.preload_set.specs.Gives.{ReadsFront};

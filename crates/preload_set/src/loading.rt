@@ -1,3 +1,5 @@
+//! The script that stores a bundle.
+
 ghost use Rattle.std.specs.Prelude.{◌≡◌, false, IfOk};
 ghost use Rattle.script_read.specs.declared.call.Call.TheVariants.{StoreOne};
 ghost use Rattle.preload_set.specs.Loader.{loader_of};

@@ -1,3 +1,5 @@
+//! The bundle that bytes spell, or their first fault.
+
 ghost use Rattle.std.specs.Prelude.{◌≡◌, ◌≤◌, ◌<◌, List, length, IfOk, MatchResult};
 ghost use Rattle.preload_set.specs.Bundle.{Record, AreRecords};
 ghost use Rattle.preload_set.specs.Gives.{ReadsRecords, ReadsBundle};

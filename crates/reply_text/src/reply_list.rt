@@ -1,3 +1,5 @@
+//! The replies that a call was given, in their order.
+
 ghost use Rattle.std.specs.Prelude.{◌≡◌, ◌==◌, ◌++◌, [], ◌∷◌, length, is_ok, if◌then◌else◌};
 
 use apcu_model::Reply;

@@ -1,3 +1,5 @@
+//! A value, or a reference to one.
+
 use php_graph::Graph;
 
 /// A value, or a reference to one.

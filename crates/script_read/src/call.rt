@@ -1,3 +1,5 @@
+//! The calls of scripts.
+
 ghost use Rattle.std.specs.Prelude.{◌≡◌, IfOk};
 ghost use Rattle.script_read.specs.Calls.{HasRanges, event_bound};
 ghost use Rattle.script_read.specs.Patterns.{call_pattern};

@@ -1,3 +1,5 @@
+//! What a line of a script does.
+
 ghost use Rattle.std.specs.Prelude.{◌≡◌};
 ghost use Rattle.script_read.specs.Clock.{step_at};
 

@@ -1,3 +1,5 @@
+//! Why no scripts were read.
+
 ghost use Rattle.std.specs.Prelude.{◌≡◌};
 ghost use Rattle.script_read.specs.declared.fault.Stop.TheVariants.{Memory};
 

@@ -1,3 +1,5 @@
+//! The words that lines begin with.
+
 ghost use Rattle.std.specs.Prelude.{◌≡◌};
 ghost use Rattle.std.specs.Str.{bytes_eq};
 ghost use Rattle.script_read.specs.Table.{form_in, form_of};

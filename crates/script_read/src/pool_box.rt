@@ -1,3 +1,5 @@
+//! A call on a pool, in a box.
+
 ghost use Rattle.std.specs.Prelude.{◌≡◌, IfOk};
 
 use simple_pool::PoolCall;

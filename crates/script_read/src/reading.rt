@@ -1,3 +1,5 @@
+//! The scripts that bytes spell, or their first fault.
+
 ghost use Rattle.std.specs.Prelude.{◌≡◌, ℕ, ◌≤◌, List, length, IfOk, MatchResult};
 ghost use Rattle.script_read.specs.declared.script.Step.{Step};
 ghost use Rattle.script_read.specs.Grammar.{AreScripts};

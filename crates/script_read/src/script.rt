@@ -1,3 +1,5 @@
+//! Steps, scripts, and a list of scripts.
+
 ghost use Rattle.std.specs.Prelude.{◌≡◌, ℕ, ◌<◌, ◌==◌, ◌++◌, List, [], ◌∷◌, length, is_ok};
 ghost use Rattle.std.specs.Prelude.{if◌then◌else◌, slice_get, Some, IfNone};
 ghost use Rattle.script_read.specs.declared.script.Step.{Step};

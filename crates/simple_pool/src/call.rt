@@ -1,3 +1,5 @@
+//! Calls on pools.
+
 ghost use Rattle.std.specs.Prelude.{◌≡◌, true, IfOk};
 ghost use Rattle.simple_pool.specs.Names.{is_good_name};
 ghost use Rattle.simple_pool.specs.Requests.{ask_pattern, pool_bound};

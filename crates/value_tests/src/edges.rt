@@ -1,4 +1,5 @@
-// The real streams, fakes that fail in mid-stream, and the messages.
+//! The real streams, fakes that fail in mid-stream, and the messages.
+
 use io_edges::{
     Gate, Got, MemSink, MemSource, NoGate, Point, Put, ReadError, Sink, Source, StdSink, StdSource,
     WriteFault, read_all, write_all,

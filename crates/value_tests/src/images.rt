@@ -1,3 +1,5 @@
+//! Images of values, written and read again.
+
 ghost use Rattle.std.specs.Prelude.{◌≡◌, ℕ, ◌+◌, ◌<◌, ◌≤◌, IfOk};
 ghost use Rattle.php_graph.specs.Building.{item_fits};
 ghost use Rattle.php_graph.specs.Size.{image_length};

@@ -1,3 +1,5 @@
+//! Byte strings: their blocks, their copies and their size.
+
 use byte_box::{ByteBox, strings_cross};
 use std::alloc::Global;
 use std::cmp::Ordering;

@@ -1,3 +1,5 @@
+//! A segment that is filled with blocks, and the gaps that are made between them.
+
 ghost use Rattle.std.specs.Prelude.{◌≡◌, ℕ, ◌+◌, ◌%◌, ◌<◌, ◌≤◌, true, false, List, length};
 ghost use Rattle.std.specs.Prelude.{slice_index, IfOk, OnOk};
 ghost use Rattle.seg_words.specs.declared.gaps.Extent.{Extent};
