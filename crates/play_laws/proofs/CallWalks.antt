@@ -24,7 +24,7 @@ use Rattle.script_read.specs.Play.{Wish, wish_at, Next, Asks, Leaves, asks_steps
 use Rattle.play_laws.specs.Own.{own_replies_from, wish_in}
 use Rattle.play_laws.specs.Calls.{wanted_by, replies_in, IsAskedIn}
 use Rattle.play_laws.specs.Exchanges.{Exchange, IsWalk, answered_chunks, answers_in, chunks_in, next_in, own_exchanges, requests_in, exchange_at, exchanges_of}
-use Rattle.play_laws.specs.Walks.{is_whole}
+use Rattle.play_laws.specs.Walks.{is_whole_walk}
 use Rattle.play_laws.proofs.WalkAnswers.{asks, answer_is}
 use Rattle.play_laws.proofs.WalkSteps.{ends}
 
@@ -171,20 +171,20 @@ not_over slots ask from low over =
     go true is h = h
     go false is h = absurd cc
 
-whole_at : (slots : ℕ) (chunk : Chunk) (chunks : List Chunk) → (chunk.next ≡ slots → chunks ≡ []) → ((chunk.next ≡ slots → ⊥) → is_whole slots chunks ≡ true)
-    → is_whole slots (chunk ∷ chunks) ≡ true
+whole_at : (slots : ℕ) (chunk : Chunk) (chunks : List Chunk) → (chunk.next ≡ slots → chunks ≡ []) → ((chunk.next ≡ slots → ⊥) → is_whole_walk slots chunks ≡ true)
+    → is_whole_walk slots (chunk ∷ chunks) ≡ true
 whole_at slots chunk chunks last more = elim (cases_eq chunk.next slots) [
   | inl same ↦
-      ap (λ (b : Bool). if b then length chunks == 0 else is_whole slots chunks) (eq-eqb chunk.next slots same)
+      ap (λ (b : Bool). if b then length chunks == 0 else is_whole_walk slots chunks) (eq-eqb chunk.next slots same)
       ∙ ap (λ (l : List Chunk). length l == 0) (last same)
-  | inr other ↦ ap (λ (b : Bool). if b then length chunks == 0 else is_whole slots chunks) (ne_eqb chunk.next slots other) ∙ more other
+  | inr other ↦ ap (λ (b : Bool). if b then length chunks == 0 else is_whole_walk slots chunks) (ne_eqb chunk.next slots other) ∙ more other
 ]
 
 step_whole : (wanted : Option Pattern) (size : ℕ) (fields : Fields) (slots from : ℕ) (m : Stage) (e : Event) (rest : List Exchange) → m.cache.conf.slots ≡ slots → 1 ≤ size
     → InTurn slots (ask_at wanted size fields) from (exchange_at m e ∷ rest) → IsOver (asks_steps slots (ask_at wanted size fields) from (answers_in (exchange_at m e ∷ rest)))
     → ((at : ℕ) → at < slots → InTurn slots (ask_at wanted size fields) at rest → IsOver (asks_steps slots (ask_at wanted size fields) at (answers_in rest))
-    → is_whole slots (answered_chunks rest) ≡ true)
-    → from < slots → is_whole slots (answered_chunks (exchange_at m e ∷ rest)) ≡ true
+    → is_whole_walk slots (answered_chunks rest) ≡ true)
+    → from < slots → is_whole_walk slots (answered_chunks (exchange_at m e ∷ rest)) ≡ true
 step_whole wanted size fields slots from m e rest shape some turn over later low =
     let ask = ask_at wanted size fields in
     let first = first_asked slots ask from e.request (turn 0 e.request refl) in
@@ -199,13 +199,13 @@ step_whole wanted size fields slots from m e rest shape some turn over later low
     let next = later_step slots ask from (reply_in m e) (answers_in rest) (asks_steps slots ask from (answers_in (exchange_at m e ∷ rest))) first.0 refl in
     let done = subst (λ k. IsOver (asks_steps slots ask k (answers_in rest))) at (subst IsOver (sym next) over) in
     let none : chunk.next ≡ slots → answered_chunks rest ≡ [] = λ past. ap answered_chunks (none_past slots ask chunk.next rest past on) in
-    let more : (chunk.next ≡ slots → ⊥) → is_whole slots (answered_chunks rest) ≡ true = λ other. later chunk.next (omega (arith, within, shape, other)) on done in
-    ap (λ r. is_whole slots (chunks_in r ++ answered_chunks rest)) answer ∙ whole_at slots chunk (answered_chunks rest) none more
+    let more : (chunk.next ≡ slots → ⊥) → is_whole_walk slots (answered_chunks rest) ≡ true = λ other. later chunk.next (omega (arith, within, shape, other)) on done in
+    ap (λ r. is_whole_walk slots (chunks_in r ++ answered_chunks rest)) answer ∙ whole_at slots chunk (answered_chunks rest) none more
 
 whole_from : EventsKeep → (wanted : Option Pattern) (size : ℕ) (fields : Fields) (conf : Conf) (from w : ℕ) (m : Stage) (es : List Event) → m.cache.conf ≡ conf → 1 ≤ size
     → from < conf.slots → InTurn conf.slots (ask_at wanted size fields) from (own_exchanges w m es)
     → IsOver (asks_steps conf.slots (ask_at wanted size fields) from (answers_in (own_exchanges w m es)))
-    → is_whole conf.slots (answered_chunks (own_exchanges w m es)) ≡ true
+    → is_whole_walk conf.slots (answered_chunks (own_exchanges w m es)) ≡ true
 whole_from law wanted size fields conf from w m [] shape some low turn over = absurd (not_over conf.slots (ask_at wanted size fields) from low over)
 whole_from law wanted size fields conf from w m (e ∷ es) shape some low turn over =
     go (e.worker == w) turn over
@@ -219,8 +219,8 @@ whole_from law wanted size fields conf from w m (e ∷ es) shape some low turn o
 
     go : (b : Bool) → InTurn conf.slots ask from (cond b (exchange_at m e ∷ rest) rest)
         → IsOver (asks_steps conf.slots ask from (answers_in (cond b (exchange_at m e ∷ rest) rest)))
-        → ((at : ℕ) → at < conf.slots → InTurn conf.slots ask at rest → IsOver (asks_steps conf.slots ask at (answers_in rest)) → is_whole conf.slots (answered_chunks rest) ≡ true)
-        → is_whole conf.slots (answered_chunks (cond b (exchange_at m e ∷ rest) rest)) ≡ true
+        → ((at : ℕ) → at < conf.slots → InTurn conf.slots ask at rest → IsOver (asks_steps conf.slots ask at (answers_in rest)) → is_whole_walk conf.slots (answered_chunks rest) ≡ true)
+        → is_whole_walk conf.slots (answered_chunks (cond b (exchange_at m e ∷ rest) rest)) ≡ true
     go true turns ended later = step_whole wanted size fields conf.slots from m e rest (ap (λ (f : Conf). f.slots) shape) some turns ended later low
     go false turns ended later = later from low turns ended
 
@@ -252,7 +252,7 @@ walk conf t wanted fields size before events w asked =
 
 pub whole : EventsKeep → (conf : Conf) (t : ℕ) (wanted : Option Pattern) (fields : Fields) (size : ℕ) (before events : List Event) (w : ℕ) → 1 ≤ size → 1 ≤ conf.slots
     → IsAskedIn conf t (Walk wanted fields size Active) before events w → wanted_by conf t (Walk wanted fields size Active) (replies_in conf before events w) ≡ None
-    → is_whole conf.slots (answered_chunks (exchanges_of conf before events w)) ≡ true
+    → is_whole_walk conf.slots (answered_chunks (exchanges_of conf before events w)) ≡ true
 whole law conf t wanted fields size before events w some slots asked done =
     let m = stage_of conf before in
     let ask = ask_at wanted size fields in

@@ -22,7 +22,7 @@ use Rattle.apcu_model.specs.Expiry.{live_row}
 use Rattle.apcu_model.specs.History.{Stage, start_of, stage_of, is_shallow, are_shallow, held_places, after_event, after_events}
 use Rattle.apcu_model.specs.Sequential.{cache_after}
 use Rattle.apcu_model.proofs.RequestSteps.{Sets, room_made}
-use Rattle.play_laws.specs.Counting.{steps_in, steps_on, counted_up, is_swap, none_swaps}
+use Rattle.play_laws.specs.Counting.{increments_in, steps_on, counted_up, is_swap, none_swaps}
 use Rattle.play_laws.proofs.RowFacts.{key_is, is_key, one_of_key, live_there}
 use Rattle.play_laws.proofs.RowNumbers.{Sound, Older, Grown, Grows, grown_steps, grown_after, placed_cases, no_row}
 
@@ -120,7 +120,7 @@ from_counted law held key step ttl t c sound few r old own (Some row) live h = f
 from_counted law held key step ttl t c sound few r old own None live h = from_begun law held key step ttl t c sound few r h old own
 
 from_after : RowsStayApart → (key held : List ℕ) (t : ℕ) (q : Request) (c : Cache) → Sound c → c.next_number + 8 < 2 ^ 64 → is_shallow q ≡ true → is_swap key t q c ≡ false
-    → (r : Row) → Contains (cache_after held t q c).rows r → r.number < c.next_number → r.key ≡ key → From key (steps_in key q) c r
+    → (r : Row) → Contains (cache_after held t q c).rows r → r.number < c.next_number → r.key ≡ key → From key (increments_in key q) c r
 from_after law key held t q c sound few shallow kept r h old own = go q shallow kept h
   where
     -- no integer of the key is set
@@ -142,7 +142,7 @@ from_after law key held t q c sound few shallow kept r h old own = go q shallow 
     swaps k expect n true true same is none h = absurd (false≢true (sym none))
     swaps k expect n true false same is none h = from_same key c r (subst (λ b. Contains (if b then integer_set k n t c else c).rows r) is h)
 
-    go : (q : Request) → is_shallow q ≡ true → is_swap key t q c ≡ false → Contains (cache_after held t q c).rows r → From key (steps_in key q) c r
+    go : (q : Request) → is_shallow q ≡ true → is_swap key t q c ≡ false → Contains (cache_after held t q c).rows r → From key (increments_in key q) c r
     go (request.Inc k step ttl) flat none h = counts k step ttl (bytes_eq k key) refl h
     go (request.Cas k expect n) flat none h = swaps k expect n (bytes_eq k key) (is_expected expect (live_row k t c)) refl refl none h
     go (request.Entry g) flat none h = quiet (request.Entry g) flat (λ k sets e. sets) h
@@ -181,7 +181,7 @@ from_events law key m (e ∷ es) sound few deep kept r h old own =
     let k = grown_after law None_of (held_places m e.mask) e.t e.request m.cache (λ k sets own. own) sound (omega (arith, few)) parts.0 in
     let late = from_events law key (after_event m e) es k.sound (omega (arith, few, k.next)) parts.1 none.1 r h (omega (arith, old, k.more)) own in
     let early = from_after law key (held_places m e.mask) e.t e.request m.cache sound (omega (arith, few)) parts.0 (not-true (is_swap key e.t e.request m.cache) none.0) late.row late.there (omega (arith, old, late.number)) (late.key ∙ own) in
-    from_then key (steps_in key e.request) (steps_on key es) m.cache (after_event m e).cache r late early
+    from_then key (increments_in key e.request) (steps_on key es) m.cache (after_event m e).cache r late early
 
 shallow_parts : (before between : List Event) → are_shallow (before ++ between) ≡ true → (are_shallow before ≡ true) × (are_shallow between ≡ true)
 shallow_parts [] between h = (refl, h)

@@ -20,10 +20,10 @@ use Rattle.play_laws.proofs.CountLemmas.{at_most, count_none, count_filter, pige
 use Rattle.play_laws.proofs.GapLemmas.{range_has}
 use Rattle.play_laws.proofs.SmallRows.{IsRoomy}
 use Rattle.play_laws.proofs.ScriptKeys.{names_of}
-use Rattle.play_laws.proofs.Turns.{Turn, Does, Watches, Ends, request_of, IsTurn, stores_in, times_in, sums_in, Good, IsShort, good_same}
-use Rattle.play_laws.proofs.CounterTurns.{good_turn, not_declined}
-use Rattle.play_laws.proofs.TurnWishes.{AllWork, turns_of, turn_at, wish_in_turn}
-use Rattle.play_laws.proofs.TurnSums.{AllTurns, done_sum, done_more, done_most}
+use Rattle.play_laws.proofs.Acts.{Act, Does, Watches, Ends, request_of, IsAct, stores_in, times_in, sums_in, Good, IsShort, good_same}
+use Rattle.play_laws.proofs.CounterActs.{good_act, not_declined}
+use Rattle.play_laws.proofs.ActWishes.{AllWork, acts_of, act_at, wish_in_act}
+use Rattle.play_laws.proofs.ActSums.{AllActs, done_sum, done_more, done_most}
 
 -- ---- windows
 
@@ -44,7 +44,7 @@ opens_at : (worker : ℕ) (o : Option Row) → OpensOne worker (opened_at worker
 opens_at worker None = inl refl
 opens_at worker (Some row) = elim (is_scalar row.graph) as (λ b. OpensOne worker (if b then [] else (worker, row.number) ∷ [])) [ true ↦ inl refl | false ↦ inr (row.number, refl) ]
 
-opens_one : (worker : ℕ) (turn : Turn) (c : Cache) → OpensOne worker (opened worker 0 (request_of turn) c)
+opens_one : (worker : ℕ) (act : Act) (c : Cache) → OpensOne worker (opened worker 0 (request_of act) c)
 opens_one worker (Does own (Fetches owner n)) c = opens_at worker (live_row (value_key owner n) 0 c)
 opens_one worker (Does own (Stores n len)) c = inl refl
 opens_one worker (Does own (Counts n step)) c = inl refl
@@ -91,50 +91,50 @@ windows_after workers worker new ws within opens h = record { within = inside; s
 
 -- ---- what holds of a play
 
-pub record Setting (conf : Conf) (workers : ℕ) (bodies : List (List Turn)) : Type 0 where
+pub record Setting (conf : Conf) (workers : ℕ) (bodies : List (List Act)) : Type 0 where
   pub roomy : IsRoomy conf
   pub most : workers ≤ 64
   pub count : length bodies ≡ workers
   pub work : AllWork bodies
-  pub ranged : AllTurns (IsTurn workers) (turns_of bodies)
-  pub short : sum_by (λ (turns : List Turn). length turns) (turns_of bodies) < 2 ^ 23
+  pub ranged : AllActs (IsAct workers) (acts_of bodies)
+  pub short : sum_by (λ (acts : List Act). length acts) (acts_of bodies) < 2 ^ 23
 
-pub record Going (conf : Conf) (workers : ℕ) (bodies : List (List Turn)) (p : Play) : Type 0 where
-  pub good : Good conf (names_of workers) p.stage.cache (done_sum stores_in (turns_of bodies) p.replies) (λ i. done_sum (times_in i) (turns_of bodies) p.replies) (λ i. done_sum (sums_in i) (turns_of bodies) p.replies)
+pub record Going (conf : Conf) (workers : ℕ) (bodies : List (List Act)) (p : Play) : Type 0 where
+  pub good : Good conf (names_of workers) p.stage.cache (done_sum stores_in (acts_of bodies) p.replies) (λ i. done_sum (times_in i) (acts_of bodies) p.replies) (λ i. done_sum (sums_in i) (acts_of bodies) p.replies)
   pub windows : Windows workers p.stage.windows
-  pub count : length p.replies ≡ length (turns_of bodies)
+  pub count : length p.replies ≡ length (acts_of bodies)
 
-turn_ranged : (P : Turn → Type 0) (lists : List (List Turn)) (worker k : ℕ) (turn : Turn) → AllTurns P lists → turn_at lists worker k ≡ Some turn → P turn
-turn_ranged P [] worker k turn all at = absurd (cc at)
-turn_ranged P (turns ∷ lists) zero k turn all at = own turns k all.0 at
+act_ranged : (P : Act → Type 0) (lists : List (List Act)) (worker k : ℕ) (act : Act) → AllActs P lists → act_at lists worker k ≡ Some act → P act
+act_ranged P [] worker k act all at = absurd (cc at)
+act_ranged P (acts ∷ lists) zero k act all at = own acts k all.0 at
   where
-    own : (turns : List Turn) (k : ℕ) → AllByRecursion P turns → slice_get turns k ≡ Some turn → P turn
+    own : (acts : List Act) (k : ℕ) → AllByRecursion P acts → slice_get acts k ≡ Some act → P act
     own [] k all at = absurd (cc at)
-    own (x ∷ turns) zero all at = let same : x ≡ turn = cc at in subst P same all.0
-    own (x ∷ turns) (suc k) all at = own turns k all.1 at
-turn_ranged P (turns ∷ lists) (suc worker) k turn all at = turn_ranged P lists worker k turn all.1 at
+    own (x ∷ acts) zero all at = let same : x ≡ act = cc at in subst P same all.0
+    own (x ∷ acts) (suc k) all at = own acts k all.1 at
+act_ranged P (acts ∷ lists) (suc worker) k act all at = act_ranged P lists worker k act all.1 at
 
-pub turn_within : (lists : List (List Turn)) (worker k : ℕ) (turn : Turn) → turn_at lists worker k ≡ Some turn → worker < length lists
-turn_within [] worker k turn at = absurd (cc at)
-turn_within (turns ∷ lists) zero k turn at = omega arith
-turn_within (turns ∷ lists) (suc worker) k turn at = omega (arith, turn_within lists worker k turn at)
+pub act_within : (lists : List (List Act)) (worker k : ℕ) (act : Act) → act_at lists worker k ≡ Some act → worker < length lists
+act_within [] worker k act at = absurd (cc at)
+act_within (acts ∷ lists) zero k act at = omega arith
+act_within (acts ∷ lists) (suc worker) k act at = omega (arith, act_within lists worker k act at)
 
-low_all : (workers : ℕ) (f : Turn → ℕ) (lists : List (List Turn)) → ((turn : Turn) → IsTurn workers turn → f turn ≤ 100) → AllTurns (IsTurn workers) lists → AllTurns (λ turn. f turn ≤ 100) lists
+low_all : (workers : ℕ) (f : Act → ℕ) (lists : List (List Act)) → ((act : Act) → IsAct workers act → f act ≤ 100) → AllActs (IsAct workers) lists → AllActs (λ act. f act ≤ 100) lists
 low_all workers f [] low all = tt
-low_all workers f (turns ∷ lists) low all = (own turns all.0, low_all workers f lists low all.1)
+low_all workers f (acts ∷ lists) low all = (own acts all.0, low_all workers f lists low all.1)
   where
-    own : (turns : List Turn) → AllByRecursion (IsTurn workers) turns → AllByRecursion (λ turn. f turn ≤ 100) turns
+    own : (acts : List Act) → AllByRecursion (IsAct workers) acts → AllByRecursion (λ act. f act ≤ 100) acts
     own [] all = tt
-    own (x ∷ turns) all = (low x all.0, own turns all.1)
+    own (x ∷ acts) all = (low x all.0, own acts all.1)
 
-stores_low : (workers : ℕ) (turn : Turn) → IsTurn workers turn → stores_in turn ≤ 100
+stores_low : (workers : ℕ) (act : Act) → IsAct workers act → stores_in act ≤ 100
 stores_low workers (Does own (Fetches owner n)) r = omega arith
 stores_low workers (Does own (Stores n len)) r = omega arith
 stores_low workers (Does own (Counts n step)) r = omega arith
 stores_low workers (Watches n) r = omega arith
 stores_low workers Ends r = omega arith
 
-sums_low : (workers i : ℕ) (turn : Turn) → IsTurn workers turn → sums_in i turn ≤ 100
+sums_low : (workers i : ℕ) (act : Act) → IsAct workers act → sums_in i act ≤ 100
 sums_low workers i (Does own (Fetches owner n)) r = omega arith
 sums_low workers i (Does own (Stores n len)) r = omega arith
 sums_low workers i (Does own (Counts n step)) r = go (n == i)
@@ -145,47 +145,47 @@ sums_low workers i (Does own (Counts n step)) r = go (n == i)
 sums_low workers i (Watches n) r = omega arith
 sums_low workers i Ends r = omega arith
 
-are_short : (conf : Conf) (workers : ℕ) (bodies : List (List Turn)) (p : Play) → Setting conf workers bodies → IsShort (done_sum stores_in (turns_of bodies) p.replies) (λ i. done_sum (sums_in i) (turns_of bodies) p.replies)
+are_short : (conf : Conf) (workers : ℕ) (bodies : List (List Act)) (p : Play) → Setting conf workers bodies → IsShort (done_sum stores_in (acts_of bodies) p.replies) (λ i. done_sum (sums_in i) (acts_of bodies) p.replies)
 are_short conf workers bodies p s = record {
-  stores = omega (arith, s.short, done_most stores_in (turns_of bodies) p.replies (low_all workers stores_in (turns_of bodies) (stores_low workers) s.ranged));
-  sums = λ i. omega (arith, s.short, done_most (sums_in i) (turns_of bodies) p.replies (low_all workers (sums_in i) (turns_of bodies) (sums_low workers i) s.ranged));
+  stores = omega (arith, s.short, done_most stores_in (acts_of bodies) p.replies (low_all workers stores_in (acts_of bodies) (stores_low workers) s.ranged));
+  sums = λ i. omega (arith, s.short, done_most (sums_in i) (acts_of bodies) p.replies (low_all workers (sums_in i) (acts_of bodies) (sums_low workers i) s.ranged));
 }
 
-pub going_mark : (conf : Conf) (workers : ℕ) (bodies : List (List Turn)) (p : Play) (mark : Mark) (turn : Turn) → Setting conf workers bodies → turn_at (turns_of bodies) mark.worker (length (replies_of p mark.worker)) ≡ Some turn → Going conf workers bodies p
-    → Going conf workers bodies (after_wish p mark (wish_in_turn turn))
-going_mark conf workers bodies p mark turn s at g = record {
-  good = good_same conf (names_of workers) (after_wish p mark (wish_in_turn turn)).stage.cache (done stores_in + stores_in turn) (after stores_in) (λ i. done (times_in i) + times_in i turn) (λ i. after (times_in i)) (λ i. done (sums_in i) + sums_in i turn) (λ i. after (sums_in i))
+pub going_mark : (conf : Conf) (workers : ℕ) (bodies : List (List Act)) (p : Play) (mark : Mark) (act : Act) → Setting conf workers bodies → act_at (acts_of bodies) mark.worker (length (replies_of p mark.worker)) ≡ Some act → Going conf workers bodies p
+    → Going conf workers bodies (after_wish p mark (wish_in_act act))
+going_mark conf workers bodies p mark act s at g = record {
+  good = good_same conf (names_of workers) (after_wish p mark (wish_in_act act)).stage.cache (done stores_in + stores_in act) (after stores_in) (λ i. done (times_in i) + times_in i act) (λ i. after (times_in i)) (λ i. done (sums_in i) + sums_in i act) (λ i. after (sums_in i))
       (more stores_in) (λ i. more (times_in i)) (λ i. more (sums_in i))
-      (good_turn conf workers p.stage mark.mask turn (done stores_in) (λ i. done (times_in i)) (λ i. done (sums_in i)) s.roomy s.most (omega (arith, s.most, few_windows workers p.stage.windows g.windows)) (are_short conf workers bodies p s) (turn_ranged (IsTurn workers) lists mark.worker k turn s.ranged at) g.good);
-  windows = windows_after workers mark.worker (opened mark.worker 0 (request_of turn) p.stage.cache) p.stage.windows (omega (arith, s.count, turn_within lists mark.worker k turn at, length-map bodies (λ (body : List Turn). body ++ Ends ∷ []))) (opens_one mark.worker turn p.stage.cache) g.windows;
+      (good_act conf workers p.stage mark.mask act (done stores_in) (λ i. done (times_in i)) (λ i. done (sums_in i)) s.roomy s.most (omega (arith, s.most, few_windows workers p.stage.windows g.windows)) (are_short conf workers bodies p s) (act_ranged (IsAct workers) lists mark.worker k act s.ranged at) g.good);
+  windows = windows_after workers mark.worker (opened mark.worker 0 (request_of act) p.stage.cache) p.stage.windows (omega (arith, s.count, act_within lists mark.worker k act at, length-map bodies (λ (body : List Act). body ++ Ends ∷ []))) (opens_one mark.worker act p.stage.cache) g.windows;
   count = count;
 }
   where
-    lists : List (List Turn)
-    lists = turns_of bodies
+    lists : List (List Act)
+    lists = acts_of bodies
 
     k : ℕ
     k = length (replies_of p mark.worker)
 
     reply : Reply
-    reply = reply_in p.stage (event_of mark (wish_in_turn turn))
+    reply = reply_in p.stage (event_of mark (wish_in_act act))
 
-    done : (Turn → ℕ) → ℕ
+    done : (Act → ℕ) → ℕ
     done f = done_sum f lists p.replies
 
-    after : (Turn → ℕ) → ℕ
+    after : (Act → ℕ) → ℕ
     after f = done_sum f lists (slice_set p.replies mark.worker (replies_of p mark.worker ++ reply ∷ []))
 
-    more : (f : Turn → ℕ) → after f ≡ done f + f turn
-    more f = done_more f lists p.replies mark.worker turn reply g.count at
+    more : (f : Act → ℕ) → after f ≡ done f + f act
+    more f = done_more f lists p.replies mark.worker act reply g.count at
 
     count : length (slice_set p.replies mark.worker (replies_of p mark.worker ++ reply ∷ [])) ≡ length lists
     count = length-set {A = List Reply} p.replies mark.worker (replies_of p mark.worker ++ reply ∷ []) ∙ g.count
 
 -- nor is any store or increment answered no
-pub going_stored : (conf : Conf) (workers : ℕ) (bodies : List (List Turn)) (p : Play) (mark : Mark) (turn : Turn) → Setting conf workers bodies → turn_at (turns_of bodies) mark.worker (length (replies_of p mark.worker)) ≡ Some turn → Going conf workers bodies p
-    → is_declined (request_of turn) (reply_in p.stage (event_of mark (wish_in_turn turn))) ≡ false
-going_stored conf workers bodies p mark turn s at g =
-    let lists = turns_of bodies in
-    not_declined conf workers p.stage mark.mask turn (done_sum stores_in lists p.replies) (λ i. done_sum (times_in i) lists p.replies) (λ i. done_sum (sums_in i) lists p.replies) s.roomy s.most (omega (arith, s.most, few_windows workers p.stage.windows g.windows)) (are_short conf workers bodies p s)
-    (turn_ranged (IsTurn workers) lists mark.worker (length (replies_of p mark.worker)) turn s.ranged at) g.good
+pub going_stored : (conf : Conf) (workers : ℕ) (bodies : List (List Act)) (p : Play) (mark : Mark) (act : Act) → Setting conf workers bodies → act_at (acts_of bodies) mark.worker (length (replies_of p mark.worker)) ≡ Some act → Going conf workers bodies p
+    → is_declined (request_of act) (reply_in p.stage (event_of mark (wish_in_act act))) ≡ false
+going_stored conf workers bodies p mark act s at g =
+    let lists = acts_of bodies in
+    not_declined conf workers p.stage mark.mask act (done_sum stores_in lists p.replies) (λ i. done_sum (times_in i) lists p.replies) (λ i. done_sum (sums_in i) lists p.replies) s.roomy s.most (omega (arith, s.most, few_windows workers p.stage.windows g.windows)) (are_short conf workers bodies p s)
+    (act_ranged (IsAct workers) lists mark.worker (length (replies_of p mark.worker)) act s.ranged at) g.good

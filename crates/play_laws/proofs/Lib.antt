@@ -18,10 +18,10 @@ mod GapLemmas
 mod NewRows
 mod SmallRows
 mod ScriptKeys
-mod Turns
-mod CounterTurns
-mod TurnWishes
-mod TurnSums
+mod Acts
+mod CounterActs
+mod ActWishes
+mod ActSums
 mod GeneratedPlays
 mod ObservedCounters
 mod ScriptDraws

@@ -15,39 +15,39 @@ use Rattle.script_read.specs.declared.script.Step.{Step}
 use Rattle.script_read.specs.Play.{Wish, wanted}
 use Rattle.script_read.specs.GeneratedScripts.{Draw, Fetches, Stores, Counts, steps_of_draws}
 use Rattle.play_laws.specs.Observer.{counters_read, wishes_of_draws, wishes_of_looks, wish_to_end, times_marked, IsObservedLast}
-use Rattle.play_laws.proofs.Turns.{Turn, Does, Ends}
-use Rattle.play_laws.proofs.TurnWishes.{step_of, ended, wish_in_turn, wanted_turn, watching, drawn_body, drawn_steps, work_drawn, work_joined, work_watching}
+use Rattle.play_laws.proofs.Acts.{Act, Does, Ends}
+use Rattle.play_laws.proofs.ActWishes.{step_of, ended, wish_in_act, wanted_act, watching, drawn_body, drawn_steps, work_drawn, work_joined, work_watching}
 
 get_mapped : {X Y : Type 0} (f : X → Y) (xs : List X) (k : ℕ) → option_map f (slice_get xs k) ≡ slice_get (map f xs) k
 get_mapped f [] k = refl
 get_mapped f (x ∷ xs) zero = refl
 get_mapped f (x ∷ xs) (suc k) = get_mapped f xs k
 
-drawn_wishes : (worker : ℕ) (draws : List Draw) → map wish_in_turn (drawn_body worker draws) ≡ wishes_of_draws worker draws
+drawn_wishes : (worker : ℕ) (draws : List Draw) → map wish_in_act (drawn_body worker draws) ≡ wishes_of_draws worker draws
 drawn_wishes worker [] = refl
-drawn_wishes worker (Fetches owner n ∷ draws) = ap (λ (l : List Wish). wish_in_turn (Does worker (Fetches owner n)) ∷ l) (drawn_wishes worker draws)
-drawn_wishes worker (Stores n len ∷ draws) = ap (λ (l : List Wish). wish_in_turn (Does worker (Stores n len)) ∷ l) (drawn_wishes worker draws)
-drawn_wishes worker (Counts n step ∷ draws) = ap (λ (l : List Wish). wish_in_turn (Does worker (Counts n step)) ∷ l) (drawn_wishes worker draws)
+drawn_wishes worker (Fetches owner n ∷ draws) = ap (λ (l : List Wish). wish_in_act (Does worker (Fetches owner n)) ∷ l) (drawn_wishes worker draws)
+drawn_wishes worker (Stores n len ∷ draws) = ap (λ (l : List Wish). wish_in_act (Does worker (Stores n len)) ∷ l) (drawn_wishes worker draws)
+drawn_wishes worker (Counts n step ∷ draws) = ap (λ (l : List Wish). wish_in_act (Does worker (Counts n step)) ∷ l) (drawn_wishes worker draws)
 
 pub others_want : (conf : Conf) (worker : ℕ) (draws : List Draw) (replies : List Reply) → wanted conf (steps_of_draws worker draws) replies ≡ slice_get (wishes_of_draws worker draws ++ wish_to_end ∷ []) (length replies)
 others_want conf worker draws replies =
     let body = drawn_body worker draws in
     ap (λ (l : List Step). wanted conf l replies) (sym (drawn_steps worker draws))
-    ∙ (wanted_turn conf body replies (work_drawn worker draws)
-    ∙ (get_mapped wish_in_turn (ended body) (length replies)
-    ∙ ap (λ (l : List Wish). slice_get l (length replies)) (map-append wish_in_turn body (Ends ∷ []) ∙ ap (λ (l : List Wish). l ++ wish_to_end ∷ []) (drawn_wishes worker draws))))
+    ∙ (wanted_act conf body replies (work_drawn worker draws)
+    ∙ (get_mapped wish_in_act (ended body) (length replies)
+    ∙ ap (λ (l : List Wish). slice_get l (length replies)) (map-append wish_in_act body (Ends ∷ []) ∙ ap (λ (l : List Wish). l ++ wish_to_end ∷ []) (drawn_wishes worker draws))))
 
 pub observer_wants : (conf : Conf) (draws : List Draw) (replies : List Reply)
     → wanted conf (steps_of_draws 0 draws ++ counters_read) replies ≡ slice_get (wishes_of_draws 0 draws ++ (wishes_of_looks ++ wish_to_end ∷ [])) (length replies)
 observer_wants conf draws replies =
     let body = drawn_body 0 draws ++ watching in
     let steps : map step_of body ≡ steps_of_draws 0 draws ++ counters_read = map-append step_of (drawn_body 0 draws) watching ∙ ap (λ (l : List Step). l ++ map step_of watching) (drawn_steps 0 draws) in
-    let wishes : map wish_in_turn (ended body) ≡ wishes_of_draws 0 draws ++ (wishes_of_looks ++ wish_to_end ∷ []) =
-    ap (λ (l : List Turn). map wish_in_turn l) (append_assoc (drawn_body 0 draws) watching (Ends ∷ []))
-    ∙ (map-append wish_in_turn (drawn_body 0 draws) (watching ++ Ends ∷ []) ∙ ap (λ (l : List Wish). l ++ map wish_in_turn (watching ++ Ends ∷ [])) (drawn_wishes 0 draws)) in
+    let wishes : map wish_in_act (ended body) ≡ wishes_of_draws 0 draws ++ (wishes_of_looks ++ wish_to_end ∷ []) =
+    ap (λ (l : List Act). map wish_in_act l) (append_assoc (drawn_body 0 draws) watching (Ends ∷ []))
+    ∙ (map-append wish_in_act (drawn_body 0 draws) (watching ++ Ends ∷ []) ∙ ap (λ (l : List Wish). l ++ map wish_in_act (watching ++ Ends ∷ [])) (drawn_wishes 0 draws)) in
     ap (λ (l : List Step). wanted conf l replies) (sym steps)
-    ∙ (wanted_turn conf body replies (work_joined (drawn_body 0 draws) watching (work_drawn 0 draws) (work_watching (range_with_len 0 8)))
-    ∙ (get_mapped wish_in_turn (ended body) (length replies) ∙ ap (λ (l : List Wish). slice_get l (length replies)) wishes))
+    ∙ (wanted_act conf body replies (work_joined (drawn_body 0 draws) watching (work_drawn 0 draws) (work_watching (range_with_len 0 8)))
+    ∙ (get_mapped wish_in_act (ended body) (length replies) ∙ ap (λ (l : List Wish). slice_get l (length replies)) wishes))
 
 -- ---- the looks come last
 

@@ -22,48 +22,48 @@ use Rattle.play_laws.specs.Summary.{IsLarge, is_declined, Summary, number_found,
 use Rattle.play_laws.proofs.CountLemmas.{count_alike, count_none}
 use Rattle.play_laws.proofs.SmallRows.{IsRoomy}
 use Rattle.play_laws.proofs.ScriptKeys.{names_of}
-use Rattle.play_laws.proofs.Turns.{Turn, Does, Ends, IsTurn, stores_in, times_in, sums_in, counter_value, Good, good_same}
-use Rattle.play_laws.proofs.CounterTurns.{zero_value, some_value, same_or_not}
-use Rattle.play_laws.proofs.TurnWishes.{AllWork, ended, scripts_of, step_of, turns_of, turn_at, wish_in_turn, wish_is, wanted_turn, watching, drawn_body, bodies_from, observing, scripts_observed, all_work}
-use Rattle.play_laws.proofs.TurnSums.{done_sum, done_none, done_whole, AreAtEnd}
+use Rattle.play_laws.proofs.Acts.{Act, Does, Ends, IsAct, stores_in, times_in, sums_in, counter_value, Good, good_same}
+use Rattle.play_laws.proofs.CounterActs.{zero_value, some_value, same_or_not}
+use Rattle.play_laws.proofs.ActWishes.{AllWork, ended, scripts_of, step_of, acts_of, act_at, wish_in_act, wish_is, wanted_act, watching, drawn_body, bodies_from, observing, scripts_observed, all_work}
+use Rattle.play_laws.proofs.ActSums.{done_sum, done_none, done_whole, AreAtEnd}
 use Rattle.play_laws.proofs.GeneratedPlays.{Setting, Going, going_mark, going_stored}
 use Rattle.std.proofs.Math.Nat.{suc-mul}
-use Rattle.play_laws.proofs.ScriptDraws.{AreDrawn, Weighs, all_drawn, drawn_workers, turns_others, turns_first, turns_count, others_even, total_all}
+use Rattle.play_laws.proofs.ScriptDraws.{AreDrawn, Weighs, all_drawn, drawn_workers, acts_others, acts_first, acts_count, others_even, total_all}
 use Rattle.play_laws.proofs.ObservedCounters.{total, watched_bodies, found_value, Watched, AreEven, watched_mark}
 
 -- ---- from mark to mark
 
--- what a mark that is played does: its worker takes its turn
-by_turns : (conf : Conf) (bodies : List (List Turn)) (p q : Play) (mark : Mark) (marks : List Mark) → AllWork bodies → played_from conf (scripts_of bodies) p (mark ∷ marks) ≡ Some q
-    → (turn : Turn) × (turn_at (turns_of bodies) mark.worker (length (replies_of p mark.worker)) ≡ Some turn) × (played_from conf (scripts_of bodies) (after_wish p mark (wish_in_turn turn)) marks ≡ Some q)
-by_turns conf bodies p q mark marks work h =
-    go (is_legal_mask (length (scripts_of bodies)) mark.worker p.stage mark.mask) (turn_at (turns_of bodies) mark.worker (length (replies_of p mark.worker))) refl
+-- what a mark that is played does: its worker does its act
+by_acts : (conf : Conf) (bodies : List (List Act)) (p q : Play) (mark : Mark) (marks : List Mark) → AllWork bodies → played_from conf (scripts_of bodies) p (mark ∷ marks) ≡ Some q
+    → (act : Act) × (act_at (acts_of bodies) mark.worker (length (replies_of p mark.worker)) ≡ Some act) × (played_from conf (scripts_of bodies) (after_wish p mark (wish_in_act act)) marks ≡ Some q)
+by_acts conf bodies p q mark marks work h =
+    go (is_legal_mask (length (scripts_of bodies)) mark.worker p.stage mark.mask) (act_at (acts_of bodies) mark.worker (length (replies_of p mark.worker))) refl
     (subst (λ (o : Option Wish). option_and_then (λ (x : Play). played_from conf (scripts_of bodies) x marks) (if is_legal_mask (length (scripts_of bodies)) mark.worker p.stage mark.mask then option_and_then (λ wish. Some (after_wish p mark wish)) o else None) ≡ Some q)
     (wish_is conf bodies p mark.worker work) h)
   where
-    go : (b : Bool) (o : Option Turn) → turn_at (turns_of bodies) mark.worker (length (replies_of p mark.worker)) ≡ o
-        → option_and_then (λ (x : Play). played_from conf (scripts_of bodies) x marks) (if b then option_and_then (λ wish. Some (after_wish p mark wish)) (option_map wish_in_turn o) else None) ≡ Some q
-        → (turn : Turn) × (turn_at (turns_of bodies) mark.worker (length (replies_of p mark.worker)) ≡ Some turn) × (played_from conf (scripts_of bodies) (after_wish p mark (wish_in_turn turn)) marks ≡ Some q)
+    go : (b : Bool) (o : Option Act) → act_at (acts_of bodies) mark.worker (length (replies_of p mark.worker)) ≡ o
+        → option_and_then (λ (x : Play). played_from conf (scripts_of bodies) x marks) (if b then option_and_then (λ wish. Some (after_wish p mark wish)) (option_map wish_in_act o) else None) ≡ Some q
+        → (act : Act) × (act_at (acts_of bodies) mark.worker (length (replies_of p mark.worker)) ≡ Some act) × (played_from conf (scripts_of bodies) (after_wish p mark (wish_in_act act)) marks ≡ Some q)
     go false o at e = absurd (cc e)
     go true None at e = absurd (cc e)
-    go true (Some turn) at e = (turn, at, e)
+    go true (Some act) at e = (act, at, e)
 
-going_all : (conf : Conf) (workers : ℕ) (bodies : List (List Turn)) (marks : List Mark) (p q : Play) → Setting conf workers bodies → played_from conf (scripts_of bodies) p marks ≡ Some q → Going conf workers bodies p → Going conf workers bodies q
+going_all : (conf : Conf) (workers : ℕ) (bodies : List (List Act)) (marks : List Mark) (p q : Play) → Setting conf workers bodies → played_from conf (scripts_of bodies) p marks ≡ Some q → Going conf workers bodies p → Going conf workers bodies q
 going_all conf workers bodies [] p q s h g = let same : p ≡ q = cc h in subst (Going conf workers bodies) same g
 going_all conf workers bodies (mark ∷ marks) p q s h g =
-    let t = by_turns conf bodies p q mark marks s.work h in
-    going_all conf workers bodies marks (after_wish p mark (wish_in_turn t.0)) q s t.2 (going_mark conf workers bodies p mark t.0 s t.1 g)
+    let t = by_acts conf bodies p q mark marks s.work h in
+    going_all conf workers bodies marks (after_wish p mark (wish_in_act t.0)) q s t.2 (going_mark conf workers bodies p mark t.0 s t.1 g)
 
-watched_all : (conf : Conf) (workers : ℕ) (first : List Turn) (others : List (List Turn)) (journal before marks : List Mark) (p q : Play) → Setting conf workers (watched_bodies first others) → AreEven first others
+watched_all : (conf : Conf) (workers : ℕ) (first : List Act) (others : List (List Act)) (journal before marks : List Mark) (p q : Play) → Setting conf workers (watched_bodies first others) → AreEven first others
     → IsObservedLast workers (length first) journal → journal ≡ before ++ marks → played_from conf (scripts_of (watched_bodies first others)) p marks ≡ Some q → Watched conf workers first others before p → Watched conf workers first others (before ++ marks) q
 watched_all conf workers first others journal before [] p q s even last split h w =
     let same : p ≡ q = cc h in
     subst (λ l. Watched conf workers first others l q) (sym (append-nil before)) (subst (Watched conf workers first others before) same w)
 watched_all conf workers first others journal before (mark ∷ marks) p q s even last split h w =
-    let t = by_turns conf (watched_bodies first others) p q mark marks s.work h in
+    let t = by_acts conf (watched_bodies first others) p q mark marks s.work h in
     let joined : (before ++ mark ∷ []) ++ marks ≡ before ++ mark ∷ marks = append_assoc before (mark ∷ []) marks in
     subst (λ l. Watched conf workers first others l q) joined
-    (watched_all conf workers first others journal (before ++ mark ∷ []) marks (after_wish p mark (wish_in_turn t.0)) q s even last (split ∙ sym joined) t.2
+    (watched_all conf workers first others journal (before ++ mark ∷ []) marks (after_wish p mark (wish_in_act t.0)) q s even last (split ∙ sym joined) t.2
     (watched_mark conf workers first others before p mark t.0 s even (last before marks mark split) t.1 w))
 
 -- ---- the start
@@ -96,23 +96,23 @@ good_start conf names = record {
   none = λ i h. refl;
 }
 
-going_start : (conf : Conf) (workers : ℕ) (bodies : List (List Turn)) → Going conf workers bodies (nothing_played conf (scripts_of bodies))
+going_start : (conf : Conf) (workers : ℕ) (bodies : List (List Act)) → Going conf workers bodies (nothing_played conf (scripts_of bodies))
 going_start conf workers bodies = record {
   good = good_same conf (names_of workers) (empty_cache conf) 0 (done stores_in) (λ i. 0) (λ i. done (times_in i)) (λ i. 0) (λ i. done (sums_in i)) (none stores_in) (λ i. none (times_in i)) (λ i. none (sums_in i)) (good_start conf (names_of workers));
   windows = record { within = λ w h. absurd (none_in_nil w h); single = λ v. omega arith };
-  count = length-map {A = List Step} {B = List Reply} (scripts_of bodies) (λ script. []) ∙ (length-map bodies (λ (body : List Turn). map step_of body) ∙ sym (length-map bodies ended));
+  count = length-map {A = List Step} {B = List Reply} (scripts_of bodies) (λ script. []) ∙ (length-map bodies (λ (body : List Act). map step_of body) ∙ sym (length-map bodies ended));
 }
   where
     replies : List (List Reply)
     replies = map {A = List Step} {B = List Reply} (λ script. []) (scripts_of bodies)
 
-    done : (Turn → ℕ) → ℕ
-    done f = done_sum f (turns_of bodies) replies
+    done : (Act → ℕ) → ℕ
+    done f = done_sum f (acts_of bodies) replies
 
-    none : (f : Turn → ℕ) → done f ≡ 0
-    none f = done_none f (turns_of bodies) replies (no_replies (scripts_of bodies))
+    none : (f : Act → ℕ) → done f ≡ 0
+    none f = done_none f (acts_of bodies) replies (no_replies (scripts_of bodies))
 
-watched_start : (conf : Conf) (workers : ℕ) (first : List Turn) (others : List (List Turn)) → Watched conf workers first others [] (nothing_played conf (scripts_of (watched_bodies first others)))
+watched_start : (conf : Conf) (workers : ℕ) (first : List Act) (others : List (List Act)) → Watched conf workers first others [] (nothing_played conf (scripts_of (watched_bodies first others)))
 watched_start conf workers first others = record {
   going = going_start conf workers (watched_bodies first others);
   counted = λ worker h. ap (λ (l : List Reply). length l) (none_yet (scripts_of (watched_bodies first others)) worker);
@@ -121,25 +121,25 @@ watched_start conf workers first others = record {
 
 -- ---- the end
 
-nothing_left : (turns : List Turn) (k : ℕ) → slice_get turns k ≡ None → length turns ≤ k
+nothing_left : (acts : List Act) (k : ℕ) → slice_get acts k ≡ None → length acts ≤ k
 nothing_left [] k e = omega arith
-nothing_left (x ∷ turns) zero e = absurd (cc e)
-nothing_left (x ∷ turns) (suc k) e = omega (arith, nothing_left turns k e)
+nothing_left (x ∷ acts) zero e = absurd (cc e)
+nothing_left (x ∷ acts) (suc k) e = omega (arith, nothing_left acts k e)
 
-at_end : (conf : Conf) (bodies : List (List Turn)) (replies : List (List Reply)) → AllWork bodies → are_done conf (scripts_of bodies) replies ≡ true → AreAtEnd (turns_of bodies) replies
-at_end conf [] replies work done worker turns at = absurd (cc at)
-at_end conf (body ∷ bodies) [] work done worker turns at = absurd (cc done)
-at_end conf (body ∷ bodies) (own ∷ replies) work done zero turns at =
+at_end : (conf : Conf) (bodies : List (List Act)) (replies : List (List Reply)) → AllWork bodies → are_done conf (scripts_of bodies) replies ≡ true → AreAtEnd (acts_of bodies) replies
+at_end conf [] replies work done worker acts at = absurd (cc at)
+at_end conf (body ∷ bodies) [] work done worker acts at = absurd (cc done)
+at_end conf (body ∷ bodies) (own ∷ replies) work done zero acts at =
     let parts = and_parts (is_none (wanted conf (map step_of body) own)) (are_done conf (scripts_of bodies) replies) done in
-    let same : ended body ≡ turns = cc at in
-    subst (λ (l : List Turn). length l ≤ length own) same (nothing_left (ended body) (length own) (none (slice_get (ended body) (length own)) (subst (λ (o : Option Wish). is_none o ≡ true) (wanted_turn conf body own work.0) parts.0)))
+    let same : ended body ≡ acts = cc at in
+    subst (λ (l : List Act). length l ≤ length own) same (nothing_left (ended body) (length own) (none (slice_get (ended body) (length own)) (subst (λ (o : Option Wish). is_none o ≡ true) (wanted_act conf body own work.0) parts.0)))
   where
-    none : (o : Option Turn) → is_none (option_map wish_in_turn o) ≡ true → o ≡ None
+    none : (o : Option Act) → is_none (option_map wish_in_act o) ≡ true → o ≡ None
     none None e = refl
-    none (Some turn) e = absurd (cc e)
-at_end conf (body ∷ bodies) (own ∷ replies) work done (suc worker) turns at =
+    none (Some act) e = absurd (cc e)
+at_end conf (body ∷ bodies) (own ∷ replies) work done (suc worker) acts at =
     let parts = and_parts (is_none (wanted conf (map step_of body) own)) (are_done conf (scripts_of bodies) replies) done in
-    at_end conf bodies replies work.1 parts.1 worker turns at
+    at_end conf bodies replies work.1 parts.1 worker acts at
 
 -- ---- the generated scripts
 
@@ -162,7 +162,7 @@ setting_of conf calls own draws large most few drawn = record {
   most = most;
   count = omega (arith, bodies_count 1 draws);
   work = all_work (own ∷ draws);
-  ranged = (subst (λ (l : List Turn). AllByRecursion (IsTurn (length (own ∷ draws))) l) (sym joined) (turns_first (length (own ∷ draws)) own (omega arith) drawn.0.1), turns_others (length (own ∷ draws)) calls 1 draws (omega arith) drawn.1);
+  ranged = (subst (λ (l : List Act). AllByRecursion (IsAct (length (own ∷ draws))) l) (sym joined) (acts_first (length (own ∷ draws)) own (omega arith) drawn.0.1), acts_others (length (own ∷ draws)) calls 1 draws (omega arith) drawn.1);
   short = short;
 }
   where
@@ -173,11 +173,11 @@ setting_of conf calls own draws large most few drawn = record {
     joined : ended (drawn_body 0 own ++ watching) ≡ drawn_body 0 own ++ (watching ++ Ends ∷ [])
     joined = append_assoc (drawn_body 0 own) watching (Ends ∷ [])
 
-    short : sum_by (λ (turns : List Turn). length turns) (turns_of (observing (bodies_from 0 (own ∷ draws)))) < 2 ^ 23
+    short : sum_by (λ (acts : List Act). length acts) (acts_of (observing (bodies_from 0 (own ∷ draws)))) < 2 ^ 23
     short =
-        let first : length (ended (drawn_body 0 own ++ watching)) ≡ length own + 9 = ap (λ (l : List Turn). length l) joined ∙ omega (arith, length-append (drawn_body 0 own) (watching ++ Ends ∷ []), length-map own (λ draw. Does 0 draw)) in
+        let first : length (ended (drawn_body 0 own ++ watching)) ≡ length own + 9 = ap (λ (l : List Act). length l) joined ∙ omega (arith, length-append (drawn_body 0 own) (watching ++ Ends ∷ []), length-map own (λ draw. Does 0 draw)) in
         let product : length (own ∷ draws) * (calls + 1) ≡ length draws * (calls + 1) + (calls + 1) = suc-mul (length draws) (calls + 1) in
-        omega (arith, first, few, product, drawn.0.0, turns_count calls 1 draws drawn.1, sum_by-cons (λ (turns : List Turn). length turns) (ended (drawn_body 0 own ++ watching)) (turns_of (bodies_from 1 draws)))
+        omega (arith, first, few, product, drawn.0.0, acts_count calls 1 draws drawn.1, sum_by-cons (λ (acts : List Act). length acts) (ended (drawn_body 0 own ++ watching)) (acts_of (bodies_from 1 draws)))
 
 -- no expunge comes, however far the play is
 pub none_expunged : (conf : Conf) (seed workers calls : ℕ) (journal : List Mark) (p : Play) → IsLarge conf → 1 ≤ workers → workers ≤ 64 → workers * (calls + 1) ≤ 4194304
@@ -207,14 +207,14 @@ all_stored conf seed workers calls journal p mark wish large some most few h w =
         let h' : played conf (scripts_of bodies) journal ≡ Some p = subst (λ (l : List (List Step)). played conf l journal ≡ Some p) (sym scripts) h in
         let g = going_all conf (length (own ∷ draws)) bodies journal (nothing_played conf (scripts_of bodies)) p s h' (going_start conf (length (own ∷ draws)) bodies) in
         let w' : wish_of conf (scripts_of bodies) p mark.worker ≡ Some wish = subst (λ (l : List (List Step)). wish_of conf l p mark.worker ≡ Some wish) (sym scripts) w in
-        at (turn_at (turns_of bodies) mark.worker (length (replies_of p mark.worker))) refl (sym (wish_is conf bodies p mark.worker s.work) ∙ w') s g
+        at (act_at (acts_of bodies) mark.worker (length (replies_of p mark.worker))) refl (sym (wish_is conf bodies p mark.worker s.work) ∙ w') s g
       where
-        at : (o : Option Turn) → turn_at (turns_of (observing (bodies_from 0 (own ∷ draws)))) mark.worker (length (replies_of p mark.worker)) ≡ o → option_map wish_in_turn o ≡ Some wish → Setting conf (length (own ∷ draws)) (observing (bodies_from 0 (own ∷ draws)))
+        at : (o : Option Act) → act_at (acts_of (observing (bodies_from 0 (own ∷ draws)))) mark.worker (length (replies_of p mark.worker)) ≡ o → option_map wish_in_act o ≡ Some wish → Setting conf (length (own ∷ draws)) (observing (bodies_from 0 (own ∷ draws)))
             → Going conf (length (own ∷ draws)) (observing (bodies_from 0 (own ∷ draws))) p → is_declined wish.request (reply_in p.stage (event_of mark wish)) ≡ false
         at None is e s g = absurd (cc e)
-        at (Some turn) is e s g =
-            let same : wish_in_turn turn ≡ wish = cc e in
-            subst (λ (x : Wish). is_declined x.request (reply_in p.stage (event_of mark x)) ≡ false) same (going_stored conf (length (own ∷ draws)) (observing (bodies_from 0 (own ∷ draws))) p mark turn s is g)
+        at (Some act) is e s g =
+            let same : wish_in_act act ≡ wish = cc e in
+            subst (λ (x : Wish). is_declined x.request (reply_in p.stage (event_of mark x)) ≡ false) same (going_stored conf (length (own ∷ draws)) (observing (bodies_from 0 (own ∷ draws))) p mark act s is g)
 
 -- ---- the summary
 
@@ -242,16 +242,16 @@ told_so conf calls own draws journal p s drawn done w =
     all : List (List Draw)
     all = own ∷ draws
 
-    bodies : List (List Turn)
+    bodies : List (List Act)
     bodies = observing (bodies_from 0 all)
 
-    lists : List (List Turn)
-    lists = turns_of bodies
+    lists : List (List Act)
+    lists = acts_of bodies
 
     end : AreAtEnd lists p.replies
     end = at_end conf bodies p.replies s.work done
 
-    whole : (f : Turn → ℕ) (g : Draw → ℕ) → Weighs f g → done_sum f lists p.replies ≡ total_by g all
+    whole : (f : Act → ℕ) (g : Draw → ℕ) → Weighs f g → done_sum f lists p.replies ≡ total_by g all
     whole f g weighs = done_whole f lists p.replies w.going.count end ∙ total_all f g all weighs
 
     inserts : p.stage.cache.inserts ≡ total_by stored_by all + count_by (λ i. nat_lt 0 (total_by (times_by i) all)) (range_with_len 0 8)
@@ -261,9 +261,9 @@ told_so conf calls own draws journal p s drawn done w =
     counter : (i : ℕ) → i < 8 → number_found (slice_get (replies_of p 0) (calls + i)) ≡ pos (total_by (counted_by i) all)
     counter i h =
         let first_count : length (drawn_body 0 own) ≡ calls = length-map own (λ draw. Does 0 draw) ∙ drawn.0.0 in
-        let turns_count : length (ended (drawn_body 0 own ++ watching)) ≡ calls + 9 = ap (λ (l : List Turn). length l) (append_assoc (drawn_body 0 own) watching (Ends ∷ [])) ∙ omega (arith, length-append (drawn_body 0 own) (watching ++ Ends ∷ []), first_count) in
+        let acts_count : length (ended (drawn_body 0 own ++ watching)) ≡ calls + 9 = ap (λ (l : List Act). length l) (append_assoc (drawn_body 0 own) watching (Ends ∷ [])) ∙ omega (arith, length-append (drawn_body 0 own) (watching ++ Ends ∷ []), first_count) in
         let long = end 0 (ended (drawn_body 0 own ++ watching)) refl in
-        let r = some_reply (replies_of p 0) (calls + i) (omega (arith, turns_count, long, h)) in
+        let r = some_reply (replies_of p 0) (calls + i) (omega (arith, acts_count, long, h)) in
         let is = w.seen i r.0 h (ap (λ n. slice_get (replies_of p 0) (n + i)) first_count ∙ r.1) in
         let none : total (times_in i) lists ≡ 0 → total (sums_in i) lists ≡ 0 =
         λ z. sym (done_whole (sums_in i) lists p.replies w.going.count end) ∙ w.going.good.none i (done_whole (times_in i) lists p.replies w.going.count end ∙ z) in
@@ -285,7 +285,7 @@ agreed conf seed workers calls journal p large some most few h complete last = g
         let h' : played conf (scripts_of bodies) journal ≡ Some p = subst (λ (l : List (List Step)). played conf l journal ≡ Some p) (sym scripts) h in
         let done' : are_done conf (scripts_of bodies) p.replies ≡ true = subst (λ (o : Option Play). is_complete_play conf (scripts_of bodies) o ≡ true) h' (subst (λ (l : List (List Step)). is_complete_play conf l (played conf l journal) ≡ true) (sym scripts) done) in
         let first_count : length (drawn_body 0 own) ≡ calls = length-map own (λ draw. Does 0 draw) ∙ drawn.0.0 in
-        let even : AreEven (drawn_body 0 own) (bodies_from 1 draws) = record { each = λ v turns at. others_even calls 1 draws drawn.1 v turns at ∙ ap (λ n. n + 1) (sym first_count) } in
+        let even : AreEven (drawn_body 0 own) (bodies_from 1 draws) = record { each = λ v acts at. others_even calls 1 draws drawn.1 v acts at ∙ ap (λ n. n + 1) (sym first_count) } in
         let last' : IsObservedLast (length (own ∷ draws)) (length (drawn_body 0 own)) journal = subst (λ n. IsObservedLast n (length (drawn_body 0 own)) journal) (sym count) (subst (λ n. IsObservedLast workers n journal) (sym first_count) last) in
         told_so conf calls own draws journal p s drawn done'
         (watched_all conf (length (own ∷ draws)) (drawn_body 0 own) (bodies_from 1 draws) journal [] journal (nothing_played conf (scripts_of bodies)) p s even last' refl h' (watched_start conf (length (own ∷ draws)) (drawn_body 0 own) (bodies_from 1 draws)))

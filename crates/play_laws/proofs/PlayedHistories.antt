@@ -99,12 +99,12 @@ abbrev play : Stage → List (List Reply) → Play
 play m r = record { stage = m; replies = r }
 
 -- the worker has asked in this history what its script wants, to the end
-abbrev Played : Conf → List Step → ℕ → List Event → Type 0
-Played conf script w history = HasPlayed conf script (map wish_in (events_of w history)) (own_replies conf w history)
+abbrev HasPlayedIn : Conf → List Step → ℕ → List Event → Type 0
+HasPlayedIn conf script w history = HasPlayed conf script (map wish_in (events_of w history)) (own_replies conf w history)
 
 -- what the event asks is what its worker wants
 wants_it : (conf : Conf) (scripts : List (List Step)) (done : List Event) (e : Event) (rest : List Event) (script : List Step) → slice_get scripts e.worker ≡ Some script
-    → Played conf script e.worker (done ++ e ∷ rest) → wish_of conf scripts (play_of conf scripts done) e.worker ≡ Some (wish_in e)
+    → HasPlayedIn conf script e.worker (done ++ e ∷ rest) → wish_of conf scripts (play_of conf scripts done) e.worker ≡ Some (wish_in e)
 wants_it conf scripts done e rest script at asked =
     let w = e.worker in
     let own = own_replies conf w done in
@@ -136,7 +136,7 @@ after_it conf scripts done e script at =
     ∙ ap (λ (r : List (List Reply)). play (stage_of conf (done ++ e ∷ [])) r) replies
 
 marked_by : (conf : Conf) (scripts : List (List Step)) (done : List Event) (e : Event) (rest : List Event) (script : List Step) → slice_get scripts e.worker ≡ Some script
-    → Played conf script e.worker (done ++ e ∷ rest) → is_legal_mask (length scripts) e.worker (stage_of conf done) e.mask ≡ true
+    → HasPlayedIn conf script e.worker (done ++ e ∷ rest) → is_legal_mask (length scripts) e.worker (stage_of conf done) e.mask ≡ true
     → marked conf scripts (play_of conf scripts done) (mark_of e) ≡ Some (play_of conf scripts (done ++ e ∷ []))
 marked_by conf scripts done e rest script at asked legal =
     let p = play_of conf scripts done in
@@ -160,7 +160,7 @@ script_of_event scripts done e rest others = elim (slice_get_cases scripts e.wor
 -- ---- all events
 
 goes_on : (conf : Conf) (scripts : List (List Step)) (done rest : List Event) → all_legal (length scripts) (stage_of conf done) rest ≡ true
-    → ((w : ℕ) (script : List Step) → slice_get scripts w ≡ Some script → Played conf script w (done ++ rest))
+    → ((w : ℕ) (script : List Step) → slice_get scripts w ≡ Some script → HasPlayedIn conf script w (done ++ rest))
     → ((w : ℕ) → length scripts ≤ w → events_of w (done ++ rest) ≡ [])
     → played_from conf scripts (play_of conf scripts done) (marks_of rest) ≡ Some (play_of conf scripts (done ++ rest))
 goes_on conf scripts done [] legal asked others = ap (λ (h : List Event). Some (play_of conf scripts h)) (sym (append-nil done))
@@ -172,7 +172,7 @@ goes_on conf scripts done (e ∷ rest) legal asked others =
     let legal_on : all_legal (length scripts) (stage_of conf (done ++ e ∷ [])) rest ≡ true =
     ap (λ (m : Stage). all_legal (length scripts) m rest) (after-joined (start_of conf) done (e ∷ [])) ∙ parts.1 in
     let later = goes_on conf scripts (done ++ e ∷ []) rest legal_on
-    (λ w script at. subst (Played conf script w) (sym joined) (asked w script at))
+    (λ w script at. subst (HasPlayedIn conf script w) (sym joined) (asked w script at))
     (λ w past. ap (events_of w) joined ∙ others w past) in
     ap (option_and_then (λ (q : Play). played_from conf scripts q (marks_of rest))) one ∙ (later ∙ ap (λ (h : List Event). Some (play_of conf scripts h)) joined)
 

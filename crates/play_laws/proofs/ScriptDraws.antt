@@ -8,9 +8,9 @@ use Rattle.std.proofs.lemmas.List.Sums.{sum_by-cons}
 use Rattle.std.proofs.lemmas.List.FromFn.{length-range_with_len}
 use Rattle.script_read.specs.GeneratedScripts.{Draw, Fetches, Stores, Counts, draw_of, draws_from, draws_of, drawn_number, state_after}
 use Rattle.play_laws.specs.Summary.{total_by}
-use Rattle.play_laws.proofs.Turns.{Turn, Does, Watches, Ends, IsTurn}
-use Rattle.play_laws.proofs.TurnWishes.{ended, turns_of, watching, drawn_body, bodies_from, observing}
-use Rattle.play_laws.proofs.TurnSums.{AllTurns}
+use Rattle.play_laws.proofs.Acts.{Act, Does, Watches, Ends, IsAct}
+use Rattle.play_laws.proofs.ActWishes.{ended, acts_of, watching, drawn_body, bodies_from, observing}
+use Rattle.play_laws.proofs.ActSums.{AllActs}
 use Rattle.play_laws.proofs.ObservedCounters.{Light, total}
 
 -- ---- ranges
@@ -48,69 +48,69 @@ all_drawn seed workers calls = go (range_with_len 0 workers)
 pub drawn_workers : (seed workers calls : ℕ) → length (draws_of seed workers calls) ≡ workers
 drawn_workers seed workers calls = length-map (range_with_len 0 workers) (λ worker. draws_from workers calls ((seed + worker) % 2 ^ 64)) ∙ length-range_with_len 0 workers
 
--- ---- turns in their ranges
+-- ---- acts in their ranges
 
-turns_drawn : (workers worker : ℕ) (own : List Draw) (later : List Turn) → worker < workers → AllByRecursion IsDraw own → AllByRecursion (IsTurn workers) later → AllByRecursion (IsTurn workers) (drawn_body worker own ++ later)
-turns_drawn workers worker [] later h all rest = rest
-turns_drawn workers worker (Fetches owner n ∷ own) later h all rest = (tt, turns_drawn workers worker own later h all.1 rest)
-turns_drawn workers worker (Stores n len ∷ own) later h all rest = ((h, all.0.0, all.0.1), turns_drawn workers worker own later h all.1 rest)
-turns_drawn workers worker (Counts n step ∷ own) later h all rest = (all.0, turns_drawn workers worker own later h all.1 rest)
+acts_drawn : (workers worker : ℕ) (own : List Draw) (later : List Act) → worker < workers → AllByRecursion IsDraw own → AllByRecursion (IsAct workers) later → AllByRecursion (IsAct workers) (drawn_body worker own ++ later)
+acts_drawn workers worker [] later h all rest = rest
+acts_drawn workers worker (Fetches owner n ∷ own) later h all rest = (tt, acts_drawn workers worker own later h all.1 rest)
+acts_drawn workers worker (Stores n len ∷ own) later h all rest = ((h, all.0.0, all.0.1), acts_drawn workers worker own later h all.1 rest)
+acts_drawn workers worker (Counts n step ∷ own) later h all rest = (all.0, acts_drawn workers worker own later h all.1 rest)
 
-pub turns_others : (workers calls worker : ℕ) (draws : List (List Draw)) → worker + length draws ≤ workers → AreDrawn calls draws → AllTurns (IsTurn workers) (turns_of (bodies_from worker draws))
-turns_others workers calls worker [] h all = tt
-turns_others workers calls worker (own ∷ draws) h all =
-    (turns_drawn workers worker own (Ends ∷ []) (omega (arith, h)) all.0.1 (tt, tt), turns_others workers calls (worker + 1) draws (omega (arith, h)) all.1)
+pub acts_others : (workers calls worker : ℕ) (draws : List (List Draw)) → worker + length draws ≤ workers → AreDrawn calls draws → AllActs (IsAct workers) (acts_of (bodies_from worker draws))
+acts_others workers calls worker [] h all = tt
+acts_others workers calls worker (own ∷ draws) h all =
+    (acts_drawn workers worker own (Ends ∷ []) (omega (arith, h)) all.0.1 (tt, tt), acts_others workers calls (worker + 1) draws (omega (arith, h)) all.1)
 
-pub turns_first : (workers : ℕ) (own : List Draw) → 0 < workers → AllByRecursion IsDraw own → AllByRecursion (IsTurn workers) (drawn_body 0 own ++ (watching ++ Ends ∷ []))
-turns_first workers own h all = turns_drawn workers 0 own (watching ++ Ends ∷ []) h all (omega arith, (omega arith, (omega arith, (omega arith, (omega arith, (omega arith, (omega arith, (omega arith, (tt, tt)))))))))
+pub acts_first : (workers : ℕ) (own : List Draw) → 0 < workers → AllByRecursion IsDraw own → AllByRecursion (IsAct workers) (drawn_body 0 own ++ (watching ++ Ends ∷ []))
+acts_first workers own h all = acts_drawn workers 0 own (watching ++ Ends ∷ []) h all (omega arith, (omega arith, (omega arith, (omega arith, (omega arith, (omega arith, (omega arith, (omega arith, (tt, tt)))))))))
 
--- ---- how many turns
+-- ---- how many acts
 
 pub ended_length : (worker : ℕ) (own : List Draw) → length (ended (drawn_body worker own)) ≡ length own + 1
 ended_length worker own = omega (arith, length-append (drawn_body worker own) (Ends ∷ []), length-map own (λ draw. Does worker draw))
 
-pub turns_count : (calls worker : ℕ) (draws : List (List Draw)) → AreDrawn calls draws → sum_by (λ (turns : List Turn). length turns) (turns_of (bodies_from worker draws)) ≡ length draws * (calls + 1)
-turns_count calls worker [] all = omega arith
-turns_count calls worker (own ∷ draws) all =
-    let rest = turns_count calls (worker + 1) draws all.1 in
+pub acts_count : (calls worker : ℕ) (draws : List (List Draw)) → AreDrawn calls draws → sum_by (λ (acts : List Act). length acts) (acts_of (bodies_from worker draws)) ≡ length draws * (calls + 1)
+acts_count calls worker [] all = omega arith
+acts_count calls worker (own ∷ draws) all =
+    let rest = acts_count calls (worker + 1) draws all.1 in
     let one = ended_length worker own in
     let mine : length (ended (drawn_body worker own)) ≡ calls + 1 = omega (arith, one, all.0.0) in
     let step : length (own ∷ draws) * (calls + 1) ≡ length draws * (calls + 1) + (calls + 1) = suc-mul (length draws) (calls + 1) in
-    sum_by-cons (λ (turns : List Turn). length turns) (ended (drawn_body worker own)) (turns_of (bodies_from (worker + 1) draws)) ∙ omega (arith, rest, mine, step)
+    sum_by-cons (λ (acts : List Act). length acts) (ended (drawn_body worker own)) (acts_of (bodies_from (worker + 1) draws)) ∙ omega (arith, rest, mine, step)
 
-pub others_even : (calls worker : ℕ) (draws : List (List Draw)) → AreDrawn calls draws → (v : ℕ) (turns : List Turn) → slice_get (map ended (bodies_from worker draws)) v ≡ Some turns → length turns ≡ calls + 1
-others_even calls worker [] all v turns at = absurd (cc at)
-others_even calls worker (own ∷ draws) all zero turns at =
-    let same : ended (drawn_body worker own) ≡ turns = cc at in
-    sym (ap (λ (l : List Turn). length l) same) ∙ omega (arith, ended_length worker own, all.0.0)
-others_even calls worker (own ∷ draws) all (suc v) turns at = others_even calls (worker + 1) draws all.1 v turns at
+pub others_even : (calls worker : ℕ) (draws : List (List Draw)) → AreDrawn calls draws → (v : ℕ) (acts : List Act) → slice_get (map ended (bodies_from worker draws)) v ≡ Some acts → length acts ≡ calls + 1
+others_even calls worker [] all v acts at = absurd (cc at)
+others_even calls worker (own ∷ draws) all zero acts at =
+    let same : ended (drawn_body worker own) ≡ acts = cc at in
+    sym (ap (λ (l : List Act). length l) same) ∙ omega (arith, ended_length worker own, all.0.0)
+others_even calls worker (own ∷ draws) all (suc v) acts at = others_even calls (worker + 1) draws all.1 v acts at
 
 -- ---- what they come to
 
--- the sum over turns is that over draws
-pub record Weighs (f : Turn → ℕ) (g : Draw → ℕ) : Type 0 where
+-- the sum over acts is that over draws
+pub record Weighs (f : Act → ℕ) (g : Draw → ℕ) : Type 0 where
   pub does : (worker : ℕ) (draw : Draw) → f (Does worker draw) ≡ g draw
   pub light : Light f
 
-sum_drawn : (f : Turn → ℕ) (g : Draw → ℕ) (worker : ℕ) (own : List Draw) (later : List Turn) → Weighs f g → sum_by f later ≡ 0 → sum_by f (drawn_body worker own ++ later) ≡ sum_by g own
+sum_drawn : (f : Act → ℕ) (g : Draw → ℕ) (worker : ℕ) (own : List Draw) (later : List Act) → Weighs f g → sum_by f later ≡ 0 → sum_by f (drawn_body worker own ++ later) ≡ sum_by g own
 sum_drawn f g worker [] later w none = none
 sum_drawn f g worker (draw ∷ own) later w none =
     omega (arith, sum_by-cons f (Does worker draw) (drawn_body worker own ++ later), sum_by-cons g draw own, w.does worker draw, sum_drawn f g worker own later w none)
 
-end_light : (f : Turn → ℕ) → Light f → sum_by f (Ends ∷ []) ≡ 0
+end_light : (f : Act → ℕ) → Light f → sum_by f (Ends ∷ []) ≡ 0
 end_light f light = omega (arith, sum_by-cons f Ends [], light.end)
 
-looks_light : (f : Turn → ℕ) (ns : List ℕ) → Light f → sum_by f (map (λ n. Watches n) ns ++ Ends ∷ []) ≡ 0
+looks_light : (f : Act → ℕ) (ns : List ℕ) → Light f → sum_by f (map (λ n. Watches n) ns ++ Ends ∷ []) ≡ 0
 looks_light f [] light = end_light f light
 looks_light f (n ∷ ns) light = omega (arith, sum_by-cons f (Watches n) (map (λ n. Watches n) ns ++ Ends ∷ []), light.look n, looks_light f ns light)
 
-total_others : (f : Turn → ℕ) (g : Draw → ℕ) (worker : ℕ) (draws : List (List Draw)) → Weighs f g → total f (turns_of (bodies_from worker draws)) ≡ total_by g draws
+total_others : (f : Act → ℕ) (g : Draw → ℕ) (worker : ℕ) (draws : List (List Draw)) → Weighs f g → total f (acts_of (bodies_from worker draws)) ≡ total_by g draws
 total_others f g worker [] w = refl
 total_others f g worker (own ∷ draws) w =
-    omega (arith, sum_by-cons (λ turns. sum_by f turns) (ended (drawn_body worker own)) (turns_of (bodies_from (worker + 1) draws)), sum_by-cons (λ own. sum_by g own) own draws, sum_drawn f g worker own (Ends ∷ []) w (end_light f w.light), total_others f g (worker + 1) draws w)
+    omega (arith, sum_by-cons (λ acts. sum_by f acts) (ended (drawn_body worker own)) (acts_of (bodies_from (worker + 1) draws)), sum_by-cons (λ own. sum_by g own) own draws, sum_drawn f g worker own (Ends ∷ []) w (end_light f w.light), total_others f g (worker + 1) draws w)
 
-pub total_all : (f : Turn → ℕ) (g : Draw → ℕ) (draws : List (List Draw)) → Weighs f g → total f (turns_of (observing (bodies_from 0 draws))) ≡ total_by g draws
+pub total_all : (f : Act → ℕ) (g : Draw → ℕ) (draws : List (List Draw)) → Weighs f g → total f (acts_of (observing (bodies_from 0 draws))) ≡ total_by g draws
 total_all f g [] w = refl
 total_all f g (own ∷ draws) w =
-    let joined : sum_by f (ended (drawn_body 0 own ++ watching)) ≡ sum_by g own = ap (λ (l : List Turn). sum_by f l) (append_assoc (drawn_body 0 own) watching (Ends ∷ [])) ∙ sum_drawn f g 0 own (watching ++ Ends ∷ []) w (looks_light f (range_with_len 0 8) w.light) in
-    omega (arith, sum_by-cons (λ turns. sum_by f turns) (ended (drawn_body 0 own ++ watching)) (turns_of (bodies_from 1 draws)), sum_by-cons (λ own. sum_by g own) own draws, joined, total_others f g 1 draws w)
+    let joined : sum_by f (ended (drawn_body 0 own ++ watching)) ≡ sum_by g own = ap (λ (l : List Act). sum_by f l) (append_assoc (drawn_body 0 own) watching (Ends ∷ [])) ∙ sum_drawn f g 0 own (watching ++ Ends ∷ []) w (looks_light f (range_with_len 0 8) w.light) in
+    omega (arith, sum_by-cons (λ acts. sum_by f acts) (ended (drawn_body 0 own ++ watching)) (acts_of (bodies_from 1 draws)), sum_by-cons (λ own. sum_by g own) own draws, joined, total_others f g 1 draws w)

@@ -15,7 +15,7 @@ use Rattle.apcu_model.specs.Laws.{EventsKeep}
 use Rattle.apcu_model.specs.Rows.{are_apart}
 use Rattle.apcu_model.specs.Sequential.{reply_to}
 use Rattle.play_laws.specs.Exchanges.{Exchange, IsWalk, answered_chunks, answered_keys, answers_in, chunks_in, next_in, own_exchanges, requests_in, steps_in, exchange_at, exchanges_of, walk_requests}
-use Rattle.play_laws.specs.Walks.{AreSteps, walk_chunks, chunk_keys, times_given, is_whole, has_item}
+use Rattle.play_laws.specs.Walks.{AreSteps, walk_chunks, chunk_keys, times_given, is_whole_walk, has_item}
 use Rattle.play_laws.proofs.WalkLemmas as walking
 
 -- ---- the steps
@@ -78,10 +78,10 @@ once law wanted size fields conf before events w key asked =
     (walking.once wanted size fields conf (steps_in (exchanges_of conf before events w)) key (steps_are law conf before events w))
 
 pub all : EventsKeep → (wanted : Option Pattern) (size : ℕ) (fields : Fields) (conf : Conf) (before events : List Event) (w : ℕ) (key : List ℕ) → 1 ≤ conf.slots
-    → IsWalk wanted size fields (exchanges_of conf before events w) → is_whole conf.slots (answered_chunks (exchanges_of conf before events w)) ≡ true
+    → IsWalk wanted size fields (exchanges_of conf before events w) → is_whole_walk conf.slots (answered_chunks (exchanges_of conf before events w)) ≡ true
     → list_all (has_item wanted key) (steps_in (exchanges_of conf before events w)) ≡ true → times_given key (answered_keys (exchanges_of conf before events w)) ≡ 1
 all law wanted size fields conf before events w key some asked whole there =
     let is = given wanted size fields conf before events w asked in
     ap (λ (chunks : List Chunk). times_given key (flat_map chunk_keys chunks)) is
     ∙ walking.all wanted size fields conf (steps_in (exchanges_of conf before events w)) key some (steps_are law conf before events w)
-    (subst (λ (chunks : List Chunk). is_whole conf.slots chunks ≡ true) is whole) there
+    (subst (λ (chunks : List Chunk). is_whole_walk conf.slots chunks ≡ true) is whole) there

@@ -11,7 +11,7 @@ use Rattle.apcu_model.specs.declared.searching.List.TheVariants.{Active}
 use Rattle.apcu_model.specs.declared.items.Chunk.{Chunk}
 use Rattle.apcu_model.specs.Chunks.{is_item, chunk_end, chunk_of}
 use Rattle.apcu_model.specs.SlotOrder.{slot_of}
-use Rattle.play_laws.specs.Walks.{WalkStep, AreSteps, walk_chunks, chunk_keys, walk_keys, times_given, is_under_way, is_whole, has_item}
+use Rattle.play_laws.specs.Walks.{WalkStep, AreSteps, walk_chunks, chunk_keys, walk_keys, times_given, is_under_way, is_whole_walk, has_item}
 use Rattle.play_laws.proofs.KeyCounts.{is_of, one_of_key, some_of_key}
 use Rattle.play_laws.proofs.WalkSteps.{ends, not_reached, reached}
 
@@ -83,17 +83,17 @@ once wanted size fields conf steps key are = once_from wanted size fields conf 0
 -- ---- each key that stays
 
 -- a walk that is whole ends here, or goes on before the end
-whole_cases : (slots next : ℕ) (chunks : List Chunk) → (if next == slots then length chunks == 0 else is_whole slots chunks) ≡ true
-    → ((next ≡ slots) × (length chunks ≡ 0)) ⊎ ((next ≡ slots → ⊥) × (is_whole slots chunks ≡ true))
+whole_cases : (slots next : ℕ) (chunks : List Chunk) → (if next == slots then length chunks == 0 else is_whole_walk slots chunks) ≡ true
+    → ((next ≡ slots) × (length chunks ≡ 0)) ⊎ ((next ≡ slots → ⊥) × (is_whole_walk slots chunks ≡ true))
 whole_cases slots next chunks whole = go (next == slots) refl whole
   where
-    go : (b : Bool) → (next == slots) ≡ b → (if b then length chunks == 0 else is_whole slots chunks) ≡ true
-        → ((next ≡ slots) × (length chunks ≡ 0)) ⊎ ((next ≡ slots → ⊥) × (is_whole slots chunks ≡ true))
+    go : (b : Bool) → (next == slots) ≡ b → (if b then length chunks == 0 else is_whole_walk slots chunks) ≡ true
+        → ((next ≡ slots) × (length chunks ≡ 0)) ⊎ ((next ≡ slots → ⊥) × (is_whole_walk slots chunks ≡ true))
     go true is w = inl (eqb-true next slots is, eqb-true (length chunks) 0 w)
     go false is w = inr (eqb-false next slots is, w)
 
 all_from : (wanted : Option Pattern) (size : ℕ) (fields : Fields) (conf : Conf) (from : ℕ) (steps : List WalkStep) (key : List ℕ) → AreSteps conf steps → from ≤ conf.slots
-    → from ≤ slot_of conf key → slot_of conf key < conf.slots → is_whole conf.slots (walk_chunks wanted size fields from steps) ≡ true → list_all (has_item wanted key) steps ≡ true
+    → from ≤ slot_of conf key → slot_of conf key < conf.slots → is_whole_walk conf.slots (walk_chunks wanted size fields from steps) ≡ true → list_all (has_item wanted key) steps ≡ true
     → times_given key (keys_from wanted size fields from steps) ≡ 1
 all_from wanted size fields conf from [] key are inside ahead slot whole there = absurd cc
 all_from wanted size fields conf from (step ∷ steps) key are inside ahead slot whole there =
@@ -120,7 +120,7 @@ all_from wanted size fields conf from (step ∷ steps) key are inside ahead slot
     ]
 
 pub all : (wanted : Option Pattern) (size : ℕ) (fields : Fields) (conf : Conf) (steps : List WalkStep) (key : List ℕ) → 1 ≤ conf.slots → AreSteps conf steps
-    → is_whole conf.slots (walk_chunks wanted size fields 0 steps) ≡ true → list_all (has_item wanted key) steps ≡ true
+    → is_whole_walk conf.slots (walk_chunks wanted size fields 0 steps) ≡ true → list_all (has_item wanted key) steps ≡ true
     → times_given key (walk_keys wanted size fields steps) ≡ 1
 all wanted size fields conf steps key some are whole there =
     all_from wanted size fields conf 0 steps key are (omega arith) (omega arith) (omega (arith, some)) whole there
@@ -147,7 +147,7 @@ length-chunks wanted size fields from [] = refl
 length-chunks wanted size fields from (step ∷ steps) = ap suc (length-chunks wanted size fields (next_of wanted size from step) steps)
 
 most_from : (wanted : Option Pattern) (size : ℕ) (fields : Fields) (conf : Conf) (from : ℕ) (steps : List WalkStep) → 1 ≤ size → from < conf.slots → AreSteps conf steps
-    → is_whole conf.slots (walk_chunks wanted size fields from steps) ≡ true → from + length steps ≤ conf.slots
+    → is_whole_walk conf.slots (walk_chunks wanted size fields from steps) ≡ true → from + length steps ≤ conf.slots
 most_from wanted size fields conf from [] some inside are whole = absurd cc
 most_from wanted size fields conf from (step ∷ steps) some inside are whole =
     let next = next_of wanted size from step in
@@ -162,5 +162,5 @@ most_from wanted size fields conf from (step ∷ steps) some inside are whole =
     ]
 
 pub most : (wanted : Option Pattern) (size : ℕ) (fields : Fields) (conf : Conf) (steps : List WalkStep) → 1 ≤ size → 1 ≤ conf.slots → AreSteps conf steps
-    → is_whole conf.slots (walk_chunks wanted size fields 0 steps) ≡ true → length steps ≤ conf.slots
+    → is_whole_walk conf.slots (walk_chunks wanted size fields 0 steps) ≡ true → length steps ≤ conf.slots
 most wanted size fields conf steps some slots are whole = omega (arith, most_from wanted size fields conf 0 steps some (omega (arith, slots)) are whole)

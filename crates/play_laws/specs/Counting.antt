@@ -11,14 +11,14 @@ use Rattle.apcu_model.specs.Expiry.{live_row}
 use Rattle.apcu_model.specs.History.{Stage, after_event}
 
 -- the step by which a request counts on the key, if it does
-abbrev pub steps_in : List ℕ → Request → List ℤ
-steps_in key (requests.Inc k step ttl) = if bytes_eq k key then step ∷ [] else []
-steps_in key _ = []
+abbrev pub increments_in : List ℕ → Request → List ℤ
+increments_in key (requests.Inc k step ttl) = if bytes_eq k key then step ∷ [] else []
+increments_in key _ = []
 
 -- the steps of all events that count on the key, in order
 abbrev pub steps_on : List ℕ → List Event → List ℤ
 steps_on key [] = []
-steps_on key (e ∷ events) = steps_in key e.request ++ steps_on key events
+steps_on key (e ∷ events) = increments_in key e.request ++ steps_on key events
 
 -- an integer counts on by some steps, each in 64 bits
 abbrev pub counted_up : ℤ → List ℤ → ℤ

@@ -50,10 +50,10 @@ abbrev pub is_under_way : ℕ → List Chunk → Bool
 is_under_way slots chunks = list_all (λ (chunk : Chunk). not (chunk.next == slots)) chunks
 
 -- the last step has reached the end, and none before it
-abbrev pub is_whole : ℕ → List Chunk → Bool
-is_whole slots [] = false
-is_whole slots (chunk ∷ chunks) =
-    if chunk.next == slots then length chunks == 0 else is_whole slots chunks
+abbrev pub is_whole_walk : ℕ → List Chunk → Bool
+is_whole_walk slots [] = false
+is_whole_walk slots (chunk ∷ chunks) =
+    if chunk.next == slots then length chunks == 0 else is_whole_walk slots chunks
 
 -- the key is present at this step and matches, and its row is not hard expired
 abbrev pub has_item : Option Pattern → List ℕ → WalkStep → Bool

@@ -24,7 +24,7 @@ ghost use Rattle.play_laws.specs.Exchanges.{IsWalk, answered_chunks, answered_ke
 ghost use Rattle.play_laws.specs.Exchanges.{steps_in};
 ghost use Rattle.play_laws.specs.Journals.{MakesCall, answered_between};
 ghost use Rattle.play_laws.specs.Walks.{WalkStep, AreSteps, walk_chunks, walk_keys, times_given};
-ghost use Rattle.play_laws.specs.Walks.{is_under_way, is_whole, has_item};
+ghost use Rattle.play_laws.specs.Walks.{is_under_way, is_whole_walk, has_item};
 
 use apcu_model::events_keep;
 
@@ -38,7 +38,7 @@ pub fn walks_give_once()
         → times_given key (walk_keys wanted size fields steps) ≤ 1 }
     ensures all { (wanted : Option Pattern) (size : ℕ) (fields : Fields) (conf : Conf)
         (steps : List WalkStep) (key : List ℕ) → 1 ≤ conf.slots → AreSteps conf steps
-        → IsTrue (is_whole conf.slots (walk_chunks wanted size fields 0 steps))
+        → IsTrue (is_whole_walk conf.slots (walk_chunks wanted size fields 0 steps))
         → IsTrue (list_all (has_item wanted key) steps)
         → times_given key (walk_keys wanted size fields steps) ≡ 1 }
 {}
@@ -66,7 +66,7 @@ pub fn steps_of_walks()
         → length steps < conf.slots }
     ensures most { (wanted : Option Pattern) (size : ℕ) (fields : Fields) (conf : Conf)
         (steps : List WalkStep) → 1 ≤ size → 1 ≤ conf.slots → AreSteps conf steps
-        → IsTrue (is_whole conf.slots (walk_chunks wanted size fields 0 steps))
+        → IsTrue (is_whole_walk conf.slots (walk_chunks wanted size fields 0 steps))
         → length steps ≤ conf.slots }
 {}
 
@@ -90,7 +90,7 @@ pub fn walks_in_histories()
         (before events : List Event) (w : ℕ) (key : List ℕ)
         → let own = exchanges_of conf before events w in 1 ≤ conf.slots
         → IsWalk wanted size fields own
-        → IsTrue (is_whole conf.slots (answered_chunks own))
+        → IsTrue (is_whole_walk conf.slots (answered_chunks own))
         → IsTrue (list_all (has_item wanted key) (steps_in own))
         → times_given key (answered_keys own) ≡ 1 }
 {
@@ -110,7 +110,7 @@ pub fn calls_are_walks()
         → IsAskedIn conf t (Walk wanted fields size Active) before events w
         → wanted_by conf t (Walk wanted fields size Active) (replies_in conf before events w)
         ≡ None
-        → IsTrue (is_whole conf.slots (answered_chunks (exchanges_of conf before events w))) }
+        → IsTrue (is_whole_walk conf.slots (answered_chunks (exchanges_of conf before events w))) }
 {
     events_keep();
 }

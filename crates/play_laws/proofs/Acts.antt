@@ -1,4 +1,4 @@
--- What each turn of a generated script does to the cache: no row leaves unasked, and all is counted.
+-- What each act of a generated script does to the cache: no row leaves unasked, and all is counted.
 use Rattle.std.proofs.Common.{◌≡◌, ℕ, ◌+◌, ◌-◌, ◌^◌, ◌<◌, ◌≤◌, true, false, if◌then◌else◌, List, [], ◌∷◌, length, map, filter, Option, Some, None, refl, sym, ap, ◌∙◌, subst, arith}
 use Rattle.std.specs.Prelude.{pos, nat_lt, find, ◌==◌, option_map, replicate}
 use Rattle.std.specs.List.{Contains, count_by, range_with_len}
@@ -24,12 +24,12 @@ use Rattle.play_laws.proofs.SmallRows.{IsRoomy, Laid, Alike, laid_changed, laid_
 use Rattle.play_laws.proofs.ScriptKeys.{names_of, few_names, value_named, value_small, counter_no_value}
 
 -- what a worker does in turn: a draw of its own, a look at a counter, or its end
-pub data Turn : Type 0 where
-  Does : ℕ → Draw → Turn
-  Watches : ℕ → Turn
-  Ends : Turn
+pub data Act : Type 0 where
+  Does : ℕ → Draw → Act
+  Watches : ℕ → Act
+  Ends : Act
 
-abbrev pub request_of : Turn → Request
+abbrev pub request_of : Act → Request
 request_of (Does worker (Fetches owner n)) = requests.Fetch (value_key owner n)
 request_of (Does worker (Stores n len)) = requests.Store (value_key worker n) (kinds.Str (replicate len 120) ∷ []) 0 false
 request_of (Does worker (Counts n step)) = requests.Inc (counter_key n) (pos step) 0
@@ -37,25 +37,25 @@ request_of (Watches n) = requests.Fetch (counter_key n)
 request_of Ends = requests.Retire
 
 -- its numbers are in their ranges
-abbrev pub IsTurn : ℕ → Turn → Type 0
-IsTurn workers (Does worker (Fetches owner n)) = Unit {0}
-IsTurn workers (Does worker (Stores n len)) = (worker < workers) × (n < 16) × (len < 200)
-IsTurn workers (Does worker (Counts n step)) = (n < 8) × (step < 100)
-IsTurn workers (Watches n) = n < 8
-IsTurn workers Ends = Unit {0}
+abbrev pub IsAct : ℕ → Act → Type 0
+IsAct workers (Does worker (Fetches owner n)) = Unit {0}
+IsAct workers (Does worker (Stores n len)) = (worker < workers) × (n < 16) × (len < 200)
+IsAct workers (Does worker (Counts n step)) = (n < 8) × (step < 100)
+IsAct workers (Watches n) = n < 8
+IsAct workers Ends = Unit {0}
 
 -- what it counts
-abbrev pub stores_in : Turn → ℕ
+abbrev pub stores_in : Act → ℕ
 stores_in (Does worker draw) = stored_by draw
 stores_in (Watches n) = 0
 stores_in Ends = 0
 
-abbrev pub times_in : ℕ → Turn → ℕ
+abbrev pub times_in : ℕ → Act → ℕ
 times_in i (Does worker draw) = times_by i draw
 times_in i (Watches n) = 0
 times_in i Ends = 0
 
-abbrev pub sums_in : ℕ → Turn → ℕ
+abbrev pub sums_in : ℕ → Act → ℕ
 sums_in i (Does worker draw) = counted_by i draw
 sums_in i (Watches n) = 0
 sums_in i Ends = 0

@@ -1,4 +1,4 @@
--- What a step of a counter does, that no store or increment is answered no, and what any turn does.
+-- What a step of a counter does, that no store or increment is answered no, and what any act does.
 use Rattle.std.proofs.Common.{◌≡◌, ◌⊎◌, inl, inr, ℕ, zero, suc, ◌+◌, ◌^◌, ◌<◌, ◌≤◌, Bool, true, false, not, cond, if◌then◌else◌, List, [], ◌∷◌, length, filter, Option, Some, None, refl, sym, ap, ◌∙◌, subst, arith, w64}
 use Rattle.std.specs.Prelude.{ℤ, pos, nat_lt, find, ◌==◌, option_map, replicate}
 use Rattle.std.specs.Int.RustNames.{FitsSigned}
@@ -26,7 +26,7 @@ use Rattle.play_laws.proofs.NewRows.{value_at, live_is, finds_own, finds_other, 
 use Rattle.apcu_model.proofs.FirstMoment.{new_row}
 use Rattle.play_laws.proofs.SmallRows.{IsRoomy, Alike, laid_changed, few_held}
 use Rattle.play_laws.proofs.ScriptKeys.{names_of, few_names, value_named, counter_named, value_small, counter_small, other_counter}
-use Rattle.play_laws.proofs.Turns.{Turn, Does, Watches, Ends, request_of, IsTurn, stores_in, times_in, sums_in, begun_counters, counter_value, Good, good_same, good_looked, IsShort, few_begun, Inserted, inserted_so, good_store}
+use Rattle.play_laws.proofs.Acts.{Act, Does, Watches, Ends, request_of, IsAct, stores_in, times_in, sums_in, begun_counters, counter_value, Good, good_same, good_looked, IsShort, few_begun, Inserted, inserted_so, good_store}
 
 -- ---- a counter
 
@@ -273,25 +273,25 @@ not_declined_count conf workers held worker n step c s t u roomy most few short 
         subst (λ (o : Option Row). After (counted_at held key (pos step) 0 0 c o)) (sym live)
         (subst (λ (o : Option ℤ). After (counted_on key (pos step) 0 c o)) (sym is) refl)
 
-pub not_declined : (conf : Conf) (workers : ℕ) (m : Stage) (mask : ℕ) (turn : Turn) (s : ℕ) (t u : ℕ → ℕ) → IsRoomy conf → workers ≤ 64 → length m.windows ≤ 64 → IsShort s u → IsTurn workers turn → Good conf (names_of workers) m.cache s t u
-    → is_declined (request_of turn) (reply_to (held_places m mask) 0 (request_of turn) m.cache) ≡ false
-not_declined conf workers m mask turn s t u roomy most windows short ranges g = go turn ranges (few_held conf (names_of workers) m mask g.laid windows)
+pub not_declined : (conf : Conf) (workers : ℕ) (m : Stage) (mask : ℕ) (act : Act) (s : ℕ) (t u : ℕ → ℕ) → IsRoomy conf → workers ≤ 64 → length m.windows ≤ 64 → IsShort s u → IsAct workers act → Good conf (names_of workers) m.cache s t u
+    → is_declined (request_of act) (reply_to (held_places m mask) 0 (request_of act) m.cache) ≡ false
+not_declined conf workers m mask act s t u roomy most windows short ranges g = go act ranges (few_held conf (names_of workers) m mask g.laid windows)
   where
     held : List ℕ
     held = held_places m mask
 
-    go : (turn : Turn) → IsTurn workers turn → length (filter (is_held held) m.cache.removed) ≤ 64 → is_declined (request_of turn) (reply_to held 0 (request_of turn) m.cache) ≡ false
+    go : (act : Act) → IsAct workers act → length (filter (is_held held) m.cache.removed) ≤ 64 → is_declined (request_of act) (reply_to held 0 (request_of act) m.cache) ≡ false
     go (Does worker (Fetches owner n)) r few = refl
     go (Does worker (Stores n len)) r few = not_declined_store conf workers held worker n len m.cache s t u roomy most few short r g
     go (Does worker (Counts n step)) r few = not_declined_count conf workers held worker n step m.cache s t u roomy most few short r.0 g
     go (Watches n) r few = refl
     go Ends r few = refl
 
--- ---- any turn
+-- ---- any act
 
-pub good_turn : (conf : Conf) (workers : ℕ) (m : Stage) (mask : ℕ) (turn : Turn) (s : ℕ) (t u : ℕ → ℕ) → IsRoomy conf → workers ≤ 64 → length m.windows ≤ 64 → IsShort s u → IsTurn workers turn → Good conf (names_of workers) m.cache s t u
-    → Good conf (names_of workers) (cache_after (held_places m mask) 0 (request_of turn) m.cache) (s + stores_in turn) (λ i. t i + times_in i turn) (λ i. u i + sums_in i turn)
-good_turn conf workers m mask turn s t u roomy most windows short ranges g = go turn ranges
+pub good_act : (conf : Conf) (workers : ℕ) (m : Stage) (mask : ℕ) (act : Act) (s : ℕ) (t u : ℕ → ℕ) → IsRoomy conf → workers ≤ 64 → length m.windows ≤ 64 → IsShort s u → IsAct workers act → Good conf (names_of workers) m.cache s t u
+    → Good conf (names_of workers) (cache_after (held_places m mask) 0 (request_of act) m.cache) (s + stores_in act) (λ i. t i + times_in i act) (λ i. u i + sums_in i act)
+good_act conf workers m mask act s t u roomy most windows short ranges g = go act ranges
   where
     names : List (List ℕ)
     names = names_of workers
@@ -305,7 +305,7 @@ good_turn conf workers m mask turn s t u roomy most windows short ranges g = go 
     same : (d : Cache) → Good conf names d s t u → Good conf names d (s + 0) (λ i. t i + 0) (λ i. u i + 0)
     same d h = good_same conf names d s (s + 0) t (λ i. t i + 0) u (λ i. u i + 0) (omega arith) (λ i. omega arith) (λ i. omega arith) h
 
-    go : (turn : Turn) → IsTurn workers turn → Good conf names (cache_after held 0 (request_of turn) m.cache) (s + stores_in turn) (λ i. t i + times_in i turn) (λ i. u i + sums_in i turn)
+    go : (act : Act) → IsAct workers act → Good conf names (cache_after held 0 (request_of act) m.cache) (s + stores_in act) (λ i. t i + times_in i act) (λ i. u i + sums_in i act)
     go (Does worker (Fetches owner n)) r = same (looked_up (value_key owner n) 0 (live_row (value_key owner n) 0 m.cache) m.cache) (good_looked conf names (value_key owner n) (live_row (value_key owner n) 0 m.cache) m.cache s t u g)
     go (Does worker (Stores n len)) r =
         good_same conf names (cache_after held 0 (request_of (Does worker (Stores n len))) m.cache) (s + 1) (s + 1) t (λ i. t i + 0) u (λ i. u i + 0) refl (λ i. omega arith) (λ i. omega arith) (good_store conf workers held worker n len m.cache s t u roomy most few short r g)
