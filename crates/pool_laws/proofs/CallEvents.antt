@@ -15,7 +15,7 @@ use Rattle.simple_pool.specs.Names.{is_good_name, is_good_key, braced, pool_key}
 use Rattle.simple_pool.specs.Requests.{pool_step}
 use Rattle.pool_laws.specs.PoolKeys.{is_key_of, holds_text, is_pattern_of}
 use Rattle.pool_laws.specs.Pools.{is_of_pool, named_keys, is_left_alone, is_store_lost, are_stored, ClearsPool, AreOfPools, are_bytes, events_of_pool, answered_from, map_answers, LeavesAlone, StandsAlone}
-use Rattle.pool_laws.specs.Calls.{Asked, is_named, is_by, IsTied, AreTied, events_in, is_untouched, is_deleting_walk, is_pools_walk, are_kept, AreOfBytes, CallsLeaveAlone, told_from, CallsStandAlone}
+use Rattle.pool_laws.specs.Calls.{Asked, is_this_pool, is_by, HasPoolForm, HavePoolForms, asked_events, is_untouched, is_deleting_walk, is_pools_walk, are_kept, AreOfBytes, CallsLeaveAlone, told_from, CallsStandAlone}
 use Rattle.pool_laws.proofs.BracedNames.{key_holds, names_apart, pattern_matches, small_braced}
 use Rattle.pool_laws.proofs.LiteralSearches.{is_small}
 
@@ -88,26 +88,26 @@ same_walk name other (request.Chunk wanted from size list fields) good fine walk
 same_walk name other (request.Totals wanted list) good fine walk mine theirs = absurd (false≢true walk)
 same_walk name other request.Retire good fine walk mine theirs = absurd (false≢true walk)
 
-same_name : (name : List ℕ) (pool : Option (List ℕ)) → is_named name pool ≡ true → pool ≡ Some name
+same_name : (name : List ℕ) (pool : Option (List ℕ)) → is_this_pool name pool ≡ true → pool ≡ Some name
 same_name name None h = absurd (false≢true h)
 same_name name (Some other) h = ap Some ((bytes_eq-Decides other name).0 h)
 
 -- a call of the pool asked it exactly where it has the pool's form
-whose : (name : List ℕ) (pool : Option (List ℕ)) (r : Request) → is_good_name name ≡ true → IsTied pool r → (is_named name pool || not (list_any (holds_text (braced name)) (named_keys r))) ≡ true → (is_some pool || not (is_deleting_walk r)) ≡ true
-    → is_named name pool ≡ is_of_pool name r
-whose name pool r good tied untouched walks = go (is_named name pool) refl
+whose : (name : List ℕ) (pool : Option (List ℕ)) (r : Request) → is_good_name name ≡ true → HasPoolForm pool r → (is_this_pool name pool || not (list_any (holds_text (braced name)) (named_keys r))) ≡ true → (is_some pool || not (is_deleting_walk r)) ≡ true
+    → is_this_pool name pool ≡ is_of_pool name r
+whose name pool r good tied untouched walks = go (is_this_pool name pool) refl
   where
-    no_other : is_named name pool ≡ false → is_of_pool name r ≡ true → (pool : Option (List ℕ)) → is_named name pool ≡ false → IsTied pool r → is_some pool ≡ true → is_deleting_walk r ≡ true → ⊥
+    no_other : is_this_pool name pool ≡ false → is_of_pool name r ≡ true → (pool : Option (List ℕ)) → is_this_pool name pool ≡ false → HasPoolForm pool r → is_some pool ≡ true → is_deleting_walk r ≡ true → ⊥
     no_other off own None other tied some walk = false≢true some
     no_other off own (Some q) other tied some walk =
         false≢true (sym other ∙ (bytes_eq-Decides q name).1 (same_walk name q r good tied.0 walk own tied.1))
 
-    go : (b : Bool) → is_named name pool ≡ b → is_named name pool ≡ is_of_pool name r
+    go : (b : Bool) → is_this_pool name pool ≡ b → is_this_pool name pool ≡ is_of_pool name r
     go true mine =
-        let tied_name = subst (λ p. IsTied p r) (same_name name pool mine) tied in
+        let tied_name = subst (λ p. HasPoolForm p r) (same_name name pool mine) tied in
         mine ∙ sym tied_name.1
     go false off = off ∙ sym (false_from_ne_true (is_of_pool name r) (λ own. elim (own_or_walk name r own) [
-      | inl named ↦ elim (or_cases (is_named name pool) (not (list_any (holds_text (braced name)) (named_keys r))) untouched) [
+      | inl named ↦ elim (or_cases (is_this_pool name pool) (not (list_any (holds_text (braced name)) (named_keys r))) untouched) [
         | inl mine ↦ false≢true (sym off ∙ mine)
         | inr none ↦ false≢true (sym (not-true (list_any (holds_text (braced name)) (named_keys r)) none) ∙ named)
       ]
@@ -117,7 +117,7 @@ whose name pool r good tied untouched walks = go (is_named name pool) refl
       ]
     ]))
 
-clears_by : (pool : Option (List ℕ)) (r : Request) → IsTied pool r → (is_some pool || not (is_deleting_walk r)) ≡ true → ClearsPool r
+clears_by : (pool : Option (List ℕ)) (r : Request) → HasPoolForm pool r → (is_some pool || not (is_deleting_walk r)) ≡ true → ClearsPool r
 clears_by (Some name) (request.ChunkDelete wanted from size) tied walks = (name, tied.0, tied.1)
 clears_by None (request.ChunkDelete wanted from size) tied walks = absurd (false≢true walks)
 clears_by pool (request.Store key graph ttl exclusive) tied walks = tt
@@ -140,55 +140,55 @@ clears_by pool request.Retire tied walks = tt
 abbrev AreWhose : List ℕ → List Asked → Type 0
 AreWhose name asked = AllByRecursion (λ (a : Asked). is_by name a ≡ is_of_pool name a.event.request) asked
 
-are_whose : (name : List ℕ) (asked : List Asked) → is_good_name name ≡ true → AreTied asked → list_all (is_untouched name) asked ≡ true → list_all is_pools_walk asked ≡ true → AreWhose name asked
+are_whose : (name : List ℕ) (asked : List Asked) → is_good_name name ≡ true → HavePoolForms asked → list_all (is_untouched name) asked ≡ true → list_all is_pools_walk asked ≡ true → AreWhose name asked
 are_whose name [] good tied keys walks = tt
 are_whose name (a ∷ asked) good tied keys walks =
     let k = and_parts (is_untouched name a) (list_all (is_untouched name) asked) keys in
     let w = and_parts (is_pools_walk a) (list_all is_pools_walk asked) walks in
     (whose name a.pool a.event.request good tied.0 k.0 w.0, are_whose name asked good tied.1 k.1 w.1)
 
-are_of_pools : (asked : List Asked) → AreTied asked → list_all is_pools_walk asked ≡ true → AreOfPools (events_in asked)
+are_of_pools : (asked : List Asked) → HavePoolForms asked → list_all is_pools_walk asked ≡ true → AreOfPools (asked_events asked)
 are_of_pools [] tied walks = tt
 are_of_pools (a ∷ asked) tied walks =
     let w = and_parts (is_pools_walk a) (list_all is_pools_walk asked) walks in
     (clears_by a.pool a.event.request tied.0 w.0, are_of_pools asked tied.1 w.1)
 
-left_alone : (name : List ℕ) (asked : List Asked) → AreWhose name asked → list_all (is_untouched name) asked ≡ true → list_all (λ (e : Event). is_left_alone name e.request) (events_in asked) ≡ true
+left_alone : (name : List ℕ) (asked : List Asked) → AreWhose name asked → list_all (is_untouched name) asked ≡ true → list_all (λ (e : Event). is_left_alone name e.request) (asked_events asked) ≡ true
 left_alone name [] whose keys = refl
 left_alone name (a ∷ asked) whose keys =
     let k = and_parts (is_untouched name a) (list_all (is_untouched name) asked) keys in
-    and_from (is_left_alone name a.event.request) (list_all (λ (e : Event). is_left_alone name e.request) (events_in asked))
+    and_from (is_left_alone name a.event.request) (list_all (λ (e : Event). is_left_alone name e.request) (asked_events asked))
     (ap (λ b. b || not (list_any (holds_text (braced name)) (named_keys a.event.request))) (sym whose.0) ∙ k.0) (left_alone name asked whose.1 k.1)
 
-stored_by : (name : List ℕ) (m : Stage) (asked : List Asked) → AreWhose name asked → are_kept name m asked ≡ true → are_stored name m (events_in asked) ≡ true
+stored_by : (name : List ℕ) (m : Stage) (asked : List Asked) → AreWhose name asked → are_kept name m asked ≡ true → are_stored name m (asked_events asked) ≡ true
 stored_by name m [] whose kept = refl
 stored_by name m (a ∷ asked) whose kept =
     let lost = is_store_lost a.event.request (reply_in m a.event) in
     let k = and_parts (not (is_by name a && lost)) (are_kept name (after_event m a.event) asked) kept in
-    and_from (not (is_of_pool name a.event.request && lost)) (are_stored name (after_event m a.event) (events_in asked))
+    and_from (not (is_of_pool name a.event.request && lost)) (are_stored name (after_event m a.event) (asked_events asked))
     (ap (λ b. not (b && lost)) (sym whose.0) ∙ k.0) (stored_by name (after_event m a.event) asked whose.1 k.1)
 
-told_alike : (name : List ℕ) (m : Stage) (asked : List Asked) → AreWhose name asked → told_from name m asked ≡ answered_from name m (events_in asked)
+told_alike : (name : List ℕ) (m : Stage) (asked : List Asked) → AreWhose name asked → told_from name m asked ≡ answered_from name m (asked_events asked)
 told_alike name m [] whose = refl
 told_alike name m (a ∷ asked) whose =
     let later = told_alike name (after_event m a.event) asked whose.1 in
     ap₂ (λ b l. cond b (reply_in m a.event ∷ l) l) whose.0 later
 
-events_alike : (name : List ℕ) (asked : List Asked) → AreWhose name asked → events_of_pool name (events_in asked) ≡ events_in (filter (is_by name) asked)
+events_alike : (name : List ℕ) (asked : List Asked) → AreWhose name asked → events_of_pool name (asked_events asked) ≡ asked_events (filter (is_by name) asked)
 events_alike name [] whose = refl
 events_alike name (a ∷ asked) whose =
     ap₂ (λ b l. cond b (a.event ∷ l) l) (sym whose.0) (events_alike name asked whose.1) ∙ either (is_by name a)
   where
-    either : (b : Bool) → cond b (a.event ∷ events_in (filter (is_by name) asked)) (events_in (filter (is_by name) asked)) ≡ events_in (cond b (a ∷ filter (is_by name) asked) (filter (is_by name) asked))
+    either : (b : Bool) → cond b (a.event ∷ asked_events (filter (is_by name) asked)) (asked_events (filter (is_by name) asked)) ≡ asked_events (cond b (a ∷ filter (is_by name) asked) (filter (is_by name) asked))
     either true = refl
     either false = refl
 
 pub calls_stand_alone : ((name : List ℕ) (conf : Conf) (history : List Event) → LeavesAlone name conf history → StandsAlone name conf history)
-    → (name : List ℕ) (conf : Conf) (asked : List Asked) → AreTied asked → AreOfBytes (events_in asked) → CallsLeaveAlone name conf asked → CallsStandAlone name conf asked
+    → (name : List ℕ) (conf : Conf) (asked : List Asked) → HavePoolForms asked → AreOfBytes (asked_events asked) → CallsLeaveAlone name conf asked → CallsStandAlone name conf asked
 calls_stand_alone law name conf asked tied bytes l =
     let whose = are_whose name asked l.good tied l.keys l.walks in
     told_alike name (start_of conf) asked whose
-    ∙ (law name conf (events_in asked) (record {
+    ∙ (law name conf (asked_events asked) (record {
       good = l.good;
       no_limit = l.no_limit;
       in_order = l.in_order;

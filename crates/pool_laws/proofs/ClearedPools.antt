@@ -17,7 +17,7 @@ use Rattle.apcu_model.specs.SlotOrder.{slot_of}
 use Rattle.simple_pool.specs.Names.{braced, is_good_name}
 use Rattle.pool_laws.specs.PoolKeys.{is_key_of, holds_text, is_pattern_of}
 use Rattle.simple_pool.specs.Requests.{pool_step}
-use Rattle.pool_laws.specs.Maps.{Entry, is_there, is_under, entry_at, is_between, there_between, clear_end, is_cleared}
+use Rattle.pool_laws.specs.Maps.{Entry, is_there, is_under, entry_under, is_between, there_between, clear_end, is_cleared}
 use Rattle.pool_laws.specs.Pools.{are_bytes}
 use Rattle.pool_laws.proofs.DeletedRows.{is_in_chunk, left_chunk}
 use Rattle.pool_laws.proofs.KeyCounts.{has_one, differ, same_count, has_kept, differ_kept, count_kept, any_found, none_found, count_alike, counted_slots, up_to_slot}
@@ -95,7 +95,7 @@ module _ (name : List ℕ) (t : ℕ) (m : List Entry) (c : Cache) (a : Agrees na
       go true own =
           any_found (λ row. is_item wanted t row && has_key key row) c.rows
           ∙ (ap is_some (find_alike (λ row. is_item wanted t row && has_key key row) (passes key t) c.rows (item_passes key own))
-          ∙ (some_alike (entry_at key t m) (live_row key t c) (a.alike key own t (omega arith))
+          ∙ (some_alike (entry_under key t m) (live_row key t c) (a.alike key own t (omega arith))
           ∙ (ap is_some (find_alike (λ e. is_under key e && is_there t e) (λ e. is_there t e && is_under key e) m (λ e. and_comm (is_under key e) (is_there t e)))
           ∙ sym (any_found (λ e. is_there t e && is_under key e) m))))
       go false foreign =
@@ -133,7 +133,7 @@ module _ (name : List ℕ) (t : ℕ) (m : List Entry) (c : Cache) (a : Agrees na
   in_chunk_is from size row = and_assoc (is_item wanted t row) (nat_le from (slot_of c.conf row.key)) (nat_lt (slot_of c.conf row.key) (chunk_end wanted t c from size))
 
   cleared_alike : (held : List ℕ) (from size end : ℕ) → chunk_end wanted t c from size ≡ end → (key : List ℕ) → is_own name key ≡ true → (s : ℕ) → t ≤ s
-      → entry_at key s (filter (λ e. not (is_cleared c.conf.slots from end t e)) m) ≡ seen key s (dropped held t (chunk_rows wanted t c from size) c).rows
+      → entry_under key s (filter (λ e. not (is_cleared c.conf.slots from end t e)) m) ≡ seen key s (dropped held t (chunk_rows wanted t c from size) c).rows
   cleared_alike held from size end ends key own s le = go (is_between c.conf.slots from end key) refl ∙ sym (ap (seen key s) (left_chunk wanted t c from size apart))
     where
       slots : ℕ
@@ -146,7 +146,7 @@ module _ (name : List ℕ) (t : ℕ) (m : List Entry) (c : Cache) (a : Agrees na
       row_key row h = key_is key row (and_parts (has_key key row) (not (is_hard_expired s row)) h).0
 
       go : (b : Bool) → is_between c.conf.slots from end key ≡ b
-          → entry_at key s (filter (λ e. not (is_cleared c.conf.slots from end t e)) m) ≡ seen key s (filter (λ row. not (is_in_chunk wanted t c from size row)) c.rows)
+          → entry_under key s (filter (λ e. not (is_cleared c.conf.slots from end t e)) m) ≡ seen key s (filter (λ row. not (is_in_chunk wanted t c from size row)) c.rows)
       go true inside =
           find-gone (λ e. is_under key e && is_there s e) (λ e. not (is_cleared c.conf.slots from end t e)) m
           (λ e h. not_from_true (is_cleared c.conf.slots from end t e)

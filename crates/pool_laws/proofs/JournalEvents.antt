@@ -20,7 +20,7 @@ use Rattle.script_read.specs.declared.script.Step.{Step}
 use Rattle.script_read.specs.Calls.{IsRanged, HasRanges}
 use Rattle.script_read.specs.Ranges.{AreRanged, HasByteKeys, HaveByteKeys}
 use Rattle.script_read.specs.Play.{Next, Asks, Leaves, Wish, Play, asking_in, asks_each, asks_steps, asks_so, slot_after, next_of, wanted, continued, wish_at, nothing_played, replies_of, script_of, wish_of, after_wish}
-use Rattle.pool_laws.specs.Calls.{Asked, is_by, IsTied, AreTied, AreOfBytes, CallsLeaveAlone, CallsStandAlone, told_from, events_in}
+use Rattle.pool_laws.specs.Calls.{Asked, is_by, HasPoolForm, HavePoolForms, AreOfBytes, CallsLeaveAlone, CallsStandAlone, told_from, asked_events}
 use Rattle.pool_laws.specs.Pools.{are_bytes, map_answers, named_keys}
 use Rattle.pool_laws.specs.Plays.{caller, calling, pool_of, pool_wanted, Answered, answered_at, answered_after, answered_by, asked_in, PoolStandsAlone}
 use Rattle.pool_laws.proofs.ByteKeys.{NamesBytes, call_bytes}
@@ -63,9 +63,9 @@ asking_among slots (pools.Steps ask) replies request e =
 
 -- what the laws of pools' calls say
 abbrev pub Tied : Type 0
-Tied = (call : PoolCall) (i : ℕ) (request : Request) → IsGoodCall call → request_at call i ≡ Some request → IsTied (Some call.pool) request
+Tied = (call : PoolCall) (i : ℕ) (request : Request) → IsGoodCall call → request_at call i ≡ Some request → HasPoolForm (Some call.pool) request
 
-tied_call : Tied → (conf : Conf) (call : Call) (replies : List Reply) (request : Request) → HasRanges call → next_of conf call replies ≡ Asks request → IsTied (pool_of call) request
+tied_call : Tied → (conf : Conf) (call : Call) (replies : List Reply) (request : Request) → HasRanges call → next_of conf call replies ≡ Asks request → HasPoolForm (pool_of call) request
 tied_call tied conf (calls.Pool call) replies request ranges e =
     let a = asking_among conf.slots (pool_asking call.pool call.ask) replies request e in
     tied call a.at request ranges a.is
@@ -139,16 +139,16 @@ keyed_steps : (scripts : List (List Step)) → AreRanged scripts → HaveByteKey
 keyed_steps [] ranged keys = tt
 keyed_steps (script ∷ scripts) ranged keys = (both_all IsRanged HasByteKeys script ranged.0 keys.0, keyed_steps scripts ranged.1 keys.1)
 
-all_of_bytes : (asked : List Asked) → AllByRecursion (λ (a : Asked). NamesBytes a.event.request) asked → AreOfBytes (events_in asked)
+all_of_bytes : (asked : List Asked) → AllByRecursion (λ (a : Asked). NamesBytes a.event.request) asked → AreOfBytes (asked_events asked)
 all_of_bytes [] all = refl
 all_of_bytes (a ∷ asked) all =
-    and_from (list_all are_bytes (named_keys a.event.request)) (list_all (λ (e : Event). list_all are_bytes (named_keys e.request)) (events_in asked)) all.0 (all_of_bytes asked all.1)
+    and_from (list_all are_bytes (named_keys a.event.request)) (list_all (λ (e : Event). list_all are_bytes (named_keys e.request)) (asked_events asked)) all.0 (all_of_bytes asked all.1)
 
 module _ (tied : Tied) (conf : Conf) where
-  are_tied : (scripts : List (List Step)) (p : Play) (marks : List Mark) → AreRanged scripts → AreTied (asked_in (answered_after conf scripts p marks))
-  are_tied scripts p marks ranged = all_asked conf IsRanged IsTied tt (λ step replies request is e. tied_call tied conf step.call replies request is e) scripts p marks ranged
+  are_tied : (scripts : List (List Step)) (p : Play) (marks : List Mark) → AreRanged scripts → HavePoolForms (asked_in (answered_after conf scripts p marks))
+  are_tied scripts p marks ranged = all_asked conf IsRanged HasPoolForm tt (λ step replies request is e. tied_call tied conf step.call replies request is e) scripts p marks ranged
 
-  are_of_bytes : (scripts : List (List Step)) (p : Play) (marks : List Mark) → AreRanged scripts → HaveByteKeys scripts → AreOfBytes (events_in (asked_in (answered_after conf scripts p marks)))
+  are_of_bytes : (scripts : List (List Step)) (p : Play) (marks : List Mark) → AreRanged scripts → HaveByteKeys scripts → AreOfBytes (asked_events (asked_in (answered_after conf scripts p marks)))
   are_of_bytes scripts p marks ranged keys =
       all_of_bytes (asked_in (answered_after conf scripts p marks))
       (all_asked conf KeyedStep (λ pool request. NamesBytes request) refl (λ step replies request is e. call_bytes conf step.call replies request is.0 is.1 e) scripts p marks (keyed_steps scripts ranged keys))
@@ -175,17 +175,17 @@ module _ (tied : Tied) (conf : Conf) where
           either true e = ap (λ (l : List Reply). (answered_at conf scripts p mark wish).reply ∷ l) e
           either false e = e
 
-  events_are : (name : List ℕ) (told : List Answered) → events_in (filter (is_by name) (asked_in told)) ≡ map {A = Answered} (λ x. x.asked.event) (filter (λ (x : Answered). is_by name x.asked) told)
+  events_are : (name : List ℕ) (told : List Answered) → asked_events (filter (is_by name) (asked_in told)) ≡ map {A = Answered} (λ x. x.asked.event) (filter (λ (x : Answered). is_by name x.asked) told)
   events_are name [] = refl
   events_are name (x ∷ told) = go (is_by name x.asked) (events_are name told)
     where
-      go : (b : Bool) → events_in (filter (is_by name) (asked_in told)) ≡ map {A = Answered} (λ x. x.asked.event) (filter (λ (x : Answered). is_by name x.asked) told)
-          → events_in (cond b (x.asked ∷ filter (is_by name) (asked_in told)) (filter (is_by name) (asked_in told)))
+      go : (b : Bool) → asked_events (filter (is_by name) (asked_in told)) ≡ map {A = Answered} (λ x. x.asked.event) (filter (λ (x : Answered). is_by name x.asked) told)
+          → asked_events (cond b (x.asked ∷ filter (is_by name) (asked_in told)) (filter (is_by name) (asked_in told)))
           ≡ map {A = Answered} (λ x. x.asked.event) (cond b (x ∷ filter (λ (x : Answered). is_by name x.asked) told) (filter (λ (x : Answered). is_by name x.asked) told))
       go true e = ap (λ (l : List Event). x.asked.event ∷ l) e
       go false e = e
 
-  pub in_plays : ((name : List ℕ) (conf : Conf) (asked : List Asked) → AreTied asked → AreOfBytes (events_in asked) → CallsLeaveAlone name conf asked → CallsStandAlone name conf asked)
+  pub in_plays : ((name : List ℕ) (conf : Conf) (asked : List Asked) → HavePoolForms asked → AreOfBytes (asked_events asked) → CallsLeaveAlone name conf asked → CallsStandAlone name conf asked)
       → (name : List ℕ) (scripts : List (List Step)) (journal : List Mark) → AreRanged scripts → HaveByteKeys scripts → CallsLeaveAlone name conf (asked_in (answered_by conf scripts journal)) → PoolStandsAlone name conf (answered_by conf scripts journal)
   in_plays law name scripts journal ranged keys l =
       let first = nothing_played conf scripts in

@@ -21,7 +21,7 @@ use Rattle.apcu_model.specs.Lookups.{looked_up}
 use Rattle.apcu_model.specs.Sequential.{cache_after, reply_to, is_stored, found_in}
 use Rattle.apcu_model.specs.SlotOrder.{slot_of}
 use Rattle.pool_laws.specs.PoolKeys.{is_key_of}
-use Rattle.pool_laws.specs.Maps.{Entry, is_there, is_under, entry_at, without, with_entry, found_in_map, map_reply, map_after}
+use Rattle.pool_laws.specs.Maps.{Entry, is_there, is_under, entry_under, without, with_entry, found_in_map, map_reply, map_after}
 use Rattle.pool_laws.specs.Pools.{are_bytes}
 use Rattle.pool_laws.proofs.KeyCounts.{has_one, differ, has_kept, differ_kept, none_found}
 use Rattle.pool_laws.proofs.FilteredLists.{find-filter, find-gone, all-filter}
@@ -33,7 +33,7 @@ is_own name key = is_key_of name key && are_bytes key
 
 -- the map and the cache have the same under each key of the pool, from the moment t on
 pub record Agrees (name : List ℕ) (t : ℕ) (m : List Entry) (c : Cache) : Type 0 where
-  pub alike : (key : List ℕ) → is_own name key ≡ true → (s : ℕ) → t ≤ s → entry_at key s m ≡ seen key s c.rows
+  pub alike : (key : List ℕ) → is_own name key ≡ true → (s : ℕ) → t ≤ s → entry_under key s m ≡ seen key s c.rows
   pub single : differ (map (λ (e : Entry). e.key) m) ≡ true
   pub own : list_all (λ (e : Entry). is_own name e.key) m ≡ true
 
@@ -87,12 +87,12 @@ entry_passes key s e = is_under key e && is_there s e
 pub passes_under : (key : List ℕ) (s : ℕ) (e : Entry) → entry_passes key s e ≡ true → e.key ≡ key
 passes_under key s e h = key_under key e (and_parts (is_under key e) (is_there s e) h).0
 
-gone_from : (key : List ℕ) (s : ℕ) (m : List Entry) → entry_at key s (without key m) ≡ None
+gone_from : (key : List ℕ) (s : ℕ) (m : List Entry) → entry_under key s (without key m) ≡ None
 gone_from key s m =
     find-gone (entry_passes key s) (λ e. not (is_under key e)) m
     (λ e h. not_from_true (is_under key e) (and_parts (is_under key e) (is_there s e) h).0)
 
-left_in : (key other : List ℕ) (s : ℕ) (m : List Entry) → (key ≡ other → ⊥) → entry_at key s (without other m) ≡ entry_at key s m
+left_in : (key other : List ℕ) (s : ℕ) (m : List Entry) → (key ≡ other → ⊥) → entry_under key s (without other m) ≡ entry_under key s m
 left_in key other s m apart =
     find-filter (entry_passes key s) (λ e. not (is_under other e)) m
     (λ e h. not_from_false (is_under other e) (false_from_ne_true (is_under other e) (λ u. apart (sym (passes_under key s e h) ∙ key_under other e u))))
@@ -164,18 +164,18 @@ seen_placed key graph ttl t s rows p =
     either false = refl
 
 module _ (name : List ℕ) (t : ℕ) (held : List ℕ) (m : List Entry) (c : Cache) (a : Agrees name t m c) (none : c.conf.ttl ≡ 0) (apart : are_apart c.rows ≡ true) where
-  found_here : (key : List ℕ) → is_own name key ≡ true → entry_at key t m ≡ option_map entry_of (live_row key t c)
+  found_here : (key : List ℕ) → is_own name key ≡ true → entry_under key t m ≡ option_map entry_of (live_row key t c)
   found_here key own = a.alike key own t (omega arith)
 
   pub goes_fetch : (key : List ℕ) → is_own name key ≡ true → (looked_up key t (live_row key t c) c).expunges ≡ 0 → Goes name t (request.Fetch key) held m c
   goes_fetch key own calm = record {
-    reply = ap (λ x. x) (reply_found (entry_at key t m) (live_row key t c) (found_here key own));
+    reply = ap (λ x. x) (reply_found (entry_under key t m) (live_row key t c) (found_here key own));
     next = agrees_step name t m c (looked_up key t (live_row key t c) c) a (step_looked name t (λ k. is_own name k ≡ true) key (live_row key t c) c) none apart calm;
   }
 
   pub goes_exists : (key : List ℕ) → is_own name key ≡ true → Goes name t (request.Exists key) held m c
   goes_exists key own = record {
-    reply = ap replies.Flag (some_alike (entry_at key t m) (live_row key t c) (found_here key own));
+    reply = ap replies.Flag (some_alike (entry_under key t m) (live_row key t c) (found_here key own));
     next = a;
   }
 
@@ -186,7 +186,7 @@ module _ (name : List ℕ) (t : ℕ) (held : List ℕ) (m : List Entry) (c : Cac
     alike = λ other is s le. elim (cases_Bool (bytes_eq other key)) [
       | inl same_one ↦
           let e : other ≡ key = (bytes_eq-Decides other key).0 same_one in
-          subst (λ k. entry_at k s (without key m) ≡ seen k s (dropped held t (filter (has_key key) c.rows) c).rows) (sym e)
+          subst (λ k. entry_under k s (without key m) ≡ seen k s (dropped held t (filter (has_key key) c.rows) c).rows) (sym e)
           (gone_from key s m ∙ sym (ap (seen key s) (left_passing (has_key key) c.rows apart) ∙ ap (option_map entry_of)
           (find-gone (passes key s) (λ row. not (has_key key row)) c.rows
           (λ row h. not_from_true (has_key key row) (and_parts (has_key key row) (not (is_hard_expired s row)) h).0))))
@@ -205,8 +205,8 @@ module _ (name : List ℕ) (t : ℕ) (held : List ℕ) (m : List Entry) (c : Cac
 
   pub goes_delete : (key : List ℕ) → is_own name key ≡ true → Goes name t (request.Delete key) held m c
   goes_delete key own =
-      let e = some_alike (entry_at key t m) (live_row key t c) (found_here key own) in
-      record { reply = ap replies.Flag e; next = go (is_some (entry_at key t m)) (is_some (live_row key t c)) e }
+      let e = some_alike (entry_under key t m) (live_row key t c) (found_here key own) in
+      record { reply = ap replies.Flag e; next = go (is_some (entry_under key t m)) (is_some (live_row key t c)) e }
     where
       go : (x y : Bool) → y ≡ x → Agrees name t (if x then without key m else m) (if y then dropped held t (filter (has_key key) c.rows) c else c)
       go true true e = taken_away key own
@@ -236,20 +236,20 @@ module _ (name : List ℕ) (t : ℕ) (held : List ℕ) (m : List Entry) (c : Cac
       placed : Placed key graph ttl t after.rows
       placed = stored_rows held key graph ttl false t c stored
 
-      here : (s : ℕ) → entry_at key s (with_entry entry m) ≡ seen key s after.rows
+      here : (s : ℕ) → entry_under key s (with_entry entry m) ≡ seen key s after.rows
       here s =
           let under : is_under key entry ≡ true = under_key key entry refl in
-          let first : entry_at key s (with_entry entry m) ≡ cond (is_there s entry) (Some entry) None = rw under (ap (λ o. cond (is_there s entry) (Some entry) o) (gone_from key s m)) in
+          let first : entry_under key s (with_entry entry m) ≡ cond (is_there s entry) (Some entry) None = rw under (ap (λ o. cond (is_there s entry) (Some entry) o) (gone_from key s m)) in
           first ∙ sym (seen_placed key graph ttl t s after.rows placed)
 
-      alike : (other : List ℕ) → is_own name other ≡ true → (s : ℕ) → t ≤ s → entry_at other s (with_entry entry m) ≡ seen other s after.rows
+      alike : (other : List ℕ) → is_own name other ≡ true → (s : ℕ) → t ≤ s → entry_under other s (with_entry entry m) ≡ seen other s after.rows
       alike other is s le = elim (cases_Bool (bytes_eq key other)) [
         | inl same_one ↦
             let e : key ≡ other = (bytes_eq-Decides key other).0 same_one in
-            subst (λ k. entry_at k s (with_entry entry m) ≡ seen k s after.rows) e (here s)
+            subst (λ k. entry_under k s (with_entry entry m) ≡ seen k s after.rows) e (here s)
         | inr another ↦
             let differs : other ≡ key → ⊥ = λ e. false≢true (sym another ∙ (bytes_eq-Decides key other).1 (sym e)) in
-            let past : entry_at other s (with_entry entry m) ≡ entry_at other s (without key m) = rw another refl in
+            let past : entry_under other s (with_entry entry m) ≡ entry_under other s (without key m) = rw another refl in
             past ∙ (left_in other key s m differs ∙ (a.alike other is s le ∙ sym (others_step.rows none apart calm other (is, differs) s le)))
       ]
 

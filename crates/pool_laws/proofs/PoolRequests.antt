@@ -15,7 +15,7 @@ use Rattle.simple_pool.specs.Names.{is_good_key, pool_key, braced, escaped, patt
 use Rattle.simple_pool.specs.Requests.{IsGoodCall, pool_step, store_of, set_of, asked_at, pool_asking, request_at, is_good_ask, is_good_ttl, are_good_pairs}
 use Rattle.pool_laws.specs.Pools.{is_of_pool}
 use Rattle.pool_laws.specs.PoolKeys.{is_pattern_of}
-use Rattle.pool_laws.specs.Calls.{IsTied}
+use Rattle.pool_laws.specs.Calls.{HasPoolForm}
 use Rattle.pool_laws.proofs.CallEvents.{own_key}
 
 set_own : (pool : List ℕ) (pair : List ℕ × List Kind) (ttl : ℤ) → is_good_key pair.0 ≡ true → is_of_pool pool (set_of pool pair ttl) ≡ true
@@ -53,5 +53,5 @@ of_pool pool (SetManyPlain pairs) request i good e =
 of_pool pool (DeleteMany keys) request i good e = each pool is_good_key (λ key. asks.Delete (pool_key pool key)) keys request i (λ key g. own_key pool key g) good e
 of_pool pool (Has key) request i good e = one pool (asks.Exists (pool_key pool key)) request i (own_key pool key good) e
 
-pub tied : (call : PoolCall) (i : ℕ) (request : Request) → IsGoodCall call → request_at call i ≡ Some request → IsTied (Some call.pool) request
+pub tied : (call : PoolCall) (i : ℕ) (request : Request) → IsGoodCall call → request_at call i ≡ Some request → HasPoolForm (Some call.pool) request
 tied call i request good e = (good.named, of_pool call.pool call.ask request i good.asks_well e)

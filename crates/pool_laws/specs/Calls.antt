@@ -19,24 +19,24 @@ pub record Asked : Type 0 where
   pub pool : Option (List ℕ)
   pub event : Event
 
-abbrev pub is_named : List ℕ → Option (List ℕ) → Bool
-is_named name None = false
-is_named name (Some other) = bytes_eq other name
+abbrev pub is_this_pool : List ℕ → Option (List ℕ) → Bool
+is_this_pool name None = false
+is_this_pool name (Some other) = bytes_eq other name
 
 -- a call of the pool asked it
 abbrev pub is_by : List ℕ → Asked → Bool
-is_by name a = is_named name a.pool
+is_by name a = is_this_pool name a.pool
 
 -- what a pool's call asks has the pool's form
-abbrev pub IsTied : Option (List ℕ) → Request → Type 0
-IsTied None request = Unit {0}
-IsTied (Some name) request = (is_good_name name ≡ true) × (is_of_pool name request ≡ true)
+abbrev pub HasPoolForm : Option (List ℕ) → Request → Type 0
+HasPoolForm None request = Unit {0}
+HasPoolForm (Some name) request = (is_good_name name ≡ true) × (is_of_pool name request ≡ true)
 
-abbrev pub AreTied : List Asked → Type 0
-AreTied asked = AllByRecursion (λ (a : Asked). IsTied a.pool a.event.request) asked
+abbrev pub HavePoolForms : List Asked → Type 0
+HavePoolForms asked = AllByRecursion (λ (a : Asked). HasPoolForm a.pool a.event.request) asked
 
-abbrev pub events_in : List Asked → List Event
-events_in asked = map {A = Asked} (λ a. a.event) asked
+abbrev pub asked_events : List Asked → List Event
+asked_events asked = map {A = Asked} (λ a. a.event) asked
 
 -- the keys that these events name are of bytes
 abbrev pub AreOfBytes : List Event → Type 0
@@ -68,11 +68,11 @@ pub record CallsLeaveAlone (name : List ℕ) (conf : Conf) (asked : List Asked) 
   pub good : is_good_name name ≡ true
   -- no time limit but the rows' own
   pub no_limit : conf.ttl ≡ 0
-  pub in_order : do_not_fall 0 (events_in asked) ≡ true
+  pub in_order : do_not_fall 0 (asked_events asked) ≡ true
   -- no full expunge came
-  pub no_expunge : (stage_of conf (events_in asked)).cache.expunges ≡ 0
+  pub no_expunge : (stage_of conf (asked_events asked)).cache.expunges ≡ 0
   pub kept : are_kept name (start_of conf) asked ≡ true
-  pub no_clear : list_all (λ (e : Event). not (is_clear e.request)) (events_in asked) ≡ true
+  pub no_clear : list_all (λ (e : Event). not (is_clear e.request)) (asked_events asked) ≡ true
   pub keys : list_all (is_untouched name) asked ≡ true
   pub walks : list_all is_pools_walk asked ≡ true
 
@@ -88,4 +88,4 @@ told_from name m (a ∷ asked) =
 abbrev pub CallsStandAlone : List ℕ → Conf → List Asked → Type 0
 CallsStandAlone name conf asked =
     told_from name (start_of conf) asked
-    ≡ map_answers conf.slots [] (events_in (filter (is_by name) asked))
+    ≡ map_answers conf.slots [] (asked_events (filter (is_by name) asked))

@@ -29,8 +29,8 @@ abbrev pub is_under : List ℕ → Entry → Bool
 is_under key e = bytes_eq e.key key
 
 -- what the map has under the key at the moment t
-abbrev pub entry_at : List ℕ → ℕ → List Entry → Option Entry
-entry_at key t m = find (λ e. is_under key e && is_there t e) m
+abbrev pub entry_under : List ℕ → ℕ → List Entry → Option Entry
+entry_under key t m = find (λ e. is_under key e && is_there t e) m
 
 abbrev pub without : List ℕ → List Entry → List Entry
 without key m = filter (λ e. not (is_under key e)) m
@@ -69,9 +69,9 @@ found_in_map None = Absent
 -- what the map of a pool answers, in a cache of so many slots
 abbrev pub map_reply : ℕ → ℕ → Request → List Entry → Reply
 map_reply slots t (Store key value ttl exclusive) m = Flag true
-map_reply slots t (Fetch key) m = found_in_map (entry_at key t m)
-map_reply slots t (Exists key) m = Flag (is_some (entry_at key t m))
-map_reply slots t (Delete key) m = Flag (is_some (entry_at key t m))
+map_reply slots t (Fetch key) m = found_in_map (entry_under key t m)
+map_reply slots t (Exists key) m = Flag (is_some (entry_under key t m))
+map_reply slots t (Delete key) m = Flag (is_some (entry_under key t m))
 map_reply slots t (ChunkDelete wanted from size) m =
     replies.Next (clear_end slots from pool_step t m)
 map_reply slots t _ m = Ended
@@ -80,7 +80,7 @@ map_reply slots t _ m = Ended
 abbrev pub map_after : ℕ → ℕ → Request → List Entry → List Entry
 map_after slots t (Store key value ttl exclusive) m =
     with_entry (record { key = key; value = value; ctime = t; ttl = ttl }) m
-map_after slots t (Delete key) m = if is_some (entry_at key t m) then without key m else m
+map_after slots t (Delete key) m = if is_some (entry_under key t m) then without key m else m
 map_after slots t (ChunkDelete wanted from size) m =
     filter (λ e. not (is_cleared slots from (clear_end slots from pool_step t m) t e)) m
 map_after slots t _ m = m

@@ -13,8 +13,8 @@ ghost use Rattle.script_read.specs.Play.{IsLegal};
 ghost use Rattle.script_read.specs.Ranges.{AreRanged, HaveByteKeys};
 ghost use Rattle.simple_pool.specs.declared.call.PoolCall.{PoolCall};
 ghost use Rattle.simple_pool.specs.Requests.{IsGoodCall, request_at};
-ghost use Rattle.pool_laws.specs.Calls.{AreOfBytes, AreTied, Asked, CallsLeaveAlone};
-ghost use Rattle.pool_laws.specs.Calls.{CallsStandAlone, IsTied, events_in};
+ghost use Rattle.pool_laws.specs.Calls.{AreOfBytes, HavePoolForms, Asked, CallsLeaveAlone};
+ghost use Rattle.pool_laws.specs.Calls.{CallsStandAlone, HasPoolForm, asked_events};
 ghost use Rattle.pool_laws.specs.Plays.{PoolStandsAlone, asked_in, answered_by};
 ghost use Rattle.pool_laws.specs.Pools.{LeavesAlone, StandsAlone};
 
@@ -34,8 +34,8 @@ pub fn pools_stand_alone()
 /// The same of the events that a pool's calls asked, where each event is known with the pool whose
 /// call asked it and all keys are of bytes.
 pub fn calls_stand_alone()
-    ensures { (name : List ℕ) (conf : Conf) (asked : List Asked) → AreTied asked
-        → AreOfBytes (events_in asked) → CallsLeaveAlone name conf asked
+    ensures { (name : List ℕ) (conf : Conf) (asked : List Asked) → HavePoolForms asked
+        → AreOfBytes (asked_events asked) → CallsLeaveAlone name conf asked
         → CallsStandAlone name conf asked }
 {
     pools_stand_alone();
@@ -44,7 +44,7 @@ pub fn calls_stand_alone()
 /// What a call of a pool asks has the pool's form: it names keys of the pool, or clears it.
 pub fn calls_are_tied()
     ensures { (call : PoolCall) (i : ℕ) (request : Request) → IsGoodCall call
-        → request_at call i ≡ Some request → IsTied (Some call.pool) request }
+        → request_at call i ≡ Some request → HasPoolForm (Some call.pool) request }
 {}
 
 /// In a legal journal, whatever the scripts and the interleaving: a pool that is left alone is

@@ -20,7 +20,7 @@ const MOST_NUMBERS: u64 = 1 << 55;
 
 // How far a walk's text has come.
 #[derive(Clone, Copy, Debug)]
-struct Reached {
+struct Position {
     // The key of the next item.
     key: u64,
     // How many values that take a number stand before it.
@@ -65,8 +65,8 @@ fn write_items(
     out: &mut ByteOut,
     fields: Fields,
     rows: &[ItemRow],
-    from: Reached,
-) -> Result<Reached, AllocError>
+    from: Position,
+) -> Result<Position, AllocError>
     requires { from.key ≤ from.base }
     ensures text { OnOk result (out.new ≡ out.old
         ++ members_text (item_members fields from.key from.base rows.now)) }
@@ -80,7 +80,7 @@ fn write_items(
         let mut digits = Buffer::new();
         write_key(digits.format(reached.key).as_bytes(), out)?;
         let base = write_item(out, fields, row, reached.base)?;
-        reached = Reached {
+        reached = Position {
             key: reached.key + 1,
             base,
         };
@@ -119,7 +119,7 @@ pub fn write_walk(out: &mut ByteOut, fields: Fields, steps: &[Reply]) -> Result<
     ensures { OnOk result (out.new ≡ out.old ++ walk_text fields steps.now) }
 {
     write_head(out, count_items(steps)?)?;
-    let mut reached = Reached { key: 0, base: 1 };
+    let mut reached = Position { key: 0, base: 1 };
     for step in steps {
         reached = write_items(out, fields, items_of(step), reached)?;
     }
